@@ -1,0 +1,4 @@
+pub mod Commands
+pub mod Datagram
+pub mod Frame
+pub mod Passing

@@ -1,0 +1,4 @@
+pub mod Memory
+pub mod Managers
+pub mod Fmmus
+pub mod Types
