@@ -1,0 +1,4 @@
+mod Answered
+mod Tests
+mod Told
+mod Windows
