@@ -1,0 +1,4 @@
+pub mod States
+pub mod Transitions
+pub mod Al
+pub mod Runs
