@@ -9,6 +9,8 @@ mod status_code;
 mod transition;
 
 
+pub mod laws;
+
 pub use crate::machine::Al;
 pub use crate::state::State;
 pub use crate::status_code::StatusCode;
