@@ -15,3 +15,6 @@ pub use crate::machine::Al;
 pub use crate::state::State;
 pub use crate::status_code::StatusCode;
 pub use crate::transition::{Checks, Requested};
+
+#[cfg(test)]
+mod tests;

@@ -13,7 +13,7 @@ use crate::transition::{Checks, Requested, is_acknowledge};
 #[derive(Debug, Drop)]
 pub struct Al {
     state: State,
-    fault: Option<StatusCode>,
+    error: Option<StatusCode>,
     is_requested: bool,
 }
 
@@ -23,7 +23,7 @@ impl Model for Al {
 
     ghost Value = { Al };
 
-    ghost view = { λ a. record { state = a.state; error = is_some a.fault; code = shown_code a.fault; requested = a.is_requested } };
+    ghost view = { λ a. record { state = a.state; error = is_some a.error; code = shown_code a.error; requested = a.is_requested } };
 }
 
 impl Al {
@@ -33,7 +33,7 @@ impl Al {
     {
         Al {
             state: State::Init,
-            fault: None,
+            error: None,
             is_requested: false,
         }
     }
@@ -54,15 +54,15 @@ impl Al {
             return;
         }
         self.is_requested = false;
-        if self.fault.is_some() && !is_acknowledge(control) {
+        if self.error.is_some() && !is_acknowledge(control) {
             return;
         }
         match self.state.answer(Requested::of(control), checks) {
             Ok(state) => {
                 self.state = state;
-                self.fault = None;
+                self.error = None;
             }
-            Err(code) => self.fault = Some(code),
+            Err(code) => self.error = Some(code),
         }
     }
 
@@ -74,7 +74,7 @@ impl Al {
     {
         if self.state == State::Op {
             self.state = State::SafeOp;
-            self.fault = Some(StatusCode::Unspecified);
+            self.error = Some(StatusCode::Unspecified);
             true
         } else {
             false
@@ -99,7 +99,7 @@ impl Al {
     pub fn has_error(&self) -> bool
         ensures { result ≡ self.now.error }
     {
-        self.fault.is_some()
+        self.error.is_some()
     }
 
     /// The AL status code, 0 exactly without an error.
@@ -107,7 +107,7 @@ impl Al {
         ensures value { result ≡ self.now.code }
         ensures sound { IsSound self.now }
     {
-        self.fault.map_or(0, |code| code.number())
+        self.error.map_or(0, |code| code.number())
     }
 
     /// Whether a request waits for a firmware step.
@@ -121,6 +121,6 @@ impl Al {
     pub fn status_word(&self) -> u16
         ensures { result ≡ status_word self.now }
     {
-        self.state.number() + 16 * self.fault.is_some() as u16
+        self.state.number() + 16 * self.error.is_some() as u16
     }
 }

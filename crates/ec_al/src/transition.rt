@@ -43,7 +43,7 @@ pub struct Checks {
 }
 
 /// Whether a control word acknowledges an error: its bit 4.
-pub fn is_acknowledge(control: u16) -> bool
+pub(crate) fn is_acknowledge(control: u16) -> bool
     ensures { result ≡ acknowledges control }
 {
     control >> 4 & 1 == 1

@@ -1,13 +1,10 @@
-// A library with one function.
+//! The slave information interface (SII) of a simulated slave: an image of 64 words that says who the slave is and
+//! where its mailboxes lie, and the port by which a master reads it (ETG.1000.4 and ETG.1000.6, "Slave information
+//! interface"). It can't be written.
 #![tactic(auto)]
 
-ghost use Rattle.std.specs.Prelude.{◌≡◌};
-ghost use Rattle.ec_sii.specs.Echo.{echo_of};
+mod image;
+mod port;
 
-// The `ensures` clause is the contract: what `echo` returns is `echo_of` of its argument, a definition
-// in `specs/Echo.antt`, which a caller's clause can cite too.
-pub fn echo(x: usize) -> usize
-    ensures { result ≡ echo_of x }
-{
-    x
-}
+pub use crate::image::Image;
+pub use crate::port::Port;
