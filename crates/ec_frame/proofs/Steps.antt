@@ -1,12 +1,12 @@
 -- The step of a pass over a frame's datagrams.
-use Rattle.std.proofs.Common.{◌≡◌, ℕ, ◌+◌, ◌-◌, ◌*◌, ◌<◌, ◌≤◌, Bool, true, cond, List, [], ◌∷◌, ◌++◌, length, take, drop, Option, Some, refl, sym, ap, subst, ◌∙◌, append_assoc, arith}
+use Rattle.std.proofs.Common.{◌≡◌, ℕ, ◌+◌, ◌-◌, ◌<◌, ◌≤◌, Bool, true, cond, List, [], ◌∷◌, ◌++◌, length, take, drop, Option, Some, refl, sym, ap, subst, ◌∙◌, append_assoc, arith}
 use Rattle.std.specs.List.{AllByRecursion}
 use Rattle.std.proofs.lemmas.List.{length-append, append-nil, drop_at, take_at}
 use Rattle.byteorder.specs.Endian.{little_bytes}
 use Rattle.ec_frame.specs.declared.places.Span.{Span}
 use Rattle.ec_frame.specs.declared.places.Places.{Places}
 use Rattle.ec_frame.specs.Datagram.{Datagram, spelling, IsDatagram, is_followed, joined}
-use Rattle.ec_frame.specs.Frame.{Payload, IsFrame}
+use Rattle.ec_frame.specs.Frame.{IsFrame}
 use Rattle.ec_frame.specs.Passing.{handled_all, after_all, KeepsLength}
 use Rattle.ec_frame.specs.Places.{IsAhead, StepsTo}
 use Rattle.ec_frame.specs.Refusals.{opened}

@@ -8,10 +8,8 @@ use byteorder::{ByteOrder, LittleEndian};
 /// The data of the datagram that `part` spells.
 pub fn read_data(part: &[u8]) -> &[u8]
     requires { IsSpelling part.now }
-    ensures {
-        (more : Bool) (d : Datagram) → IsDatagram d → part.now ≡ spelling more d
-            → result.now ≡ d.data_bytes
-    }
+    ensures { (more : Bool) (d : Datagram) → IsDatagram d → part.now ≡ spelling more d
+        → result.now ≡ d.data_bytes }
 {
     let end = part.len() - 2;
     &part[10..end]
@@ -20,10 +18,8 @@ pub fn read_data(part: &[u8]) -> &[u8]
 /// The working counter of the datagram that `part` spells.
 pub fn read_counter(part: &[u8]) -> u16
     requires { IsSpelling part.now }
-    ensures {
-        (more : Bool) (d : Datagram) → IsDatagram d → part.now ≡ spelling more d
-            → result ≡ d.counter
-    }
+    ensures { (more : Bool) (d : Datagram) → IsDatagram d → part.now ≡ spelling more d
+        → result ≡ d.counter }
 {
     let at = part.len() - 2;
     LittleEndian::read_u16(&part[at..])
@@ -32,10 +28,8 @@ pub fn read_counter(part: &[u8]) -> u16
 /// Writes the working counter, and nothing else.
 pub fn write_counter(part: &mut [u8], counter: u16)
     requires { IsSpelling part.old }
-    ensures {
-        (more : Bool) (d : Datagram) → IsDatagram d → part.old ≡ spelling more d
-            → part.new ≡ spelling more (with_counter d counter)
-    }
+    ensures { (more : Bool) (d : Datagram) → IsDatagram d → part.old ≡ spelling more d
+        → part.new ≡ spelling more (with_counter d counter) }
 {
     let at = part.len() - 2;
     LittleEndian::write_u16(&mut part[at..], counter);
@@ -44,10 +38,8 @@ pub fn write_counter(part: &mut [u8], counter: u16)
 /// Writes ADP, the low half of the address, and nothing else.
 pub fn write_adp(part: &mut [u8], adp: u16)
     requires { IsSpelling part.old }
-    ensures {
-        (more : Bool) (d : Datagram) → IsDatagram d → part.old ≡ spelling more d
-            → part.new ≡ spelling more (with_adp d adp)
-    }
+    ensures { (more : Bool) (d : Datagram) → IsDatagram d → part.old ≡ spelling more d
+        → part.new ≡ spelling more (with_adp d adp) }
 {
     LittleEndian::write_u16(&mut part[2..4], adp);
 }
@@ -55,10 +47,8 @@ pub fn write_adp(part: &mut [u8], adp: u16)
 /// Writes the four address bytes, and nothing else.
 pub fn write_address(part: &mut [u8], address: u32)
     requires { IsSpelling part.old }
-    ensures {
-        (more : Bool) (d : Datagram) → IsDatagram d → part.old ≡ spelling more d
-            → part.new ≡ spelling more (with_address d address)
-    }
+    ensures { (more : Bool) (d : Datagram) → IsDatagram d → part.old ≡ spelling more d
+        → part.new ≡ spelling more (with_address d address) }
 {
     LittleEndian::write_u32(&mut part[2..6], address);
 }

@@ -30,10 +30,8 @@ impl Header {
     /// Reads the header of the datagram that `part` spells.
     pub fn read(part: &[u8]) -> Self
         requires { IsSpelling part.now }
-        ensures {
-            (more : Bool) (d : Datagram) → IsDatagram d → part.now ≡ spelling more d
-                → result ≡ header_of more d
-        }
+        ensures { (more : Bool) (d : Datagram) → IsDatagram d → part.now ≡ spelling more d
+            → result ≡ header_of more d }
     {
         let flags = LittleEndian::read_u16(&part[6..]);
         Header {

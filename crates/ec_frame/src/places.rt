@@ -42,12 +42,8 @@ impl Places {
     /// The place of the next datagram; none after the last.
     pub fn next(&mut self, frame: &[u8]) -> Option<Span>
         requires { (ds : List Datagram) × IsAhead frame.now self.old ds }
-        ensures steps {
-            (ds : List Datagram) → IsAhead frame.now self.old ds → StepsTo self.old self.new result ds
-        }
-        ensures within {
-            IfSome result (λ span. (span.from ≤ span.to) × (span.to ≤ length frame.now))
-        }
+        ensures steps { (ds : List Datagram) → IsAhead frame.now self.old ds → StepsTo self.old self.new result ds }
+        ensures within { IfSome result (λ span. (span.from ≤ span.to) × (span.to ≤ length frame.now)) }
     {
         if self.at == self.end {
             return None;
