@@ -7,6 +7,7 @@ mod access;
 mod application;
 mod buffer;
 mod configuring;
+pub mod laws;
 mod mail;
 mod mailbox;
 mod manager;
