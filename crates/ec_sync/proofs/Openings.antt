@@ -34,7 +34,7 @@ view-if v true a b x y = x
 view-if v false a b x y = y
 
 view-put : (v : List ℕ) (m : Manager) (may below last : Bool) (i x : ℕ) (d : Option (List ℕ)) → IsNoneOr v m.buffer.view
-  → IsNoneOr v (unwrap_or (put_if may below last m i x d) m).buffer.view
+    → IsNoneOr v (unwrap_or (put_if may below last m i x d) m).buffer.view
 view-put v m false below last i x d a = a
 view-put v m true false last i x d a = a
 view-put v m true true last i x None a = a
@@ -42,7 +42,7 @@ view-put v m true true true i x (Some d) a = a
 view-put v m true true false i x (Some d) a = a
 
 view-got : (v : List ℕ) (m : Manager) (may below last : Bool) (i : ℕ) (d : Option (List ℕ)) → IsNoneOr v m.buffer.view → IsNoneOr v d
-  → IsNoneOr v (after_get m (got_if may below last m.buffer i d)).buffer.view
+    → IsNoneOr v (after_get m (got_if may below last m.buffer i d)).buffer.view
 view-got v m false below last i d a k = a
 view-got v m true false last i d a k = a
 view-got v m true true last i None a k = a
@@ -57,7 +57,7 @@ view-step_get : (v : List ℕ) (m : Manager) (i : ℕ) → ¬ (i ≡ 0) → IsNo
 unfolding app_read
 view-step_get v m i ne a =
     view-got v m (may_app_get m) (nat_lt i (length m.buffer.published)) (i + 1 == length m.buffer.published) i (if i == 0 then Some m.buffer.published else m.buffer.view) a
-      (stays v i (Some m.buffer.published) m.buffer.view ne a)
+    (stays v i (Some m.buffer.published) m.buffer.view ne a)
 
 view-step : (v : List ℕ) (m : Manager) (o : Operation) → OpensNoView o → IsNoneOr v m.buffer.view → IsNoneOr v (step m o).buffer.view
 view-step v m (Configure settings) h a = inl refl
@@ -77,7 +77,7 @@ view-run v m (o ∷ ops) h a = view-run v (step m o) ops (All-tail OpensNoView o
 
 -- byte 0 opens a view of the published value
 view-opened : (m : Manager) (may below last : Bool) (v : List ℕ) → is_some (got_if may below last m.buffer 0 (Some v)) ≡ true
-  → IsNoneOr v (after_get m (got_if may below last m.buffer 0 (Some v))).buffer.view
+    → IsNoneOr v (after_get m (got_if may below last m.buffer 0 (Some v))).buffer.view
 view-opened m false below last v e = absurd (let f : false ≡ true = e in cc)
 view-opened m true false last v e = absurd (let f : false ≡ true = e in cc)
 view-opened m true true true v e = inl refl
@@ -96,7 +96,7 @@ pub views_stay : ViewsStay
 views_stay m ops i value granted none e =
     let n : Manager = run (step m (AppGet 0)) ops in
     same-value m.buffer.published value (is_some (app_got n (suc i))) (if suc i == 0 then Some n.buffer.published else n.buffer.view)
-      (stays m.buffer.published (suc i) (Some n.buffer.published) n.buffer.view (not-zero i) (view-run m.buffer.published (step m (AppGet 0)) ops none (view-first m granted))) e
+    (stays m.buffer.published (suc i) (Some n.buffer.published) n.buffer.view (not-zero i) (view-run m.buffer.published (step m (AppGet 0)) ops none (view-first m granted))) e
 
 -- ---- drafts
 
@@ -105,7 +105,7 @@ draft-if d true a b x y = x
 draft-if d false a b x y = y
 
 draft-put : (d : List ℕ) (m : Manager) (may below last : Bool) (i x : ℕ) (o : Option (List ℕ)) → IsNoneOr d m.buffer.draft → IsNoneOr d o
-  → IsNoneOr (if is_some (put_if may below last m i x o) then slice_set d i x else d) (unwrap_or (put_if may below last m i x o) m).buffer.draft
+    → IsNoneOr (if is_some (put_if may below last m i x o) then slice_set d i x else d) (unwrap_or (put_if may below last m i x o) m).buffer.draft
 draft-put d m false below last i x o a k = a
 draft-put d m true false last i x o a k = a
 draft-put d m true true last i x None a k = a
@@ -114,7 +114,7 @@ draft-put d m true true false i x (Some w) a (inl n) = absurd (none_some w (sym 
 draft-put d m true true false i x (Some w) a (inr s) = let same : w ≡ d = cc in inr (rw same refl)
 
 draft-got : (d : List ℕ) (m : Manager) (may below last : Bool) (i : ℕ) (o : Option (List ℕ)) → IsNoneOr d m.buffer.draft
-  → IsNoneOr d (after_get m (got_if may below last m.buffer i o)).buffer.draft
+    → IsNoneOr d (after_get m (got_if may below last m.buffer i o)).buffer.draft
 draft-got d m false below last i o a = a
 draft-got d m true false last i o a = a
 draft-got d m true true last i None a = a
@@ -126,11 +126,11 @@ unfolding app_read
 draft-step_get d m i a = draft-got d m (may_app_get m) (nat_lt i (length m.buffer.published)) (i + 1 == length m.buffer.published) i (if i == 0 then Some m.buffer.published else m.buffer.view) a
 
 draft-step_put : (d : List ℕ) (m : Manager) (i x : ℕ) → ¬ (i ≡ 0) → IsNoneOr d m.buffer.draft
-  → IsNoneOr (if is_some (app_put m i x) then slice_set d i x else d) (step m (AppPut i x)).buffer.draft
+    → IsNoneOr (if is_some (app_put m i x) then slice_set d i x else d) (step m (AppPut i x)).buffer.draft
 unfolding app_written
 draft-step_put d m i x ne a =
     draft-put d m (may_app_put m) (nat_lt i (length m.buffer.published)) (i + 1 == length m.buffer.published) i x (draft_for m i) a
-      (stays d i (Some (zeros (length m.buffer.published))) m.buffer.draft ne a)
+    (stays d i (Some (zeros (length m.buffer.published))) m.buffer.draft ne a)
 
 draft-run : (d : List ℕ) (m : Manager) (ops : List Operation) → All OpensNoDraft ops → IsNoneOr d m.buffer.draft → IsNoneOr (with_puts m ops d) (run m ops).buffer.draft
 draft-run d m [] h a = a
@@ -139,20 +139,20 @@ draft-run d m (Lock locked ∷ ops) h a = draft-run d (step m (Lock locked)) ops
 draft-run d m (Empty ∷ ops) h a = draft-run d (step m Empty) ops (All-tail OpensNoDraft _ ops h) (inl refl)
 draft-run d m (PublishZeros ∷ ops) h a = draft-run d (step m PublishZeros) ops (All-tail OpensNoDraft _ ops h) a
 draft-run d m (RingWrite covered value ∷ ops) h a = draft-run d (step m (RingWrite covered value)) ops (All-tail OpensNoDraft _ ops h)
-  (draft-if d (covered && may_write m) _ m (draft-if d (m.settings.control % 4 == 2) (record m { mail = Some value }) (record m { buffer = publishing m.buffer value }) a a) a)
+    (draft-if d (covered && may_write m) _ m (draft-if d (m.settings.control % 4 == 2) (record m { mail = Some value }) (record m { buffer = publishing m.buffer value }) a a) a)
 draft-run d m (RingRead covered ∷ ops) h a = draft-run d (step m (RingRead covered)) ops (All-tail OpensNoDraft _ ops h)
-  (draft-if d (covered && may_read m) _ m (draft-if d (m.settings.control % 4 == 2) (record m { mail = None }) m a a) a)
+    (draft-if d (covered && may_read m) _ m (draft-if d (m.settings.control % 4 == 2) (record m { mail = None }) m a a) a)
 draft-run d m (AppPut i x ∷ ops) h a = draft-run (if is_some (app_put m i x) then slice_set d i x else d) (step m (AppPut i x)) ops (All-tail OpensNoDraft _ ops h)
-  (draft-step_put d m i x (All-head OpensNoDraft (AppPut i x) ops h) a)
+    (draft-step_put d m i x (All-head OpensNoDraft (AppPut i x) ops h) a)
 draft-run d m (AppGet i ∷ ops) h a = draft-run d (step m (AppGet i)) ops (All-tail OpensNoDraft _ ops h) (draft-step_get d m i a)
 draft-run d m (MessageTake ∷ ops) h a = draft-run d (step m MessageTake) ops (All-tail OpensNoDraft _ ops h)
-  (draft-if d (is_some (message_in m)) (record m { mail = None }) m a a)
+    (draft-if d (is_some (message_in m)) (record m { mail = None }) m a a)
 draft-run d m (MessagePut message ∷ ops) h a = draft-run d (step m (MessagePut message)) ops (All-tail OpensNoDraft _ ops h)
-  (draft-if d (may_put_message m (length message)) (record m { mail = Some (padded m message) }) m a a)
+    (draft-if d (may_put_message m (length message)) (record m { mail = Some (padded m message) }) m a a)
 
 -- byte 0 opens a draft of zeros
 draft-opened : (m : Manager) (may below last : Bool) (x : ℕ) (z : List ℕ) → is_some (put_if may below last m 0 x (Some z)) ≡ true
-  → IsNoneOr (slice_set z 0 x) (unwrap_or (put_if may below last m 0 x (Some z)) m).buffer.draft
+    → IsNoneOr (slice_set z 0 x) (unwrap_or (put_if may below last m 0 x (Some z)) m).buffer.draft
 draft-opened m false below last x z e = absurd (let f : false ≡ true = e in cc)
 draft-opened m true false last x z e = absurd (let f : false ≡ true = e in cc)
 draft-opened m true true true x z e = inl refl
@@ -173,5 +173,5 @@ drafts_are_the_bytes_put m ops x i y value granted none e =
     let n : Manager = run (step m (AppPut 0 x)) ops in
     let d : List ℕ = slice_set (zeros (length m.buffer.published)) 0 x in
     same-draft (with_puts (step m (AppPut 0 x)) ops d) value (suc i) y (is_some (app_put n (suc i) y) && (suc i + 1 == length n.buffer.published)) (draft_for n (suc i))
-      (stays (with_puts (step m (AppPut 0 x)) ops d) (suc i) (Some (zeros (length n.buffer.published))) n.buffer.draft (not-zero i)
-        (draft-run d (step m (AppPut 0 x)) ops none (draft-first m x granted))) e
+    (stays (with_puts (step m (AppPut 0 x)) ops d) (suc i) (Some (zeros (length n.buffer.published))) n.buffer.draft (not-zero i)
+    (draft-run d (step m (AppPut 0 x)) ops none (draft-first m x granted))) e

@@ -58,12 +58,12 @@ known-no_mail : (h : List (List ℕ)) (m : Manager) → Known h m → Known h (r
 known-no_mail h m a = record { published = a.published; view = a.view; mail = λ v e. nothing h v e }
 
 known-stored : (h : List (List ℕ)) (m : Manager) (w : List ℕ) (is_mail : Bool) → Known h m
-  → Known (h ++ w ∷ []) (if is_mail then record m { mail = Some w } else record m { buffer = publishing m.buffer w })
+    → Known (h ++ w ∷ []) (if is_mail then record m { mail = Some w } else record m { buffer = publishing m.buffer w })
 known-stored h m w true a = known-mail h m w a
 known-stored h m w false a = known-publishing h m w a
 
 known-written : (h : List (List ℕ)) (m : Manager) (w : List ℕ) (granted is_mail : Bool) → Known h m
-  → Known (h ++ (if granted then w ∷ [] else [])) (if granted then (if is_mail then record m { mail = Some w } else record m { buffer = publishing m.buffer w }) else m)
+    → Known (h ++ (if granted then w ∷ [] else [])) (if granted then (if is_mail then record m { mail = Some w } else record m { buffer = publishing m.buffer w }) else m)
 known-written h m w true is_mail a = known-stored h m w is_mail a
 known-written h m w false is_mail a = known-more h [] m a
 
@@ -76,7 +76,7 @@ known-read h m true is_mail a = known-emptied_mail h m is_mail a
 known-read h m false is_mail a = known-more h [] m a
 
 known-message : (h : List (List ℕ)) (m : Manager) (w : List ℕ) (granted : Bool) → Known h m
-  → Known (h ++ (if granted then w ∷ [] else [])) (if granted then record m { mail = Some w } else m)
+    → Known (h ++ (if granted then w ∷ [] else [])) (if granted then record m { mail = Some w } else m)
 known-message h m w true a = known-mail h m w a
 known-message h m w false a = known-more h [] m a
 
@@ -96,7 +96,7 @@ abbrev closed_if : Bool → Bool → Bool → Manager → ℕ → ℕ → Option
 closed_if may below last m i x d = if is_some (put_if may below last m i x d) && last then option_map (λ e. slice_set e i x) d else None
 
 known-put : (h : List (List ℕ)) (m : Manager) (may below last : Bool) (i x : ℕ) (d : Option (List ℕ)) → Known h m
-  → Known (h ++ only (closed_if may below last m i x d)) (unwrap_or (put_if may below last m i x d) m)
+    → Known (h ++ only (closed_if may below last m i x d)) (unwrap_or (put_if may below last m i x d) m)
 known-put h m false below last i x d a = known-more h [] m a
 known-put h m true false last i x d a = known-more h [] m a
 known-put h m true true last i x None a = known-more h [] m a
@@ -115,7 +115,7 @@ abbrev pub got_if : Bool → Bool → Bool → Buffer → ℕ → Option (List �
 got_if may below last b i d = if may then (if below then view_next_if last b i d else None) else None
 
 known-got : (h : List (List ℕ)) (m : Manager) (may below last : Bool) (i : ℕ) (d : Option (List ℕ)) → Known h m → ((v : List ℕ) → d ≡ Some v → Contains h v)
-  → Known (h ++ []) (after_get m (got_if may below last m.buffer i d))
+    → Known (h ++ []) (after_get m (got_if may below last m.buffer i d))
 known-got h m false below last i d a k = known-more h [] m a
 known-got h m true false last i d a k = known-more h [] m a
 known-got h m true true last i None a k = known-more h [] m a
@@ -153,12 +153,12 @@ pub known-run : (h : List (List ℕ)) (m : Manager) (ops : List Operation) → K
 known-run h m [] a = known-more h [] m a
 known-run h m (o ∷ ops) a =
     subst (λ (k : List (List ℕ)). Known k (run (step m o) ops)) (append_assoc h (publications m o) (history (step m o) ops))
-      (known-run (h ++ publications m o) (step m o) ops (known-step h m o a))
+    (known-run (h ++ publications m o) (step m o) ops (known-step h m o a))
 
 -- ---- what is shown
 
 known-shown : (h : List (List ℕ)) (m : Manager) (covered enabled ring is_mail : Bool) (mail : Option (List ℕ)) (v : List ℕ) → Contains h m.buffer.published → ((w : List ℕ) → mail ≡ Some w → Contains h w)
-  → (if covered && (enabled && (ring && (if is_mail then is_some mail else true))) then Some (if is_mail then unwrap_or mail [] else m.buffer.published) else None) ≡ Some v → Contains h v
+    → (if covered && (enabled && (ring && (if is_mail then is_some mail else true))) then Some (if is_mail then unwrap_or mail [] else m.buffer.published) else None) ≡ Some v → Contains h v
 known-shown h m false enabled ring is_mail mail v a k e = nothing h v e
 known-shown h m true false ring is_mail mail v a k e = nothing h v e
 known-shown h m true true false is_mail mail v a k e = nothing h v e
@@ -191,7 +191,7 @@ whole_values ops o v e =
 -- ---- the bytes of a view
 
 byte_of_view : (may below last : Bool) (b : Buffer) (i : ℕ) (d : Option (List ℕ)) (got : Got) → got_if may below last b i d ≡ Some got
-  → option_map (λ v. slice_index v i) (if is_some (got_if may below last b i d) then d else None) ≡ Some got.byte
+    → option_map (λ v. slice_index v i) (if is_some (got_if may below last b i d) then d else None) ≡ Some got.byte
 byte_of_view false below last b i d got e = cc
 byte_of_view true false last b i d got e = cc
 byte_of_view true true last b i None got e = cc

@@ -96,7 +96,7 @@ shown_by m o = None
 abbrev pub OnlyWholeValues : Type 0
 OnlyWholeValues =
     (ops : List Operation) (o : Operation) (value : List ℕ) → shown_by (run no_manager ops) o ≡ Some value
-      → Contains (no_manager.buffer.published ∷ history no_manager ops) value
+    → Contains (no_manager.buffer.published ∷ history no_manager ops) value
 
 -- and the byte that the application gets is that value's
 abbrev pub BytesOfTheView : Type 0
@@ -116,7 +116,7 @@ OpensNoDraft o = Unit {0}
 abbrev pub ViewsStay : Type 0
 ViewsStay =
     (m : Manager) (ops : List Operation) (i : ℕ) (value : List ℕ) → is_some (app_got m 0) ≡ true → All OpensNoView ops
-      → viewed (run (step m (AppGet 0)) ops) (suc i) ≡ Some value → value ≡ m.buffer.published
+    → viewed (run (step m (AppGet 0)) ops) (suc i) ≡ Some value → value ≡ m.buffer.published
 
 -- a value with the bytes that the application put in a run, where each was granted
 abbrev pub with_puts : Manager → List Operation → List ℕ → List ℕ
@@ -129,5 +129,5 @@ with_puts m (o ∷ ops) value = with_puts (step m o) ops value
 abbrev pub DraftsAreTheBytesPut : Type 0
 DraftsAreTheBytesPut =
     (m : Manager) (ops : List Operation) (x i y : ℕ) (value : List ℕ) → is_some (app_put m 0 x) ≡ true → All OpensNoDraft ops
-      → closed_draft (run (step m (AppPut 0 x)) ops) (suc i) y ≡ Some value
-      → value ≡ slice_set (with_puts (step m (AppPut 0 x)) ops (slice_set (zeros (length m.buffer.published)) 0 x)) (suc i) y
+    → closed_draft (run (step m (AppPut 0 x)) ops) (suc i) y ≡ Some value
+    → value ≡ slice_set (with_puts (step m (AppPut 0 x)) ops (slice_set (zeros (length m.buffer.published)) 0 x)) (suc i) y

@@ -36,7 +36,9 @@ impl Model for Buffer {
       view = if b.is_viewing then Some (take b.len b.seen.items) else None;
     } };
 
-    ghost invariant = { λ b. (length b.published.items ≡ 2730) × (length b.draft.items ≡ 2730) × (length b.seen.items ≡ 2730) × (b.len ≤ 2730) };
+    ghost invariant = { λ b.
+        (length b.published.items ≡ 2730) × (length b.draft.items ≡ 2730)
+        × (length b.seen.items ≡ 2730) × (b.len ≤ 2730) };
 }
 
 impl Buffer {

@@ -7,17 +7,14 @@ ghost use Rattle.ec_sync.specs.Runs.{OnlyWholeValues, BytesOfTheView, ViewsStay,
 pub fn only_whole_values()
     ensures whole { OnlyWholeValues }
     ensures bytes { BytesOfTheView }
-{
-}
+{}
 
 /// All bytes of a view are those of one value: the one that was published as byte 0 was read.
 pub fn views_stay()
     ensures { ViewsStay }
-{
-}
+{}
 
 /// A value that the application publishes has the bytes that it put since byte 0, and zeros elsewhere.
 pub fn drafts_are_the_bytes_put()
     ensures { DraftsAreTheBytesPut }
-{
-}
+{}

@@ -16,3 +16,6 @@ mod settings;
 
 pub use crate::access::{Access, Range, Reach, Writing};
 pub use crate::manager::Manager;
+
+#[cfg(test)]
+mod tests;
