@@ -2,3 +2,4 @@ pub mod Buffer
 pub mod Manager
 pub mod Governing
 pub mod Access
+pub mod Runs

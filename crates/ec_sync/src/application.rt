@@ -14,7 +14,10 @@ impl Manager {
         ensures granted { result ≡ is_some (put_by_application self.old place byte) }
         ensures after { self.new ≡ unwrap_or (put_by_application self.old place byte) self.old }
     {
-        if !self.is_enabled() || !settings::is_buffered(self.settings) || !settings::is_ring_read(self.settings) {
+        if !self.is_enabled()
+            || !settings::is_buffered(self.settings)
+            || !settings::is_ring_read(self.settings)
+        {
             return false;
         }
         self.buffer.put(place, byte)
@@ -27,7 +30,10 @@ impl Manager {
         ensures byte { result ≡ option_map (λ got. got.byte) (app_got self.old place) }
         ensures after { self.new ≡ after_get self.old (app_got self.old place) }
     {
-        if !self.is_enabled() || !settings::is_buffered(self.settings) || !settings::is_ring_written(self.settings) {
+        if !self.is_enabled()
+            || !settings::is_buffered(self.settings)
+            || !settings::is_ring_written(self.settings)
+        {
             return None;
         }
         self.buffer.get(place)

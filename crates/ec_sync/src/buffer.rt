@@ -31,12 +31,14 @@ impl Model for Buffer {
     ghost Value = { Triple };
 
     ghost view = { λ b. record {
-        published = take b.len b.published.items;
-        draft = if b.is_drafting then Some (take b.len b.draft.items) else None;
-        view = if b.is_viewing then Some (take b.len b.seen.items) else None
+      published = take b.len b.published.items;
+      draft = if b.is_drafting then Some (take b.len b.draft.items) else None;
+      view = if b.is_viewing then Some (take b.len b.seen.items) else None;
     } };
 
-    ghost invariant = { λ b. (length b.published.items ≡ 2730) × (length b.draft.items ≡ 2730) × (length b.seen.items ≡ 2730) × (b.len ≤ 2730) };
+    ghost invariant = { λ b.
+        (length b.published.items ≡ 2730) × (length b.draft.items ≡ 2730)
+        × (length b.seen.items ≡ 2730) × (b.len ≤ 2730) };
 }
 
 impl Buffer {

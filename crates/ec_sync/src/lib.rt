@@ -7,6 +7,7 @@ mod access;
 mod application;
 mod buffer;
 mod configuring;
+pub mod laws;
 mod mail;
 mod mailbox;
 mod manager;
@@ -15,3 +16,6 @@ mod settings;
 
 pub use crate::access::{Access, Range, Reach, Writing};
 pub use crate::manager::Manager;
+
+#[cfg(test)]
+mod tests;

@@ -1,9 +1,9 @@
 //! Accesses of the ring.
 
-ghost use Rattle.std.specs.Prelude.{◌≡◌, ◌+◌, ◌-◌, ◌&&◌, if◌then◌else◌, true};
+ghost use Rattle.std.specs.Prelude.{◌≡◌, ◌&&◌, true};
 ghost use Rattle.ec_regs.specs.Managers.{is_set};
-ghost use Rattle.ec_sync.specs.Manager.{LiesInRam, may_read, may_write, ring_written, ring_read};
-ghost use Rattle.ec_sync.specs.Governing.{covers};
+ghost use Rattle.ec_sync.specs.Manager.{LiesInRam, may_read, may_write, ring_written};
+ghost use Rattle.ec_sync.specs.Governing.{covers, after_ring_write, after_ring_read};
 
 use crate::access::{Access, Writing};
 use crate::manager::Manager;
@@ -15,11 +15,7 @@ impl Manager {
     /// ring writes, and of a mailbox that is empty.
     pub fn ring_write<W: Writing>(&mut self, writing: &W) -> bool
         ensures granted { result ≡ (covers (W.touched writing.now) self.old && may_write self.old) }
-        ensures after {
-            self.new ≡ (if covers (W.touched writing.now) self.old && may_write self.old
-                then ring_written self.old (W.written writing.now self.old.settings.start self.old.settings.length)
-                else self.old)
-        }
+        ensures after { self.new ≡ after_ring_write (W.touched writing.now) (W.written writing.now) self.old }
     {
         if !self.may_write() || !self.is_touched(writing) {
             return false;
@@ -34,9 +30,8 @@ impl Manager {
         requires set { is_set self.old.settings ≡ true }
         requires inside { LiesInRam self.old.settings }
         requires covered { covers (W.touched writing.now) self.old ≡ true }
-        ensures {
-            self.new ≡ ring_written self.old (W.written writing.now self.old.settings.start self.old.settings.length)
-        }
+        ensures { let m = self.old.settings in
+            self.new ≡ ring_written self.old (W.written writing.now m.start m.length) }
     {
         let start = self.settings.start as usize;
         let len = self.settings.length as usize;
@@ -52,9 +47,7 @@ impl Manager {
     /// and of a mailbox that is full.
     pub fn ring_read<A: Access>(&mut self, access: &A) -> bool
         ensures granted { result ≡ (covers (A.touched access.now) self.old && may_read self.old) }
-        ensures after {
-            self.new ≡ (if covers (A.touched access.now) self.old && may_read self.old then ring_read self.old else self.old)
-        }
+        ensures after { self.new ≡ after_ring_read (A.touched access.now) self.old }
     {
         if !self.may_read() || !self.is_touched(access) {
             return false;
