@@ -310,7 +310,7 @@ impl SlaveType {
         ensures value { result ≡ pdos_bits self.now.outputs }
         ensures limit { result ≤ 65536 }
     {
-        bits_of(self.outputs.as_slice())
+        bits_of(self.outputs())
     }
 
     /// How many bits all input PDOs have together.
@@ -318,6 +318,6 @@ impl SlaveType {
         ensures value { result ≡ pdos_bits self.now.inputs }
         ensures limit { result ≤ 65536 }
     {
-        bits_of(self.inputs.as_slice())
+        bits_of(self.inputs())
     }
 }
