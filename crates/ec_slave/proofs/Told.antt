@@ -3,11 +3,8 @@ use Rattle.std.proofs.Common.{ℕ, zero, suc, ◌+◌, ◌-◌, ◌<◌, ◌≤�
 use Rattle.std.proofs.lemmas.Bool.{cases_eq, cases_lt}
 use Rattle.std.proofs.lemmas.Grind.{same_number_lists}
 use Rattle.ec_slave.specs.Access.{retold_from, retold}
+use Rattle.ec_slave.specs.Telling.{set_told}
 use Rattle.ec_slave.specs.Keeping.{length-retold}
-
-abbrev pub set_told : List ℕ → ℕ → Option ℕ → List ℕ
-set_told xs i None = xs
-set_told xs i (Some x) = slice_set xs i x
 
 -- the n numbers from place `from` on, told one by one
 unfoldable pub told_along : ℕ → ℕ → List ℕ → (ℕ → Option ℕ) → List ℕ

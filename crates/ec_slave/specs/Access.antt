@@ -1,11 +1,19 @@
--- What a datagram reads and writes in the memory of a slave, byte by byte (ETG.1000.4, "Physical memory", "Register description").
-use Rattle.std.specs.Prelude.{ℕ, ◌+◌, ◌-◌, ◌*◌, ◌==◌, ◌&&◌, ◌||◌, List, [], ◌∷◌, length, Bool, false, if◌then◌else◌, nat_lt, slice_index, Option, Some, None, is_some, unwrap_or, bit_or}
-use Rattle.std.specs.Int.{from_bool}
-use Rattle.ec_bits.specs.Bits.{any_below, within}
-use Rattle.ec_regs.specs.Memory.{ram_start, ram_end, takes_writes}
+-- What a datagram reads and writes in the memory of a slave, byte by byte (ETG.1000.4, "Physical memory", "Register
+-- description", "Sync manager").
+use Rattle.std.specs.Prelude.{ℕ, ◌+◌, ◌-◌, ◌*◌, ◌/◌, ◌%◌, ◌==◌, ◌&&◌, ◌||◌, not, List, [], ◌∷◌, ◌++◌, length, Bool, true, false, if◌then◌else◌, nat_lt, slice_index, Option, Some, None, is_some, is_none, unwrap_or, bit_or}
+use Rattle.std.specs.Int.{from_bool, to_le_bytes, w16}
+use Rattle.ec_bits.specs.Bits.{any_below, within, zeros}
+use Rattle.ec_regs.specs.declared.manager.ManagerSettings.{ManagerSettings}
+use Rattle.ec_regs.specs.Memory.{ram_start, ram_end, is_stored, takes_writes}
+use Rattle.ec_regs.specs.Managers.{settings_of}
+use Rattle.ec_sync.specs.Manager.{Manager, empty_manager}
+use Rattle.ec_sync.specs.Governing.{governor, manager_byte, shown_byte}
+use Rattle.ec_al.specs.Al.{status_word, requesting}
+use Rattle.ec_sii.specs.Port.{sii_byte, written}
 use Rattle.ec_slave.specs.declared.role.Role.{Role}
 use Rattle.ec_slave.specs.Roles.{is_reading, is_writing, is_joining}
-use Rattle.ec_slave.specs.State.{SlaveState, with_memory}
+use Rattle.ec_slave.specs.State.{SlaveState, manager_at}
+use Rattle.ec_slave.specs.Managers.{reads_under, writes_under, manager_after}
 
 -- the bytes of a datagram, and the address of the first; byte k belongs to address from + k, and addresses don't wrap
 pub record Window : Type 0 where
@@ -15,6 +23,10 @@ pub record Window : Type 0 where
 abbrev pub touches : Window → ℕ → Bool
 touches w a = within w.from (length w.bytes) a
 
+-- what a datagram brings to an address
+abbrev pub byte_from : Window → ℕ → Option ℕ
+byte_from w a = if touches w a then Some (slice_index w.bytes (a - w.from)) else None
+
 -- the numbers of a list, the first of which has place k: each that f tells as it tells it, all others as they were
 abbrev pub retold_from : ℕ → List ℕ → (ℕ → Option ℕ) → List ℕ
 retold_from k [] f = []
@@ -23,48 +35,103 @@ retold_from k (x ∷ xs) f = unwrap_or (f k) x ∷ retold_from (k + 1) xs f
 abbrev pub retold : List ℕ → (ℕ → Option ℕ) → List ℕ
 retold xs f = retold_from 0 xs f
 
--- What a register reads: 4 FMMUs, 4 sync managers and 8 KiB of RAM; the AL status, INIT without an error; of what datagrams
--- may write, what they wrote. Every other one reads 0.
+-- ---- what an address reads
+
+-- 4 FMMUs, 4 sync managers and 8 KiB of RAM; station address, AL control and FMMUs as datagrams stored them; the AL status
+-- and its code; the SII port; the sync managers. Every other register reads 0.
 unfoldable pub register_byte : SlaveState → ℕ → ℕ
 register_byte s a =
     if (a == 4) || (a == 5) then 4
     else (if a == 6 then 8
-    else (if a == 304 then 1
-    else (if takes_writes false a then slice_index s.memory a
-    else 0)))
+    else (if within 16 2 a || (within 288 2 a || within 1536 64 a) then slice_index s.memory a
+    else (if within 304 2 a then slice_index (to_le_bytes w16 (status_word s.al)) (a - 304)
+    else (if within 308 2 a then slice_index (to_le_bytes w16 s.al.code) (a - 308)
+    else (if within 1282 10 a then sii_byte s.sii a
+    else (if within 2048 32 a then manager_byte (manager_at s.managers ((a - 2048) / 8)) (a % 8)
+    else 0))))))
 
--- what an address reads: a register, the RAM, or, past its end, 0
+-- a byte of the RAM: what its governor shows there, or as it lies in the memory
+abbrev pub ram_byte : List ℕ → List Manager → ℕ → Option ℕ → ℕ
+ram_byte memory ms a None = slice_index memory a
+ram_byte memory ms a (Some n) = shown_byte (manager_at ms n) a
+
 unfoldable pub byte_at : SlaveState → ℕ → ℕ
-byte_at s a = if nat_lt a ram_start then register_byte s a else slice_index s.memory a
+byte_at s a = if nat_lt a ram_start then register_byte s a else ram_byte s.memory s.managers a (governor s.managers a)
 
--- whether a datagram reads a byte that it touches: every register and the RAM
-unfoldable pub may_read_byte : ℕ → Bool
-may_read_byte a = nat_lt a ram_end
+-- ---- which bytes a datagram reads and writes, of those that it touches
 
--- whether a datagram writes a byte that it touches: the registers that take writes, and the RAM
-unfoldable pub may_write_byte : ℕ → Bool
-may_write_byte a = if nat_lt a ram_start then takes_writes false a else nat_lt a ram_end
+-- every register, and the RAM where its governor lets it
+unfoldable pub may_read_byte : List Manager → (ℕ → Bool) → ℕ → Bool
+may_read_byte ms touched a = nat_lt a ram_start || (nat_lt a ram_end && reads_under ms touched a (governor ms a))
 
--- the byte that an address gets, if it is written
-abbrev pub byte_for : Window → ℕ → Option ℕ
-byte_for w a = if touches w a && may_write_byte a then Some (slice_index w.bytes (a - w.from)) else None
+-- the registers that take writes, while the SII is busy or not, and the RAM where its governor lets it
+unfoldable pub may_write_byte : List Manager → Bool → (ℕ → Bool) → ℕ → Bool
+may_write_byte ms busy touched a =
+    if nat_lt a ram_start then takes_writes busy a else nat_lt a ram_end && writes_under ms touched a (governor ms a)
 
 -- the byte that data byte k becomes, if it is read
 abbrev pub byte_read : SlaveState → Bool → Window → ℕ → Option ℕ
 byte_read s joining w k =
-    if may_read_byte (w.from + k)
+    if may_read_byte s.managers (touches w) (w.from + k)
     then Some (if joining then bit_or (slice_index w.bytes k) (byte_at s (w.from + k)) else byte_at s (w.from + k))
     else None
 
-abbrev pub memory_written : Window → List ℕ → List ℕ
-memory_written w memory = retold memory (byte_for w)
+-- ---- what a write leaves
+
+-- a byte that is kept in the memory itself: a stored register, the managers' aside, or a byte of the RAM under no manager
+unfoldable pub is_kept : List Manager → ℕ → Bool
+is_kept ms a =
+    if nat_lt a ram_start then is_stored a && not (within 2048 32 a) else nat_lt a ram_end && is_none (governor ms a)
+
+abbrev pub memory_written : List Manager → Window → List ℕ → List ℕ
+memory_written ms w memory = retold memory (λ a. if is_kept ms a then byte_from w a else None)
+
+-- what a datagram stores in byte k of manager n's eight
+abbrev pub setting_for : Window → ℕ → ℕ → Option ℕ
+setting_for w n k = if is_stored (2048 + 8 * n + k) then byte_from w (2048 + 8 * n + k) else None
+
+-- it writes one of the bytes 0..4 or 6
+abbrev pub is_configured : Window → ℕ → Bool
+is_configured w n = any_below 8 (λ k. is_some (setting_for w n k))
+
+abbrev pub settings_written : Window → ℕ → Manager → ManagerSettings
+settings_written w n m = settings_of (λ k. unwrap_or (setting_for w n k) (manager_byte m k))
+
+-- The value that a written manager gets, of its start and length: 0 in all bytes that the datagram doesn't touch, and in
+-- those that a lower-numbered manager governs.
+abbrev pub value_for : List Manager → Window → ℕ → ℕ → List ℕ
+value_for lower w start len = retold (zeros len) (λ k. if is_none (governor lower (start + k)) then byte_from w (start + k) else None)
+
+-- manager n after the datagram, `lower` being the lower-numbered ones: new settings empty it
+unfoldable pub manager_met : List Manager → Bool → Bool → Window → ℕ → Manager → Manager
+manager_met lower reads writes w n m =
+    if writes && is_configured w n then empty_manager (settings_written w n m) m.locked
+    else manager_after reads writes (touches w) (touches w) (value_for lower w) m
+
+-- each manager after it, the first being number n
+abbrev pub managers_met : List Manager → Bool → Bool → Window → ℕ → List Manager → List Manager
+managers_met lower reads writes w n [] = []
+managers_met lower reads writes w n (m ∷ ms) =
+    manager_met lower reads writes w n m ∷ managers_met (lower ++ m ∷ []) reads writes w (n + 1) ms
+
+-- The whole slave after a datagram that reads, writes or does both. A write of byte 0x0120 marks an AL request; the SII
+-- port takes the bytes 0x0502 to 0x0507.
+unfoldable pub slave_after : SlaveState → Bool → Bool → Window → SlaveState
+slave_after s reads writes w = record s {
+  memory = if writes then memory_written s.managers w s.memory else s.memory;
+  managers = managers_met [] reads writes w 0 s.managers;
+  al = if writes && touches w 288 then requesting s.al else s.al;
+  sii = if writes then written s.sii w.from w.bytes else s.sii
+}
+
+-- ---- the meeting
 
 -- one byte is enough for a read, or a write, to count
-abbrev pub some_byte_read : Window → Bool
-some_byte_read w = any_below (length w.bytes) (λ k. may_read_byte (w.from + k))
+abbrev pub some_byte_read : List Manager → Window → Bool
+some_byte_read ms w = any_below (length w.bytes) (λ k. may_read_byte ms (touches w) (w.from + k))
 
-abbrev pub some_byte_written : Window → Bool
-some_byte_written w = any_below (length w.bytes) (λ k. may_write_byte (w.from + k))
+abbrev pub some_byte_written : List Manager → Bool → Window → Bool
+some_byte_written ms busy w = any_below (length w.bytes) (λ k. may_write_byte ms busy (touches w) (w.from + k))
 
 -- what a slave and the bytes of a datagram become, and what the working counter grows by
 pub record Meeting : Type 0 where
@@ -76,7 +143,8 @@ pub record Meeting : Type 0 where
 -- received. A read counts 1; a write counts 1, in a datagram that reads as well 2.
 unfoldable pub meeting : SlaveState → Role → Window → Meeting
 meeting s role w = record {
-  slave = if is_writing role then with_memory s (memory_written w s.memory) else s;
+  slave = slave_after s (is_reading role) (is_writing role) w;
   bytes = if is_reading role then retold w.bytes (byte_read s (is_joining role) w) else w.bytes;
-  added = from_bool (is_reading role && some_byte_read w) + (if is_reading role then 2 else 1) * from_bool (is_writing role && some_byte_written w);
+  added = from_bool (is_reading role && some_byte_read s.managers w)
+    + (if is_reading role then 2 else 1) * from_bool (is_writing role && some_byte_written s.managers s.sii.busy w);
 }

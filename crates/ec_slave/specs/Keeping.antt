@@ -1,5 +1,5 @@
 -- A datagram that met a slave is one, as long as it was.
-use Rattle.std.specs.Prelude.{ℕ, ◌+◌, ◌*◌, ◌/◌, ◌^◌, ◌<◌, List, [], ◌∷◌, length, ◌≡◌, Option, refl, suc}
+use Rattle.std.specs.Prelude.{ℕ, ◌+◌, ◌*◌, ◌/◌, ◌%◌, ◌^◌, ◌<◌, List, [], ◌∷◌, length, ◌≡◌, Bool, true, false, if◌then◌else◌, Option, refl, suc}
 use Rattle.std.proofs.Common.{ap, arith}
 use Rattle.ec_frame.specs.declared.command.Command.{Command}
 use Rattle.ec_frame.specs.declared.command.Command.TheVariants.{Nop, Aprd, Apwr, Aprw, Fprd, Fpwr, Fprw, Brd, Bwr, Brw, Lrd, Lwr, Lrw, Armw, Frmw}
@@ -10,6 +10,9 @@ use Rattle.ec_slave.specs.declared.role.Role.TheVariants.{Nothing, Read, Write, 
 use Rattle.ec_slave.specs.Roles.{role_of, adp_after}
 use Rattle.ec_slave.specs.State.{SlaveState, station_of}
 use Rattle.ec_slave.specs.Access.{retold_from, Window, meeting}
+use Rattle.ec_bits.specs.Bits.{overlay}
+use Rattle.ec_bits.proofs.BitLaws.{length-overlay}
+use Rattle.ec_slave.specs.Logical.{meets_logical}
 use Rattle.ec_slave.specs.Meeting.{window_of, meets, meets_physically, meets_by, datagram_met}
 
 pub length-retold : (k : ℕ) (xs : List ℕ) (f : ℕ → Option ℕ) → length (retold_from k xs f) ≡ length xs
@@ -59,6 +62,17 @@ physically-keeps s d h =
       counter = omega arith;
     }, e)
 
+pub logically-keeps : (reading writing : Bool) (weight : ℕ) (s : SlaveState) (d : Datagram) → IsDatagram d → IsDatagram (meets_logical reading writing weight s d).datagram × (length (meets_logical reading writing weight s d).datagram.data_bytes ≡ length d.data_bytes)
+unfolding meets_logical
+logically-keeps reading writing weight s d h =
+    let e = length-overlay d.data_bytes _ in
+    (record { index = h.index; address = h.address; reserved = h.reserved; irq = h.irq; data_bytes = omega (arith, e, h.data_bytes); counter = omega arith }, e)
+
+lrw-keeps : (b : Bool) (s : SlaveState) (d : Datagram) → IsDatagram d
+  → IsDatagram (if b then meets_logical true true 2 s d else record { slave = s; datagram = d }).datagram × (length (if b then meets_logical true true 2 s d else record { slave = s; datagram = d }).datagram.data_bytes ≡ length d.data_bytes)
+lrw-keeps true s d h = logically-keeps true true 2 s d h
+lrw-keeps false s d h = (h, refl)
+
 by-keeps : (c : Command) (s : SlaveState) (d : Datagram) → IsDatagram d → IsDatagram (meets_by c s d).datagram × (length (meets_by c s d).datagram.data_bytes ≡ length d.data_bytes)
 by-keeps Nop s d h = (h, refl)
 by-keeps Aprd s d h = physically-keeps s d h
@@ -70,9 +84,9 @@ by-keeps Fprw s d h = physically-keeps s d h
 by-keeps Brd s d h = physically-keeps s d h
 by-keeps Bwr s d h = physically-keeps s d h
 by-keeps Brw s d h = physically-keeps s d h
-by-keeps Lrd s d h = (h, refl)
-by-keeps Lwr s d h = (h, refl)
-by-keeps Lrw s d h = (h, refl)
+by-keeps Lrd s d h = logically-keeps true false 1 s d h
+by-keeps Lwr s d h = logically-keeps false true 1 s d h
+by-keeps Lrw s d h = lrw-keeps s.kind.lrw s d h
 by-keeps Armw s d h = physically-keeps s d h
 by-keeps Frmw s d h = physically-keeps s d h
 

@@ -1,5 +1,12 @@
 pub mod Roles
 pub mod State
+pub mod Managers
 pub mod Access
+pub mod Logical
+pub mod Written
 pub mod Meeting
+pub mod Telling
 pub mod Keeping
+pub mod Exchange
+pub mod AgainstAll
+pub mod Laws

@@ -1,27 +1,85 @@
--- What a slave is at an instant.
-use Rattle.std.specs.Prelude.{ℕ, ◌+◌, ◌*◌, List, slice_index}
+-- What a slave is at an instant (ETG.1000.3 and .5; the memory is this project's profile).
+use Rattle.std.specs.Prelude.{ℕ, ◌+◌, ◌*◌, ◌%◌, List, [], ◌∷◌, length, map, get_or, slice_index}
 use Rattle.ec_bits.specs.Bits.{zeros}
-use Rattle.ec_regs.specs.Types.{SlaveKind}
 use Rattle.ec_regs.specs.declared.slave_type.Identity.{Identity}
+use Rattle.ec_regs.specs.declared.slave_type.Pdo.{Pdo}
+use Rattle.ec_regs.specs.declared.fmmu.FmmuSettings.{FmmuSettings}
+use Rattle.ec_regs.specs.Types.{SlaveKind}
+use Rattle.ec_regs.specs.Fmmus.{fmmu_of}
+use Rattle.ec_frame.specs.Datagram.{Datagram}
+use Rattle.ec_sync.specs.Manager.{Manager, no_manager}
+use Rattle.ec_al.specs.Al.{Al}
+use Rattle.ec_al.specs.Al as al
+use Rattle.ec_sii.specs.Port.{Sii, idle_port}
 
 pub record SlaveState : Type 0 where
   -- the type that it is of
   pub kind : SlaveKind
   pub identity : Identity
-  -- one byte for each address: the registers as datagrams stored them, then the RAM
+  -- One byte for each address: below 0x1000 what datagrams stored, the sync managers' registers and the SII port
+  -- aside; from there on the RAM as it is where no manager governs it.
   pub memory : List ℕ
+  -- the four sync managers
+  pub managers : List Manager
+  -- the AL state machine
+  pub al : Al
+  -- the SII port
+  pub sii : Sii
+  -- the PDO assignment: the slots of 0x1C12 (outputs) and 0x1C13 (inputs), and how many of them count
+  pub out_slots : List ℕ
+  pub out_count : ℕ
+  pub in_slots : List ℕ
+  pub in_count : ℕ
+  -- the counter of its last mailbox reply, 0 before the first
+  pub replies : ℕ
 
-abbrev pub with_memory : SlaveState → List ℕ → SlaveState
-with_memory s memory = record { kind = s.kind; identity = s.identity; memory = memory }
+-- with other memory and managers
+abbrev pub with_memory : SlaveState → List ℕ → List Manager → SlaveState
+with_memory s memory managers = record s { memory = memory; managers = managers }
 
 -- the station address, registers 0x0010 and 0x0011 (ETG.1000.4, "Station address")
 abbrev pub station_of : SlaveState → ℕ
 station_of s = slice_index s.memory 16 + 256 * slice_index s.memory 17
 
+abbrev pub manager_at : List Manager → ℕ → Manager
+manager_at ms n = get_or ms n no_manager
+
+-- the four FMMUs, as their registers say
+abbrev pub fmmus_of : List ℕ → List FmmuSettings
+fmmus_of memory = map (λ n. fmmu_of (λ k. slice_index memory (1536 + 16 * n + k))) (0 ∷ 1 ∷ 2 ∷ 3 ∷ [])
+
+abbrev pub fmmus : SlaveState → List FmmuSettings
+fmmus s = fmmus_of s.memory
+
 -- how many addresses there are: the RAM ends there
 unfoldable pub memory_length : ℕ
 memory_length = 12288
 
--- a slave that was just switched on: every register that a datagram can write, and the RAM, are 0
-abbrev pub power_on : SlaveKind → Identity → SlaveState
-power_on kind identity = record { kind = kind; identity = identity; memory = zeros memory_length }
+abbrev pub indices : List Pdo → List ℕ
+indices ps = map (λ p. p.index) ps
+
+-- A slave that was just switched on: every register that a datagram can write, and the RAM, are 0, the managers are empty,
+-- the state is INIT without an error, and all PDOs of the type are assigned in order.
+unfoldable pub power_on : SlaveKind → Identity → SlaveState
+power_on kind identity = record {
+  kind = kind;
+  identity = identity;
+  memory = zeros memory_length;
+  managers = no_manager ∷ no_manager ∷ no_manager ∷ no_manager ∷ [];
+  al = al.power_on;
+  sii = idle_port (record { identity = identity; mailbox = kind.mailbox });
+  out_slots = indices kind.outputs;
+  out_count = length kind.outputs;
+  in_slots = indices kind.inputs;
+  in_count = length kind.inputs;
+  replies = 0;
+}
+
+-- a slave and a datagram after they met
+pub record Met : Type 0 where
+  pub slave : SlaveState
+  pub datagram : Datagram
+
+-- the datagram that leaves, with its address and its data, and the working counter grown, modulo 65536; all else is as it came
+abbrev pub with_answer : Datagram → ℕ → List ℕ → ℕ → Datagram
+with_answer d address bytes added = record d { address = address; data_bytes = bytes; counter = (d.counter + added) % 65536 }

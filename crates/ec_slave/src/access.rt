@@ -1,68 +1,124 @@
-ghost use Rattle.std.specs.Prelude.{◌≡◌, ◌+◌, ◌<◌, ◌^◌, false, if◌then◌else◌, bit_or, length};
+//! Which bytes a physical datagram reads and writes, and what it leaves in the memory itself.
+
+ghost use Rattle.std.specs.Prelude.{◌≡◌, ◌+◌, ◌<◌, ◌^◌, if◌then◌else◌, bit_or, length, IfSome, Option, Some, None};
 ghost use Rattle.std.specs.Bool.{OnTrue};
-ghost use Rattle.ec_regs.specs.Memory.{is_stored as is_stored_at, takes_writes as takes_writes_at};
-ghost use Rattle.ec_slave.specs.Access.{Window, may_read_byte, may_write_byte, memory_written, some_byte_written};
+ghost use Rattle.ec_bits.specs.Bits.{within};
+ghost use Rattle.ec_sync.specs.Governing.{governor as governor_of};
+ghost use Rattle.ec_slave.specs.Access.{Window, byte_from, is_kept, may_read_byte, may_write_byte, memory_written, some_byte_read, some_byte_written};
+ghost use Rattle.ec_slave.specs.Telling.{set_told};
 
-/// Where the RAM begins.
-pub(crate) const RAM_START: usize = 0x1000;
+use ec_regs::registers::{RAM_END, RAM_START, SYNC_MANAGERS};
+use ec_regs::{is_stored, takes_writes};
+use ec_sync::Manager;
 
-/// How many addresses there are; the RAM ends there.
-pub(crate) const MEMORY_LENGTH: usize = 0x3000;
-
-/// Whether a register is stored as a datagram writes it.
-pub(crate) fn is_stored(address: usize) -> bool
-    ensures { result ≡ is_stored_at address }
+/// The number of the sync manager that governs a byte: the lowest one that is set and whose span has it.
+pub(crate) fn governor(managers: &[Manager], address: usize) -> Option<usize>
+    ensures value { result ≡ governor_of managers.now address }
+    ensures within { IfSome result (λ n. n < length managers.now) }
 {
-    (0x0010..0x0012).contains(&address)
-        || (0x0120..0x0122).contains(&address)
-        || (0x0600..0x0640).contains(&address)
-        || ((0x0800..0x0820).contains(&address) && (address % 8 < 5 || address % 8 == 6))
+    managers
+        .iter()
+        .position(|manager| manager.governs(address))
 }
 
-/// Whether a register takes what a datagram writes, while the SII is busy or not.
-pub(crate) fn takes_writes(is_busy: bool, address: usize) -> bool
-    ensures { result ≡ takes_writes_at is_busy address }
-{
-    is_stored(address) || ((0x0502..0x0508).contains(&address) && !is_busy)
-}
-
-/// Whether a datagram reads a byte that it touches.
+/// Whether a datagram over `len` bytes from `from` on reads the byte at an address that it touches.
 #[tactic(auto, unfolding(crate::specs::Access::may_read_byte))]
-pub(crate) fn may_read(address: usize) -> bool
-    ensures value { result ≡ may_read_byte address }
+pub(crate) fn reads_byte(managers: &[Manager], from: usize, len: usize, address: usize) -> bool
+    ensures value { result ≡ may_read_byte managers.now (within from len) address }
     ensures inside { OnTrue result (address < 12288) }
 {
-    address < MEMORY_LENGTH
-}
-
-/// Whether a datagram writes a byte that it touches.
-#[tactic(auto, unfolding(crate::specs::Access::may_write_byte))]
-pub(crate) fn may_write(address: usize) -> bool
-    ensures value { result ≡ may_write_byte address }
-    ensures inside { OnTrue result (address < 12288) }
-{
-    if address < RAM_START {
-        takes_writes(false, address)
-    } else {
-        address < MEMORY_LENGTH
+    if address < RAM_START as usize {
+        return true;
+    }
+    if RAM_END as usize <= address {
+        return false;
+    }
+    match governor(managers, address) {
+        None => true,
+        Some(place) => {
+            let manager = &managers[place];
+            manager.in_front(address) && manager.is_covered(from, len) && manager.may_read()
+        }
     }
 }
 
-/// Writes the bytes of a datagram into the memory, and answers whether one was written.
-pub(crate) fn write_memory(memory: &mut [u8], from: usize, bytes: &[u8]) -> bool
+/// Whether a datagram over `len` bytes from `from` on writes the byte at an address that it touches.
+#[tactic(auto, unfolding(crate::specs::Access::may_write_byte))]
+pub(crate) fn writes_byte(
+    managers: &[Manager],
+    is_busy: bool,
+    from: usize,
+    len: usize,
+    address: usize,
+) -> bool
+    ensures { result ≡ may_write_byte managers.now is_busy (within from len) address }
+{
+    if address < RAM_START as usize {
+        return takes_writes(address, is_busy);
+    }
+    if RAM_END as usize <= address {
+        return false;
+    }
+    match governor(managers, address) {
+        None => true,
+        Some(place) => {
+            let manager = &managers[place];
+            manager.in_front(address) && manager.is_covered(from, len) && manager.may_write()
+        }
+    }
+}
+
+/// Whether a byte is kept in the memory itself: a stored register that is no sync manager's, or a byte of the RAM
+/// that no manager governs.
+#[tactic(auto, unfolding(crate::specs::Access::is_kept))]
+fn is_kept(managers: &[Manager], address: usize) -> bool
+    ensures value { result ≡ is_kept managers.now address }
+    ensures inside { OnTrue result (address < 12288) }
+{
+    if address < RAM_START as usize {
+        let first = SYNC_MANAGERS as usize;
+        return is_stored(address) && !(first..first + 32).contains(&address);
+    }
+    address < RAM_END as usize && governor(managers, address).is_none()
+}
+
+/// Stores a byte where the memory itself keeps it.
+fn store_byte(memory: &mut [u8], managers: &[Manager], address: usize, byte: u8)
+    requires { length memory.old ≡ 12288 }
+    ensures { memory.new ≡ set_told memory.old address (if is_kept managers.now address then Some byte else None) }
+{
+    if is_kept(managers, address) {
+        memory[address] = byte;
+    }
+}
+
+/// Writes the bytes of a datagram into the memory itself, and answers whether one is written there or behind a manager.
+pub(crate) fn write_memory(
+    memory: &mut [u8],
+    managers: &[Manager],
+    is_busy: bool,
+    from: usize,
+    bytes: &[u8],
+) -> bool
     requires room { length memory.old ≡ 12288 }
     requires small { from + length bytes.now < 2 ^ 32 }
-    ensures memory { memory.new ≡ memory_written (record { from = from; bytes = bytes.now }) memory.old }
-    ensures some { result ≡ some_byte_written (record { from = from; bytes = bytes.now }) }
+    ensures memory { memory.new ≡ memory_written managers.now (record { from = from; bytes = bytes.now }) memory.old }
+    ensures some { result ≡ some_byte_written managers.now is_busy (record { from = from; bytes = bytes.now }) }
 {
     let mut is_some = false;
     for (i, byte) in bytes.iter().enumerate() {
-        if may_write(from + i) {
-            is_some = true;
-            memory[from + i] = *byte;
-        }
+        is_some |= writes_byte(managers, is_busy, from, bytes.len(), from + i);
+        store_byte(memory, managers, from + i, *byte);
     }
     is_some
+}
+
+/// The byte that a datagram has for an address.
+pub(crate) fn byte_for(from: usize, bytes: &[u8], address: usize) -> Option<u8>
+    ensures { result ≡ byte_from (record { from = from; bytes = bytes.now }) address }
+{
+    let place = address.checked_sub(from)?;
+    bytes.get(place).copied()
 }
 
 /// What a data byte becomes by a read.

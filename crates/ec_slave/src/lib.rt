@@ -2,8 +2,8 @@
 #![tactic(auto)]
 
 mod access;
+pub mod laws;
+mod managers;
 mod role;
-mod slave;
 
 pub use crate::role::Role;
-pub use crate::slave::Slave;

@@ -1,0 +1,98 @@
+-- One slave and one logical datagram, bit by bit (ETG.1000.4, "Fieldbus memory management unit").
+use Rattle.std.specs.Prelude.{ℕ, ◌+◌, ◌-◌, ◌*◌, ◌/◌, ◌==◌, ◌&&◌, not, List, [], ◌∷◌, ◌++◌, length, Bool, true, false, if◌then◌else◌, Option, Some, None, is_some, is_none, option_map, option_and_then}
+use Rattle.std.specs.Int.{from_bool}
+use Rattle.ec_bits.specs.Bits.{bit, overlay, zeros, any_below}
+use Rattle.ec_regs.specs.declared.fmmu.FmmuSettings.{FmmuSettings}
+use Rattle.ec_regs.specs.Memory.{ram_end}
+use Rattle.ec_frame.specs.Datagram.{Datagram}
+use Rattle.ec_sync.specs.Manager.{Manager}
+use Rattle.ec_sync.specs.Governing.{governor}
+use Rattle.ec_fmmu.specs.Sets.{target, source, readers, writers}
+use Rattle.ec_fmmu.specs.Applied.{Place, inside_place}
+use Rattle.ec_slave.specs.State.{SlaveState, fmmus, Met, with_memory, with_answer}
+use Rattle.ec_slave.specs.Managers.{reads_under, writes_under, shown_under, manager_after}
+
+abbrev pub place_of : Datagram → Place
+place_of d = record { from = 8 * d.address; bits = 8 * length d.data_bytes }
+
+-- ---- reading
+
+abbrev pub leads_into : Option ℕ → ℕ → Bool
+leads_into None a = false
+leads_into (Some q) a = q / 8 == a
+
+-- the bytes that the datagram touches by reading: the read set leads one of its bits there
+abbrev pub touched_by_reading : List FmmuSettings → Place → ℕ → Bool
+touched_by_reading fs p a = any_below p.bits (λ i. leads_into (target (readers fs) (p.from + i)) a)
+
+-- what the ring reads at a physical bit, if it may
+abbrev pub readable_bit : List ℕ → List Manager → List FmmuSettings → Place → ℕ → Option Bool
+readable_bit memory ms fs p q =
+    if reads_under ms (touched_by_reading fs p) (q / 8) (governor ms (q / 8))
+    then Some (shown_under memory ms q (governor ms (q / 8)))
+    else None
+
+-- what data bit i becomes, if it is read
+abbrev pub read_bit : List ℕ → List Manager → List FmmuSettings → Place → ℕ → Option Bool
+read_bit memory ms fs p i = option_and_then (readable_bit memory ms fs p) (target (readers fs) (p.from + i))
+
+-- ---- writing
+
+-- the data bit that the write set brings to a physical bit
+abbrev pub data_bit_for : List FmmuSettings → Place → ℕ → Option ℕ
+data_bit_for fs p q = inside_place p (source (writers fs) q)
+
+-- the bytes that the datagram touches by writing
+abbrev pub touched_by_writing : List FmmuSettings → Place → ℕ → Bool
+touched_by_writing fs p a = any_below 8 (λ j. is_some (data_bit_for fs p (8 * a + j)))
+
+-- what the write set brings to a physical bit, whether it may be written or not
+abbrev pub brought : List FmmuSettings → Place → List ℕ → ℕ → Option Bool
+brought fs p bytes q = option_map (bit bytes) (data_bit_for fs p q)
+
+-- what a physical bit becomes, if it is written
+abbrev pub written_bit : List Manager → List FmmuSettings → Place → List ℕ → ℕ → Option Bool
+written_bit ms fs p bytes q =
+    if writes_under ms (touched_by_writing fs p) (q / 8) (governor ms (q / 8)) then brought fs p bytes q else None
+
+-- what a memory bit becomes, if it is kept in the memory itself
+abbrev pub plain_bit : List Manager → List FmmuSettings → Place → List ℕ → ℕ → Option Bool
+plain_bit ms fs p bytes q = if is_none (governor ms (q / 8)) then brought fs p bytes q else None
+
+-- The value that a written manager gets, of its start and length: 0 in all untouched bits, and in the bytes that a
+-- lower-numbered manager governs.
+abbrev pub value_brought : List Manager → List FmmuSettings → Place → List ℕ → ℕ → ℕ → List ℕ
+value_brought lower fs p bytes start len = overlay (zeros len) (λ k. plain_bit lower fs p bytes (8 * start + k))
+
+-- each manager after the datagram; `lower` are the managers before the first
+abbrev pub managers_exchanged : List Manager → Bool → Bool → List FmmuSettings → Place → List ℕ → List Manager → List Manager
+managers_exchanged lower reading writing fs p bytes [] = []
+managers_exchanged lower reading writing fs p bytes (m ∷ ms) =
+    manager_after reading writing (touched_by_reading fs p) (touched_by_writing fs p) (value_brought lower fs p bytes) m
+    ∷ managers_exchanged (lower ++ m ∷ []) reading writing fs p bytes ms
+
+-- ---- both
+
+abbrev pub only_if : Bool → Option Bool → Option Bool
+only_if b o = if b then o else None
+
+abbrev pub some_read : List ℕ → List Manager → List FmmuSettings → Place → Bool
+some_read memory ms fs p = any_below p.bits (λ i. is_some (read_bit memory ms fs p i))
+
+abbrev pub some_written : List Manager → List FmmuSettings → Place → List ℕ → Bool
+some_written ms fs p bytes = any_below (8 * ram_end) (λ q. is_some (written_bit ms fs p bytes q))
+
+-- One slave on one logical datagram that reads, writes or does both. A read counts 1, a write `weight`. What a write
+-- takes is the data as received.
+unfoldable pub meets_logical : Bool → Bool → ℕ → SlaveState → Datagram → Met
+meets_logical reading writing weight s d =
+    let p = place_of d in
+    record {
+      slave = with_memory s
+        (overlay s.memory (λ q. only_if writing (plain_bit s.managers (fmmus s) p d.data_bytes q)))
+        (managers_exchanged [] reading writing (fmmus s) p d.data_bytes s.managers);
+      datagram = with_answer d d.address
+        (overlay d.data_bytes (λ i. only_if reading (read_bit s.memory s.managers (fmmus s) p i)))
+        (from_bool (reading && some_read s.memory s.managers (fmmus s) p)
+          + weight * from_bool (writing && some_written s.managers (fmmus s) p d.data_bytes));
+    }

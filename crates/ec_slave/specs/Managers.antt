@@ -1,0 +1,29 @@
+-- What a datagram, physical or logical, does to the sync managers, and what it finds behind them.
+use Rattle.std.specs.Prelude.{ℕ, ◌+◌, ◌-◌, ◌*◌, ◌/◌, ◌&&◌, List, Bool, true, false, if◌then◌else◌, Option, Some, None}
+use Rattle.ec_bits.specs.Bits.{bit}
+use Rattle.ec_sync.specs.Manager.{Manager, may_read, may_write, shown, ring_written, ring_read}
+use Rattle.ec_slave.specs.State.{manager_at}
+use Rattle.ec_sync.specs.Governing.{governor, covers, in_front}
+
+-- whether a byte under this governor, or under none, is read by an access that touches these bytes
+abbrev pub reads_under : List Manager → (ℕ → Bool) → ℕ → Option ℕ → Bool
+reads_under ms touched a None = true
+reads_under ms touched a (Some n) = in_front (manager_at ms n) a && (covers touched (manager_at ms n) && may_read (manager_at ms n))
+
+-- the same for a write
+abbrev pub writes_under : List Manager → (ℕ → Bool) → ℕ → Option ℕ → Bool
+writes_under ms touched a None = true
+writes_under ms touched a (Some n) = in_front (manager_at ms n) a && (covers touched (manager_at ms n) && may_write (manager_at ms n))
+
+-- what a physical bit shows under this governor, or as it lies in the memory
+abbrev pub shown_under : List ℕ → List Manager → ℕ → Option ℕ → Bool
+shown_under memory ms q None = bit memory q
+shown_under memory ms q (Some n) = bit (shown (manager_at ms n)) (q - 8 * (manager_at ms n).settings.start)
+
+-- One manager after an access: written, if the access writes, touches its first and last byte there and is let;
+-- else read likewise, which empties a mailbox; else as it was. `value` says what a write leaves in a manager that
+-- begins at an address and has so many bytes.
+abbrev pub manager_after : Bool → Bool → (ℕ → Bool) → (ℕ → Bool) → (ℕ → ℕ → List ℕ) → Manager → Manager
+manager_after reads writes read_touches write_touches value m =
+    if writes && (covers write_touches m && may_write m) then ring_written m (value m.settings.start m.settings.length)
+    else (if reads && (covers read_touches m && may_read m) then ring_read m else m)

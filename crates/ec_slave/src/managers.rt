@@ -1,0 +1,158 @@
+//! What a physical datagram does to the sync managers.
+
+ghost use Rattle.std.specs.Prelude.{◌≡◌, ◌+◌, ◌<◌, ◌≤◌, ◌^◌, ◌*◌, length, [], unwrap_or};
+ghost use Rattle.ec_sync.specs.Governing.{manager_byte};
+ghost use Rattle.ec_slave.specs.Managers.{manager_after};
+ghost use Rattle.ec_slave.specs.Access.{Window, is_configured as is_configured_at, manager_met, managers_met, setting_for, settings_written, touches, value_for};
+
+use crate::access::{byte_for, governor};
+use ec_regs::registers::SYNC_MANAGERS;
+use ec_regs::{ManagerSettings, decode_manager, is_stored};
+use ec_sync::{Access, Manager, Reach, Writing};
+
+/// The bytes of a datagram, as a manager below these lower-numbered ones takes them.
+#[derive(Clone, Copy)]
+struct Bytes<'a> {
+    lower: &'a [Manager],
+    from: usize,
+    bytes: &'a [u8],
+}
+
+impl Access for Bytes<'_> {
+    ghost use Rattle.std.specs.Prelude.{length};
+    ghost use Rattle.ec_bits.specs.Bits.{within};
+
+    ghost touched = { λ w a. within w.from (length w.bytes.now) a };
+
+    fn touches(&self, address: usize) -> bool {
+        address >= self.from && address - self.from < self.bytes.len()
+    }
+}
+
+impl Writing for Bytes<'_> {
+    ghost use Rattle.ec_slave.specs.Access.{Window, value_for};
+
+    ghost written = { λ w start len. value_for w.lower.now (record { from = w.from; bytes = w.bytes.now }) start len };
+
+    fn fill(&self, start: usize, value: &mut [u8]) {
+        for (k, byte) in value.iter_mut().enumerate() {
+            if governor(self.lower, start + k).is_none() {
+                *byte = self.bytes[start + k - self.from];
+            }
+        }
+    }
+}
+
+/// What a datagram stores in byte k of a manager's eight.
+fn setting_for(from: usize, bytes: &[u8], number: usize, k: usize) -> Option<u8>
+    requires manager { number < 4 }
+    requires byte { k < 8 }
+    ensures { result ≡ setting_for (record { from = from; bytes = bytes.now }) number k }
+{
+    let address = SYNC_MANAGERS as usize + 8 * number + k;
+    if is_stored(address) {
+        byte_for(from, bytes, address)
+    } else {
+        None
+    }
+}
+
+/// Whether a datagram writes one of the settings of a manager.
+fn is_configured(from: usize, bytes: &[u8], number: usize) -> bool
+    requires { number < 4 }
+    ensures { result ≡ is_configured_at (record { from = from; bytes = bytes.now }) number }
+{
+    let mut is_some = false;
+    for k in 0..8 {
+        is_some |= setting_for(from, bytes, number, k).is_some();
+    }
+    is_some
+}
+
+/// Byte k of a manager's eight after a datagram.
+fn byte_after(manager: &Manager, from: usize, bytes: &[u8], number: usize, k: usize) -> u8
+    requires manager { number < 4 }
+    requires byte { k < 8 }
+    ensures { result ≡ unwrap_or (setting_for (record { from = from; bytes = bytes.now }) number k) (manager_byte manager.now k) }
+{
+    setting_for(from, bytes, number, k).unwrap_or(manager.register(k))
+}
+
+/// The settings of a manager after a datagram.
+fn settings_after(manager: &Manager, from: usize, bytes: &[u8], number: usize) -> ManagerSettings
+    requires { number < 4 }
+    ensures { result ≡ settings_written (record { from = from; bytes = bytes.now }) number manager.now }
+{
+    decode_manager(&[
+        byte_after(manager, from, bytes, number, 0),
+        byte_after(manager, from, bytes, number, 1),
+        byte_after(manager, from, bytes, number, 2),
+        byte_after(manager, from, bytes, number, 3),
+        byte_after(manager, from, bytes, number, 4),
+        byte_after(manager, from, bytes, number, 5),
+        byte_after(manager, from, bytes, number, 6),
+        byte_after(manager, from, bytes, number, 7),
+    ])
+}
+
+/// One manager meets a datagram.
+#[tactic(auto, unfolding(crate::specs::Access::manager_met))]
+fn meet_manager(
+    lower: &[Manager],
+    manager: &mut Manager,
+    number: usize,
+    reads: bool,
+    writes: bool,
+    from: usize,
+    bytes: &[u8],
+)
+    requires { number < 4 }
+    ensures { manager.new ≡ manager_met lower.now reads writes (record { from = from; bytes = bytes.now }) number manager.old }
+{
+    if writes && is_configured(from, bytes, number) {
+        let settings = settings_after(manager, from, bytes, number);
+        manager.configure(settings);
+    } else {
+        take_access(lower, manager, reads, writes, from, bytes);
+    }
+}
+
+/// One manager meets a datagram that leaves its settings.
+fn take_access(
+    lower: &[Manager],
+    manager: &mut Manager,
+    reads: bool,
+    writes: bool,
+    from: usize,
+    bytes: &[u8],
+)
+    ensures { manager.new ≡ manager_after reads writes (touches (record { from = from; bytes = bytes.now }))
+        (touches (record { from = from; bytes = bytes.now })) (value_for lower.now (record { from = from; bytes = bytes.now })) manager.old }
+{
+    if writes && manager.ring_write(&Bytes { lower, from, bytes }) {
+        return;
+    }
+    if reads {
+        let len = bytes.len();
+        let _ = manager.ring_read(&Reach { from, len });
+    }
+}
+
+/// Each of the four managers meets a datagram, from the last to the first, so that each finds the lower-numbered ones as
+/// they were.
+pub(crate) fn meet_managers(
+    managers: &mut [Manager],
+    reads: bool,
+    writes: bool,
+    from: usize,
+    bytes: &[u8],
+)
+    requires { length managers.old ≡ 4 }
+    ensures { managers.new ≡ managers_met [] reads writes (record { from = from; bytes = bytes.now }) 0 managers.old }
+{
+    for k in 0..4 {
+        let place = 3 - k;
+        let (lower, rest) = managers.split_at_mut(place);
+        meet_manager(lower, &mut rest[0], place, reads, writes, from, bytes);
+    }
+}
