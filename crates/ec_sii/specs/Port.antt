@@ -81,6 +81,6 @@ unfoldable pub stepped : Sii → Sii
 stepped p =
     if p.busy
     then (if nat_le p.address last_address
-      then record { image = p.image; address = p.address; busy = false; error = p.error; found = two_words p.image p.address }
-      else record { image = p.image; address = p.address; busy = false; error = true; found = p.found })
+    then record { image = p.image; address = p.address; busy = false; error = p.error; found = two_words p.image p.address }
+    else record { image = p.image; address = p.address; busy = false; error = true; found = p.found })
     else p

@@ -1,9 +1,8 @@
 ghost use Rattle.std.specs.Prelude.{◌≡◌};
-ghost use Rattle.ec_sii.specs.Port.{idle_port, sii_byte, status_byte, byte_for, address_byte, written, stepped};
-
-use std::marker::Model;
+ghost use Rattle.ec_sii.specs.Port.{idle_port, sii_byte, status_byte, byte_for, address_written, written, stepped};
 
 use crate::image::Image;
+use std::marker::Model;
 
 /// The last word address at which two words stand in the image.
 const LAST_ADDRESS: u32 = 62;
@@ -24,7 +23,13 @@ impl Model for Port {
 
     ghost Value = { Sii };
 
-    ghost view = { λ p. record { image = p.image; address = p.address; busy = p.is_busy; error = p.is_error; found = p.found } };
+    ghost view = { λ p. record {
+      image = p.image;
+      address = p.address;
+      busy = p.is_busy;
+      error = p.is_error;
+      found = p.found;
+    } };
 }
 
 impl Port {
@@ -54,11 +59,19 @@ impl Port {
         ensures { result ≡ sii_byte self.now address }
     {
         match address {
-            0x0503 => self.is_busy as u8 | (self.is_error as u8) << 5 | (self.is_busy as u8) << 7,
+            0x0503 => self.status(),
             0x0504..=0x0507 => self.address.to_le_bytes()[address - 0x0504],
             0x0508..=0x050B => self.found.to_le_bytes()[address - 0x0508],
             _ => 0,
         }
+    }
+
+    /// The high byte of the control and status word: bits 0 to 2 the command under way, 1 for a read; bit 5 the
+    /// error; bit 7 busy.
+    fn status(&self) -> u8
+        ensures { result ≡ status_byte self.now }
+    {
+        self.is_busy as u8 | (self.is_error as u8) << 5 | (self.is_busy as u8) << 7
     }
 
     /// A datagram writes bytes to the addresses from `from` on; those outside 0x0502 to 0x0507 are left alone. While
@@ -105,8 +118,6 @@ impl Port {
         *self = Port::new(self.image);
     }
 }
-
-ghost use Rattle.ec_sii.specs.Port.{address_written};
 
 /// The byte that a datagram, whose bytes lie from `from` on, has for an address.
 fn byte_for(from: usize, bytes: &[u8], address: usize) -> Option<u8>
