@@ -4,6 +4,18 @@ ghost use Rattle.ec_sii.specs.Port.{idle_port, sii_byte, status_byte, byte_for, 
 use crate::image::Image;
 use std::marker::Model;
 
+/// Where the command stands: the high byte of the control and status word at 0x0502, whose low byte reads 0.
+const COMMAND: usize = 0x0503;
+
+/// Where the word address of a read stands, four bytes.
+const WORD_ADDRESS: usize = 0x0504;
+
+/// Where the data of the last read stand, four bytes.
+const DATA: usize = 0x0508;
+
+/// The first address after the port.
+const END: usize = 0x050C;
+
 /// The last word address at which two words stand in the image.
 const LAST_ADDRESS: u32 = 62;
 
@@ -59,9 +71,9 @@ impl Port {
         ensures { result ≡ sii_byte self.now address }
     {
         match address {
-            0x0503 => self.status(),
-            0x0504..=0x0507 => self.address.to_le_bytes()[address - 0x0504],
-            0x0508..=0x050B => self.found.to_le_bytes()[address - 0x0508],
+            COMMAND => self.status(),
+            WORD_ADDRESS..DATA => self.address.to_le_bytes()[address - WORD_ADDRESS],
+            DATA..END => self.found.to_le_bytes()[address - DATA],
             _ => 0,
         }
     }
@@ -85,7 +97,7 @@ impl Port {
             return;
         }
         self.address = address_written(self.address, from, bytes);
-        if let Some(control) = byte_for(from, bytes, 0x0503) {
+        if let Some(control) = byte_for(from, bytes, COMMAND) {
             let command = control % 8;
             self.is_busy = command == 1;
             self.is_error = command > 1;
@@ -127,15 +139,15 @@ fn byte_for(from: usize, bytes: &[u8], address: usize) -> Option<u8>
     bytes.get(place).copied()
 }
 
-/// The word address, after a datagram's bytes for 0x0504 to 0x0507 were stored.
+/// The word address, after a datagram's bytes for it were stored.
 fn address_written(old: u32, from: usize, bytes: &[u8]) -> u32
     ensures { result ≡ address_written old from bytes.now }
 {
     let [byte_0, byte_1, byte_2, byte_3] = old.to_le_bytes();
     u32::from_le_bytes([
-        byte_for(from, bytes, 0x0504).unwrap_or(byte_0),
-        byte_for(from, bytes, 0x0505).unwrap_or(byte_1),
-        byte_for(from, bytes, 0x0506).unwrap_or(byte_2),
-        byte_for(from, bytes, 0x0507).unwrap_or(byte_3),
+        byte_for(from, bytes, WORD_ADDRESS).unwrap_or(byte_0),
+        byte_for(from, bytes, WORD_ADDRESS + 1).unwrap_or(byte_1),
+        byte_for(from, bytes, WORD_ADDRESS + 2).unwrap_or(byte_2),
+        byte_for(from, bytes, WORD_ADDRESS + 3).unwrap_or(byte_3),
     ])
 }
