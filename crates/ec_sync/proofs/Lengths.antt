@@ -1,0 +1,11 @@
+-- How long values are.
+use Rattle.std.proofs.Common.{ℕ, ◌≡◌, Bool, true, false, arith}
+use Rattle.std.proofs.lemmas.Grind.{common_steps}
+use Rattle.ec_regs.specs.declared.manager.ManagerSettings.{ManagerSettings}
+use Rattle.ec_regs.specs.Managers.{is_set, is_mailbox, is_buffered}
+use Rattle.ec_sync.specs.Manager.{buffer_length}
+
+-- what is set and no mailbox is buffered
+pub buffer_length_set : (m : ManagerSettings) → is_set m ≡ true → is_mailbox m ≡ false → buffer_length m ≡ m.length
+unfolding is_set
+buffer_length_set m s b = grind (arith, common_steps, s, b)

@@ -1,0 +1,4 @@
+pub mod Buffer
+pub mod Manager
+pub mod Governing
+pub mod Access

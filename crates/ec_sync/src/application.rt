@@ -1,0 +1,35 @@
+//! Bytes of the slave's application.
+
+ghost use Rattle.std.specs.Prelude.{◌≡◌, is_some, unwrap_or, option_map};
+ghost use Rattle.ec_sync.specs.Manager.{app_put as put_by_application, app_got, after_get};
+
+use crate::manager::Manager;
+use crate::settings;
+
+impl Manager {
+    /// The application writes byte `place`: byte 0 opens a draft of zeros, the last byte publishes it. False, and nothing
+    /// changes, exactly where it is denied: it must be an enabled buffered manager that the ring reads, the place below
+    /// its length, and a draft open for the bytes after the first.
+    pub fn app_put(&mut self, place: usize, byte: u8) -> bool
+        ensures granted { result ≡ is_some (put_by_application self.old place byte) }
+        ensures after { self.new ≡ unwrap_or (put_by_application self.old place byte) self.old }
+    {
+        if !self.is_enabled() || !settings::is_buffered(self.settings) || !settings::is_ring_read(self.settings) {
+            return false;
+        }
+        self.buffer.put(place, byte)
+    }
+
+    /// The application reads byte `place`: byte 0 opens a view of the published value, the last byte closes it. `None`,
+    /// and nothing changes, exactly where it is denied: it must be an enabled buffered manager that the ring writes, the
+    /// place below its length, and a view open for the bytes after the first.
+    pub fn app_get(&mut self, place: usize) -> Option<u8>
+        ensures byte { result ≡ option_map (λ got. got.byte) (app_got self.old place) }
+        ensures after { self.new ≡ after_get self.old (app_got self.old place) }
+    {
+        if !self.is_enabled() || !settings::is_buffered(self.settings) || !settings::is_ring_written(self.settings) {
+            return None;
+        }
+        self.buffer.get(place)
+    }
+}
