@@ -1,4 +1,9 @@
 pub mod Commands
 pub mod Datagram
+pub mod Fields
 pub mod Frame
+pub mod Parts
 pub mod Passing
+pub mod Places
+pub mod Refusals
+pub mod Shape

@@ -1,5 +1,5 @@
 -- The memory of a slave: registers from 0 on, then the RAM (ETG.1000.4, "Physical memory", and the profile of the simulated slaves).
-use Rattle.std.specs.Prelude.{ℕ, ◌+◌, ◌*◌, ◌%◌, ◌==◌, ◌&&◌, ◌||◌, Bool, true, false, if◌then◌else◌, nat_lt}
+use Rattle.std.specs.Prelude.{ℕ, ◌%◌, ◌==◌, ◌&&◌, ◌||◌, Bool, true, false, if◌then◌else◌, nat_lt}
 use Rattle.ec_bits.specs.Bits.{within}
 
 -- where the RAM lies: from `ram_start` on, below `ram_end`
