@@ -22,5 +22,4 @@ pub fn drafts_are_the_bytes_put()
 /// A manager's registers read back as they were set.
 pub fn registers_read_back()
     ensures { RegistersReadBack }
-{
-}
+{}
