@@ -1,8 +1,8 @@
 -- How long values are.
-use Rattle.std.proofs.Common.{ℕ, ◌≡◌, Bool, true, false, arith}
+use Rattle.std.proofs.Common.{◌≡◌, true, false, arith}
 use Rattle.std.proofs.lemmas.Grind.{common_steps}
 use Rattle.ec_regs.specs.declared.manager.ManagerSettings.{ManagerSettings}
-use Rattle.ec_regs.specs.Managers.{is_set, is_mailbox, is_buffered}
+use Rattle.ec_regs.specs.Managers.{is_set, is_mailbox}
 use Rattle.ec_sync.specs.Manager.{buffer_length}
 
 -- what is set and no mailbox is buffered

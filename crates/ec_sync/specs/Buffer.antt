@@ -1,7 +1,7 @@
 -- What a buffered sync manager holds (ETG.1000.4, "Sync manager", buffered mode). The standard's three buffers are seen
 -- as what they are for: the last value that was published whole, a writer's draft, and a reader's view. That the
 -- application goes byte by byte, from byte 0 to the last, is the profile of the simulated slaves.
-use Rattle.std.specs.Prelude.{ℕ, ◌+◌, ◌==◌, List, length, Bool, if◌then◌else◌, nat_lt, slice_index, slice_set, Option, Some, None}
+use Rattle.std.specs.Prelude.{ℕ, ◌+◌, ◌==◌, List, length, if◌then◌else◌, nat_lt, slice_index, slice_set, Option, Some, None}
 use Rattle.ec_bits.specs.Bits.{zeros}
 
 pub record Buffer : Type 0 where

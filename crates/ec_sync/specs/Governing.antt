@@ -5,7 +5,7 @@ use Rattle.std.specs.Int.{from_bool}
 use Rattle.std.specs.List.{position_from}
 use Rattle.ec_bits.specs.Bits.{within}
 use Rattle.ec_regs.specs.Managers.{is_set, span}
-use Rattle.ec_sync.specs.Manager.{Manager, shown}
+use Rattle.ec_sync.specs.Manager.{Manager, may_read, may_write, shown, ring_written, ring_read}
 
 -- its span has the byte
 abbrev pub governs : Manager → ℕ → Bool
@@ -18,6 +18,16 @@ governor ms a = position_from (λ m. governs m a) 0 ms
 -- the access touches the manager's first and last byte
 abbrev pub covers : (ℕ → Bool) → Manager → Bool
 covers touched m = touched m.settings.start && touched (m.settings.start + m.settings.length - 1)
+
+-- The manager after an access that writes: the addresses that it touches, and what it leaves in so many bytes from an
+-- address on. What is denied changes nothing.
+abbrev pub after_ring_write : (ℕ → Bool) → (ℕ → ℕ → List ℕ) → Manager → Manager
+after_ring_write touched written m =
+    if covers touched m && may_write m then ring_written m (written m.settings.start m.settings.length) else m
+
+-- and after one that reads
+abbrev pub after_ring_read : (ℕ → Bool) → Manager → Manager
+after_ring_read touched m = if covers touched m && may_read m then ring_read m else m
 
 -- of a byte that it governs: the byte lies in its value, and not in a buffer behind it
 abbrev pub in_front : Manager → ℕ → Bool

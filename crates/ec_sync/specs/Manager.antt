@@ -99,12 +99,13 @@ abbrev pub may_put_message : Manager → ℕ → Bool
 may_put_message m n =
     is_enabled m && (is_mailbox m.settings && (is_ring_read m.settings && (is_none m.mail && nat_le n m.settings.length)))
 
--- the firmware puts a message, with zeros behind it to the mailbox's length
+-- the message, with zeros behind it to the mailbox's length
+abbrev pub padded : Manager → List ℕ → List ℕ
+padded m message = message ++ zeros (m.settings.length - length message)
+
+-- the firmware puts it
 abbrev pub message_put : Manager → List ℕ → Manager
-message_put m message =
-    if may_put_message m (length message)
-    then record m { mail = Some (message ++ zeros (m.settings.length - length message)) }
-    else m
+message_put m message = if may_put_message m (length message) then record m { mail = Some (padded m message) } else m
 
 -- zeros are published where there is a published value; an open draft and an open view stay
 abbrev pub zeros_published : Manager → Manager

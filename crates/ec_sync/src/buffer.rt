@@ -5,7 +5,7 @@ ghost use Rattle.ec_bits.specs.Bits.{zeros};
 ghost use Rattle.ec_regs.specs.Memory.{ram_end};
 ghost use Rattle.ec_sync.specs.Buffer.{emptied_buffer, publishing, draft_next, app_written, app_read};
 
-use crate::access::Writing;
+use crate::touching::Writing;
 use std::alloc::{AllocError, Global};
 use std::marker::Model;
 use std::mem;
@@ -31,12 +31,14 @@ impl Model for Buffer {
     ghost Value = { Triple };
 
     ghost view = { λ b. record {
-        published = take b.len b.published.items;
-        draft = if b.is_drafting then Some (take b.len b.draft.items) else None;
-        view = if b.is_viewing then Some (take b.len b.seen.items) else None
+      published = take b.len b.published.items;
+      draft = if b.is_drafting then Some (take b.len b.draft.items) else None;
+      view = if b.is_viewing then Some (take b.len b.seen.items) else None;
     } };
 
-    ghost invariant = { λ b. (length b.published.items ≡ 2730) × (length b.draft.items ≡ 2730) × (length b.seen.items ≡ 2730) × (b.len ≤ 2730) };
+    ghost invariant = { λ b.
+        (length b.published.items ≡ 2730) × (length b.draft.items ≡ 2730)
+        × (length b.seen.items ≡ 2730) × (b.len ≤ 2730) };
 }
 
 impl Buffer {
