@@ -1,5 +1,5 @@
-ghost use Rattle.std.specs.Prelude.{◌≡◌, ◌+◌, ◌≤◌, List, length, IfSome};
-ghost use Rattle.ec_frame.specs.Datagram.{Datagram};
+ghost use Rattle.std.specs.Prelude.{◌≡◌, ◌+◌, ◌≤◌, ◌∷◌, List, length, slice_range, IfSome};
+ghost use Rattle.ec_frame.specs.Datagram.{Datagram, IsSpelling, is_followed, spelling};
 ghost use Rattle.ec_frame.specs.Frame.{Payload, IsFrame};
 ghost use Rattle.ec_frame.specs.Places.{IsAhead, StepsTo};
 ghost use Rattle.ec_frame.specs.Refusals.{stated};
@@ -43,7 +43,15 @@ impl Places {
     pub fn next(&mut self, frame: &[u8]) -> Option<Span>
         requires { (ds : List Datagram) × IsAhead frame.now self.old ds }
         ensures steps { (ds : List Datagram) → IsAhead frame.now self.old ds → StepsTo self.old self.new result ds }
-        ensures within { IfSome result (λ span. (span.from ≤ span.to) × (span.to ≤ length frame.now)) }
+        ensures within {
+            IfSome result (λ span. (span.from ≤ span.to) × (span.to ≤ length frame.now)) }
+        ensures spelled {
+            IfSome result (λ span. IsSpelling (slice_range frame.now span.from span.to)) }
+        ensures first { (d : Datagram) (ds : List Datagram) → IsAhead frame.now self.old (d ∷ ds)
+            → IfSome result (λ span. slice_range frame.now span.from span.to ≡ spelling (is_followed ds) d) }
+        ensures others { (d : Datagram) (ds : List Datagram) → IsAhead frame.now self.old (d ∷ ds)
+            → IsAhead frame.now self.new ds }
+        ensures ahead { (ds : List Datagram) × IsAhead frame.now self.new ds }
     {
         if self.at == self.end {
             return None;
