@@ -15,7 +15,7 @@ pub struct Span {
 }
 
 /// A cursor over the places of a checked frame's datagrams, one after the other. It holds no
-/// reference, so the frame may be written between two steps, as long as lengths stay.
+/// reference: the frame stands beside it, and `pass` writes each datagram between two steps.
 #[derive(Clone, Copy, Debug, PartialEq, Eq, Drop)]
 pub struct Places {
     /// Where the next datagram begins.

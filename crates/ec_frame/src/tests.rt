@@ -162,3 +162,29 @@ fn pass_hands_each_datagram_over(rt: HostRuntime) -> Result<(), Fail> {
     assert_eq!(rt; frame.as_slice(), expected.as_slice());
     Ok(())
 }
+
+#[test]
+fn fields_are_read_and_written(rt: HostRuntime) -> Result<(), Fail> {
+    let mut frame = CYCLE;
+    check(&frame)?;
+    let mut places = Places::new(&frame);
+    let first = places.next(&frame).ok_or("no datagram")?;
+    let part = &mut frame[first.from..first.to];
+    let header = Header::read(part);
+    let expected = Header {
+        command: Command::Nop,
+        index: 0x64,
+        address: 0,
+        data_length: 10,
+        reserved: 0,
+        circulating: false,
+        more: true,
+        irq: 0,
+    };
+    assert_eq!(rt; header, expected);
+    assert_eq!(rt; read_data(part), [0x64, 0, 0, 0, 0, 0, 0, 0, 0, 0].as_slice());
+    write_address(part, 0x0403_0201);
+    assert_eq!(rt; Header::read(part).ado(), 0x0403);
+    assert_eq!(rt; &frame[4..8], [1, 2, 3, 4].as_slice());
+    Ok(())
+}
