@@ -1,5 +1,5 @@
 -- A datagram with one field changed is one too: what an impl of `Handler` shows of what it makes.
-use Rattle.std.specs.Prelude.{◌≡◌, ℕ, ◌+◌, ◌*◌, ◌/◌, ◌^◌, ◌<◌, List, length}
+use Rattle.std.specs.Prelude.{◌≡◌, ℕ, ◌^◌, ◌<◌, List, length}
 use Rattle.std.proofs.Common.{sym, subst, arith}
 use Rattle.ec_frame.specs.Datagram.{Datagram, IsDatagram}
 use Rattle.ec_frame.specs.Fields.{with_address, with_adp, with_counter, with_data}

@@ -42,13 +42,13 @@ impl Places {
     /// The place of the next datagram; none after the last.
     pub fn next(&mut self, frame: &[u8]) -> Option<Span>
         requires { (ds : List Datagram) × IsAhead frame.now self.old ds }
-        ensures steps { (ds : List Datagram) → IsAhead frame.now self.old ds → StepsTo self.old self.new result ds }
-        ensures within {
-            IfSome result (λ span. (span.from ≤ span.to) × (span.to ≤ length frame.now)) }
-        ensures spelled {
-            IfSome result (λ span. IsSpelling (slice_range frame.now span.from span.to)) }
+        ensures steps { (ds : List Datagram) → IsAhead frame.now self.old ds
+            → StepsTo self.old self.new result ds }
+        ensures within { IfSome result (λ span. (span.from ≤ span.to) × (span.to ≤ length frame.now)) }
+        ensures spelled { IfSome result (λ span. IsSpelling (slice_range frame.now span.from span.to)) }
         ensures first { (d : Datagram) (ds : List Datagram) → IsAhead frame.now self.old (d ∷ ds)
-            → IfSome result (λ span. slice_range frame.now span.from span.to ≡ spelling (is_followed ds) d) }
+            → IfSome result (λ span.
+            slice_range frame.now span.from span.to ≡ spelling (is_followed ds) d) }
         ensures others { (d : Datagram) (ds : List Datagram) → IsAhead frame.now self.old (d ∷ ds)
             → IsAhead frame.now self.new ds }
         ensures ahead { (ds : List Datagram) × IsAhead frame.now self.new ds }

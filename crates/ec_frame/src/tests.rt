@@ -78,7 +78,10 @@ fn builder_makes_the_frame(rt: HostRuntime) -> Result<(), Fail> {
 fn builder_is_full_at_the_limit(rt: HostRuntime) -> Result<(), Fail> {
     let content = [0; 1459];
     let mut builder = Builder::new();
-    assert_eq!(rt; builder.add(Command::Lrw, 0, 0x0001_0000, &content), Err(Full));
+    assert_eq!(rt;
+        builder.add(Command::Lrw, 0, 0x0001_0000, &content),
+        Err(Full)
+    );
     builder.add(Command::Lrw, 0, 0x0001_0000, &content[..1446])?;
     assert_eq!(rt; builder.add(Command::Nop, 0, 0, &[0]), Err(Full));
     builder.add(Command::Nop, 0, 0, &[])?;
@@ -107,20 +110,20 @@ fn mark(content: &mut [u8])
 impl Handler for Marker {
     ghost handled = { λ _ d.
         with_data (with_counter (with_adp d ((adp_of d + 1) % 65536)) ((d.counter + length d.data_bytes) % 65536))
-            (slice_set d.data_bytes 0 85) };
+        (slice_set d.data_bytes 0 85) };
 
     ghost after = { λ marker _. record { seen = (marker.seen + 1) % 256 } };
 
     ghost keeps_length = { λ s d h. (
-            IsDatagram-with_data
-                (with_counter (with_adp d ((adp_of d + 1) % 65536)) ((d.counter + length d.data_bytes) % 65536))
-                (slice_set d.data_bytes 0 85)
-                (IsDatagram-with_counter (with_adp d ((adp_of d + 1) % 65536)) ((d.counter + length d.data_bytes) % 65536)
-                    (IsDatagram-with_adp d ((adp_of d + 1) % 65536) h (mod-lt (adp_of d + 1) (lit< tt)))
-                    (mod-lt (d.counter + length d.data_bytes) (lit< tt)))
-                (length-set d.data_bytes 0 85),
-            length-set d.data_bytes 0 85,
-        ) };
+      IsDatagram-with_data
+          (with_counter (with_adp d ((adp_of d + 1) % 65536)) ((d.counter + length d.data_bytes) % 65536))
+          (slice_set d.data_bytes 0 85)
+          (IsDatagram-with_counter (with_adp d ((adp_of d + 1) % 65536)) ((d.counter + length d.data_bytes) % 65536)
+          (IsDatagram-with_adp d ((adp_of d + 1) % 65536) h (mod-lt (adp_of d + 1) (lit< tt)))
+          (mod-lt (d.counter + length d.data_bytes) (lit< tt)))
+          (length-set d.data_bytes 0 85),
+      length-set d.data_bytes 0 85,
+    ) };
 
     fn handle(&mut self, part: &mut [u8]) {
         let header = Header::read(part);
@@ -182,7 +185,10 @@ fn fields_are_read_and_written(rt: HostRuntime) -> Result<(), Fail> {
         irq: 0,
     };
     assert_eq!(rt; header, expected);
-    assert_eq!(rt; read_data(part), [0x64, 0, 0, 0, 0, 0, 0, 0, 0, 0].as_slice());
+    assert_eq!(rt;
+        read_data(part),
+        [0x64, 0, 0, 0, 0, 0, 0, 0, 0, 0].as_slice()
+    );
     write_address(part, 0x0403_0201);
     assert_eq!(rt; Header::read(part).ado(), 0x0403);
     assert_eq!(rt; &frame[4..8], [1, 2, 3, 4].as_slice());
