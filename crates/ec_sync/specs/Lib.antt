@@ -1,5 +1,5 @@
 pub mod Buffer
 pub mod Manager
 pub mod Governing
-pub mod Access
+pub mod Touching
 pub mod Runs

@@ -4,8 +4,10 @@ use Rattle.std.specs.Prelude.{ℕ, suc, ◌+◌, ◌==◌, ◌&&◌, ◌≡◌, 
 use Rattle.std.specs.List.{All}
 use Rattle.ec_bits.specs.Bits.{zeros}
 use Rattle.ec_regs.specs.declared.manager.ManagerSettings.{ManagerSettings}
+use Rattle.ec_regs.specs.Managers.{settings_of}
 use Rattle.ec_sync.specs.Buffer.{Got}
 use Rattle.ec_sync.specs.Manager.{Manager, no_manager, buffer_length, empty_manager, zeros_published, may_read, may_write, ring_written, ring_read, shown, may_app_put, app_put, app_got, after_get, message_in, message_taken, may_put_message, padded, message_put}
+use Rattle.ec_sync.specs.Governing.{manager_byte}
 
 -- Of an access of the ring it counts whether it touches the first and the last byte, and the value that it leaves.
 pub data Operation : Type 0 where
@@ -131,3 +133,7 @@ DraftsAreTheBytesPut =
     (m : Manager) (ops : List Operation) (x i y : ℕ) (value : List ℕ) → is_some (app_put m 0 x) ≡ true → All OpensNoDraft ops
     → closed_draft (run (step m (AppPut 0 x)) ops) (suc i) y ≡ Some value
     → value ≡ slice_set (with_puts (step m (AppPut 0 x)) ops (slice_set (zeros (length m.buffer.published)) 0 x)) (suc i) y
+
+-- What the eight register bytes of a manager say, read one by one, are its settings.
+abbrev pub RegistersReadBack : Type 0
+RegistersReadBack = (m : Manager) → settings_of (manager_byte m) ≡ m.settings

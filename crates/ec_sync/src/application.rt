@@ -1,12 +1,30 @@
 //! Bytes of the slave's application.
 
 ghost use Rattle.std.specs.Prelude.{◌≡◌, is_some, unwrap_or, option_map};
-ghost use Rattle.ec_sync.specs.Manager.{app_put as put_by_application, app_got, after_get};
+ghost use Rattle.ec_sync.specs.Manager.{may_app_put as application_may_put, may_app_get as application_may_get, app_put as put_by_application, app_got, after_get};
 
 use crate::manager::Manager;
 use crate::settings;
 
 impl Manager {
+    /// Whether the application may write: an enabled buffered manager that the ring reads.
+    pub fn may_app_put(&self) -> bool
+        ensures { result ≡ application_may_put self.now }
+    {
+        self.is_enabled()
+            && settings::is_buffered(self.settings)
+            && settings::is_ring_read(self.settings)
+    }
+
+    /// Whether the application may read: an enabled buffered manager that the ring writes.
+    pub fn may_app_get(&self) -> bool
+        ensures { result ≡ application_may_get self.now }
+    {
+        self.is_enabled()
+            && settings::is_buffered(self.settings)
+            && settings::is_ring_written(self.settings)
+    }
+
     /// The application writes byte `place`: byte 0 opens a draft of zeros, the last byte publishes it. False, and nothing
     /// changes, exactly where it is denied: it must be an enabled buffered manager that the ring reads, the place below
     /// its length, and a draft open for the bytes after the first.
@@ -14,10 +32,7 @@ impl Manager {
         ensures granted { result ≡ is_some (put_by_application self.old place byte) }
         ensures after { self.new ≡ unwrap_or (put_by_application self.old place byte) self.old }
     {
-        if !self.is_enabled()
-            || !settings::is_buffered(self.settings)
-            || !settings::is_ring_read(self.settings)
-        {
+        if !self.may_app_put() {
             return false;
         }
         self.buffer.put(place, byte)
@@ -30,10 +45,7 @@ impl Manager {
         ensures byte { result ≡ option_map (λ got. got.byte) (app_got self.old place) }
         ensures after { self.new ≡ after_get self.old (app_got self.old place) }
     {
-        if !self.is_enabled()
-            || !settings::is_buffered(self.settings)
-            || !settings::is_ring_written(self.settings)
-        {
+        if !self.may_app_get() {
             return None;
         }
         self.buffer.get(place)

@@ -5,7 +5,7 @@ ghost use Rattle.ec_bits.specs.Bits.{zeros};
 ghost use Rattle.ec_regs.specs.Memory.{ram_end};
 ghost use Rattle.ec_sync.specs.Buffer.{emptied_buffer, publishing, draft_next, app_written, app_read};
 
-use crate::access::Writing;
+use crate::touching::Writing;
 use std::alloc::{AllocError, Global};
 use std::marker::Model;
 use std::mem;

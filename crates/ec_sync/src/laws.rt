@@ -1,6 +1,6 @@
 //! Laws of the definitions, over every run of a manager. The functions are empty: each contract is a theorem.
 
-ghost use Rattle.ec_sync.specs.Runs.{OnlyWholeValues, BytesOfTheView, ViewsStay, DraftsAreTheBytesPut};
+ghost use Rattle.ec_sync.specs.Runs.{OnlyWholeValues, BytesOfTheView, ViewsStay, DraftsAreTheBytesPut, RegistersReadBack};
 
 /// No reader ever gets a value that was not published as a whole, in whatever order the ring, the application and the
 /// firmware act, and each byte that the application gets is one of such a value.
@@ -17,4 +17,9 @@ pub fn views_stay()
 /// A value that the application publishes has the bytes that it put since byte 0, and zeros elsewhere.
 pub fn drafts_are_the_bytes_put()
     ensures { DraftsAreTheBytesPut }
+{}
+
+/// A manager's registers read back as they were set.
+pub fn registers_read_back()
+    ensures { RegistersReadBack }
 {}

@@ -3,7 +3,6 @@
 //! A `Manager` is a buffered value, which is only ever seen whole, or a mailbox, which holds one message.
 #![tactic(auto)]
 
-mod access;
 mod application;
 mod buffer;
 mod configuring;
@@ -13,9 +12,10 @@ mod mailbox;
 mod manager;
 mod ring;
 mod settings;
+mod touching;
 
-pub use crate::access::{Access, Range, Reach, Writing};
 pub use crate::manager::Manager;
+pub use crate::touching::{Range, Reach, Touching, Writing};
 
 #[cfg(test)]
 mod tests;

@@ -4,8 +4,8 @@ ghost use Rattle.std.specs.Prelude.{◌≡◌, ◌+◌, ◌-◌, ◌<◌, ◌≤
 ghost use Rattle.ec_bits.specs.Bits.{zeros};
 ghost use Rattle.ec_regs.specs.Memory.{ram_end};
 
-use crate::access::Writing;
 use crate::buffer::{clear_front, fill_front};
+use crate::touching::Writing;
 use std::alloc::{AllocError, Global};
 use std::marker::Model;
 

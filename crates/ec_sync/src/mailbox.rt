@@ -1,8 +1,9 @@
 //! Messages of the slave's firmware.
 
 ghost use Rattle.std.specs.Prelude.{◌≡◌, length, is_some};
+ghost use Rattle.std.specs.Bool.{OnTrue};
 ghost use Rattle.std.specs.Option.{option_copied};
-ghost use Rattle.ec_sync.specs.Manager.{message_in, message_taken, may_put_message, message_put};
+ghost use Rattle.ec_sync.specs.Manager.{message_in, message_taken, LiesInRam, may_put_message as firmware_may_put, message_put};
 
 use crate::manager::Manager;
 use crate::settings;
@@ -37,22 +38,29 @@ impl Manager {
         true
     }
 
+    /// Whether the firmware may put a message of `len` bytes: an enabled mailbox that the ring reads, empty, and no
+    /// shorter.
+    pub fn may_put_message(&self, len: usize) -> bool
+        ensures value { result ≡ firmware_may_put self.now len }
+        ensures inside { OnTrue result (LiesInRam self.now.settings) }
+    {
+        self.is_enabled()
+            && settings::is_mailbox(self.settings)
+            && settings::is_ring_read(self.settings)
+            && !self.mail.is_full()
+            && len <= self.settings.length as usize
+    }
+
     /// Puts a message, with zeros behind it to the mailbox's length. False, and nothing changes, exactly where it is
     /// denied: it must be an enabled mailbox that the ring reads, empty, and no shorter than the message.
     pub fn mailbox_put(&mut self, message: &[u8]) -> bool
-        ensures granted { result ≡ may_put_message self.old (length message.now) }
+        ensures granted { result ≡ firmware_may_put self.old (length message.now) }
         ensures after { self.new ≡ message_put self.old message.now }
     {
-        let len = self.settings.length as usize;
-        if !self.is_enabled()
-            || !settings::is_mailbox(self.settings)
-            || !settings::is_ring_read(self.settings)
-            || self.mail.is_full()
-            || message.len() > len
-        {
+        if !self.may_put_message(message.len()) {
             return false;
         }
-        self.mail.put(message, len);
+        self.mail.put(message, self.settings.length as usize);
         true
     }
 }

@@ -5,9 +5,9 @@ ghost use Rattle.ec_regs.specs.Managers.{is_set};
 ghost use Rattle.ec_sync.specs.Manager.{LiesInRam, may_read, may_write, ring_written};
 ghost use Rattle.ec_sync.specs.Governing.{covers, after_ring_write, after_ring_read};
 
-use crate::access::{Access, Writing};
 use crate::manager::Manager;
 use crate::settings;
+use crate::touching::{Touching, Writing};
 
 impl Manager {
     /// A datagram writes: a mailbox is full then, a buffered manager has published a whole value. False, and nothing
@@ -45,9 +45,9 @@ impl Manager {
     /// A datagram reads: what it gets, `shown_byte` tells before. A mailbox is empty then. False, and nothing changes,
     /// exactly where it is denied: it must touch the first and the last byte of an enabled manager that the ring reads,
     /// and of a mailbox that is full.
-    pub fn ring_read<A: Access>(&mut self, access: &A) -> bool
-        ensures granted { result ≡ (covers (A.touched access.now) self.old && may_read self.old) }
-        ensures after { self.new ≡ after_ring_read (A.touched access.now) self.old }
+    pub fn ring_read<T: Touching>(&mut self, access: &T) -> bool
+        ensures granted { result ≡ (covers (T.touched access.now) self.old && may_read self.old) }
+        ensures after { self.new ≡ after_ring_read (T.touched access.now) self.old }
     {
         if !self.may_read() || !self.is_touched(access) {
             return false;
@@ -59,9 +59,9 @@ impl Manager {
     }
 
     /// Whether an access touches the first and the last byte.
-    fn is_touched<A: Access>(&self, access: &A) -> bool
+    fn is_touched<T: Touching>(&self, access: &T) -> bool
         requires { LiesInRam self.now.settings }
-        ensures { result ≡ covers (A.touched access.now) self.now }
+        ensures { result ≡ covers (T.touched access.now) self.now }
     {
         let first = self.settings.start as usize;
         access.touches(first) && access.touches(first + self.settings.length as usize - 1)

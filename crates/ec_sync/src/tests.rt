@@ -31,7 +31,7 @@ struct Ends {
     last: usize,
 }
 
-impl Access for Ends {
+impl Touching for Ends {
     ghost touched = { λ e a. (a == e.first) || (a == e.last) };
 
     fn touches(&self, address: usize) -> bool {

@@ -5,7 +5,7 @@ ghost use Rattle.ec_bits.specs.Bits.{zeros, within};
 ghost use Rattle.ec_regs.specs.Memory.{ram_end};
 
 /// An access of the ring to a slave's memory: which bytes one datagram touches.
-pub trait Access {
+pub trait Touching {
     ghost use Rattle.std.specs.Prelude.{ℕ, Bool};
 
     /// Whether it touches the byte at an address.
@@ -18,7 +18,7 @@ pub trait Access {
 }
 
 /// An access that writes.
-pub trait Writing: Access {
+pub trait Writing: Touching {
     ghost use Rattle.std.specs.Prelude.{ℕ, List};
 
     /// What it leaves in a value of so many bytes that begins at an address, where it touches the first and the last.
@@ -43,7 +43,7 @@ pub struct Reach {
     pub len: usize,
 }
 
-impl Access for Reach {
+impl Touching for Reach {
     ghost touched = { λ r a. within r.from r.len a };
 
     fn touches(&self, address: usize) -> bool {
@@ -60,7 +60,7 @@ pub struct Range<'a> {
     pub bytes: &'a [u8],
 }
 
-impl Access for Range<'_> {
+impl Touching for Range<'_> {
     ghost touched = { λ r a. within r.from (length r.bytes.now) a };
 
     fn touches(&self, address: usize) -> bool {
@@ -69,7 +69,7 @@ impl Access for Range<'_> {
 }
 
 impl Writing for Range<'_> {
-    ghost use Rattle.ec_sync.specs.Access.{cut_out};
+    ghost use Rattle.ec_sync.specs.Touching.{cut_out};
 
     ghost written = { λ r start len. cut_out r.from r.bytes.now start len };
 
