@@ -3,6 +3,7 @@ pub mod Broadcast
 pub mod ExchangeLaw
 pub mod Governors
 pub mod Kept
+mod Meets
 pub mod Misses
 pub mod Reading
 pub mod SomeWritten

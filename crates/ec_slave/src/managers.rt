@@ -8,7 +8,7 @@ ghost use Rattle.ec_slave.specs.Access.{Window, is_configured as is_configured_a
 use crate::access::{byte_for, governor};
 use ec_regs::registers::SYNC_MANAGERS;
 use ec_regs::{ManagerSettings, decode_manager, is_stored};
-use ec_sync::{Access, Manager, Reach, Writing};
+use ec_sync::{Manager, Reach, Touching, Writing};
 
 /// The bytes of a datagram, as a manager below these lower-numbered ones takes them.
 #[derive(Clone, Copy)]
@@ -18,7 +18,7 @@ struct Bytes<'a> {
     bytes: &'a [u8],
 }
 
-impl Access for Bytes<'_> {
+impl Touching for Bytes<'_> {
     ghost use Rattle.std.specs.Prelude.{length};
     ghost use Rattle.ec_bits.specs.Bits.{within};
 

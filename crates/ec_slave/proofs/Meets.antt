@@ -1,0 +1,48 @@
+-- The managers meet a datagram from the last to the first.
+use Rattle.std.proofs.Common.{ℕ, zero, suc, ◌+◌, ◌-◌, ◌<◌, ◌≤◌, ◌≡◌, List, [], ◌∷◌, ◌++◌, length, take, drop, get_or, set, Bool, true, false, refl, sym, ◌∙◌, ap, arith}
+use Rattle.std.proofs.lemmas.List.{take_more, drop_more, length-take-le, append_assoc}
+use Rattle.std.proofs.Math.Seq.{take-append_seam, drop-append_seam}
+use Rattle.ec_sync.specs.Manager.{Manager}
+use Rattle.ec_slave.specs.Access.{Window}
+use Rattle.ec_slave.specs.Access.{manager_met, managers_met}
+
+-- those from number p on have met it
+abbrev pub met_from : List Manager → Bool → Bool → Window → ℕ → List Manager
+met_from ms reads writes w p = take p ms ++ managers_met (take p ms) reads writes w p (drop p ms)
+
+pub met_from-end : (ms : List Manager) (reads writes : Bool) (w : Window) → length ms ≡ 4 → ms ≡ met_from ms reads writes w (4 - 0)
+met_from-end [] reads writes w e = absurd (omega arith)
+met_from-end (a ∷ []) reads writes w e = absurd (omega arith)
+met_from-end (a ∷ b ∷ []) reads writes w e = absurd (omega arith)
+met_from-end (a ∷ b ∷ c ∷ []) reads writes w e = absurd (omega arith)
+met_from-end (a ∷ b ∷ c ∷ d ∷ []) reads writes w e = refl
+met_from-end (a ∷ b ∷ c ∷ d ∷ x ∷ xs) reads writes w e = absurd (omega arith)
+
+pub met_from-start : (ms : List Manager) (reads writes : Bool) (w : Window) → met_from ms reads writes w 0 ≡ managers_met [] reads writes w 0 ms
+met_from-start ms reads writes w = refl
+
+take_front : (xs ys : List Manager) (n : ℕ) → length xs ≡ n → take n (xs ++ ys) ≡ xs
+take_front xs ys n e = ap (λ m. take m (xs ++ ys)) (sym e) ∙ take-append_seam xs ys
+
+drop_front : (xs ys : List Manager) (n : ℕ) → length xs ≡ n → drop n (xs ++ ys) ≡ ys
+drop_front xs ys n e = ap (λ m. drop m (xs ++ ys)) (sym e) ∙ drop-append_seam xs ys
+
+-- one more, number p
+pub met_from-step : (ms before after : List Manager) (reads writes : Bool) (w : Window) (p : ℕ) (d : Manager) (x : Manager)
+  → p < length ms → before ≡ met_from ms reads writes w (p + 1)
+  → x ≡ manager_met (take p before) reads writes w p (get_or (drop p before) 0 d)
+  → after ≡ take p before ++ set (drop p before) 0 x
+  → after ≡ met_from ms reads writes w p
+met_from-step ms before after reads writes w p d x l b n a =
+    let A : List Manager = take p ms in
+    let m : Manager = get_or ms p d in
+    let R : List Manager = managers_met (A ++ m ∷ []) reads writes w (p + 1) (drop (p + 1) ms) in
+    let eA : length A ≡ p = length-take-le p ms (omega arith) in
+    let eT : take (p + 1) ms ≡ A ++ m ∷ [] = take_more ms p d l in
+    let eD : drop p ms ≡ m ∷ drop (p + 1) ms = drop_more ms p d l in
+    let eB : before ≡ A ++ m ∷ R = b ∙ (ap (λ t. t ++ managers_met t reads writes w (p + 1) (drop (p + 1) ms)) eT ∙ append_assoc A (m ∷ []) R) in
+    let tB : take p before ≡ A = ap (take p) eB ∙ take_front A (m ∷ R) p eA in
+    let dB : drop p before ≡ m ∷ R = ap (drop p) eB ∙ drop_front A (m ∷ R) p eA in
+    let nx : x ≡ manager_met A reads writes w p m = n ∙ (ap (λ t. manager_met t reads writes w p (get_or (drop p before) 0 d)) tB ∙ ap (λ t. manager_met A reads writes w p (get_or t 0 d)) dB) in
+    a ∙ (ap (λ t. t ++ set (drop p before) 0 x) tB ∙ (ap (λ t. A ++ set t 0 x) dB ∙ (ap (λ y. A ++ y ∷ R) nx
+    ∙ ap (λ t. A ++ managers_met A reads writes w p t) (sym eD))))
