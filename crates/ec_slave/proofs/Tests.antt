@@ -1,5 +1,5 @@
 -- Laws of tests.
-use Rattle.std.proofs.Common.{ℕ, zero, suc, ◌+◌, ◌<◌, ◌≤◌, ◌≡◌, ◌&&◌, ◌||◌, Bool, true, false, refl, sym, ◌∙◌, ap, arith, if◌then◌else◌, nat_lt, nat_le}
+use Rattle.std.proofs.Common.{Option, Some, None, is_some, is_none, not, ℕ, zero, suc, ◌+◌, ◌<◌, ◌≤◌, ◌≡◌, ◌&&◌, ◌||◌, Bool, true, false, refl, sym, ◌∙◌, ap, arith, if◌then◌else◌, nat_lt, nat_le}
 use Rattle.std.proofs.lemmas.Bool.{and_left, and_right, and_from, lt-ltb, le-ltb, le-leb, lt-leb}
 use Rattle.ec_bits.specs.Bits.{any_below}
 use Rattle.ec_bits.proofs.AnyLaws.{if_true, if_false}
@@ -34,3 +34,9 @@ any-or n p b false e h = any-false b ∙ any-miss n p b e (sym h)
   any-false : (b : Bool) → (b || false) ≡ b
   any-false true = refl
   any-false false = refl
+
+pub none-from : {X : Type 0} (o : Option X) (r : Bool) → is_some o ≡ not r → r ≡ is_none o
+none-from None true e = refl
+none-from None false e = e
+none-from (Some x) true e = e
+none-from (Some x) false e = refl

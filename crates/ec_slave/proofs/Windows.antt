@@ -40,3 +40,6 @@ pub read-given : (s : SlaveState) (joining : Bool) (w : Window) (i : ℕ) (now :
 read-given s joining w i now y r h inv e g =
     let own : get_or now i 0 ≡ get_or w.bytes i 0 = ap (λ xs. get_or xs i 0) inv ∙ get-told_outside i 0 w.bytes (byte_read s joining w) i (inr (omega arith)) in
     if_true _ _ _ h ∙ ap Some (sym (g ∙ (ap (λ x. over joining x y) own ∙ ap (over joining (slice_index w.bytes i)) e)))
+
+pub from-at : (w : Window) (a : ℕ) → w.from ≤ a → a < w.from + length w.bytes → byte_from w a ≡ Some (slice_index w.bytes (a - w.from))
+from-at w a l h = if_true _ _ _ (within_true w.from (length w.bytes) a l h)
