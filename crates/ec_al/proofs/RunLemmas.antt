@@ -1,13 +1,12 @@
 -- One event, and then by induction the runs of them.
-use Rattle.std.proofs.Common.{ℕ, zero, suc, ◌+◌, ◌%◌, ◌==◌, ◌&&◌, not, ◌≡◌, ◌≢◌, ◌<◌, ◌≤◌, ◌↔◌, ◌⊎◌, inl, inr, Bool, true, false, if◌then◌else◌, nat_le, List, [], ◌∷◌, ◌++◌, take, Result, Ok, Err, refl, ap, arith, rules}
+use Rattle.std.proofs.Common.{ℕ, suc, ◌+◌, ◌≡◌, ◌≢◌, ◌<◌, ◌≤◌, ◌⊎◌, inl, inr, true, List, [], ◌∷◌, ◌++◌, take, Result, Ok, Err, refl, ap, arith, rules}
 use Rattle.std.specs.Prelude.{All}
-use Rattle.std.proofs.lemmas.Grind.{common_steps}
 use Rattle.std.proofs.lemmas.List.Elements.{All-head, All-tail}
 use native.Mathlib.Decide.{dec_le}
 use mathlib.Core.Logic.{dite}
-use Rattle.ec_al.specs.States.{state_number, code_number}
+use Rattle.ec_al.specs.States.{state_number}
 use Rattle.ec_al.specs.Transitions.{requested_number, requested_by, acknowledges, answer}
-use Rattle.ec_al.specs.Al.{Al, power_on, status_word, requesting, stepped, decided, answered, ignored, faulted, IsSound}
+use Rattle.ec_al.specs.Al.{Al, stepped, answered, faulted, IsSound}
 use Rattle.ec_al.specs.Runs.{Event, Request, Step, Fault, Reset, after, after_all}
 use Rattle.ec_al.specs.Laws.{rung, Unacknowledging, GrantsOp}
 use Rattle.ec_al.specs.declared.state.State.{State}
@@ -51,8 +50,8 @@ climbs al [] r below reached = absurd (omega arith)
 climbs al (event ∷ events) r below reached =
     let one : rung (after al event).state ≤ rung al.state + 1 = rung-after al event in
     dite (dec_le r (rung (after al event).state))
-      (λ there. (1, omega arith))
-      (λ further. let rest = climbs (after al event) events r (omega arith) reached in (suc rest.0, rest.1))
+    (λ there. (1, omega arith))
+    (λ further. let rest = climbs (after al event) events r (omega arith) reached in (suc rest.0, rest.1))
 
 -- ---- the code tells the error
 
@@ -138,6 +137,9 @@ grants-op al control checks below waits there =
 step-op : (al : Al) (control : ℕ) (checks : Checks) → al.state ≢ Op → (stepped al control checks).state ≡ Op → (al.requested ≡ true) × ((answered al (answer al.state (requested_by control) checks)).state ≡ Op)
 step-op al control checks below there = grind arith
 
+step-acknowledged : (al : Al) (control : ℕ) (checks : Checks) → al.state ≢ Op → (stepped al control checks).state ≡ Op → al.error ≡ true → acknowledges control ≡ true
+step-acknowledged al control checks below there e = grind arith
+
 faulted-op : (al : Al) → al.state ≢ Op → (faulted al).state ≢ Op
 faulted-op al below there = grind arith
 
@@ -146,17 +148,17 @@ entered-op al Request below there = absurd (below there)
 entered-op al (Step control checks) below there =
     let step = step-op al control checks below there in
     let grant = grants-op al control checks below step.0 step.1 in
-    (control, (checks, (refl, record { from = grant.0; waits = step.0; asked = grant.1; granted = there })))
+    (control, (checks, (refl, record { from = grant.0; waits = step.0; asked = grant.1; acknowledged = step-acknowledged al control checks below there; granted = there })))
 entered-op al Fault below there = absurd (faulted-op al below there)
 entered-op al Reset below there = cc
 
 pub reaches : (al : Al) (events : List Event) → al.state ≢ Op → (after_all al events).state ≡ Op →
-      (earlier : List Event) × ((later : List Event) × ((control : ℕ) × ((checks : Checks) ×
-        ((events ≡ earlier ++ Step control checks ∷ later) × GrantsOp (after_all al earlier) control checks))))
+    (earlier : List Event) × ((later : List Event) × ((control : ℕ) × ((checks : Checks) ×
+    ((events ≡ earlier ++ Step control checks ∷ later) × GrantsOp (after_all al earlier) control checks))))
 reaches al [] below there = absurd (below there)
 reaches al (event ∷ events) below there = elim (op_or_not (after al event).state) [
-      inl now ↦ (let found = entered-op al event below now in
-        ([], (events, (found.0, (found.1.0, (ap (λ e. e ∷ events) found.1.1.0, found.1.1.1))))))
-    | inr not_yet ↦ (let rest = reaches (after al event) events not_yet there in
-        (event ∷ rest.0, (rest.1.0, (rest.1.1.0, (rest.1.1.1.0, (ap (λ es. event ∷ es) rest.1.1.1.1.0, rest.1.1.1.1.1))))))
-  ]
+  | inl now ↦ (let found = entered-op al event below now in
+      ([], (events, (found.0, (found.1.0, (ap (λ e. e ∷ events) found.1.1.0, found.1.1.1))))))
+  | inr not_yet ↦ (let rest = reaches (after al event) events not_yet there in
+      (event ∷ rest.0, (rest.1.0, (rest.1.1.0, (rest.1.1.1.0, (ap (λ es. event ∷ es) rest.1.1.1.1.0, rest.1.1.1.1.1))))))
+]

@@ -4,7 +4,7 @@ use Rattle.std.specs.Int.{from_bool}
 use Rattle.ec_al.specs.States.{state_number, code_number}
 use Rattle.ec_al.specs.Transitions.{requested_by, acknowledges, answer}
 use Rattle.ec_al.specs.declared.state.State.{State}
-use Rattle.ec_al.specs.declared.state.State.TheVariants.{Init, PreOp, SafeOp, Op}
+use Rattle.ec_al.specs.declared.state.State.TheVariants.{Init, SafeOp, Op}
 use Rattle.ec_al.specs.declared.status_code.StatusCode.{StatusCode}
 use Rattle.ec_al.specs.declared.status_code.StatusCode.TheVariants.{Unspecified}
 use Rattle.ec_al.specs.declared.transition.Checks.{Checks}

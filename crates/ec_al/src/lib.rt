@@ -3,13 +3,11 @@
 //! the AL status code say how it stands. BOOT isn't supported.
 #![tactic(auto)]
 
+pub mod laws;
 mod machine;
 mod state;
 mod status_code;
 mod transition;
-
-
-pub mod laws;
 
 pub use crate::machine::Al;
 pub use crate::state::State;

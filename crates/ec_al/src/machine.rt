@@ -1,12 +1,11 @@
-ghost use Rattle.std.specs.Prelude.{◌≡◌, ◌↔◌, IsTrue, false};
+ghost use Rattle.std.specs.Prelude.{◌≡◌, ◌↔◌, IsTrue};
 ghost use Rattle.ec_al.specs.Al.{power_on, requesting, stepped, faulted, status_word, IsSound};
 ghost use Rattle.ec_al.specs.declared.state.State.TheVariants.{Op};
-
-use std::marker::Model;
 
 use crate::state::State;
 use crate::status_code::StatusCode;
 use crate::transition::{Checks, Requested, is_acknowledge};
+use std::marker::Model;
 
 /// The AL state machine of one slave: its state, its error, and whether a request waits for the firmware.
 /// A contract sees it as an `Al` of specs/, where the error is a flag and a code.
@@ -23,7 +22,12 @@ impl Model for Al {
 
     ghost Value = { Al };
 
-    ghost view = { λ a. record { state = a.state; error = is_some a.error; code = shown_code a.error; requested = a.is_requested } };
+    ghost view = { λ a. record {
+      state = a.state;
+      error = is_some a.error;
+      code = shown_code a.error;
+      requested = a.is_requested;
+    } };
 }
 
 impl Al {

@@ -62,7 +62,11 @@ fn a_fault_takes_op_to_safeop(rt: HostRuntime) {
     assert_eq!(rt; al.status_word(), 0x0014);
     assert_eq!(rt; al.code(), 0x0001);
     assert!(rt; !al.fault());
-    expect_answers(&rt, &mut al, &[(0x0008, 0x0014, 0x0001), (0x0018, 0x0008, 0x0000)]);
+    expect_answers(
+        &rt,
+        &mut al,
+        &[(0x0008, 0x0014, 0x0001), (0x0018, 0x0008, 0x0000)],
+    );
 }
 
 #[test]
@@ -85,6 +89,12 @@ fn checks_refuse_a_wrong_configuration(rt: HostRuntime) {
     }
     let mut al = raised_to(State::PreOp);
     al.request();
-    al.step(0x0004, Checks { inputs: false, ..PASSED });
+    al.step(
+        0x0004,
+        Checks {
+            inputs: false,
+            ..PASSED
+        },
+    );
     assert_eq!(rt; al.code(), 0x001E);
 }

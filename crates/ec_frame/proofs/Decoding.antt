@@ -6,26 +6,11 @@ use Rattle.byteorder.specs.Endian.{little_bytes, little_number}
 use Rattle.ec_frame.specs.declared.command.Command.{Command}
 use Rattle.ec_frame.specs.Datagram.{Datagram, flags, spelling, IsDatagram}
 use Rattle.ec_frame.specs.Refusals.{data_length}
-use Rattle.ec_frame.proofs.Numbers.{command_at, command_again, command_back, IsBytes, IsBytes-drop, word_back, word_fits, quad_fits, word_again, quad_again, word_of, quad_of}
+use Rattle.ec_frame.specs.Decoded.{after_data, decoded}
+use Rattle.ec_frame.proofs.Numbers.{command_again, command_back, IsBytes, IsBytes-drop, word_back, word_fits, quad_fits, word_again, quad_again, word_of, quad_of}
 
 abbrev pub more_at : List ℕ → Bool
 more_at bytes = leb 32768 (little_number 2 (drop 6 bytes))
-
-abbrev pub after_heading : List ℕ → List ℕ
-after_heading bytes = drop (data_length bytes) (drop 10 bytes)
-
--- the datagram that begins the bytes
-abbrev pub decoded : List ℕ → Datagram
-decoded bytes = record {
-  command = command_at (get_or bytes 0 0);
-  index = get_or bytes 1 0;
-  address = little_number 4 (drop 2 bytes);
-  reserved = little_number 2 (drop 6 bytes) / 2048 % 8;
-  circulating = eqb (little_number 2 (drop 6 bytes) / 16384 % 2) 1;
-  irq = little_number 2 (drop 8 bytes);
-  data_bytes = take (data_length bytes) (drop 10 bytes);
-  counter = little_number 2 (after_heading bytes);
-}
 
 flag_cases : (w n : ℕ) → w < 65536 → n ≡ w % 2048 → n + 2048 * (w / 2048 % 8) + cond (eqb (w / 16384 % 2) 1) 16384 0 + cond (leb 32768 w) 32768 0 ≡ w
 flag_cases w n lt e = grind (arith, nat_tests)
@@ -41,7 +26,7 @@ same_cells : (b0 b1 c0 c2 c3 c4 c5 c6 c7 c8 c9 b2 b3 b4 b5 b6 b7 b8 b9 : ℕ) (x
     → c0 ∷ b1 ∷ c2 ∷ c3 ∷ c4 ∷ c5 ∷ c6 ∷ c7 ∷ c8 ∷ c9 ∷ xs ≡ b0 ∷ b1 ∷ b2 ∷ b3 ∷ b4 ∷ b5 ∷ b6 ∷ b7 ∷ b8 ∷ b9 ∷ ys
 same_cells b0 b1 c0 c2 c3 c4 c5 c6 c7 c8 c9 b2 b3 b4 b5 b6 b7 b8 b9 xs ys p0 p2 p3 p4 p5 p6 p7 p8 p9 p = cc
 
-ten_back : (b0 b1 b2 b3 b4 b5 b6 b7 b8 b9 : ℕ) (tail : List ℕ) → let bytes = b0 ∷ b1 ∷ b2 ∷ b3 ∷ b4 ∷ b5 ∷ b6 ∷ b7 ∷ b8 ∷ b9 ∷ tail in IsBytes bytes → 12 + data_length bytes ≤ length bytes → b0 ≤ 14 → spelling (more_at bytes) (decoded bytes) ++ drop 2 (after_heading bytes) ≡ bytes
+ten_back : (b0 b1 b2 b3 b4 b5 b6 b7 b8 b9 : ℕ) (tail : List ℕ) → let bytes = b0 ∷ b1 ∷ b2 ∷ b3 ∷ b4 ∷ b5 ∷ b6 ∷ b7 ∷ b8 ∷ b9 ∷ tail in IsBytes bytes → 12 + data_length bytes ≤ length bytes → b0 ≤ 14 → spelling (more_at bytes) (decoded bytes) ++ drop 2 (after_data bytes) ≡ bytes
 ten_back b0 b1 b2 b3 b4 b5 b6 b7 b8 b9 tail h le known =
     let bytes = b0 ∷ b1 ∷ b2 ∷ b3 ∷ b4 ∷ b5 ∷ b6 ∷ b7 ∷ b8 ∷ b9 ∷ tail in
     let n : ℕ = data_length bytes in
@@ -55,7 +40,7 @@ ten_back b0 b1 b2 b3 b4 b5 b6 b7 b8 b9 tail h le known =
     let s = word_of b8 b9 (h 8) (h 9) in
     same_cells b0 b1 _ _ _ _ _ _ _ _ _ b2 b3 b4 b5 b6 b7 b8 b9 _ tail (command_back b0 known) q.0 q.1 q.2 q.3 (ap (λ (x : ℕ). x % 256) flags_is ∙ r.0) (ap (λ (x : ℕ). x / 256 % 256) flags_is ∙ r.1) s.0 s.1 body
 
-pub decodes : (bytes : List ℕ) → IsBytes bytes → 12 ≤ length bytes → 12 + data_length bytes ≤ length bytes → get_or bytes 0 0 ≤ 14 → spelling (more_at bytes) (decoded bytes) ++ drop 2 (after_heading bytes) ≡ bytes
+pub decodes : (bytes : List ℕ) → IsBytes bytes → 12 ≤ length bytes → 12 + data_length bytes ≤ length bytes → get_or bytes 0 0 ≤ 14 → spelling (more_at bytes) (decoded bytes) ++ drop 2 (after_data bytes) ≡ bytes
 decodes [] h few le known = absurd (omega arith)
 decodes (a ∷ []) h few le known = absurd (omega arith)
 decodes (a ∷ b ∷ []) h few le known = absurd (omega arith)
@@ -79,7 +64,7 @@ good_decoded bytes h =
       reserved = omega arith;
       irq = word_fits (drop 8 bytes) (IsBytes-drop 8 bytes h);
       data_bytes = omega (arith, length-take (data_length bytes) (drop 10 bytes));
-      counter = word_fits (after_heading bytes) (IsBytes-drop (data_length bytes) (drop 10 bytes) (IsBytes-drop 10 bytes h));
+      counter = word_fits (after_data bytes) (IsBytes-drop (data_length bytes) (drop 10 bytes) (IsBytes-drop 10 bytes h));
     }
 
 -- what the word of flags says again
@@ -112,7 +97,7 @@ data_length_again more d rest f = ap (λ (x : ℕ). x % 2048) (flags_at more d r
 pub more_again : (more : Bool) (d : Datagram) (rest : List ℕ) → IsDatagram d → more_at (spelling more d ++ rest) ≡ more
 more_again more d rest f = ap (λ (x : ℕ). leb 32768 x) (flags_at more d rest f) ∙ (flags_is more d f).more
 
-pub after_again : (more : Bool) (d : Datagram) (rest : List ℕ) → IsDatagram d → after_heading (spelling more d ++ rest) ≡ little_bytes 2 d.counter ++ rest
+pub after_again : (more : Bool) (d : Datagram) (rest : List ℕ) → IsDatagram d → after_data (spelling more d ++ rest) ≡ little_bytes 2 d.counter ++ rest
 after_again more d rest f =
     rw (data_length_again more d rest f, append_assoc d.data_bytes (little_bytes 2 d.counter) rest) (drop_at d.data_bytes (little_bytes 2 d.counter ++ rest) (length d.data_bytes) refl)
 
@@ -132,5 +117,5 @@ decoded_again more d rest f =
 -- no spelling begins another, so what follows is the same too
 pub one_spelling : (m n : Bool) (d e : Datagram) (x y : List ℕ) → IsDatagram d → IsDatagram e → spelling m d ++ x ≡ spelling n e ++ y → (m ≡ n) × (d ≡ e) × (x ≡ y)
 one_spelling m n d e x y f g same =
-    let tails : little_bytes 2 d.counter ++ x ≡ little_bytes 2 e.counter ++ y = sym (after_again m d x f) ∙ ap after_heading same ∙ after_again n e y g in
+    let tails : little_bytes 2 d.counter ++ x ≡ little_bytes 2 e.counter ++ y = sym (after_again m d x f) ∙ ap after_data same ∙ after_again n e y g in
     (sym (more_again m d x f) ∙ ap more_at same ∙ more_again n e y g, sym (decoded_again m d x f) ∙ ap decoded same ∙ decoded_again n e y g, ap (λ (xs : List ℕ). drop 2 xs) tails)

@@ -1,4 +1,5 @@
 pub mod Ahead
+pub mod Builds
 pub mod Decoding
 pub mod Numbers
 pub mod Shapes

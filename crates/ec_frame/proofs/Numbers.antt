@@ -6,11 +6,9 @@ use Rattle.byteorder.specs.Endian.{little_bytes, little_number}
 use Rattle.ec_frame.specs.declared.command.Command.{Command}
 use Rattle.ec_frame.specs.declared.command.Command.TheVariants.{Nop, Aprd, Apwr, Aprw, Fprd, Fpwr, Fprw, Brd, Bwr, Brw, Lrd, Lwr, Lrw, Armw, Frmw}
 use Rattle.ec_frame.specs.Commands.{number_of}
+use Rattle.ec_frame.specs.Decoded.{command_at}
 
 -- ---- commands
-
-abbrev pub command_at : ℕ → Command
-command_at n = get_or (Nop ∷ Aprd ∷ Apwr ∷ Aprw ∷ Fprd ∷ Fpwr ∷ Fprw ∷ Brd ∷ Bwr ∷ Brw ∷ Lrd ∷ Lwr ∷ Lrw ∷ Armw ∷ Frmw ∷ []) n Nop
 
 pub command_again : (c : Command) → command_at (number_of c) ≡ c
 command_again Nop = refl

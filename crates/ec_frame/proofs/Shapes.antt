@@ -10,7 +10,8 @@ use Rattle.ec_frame.specs.Datagram.{spelling}
 use Rattle.ec_frame.specs.Refusals.{data_length, FaultAt}
 use Rattle.ec_frame.specs.Shape.{HasShape}
 use Rattle.ec_frame.proofs.Numbers.{IsBytes}
-use Rattle.ec_frame.proofs.Decoding.{decoded, more_at, after_heading, decodes, good_decoded}
+use Rattle.ec_frame.specs.Decoded.{after_data, decoded}
+use Rattle.ec_frame.proofs.Decoding.{more_at, decodes, good_decoded}
 
 same_test : (a b : Bool) → not (beq a b) ≡ false → a ≡ b
 same_test true true e = refl
@@ -45,10 +46,10 @@ module _ (bytes : List ℕ) (w : ℕ) (fits : IsBytes bytes) (is : w ≡ little_
   n-is : w % 2048 ≡ data_length bytes
   n-is = ap (λ (x : ℕ). x % 2048) is
 
-  after_length : length (drop 2 (after_heading bytes)) + (12 + w % 2048) ≡ length bytes
-  after_length = let e = n-is in omega (arith, length-drop 2 (after_heading bytes), length-drop (data_length bytes) (drop 10 bytes), length-drop 10 bytes)
+  after_length : length (drop 2 (after_data bytes)) + (12 + w % 2048) ≡ length bytes
+  after_length = let e = n-is in omega (arith, length-drop 2 (after_data bytes), length-drop (data_length bytes) (drop 10 bytes), length-drop 10 bytes)
 
-  back : get_or bytes 0 0 ≤ 14 → bytes ≡ spelling (more_at bytes) (decoded bytes) ++ drop 2 (after_heading bytes)
+  back : get_or bytes 0 0 ≤ 14 → bytes ≡ spelling (more_at bytes) (decoded bytes) ++ drop 2 (after_data bytes)
   back known = let e = n-is in sym (decodes bytes fits some (omega arith) known)
 
   len : 12 + w % 2048 ≡ 12 + length (decoded bytes).data_bytes
@@ -61,11 +62,11 @@ module _ (bytes : List ℕ) (w : ℕ) (fits : IsBytes bytes) (is : w ≡ little_
       let e = after_length in
       record {
         datagram = decoded bytes;
-        after = drop 2 (after_heading bytes);
+        after = drop 2 (after_data bytes);
         good = good_decoded bytes fits;
         parts = rw more (back known);
         len = len;
-        ends = λ last. let whole : length bytes ≡ 12 + w % 2048 = eqb_is _ _ (sym same ∙ last) in nil_from_length (drop 2 (after_heading bytes)) (omega arith);
+        ends = λ last. let whole : length bytes ≡ 12 + w % 2048 = eqb_is _ _ (sym same ∙ last) in nil_from_length (drop 2 (after_data bytes)) (omega arith);
         goes_on = λ last. let whole : 12 + w % 2048 < length bytes = eqb_not _ _ (sym same ∙ last) whole in omega arith;
       }
 
@@ -80,8 +81,8 @@ module _ (bytes : List ℕ) (w : ℕ) (fits : IsBytes bytes) (is : w ≡ little_
       record {
         more = more_at bytes;
         datagram = decoded bytes;
-        after = drop 2 (after_heading bytes);
+        after = drop 2 (after_data bytes);
         good = good_decoded bytes fits;
         parts = back known;
-        wrong = more_ends (more_at bytes) (eqb (length bytes) (12 + w % 2048)) (drop 2 (after_heading bytes)) (other ∙ more) (λ t. let is_whole : length bytes ≡ 12 + w % 2048 = eqb_is _ _ t in omega arith) (λ t. let is_more : 12 + w % 2048 < length bytes = eqb_not _ _ t whole in omega arith);
+        wrong = more_ends (more_at bytes) (eqb (length bytes) (12 + w % 2048)) (drop 2 (after_data bytes)) (other ∙ more) (λ t. let is_whole : length bytes ≡ 12 + w % 2048 = eqb_is _ _ t in omega arith) (λ t. let is_more : 12 + w % 2048 < length bytes = eqb_not _ _ t whole in omega arith);
       }

@@ -1,7 +1,11 @@
+pub mod Building
 pub mod Commands
 pub mod Datagram
+pub mod Decoded
 pub mod Fields
 pub mod Frame
+pub mod Kept
+pub mod Laws
 pub mod Parts
 pub mod Passing
 pub mod Places

@@ -97,7 +97,8 @@ fn read_frame(payload: &[u8]) -> Result<usize, FrameError>
 
 /// Whether a payload is a frame, and of how many datagrams.
 pub fn check(payload: &[u8]) -> Result<usize, FrameError>
-    ensures accepted { IfOk result (λ count. (p : Payload) × IsFrame payload.now p × (count ≡ length p.datagrams)) }
+    ensures accepted { IfOk result (λ count.
+        (p : Payload) × IsFrame payload.now p × (count ≡ length p.datagrams)) }
     ensures refused { IfErr result (IsRefused payload.now) }
     ensures accepts { (p : Payload) → IsFrame payload.now p → result ≡ Ok (length p.datagrams) }
     ensures refuses { (e : FrameError) → IsRefused payload.now e → result ≡ Err e }

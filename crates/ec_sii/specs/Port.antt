@@ -6,6 +6,19 @@ use Rattle.ec_bits.specs.Bits.{within}
 use Rattle.ec_sii.specs.Image.{word_at}
 use Rattle.ec_sii.specs.declared.image.Image.{Image}
 
+abbrev pub control_place : ℕ
+control_place = 0x0502
+
+-- the high byte of the control and status word, which has the command
+abbrev pub command_place : ℕ
+command_place = 0x0503
+
+abbrev pub address_place : ℕ
+address_place = 0x0504
+
+abbrev pub data_place : ℕ
+data_place = 0x0508
+
 pub record Sii : Type 0 where
   pub image : Image
   -- the word address that was written last
@@ -29,9 +42,9 @@ status_byte p = from_bool p.busy + 32 * from_bool p.error + 128 * from_bool p.bu
 -- the byte that an address of the port reads
 unfoldable pub sii_byte : Sii → ℕ → ℕ
 sii_byte p address =
-    if address == 0x0503 then status_byte p
-    else (if within 0x0504 4 address then slice_index (to_le_bytes w32 p.address) (address - 0x0504)
-    else (if within 0x0508 4 address then slice_index (to_le_bytes w32 p.found) (address - 0x0508) else 0))
+    if address == command_place then status_byte p
+    else (if within address_place 4 address then slice_index (to_le_bytes w32 p.address) (address - address_place)
+    else (if within data_place 4 address then slice_index (to_le_bytes w32 p.found) (address - data_place) else 0))
 
 -- ---- what datagrams write
 
@@ -41,7 +54,7 @@ byte_for from bytes address = if within from (length bytes) address then Some (s
 
 -- byte k of the word address, after the datagram
 abbrev pub address_byte : ℕ → ℕ → List ℕ → ℕ → ℕ
-address_byte old from bytes k = unwrap_or (byte_for from bytes (0x0504 + k)) (slice_index (to_le_bytes w32 old) k)
+address_byte old from bytes k = unwrap_or (byte_for from bytes (address_place + k)) (slice_index (to_le_bytes w32 old) k)
 
 abbrev pub address_written : ℕ → ℕ → List ℕ → ℕ
 address_written old from bytes =
@@ -64,7 +77,7 @@ addressed p address = record { image = p.image; address = address; busy = p.busy
 unfoldable pub written : Sii → ℕ → List ℕ → Sii
 written p from bytes =
     if p.busy then p
-    else commanded (addressed p (address_written p.address from bytes)) (byte_for from bytes 0x0503)
+    else commanded (addressed p (address_written p.address from bytes)) (byte_for from bytes command_place)
 
 -- ---- the firmware
 
@@ -81,6 +94,6 @@ unfoldable pub stepped : Sii → Sii
 stepped p =
     if p.busy
     then (if nat_le p.address last_address
-      then record { image = p.image; address = p.address; busy = false; error = p.error; found = two_words p.image p.address }
-      else record { image = p.image; address = p.address; busy = false; error = true; found = p.found })
+    then record { image = p.image; address = p.address; busy = false; error = p.error; found = two_words p.image p.address }
+    else record { image = p.image; address = p.address; busy = false; error = true; found = p.found })
     else p

@@ -1,4 +1,5 @@
 ghost use Rattle.std.specs.Prelude.{◌≡◌};
+ghost use Rattle.ec_sii.specs.Image.{word_at, identity_words, mailbox_words, low_word, high_word};
 
 use ec_regs::{Identity, Mailbox};
 
@@ -12,9 +13,6 @@ pub struct Image {
 }
 
 impl Image {
-    ghost use Rattle.std.specs.Prelude.{◌≡◌};
-    ghost use Rattle.ec_sii.specs.Image.{word_at};
-
     /// The image of a slave.
     pub fn new(identity: Identity, mailbox: Option<Mailbox>) -> Self
         ensures { result ≡ record { identity = identity; mailbox = mailbox } }
@@ -36,8 +34,6 @@ impl Image {
         }
     }
 }
-
-ghost use Rattle.ec_sii.specs.Image.{identity_words, mailbox_words, low_word, high_word};
 
 fn low_word(number: u32) -> u16
     ensures { result ≡ low_word number }
@@ -73,7 +69,13 @@ fn mailbox_words(mailbox: Option<Mailbox>) -> [u16; 5]
     ensures { result ≡ mailbox_words mailbox }
 {
     match mailbox {
-        Some(m) => [m.receive_start, m.receive_size, m.send_start, m.send_size, COE],
+        Some(m) => [
+            m.receive_start,
+            m.receive_size,
+            m.send_start,
+            m.send_size,
+            COE,
+        ],
         None => [0; 5],
     }
 }

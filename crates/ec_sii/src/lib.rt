@@ -4,7 +4,11 @@
 #![tactic(auto)]
 
 mod image;
+pub mod laws;
 mod port;
 
 pub use crate::image::Image;
 pub use crate::port::Port;
+
+#[cfg(test)]
+mod tests;

@@ -1,9 +1,20 @@
 ghost use Rattle.std.specs.Prelude.{◌≡◌};
-ghost use Rattle.ec_sii.specs.Port.{idle_port, sii_byte, status_byte, byte_for, address_byte, written, stepped};
-
-use std::marker::Model;
+ghost use Rattle.ec_sii.specs.Port.{idle_port, sii_byte, status_byte, byte_for, address_written, written, stepped};
 
 use crate::image::Image;
+use std::marker::Model;
+
+/// Where the command stands: the high byte of the control and status word at 0x0502, whose low byte reads 0.
+const COMMAND: usize = 0x0503;
+
+/// Where the word address of a read stands, four bytes.
+const WORD_ADDRESS: usize = 0x0504;
+
+/// Where the data of the last read stand, four bytes.
+const DATA: usize = 0x0508;
+
+/// The first address after the port.
+const END: usize = 0x050C;
 
 /// The last word address at which two words stand in the image.
 const LAST_ADDRESS: u32 = 62;
@@ -24,7 +35,13 @@ impl Model for Port {
 
     ghost Value = { Sii };
 
-    ghost view = { λ p. record { image = p.image; address = p.address; busy = p.is_busy; error = p.is_error; found = p.found } };
+    ghost view = { λ p. record {
+      image = p.image;
+      address = p.address;
+      busy = p.is_busy;
+      error = p.is_error;
+      found = p.found;
+    } };
 }
 
 impl Port {
@@ -54,11 +71,19 @@ impl Port {
         ensures { result ≡ sii_byte self.now address }
     {
         match address {
-            0x0503 => self.is_busy as u8 | (self.is_error as u8) << 5 | (self.is_busy as u8) << 7,
-            0x0504..=0x0507 => self.address.to_le_bytes()[address - 0x0504],
-            0x0508..=0x050B => self.found.to_le_bytes()[address - 0x0508],
+            COMMAND => self.status(),
+            WORD_ADDRESS..DATA => self.address.to_le_bytes()[address - WORD_ADDRESS],
+            DATA..END => self.found.to_le_bytes()[address - DATA],
             _ => 0,
         }
+    }
+
+    /// The high byte of the control and status word: bits 0 to 2 the command under way, 1 for a read; bit 5 the
+    /// error; bit 7 busy.
+    fn status(&self) -> u8
+        ensures { result ≡ status_byte self.now }
+    {
+        self.is_busy as u8 | (self.is_error as u8) << 5 | (self.is_busy as u8) << 7
     }
 
     /// A datagram writes bytes to the addresses from `from` on; those outside 0x0502 to 0x0507 are left alone. While
@@ -72,7 +97,7 @@ impl Port {
             return;
         }
         self.address = address_written(self.address, from, bytes);
-        if let Some(control) = byte_for(from, bytes, 0x0503) {
+        if let Some(control) = byte_for(from, bytes, COMMAND) {
             let command = control % 8;
             self.is_busy = command == 1;
             self.is_error = command > 1;
@@ -106,8 +131,6 @@ impl Port {
     }
 }
 
-ghost use Rattle.ec_sii.specs.Port.{address_written};
-
 /// The byte that a datagram, whose bytes lie from `from` on, has for an address.
 fn byte_for(from: usize, bytes: &[u8], address: usize) -> Option<u8>
     ensures { result ≡ byte_for from bytes.now address }
@@ -116,15 +139,15 @@ fn byte_for(from: usize, bytes: &[u8], address: usize) -> Option<u8>
     bytes.get(place).copied()
 }
 
-/// The word address, after a datagram's bytes for 0x0504 to 0x0507 were stored.
+/// The word address, after a datagram's bytes for it were stored.
 fn address_written(old: u32, from: usize, bytes: &[u8]) -> u32
     ensures { result ≡ address_written old from bytes.now }
 {
     let [byte_0, byte_1, byte_2, byte_3] = old.to_le_bytes();
     u32::from_le_bytes([
-        byte_for(from, bytes, 0x0504).unwrap_or(byte_0),
-        byte_for(from, bytes, 0x0505).unwrap_or(byte_1),
-        byte_for(from, bytes, 0x0506).unwrap_or(byte_2),
-        byte_for(from, bytes, 0x0507).unwrap_or(byte_3),
+        byte_for(from, bytes, WORD_ADDRESS).unwrap_or(byte_0),
+        byte_for(from, bytes, WORD_ADDRESS + 1).unwrap_or(byte_1),
+        byte_for(from, bytes, WORD_ADDRESS + 2).unwrap_or(byte_2),
+        byte_for(from, bytes, WORD_ADDRESS + 3).unwrap_or(byte_3),
     ])
 }
