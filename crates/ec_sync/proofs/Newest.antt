@@ -21,7 +21,7 @@ shows-same : (m : Manager) → is_mailbox m.settings ≡ false → Shows m.buffe
 shows-same m b = record { shown = refl; buffered = b }
 
 shows-written : (m : Manager) (w : List ℕ) (granted is_mail : Bool) → is_mail ≡ false → is_mailbox m.settings ≡ false
-  → Shows m.buffer.published (if granted then w ∷ [] else []) (if granted then (if is_mail then record m { mail = Some w } else record m { buffer = publishing m.buffer w }) else m)
+    → Shows m.buffer.published (if granted then w ∷ [] else []) (if granted then (if is_mail then record m { mail = Some w } else record m { buffer = publishing m.buffer w }) else m)
 shows-written m w true true e b = absurd (let f : true ≡ false = e in cc)
 shows-written m w true false e b = record { shown = refl; buffered = b }
 shows-written m w false is_mail e b = shows-same m b
@@ -37,13 +37,13 @@ shows-taken m false b = shows-same m b
 
 -- the firmware puts no message where there is no mailbox
 shows-message : (m : Manager) (w : List ℕ) (enabled is_mail rest : Bool) → is_mail ≡ false → is_mailbox m.settings ≡ false
-  → Shows m.buffer.published (if enabled && (is_mail && rest) then w ∷ [] else []) (if enabled && (is_mail && rest) then record m { mail = Some w } else m)
+    → Shows m.buffer.published (if enabled && (is_mail && rest) then w ∷ [] else []) (if enabled && (is_mail && rest) then record m { mail = Some w } else m)
 shows-message m w enabled true rest e b = absurd (let f : true ≡ false = e in cc)
 shows-message m w true false rest e b = shows-same m b
 shows-message m w false false rest e b = shows-same m b
 
 shows-put : (m : Manager) (may below last : Bool) (i x : ℕ) (d : Option (List ℕ)) → is_mailbox m.settings ≡ false
-  → Shows m.buffer.published (only (closed_if may below last m i x d)) (unwrap_or (put_if may below last m i x d) m)
+    → Shows m.buffer.published (only (closed_if may below last m i x d)) (unwrap_or (put_if may below last m i x d) m)
 shows-put m false below last i x d b = shows-same m b
 shows-put m true false last i x d b = shows-same m b
 shows-put m true true last i x None b = shows-same m b
@@ -82,5 +82,5 @@ shows_the_newest m [] b h = refl
 shows_the_newest m (o ∷ ops) b h =
     let now = shows-step m o (All-head StaysBuffered o ops h) b in
     newest-append m.buffer.published (publications m o) (history (step m o) ops)
-      ∙ (ap (λ v. newest v (history (step m o) ops)) now.shown
-      ∙ shows_the_newest (step m o) ops now.buffered (All-tail StaysBuffered o ops h))
+    ∙ (ap (λ v. newest v (history (step m o) ops)) now.shown
+    ∙ shows_the_newest (step m o) ops now.buffered (All-tail StaysBuffered o ops h))

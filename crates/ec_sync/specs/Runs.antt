@@ -148,7 +148,7 @@ StaysBuffered o = Unit {0}
 abbrev pub ShowsTheNewest : Type 0
 ShowsTheNewest =
     (m : Manager) (ops : List Operation) → is_mailbox m.settings ≡ false → All StaysBuffered ops
-      → newest m.buffer.published (history m ops) ≡ (run m ops).buffer.published
+    → newest m.buffer.published (history m ops) ≡ (run m ops).buffer.published
 
 -- What the eight register bytes of a manager say, read one by one, are its settings.
 abbrev pub RegistersReadBack : Type 0

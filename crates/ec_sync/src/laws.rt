@@ -22,8 +22,7 @@ pub fn drafts_are_the_bytes_put()
 /// What a buffered manager shows is the value that was published last.
 pub fn shows_the_newest()
     ensures { ShowsTheNewest }
-{
-}
+{}
 
 /// A manager's registers read back as they were set.
 pub fn registers_read_back()

@@ -6,7 +6,6 @@ ghost use Rattle.ec_sync.specs.Manager.{LiesInRam, may_read, may_write, ring_wri
 ghost use Rattle.ec_sync.specs.Governing.{covers, after_ring_write, after_ring_read};
 
 use crate::manager::Manager;
-use crate::settings;
 use crate::touching::{Touching, Writing};
 
 impl Manager {
@@ -35,7 +34,7 @@ impl Manager {
     {
         let start = self.settings.start as usize;
         let len = self.settings.length as usize;
-        if settings::is_mailbox(self.settings) {
+        if self.settings.is_mailbox() {
             self.mail.fill(start, len, writing);
         } else {
             self.buffer.publish(start, len, writing);
@@ -52,7 +51,7 @@ impl Manager {
         if !self.may_read() || !self.is_touched(access) {
             return false;
         }
-        if settings::is_mailbox(self.settings) {
+        if self.settings.is_mailbox() {
             self.mail.empty();
         }
         true
