@@ -28,7 +28,8 @@ impl Model for Manager {
 
     ghost Value = { ManagerState };
 
-    ghost view = { λ m. record { settings = m.settings; locked = m.is_locked; buffer = m.buffer; mail = m.mail } };
+    ghost view = { λ m.
+        record { settings = m.settings; locked = m.is_locked; buffer = m.buffer; mail = m.mail } };
 
     ghost invariant = { λ m. length m.buffer.published ≡ buffer_length m.settings };
 }

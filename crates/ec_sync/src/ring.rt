@@ -14,7 +14,8 @@ impl Manager {
     /// ring writes, and of a mailbox that is empty.
     pub fn ring_write<W: Writing>(&mut self, writing: &W) -> bool
         ensures granted { result ≡ (covers (W.touched writing.now) self.old && may_write self.old) }
-        ensures after { self.new ≡ after_ring_write (W.touched writing.now) (W.written writing.now) self.old }
+        ensures after { let w = writing.now in
+            self.new ≡ after_ring_write (W.touched w) (W.written w) self.old }
     {
         if !self.may_write() || !self.is_touched(writing) {
             return false;
