@@ -3,6 +3,7 @@ use Rattle.std.specs.Prelude.{ℕ, ◌+◌, ◌-◌, ◌*◌, ◌==◌, ◌&&◌
 use Rattle.std.specs.Int.{from_bool}
 use Rattle.ec_bits.specs.Bits.{any_below, within}
 use Rattle.ec_regs.specs.Memory.{ram_start, ram_end, takes_writes}
+use Rattle.ec_regs.specs.declared.registers.TheConstants.{NUMBER_OF_FMMUS, NUMBER_OF_SYNC_MANAGERS, RAM_SIZE, AL_STATUS}
 use Rattle.ec_slave.specs.declared.role.Role.{Role}
 use Rattle.ec_slave.specs.Roles.{is_reading, is_writing, is_joining}
 use Rattle.ec_slave.specs.State.{SlaveState, with_memory}
@@ -27,11 +28,12 @@ retold xs f = retold_from 0 xs f
 -- may write, what they wrote. Every other one reads 0.
 unfoldable pub register_byte : SlaveState → ℕ → ℕ
 register_byte s a =
-    if (a == 4) || (a == 5) then 4
-    else (if a == 6 then 8
-    else (if a == 304 then 1
+    if a == NUMBER_OF_FMMUS then 4
+    else (if a == NUMBER_OF_SYNC_MANAGERS then 4
+    else (if a == RAM_SIZE then 8
+    else (if a == AL_STATUS then 1
     else (if takes_writes false a then slice_index s.memory a
-    else 0)))
+    else 0))))
 
 -- what an address reads: a register, the RAM, or, past its end, 0
 unfoldable pub byte_at : SlaveState → ℕ → ℕ

@@ -9,12 +9,19 @@ ghost use Rattle.ec_slave.specs.Keeping.{meets-keeps};
 ghost use Rattle.ec_slave.specs.Meeting.{IsPassed, datagram_met, meets_physically, slave_met};
 ghost use Rattle.ec_slave.specs.State.{SlaveState, memory_length, power_on, station_of, with_memory};
 
-use crate::access::{MEMORY_LENGTH, RAM_START, may_read, read_over, takes_writes, write_memory};
+use crate::access::{may_read, read_over, write_memory};
 use crate::role::{Role, adp_after_slave};
 use ec_frame::{Command, Handler, Header, cut_counter, cut_heading, pass, read_counter, write_adp, write_counter};
-use ec_regs::{Identity, SlaveType};
+use ec_regs::registers::{
+    AL_STATUS, FMMU_COUNT, MANAGER_COUNT, NUMBER_OF_FMMUS, NUMBER_OF_SYNC_MANAGERS, RAM_END, RAM_KIB, RAM_SIZE,
+    RAM_START, STATION_ADDRESS,
+};
+use ec_regs::{Identity, SlaveType, takes_writes};
 use std::alloc::{AllocError, Global};
 use std::marker::Model;
+
+/// What the AL status reads: INIT, without an error.
+const STATUS_OF_INIT: u8 = 1;
 
 /// The data of a datagram have at most so many bytes.
 const MAX_DATA: usize = 2047;
@@ -43,7 +50,7 @@ impl Model for Slave {
 fn memory_len() -> usize
     ensures { result ≡ memory_length }
 {
-    MEMORY_LENGTH
+    RAM_END as usize
 }
 
 impl Slave {
@@ -63,7 +70,8 @@ impl Slave {
     pub fn station_address(&self) -> u16
         ensures { result ≡ station_of self.now }
     {
-        self.memory[0x10] as u16 + 256 * self.memory[0x11] as u16
+        let at = STATION_ADDRESS as usize;
+        self.memory[at] as u16 + 256 * self.memory[at + 1] as u16
     }
 
     /// What an address reads now; none past the RAM's end.
@@ -72,7 +80,7 @@ impl Slave {
         ensures { result ≡ (if nat_lt address 12288 then Some (byte_at self.now address) else None) }
     {
         let address = address as usize;
-        if address < MEMORY_LENGTH {
+        if address < RAM_END as usize {
             Some(self.byte_at(address))
         } else {
             None
@@ -85,8 +93,8 @@ impl Slave {
         requires { address < 12288 }
         ensures { result ≡ byte_at self.now address }
     {
-        if address < RAM_START {
-            self.register(address)
+        if address < RAM_START as usize {
+            self.register(address as u16)
         } else {
             self.memory[address]
         }
@@ -94,15 +102,16 @@ impl Slave {
 
     /// What a register reads.
     #[tactic(auto, unfolding(crate::specs::Access::register_byte))]
-    fn register(&self, address: usize) -> u8
+    fn register(&self, address: u16) -> u8
         requires { address < 4096 }
         ensures { result ≡ register_byte self.now address }
     {
         match address {
-            0x0004 | 0x0005 => 4,
-            0x0006 => 8,
-            0x0130 => 1,
-            _ if takes_writes(false, address) => self.memory[address],
+            NUMBER_OF_FMMUS => FMMU_COUNT,
+            NUMBER_OF_SYNC_MANAGERS => MANAGER_COUNT,
+            RAM_SIZE => RAM_KIB,
+            AL_STATUS => STATUS_OF_INIT,
+            _ if takes_writes(address as usize, false) => self.memory[address as usize],
             _ => 0,
         }
     }
