@@ -3,3 +3,4 @@ pub mod State
 pub mod Access
 pub mod Meeting
 pub mod Keeping
+pub mod Laws

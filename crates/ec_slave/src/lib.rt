@@ -2,8 +2,12 @@
 #![tactic(auto)]
 
 mod access;
+pub mod laws;
 mod role;
 mod slave;
 
-pub use crate::role::Role;
+
 pub use crate::slave::Slave;
+
+#[cfg(test)]
+mod tests;
