@@ -7,11 +7,14 @@ use thiserror::Error;
 #[error("not a frame")]
 pub struct NotAFrame;
 
+/// The number by which the program names it.
+const NUMBER: u8 = 10;
+
 impl NotAFrame {
     /// The number by which the program names it.
     pub fn number(self) -> u8
         ensures { result ≡ 10 }
     {
-        10
+        NUMBER
     }
 }
