@@ -18,7 +18,7 @@ use Rattle.ec_slave.specs.State.{SlaveState, Met, with_answer}
 use Rattle.ec_slave.specs.Managers.{manager_after}
 use Rattle.ec_slave.specs.Access.{Window, touches, byte_at, byte_read, may_read_byte, some_byte_read, retold, value_for, manager_met, managers_met, slave_after, meeting}
 use Rattle.ec_slave.specs.Meeting.{meets, meets_by, meets_physically, window_of}
-use Rattle.ec_slave.specs.Laws.{BroadcastLaw}
+use Rattle.ec_slave.specs.LogicalLaws.{BroadcastLaw}
 use Rattle.ec_slave.proofs.AgainstAll.{retold_alike}
 
 -- a set manager begins in the RAM
@@ -39,7 +39,7 @@ registers-covered w m l = elim (cases_Bool (is_set m.settings)) [
     ]
 
 -- it leaves every manager as it was, if it only reads
-managers-read : (lower ms : List Manager) (reads : Bool) (w : Window) (n : ℕ) → w.from + length w.bytes ≤ ram_start → managers_met lower reads false w n ms ≡ ms
+pub managers-read : (lower ms : List Manager) (reads : Bool) (w : Window) (n : ℕ) → w.from + length w.bytes ≤ ram_start → managers_met lower reads false w n ms ≡ ms
 unfolding manager_met
 managers-read lower [] reads w n l = refl
 managers-read lower (m ∷ ms) reads w n l =

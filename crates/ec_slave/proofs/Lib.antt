@@ -1,7 +1,10 @@
 pub mod AgainstAll
+mod Answered
 pub mod Broadcast
+mod Decoded
 pub mod ExchangeLaw
 pub mod Governors
+mod Idle
 pub mod Kept
 mod Meets
 pub mod Misses

@@ -46,3 +46,7 @@ met_from-step ms before after reads writes w p d x l b n a =
     let nx : x ≡ manager_met A reads writes w p m = n ∙ (ap (λ t. manager_met t reads writes w p (get_or (drop p before) 0 d)) tB ∙ ap (λ t. manager_met A reads writes w p (get_or t 0 d)) dB) in
     a ∙ (ap (λ t. t ++ set (drop p before) 0 x) tB ∙ (ap (λ t. A ++ set t 0 x) dB ∙ (ap (λ y. A ++ y ∷ R) nx
     ∙ ap (λ t. A ++ managers_met A reads writes w p t) (sym eD))))
+
+-- the front of what was joined
+pub front-taken : {X : Type 0} (xs ys : List X) (n : ℕ) → length xs ≡ n → take n (xs ++ ys) ≡ xs
+front-taken xs ys n e = ap (λ m. take m (xs ++ ys)) (sym e) ∙ take-append_seam xs ys

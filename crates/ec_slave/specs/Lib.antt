@@ -1,5 +1,6 @@
 pub mod Roles
 pub mod State
+pub mod Held
 pub mod Managers
 pub mod Access
 pub mod Logical
@@ -9,4 +10,4 @@ pub mod Telling
 pub mod Keeping
 pub mod Exchange
 pub mod AgainstAll
-pub mod Laws
+pub mod LogicalLaws

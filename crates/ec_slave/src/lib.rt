@@ -2,8 +2,10 @@
 #![tactic(auto)]
 
 mod access;
-pub mod laws;
+mod fmmus;
 mod managers;
+mod physical;
 mod role;
+mod slave;
 
-pub use crate::role::Role;
+pub use crate::slave::Slave;

@@ -6,7 +6,7 @@ use ec_frame::Command;
 
 /// What a slave does with the data of a physical datagram.
 #[derive(Clone, Copy, Debug, PartialEq, Eq)]
-pub enum Role {
+pub(crate) enum Role {
     /// It lets the datagram pass.
     Nothing,
     /// The data become the memory.
@@ -58,7 +58,7 @@ impl Role {
 }
 
 /// The ADP of a datagram that leaves a slave, by the same table.
-pub fn adp_after_slave(command: Command, adp: u16) -> u16
+pub(crate) fn adp_after_slave(command: Command, adp: u16) -> u16
     ensures { result ≡ adp_after command adp }
 {
     match command {

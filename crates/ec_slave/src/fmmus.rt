@@ -1,0 +1,34 @@
+//! The FMMUs of a slave, kept decoded beside the registers that they stand in.
+
+ghost use Rattle.std.specs.Prelude.{◌≡◌, ◌+◌, ◌*◌, ◌<◌, length, slice_index, if◌then◌else◌, nat_lt};
+ghost use Rattle.ec_regs.specs.Fmmus.{fmmu_of};
+ghost use Rattle.ec_slave.specs.State.{fmmus_of};
+
+use ec_fmmu::Fmmu;
+use ec_regs::decode_fmmu;
+use ec_regs::registers::{FMMUS, SYNC_MANAGERS};
+
+/// FMMU `number` as its sixteen registers stand.
+fn fmmu_at(memory: &[u8], number: usize) -> Fmmu
+    requires room { length memory.now ≡ 12288 }
+    requires four { number < 4 }
+    ensures { result ≡ fmmu_of (λ k. slice_index memory.now (1536 + 16 * number + k)) }
+{
+    let at = FMMUS as usize + 16 * number;
+    let mut record = [0; 16];
+    record.copy_from_slice(&memory[at..at + 16]);
+    Fmmu::new(decode_fmmu(&record))
+}
+
+/// The four FMMUs as their registers stand.
+pub(crate) fn read_fmmus(memory: &[u8]) -> [Fmmu; 4]
+    requires { length memory.now ≡ 12288 }
+    ensures { result ≡ fmmus_of memory.now }
+{
+    [
+        fmmu_at(memory, 0),
+        fmmu_at(memory, 1),
+        fmmu_at(memory, 2),
+        fmmu_at(memory, 3),
+    ]
+}

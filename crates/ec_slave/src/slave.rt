@@ -1,0 +1,176 @@
+ghost use Rattle.std.specs.Prelude.{◌≡◌, ◌+◌, ◌*◌, ◌<◌, IfOk, length, if◌then◌else◌, [], ◌∷◌, map, Option, Some, None, nat_lt};
+ghost use Rattle.ec_bits.specs.Bits.{zeros};
+ghost use Rattle.ec_sync.specs.Manager.{no_manager};
+ghost use Rattle.ec_slave.specs.Access.{byte_at, register_byte};
+ghost use Rattle.ec_slave.specs.State.{SlaveState, indices, memory_length, power_on, station_of};
+
+use crate::access::governor;
+use crate::fmmus::read_fmmus;
+use ec_al::Al;
+use ec_fmmu::Fmmu;
+use ec_regs::registers::{
+    AL_CONTROL, AL_STATUS, AL_STATUS_CODE, FMMU_COUNT, FMMUS, MANAGER_COUNT, NUMBER_OF_FMMUS, NUMBER_OF_SYNC_MANAGERS,
+    RAM_END, RAM_KIB, RAM_SIZE, RAM_START, SII_CONTROL, STATION_ADDRESS, SYNC_MANAGERS,
+};
+use ec_regs::{Identity, Pdo, SlaveType};
+use ec_sii::{Image, Port};
+use ec_sync::Manager;
+use std::alloc::{AllocError, Global};
+use std::marker::Model;
+
+/// A simulated slave.
+#[derive(Drop)]
+pub struct Slave {
+    pub(crate) kind: SlaveType,
+    pub(crate) identity: Identity,
+    pub(crate) memory: Vec<u8>,
+    // as the registers in `memory` say them
+    pub(crate) fmmus: [Fmmu; 4],
+    pub(crate) managers: Vec<Manager>,
+    pub(crate) al: Al,
+    pub(crate) port: Port,
+    pub(crate) out_slots: Vec<u16>,
+    pub(crate) out_count: u8,
+    pub(crate) in_slots: Vec<u16>,
+    pub(crate) in_count: u8,
+    pub(crate) replies: u8,
+}
+
+impl Model for Slave {
+    ghost use Rattle.ec_slave.specs.State.{SlaveState};
+    ghost use Rattle.ec_slave.specs.Held.{IsHeld};
+
+    ghost Value = { SlaveState };
+
+    ghost view = { λ s. record {
+        kind = s.kind;
+        identity = s.identity;
+        memory = s.memory.items;
+        managers = s.managers.items;
+        al = s.al;
+        sii = s.port;
+        out_slots = s.out_slots.items;
+        out_count = s.out_count;
+        in_slots = s.in_slots.items;
+        in_count = s.in_count;
+        replies = s.replies
+    } };
+
+    ghost invariant = { λ s. IsHeld s.memory.items s.managers.items s.fmmus };
+}
+
+/// The number of addresses, which contracts see under its name.
+#[tactic(auto, unfolding(crate::specs::State::memory_length))]
+fn memory_len() -> usize
+    ensures value { result ≡ memory_length }
+    ensures is { result ≡ 12288 }
+{
+    RAM_END as usize
+}
+
+/// The indices of PDOs, in order.
+fn indices_of(alloc: Global, pdos: &[Pdo]) -> Result<Vec<u16>, AllocError>
+    ensures { IfOk result (λ v. v.items ≡ indices pdos.now) }
+{
+    pdos.iter().map(|pdo| pdo.index).collect(alloc)
+}
+
+/// Four sync managers as the power comes on.
+fn new_managers(alloc: Global) -> Result<Vec<Manager>, AllocError>
+    ensures { IfOk result (λ v. v.items ≡ no_manager ∷ no_manager ∷ no_manager ∷ no_manager ∷ []) }
+{
+    let mut managers = Vec::new(alloc);
+    managers.push(Manager::new(alloc)?)?;
+    managers.push(Manager::new(alloc)?)?;
+    managers.push(Manager::new(alloc)?)?;
+    managers.push(Manager::new(alloc)?)?;
+    Ok(managers)
+}
+
+impl Slave {
+    /// A slave of a type that was just switched on. Each later call finds the memory that it needs.
+    ///
+    /// # Errors
+    ///
+    /// `AllocError` where there is no memory.
+    #[tactic(auto, unfolding(crate::specs::State::power_on))]
+    pub fn new(alloc: Global, kind: SlaveType, identity: Identity) -> Result<Slave, AllocError>
+        ensures { IfOk result (λ s. s ≡ power_on kind identity) }
+    {
+        let memory = vec![in alloc; 0; memory_len()]?;
+        let fmmus = read_fmmus(&memory);
+        let managers = new_managers(alloc)?;
+        let out_slots = indices_of(alloc, kind.outputs())?;
+        let in_slots = indices_of(alloc, kind.inputs())?;
+        let port = Port::new(Image::new(identity, kind.mailbox()));
+        Ok(Slave {
+            out_count: kind.outputs().len() as u8,
+            in_count: kind.inputs().len() as u8,
+            kind,
+            identity,
+            memory,
+            fmmus,
+            managers,
+            al: Al::new(),
+            port,
+            out_slots,
+            in_slots,
+            replies: 0,
+        })
+    }
+
+    /// The station address (registers 0x0010 and 0x0011).
+    pub fn station_address(&self) -> u16
+        ensures { result ≡ station_of self.now }
+    {
+        let at = STATION_ADDRESS as usize;
+        self.memory[at] as u16 + 256 * self.memory[at + 1] as u16
+    }
+
+    /// What an address reads now, as a datagram would find it; none past the RAM's end.
+    #[tactic(auto, unfolding(crate::specs::Access::byte_at))]
+    pub fn byte(&self, address: u16) -> Option<u8>
+        ensures { result ≡ (if nat_lt address 12288 then Some (byte_at self.now address) else None) }
+    {
+        let address = address as usize;
+        if address < RAM_END as usize {
+            Some(self.byte_at(address))
+        } else {
+            None
+        }
+    }
+
+    /// What an address reads.
+    #[tactic(auto, unfolding(crate::specs::Access::byte_at))]
+    pub(crate) fn byte_at(&self, address: usize) -> u8
+        requires { address < 12288 }
+        ensures { result ≡ byte_at self.now address }
+    {
+        if address < RAM_START as usize {
+            return self.register(address);
+        }
+        match governor(&self.managers, address) {
+            None => self.memory[address],
+            Some(place) => self.managers[place].shown_byte(address),
+        }
+    }
+
+    /// What a register reads.
+    #[tactic(auto, unfolding(crate::specs::Access::register_byte))]
+    fn register(&self, address: usize) -> u8
+        requires { address < 4096 }
+        ensures { result ≡ register_byte self.now address }
+    {
+        match address {
+            0x0004 => FMMU_COUNT,
+            0x0005 => MANAGER_COUNT,
+            0x0006 => RAM_KIB,
+            0x0010..=0x0011 | 0x0120..=0x0121 | 0x0600..=0x063F => self.memory[address],
+            0x0130..=0x0131 => self.al.status_word().to_le_bytes()[address - 0x0130],
+            0x0134..=0x0135 => self.al.code().to_le_bytes()[address - 0x0134],
+            0x0502..=0x050B => self.port.read(address),
+            0x0800..=0x081F => self.managers[(address - 0x0800) / 8].register(address % 8),
+            _ => 0,
+        }
+    }
+}
