@@ -1,5 +1,6 @@
 pub mod AgainstAll
 mod Answered
+mod Bytes
 pub mod Broadcast
 mod Decoded
 pub mod ExchangeLaw
@@ -8,6 +9,7 @@ mod Idle
 pub mod Kept
 mod Meets
 pub mod Misses
+mod Passing
 pub mod Reading
 pub mod SomeWritten
 mod Tests

@@ -10,4 +10,5 @@ pub mod Telling
 pub mod Keeping
 pub mod Exchange
 pub mod AgainstAll
+pub mod Laws
 pub mod LogicalLaws

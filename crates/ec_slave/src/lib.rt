@@ -3,6 +3,7 @@
 
 mod access;
 mod fmmus;
+pub mod laws;
 mod managers;
 mod physical;
 mod role;

@@ -1,0 +1,67 @@
+//! Laws of the definitions: each is the contract of a function that does nothing.
+
+ghost use Rattle.ec_slave.specs.Laws.{OtherStationPasses};
+ghost use Rattle.ec_slave.specs.Laws.{OtherPositionPasses};
+ghost use Rattle.ec_slave.specs.Laws.{HeadingStays, WritesByByte, ReadsByByte, CountsByRole};
+ghost use Rattle.ec_slave.specs.AgainstAll.{LogicalAgainstAll, PhysicalAgainstAll};
+ghost use Rattle.ec_slave.specs.LogicalLaws.{BroadcastLaw, ExchangeLaw, MappedLaw, MissesLaw};
+
+/// A datagram for another station address passes, and changes nothing.
+pub fn other_station_passes()
+    ensures { OtherStationPasses }
+{}
+
+/// A datagram for another position passes, and only its ADP changes: it grows by 1.
+pub fn other_position_passes()
+    ensures { OtherPositionPasses }
+{}
+
+/// Of a datagram only ADP, the bytes of its data and its working counter ever change.
+pub fn heading_stays()
+    ensures { HeadingStays }
+{}
+
+/// A write changes the bytes that it touches and that take writes, and no other.
+pub fn writes_by_byte()
+    ensures { WritesByByte }
+{}
+
+/// A read changes the data bytes whose addresses are there, and no other.
+pub fn reads_by_byte()
+    ensures { ReadsByByte }
+{}
+
+/// What the working counter grows by, as a table.
+pub fn counts_by_role()
+    ensures { CountsByRole }
+{}
+
+/// A logical datagram that maps nothing of a slave changes neither.
+pub fn logical_misses()
+    ensures { MissesLaw }
+{}
+
+/// A slave whose FMMUs map its area exchanges exactly its outputs and its inputs with a logical datagram over it.
+pub fn exchange()
+    ensures { ExchangeLaw }
+{}
+
+/// A slave that publishes new outputs is mapped as it was.
+pub fn mapped_kept()
+    ensures { MappedLaw }
+{}
+
+/// A physical datagram does to each manager what it does to it among all managers as they were.
+pub fn physical_against_all()
+    ensures { PhysicalAgainstAll }
+{}
+
+/// A logical datagram does to each manager what it does to it among all managers as they were.
+pub fn logical_against_all()
+    ensures { LogicalAgainstAll }
+{}
+
+/// A broadcast read of registers changes no slave and counts one.
+pub fn broadcast_read()
+    ensures { BroadcastLaw }
+{}
