@@ -1,5 +1,5 @@
 -- The bytes of a datagram that was answered.
-use Rattle.std.proofs.Common.{ℕ, ◌+◌, ◌<◌, arith, ◌/◌, ◌%◌, ◌≡◌, ◌≢◌, ◌⊎◌, inl, inr, Bool, List, ◌++◌, length, refl, sym, ◌∙◌, ap}
+use Rattle.std.proofs.Common.{◌*◌, ℕ, ◌+◌, ◌<◌, arith, ◌/◌, ◌%◌, ◌≡◌, ◌≢◌, ◌⊎◌, inl, inr, Bool, List, ◌++◌, length, refl, sym, ◌∙◌, ap}
 use Rattle.byteorder.specs.Endian.{little_bytes}
 use Rattle.ec_frame.specs.declared.command.Command.{Command}
 use Rattle.ec_frame.specs.declared.command.Command.TheVariants.{Nop, Aprd, Apwr, Aprw, Fprd, Fpwr, Fprw, Brd, Bwr, Brw, Lrd, Lwr, Lrw, Armw, Frmw}
@@ -11,6 +11,13 @@ use Rattle.ec_slave.specs.Roles.{role_of, adp_after}
 use Rattle.ec_slave.specs.State.{SlaveState, station_of}
 use Rattle.ec_slave.specs.Access.{Window, Meeting, meeting}
 use Rattle.ec_slave.specs.Meeting.{window_of, meets_physically, meets_by, meets}
+use Rattle.ec_bits.proofs.BitLaws.{length-overlay}
+use Rattle.ec_fmmu.specs.Applied.{Place}
+use Rattle.ec_slave.specs.declared.mapped.Way.{Way}
+use Rattle.ec_slave.specs.State.{Met, fmmus, with_answer}
+use Rattle.ec_slave.specs.Logical.{place_of, only_if, read_bit, meets_logical, logical_after}
+use Rattle.ec_slave.specs.Ways.{data_after, count_after, is_reading, is_writing, meets_way, meets_exchanging}
+use Rattle.ec_slave.specs.declared.mapped.Way.TheVariants.{Read as ReadMapped, Write as WriteMapped}
 use Rattle.ec_slave.specs.Keeping.{address-bound, length-meeting}
 
 -- data written between heading and counter
@@ -92,3 +99,44 @@ by-physical Frmw s d n r w x = refl
 pub is_answered : (s : SlaveState) (d : Datagram) (c : Command) → c ≡ d.command → c ≢ Nop → c ≢ Lrd → c ≢ Lwr → c ≢ Lrw → meets s d ≡ meets_physically s d
 unfolding meets
 is_answered s d c e n r w x = ap (λ (k : Command). meets_by k s d) (sym e) ∙ by-physical c s d n r w x
+
+-- ---- logical datagrams
+
+pub moved-good : (s : SlaveState) (way : Way) (p : Place) (d : Datagram) → IsDatagram d → IsDatagram (with_data d (data_after s way p d.data_bytes))
+moved-good s way p d good =
+    let same = length-overlay d.data_bytes (λ i. only_if (is_reading way) (read_bit s.memory s.managers (fmmus s) p i)) in
+    let l : length d.data_bytes < 2048 = good.data_bytes in
+    record { index = good.index; address = good.address; reserved = good.reserved; irq = good.irq; data_bytes = omega (arith, same); counter = good.counter }
+
+-- data moved between heading and counter
+pub data_moved : (more : Bool) (d : Datagram) (front bytes back : List ℕ) (s : SlaveState) (way : Way) (p : Place)
+  → front ≡ heading more d → bytes ≡ data_after s way p d.data_bytes → back ≡ little_bytes 2 d.counter
+  → front ++ (bytes ++ back) ≡ spelling more (with_data d (data_after s way p d.data_bytes))
+data_moved more d front bytes back s way p f b k =
+    let same : length (data_after s way p d.data_bytes) ≡ length d.data_bytes = length-overlay d.data_bytes (λ i. only_if (is_reading way) (read_bit s.memory s.managers (fmmus s) p i)) in
+    let h : heading more d ≡ heading more (with_data d (data_after s way p d.data_bytes)) = cc in
+    ap (λ (t : List ℕ). t ++ (bytes ++ back)) (f ∙ h)
+    ∙ (ap (λ (t : List ℕ). heading more (with_data d (data_after s way p d.data_bytes)) ++ (t ++ back)) b
+    ∙ ap (λ (t : List ℕ). heading more (with_data d (data_after s way p d.data_bytes)) ++ (data_after s way p d.data_bytes ++ t)) k)
+
+pub meets_way-is : (way : Way) (s : SlaveState) (d : Datagram) → meets_way way s d ≡ record {
+    slave = logical_after s (is_reading way) (is_writing way) (place_of d) d.data_bytes;
+    datagram = with_answer d d.address (data_after s way (place_of d) d.data_bytes) (count_after s way (place_of d) d.data_bytes) }
+unfolding meets_logical
+meets_way-is way s d = refl
+
+-- the place by a header's address is the datagram's
+pub place-is : (h : Header) (more : Bool) (d : Datagram) → h ≡ header_of more d → record { from = 8 * h.address; bits = 8 * length d.data_bytes } ≡ place_of d
+place-is h more d e = ap (λ (x : Header). record { from = 8 * x.address; bits = 8 * length d.data_bytes }) e
+
+pub is_read : (s : SlaveState) (d : Datagram) (c : Command) → c ≡ d.command → c ≡ Lrd → meets s d ≡ meets_way ReadMapped s d
+unfolding meets
+is_read s d c e n = ap (λ (k : Command). meets_by k s d) (sym e ∙ n)
+
+pub is_written : (s : SlaveState) (d : Datagram) (c : Command) → c ≡ d.command → c ≡ Lwr → meets s d ≡ meets_way WriteMapped s d
+unfolding meets
+is_written s d c e n = ap (λ (k : Command). meets_by k s d) (sym e ∙ n)
+
+pub is_exchanged : (s : SlaveState) (d : Datagram) (c : Command) → c ≡ d.command → c ≡ Lrw → meets s d ≡ meets_exchanging s d
+unfolding meets
+is_exchanged s d c e n = ap (λ (k : Command). meets_by k s d) (sym e ∙ n)

@@ -25,7 +25,7 @@ abbrev record_at : List ℕ → ℕ → ℕ → ℕ
 record_at memory n k = slice_index memory (1536 + 16 * n + k)
 
 -- where the bytes from 0x0600 to 0x063F are alike
-fmmus_of-alike : (xs ys : List ℕ) → ((a : ℕ) → a < 1600 → slice_index xs a ≡ slice_index ys a) → fmmus_of xs ≡ fmmus_of ys
+pub fmmus_of-alike : (xs ys : List ℕ) → ((a : ℕ) → a < 1600 → slice_index xs a ≡ slice_index ys a) → fmmus_of xs ≡ fmmus_of ys
 fmmus_of-alike xs ys h =
     let e0 = fmmu_of-alike (record_at xs 0) (record_at ys 0) (λ k l. h _ (omega arith)) in
     let e1 = fmmu_of-alike (record_at xs 1) (record_at ys 1) (λ k l. h _ (omega arith)) in

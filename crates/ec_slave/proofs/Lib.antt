@@ -4,15 +4,19 @@ mod Bytes
 pub mod Broadcast
 mod Decoded
 pub mod ExchangeLaw
+mod Exchanges
 pub mod Governors
 mod Idle
 pub mod Kept
 mod Meets
 pub mod Misses
-mod Passing
+mod Moves
+mod Bystanders
 pub mod Reading
+mod Sights
 pub mod SomeWritten
 mod Tests
 mod Told
+mod Touching
 mod Windows
 pub mod Writing

@@ -6,6 +6,8 @@ pub mod Access
 pub mod Logical
 pub mod Written
 pub mod Meeting
+pub mod Sights
+pub mod Ways
 pub mod Telling
 pub mod Keeping
 pub mod Exchange

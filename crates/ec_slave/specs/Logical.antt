@@ -82,15 +82,19 @@ some_read memory ms fs p = any_below p.bits (λ i. is_some (read_bit memory ms f
 abbrev pub some_written : List Manager → List FmmuSettings → Place → List ℕ → Bool
 some_written ms fs p bytes = any_below (8 * ram_end) (λ q. is_some (written_bit ms fs p bytes q))
 
+-- the whole slave after the data of a logical datagram that reads, writes or does both
+abbrev pub logical_after : SlaveState → Bool → Bool → Place → List ℕ → SlaveState
+logical_after s reading writing p bytes = with_memory s
+    (overlay s.memory (λ q. only_if writing (plain_bit s.managers (fmmus s) p bytes q)))
+    (managers_exchanged [] reading writing (fmmus s) p bytes s.managers)
+
 -- One slave on one logical datagram that reads, writes or does both. A read counts 1, a write `weight`. What a write
 -- takes is the data as received.
 unfoldable pub meets_logical : Bool → Bool → ℕ → SlaveState → Datagram → Met
 meets_logical reading writing weight s d =
     let p = place_of d in
     record {
-      slave = with_memory s
-        (overlay s.memory (λ q. only_if writing (plain_bit s.managers (fmmus s) p d.data_bytes q)))
-        (managers_exchanged [] reading writing (fmmus s) p d.data_bytes s.managers);
+      slave = logical_after s reading writing p d.data_bytes;
       datagram = with_answer d d.address
         (overlay d.data_bytes (λ i. only_if reading (read_bit s.memory s.managers (fmmus s) p i)))
         (from_bool (reading && some_read s.memory s.managers (fmmus s) p)

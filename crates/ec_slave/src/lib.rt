@@ -4,7 +4,10 @@
 mod access;
 mod fmmus;
 pub mod laws;
+mod logical;
 mod managers;
+mod mapped;
+mod passing;
 mod physical;
 mod role;
 mod slave;

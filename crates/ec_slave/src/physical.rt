@@ -180,7 +180,7 @@ impl Slave {
     }
 
     /// Answers a physical datagram whose header was read.
-    fn answer(&mut self, header: Header, part: &mut [u8])
+    pub(crate) fn answer(&mut self, header: Header, part: &mut [u8])
         requires spelt { IsSpelling part.old }
         requires read { (more : Bool) (d : Datagram) → IsDatagram d → part.old ≡ spelling more d
             → header ≡ header_of more d }

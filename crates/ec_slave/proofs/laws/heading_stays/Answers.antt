@@ -1,4 +1,4 @@
-use Rattle.ec_slave.proofs.Passing.{heading_stays}
+use Rattle.ec_slave.proofs.Bystanders.{heading_stays}
 use Rattle.ec_slave.proofs.laws.heading_stays.Goals as goal
 
 pub returns : goal.returns

@@ -1,4 +1,4 @@
-use Rattle.ec_slave.proofs.Passing.{other_position_passes}
+use Rattle.ec_slave.proofs.Bystanders.{other_position_passes}
 use Rattle.ec_slave.proofs.laws.other_position_passes.Goals as goal
 
 pub returns : goal.returns

@@ -1,4 +1,4 @@
-use Rattle.ec_slave.proofs.Passing.{other_station_passes}
+use Rattle.ec_slave.proofs.Bystanders.{other_station_passes}
 use Rattle.ec_slave.proofs.laws.other_station_passes.Goals as goal
 
 pub returns : goal.returns

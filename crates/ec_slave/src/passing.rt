@@ -1,0 +1,40 @@
+//! A frame that passes a slave.
+
+ghost use Rattle.std.specs.Prelude.{◌≡◌};
+ghost use Rattle.ec_frame.specs.Frame.{Payload, IsFrame};
+ghost use Rattle.ec_slave.specs.Keeping.{meets-keeps};
+ghost use Rattle.ec_slave.specs.Meeting.{IsPassed, datagram_met, slave_met};
+
+use crate::mapped::Way;
+use crate::slave::Slave;
+use ec_frame::{Command, Handler, Header, pass};
+
+impl Slave {
+    /// A frame passes the slave: its datagrams act in order, each on the slave as the one before
+    /// left it. Allocates nothing.
+    pub fn pass(&mut self, frame: &mut [u8])
+        requires { (p : Payload) × IsFrame frame.old p }
+        ensures { IsPassed self.old frame.old self.new frame.new }
+    {
+        pass(self, frame);
+    }
+}
+
+impl Handler for Slave {
+    ghost handled = { datagram_met };
+
+    ghost after = { slave_met };
+
+    ghost keeps_length = { meets-keeps };
+
+    fn handle(&mut self, part: &mut [u8]) {
+        let header = Header::read(part);
+        match header.command {
+            Command::Nop => {}
+            Command::Lrd => self.answer_mapped(Way::Read, header, part),
+            Command::Lwr => self.answer_mapped(Way::Write, header, part),
+            Command::Lrw => self.answer_exchange(header, part),
+            _ => self.answer(header, part),
+        }
+    }
+}
