@@ -92,7 +92,7 @@ draft_next_if last b i x (Some d) = Some (drafted_if last b (slice_set d i x))
 abbrev pub put_if : Bool → Bool → Bool → Manager → ℕ → ℕ → Option (List ℕ) → Option Manager
 put_if may below last m i x d = if may then option_map (λ b. record m { buffer = b }) (if below then draft_next_if last m.buffer i x d else None) else None
 
-abbrev closed_if : Bool → Bool → Bool → Manager → ℕ → ℕ → Option (List ℕ) → Option (List ℕ)
+abbrev pub closed_if : Bool → Bool → Bool → Manager → ℕ → ℕ → Option (List ℕ) → Option (List ℕ)
 closed_if may below last m i x d = if is_some (put_if may below last m i x d) && last then option_map (λ e. slice_set e i x) d else None
 
 known-put : (h : List (List ℕ)) (m : Manager) (may below last : Bool) (i x : ℕ) (d : Option (List ℕ)) → Known h m

@@ -55,3 +55,8 @@ app_read b i =
     if nat_lt i (length b.published)
     then view_next b i (if i == 0 then Some b.published else b.view)
     else None
+
+-- the buffer after it
+abbrev pub after_read : Buffer → Option Got → Buffer
+after_read b None = b
+after_read b (Some got) = got.buffer

@@ -1,10 +1,10 @@
 -- Whole runs of one manager: any list of accesses of the ring, bytes of the application, messages of the firmware and
 -- changes of the settings, in any order, granted or denied. Each step is what the contract of the call of that name says.
-use Rattle.std.specs.Prelude.{ℕ, suc, ◌+◌, ◌==◌, ◌&&◌, ◌≡◌, List, [], ◌∷◌, ◌++◌, length, Bool, true, if◌then◌else◌, nat_lt, slice_index, slice_set, Option, Some, None, is_some, unwrap_or, option_map, Contains}
+use Rattle.std.specs.Prelude.{ℕ, suc, ◌+◌, ◌==◌, ◌&&◌, ◌≡◌, List, [], ◌∷◌, ◌++◌, length, Bool, true, false, if◌then◌else◌, nat_lt, slice_index, slice_set, Option, Some, None, is_some, unwrap_or, option_map, Contains}
 use Rattle.std.specs.List.{All}
 use Rattle.ec_bits.specs.Bits.{zeros}
 use Rattle.ec_regs.specs.declared.manager.ManagerSettings.{ManagerSettings}
-use Rattle.ec_regs.specs.Managers.{settings_of}
+use Rattle.ec_regs.specs.Managers.{settings_of, is_mailbox}
 use Rattle.ec_sync.specs.Buffer.{Got}
 use Rattle.ec_sync.specs.Manager.{Manager, no_manager, buffer_length, empty_manager, zeros_published, may_read, may_write, ring_written, ring_read, shown, may_app_put, app_put, app_got, after_get, message_in, message_taken, may_put_message, padded, message_put}
 use Rattle.ec_sync.specs.Governing.{manager_byte}
@@ -133,6 +133,22 @@ DraftsAreTheBytesPut =
     (m : Manager) (ops : List Operation) (x i y : ℕ) (value : List ℕ) → is_some (app_put m 0 x) ≡ true → All OpensNoDraft ops
     → closed_draft (run (step m (AppPut 0 x)) ops) (suc i) y ≡ Some value
     → value ≡ slice_set (with_puts (step m (AppPut 0 x)) ops (slice_set (zeros (length m.buffer.published)) 0 x)) (suc i) y
+
+-- the value that was published last, where v was before
+abbrev pub newest : List ℕ → List (List ℕ) → List ℕ
+newest v [] = v
+newest v (x ∷ xs) = newest x xs
+
+-- the operation makes no mailbox of it
+abbrev pub StaysBuffered : Operation → Type 0
+StaysBuffered (Configure settings) = is_mailbox settings ≡ false
+StaysBuffered o = Unit {0}
+
+-- Over every run: what a buffered manager shows is the value that was published last, and no older one.
+abbrev pub ShowsTheNewest : Type 0
+ShowsTheNewest =
+    (m : Manager) (ops : List Operation) → is_mailbox m.settings ≡ false → All StaysBuffered ops
+    → newest m.buffer.published (history m ops) ≡ (run m ops).buffer.published
 
 -- What the eight register bytes of a manager say, read one by one, are its settings.
 abbrev pub RegistersReadBack : Type 0

@@ -3,7 +3,7 @@
 ghost use Rattle.std.specs.Prelude.{◌≡◌, ◌+◌, ◌-◌, ◌<◌, ◌≤◌, ◌++◌, length, take, drop, slice_set, slice_index, IfOk, Some, is_some, unwrap_or, option_map, true};
 ghost use Rattle.ec_bits.specs.Bits.{zeros};
 ghost use Rattle.ec_regs.specs.Memory.{ram_end};
-ghost use Rattle.ec_sync.specs.Buffer.{emptied_buffer, publishing, draft_next, app_written, app_read};
+ghost use Rattle.ec_sync.specs.Buffer.{emptied_buffer, publishing, draft_next, app_written, app_read, after_read};
 
 use crate::touching::Writing;
 use std::alloc::{AllocError, Global};
@@ -140,7 +140,7 @@ impl Buffer {
     #[tactic(auto, unfolding(crate::specs::Buffer::app_read))]
     pub fn get(&mut self, place: usize) -> Option<u8>
         ensures byte { result ≡ option_map (λ got. got.byte) (app_read self.old place) }
-        ensures after { self.new ≡ unwrap_or (option_map (λ got. got.buffer) (app_read self.old place)) self.old }
+        ensures after { self.new ≡ after_read self.old (app_read self.old place) }
         ensures long { length self.new.published ≡ length self.old.published }
     {
         if place >= self.len {

@@ -1,10 +1,9 @@
 //! Settings, the deactivate bit, and what empties a manager.
 
-ghost use Rattle.std.specs.Prelude.{◌≡◌};
-ghost use Rattle.ec_sync.specs.Manager.{empty_manager, zeros_published};
+ghost use Rattle.std.specs.Prelude.{◌≡◌, ◌≤◌};
+ghost use Rattle.ec_sync.specs.Manager.{buffer_length as buffer_length_of, empty_manager, zeros_published};
 
 use crate::manager::Manager;
-use crate::settings::buffer_length;
 use ec_regs::ManagerSettings;
 
 impl Manager {
@@ -39,5 +38,18 @@ impl Manager {
         ensures { self.new ≡ zeros_published self.old }
     {
         self.buffer.publish_zeros();
+    }
+}
+
+/// How long the published value is: 0 where it isn't a set buffered manager.
+#[tactic(auto, unfolding(ec_regs::specs::Managers::is_set))]
+fn buffer_length(settings: ManagerSettings) -> usize
+    ensures value { result ≡ buffer_length_of settings }
+    ensures small { result ≤ 2730 }
+{
+    if settings.is_set() && settings.is_buffered() {
+        settings.length as usize
+    } else {
+        0
     }
 }

@@ -11,7 +11,6 @@ mod mail;
 mod mailbox;
 mod manager;
 mod ring;
-mod settings;
 mod touching;
 
 pub use crate::manager::Manager;

@@ -97,7 +97,8 @@ impl Mail {
 fn put_front(storage: &mut [u8], message: &[u8], len: usize)
     requires fits { length message.now ≤ len }
     requires room { len ≤ length storage.old }
-    ensures { storage.new ≡ message.now ++ (zeros (len - length message.now) ++ drop len storage.old) }
+    ensures { let n = length message.now in
+        storage.new ≡ message.now ++ (zeros (len - n) ++ drop len storage.old) }
 {
     clear_front(storage, len);
     storage[..message.len()].copy_from_slice(message);

@@ -6,7 +6,6 @@ ghost use Rattle.std.specs.Option.{option_copied};
 ghost use Rattle.ec_sync.specs.Manager.{message_in, message_taken, LiesInRam, may_put_message as firmware_may_put, message_put};
 
 use crate::manager::Manager;
-use crate::settings;
 
 impl Manager {
     /// The message in a full mailbox that the ring writes. `None` exactly where it is denied: it must be an enabled
@@ -15,8 +14,8 @@ impl Manager {
         ensures { option_copied result ≡ message_in self.now }
     {
         if self.is_enabled()
-            && settings::is_mailbox(self.settings)
-            && settings::is_ring_written(self.settings)
+            && self.settings.is_mailbox()
+            && self.settings.is_ring_written()
             && self.mail.is_full()
         {
             Some(self.mail.message())
@@ -45,8 +44,8 @@ impl Manager {
         ensures inside { OnTrue result (LiesInRam self.now.settings) }
     {
         self.is_enabled()
-            && settings::is_mailbox(self.settings)
-            && settings::is_ring_read(self.settings)
+            && self.settings.is_mailbox()
+            && self.settings.is_ring_read()
             && !self.mail.is_full()
             && len <= self.settings.length as usize
     }

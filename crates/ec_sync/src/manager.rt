@@ -9,7 +9,6 @@ ghost use Rattle.ec_sync.specs.Governing.{governs as governs_byte, covers, in_fr
 
 use crate::buffer::Buffer;
 use crate::mail::Mail;
-use crate::settings;
 use ec_regs::ManagerSettings;
 use std::alloc::{AllocError, Global};
 use std::marker::Model;
@@ -29,7 +28,8 @@ impl Model for Manager {
 
     ghost Value = { ManagerState };
 
-    ghost view = { λ m. record { settings = m.settings; locked = m.is_locked; buffer = m.buffer; mail = m.mail } };
+    ghost view = { λ m.
+        record { settings = m.settings; locked = m.is_locked; buffer = m.buffer; mail = m.mail } };
 
     ghost invariant = { λ m. length m.buffer.published ≡ buffer_length m.settings };
 }
@@ -65,11 +65,12 @@ impl Manager {
     }
 
     /// Whether its settings make a manager.
+    #[tactic(auto, using(crate::proofs::Lengths::set_lies_in_ram))]
     pub fn is_set(&self) -> bool
         ensures value { result ≡ is_set_of self.now.settings }
         ensures inside { OnTrue result (LiesInRam self.now.settings) }
     {
-        settings::is_set(self.settings)
+        self.settings.is_set()
     }
 
     /// Whether it is set and not locked: a locked manager denies every access.
@@ -86,7 +87,7 @@ impl Manager {
         ensures { result ≡ governs_byte self.now address }
     {
         let start = self.settings.start as usize;
-        self.is_set() && start <= address && address < start + settings::span(self.settings)
+        self.is_set() && start <= address && address < start + self.settings.span()
     }
 
     /// Whether the byte lies before the end of its value, and not in a buffer behind it.
@@ -103,8 +104,8 @@ impl Manager {
         ensures inside { OnTrue result (LiesInRam self.now.settings) }
     {
         self.is_enabled()
-            && settings::is_ring_read(self.settings)
-            && (!settings::is_mailbox(self.settings) || self.mail.is_full())
+            && self.settings.is_ring_read()
+            && (!self.settings.is_mailbox() || self.mail.is_full())
     }
 
     /// Whether the ring may write it, by a datagram that touches its first and its last byte.
@@ -114,8 +115,8 @@ impl Manager {
         ensures inside { OnTrue result (LiesInRam self.now.settings) }
     {
         self.is_enabled()
-            && settings::is_ring_written(self.settings)
-            && (!settings::is_mailbox(self.settings) || !self.mail.is_full())
+            && self.settings.is_ring_written()
+            && (!self.settings.is_mailbox() || !self.mail.is_full())
     }
 
     /// Whether the `len` bytes from `from` on have its first and its last byte.
@@ -157,7 +158,7 @@ impl Manager {
     pub fn shown_byte(&self, address: usize) -> u8
         ensures { result ≡ byte_shown self.now address }
     {
-        let bytes = if settings::is_mailbox(self.settings) {
+        let bytes = if self.settings.is_mailbox() {
             self.mail.message()
         } else {
             self.buffer.published()

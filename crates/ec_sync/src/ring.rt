@@ -6,7 +6,6 @@ ghost use Rattle.ec_sync.specs.Manager.{LiesInRam, may_read, may_write, ring_wri
 ghost use Rattle.ec_sync.specs.Governing.{covers, after_ring_write, after_ring_read};
 
 use crate::manager::Manager;
-use crate::settings;
 use crate::touching::{Touching, Writing};
 
 impl Manager {
@@ -15,7 +14,8 @@ impl Manager {
     /// ring writes, and of a mailbox that is empty.
     pub fn ring_write<W: Writing>(&mut self, writing: &W) -> bool
         ensures granted { result ≡ (covers (W.touched writing.now) self.old && may_write self.old) }
-        ensures after { self.new ≡ after_ring_write (W.touched writing.now) (W.written writing.now) self.old }
+        ensures after { let w = writing.now in
+            self.new ≡ after_ring_write (W.touched w) (W.written w) self.old }
     {
         if !self.may_write() || !self.is_touched(writing) {
             return false;
@@ -35,7 +35,7 @@ impl Manager {
     {
         let start = self.settings.start as usize;
         let len = self.settings.length as usize;
-        if settings::is_mailbox(self.settings) {
+        if self.settings.is_mailbox() {
             self.mail.fill(start, len, writing);
         } else {
             self.buffer.publish(start, len, writing);
@@ -52,7 +52,7 @@ impl Manager {
         if !self.may_read() || !self.is_touched(access) {
             return false;
         }
-        if settings::is_mailbox(self.settings) {
+        if self.settings.is_mailbox() {
             self.mail.empty();
         }
         true

@@ -1,0 +1,5 @@
+pub mod PairLaws
+pub mod SetLaws
+pub mod AppliedLaws
+pub mod RunLaws
+pub mod RangeLaws
