@@ -4,6 +4,7 @@ pub mod Managers
 pub mod Access
 pub mod Logical
 pub mod Written
+pub mod Sights
 pub mod Meeting
 pub mod Telling
 pub mod Keeping

@@ -3,6 +3,7 @@
 
 mod access;
 pub mod laws;
+mod logical;
 mod managers;
 mod role;
 

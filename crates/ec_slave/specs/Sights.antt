@@ -1,0 +1,36 @@
+-- What a slave looks up on its way through a logical datagram, in place of all of its bits.
+use Rattle.std.specs.Prelude.{ℕ, ◌-◌, ◌*◌, ◌/◌, ◌==◌, ◌&&◌, List, get_or, Bool, false, if◌then◌else◌, Option, Some, None}
+use Rattle.ec_bits.specs.Bits.{bit, within}
+use Rattle.ec_regs.specs.declared.fmmu.FmmuSettings.{FmmuSettings}
+use Rattle.ec_sync.specs.Manager.{Manager, shown}
+use Rattle.ec_sync.specs.Governing.{governor, in_front}
+use Rattle.ec_fmmu.specs.Pairs.{unmapped}
+use Rattle.ec_fmmu.specs.Sets.{target, readers}
+use Rattle.ec_fmmu.specs.Applied.{Place}
+use Rattle.ec_slave.specs.State.{manager_at}
+
+abbrev pub is_bit : Option ℕ → ℕ → Bool
+is_bit None q = false
+is_bit (Some r) q = r == q
+
+-- the logical bit lies in the datagram, and the read set leads it to the physical bit
+abbrev pub is_led : List FmmuSettings → Place → ℕ → Option ℕ → Bool
+is_led fs p q None = false
+is_led fs p q (Some l) = is_bit (target (readers fs) l) q && within p.from p.bits l
+
+-- the FMMU reads, and by its pair for the physical bit a bit of the datagram is read from there
+abbrev pub reads_from : List FmmuSettings → Place → ℕ → FmmuSettings → Bool
+reads_from fs p q f = f.reads && is_led fs p q (unmapped f q)
+
+-- what a physical bit shows that the manager governs, where the datagram gets at it or does not
+abbrev pub seen_behind : Manager → Bool → ℕ → Option Bool
+seen_behind m readable q =
+    if in_front m (q / 8) && readable then Some (bit (shown m) (q - 8 * m.settings.start)) else None
+
+abbrev pub seen_under : List ℕ → List Manager → List Bool → ℕ → Option ℕ → Option Bool
+seen_under memory ms readable q None = Some (bit memory q)
+seen_under memory ms readable q (Some n) = seen_behind (manager_at ms n) (get_or readable n false) q
+
+-- what a physical bit shows, where `readable` has a truth value for each manager
+abbrev pub seen_bit : List ℕ → List Manager → List Bool → ℕ → Option Bool
+seen_bit memory ms readable q = seen_under memory ms readable q (governor ms (q / 8))

@@ -1,0 +1,114 @@
+//! What a logical datagram reads.
+
+ghost use Rattle.std.specs.Prelude.{◌≡◌, ◌<◌, ◌≤◌, ◌+◌, ◌*◌, ◌/◌, ◌^◌, ◌&&◌, length};
+ghost use Rattle.ec_bits.specs.Bits.{overlay};
+ghost use Rattle.ec_regs.specs.Memory.{ram_end};
+ghost use Rattle.ec_sync.specs.Manager.{may_read};
+ghost use Rattle.ec_sync.specs.Governing.{covers};
+ghost use Rattle.ec_fmmu.specs.Applied.{Place};
+ghost use Rattle.ec_slave.specs.Logical.{read_bit, some_read, touched_by_reading};
+ghost use Rattle.ec_slave.specs.Sights.{seen_behind as behind_it, seen_bit as bit_seen};
+
+use crate::access::governor;
+use crate::logical::touching::touches_by_reading;
+use ec_bits::get;
+use ec_fmmu::{Fmmu, Shown, apply_read};
+use ec_sync::Manager;
+
+/// Whether a datagram that reads gets at a manager: it touches its first and its last byte, and it
+/// may read there.
+fn is_readable(manager: &Manager, fmmus: &[Fmmu], from: u64, bits: u64) -> bool
+    ensures { let place : Place = record { from = from; bits = bits } in
+        result ≡ (covers (touched_by_reading fmmus.now place) manager.now && may_read manager.now) }
+{
+    if !manager.may_read() {
+        return false;
+    }
+    let first = manager.settings().start as usize;
+    let last = first + manager.settings().length as usize - 1;
+    touches_by_reading(fmmus, from, bits, first) && touches_by_reading(fmmus, from, bits, last)
+}
+
+/// What a physical bit shows that a manager governs.
+fn seen_behind(manager: &Manager, is_readable: bool, physical: u32) -> Option<bool>
+    requires { manager.now.settings.start ≤ physical / 8 }
+    ensures { result ≡ behind_it manager.now is_readable physical }
+{
+    let address = physical as usize / 8;
+    if manager.in_front(address) && is_readable {
+        let byte = manager.shown_byte(address);
+        Some(get(&[byte], physical as usize % 8))
+    } else {
+        None
+    }
+}
+
+/// What a physical bit shows, where `readable` says of each manager whether the datagram gets at
+/// it.
+fn seen_bit(memory: &[u8], managers: &[Manager], readable: &[bool], physical: u32) -> Option<bool>
+    requires room { length memory.now ≡ 12288 }
+    requires four { length managers.now ≡ length readable.now }
+    requires inside { physical < 8 * ram_end }
+    ensures { result ≡ bit_seen memory.now managers.now readable.now physical }
+{
+    match governor(managers, physical as usize / 8) {
+        Some(place) => seen_behind(&managers[place], readable[place], physical),
+        None => Some(get(memory, physical as usize)),
+    }
+}
+
+/// A slave's memory and managers as a datagram sees them. Whether it gets at a manager was found
+/// before, since that is one truth value for all bits behind it.
+#[derive(Clone, Copy)]
+struct Sight<'a> {
+    memory: &'a [u8],
+    managers: &'a [Manager],
+    readable: &'a [bool],
+}
+
+impl Shown for Sight<'_> {
+    ghost use Rattle.std.specs.Prelude.{◌≡◌, length};
+    ghost use Rattle.ec_slave.specs.Sights.{seen_bit as bit_seen};
+
+    ghost can_show = { λ s. (length s.memory.now ≡ 12288)
+        × (length s.managers.now ≡ length s.readable.now) };
+
+    ghost shown = { λ s q. bit_seen s.memory.now s.managers.now s.readable.now q };
+
+    fn shown_bit(&self, physical: u32) -> Option<bool> {
+        seen_bit(self.memory, self.managers, self.readable, physical)
+    }
+}
+
+/// Reads what a slave shows into the data of a logical datagram whose first logical bit is `from`:
+/// each data bit that the read set leads to a bit that may be read, and no other. Answers whether a
+/// bit was read.
+pub(crate) fn read_logical(
+    memory: &[u8],
+    managers: &[Manager],
+    fmmus: &[Fmmu],
+    from: u64,
+    bytes: &mut [u8],
+) -> bool
+    requires room { length memory.now ≡ 12288 }
+    requires four { length managers.now ≡ 4 }
+    requires fits { from + 8 * length bytes.old < 2 ^ 64 }
+    ensures bits { let place : Place = record { from = from; bits = 8 * length bytes.old } in
+        bytes.new ≡ overlay bytes.old (read_bit memory.now managers.now fmmus.now place) }
+    ensures any { let place : Place = record { from = from; bits = 8 * length bytes.old } in
+        result ≡ some_read memory.now managers.now fmmus.now place }
+{
+    let bits = 8 * bytes.len() as u64;
+    let readable = [
+        is_readable(&managers[0], fmmus, from, bits),
+        is_readable(&managers[1], fmmus, from, bits),
+        is_readable(&managers[2], fmmus, from, bits),
+        is_readable(&managers[3], fmmus, from, bits),
+    ];
+    let sight = Sight {
+        memory,
+        managers,
+        readable: &readable,
+    };
+    apply_read(fmmus, &sight, from, bytes)
+}
