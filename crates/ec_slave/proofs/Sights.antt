@@ -1,21 +1,21 @@
 -- What a datagram sees of the managers, against what may be read.
-use Rattle.std.proofs.Common.{ℕ, zero, suc, ◌+◌, ◌-◌, ◌*◌, ◌/◌, ◌%◌, ◌<◌, ◌≤◌, ◌≡◌, ◌==◌, ◌&&◌, ◌||◌, Bool, true, false, Option, Some, None, refl, sym, ◌∙◌, ap, subst, inl, inr, arith, if◌then◌else◌, is_some, is_none, List, [], ◌∷◌, length, get_or, take, drop, unwrap_or, option_and_then, option_map, slice_index}
+use Rattle.std.proofs.Common.{ℕ, zero, suc, ◌+◌, ◌-◌, ◌*◌, ◌/◌, ◌%◌, ◌<◌, ◌≤◌, ◌≡◌, ◌==◌, ◌&&◌, Bool, true, false, Option, Some, None, refl, sym, ◌∙◌, ap, subst, inl, inr, arith, if◌then◌else◌, is_some, List, [], ◌∷◌, length, get_or, unwrap_or, option_and_then, option_map, slice_index}
 use Rattle.std.specs.Int.{bit_at}
 use Rattle.std.specs.List.{position_from}
 use Rattle.std.proofs.lemmas.Bool.{cases_Bool, and_parts}
-use Rattle.ec_bits.specs.Bits.{bit, overlay, any_below, within}
+use Rattle.ec_bits.specs.Bits.{bit, overlay, any_below}
 use Rattle.ec_bits.proofs.BitLaws.{overlay_alike}
 use Rattle.ec_bits.proofs.AnyLaws.{any_below-alike, if_true, if_false, within_parts}
 use Rattle.ec_regs.specs.declared.fmmu.FmmuSettings.{FmmuSettings}
 use Rattle.ec_regs.specs.Managers.{is_set, span}
-use Rattle.ec_sync.specs.Manager.{Manager, no_manager, may_read, shown}
-use Rattle.ec_sync.specs.Governing.{governor, governs, covers, in_front}
+use Rattle.ec_sync.specs.Manager.{Manager, may_read}
+use Rattle.ec_sync.specs.Governing.{governor, governs, covers}
 use Rattle.ec_fmmu.specs.Sets.{target, readers}
 use Rattle.ec_fmmu.specs.Applied.{Place, read_told}
 use Rattle.ec_fmmu.proofs.PairLaws.{none_or_some}
 use Rattle.ec_slave.specs.State.{manager_at}
 use Rattle.ec_slave.specs.Managers.{reads_under, shown_under}
-use Rattle.ec_slave.specs.Logical.{touched_by_reading, readable_bit, read_bit, plain_bit, some_read}
+use Rattle.ec_slave.specs.Logical.{touched_by_reading, readable_bit, read_bit, some_read}
 use Rattle.ec_slave.specs.Sights.{seen_behind, seen_under, seen_bit}
 use Rattle.ec_slave.proofs.AgainstAll.{position_from-below}
 

@@ -1,6 +1,6 @@
 -- Which bytes a logical datagram touches, found by the bits of the byte in place of those of the datagram.
-use Rattle.std.proofs.Common.{ℕ, zero, suc, ◌+◌, ◌-◌, ◌*◌, ◌/◌, ◌%◌, ◌<◌, ◌≤◌, ◌≡◌, ◌==◌, ◌&&◌, ◌||◌, Bool, true, false, Option, Some, None, refl, sym, ◌∙◌, ap, subst, inl, inr, arith, if◌then◌else◌, is_some, List, [], ◌∷◌, length, get_or}
-use Rattle.std.specs.List.{list_any, filter}
+use Rattle.std.proofs.Common.{ℕ, ◌+◌, ◌-◌, ◌*◌, ◌/◌, ◌%◌, ◌<◌, ◌≤◌, ◌≡◌, ◌||◌, Bool, true, false, Option, Some, None, refl, sym, ◌∙◌, ap, inl, inr, arith, List, [], ◌∷◌}
+use Rattle.std.specs.List.{list_any}
 use Rattle.std.specs.Option.{option_or}
 use Rattle.std.proofs.lemmas.Bool.{cases_Bool, cases_eq, and_parts, and_from, or_left, or_right, both_ways, eq-eqb, eqb-true, false≢true}
 use Rattle.ec_bits.specs.Bits.{any_below, within}
