@@ -1,5 +1,5 @@
 -- One FMMU's part of a read or a write: the bits in its range, each as all FMMUs together tell it.
-use Rattle.std.specs.Prelude.{ℕ, ◌+◌, ◌-◌, ◌*◌, ◌&&◌, List, length, get_or, take, Bool, if◌then◌else◌, Option, Some, None}
+use Rattle.std.specs.Prelude.{ℕ, ◌+◌, ◌-◌, ◌*◌, ◌&&◌, List, length, get_or, take, Bool, if◌then◌else◌, Option, None}
 use Rattle.ec_bits.specs.Bits.{within}
 use Rattle.ec_regs.specs.declared.fmmu.FmmuSettings.{FmmuSettings}
 use Rattle.ec_regs.specs.Fmmus.{no_fmmu}

@@ -13,10 +13,9 @@ pub mod laws;
 mod mapping;
 mod precedence;
 mod reading;
-mod writing;
-
 #[cfg(test)]
 mod tests;
+mod writing;
 
 pub use crate::mapping::Fmmu;
 pub use crate::precedence::{read_target, write_source, write_target};

@@ -7,6 +7,7 @@ use ec_regs::FmmuSettings;
 use std::marker::Model;
 
 const RAM_START: u64 = 8 * 0x1000;
+
 const RAM_BITS: u64 = 8 * 0x2000;
 
 /// Whether `from ≤ place < from + count`.
@@ -113,7 +114,11 @@ impl Fmmu {
             return None;
         }
         let physical = self.first_physical() + (logical - first);
-        if is_ram_bit(physical) { Some(physical as u32) } else { None }
+        if is_ram_bit(physical) {
+            Some(physical as u32)
+        } else {
+            None
+        }
     }
 
     /// The logical bit of the pair that a physical bit is in, if it is in one.

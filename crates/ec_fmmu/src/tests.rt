@@ -6,6 +6,7 @@ use ec_bits::get;
 use ec_regs::FmmuSettings;
 
 const FIRST: u32 = 8 * 0x1800;
+
 const LOGICAL: u64 = 8 * 0x0001_0000;
 
 /// Four bytes of RAM from 0x1800 on that may be read; all others may not.
@@ -98,7 +99,16 @@ fn reads_four_bits(rt: HostRuntime) {
         active: true,
     });
     let mut data = [0x0f];
-    assert!(rt; apply_read(&[fmmu], &Ram { bytes: [0xef, 0, 0, 0] }, LOGICAL, &mut data));
+    assert!(rt;
+        apply_read(
+            &[fmmu],
+            &Ram {
+                bytes: [0xef, 0, 0, 0]
+            },
+            LOGICAL,
+            &mut data
+        )
+    );
     assert_eq!(rt; data, [0xbf]);
     let mut window = [0xff];
     assert!(rt; !apply_write(&[fmmu], &NO_BYTE_LESS, LOGICAL, &[0], FIRST, &mut window));
@@ -111,7 +121,9 @@ fn logical_addresses_do_not_wrap(rt: HostRuntime) {
     let last = whole(0xffff_ffff, 2, 0x1800);
     let first = whole(0, 1, 0x1803);
     let mut data = [0, 0];
-    let ram = Ram { bytes: [0x12, 0x34, 0x56, 0x78] };
+    let ram = Ram {
+        bytes: [0x12, 0x34, 0x56, 0x78],
+    };
     assert!(rt; apply_read(&[first, last], &ram, 8 * 0xffff_ffff, &mut data));
     assert_eq!(rt; data, [0x12, 0x34]);
     assert_eq!(rt; last.map(8 * 0x1_0000_0000), Some(8 * 0x1801));
@@ -124,11 +136,22 @@ fn logical_addresses_do_not_wrap(rt: HostRuntime) {
 fn lower_decides_on_a_logical_bit(rt: HostRuntime) {
     let fmmus = [whole(0x0001_0000, 1, 0x1801), whole(0x0001_0000, 2, 0x1802)];
     let mut data = [0, 0];
-    let ram = Ram { bytes: [0x12, 0x34, 0x56, 0x78] };
+    let ram = Ram {
+        bytes: [0x12, 0x34, 0x56, 0x78],
+    };
     assert!(rt; apply_read(&fmmus, &ram, LOGICAL, &mut data));
     assert_eq!(rt; data, [0x34, 0x78]);
     let mut window = [0; 4];
-    assert!(rt; apply_write(&fmmus, &NO_BYTE_LESS, LOGICAL, &[0xaa, 0xbb], FIRST, &mut window));
+    assert!(rt;
+        apply_write(
+            &fmmus,
+            &NO_BYTE_LESS,
+            LOGICAL,
+            &[0xaa, 0xbb],
+            FIRST,
+            &mut window
+        )
+    );
     assert_eq!(rt; window, [0, 0xaa, 0, 0xbb]);
 }
 
@@ -142,12 +165,39 @@ fn lower_decides_on_a_physical_bit(rt: HostRuntime) {
         whole(0x0001_0001, 2, 0x1800),
     ];
     let mut window = [0; 4];
-    assert!(rt; apply_write(&fmmus, &NO_BYTE_LESS, LOGICAL, &[0xaa, 0xbb, 0xcc], FIRST, &mut window));
+    assert!(rt;
+        apply_write(
+            &fmmus,
+            &NO_BYTE_LESS,
+            LOGICAL,
+            &[0xaa, 0xbb, 0xcc],
+            FIRST,
+            &mut window
+        )
+    );
     assert_eq!(rt; window, [0xaa, 0xcc, 0, 0]);
     let mut window = [0; 4];
-    assert!(rt; apply_write(&fmmus, &NO_BYTE_LESS, LOGICAL + 8, &[0xbb, 0xcc], FIRST, &mut window));
+    assert!(rt;
+        apply_write(
+            &fmmus,
+            &NO_BYTE_LESS,
+            LOGICAL + 8,
+            &[0xbb, 0xcc],
+            FIRST,
+            &mut window
+        )
+    );
     assert_eq!(rt; window, [0, 0xcc, 0, 0]);
-    assert!(rt; !apply_write(&fmmus, &NO_BYTE_LESS, LOGICAL + 8, &[0xbb], FIRST, &mut window));
+    assert!(rt;
+        !apply_write(
+            &fmmus,
+            &NO_BYTE_LESS,
+            LOGICAL + 8,
+            &[0xbb],
+            FIRST,
+            &mut window
+        )
+    );
     assert_eq!(rt; window, [0, 0xcc, 0, 0]);
     assert_eq!(rt; write_source(&fmmus, FIRST), Some(LOGICAL));
 }

@@ -70,8 +70,12 @@ fn write_range<A: Allowed>(
     let physical = range.first_physical();
     let data_end = from + 8 * data.len() as u64;
     let window_end = u64::from(origin) + 8 * window.len() as u64;
-    let first = from.saturating_sub(logical).max(u64::from(origin).saturating_sub(physical));
-    let end = data_end.saturating_sub(logical).min(window_end.saturating_sub(physical));
+    let first = from
+        .saturating_sub(logical)
+        .max(u64::from(origin).saturating_sub(physical));
+    let end = data_end
+        .saturating_sub(logical)
+        .min(window_end.saturating_sub(physical));
     for i in first..end.min(range.bit_count()) {
         let place = (physical + i) as u32;
         let told = written_bit(fmmus, rights, from, data, place);

@@ -1,12 +1,11 @@
 -- The managers meet a logical datagram from the last to the first, and are searched from the first on.
-use Rattle.std.proofs.Common.{ℕ, zero, suc, ◌+◌, ◌-◌, ◌*◌, ◌<◌, ◌≤◌, ◌≡◌, ◌&&◌, ◌||◌, List, [], ◌∷◌, ◌++◌, length, take, drop, get_or, set, Bool, true, false, refl, sym, ◌∙◌, ap, arith, append_assoc}
-use Rattle.std.proofs.lemmas.List.{take_more, drop_more, length-take-le, get_or_default}
+use Rattle.std.proofs.Common.{ℕ, ◌+◌, ◌<◌, ◌≡◌, ◌&&◌, ◌||◌, List, [], ◌∷◌, ◌++◌, length, take, drop, get_or, set, Bool, true, false, refl, sym, ◌∙◌, ap, arith, append_assoc}
+use Rattle.std.proofs.lemmas.List.{take_more, drop_more, length-take-le}
 use Rattle.std.proofs.Math.Seq.{take-append_seam, drop-append_seam}
 use Rattle.ec_regs.specs.declared.fmmu.FmmuSettings.{FmmuSettings}
-use Rattle.ec_sync.specs.Manager.{Manager, no_manager, may_write}
+use Rattle.ec_sync.specs.Manager.{Manager, may_write}
 use Rattle.ec_sync.specs.Governing.{covers}
 use Rattle.ec_fmmu.specs.Applied.{Place}
-use Rattle.ec_slave.specs.State.{manager_at}
 use Rattle.ec_slave.specs.Managers.{manager_after}
 use Rattle.ec_slave.specs.Logical.{touched_by_reading, touched_by_writing, value_brought, managers_exchanged}
 use Rattle.ec_slave.specs.Written.{some_brought, some_manager_written}
@@ -21,7 +20,7 @@ abbrev pub exchanged_from : List Manager → Bool → Bool → List FmmuSettings
 exchanged_from ms reading writing fs p bytes n = take n ms ++ managers_exchanged (take n ms) reading writing fs p bytes (drop n ms)
 
 pub exchanged_from-end : (ms : List Manager) (reading writing : Bool) (fs : List FmmuSettings) (p : Place) (bytes : List ℕ) → length ms ≡ 4
-  → ms ≡ exchanged_from ms reading writing fs p bytes 4
+    → ms ≡ exchanged_from ms reading writing fs p bytes 4
 exchanged_from-end [] reading writing fs p bytes e = absurd (omega arith)
 exchanged_from-end (a ∷ []) reading writing fs p bytes e = absurd (omega arith)
 exchanged_from-end (a ∷ b ∷ []) reading writing fs p bytes e = absurd (omega arith)
@@ -37,10 +36,10 @@ drop_front xs ys n e = ap (λ m. drop m (xs ++ ys)) (sym e) ∙ drop-append_seam
 
 -- one more, number n
 pub exchanged_from-step : (ms before after : List Manager) (reading writing : Bool) (fs : List FmmuSettings) (p : Place) (bytes : List ℕ) (n : ℕ) (d : Manager) (x : Manager)
-  → n < length ms → before ≡ exchanged_from ms reading writing fs p bytes (n + 1)
-  → x ≡ one_exchanged (take n before) reading writing fs p bytes (get_or (drop n before) 0 d)
-  → after ≡ take n before ++ set (drop n before) 0 x
-  → after ≡ exchanged_from ms reading writing fs p bytes n
+    → n < length ms → before ≡ exchanged_from ms reading writing fs p bytes (n + 1)
+    → x ≡ one_exchanged (take n before) reading writing fs p bytes (get_or (drop n before) 0 d)
+    → after ≡ take n before ++ set (drop n before) 0 x
+    → after ≡ exchanged_from ms reading writing fs p bytes n
 exchanged_from-step ms before after reading writing fs p bytes n d x l b h a =
     let A : List Manager = take n ms in
     let m : Manager = get_or ms n d in
@@ -52,7 +51,7 @@ exchanged_from-step ms before after reading writing fs p bytes n d x l b h a =
     let tB : take n before ≡ A = ap (take n) eB ∙ take_front A (m ∷ R) n eA in
     let dB : drop n before ≡ m ∷ R = ap (drop n) eB ∙ drop_front A (m ∷ R) n eA in
     let nx : x ≡ one_exchanged A reading writing fs p bytes m
-      = h ∙ (ap (λ t. one_exchanged t reading writing fs p bytes (get_or (drop n before) 0 d)) tB ∙ ap (λ t. one_exchanged A reading writing fs p bytes (get_or t 0 d)) dB) in
+    = h ∙ (ap (λ t. one_exchanged t reading writing fs p bytes (get_or (drop n before) 0 d)) tB ∙ ap (λ t. one_exchanged A reading writing fs p bytes (get_or t 0 d)) dB) in
     a ∙ (ap (λ t. t ++ set (drop n before) 0 x) tB ∙ (ap (λ t. A ++ set t 0 x) dB ∙ (ap (λ y. A ++ y ∷ R) nx
     ∙ ap (λ t. A ++ managers_exchanged A reading writing fs p bytes t) (sym eD))))
 
@@ -67,17 +66,17 @@ abbrev pub written_from : List Manager → List FmmuSettings → Place → List 
 written_from ms fs p bytes n = some_manager_written (take n ms) fs p bytes (drop n ms)
 
 pub written_from-next : (ms : List Manager) (fs : List FmmuSettings) (p : Place) (bytes : List ℕ) (n : ℕ) (d : Manager) → n < length ms
-  → written_from ms fs p bytes n ≡ (one_written (take n ms) fs p bytes (get_or ms n d) || written_from ms fs p bytes (n + 1))
+    → written_from ms fs p bytes n ≡ (one_written (take n ms) fs p bytes (get_or ms n d) || written_from ms fs p bytes (n + 1))
 written_from-next ms fs p bytes n d l =
     ap (some_manager_written (take n ms) fs p bytes) (drop_more ms n d l)
     ∙ ap (λ t. one_written (take n ms) fs p bytes (get_or ms n d) || some_manager_written t fs p bytes (drop (n + 1) ms)) (sym (take_more ms n d l))
 
 pub written_from-hit : (ms : List Manager) (fs : List FmmuSettings) (p : Place) (bytes : List ℕ) (n : ℕ) (d : Manager) → n < length ms
-  → one_written (take n ms) fs p bytes (get_or ms n d) ≡ true → written_from ms fs p bytes n ≡ true
+    → one_written (take n ms) fs p bytes (get_or ms n d) ≡ true → written_from ms fs p bytes n ≡ true
 written_from-hit ms fs p bytes n d l h =
     written_from-next ms fs p bytes n d l ∙ ap (λ b. b || written_from ms fs p bytes (n + 1)) h
 
 pub written_from-miss : (ms : List Manager) (fs : List FmmuSettings) (p : Place) (bytes : List ℕ) (n : ℕ) (d : Manager) → n < length ms
-  → one_written (take n ms) fs p bytes (get_or ms n d) ≡ false → written_from ms fs p bytes n ≡ written_from ms fs p bytes (n + 1)
+    → one_written (take n ms) fs p bytes (get_or ms n d) ≡ false → written_from ms fs p bytes n ≡ written_from ms fs p bytes (n + 1)
 written_from-miss ms fs p bytes n d l h =
     written_from-next ms fs p bytes n d l ∙ ap (λ b. b || written_from ms fs p bytes (n + 1)) h

@@ -15,7 +15,7 @@ mod Bystanders
 pub mod Reading
 mod Sights
 pub mod SomeWritten
-mod Tests
+mod Choices
 mod Told
 mod Touching
 mod Windows

@@ -5,8 +5,8 @@ pub mod Managers
 pub mod Access
 pub mod Logical
 pub mod Written
-pub mod Meeting
 pub mod Sights
+pub mod Meeting
 pub mod Ways
 pub mod Telling
 pub mod Keeping

@@ -1,4 +1,4 @@
--- What a slave looks up on its way through a logical datagram, in place of all bits of the datagram.
+-- What a slave looks up on its way through a logical datagram, in place of all of its bits.
 use Rattle.std.specs.Prelude.{ℕ, ◌-◌, ◌*◌, ◌/◌, ◌==◌, ◌&&◌, List, get_or, Bool, false, if◌then◌else◌, Option, Some, None}
 use Rattle.ec_bits.specs.Bits.{bit, within}
 use Rattle.ec_regs.specs.declared.fmmu.FmmuSettings.{FmmuSettings}
@@ -22,7 +22,7 @@ is_led fs p q (Some l) = is_bit (target (readers fs) l) q && within p.from p.bit
 abbrev pub reads_from : List FmmuSettings → Place → ℕ → FmmuSettings → Bool
 reads_from fs p q f = f.reads && is_led fs p q (unmapped f q)
 
--- what a physical bit shows that the manager governs, where the datagram gets at the manager or does not
+-- what a physical bit shows that the manager governs, where the datagram gets at it or does not
 abbrev pub seen_behind : Manager → Bool → ℕ → Option Bool
 seen_behind m readable q =
     if in_front m (q / 8) && readable then Some (bit (shown m) (q - 8 * m.settings.start)) else None

@@ -22,7 +22,8 @@ impl Touching for ReadBits<'_> {
     ghost use Rattle.ec_fmmu.specs.Applied.{Place};
     ghost use Rattle.ec_slave.specs.Logical.{touched_by_reading};
 
-    ghost touched = { λ r a. touched_by_reading r.fmmus.now (record { from = r.from; bits = r.bits }) a };
+    ghost touched = { λ r a. touched_by_reading r.fmmus.now
+        (record { from = r.from; bits = r.bits }) a };
 
     fn touches(&self, address: usize) -> bool {
         touches_by_reading(self.fmmus, self.from, self.bits, address)
@@ -64,7 +65,8 @@ impl Writing for LogicalBits<'_> {
         let rights = Ungoverned {
             managers: self.lower,
         };
-        let _ = apply_write(self.fmmus, &rights, self.from, self.bytes, 8 * start as u32, value);
+        let origin = 8 * start as u32;
+        let _ = apply_write(self.fmmus, &rights, self.from, self.bytes, origin, value);
     }
 }
 
@@ -81,21 +83,27 @@ fn exchange_manager(
     requires { from + 8 * length bytes.now < 2 ^ 64 }
     ensures { let place : Place = record { from = from; bits = 8 * length bytes.now } in
         manager.new ≡ manager_after reading writing
-            (touched_by_reading fmmus.now place) (touched_by_writing fmmus.now place)
-            (value_brought lower.now fmmus.now place bytes.now) manager.old }
+        (touched_by_reading fmmus.now place) (touched_by_writing fmmus.now place)
+        (value_brought lower.now fmmus.now place bytes.now) manager.old }
 {
-    let bits = 8 * bytes.len() as u64;
-    if writing && manager.ring_write(&LogicalBits { lower, fmmus, from, bytes }) {
+    let access = LogicalBits {
+        lower,
+        fmmus,
+        from,
+        bytes,
+    };
+    if writing && manager.ring_write(&access) {
         return;
     }
     if reading {
+        let bits = 8 * bytes.len() as u64;
         let _ = manager.ring_read(&ReadBits { fmmus, from, bits });
     }
 }
 
 /// Each of the four managers meets a logical datagram whose first logical bit is `from`, from the
-/// last to the first, so that each finds the lower-numbered ones as they were. One that the datagram
-/// writes takes the whole value: 0 in the bits that it doesn't touch.
+/// last to the first, so that each finds the lower-numbered ones as they were. One that the
+/// datagram writes takes a whole value: 0 in the bits that aren't brought to it.
 pub(crate) fn exchange_managers(
     managers: &mut [Manager],
     reading: bool,
@@ -108,7 +116,7 @@ pub(crate) fn exchange_managers(
     requires fits { from + 8 * length bytes.now < 2 ^ 64 }
     ensures { let place : Place = record { from = from; bits = 8 * length bytes.now } in
         managers.new
-            ≡ managers_exchanged [] reading writing fmmus.now place bytes.now managers.old }
+        ≡ managers_exchanged [] reading writing fmmus.now place bytes.now managers.old }
 {
     for k in 0..4 {
         let place = 3 - k;

@@ -70,7 +70,8 @@ impl Shown for Sight<'_> {
     ghost use Rattle.std.specs.Prelude.{◌≡◌, length};
     ghost use Rattle.ec_slave.specs.Sights.{seen_bit as bit_seen};
 
-    ghost can_show = { λ s. (length s.memory.now ≡ 12288) × (length s.managers.now ≡ length s.readable.now) };
+    ghost can_show = { λ s. (length s.memory.now ≡ 12288)
+        × (length s.managers.now ≡ length s.readable.now) };
 
     ghost shown = { λ s q. bit_seen s.memory.now s.managers.now s.readable.now q };
 

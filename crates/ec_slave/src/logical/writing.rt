@@ -58,14 +58,14 @@ pub(crate) fn write_logical(
 fn is_plain(lower: &[Manager], fmmus: &[Fmmu], from: u64, bits: u64, physical: u32) -> bool
     ensures { let place : Place = record { from = from; bits = bits } in
         result ≡ (is_none (governor_of lower.now (physical / 8))
-            && is_some (data_bit_for fmmus.now place physical)) }
+        && is_some (data_bit_for fmmus.now place physical)) }
 {
     governor(lower, physical as usize / 8).is_none() && is_brought(fmmus, from, bits, physical)
 }
 
-/// Whether a bit is brought to the value of so many bytes from an address on, outside the bytes that
-/// `lower` govern. Where the datagram touches the first byte, one of the first bits nearly always
-/// decides.
+/// Whether a bit is brought to the value of so many bytes from an address on, outside the bytes
+/// that `lower` govern. Where the datagram touches the first byte, one of the first bits nearly
+/// always decides.
 fn is_value_brought(
     lower: &[Manager],
     fmmus: &[Fmmu],
@@ -94,7 +94,7 @@ fn is_written(lower: &[Manager], manager: &Manager, fmmus: &[Fmmu], from: u64, b
     ensures { let place : Place = record { from = from; bits = 8 * length bytes.now } in
         let m = manager.now.settings in
         result ≡ (covers (touched_by_writing fmmus.now place) manager.now && (may_write manager.now
-            && some_brought lower.now fmmus.now place bytes.now m.start m.length)) }
+        && some_brought lower.now fmmus.now place bytes.now m.start m.length)) }
 {
     if !manager.may_write() {
         return false;
@@ -107,9 +107,14 @@ fn is_written(lower: &[Manager], manager: &Manager, fmmus: &[Fmmu], from: u64, b
         && is_value_brought(lower, fmmus, from, bytes, first, len)
 }
 
-/// Whether a logical datagram whose first logical bit is `from` writes a bit of some manager's value,
-/// outside the bytes that lower-numbered managers govern.
-pub(crate) fn some_manager_written(managers: &[Manager], fmmus: &[Fmmu], from: u64, bytes: &[u8]) -> bool
+/// Whether a logical datagram whose first logical bit is `from` writes a bit of some manager's
+/// value, outside the bytes that lower-numbered managers govern.
+pub(crate) fn some_manager_written(
+    managers: &[Manager],
+    fmmus: &[Fmmu],
+    from: u64,
+    bytes: &[u8],
+) -> bool
     requires { from + 8 * length bytes.now < 2 ^ 64 }
     ensures { let place : Place = record { from = from; bits = 8 * length bytes.now } in
         result ≡ some_written_behind [] fmmus.now place bytes.now managers.now }

@@ -21,12 +21,12 @@ loop-k-preserved c =
     let more : 4 - c.loop-k.k ≡ n + 1 = omega arith in
     let next : n ≡ 4 - (c.loop-k.k + 1) = omega arith in
     let was : before ≡ exchanged_from ms (c.args.reading) (c.args.writing) fs p bytes (n + 1)
-      = c.loop-k.invariant ∙ ap (λ i. exchanged_from ms (c.args.reading) (c.args.writing) fs p bytes i) more in
+    = c.loop-k.invariant ∙ ap (λ i. exchanged_from ms (c.args.reading) (c.args.writing) fs p bytes i) more in
     let one : x ≡ one_exchanged (take n before) (c.args.reading) (c.args.writing) fs p bytes (get_or (drop n before) 0 d)
-      = c.exchange_manager.ensures
-        ∙ (ap (λ t. one_exchanged t (c.args.reading) (c.args.writing) fs p bytes (get_or rest 0 d)) front
-        ∙ ap (λ y. one_exchanged (take n before) (c.args.reading) (c.args.writing) fs p bytes (get_or y 0 d)) back) in
+    = c.exchange_manager.ensures
+    ∙ (ap (λ t. one_exchanged t (c.args.reading) (c.args.writing) fs p bytes (get_or rest 0 d)) front
+    ∙ ap (λ y. one_exchanged (take n before) (c.args.reading) (c.args.writing) fs p bytes (get_or y 0 d)) back) in
     let after : lower ++ set rest 0 x ≡ take n before ++ set (drop n before) 0 x
-      = ap (λ t. t ++ set rest 0 x) front ∙ ap (λ t. take n before ++ set t 0 x) back in
+    = ap (λ t. t ++ set rest 0 x) front ∙ ap (λ t. take n before ++ set t 0 x) back in
     exchanged_from-step ms before (lower ++ set rest 0 x) (c.args.reading) (c.args.writing) fs p bytes n d x (omega arith) was one after
     ∙ ap (λ i. exchanged_from ms (c.args.reading) (c.args.writing) fs p bytes i) next

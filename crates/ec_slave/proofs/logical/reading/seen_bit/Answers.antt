@@ -13,5 +13,5 @@ seen_behind-requires c =
     let n : ℕ = c.in-Some.place in
     let g : governor ms a ≡ Some n = sym c.governor.ensures.value ∙ c.in-Some.is in
     let same : c.index-managers-place.result ≡ manager_at ms n
-      = c.index-managers-place.is ∙ get_or_default ms n (c.index-managers-place.result) no_manager (governor-below ms a n g) in
+    = c.index-managers-place.is ∙ get_or_default ms n (c.index-managers-place.result) no_manager (governor-below ms a n g) in
     subst (λ (m : Manager). m.settings.start ≤ a) (sym same) (governor-start ms a n g)

@@ -16,14 +16,14 @@ pub loop-bit-preserved : goal.loop-bit-preserved
 loop-bit-preserved c =
     let p : Place = record { from = c.args.from; bits = c.args.bits } in
     any_below_next (c.loop-bit.bit) (λ j. list_any (reads_from c.args.fmmus.now p (8 * c.args.address + j)) c.args.fmmus.now)
-      c.loop-bit.invariant (sym c.is_read_from.ensures ∙ c.if-is_read_from.false)
+    c.loop-bit.invariant (sym c.is_read_from.ensures ∙ c.if-is_read_from.false)
 
 pub returns-then-is_read_from : goal.returns-then-is_read_from
 returns-then-is_read_from c =
     let p : Place = record { from = c.args.from; bits = c.args.bits } in
     sym (touched_by_reading-found c.args.fmmus.now p (c.args.address)
-      ∙ any_below_from 8 (λ j. list_any (reads_from c.args.fmmus.now p (8 * c.args.address + j)) c.args.fmmus.now)
-          (c.loop-bit.bit) (omega arith) (sym c.is_read_from.ensures ∙ c.if-is_read_from.true))
+    ∙ any_below_from 8 (λ j. list_any (reads_from c.args.fmmus.now p (8 * c.args.address + j)) c.args.fmmus.now)
+    (c.loop-bit.bit) (omega arith) (sym c.is_read_from.ensures ∙ c.if-is_read_from.true))
 
 pub returns : goal.returns
 returns c =

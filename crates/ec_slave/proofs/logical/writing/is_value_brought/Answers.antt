@@ -17,11 +17,11 @@ loop-k-preserved c =
     let p : Place = record { from = c.args.from; bits = 8 * length c.args.bytes.now } in
     let q : ℕ = 8 * c.args.start + c.loop-k.k in
     any_below_next (c.loop-k.k) (λ k. is_some (plain_bit c.args.lower.now c.args.fmmus.now p c.args.bytes.now (8 * c.args.start + k))) c.loop-k.invariant
-      (is_some-plain (is_none (governor c.args.lower.now (q / 8))) c.args.bytes.now (data_bit_for c.args.fmmus.now p q) ∙ (sym c.is_plain.ensures ∙ c.if-is_plain.false))
+    (is_some-plain (is_none (governor c.args.lower.now (q / 8))) c.args.bytes.now (data_bit_for c.args.fmmus.now p q) ∙ (sym c.is_plain.ensures ∙ c.if-is_plain.false))
 
 pub returns-then-is_plain : goal.returns-then-is_plain
 returns-then-is_plain c =
     let p : Place = record { from = c.args.from; bits = 8 * length c.args.bytes.now } in
     let q : ℕ = 8 * c.args.start + c.loop-k.k in
     sym (any_below_from (8 * c.args.len) (λ k. is_some (plain_bit c.args.lower.now c.args.fmmus.now p c.args.bytes.now (8 * c.args.start + k))) (c.loop-k.k) (omega arith)
-      (is_some-plain (is_none (governor c.args.lower.now (q / 8))) c.args.bytes.now (data_bit_for c.args.fmmus.now p q) ∙ (sym c.is_plain.ensures ∙ c.if-is_plain.true)))
+    (is_some-plain (is_none (governor c.args.lower.now (q / 8))) c.args.bytes.now (data_bit_for c.args.fmmus.now p q) ∙ (sym c.is_plain.ensures ∙ c.if-is_plain.true)))
