@@ -8,7 +8,7 @@ use Rattle.ec_slave.specs.State.{SlaveState}
 use Rattle.ec_slave.specs.Access.{Window, touches, byte_at, byte_for, byte_read, may_read_byte, may_write_byte, memory_written, some_byte_read, some_byte_written, meeting}
 use Rattle.ec_slave.specs.Keeping.{length-retold}
 use Rattle.ec_slave.specs.Laws.{WritesByByte, IsWrittenAt, ReadsByByte, IsReadAt, CountsByRole, count_of}
-use Rattle.ec_slave.proofs.Tests.{if_true, if_false}
+use Rattle.ec_slave.proofs.Choices.{if_true, if_false}
 use Rattle.ec_slave.proofs.Told.{get-retold0}
 
 written_at : (w : Window) (memory : List ℕ) (a : ℕ) → a < length memory → IsWrittenAt w memory a

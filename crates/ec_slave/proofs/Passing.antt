@@ -13,7 +13,7 @@ use Rattle.ec_slave.specs.Access.{Window, meeting}
 use Rattle.ec_slave.specs.Meeting.{Met, window_of, with_answer, meets, meets_by, meets_physically, datagram_met}
 use Rattle.ec_slave.specs.Keeping.{adp_after-bound, length-meeting}
 use Rattle.ec_slave.specs.Laws.{BroadcastReadChangesNoSlave, OtherStationPasses, OtherPositionPasses, HeadingStays, KeepsHeading}
-use Rattle.ec_slave.proofs.Tests.{if_false}
+use Rattle.ec_slave.proofs.Choices.{if_false}
 
 kept-nothing : (s : SlaveState) (w : Window) → (meeting s Nothing w).slave ≡ s
 unfolding meeting

@@ -3,7 +3,7 @@ use Rattle.std.proofs.Common.{ℕ, ◌+◌, ◌-◌, ◌<◌, ◌≤◌, ◌≡�
 use Rattle.ec_bits.specs.Bits.{within}
 use Rattle.ec_slave.specs.State.{SlaveState}
 use Rattle.ec_slave.specs.Access.{Window, byte_at, byte_for, byte_read, may_read_byte, may_write_byte}
-use Rattle.ec_slave.proofs.Tests.{if_true, if_false, within_true, within_below, within_above}
+use Rattle.ec_slave.proofs.Choices.{if_true, if_false, within_true, within_below, within_above}
 use Rattle.ec_slave.proofs.Told.{told_along, get-told_outside}
 
 pub for-outside : (w : Window) (a : ℕ) → (a < w.from) ⊎ (w.from + length w.bytes ≤ a) → byte_for w a ≡ None

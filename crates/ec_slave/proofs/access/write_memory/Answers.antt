@@ -1,7 +1,7 @@
 use Rattle.std.proofs.Common.{◌≡◌, ◌+◌, length, ℕ, Bool, ◌∙◌, sym, ap, arith}
 use Rattle.ec_bits.specs.Bits.{any_below}
 use Rattle.ec_slave.specs.Access.{Window, byte_for, may_write_byte}
-use Rattle.ec_slave.proofs.Tests.{any-none, any-hit, any-miss}
+use Rattle.ec_slave.proofs.Choices.{any-none, any-hit, any-miss}
 use Rattle.ec_slave.proofs.Told.{told_along, told-none, told-step, retold-along}
 use Rattle.ec_slave.proofs.Windows.{for-outside, for-taken, for-refused}
 use Rattle.ec_slave.proofs.access.write_memory.Goals as goal
