@@ -1,5 +1,5 @@
 -- Laws of choices.
-use Rattle.std.proofs.Common.{ℕ, zero, suc, ◌+◌, ◌<◌, ◌≤◌, ◌≡◌, ◌&&◌, Bool, true, false, refl, sym, ◌∙◌, ap, arith, if◌then◌else◌, nat_lt, nat_le}
+use Rattle.std.proofs.Common.{ℕ, suc, ◌+◌, ◌<◌, ◌≤◌, ◌≡◌, Bool, true, false, refl, sym, ◌∙◌, ap, arith, if◌then◌else◌, nat_lt, nat_le}
 use Rattle.std.proofs.lemmas.Bool.{and_left, and_right, and_from, lt-ltb, le-ltb, le-leb, lt-leb}
 use Rattle.ec_bits.specs.Bits.{any_below, within}
 

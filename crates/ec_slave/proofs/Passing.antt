@@ -1,5 +1,5 @@
 -- Datagrams that pass.
-use Rattle.std.proofs.Common.{ℕ, ◌+◌, ◌*◌, ◌/◌, ◌%◌, ◌^◌, ◌<◌, ◌≡◌, ◌≢◌, ◌⊎◌, ◌==◌, inl, inr, List, length, Bool, true, false, refl, sym, ◌∙◌, ap, arith, if◌then◌else◌}
+use Rattle.std.proofs.Common.{ℕ, ◌+◌, ◌*◌, ◌/◌, ◌%◌, ◌<◌, ◌≡◌, ◌==◌, inl, inr, List, false, refl, ◌∙◌, ap, arith}
 use Rattle.std.proofs.lemmas.Bool.{ne_eqb}
 use Rattle.ec_frame.specs.declared.command.Command.{Command}
 use Rattle.ec_frame.specs.declared.command.Command.TheVariants.{Nop, Aprd, Apwr, Aprw, Fprd, Fpwr, Fprw, Brd, Bwr, Brw, Lrd, Lwr, Lrw, Armw, Frmw}
@@ -10,7 +10,7 @@ use Rattle.ec_slave.specs.declared.role.Role.TheVariants.{Nothing, OrRead}
 use Rattle.ec_slave.specs.Roles.{role_of, adp_after}
 use Rattle.ec_slave.specs.State.{SlaveState, station_of}
 use Rattle.ec_slave.specs.Access.{Window, meeting}
-use Rattle.ec_slave.specs.Meeting.{Met, window_of, with_answer, meets, meets_by, meets_physically, datagram_met}
+use Rattle.ec_slave.specs.Meeting.{window_of, with_answer, meets, meets_by, meets_physically}
 use Rattle.ec_slave.specs.Keeping.{adp_after-bound, length-meeting}
 use Rattle.ec_slave.specs.Laws.{BroadcastReadChangesNoSlave, OtherStationPasses, OtherPositionPasses, HeadingStays, KeepsHeading}
 use Rattle.ec_slave.proofs.Choices.{if_false}
@@ -39,7 +39,7 @@ broadcast_read_changes_no_slave s d e =
 
 -- a slave that has nothing to do with a datagram
 pub passed_by : (s : SlaveState) (d : Datagram) → IsDatagram d → role_of d.command (adp_of d) (station_of s) ≡ Nothing
-  → meets_physically s d ≡ record { slave = s; datagram = with_adp d (adp_after d.command (adp_of d)) }
+    → meets_physically s d ≡ record { slave = s; datagram = with_adp d (adp_after d.command (adp_of d)) }
 passed_by s d good e =
     let a : ℕ = adp_after d.command (adp_of d) in
     let w : Window = window_of d in
@@ -56,7 +56,7 @@ own_address d = let e : d.address % 65536 + 65536 * (d.address / 65536) ≡ d.ad
 
 -- the same for a command of which that is known
 passed_as : (s : SlaveState) (d : Datagram) (c : Command) → IsDatagram d → d.command ≡ c → meets_by c s d ≡ meets_physically s d
-  → role_of c (adp_of d) (station_of s) ≡ Nothing → meets s d ≡ record { slave = s; datagram = with_adp d (adp_after c (adp_of d)) }
+    → role_of c (adp_of d) (station_of s) ≡ Nothing → meets s d ≡ record { slave = s; datagram = with_adp d (adp_after c (adp_of d)) }
 unfolding meets
 passed_as s d c good e p r =
     ap (λ (k : Command). meets_by k s d) e ∙ (p
@@ -67,22 +67,22 @@ pub other_station_passes : OtherStationPasses
 other_station_passes s d good h ne =
     let t : (adp_of d == station_of s) ≡ false = ne_eqb (adp_of d) (station_of s) ne in
     elim h [
-      inl e ↦ passed_as s d Fprd good e refl (if_false _ _ _ t) ∙ ap (λ (x : Datagram). record { slave = s; datagram = x }) (own_address d)
-    | inr k ↦ elim k [
-          inl e ↦ passed_as s d Fpwr good e refl (if_false _ _ _ t) ∙ ap (λ (x : Datagram). record { slave = s; datagram = x }) (own_address d)
+      | inl e ↦ passed_as s d Fprd good e refl (if_false _ _ _ t) ∙ ap (λ (x : Datagram). record { slave = s; datagram = x }) (own_address d)
+      | inr k ↦ elim k [
+        | inl e ↦ passed_as s d Fpwr good e refl (if_false _ _ _ t) ∙ ap (λ (x : Datagram). record { slave = s; datagram = x }) (own_address d)
         | inr e ↦ passed_as s d Fprw good e refl (if_false _ _ _ t) ∙ ap (λ (x : Datagram). record { slave = s; datagram = x }) (own_address d)
-        ]
+      ]
     ]
 
 pub other_position_passes : OtherPositionPasses
 other_position_passes s d good h ne =
     let t : (adp_of d == 0) ≡ false = ne_eqb (adp_of d) 0 ne in
     elim h [
-      inl e ↦ passed_as s d Aprd good e refl (if_false _ _ _ t)
-    | inr k ↦ elim k [
-          inl e ↦ passed_as s d Apwr good e refl (if_false _ _ _ t)
+      | inl e ↦ passed_as s d Aprd good e refl (if_false _ _ _ t)
+      | inr k ↦ elim k [
+        | inl e ↦ passed_as s d Apwr good e refl (if_false _ _ _ t)
         | inr e ↦ passed_as s d Aprw good e refl (if_false _ _ _ t)
-        ]
+      ]
     ]
 
 physical_heading : (s : SlaveState) (d : Datagram) → IsDatagram d → KeepsHeading d (meets_physically s d).datagram

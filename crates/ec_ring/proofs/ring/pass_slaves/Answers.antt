@@ -1,4 +1,4 @@
-use Rattle.std.proofs.Common.{◌≤◌, length, arith}
+use Rattle.std.proofs.Common.{◌≤◌, length}
 use Rattle.ec_frame.specs.Frame.{with_datagrams}
 use Rattle.ec_ring.proofs.Going.{started, passed_one, arrived_slaves, arrived_frame}
 use Rattle.ec_ring.proofs.ring.pass_slaves.Goals as goal

@@ -18,11 +18,11 @@ loop-i-preserved c =
     let step = told-step i c.args.from c.args.memory.now (byte_for w) c.loop-i.memory in
     let is : c.may_write.result ≡ may_write_byte (c.args.from + i) = c.may_write.ensures.value in
     elim c.if-may_write.branch [
-      then-may_write v ↦ record {
+      | then-may_write v ↦ record {
         memory = step _ _ c.loop-i.invariant.memory (for-taken w i c.loop-i-test.true (sym is ∙ v.if-may_write.true)) v.memory-is;
         some = v.is_some-is ∙ any-hit i p (sym is ∙ v.if-may_write.true);
       }
-    | else-may_write v ↦ record {
+      | else-may_write v ↦ record {
         memory = step _ _ c.loop-i.invariant.memory (for-refused w i c.loop-i-test.true (sym is ∙ v.if-may_write.false)) v.memory-is;
         some = v.is_some-is ∙ any-miss i p _ c.loop-i.invariant.some (sym is ∙ v.if-may_write.false);
       }

@@ -21,8 +21,8 @@ returns-clause-datagram c = λ more d good e.
     let e2 = c.write_adp.ensures.written more (with_data d m.bytes) g e1 in
     c.write_counter.ensures.written more (with_adp (with_data d m.bytes) c.adp_after_slave.result) h e2
     ∙ ap (spelling more) (answer-is c.args.self.now c.args.header more d c.of-role.result c.ado.result c.adp.result c.adp-2.result c.station_address.result c.adp_after_slave.result
-        c.read_counter-counter.result c.meet_data-added.result _ e0 c.ado.ensures c.adp.ensures c.adp-2.ensures c.station_address.ensures c.of-role.ensures c.adp_after_slave.ensures
-        (c.read_counter-counter.ensures more d good e) (c.meet_data-added.ensures.added more d good e) refl)
+    c.read_counter-counter.result c.meet_data-added.result _ e0 c.ado.ensures c.adp.ensures c.adp-2.ensures c.station_address.ensures c.of-role.ensures c.adp_after_slave.ensures
+    (c.read_counter-counter.ensures more d good e) (c.meet_data-added.ensures.added more d good e) refl)
 
 pub returns-clause-state : goal.returns-clause-state
 returns-clause-state c = λ more d good e.

@@ -1,6 +1,6 @@
-use Rattle.std.proofs.Common.{◌≡◌, ◌∙◌, sym, List, [], ◌∷◌, refl, ap, subst}
+use Rattle.std.proofs.Common.{◌≡◌, ◌∙◌, List, [], ◌∷◌, refl, ap, subst}
 use Rattle.ec_frame.specs.Datagram.{Datagram}
-use Rattle.ec_frame.specs.Frame.{Payload, IsFrame, with_datagrams}
+use Rattle.ec_frame.specs.Frame.{IsFrame, with_datagrams}
 use Rattle.ec_frame.specs.Passing.{handled_all, after_all}
 use Rattle.ec_slave.specs.State.{SlaveState}
 use Rattle.ec_slave.specs.Meeting.{passes, slave_met, datagram_met}
