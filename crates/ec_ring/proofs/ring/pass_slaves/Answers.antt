@@ -12,7 +12,7 @@ pass-requires c =
     (with_datagrams c.requires.0 u.datagrams, u.frame_is)
 
 pub loop-place-preserved : goal.loop-place-preserved
-loop-place-preserved c = λ p h. passed_one _ p _ _ _ c.index-slaves-place.result c.pass.new.self c.pass.new.frame (c.loop-place.invariant p h) c.loop-place-test.true c.pass.ensures
+loop-place-preserved c = λ p h. passed_one _ p _ _ _ c.index-slaves-place.result c.pass.new.self c.pass.new.frame (c.loop-place.invariant p h) c.loop-place-test.true c.pass.ensures.meets
 
 pub returns : goal.returns
 returns c =
