@@ -1,4 +1,12 @@
+pub mod Building
 pub mod Commands
 pub mod Datagram
+pub mod Decoded
+pub mod Fields
 pub mod Frame
+pub mod Laws
+pub mod Parts
 pub mod Passing
+pub mod Places
+pub mod Refusals
+pub mod Shape

@@ -1,0 +1,45 @@
+-- The datagrams ahead of a place in a frame, and a pass over them.
+use Rattle.std.proofs.Common.{◌≡◌, ℕ, ◌+◌, ◌≤◌, Bool, List, [], ◌∷◌, ◌++◌, length, drop, Some, sym, ap, ◌∙◌, append_assoc, arith}
+use Rattle.std.proofs.lemmas.List.{length-append, drop_at}
+use Rattle.ec_frame.specs.declared.places.Places.{Places}
+use Rattle.ec_frame.specs.declared.places.Span.{Span}
+use Rattle.ec_frame.specs.Datagram.{Datagram, spelling, is_followed, joined}
+use Rattle.ec_frame.specs.Refusals.{data_length}
+use Rattle.ec_frame.specs.Places.{IsAhead, StepsTo}
+use Rattle.ec_frame.proofs.Decoding.{data_length_again}
+use Rattle.ec_frame.proofs.Readings.{spelling_length}
+
+-- where datagrams are ahead: the first begins here, and its length is read
+pub record Begins (frame : List ℕ) (at : ℕ) (d : Datagram) : Type 0 where
+  pub room : at + (12 + length d.data_bytes) ≤ length frame
+  pub read : data_length (drop at frame) ≡ length d.data_bytes
+
+pub begins : (frame : List ℕ) (p : Places) (d : Datagram) (ds : List Datagram) → IsAhead frame p (d ∷ ds) → Begins frame p.at d
+begins frame p d ds h =
+    let m : Bool = is_followed ds in
+    let parts : frame ≡ h.front ++ (spelling m d ++ (joined ds ++ h.back)) = h.parts ∙ ap (λ (xs : List ℕ). h.front ++ xs) (append_assoc (spelling m d) (joined ds) h.back) in
+    let here : drop p.at frame ≡ spelling m d ++ (joined ds ++ h.back) = ap (λ (xs : List ℕ). drop p.at xs) parts ∙ drop_at h.front _ p.at (sym h.at) in
+    let at = h.at in
+    record {
+      room = omega (arith, ap length parts, length-append h.front (spelling m d ++ (joined ds ++ h.back)), spelling_length m d (joined ds ++ h.back));
+      read = ap data_length here ∙ data_length_again m d (joined ds ++ h.back) h.each.0;
+    }
+
+pub record HasFirst (frame : List ℕ) (p : Places) : Type 0 where
+  pub first : Datagram
+  pub others : List Datagram
+  pub ahead : IsAhead frame p (first ∷ others)
+
+pub has_first : (frame : List ℕ) (p : Places) (ds : List Datagram) → IsAhead frame p ds → (p.at ≡ p.end → ⊥) → HasFirst frame p
+has_first frame p [] h ne = absurd (ne (let e = h.end in omega arith))
+has_first frame p (d ∷ ds) h ne = record { first = d; others = ds; ahead = h }
+
+-- a step past the datagram whose length is read here
+pub step_taken : (frame : List ℕ) (p : Places) (n : ℕ) (ds : List Datagram) → IsAhead frame p ds → (p.at ≡ p.end → ⊥) → n ≡ data_length (drop p.at frame)
+    → StepsTo p (record { at = p.at + (12 + n); end = p.end }) (Some (record { from = p.at; to = p.at + (12 + n) })) ds
+step_taken frame p n [] h ne is = absurd (ne (let e = h.end in omega arith))
+step_taken frame p n (d ∷ ds) h ne is =
+    let e : n ≡ length d.data_bytes = is ∙ (begins frame p d ds h).read in
+    let span : ℕ → Span = λ (k : ℕ). record { from = p.at; to = p.at + (12 + k) } in
+    let moved : ℕ → Places = λ (k : ℕ). record { at = p.at + (12 + k); end = p.end } in
+    (ap (λ (k : ℕ). Some (span k)) e, ap moved e)

@@ -1,0 +1,10 @@
+pub mod Ahead
+pub mod Builds
+pub mod Decoding
+pub mod Numbers
+pub mod Shapes
+pub mod Steps
+pub mod Readings
+pub mod Walk
+pub mod Writes
+pub mod Verdict

@@ -1,0 +1,127 @@
+ghost use Rattle.std.specs.Prelude.{◌≡◌, ◌≤◌, ◌<◌, ◌+◌, ◌∷◌, ◌++◌, [], List, drop, length, OnOk, OnErr};
+ghost use Rattle.byteorder.specs.Endian.{little_bytes};
+ghost use Rattle.ec_frame.specs.declared.command.Command.{Command};
+ghost use Rattle.ec_frame.specs.Building.{IsBuilt, bare_payload, new_datagram};
+ghost use Rattle.ec_frame.specs.Commands.{number_of};
+ghost use Rattle.ec_frame.specs.Datagram.{Datagram, joined};
+ghost use Rattle.ec_frame.specs.Decoded.{datagrams_in};
+ghost use Rattle.ec_frame.specs.Frame.{IsFrame};
+
+use crate::command::Command;
+use crate::reading::OVERHEAD;
+use arrayvec::ArrayVec;
+use byteorder::{ByteOrder, LittleEndian};
+use std::marker::Model;
+
+/// A frame's payload: at most 1472 bytes.
+pub type Frame = ArrayVec<u8, 1472>;
+
+/// The datagram doesn't fit beside those that are there: 1470 bytes is the most for all.
+#[derive(Clone, Copy, Debug, PartialEq, Eq, Drop)]
+pub struct Full;
+
+impl Full {
+    /// The number by which the program names this refusal.
+    pub fn number(self) -> u8
+        ensures { result ≡ 8 }
+    {
+        8
+    }
+}
+
+/// In the word of flags: another datagram follows.
+const MORE: u16 = 0x8000;
+/// In the header: the type of a frame of datagrams.
+const DATAGRAMS: u16 = 0x1000;
+
+/// The ten bytes before the data.
+fn heading_of(command: Command, index: u8, address: u32, flags: u16) -> [u8; 10]
+    ensures {
+        result ≡ number_of command ∷ index ∷ little_bytes 4 address ++ little_bytes 2 flags
+            ++ little_bytes 2 0
+    }
+{
+    let a = address.to_le_bytes();
+    let f = flags.to_le_bytes();
+    [command.number(), index, a[0], a[1], a[2], a[3], f[0], f[1], 0, 0]
+}
+
+fn append(frame: &mut Frame, bytes: &[u8])
+    requires { length frame.old.items + length bytes.now ≤ 1472 }
+    ensures { frame.new.items ≡ frame.old.items ++ bytes.now }
+{
+    let _ = frame.try_extend_from_slice(bytes);
+}
+
+/// Makes a frame, datagram by datagram. In contracts a builder is the list of its datagrams.
+#[derive(Drop)]
+pub struct Builder {
+    // the header's two bytes, and the datagrams, each with its more bit set
+    frame: Frame,
+    // where the last one begins
+    last: usize,
+}
+
+impl Model for Builder {
+    ghost Value = { List Datagram };
+
+    ghost view = { λ b. datagrams_in (length b.frame.items) (drop 2 b.frame.items) };
+
+    ghost invariant = {
+        λ b. IsBuilt b.frame.items b.last (datagrams_in (length b.frame.items) (drop 2 b.frame.items))
+    };
+}
+
+impl Builder {
+    /// A builder without datagrams.
+    pub fn new() -> Self
+        ensures { result ≡ [] }
+    {
+        let mut frame = Frame::new();
+        frame.push(0);
+        frame.push(0);
+        Builder { frame, last: 2 }
+    }
+
+    /// Appends a datagram with this data and counter 0. `Full` where all datagrams together would
+    /// be longer than 1470 bytes, and then nothing changes.
+    pub fn add(
+        &mut self,
+        command: Command,
+        index: u8,
+        address: u32,
+        content: &[u8],
+    ) -> Result<(), Full>
+        ensures ok {
+            OnOk result (self.new ≡ self.old ++ new_datagram command index address content.now ∷ [])
+        }
+        ensures err { OnErr result (self.new ≡ self.old) }
+        ensures fits { OnOk result (length (joined self.old) + 12 + length content.now ≤ 1470) }
+        ensures full { OnErr result (1470 < length (joined self.old) + 12 + length content.now) }
+    {
+        let room = self.frame.remaining_capacity();
+        if room < OVERHEAD || room - OVERHEAD < content.len() {
+            return Err(Full);
+        }
+        self.last = self.frame.len();
+        let heading = heading_of(command, index, address, content.len() as u16 + MORE);
+        append(&mut self.frame, &heading);
+        append(&mut self.frame, content);
+        append(&mut self.frame, &[0, 0]);
+        Ok(())
+    }
+
+    /// The frame of the datagrams added, with all reserved bits 0.
+    pub fn finish(self) -> Frame
+        requires { 0 < length self }
+        ensures { IsFrame result.items (bare_payload self) }
+    {
+        let Builder { mut frame, last } = self;
+        let len = frame.len() - 2;
+        let bytes = frame.as_mut_slice();
+        // the high byte of the last datagram's flags has the more bit
+        bytes[last + 7] -= 0x80;
+        LittleEndian::write_u16(bytes, len as u16 + DATAGRAMS);
+        frame
+    }
+}

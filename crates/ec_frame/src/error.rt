@@ -1,0 +1,36 @@
+ghost use Rattle.std.specs.Prelude.{◌≡◌};
+ghost use Rattle.ec_frame.specs.Refusals.{refusal_number};
+
+/// Why a payload is no frame. `check` tests in the order of a payload's parts: the header, then
+/// the datagrams one after the other.
+#[derive(Clone, Copy, Debug, PartialEq, Eq, Drop)]
+pub enum FrameError {
+    /// Fewer bytes than the header has, or than the header says.
+    Short,
+    /// The header's type isn't 1.
+    BadType,
+    /// No byte of datagrams, or too few bytes left for a datagram or its data.
+    BadLength,
+    /// A datagram says that another follows and it is the last, or the other way round.
+    BadMore,
+    /// A command over 14.
+    BadCommand,
+    /// The header says more than 1470 bytes of datagrams.
+    TooLong,
+}
+
+impl FrameError {
+    /// The number by which the program names this refusal.
+    pub fn number(self) -> u8
+        ensures { result ≡ refusal_number self }
+    {
+        match self {
+            FrameError::Short => 2,
+            FrameError::BadType => 3,
+            FrameError::BadLength => 4,
+            FrameError::BadMore => 5,
+            FrameError::BadCommand => 6,
+            FrameError::TooLong => 7,
+        }
+    }
+}

@@ -1,0 +1,12 @@
+//! Laws of the definitions of frames. Each function does nothing: its contract is the law.
+ghost use Rattle.ec_frame.specs.Laws.{FramesAreReadOneWay, NoSpellingBeginsAnother};
+
+/// The bytes of a frame say one payload: one list of datagrams, one reserved bit, one rest.
+pub fn frames_are_read_one_way()
+    ensures { FramesAreReadOneWay }
+{}
+
+/// No datagram's spelling begins another's.
+pub fn no_spelling_begins_another()
+    ensures { NoSpellingBeginsAnother }
+{}

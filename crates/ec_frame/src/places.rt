@@ -1,0 +1,57 @@
+ghost use Rattle.std.specs.Prelude.{◌≡◌, ◌+◌, ◌≤◌, List, length, IfSome};
+ghost use Rattle.ec_frame.specs.Datagram.{Datagram};
+ghost use Rattle.ec_frame.specs.Frame.{Payload, IsFrame};
+ghost use Rattle.ec_frame.specs.Places.{IsAhead, StepsTo};
+ghost use Rattle.ec_frame.specs.Refusals.{stated};
+
+use crate::reading::{OVERHEAD, data_length};
+use byteorder::{ByteOrder, LittleEndian};
+
+/// Where the spelling of a datagram stands in a frame: from its first byte to before `to`.
+#[derive(Clone, Copy, Debug, PartialEq, Eq, Drop)]
+pub struct Span {
+    pub from: usize,
+    pub to: usize,
+}
+
+/// A cursor over the places of a checked frame's datagrams, one after the other. It holds no
+/// reference, so the frame may be written between two steps, as long as lengths stay.
+#[derive(Clone, Copy, Debug, PartialEq, Eq, Drop)]
+pub struct Places {
+    /// Where the next datagram begins.
+    pub at: usize,
+    /// Where the last one ends.
+    pub end: usize,
+}
+
+impl Places {
+    /// The places of all datagrams of a frame.
+    pub fn new(frame: &[u8]) -> Self
+        requires { (p : Payload) × IsFrame frame.now p }
+        ensures ahead { (p : Payload) → IsFrame frame.now p → IsAhead frame.now result p.datagrams }
+        ensures at { result.at ≡ 2 }
+        ensures end { result.end ≡ 2 + stated frame.now }
+    {
+        let header = LittleEndian::read_u16(frame);
+        Places {
+            at: 2,
+            end: 2 + (header % 2048) as usize,
+        }
+    }
+
+    /// The place of the next datagram; none after the last.
+    pub fn next(&mut self, frame: &[u8]) -> Option<Span>
+        requires { (ds : List Datagram) × IsAhead frame.now self.old ds }
+        ensures steps { (ds : List Datagram) → IsAhead frame.now self.old ds → StepsTo self.old self.new result ds }
+        ensures within { IfSome result (λ span. (span.from ≤ span.to) × (span.to ≤ length frame.now)) }
+    {
+        if self.at == self.end {
+            return None;
+        }
+        let from = self.at;
+        let (_, rest) = frame.split_at(from);
+        let to = from + (OVERHEAD + data_length(rest));
+        self.at = to;
+        Some(Span { from, to })
+    }
+}

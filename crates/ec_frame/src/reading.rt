@@ -1,0 +1,106 @@
+ghost use Rattle.std.specs.Prelude.{◌≡◌, ◌<◌, ◌≤◌, ℕ, List, length, IfOk, IfErr};
+ghost use Rattle.ec_frame.specs.declared.error.FrameError.{FrameError};
+ghost use Rattle.ec_frame.specs.Frame.{Payload, IsFrame};
+ghost use Rattle.ec_frame.specs.Refusals.{IsRefused, data_length};
+ghost use Rattle.ec_frame.specs.Shape.{GivesShape, GivesCount, GivesVerdict};
+
+use crate::error::FrameError;
+use byteorder::{ByteOrder, LittleEndian};
+
+/// How many bytes of datagrams a payload may have.
+const MAX_AREA: u16 = 1470;
+/// What a datagram has beside its data.
+pub(crate) const OVERHEAD: usize = 12;
+
+const MAX_COMMAND: u8 = 14;
+
+/// The datagram at the front of some bytes.
+#[derive(Clone, Copy)]
+struct Shape {
+    len: usize,
+    is_last: bool,
+}
+
+/// The length of the data of the datagram that begins some bytes.
+pub(crate) fn data_length(bytes: &[u8]) -> usize
+    requires { 12 ≤ length bytes.now }
+    ensures value { result ≡ data_length bytes.now }
+    ensures bound { result < 2048 }
+{
+    let flags = LittleEndian::read_u16(&bytes[6..]);
+    (flags % 2048) as usize
+}
+
+/// Reads the datagram at the front, and whether another follows.
+fn read_shape(rest: &[u8]) -> Result<Shape, FrameError>
+    ensures { GivesShape rest.now result }
+{
+    if rest.len() < OVERHEAD {
+        return Err(FrameError::BadLength);
+    }
+    let flags = LittleEndian::read_u16(&rest[6..]);
+    let len = OVERHEAD + (flags % 2048) as usize;
+    if rest.len() < len {
+        return Err(FrameError::BadLength);
+    }
+    if rest[0] > MAX_COMMAND {
+        return Err(FrameError::BadCommand);
+    }
+    let is_last = flags < 32768;
+    if is_last != (rest.len() == len) {
+        return Err(FrameError::BadMore);
+    }
+    Ok(Shape { len, is_last })
+}
+
+/// Counts the datagrams of an area.
+fn count_datagrams(area: &[u8]) -> Result<usize, FrameError>
+    requires { 0 < length area.now }
+    ensures { GivesCount area.now result }
+{
+    let mut rest = area;
+    let mut count = 0;
+    loop {
+        let shape = read_shape(rest)?;
+        count += 1;
+        if shape.is_last {
+            return Ok(count);
+        }
+        let (_, after) = rest.split_at(shape.len);
+        rest = after;
+    }
+}
+
+fn read_frame(payload: &[u8]) -> Result<usize, FrameError>
+    ensures { GivesVerdict payload.now result }
+{
+    if payload.len() < 2 {
+        return Err(FrameError::Short);
+    }
+    let header = LittleEndian::read_u16(payload);
+    if header / 4096 != 1 {
+        return Err(FrameError::BadType);
+    }
+    let stated = header % 2048;
+    if stated > MAX_AREA {
+        return Err(FrameError::TooLong);
+    }
+    let end = 2 + stated as usize;
+    if payload.len() < end {
+        return Err(FrameError::Short);
+    }
+    if stated == 0 {
+        return Err(FrameError::BadLength);
+    }
+    count_datagrams(&payload[2..end])
+}
+
+/// Whether a payload is a frame, and of how many datagrams.
+pub fn check(payload: &[u8]) -> Result<usize, FrameError>
+    ensures accepted { IfOk result (λ count. (p : Payload) × IsFrame payload.now p × (count ≡ length p.datagrams)) }
+    ensures refused { IfErr result (IsRefused payload.now) }
+    ensures accepts { (p : Payload) → IsFrame payload.now p → result ≡ Ok (length p.datagrams) }
+    ensures refuses { (e : FrameError) → IsRefused payload.now e → result ≡ Err e }
+{
+    read_frame(payload)
+}
