@@ -1,6 +1,6 @@
 -- The settings of an FMMU (ETG.1000.4, "FMMU").
-use Rattle.std.specs.Prelude.{ℕ, ◌+◌, ◌*◌, ◌%◌, ◌==◌, false}
-use Rattle.std.specs.Int.{bit_at}
+use Rattle.std.specs.Prelude.{ℕ, ◌+◌, ◌*◌, ◌/◌, ◌%◌, ◌==◌, ◌≡◌, ◌<◌, false, List, [], ◌∷◌, slice_index}
+use Rattle.std.specs.Int.{bit_at, from_bool}
 use Rattle.ec_regs.specs.declared.fmmu.FmmuSettings.{FmmuSettings}
 
 -- the settings that the sixteen bytes of an FMMU say, byte by byte
@@ -16,6 +16,18 @@ fmmu_of byte = record {
   writes = bit_at (byte 11) 1 == 1;
   active = bit_at (byte 12) 0 == 1;
 }
+
+-- the sixteen bytes that say the settings, with 0 in the three that are reserved
+abbrev pub fmmu_bytes : FmmuSettings → List ℕ
+fmmu_bytes f =
+    (f.logical_start % 256) ∷ (f.logical_start / 256 % 256) ∷ (f.logical_start / 65536 % 256) ∷ (f.logical_start / 16777216)
+    ∷ (f.length % 256) ∷ (f.length / 256) ∷ f.start_bit ∷ f.stop_bit
+    ∷ (f.physical_start % 256) ∷ (f.physical_start / 256) ∷ f.physical_bit ∷ (from_bool f.reads + 2 * from_bool f.writes)
+    ∷ from_bool f.active ∷ 0 ∷ 0 ∷ 0 ∷ []
+
+-- settings whose bit numbers are 0 to 7 are read back from their bytes
+abbrev pub FmmuIsReadBack : Type 0
+FmmuIsReadBack = (f : FmmuSettings) → f.start_bit < 8 → f.stop_bit < 8 → f.physical_bit < 8 → fmmu_of (slice_index (fmmu_bytes f)) ≡ f
 
 -- an FMMU that maps nothing
 abbrev pub no_fmmu : FmmuSettings

@@ -2,3 +2,4 @@ pub mod Memory
 pub mod Managers
 pub mod Fmmus
 pub mod Types
+pub mod Words

@@ -1,3 +1,8 @@
+ghost use Rattle.std.specs.Prelude.{◌≡◌, slice_index};
+ghost use Rattle.ec_regs.specs.Fmmus.{fmmu_of, fmmu_bytes};
+
+use byteorder::{ByteOrder, LittleEndian};
+
 /// An FMMU as its sixteen bytes say it.
 #[derive(Clone, Copy, Debug, PartialEq, Eq)]
 pub struct FmmuSettings {
@@ -19,4 +24,49 @@ pub struct FmmuSettings {
     pub writes: bool,
     /// It is activated.
     pub active: bool,
+}
+
+/// The settings in an FMMU's sixteen bytes. Of the bit numbers the low three bits count; bits 2 to 7
+/// of the type and bits 1 to 7 of the activate byte, and the last three bytes, are reserved.
+pub fn decode_fmmu(bytes: &[u8; 16]) -> FmmuSettings
+    ensures { result ≡ fmmu_of (slice_index bytes.now) }
+{
+    FmmuSettings {
+        logical_start: LittleEndian::read_u32(&bytes[0..4]),
+        length: LittleEndian::read_u16(&bytes[4..6]),
+        start_bit: bytes[6] % 8,
+        stop_bit: bytes[7] % 8,
+        physical_start: LittleEndian::read_u16(&bytes[8..10]),
+        physical_bit: bytes[10] % 8,
+        reads: bytes[11] % 2 == 1,
+        writes: bytes[11] / 2 % 2 == 1,
+        active: bytes[12] % 2 == 1,
+    }
+}
+
+/// The sixteen bytes of an FMMU with these settings, 0 in the reserved ones.
+pub fn encode_fmmu(settings: &FmmuSettings) -> [u8; 16]
+    ensures { result ≡ fmmu_bytes settings.now }
+{
+    let logical = settings.logical_start.to_le_bytes();
+    let [length_low, length_high] = settings.length.to_le_bytes();
+    let [physical_low, physical_high] = settings.physical_start.to_le_bytes();
+    [
+        logical[0],
+        logical[1],
+        logical[2],
+        logical[3],
+        length_low,
+        length_high,
+        settings.start_bit,
+        settings.stop_bit,
+        physical_low,
+        physical_high,
+        settings.physical_bit,
+        settings.reads as u8 + 2 * settings.writes as u8,
+        settings.active as u8,
+        0,
+        0,
+        0,
+    ]
 }

@@ -1,12 +1,25 @@
 //! The registers of a slave: their names, their records, and the type that a slave is of.
 #![tactic(auto)]
 
+mod access;
 mod fmmu;
+pub mod laws;
 mod listed;
 mod manager;
+pub mod registers;
 mod slave_type;
+mod words;
 
-pub use crate::fmmu::FmmuSettings;
+pub use crate::access::{Access, is_stored, takes_writes};
+pub use crate::fmmu::{FmmuSettings, decode_fmmu, encode_fmmu};
 pub use crate::listed::Listed;
-pub use crate::manager::ManagerSettings;
-pub use crate::slave_type::{Entry, Identity, Mailbox, Pdo};
+pub use crate::manager::{ManagerSettings, decode_manager, encode_manager};
+pub use crate::slave_type::{
+    Entry, FIRST_INPUT_INDEX, FIRST_OUTPUT_INDEX, Identity, MAX_ENTRIES, MAX_ENTRY_BITS,
+    MAX_MAILBOX_SIZE, MAX_PDOS, MIN_MAILBOX_SIZE, Mailbox, PDO_INDICES, Pdo, SlaveType,
+    are_within_limits, have_own_indices,
+};
+pub use crate::words::{AlWord, SiiControl};
+
+#[cfg(test)]
+mod tests;

@@ -1,3 +1,9 @@
+ghost use Rattle.std.specs.Prelude.{◌≡◌, slice_index};
+ghost use Rattle.ec_regs.specs.Managers.{settings_of, manager_bytes, is_mailbox, is_buffered, is_ring_written, is_ring_read, span, is_set};
+
+use crate::registers::{RAM_END, RAM_START};
+use byteorder::{ByteOrder, LittleEndian};
+
 /// The bytes of a sync manager that the ring writes: 0 to 4 and 6 of its eight.
 #[derive(Clone, Copy, Debug, PartialEq, Eq)]
 pub struct ManagerSettings {
@@ -9,4 +15,96 @@ pub struct ManagerSettings {
     pub control: u8,
     /// The activate byte: bit 0 enables the manager.
     pub activate: u8,
+}
+
+impl ManagerSettings {
+    /// Whether the mode is mailbox: 10 in bits 0 and 1 of the control byte.
+    pub fn is_mailbox(&self) -> bool
+        ensures { result ≡ is_mailbox self.now }
+    {
+        self.control % 4 == 0b10
+    }
+
+    /// Whether the mode is buffered: 00 in bits 0 and 1 of the control byte.
+    pub fn is_buffered(&self) -> bool
+        ensures { result ≡ is_buffered self.now }
+    {
+        self.control % 4 == 0b00
+    }
+
+    /// Whether the ring writes and the slave reads: 01 in bits 2 and 3 of the control byte.
+    pub fn is_ring_written(&self) -> bool
+        ensures { result ≡ is_ring_written self.now }
+    {
+        self.control / 4 % 4 == 0b01
+    }
+
+    /// Whether the ring reads and the slave writes: 00 in bits 2 and 3 of the control byte.
+    pub fn is_ring_read(&self) -> bool
+        ensures { result ≡ is_ring_read self.now }
+    {
+        self.control / 4 % 4 == 0b00
+    }
+
+    /// How many bytes the manager governs: its length, or three lengths if it is no mailbox.
+    pub fn span(&self) -> usize
+        ensures { result ≡ span self.now }
+    {
+        if self.is_mailbox() {
+            self.length as usize
+        } else {
+            3 * self.length as usize
+        }
+    }
+
+    /// Whether the manager is set: activated, of a mode and a direction that are there, with a
+    /// length, and with its whole span inside the RAM.
+    #[tactic(auto, unfolding(crate::specs::Managers::is_set))]
+    pub fn is_set(&self) -> bool
+        ensures { result ≡ is_set self.now }
+    {
+        self.activate % 2 == 1
+            && (self.is_mailbox() || self.is_buffered())
+            && (self.is_ring_written() || self.is_ring_read())
+            && self.length > 0
+            && self.start >= RAM_START
+            && self.start as usize + self.span() <= RAM_END as usize
+    }
+}
+
+/// The settings in a sync manager's eight bytes; byte 5, the status, and byte 7, the slave's side,
+/// are no settings.
+pub fn decode_manager(bytes: &[u8; 8]) -> ManagerSettings
+    ensures { result ≡ settings_of (slice_index bytes.now) }
+{
+    ManagerSettings {
+        start: LittleEndian::read_u16(&bytes[0..2]),
+        length: LittleEndian::read_u16(&bytes[2..4]),
+        control: bytes[4],
+        activate: bytes[6],
+    }
+}
+
+/// The eight bytes of a sync manager with these settings, 0 in bytes 5 and 7.
+pub fn encode_manager(settings: &ManagerSettings) -> [u8; 8]
+    ensures { result ≡ manager_bytes settings.now }
+{
+    let ManagerSettings {
+        start,
+        length,
+        control,
+        activate,
+    } = *settings;
+    let [start_low, start_high] = start.to_le_bytes();
+    let [length_low, length_high] = length.to_le_bytes();
+    [
+        start_low,
+        start_high,
+        length_low,
+        length_high,
+        control,
+        0,
+        activate,
+        0,
+    ]
 }

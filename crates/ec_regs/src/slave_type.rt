@@ -1,4 +1,26 @@
+ghost use Rattle.std.specs.Prelude.{◌≡◌, ◌≤◌, ◌↔◌, length, All, AllPairs, ◌≢◌, IsTrue, IfSome};
+ghost use Rattle.ec_regs.specs.Types.{IsEntry, IsPdo, ArePdos, IsMailbox, IsWithinLimits, pdo_bits, pdos_bits, plain_kind, first_output_index, first_input_index};
+
 use crate::listed::Listed;
+use std::alloc::Global;
+use std::marker::Model;
+
+/// Where the indices of the output PDOs begin: those that the slave receives.
+pub const FIRST_OUTPUT_INDEX: u16 = 0x1600;
+/// Where the indices of the input PDOs begin: those that the slave sends.
+pub const FIRST_INPUT_INDEX: u16 = 0x1A00;
+/// How many indices each direction has for its PDOs.
+pub const PDO_INDICES: u16 = 512;
+/// How many PDOs a type may have in one direction.
+pub const MAX_PDOS: usize = 16;
+/// How many entries a PDO may have.
+pub const MAX_ENTRIES: usize = 64;
+/// How many bits an entry may have.
+pub const MAX_ENTRY_BITS: u8 = 64;
+/// The fewest bytes of a mailbox: one message with an expedited SDO.
+pub const MIN_MAILBOX_SIZE: u16 = 16;
+/// The most bytes of a mailbox.
+pub const MAX_MAILBOX_SIZE: u16 = 1024;
 
 /// What tells one device from another, as its SII and its object 0x1018 show it.
 #[derive(Clone, Copy, Debug, PartialEq, Eq)]
@@ -31,4 +53,271 @@ pub struct Entry {
 pub struct Pdo {
     pub index: u16,
     pub entries: Listed<Entry>,
+}
+
+/// What a slave of one type is: its identity, where its mailboxes and its process data lie, and its
+/// process data objects, all within the limits of this profile.
+#[derive(Debug, Drop)]
+pub struct SlaveType {
+    identity: Identity,
+    mailbox: Option<Mailbox>,
+    out_start: u16,
+    in_start: u16,
+    outputs: Listed<Pdo>,
+    inputs: Listed<Pdo>,
+    lrw: bool,
+}
+
+impl Model for SlaveType {
+    ghost use Rattle.ec_regs.specs.Types.{SlaveKind, IsWithinLimits};
+
+    ghost Value = { SlaveKind };
+
+    ghost view = { λ t. record {
+      identity = t.identity;
+      mailbox = t.mailbox;
+      out_start = t.out_start;
+      in_start = t.in_start;
+      outputs = t.outputs;
+      inputs = t.inputs;
+      lrw = t.lrw;
+    } };
+
+    ghost invariant = { λ t. IsWithinLimits t.mailbox t.outputs t.inputs };
+}
+
+impl Mailbox {
+    /// Whether both directions have 16 to 1024 bytes.
+    pub fn is_within_limits(&self) -> bool
+        ensures { IsTrue result ↔ IsMailbox self.now }
+    {
+        let sizes = MIN_MAILBOX_SIZE..=MAX_MAILBOX_SIZE;
+        sizes.contains(&self.receive_size) && sizes.contains(&self.send_size)
+    }
+}
+
+impl Entry {
+    /// Whether it is a gap: bits that stand for no object.
+    pub fn is_gap(&self) -> bool
+        ensures { IsTrue result ↔ (self.now.index ≡ 0) }
+    {
+        self.index == 0
+    }
+
+    /// Whether it has 1 to 64 bits and, if it is a gap, subindex 0.
+    pub fn is_within_limits(&self) -> bool
+        ensures { IsTrue result ↔ IsEntry self.now }
+    {
+        (1..=MAX_ENTRY_BITS).contains(&self.bits) && (!self.is_gap() || self.subindex == 0)
+    }
+}
+
+impl Pdo {
+    /// How many bits it has, gaps with them.
+    pub fn bits(&self) -> usize
+        requires { length self.now.entries ≤ 64 }
+        ensures { result ≡ pdo_bits self.now }
+    {
+        self.entries
+            .as_slice()
+            .iter()
+            .map(|entry| entry.bits as usize)
+            .sum()
+    }
+
+    /// Whether its index is one of the 512 from `first` on, and it has at most 64 entries, each
+    /// within its own limits.
+    pub fn is_within_limits(&self, first: u16) -> bool
+        requires { first ≤ first_input_index }
+        ensures { IsTrue result ↔ IsPdo first self.now }
+    {
+        (first..first + PDO_INDICES).contains(&self.index)
+            && self.entries.len() <= MAX_ENTRIES
+            && self
+                .entries
+                .as_slice()
+                .iter()
+                .all(|entry| entry.is_within_limits())
+    }
+}
+
+/// Whether no PDO has this index.
+fn is_free(pdos: &[Pdo], index: u16) -> bool
+    ensures { IsTrue result ↔ All (λ p. p.index ≢ index) pdos.now }
+{
+    pdos.iter().all(|pdo| pdo.index != index)
+}
+
+/// Whether no two PDOs have one index.
+pub fn have_own_indices(pdos: &[Pdo]) -> bool
+    ensures { IsTrue result ↔ AllPairs (λ p q. p.index ≢ q.index) pdos.now }
+{
+    for (i, pdo) in pdos.iter().enumerate() {
+        if !is_free(&pdos[i + 1..], pdo.index) {
+            return false;
+        }
+    }
+    true
+}
+
+/// Whether a direction has at most 16 PDOs, no two with one index, and each within its own limits;
+/// the indices of the direction are the 512 from `first` on.
+pub fn are_within_limits(pdos: &[Pdo], first: u16) -> bool
+    requires { first ≤ first_input_index }
+    ensures { IsTrue result ↔ ArePdos first pdos.now }
+{
+    pdos.len() <= MAX_PDOS
+        && pdos.iter().all(|pdo| pdo.is_within_limits(first))
+        && have_own_indices(pdos)
+}
+
+/// How many bits the PDOs of a direction have together.
+fn bits_of(pdos: &[Pdo]) -> usize
+    requires few { length pdos.now ≤ 16 }
+    requires small { All (λ p. (length p.entries ≤ 64) × (pdo_bits p ≤ 4096)) pdos.now }
+    ensures value { result ≡ pdos_bits pdos.now }
+    ensures limit { result ≤ 65536 }
+{
+    let mut total = 0;
+    for pdo in pdos {
+        total += pdo.bits();
+    }
+    total
+}
+
+impl SlaveType {
+    /// Whether a type may have this mailbox and these PDOs: the limits of this profile.
+    pub fn is_within_limits(mailbox: Option<Mailbox>, outputs: &[Pdo], inputs: &[Pdo]) -> bool
+        ensures { IsTrue result ↔ IsWithinLimits mailbox outputs.now inputs.now }
+    {
+        let has_room = match mailbox {
+            None => true,
+            Some(mailbox) => mailbox.is_within_limits(),
+        };
+        has_room
+            && are_within_limits(outputs, FIRST_OUTPUT_INDEX)
+            && are_within_limits(inputs, FIRST_INPUT_INDEX)
+    }
+
+    /// The type of these parts, which `is_within_limits` accepts. `out_start` and `in_start` are
+    /// the addresses of the output and the input sync manager.
+    pub fn new(
+        identity: Identity,
+        mailbox: Option<Mailbox>,
+        out_start: u16,
+        in_start: u16,
+        outputs: Listed<Pdo>,
+        inputs: Listed<Pdo>,
+        lrw: bool,
+    ) -> Self
+        requires { IsWithinLimits mailbox outputs inputs }
+        ensures { result ≡ record {
+          identity = identity;
+          mailbox = mailbox;
+          out_start = out_start;
+          in_start = in_start;
+          outputs = outputs;
+          inputs = inputs;
+          lrw = lrw;
+        } }
+    {
+        SlaveType {
+            identity,
+            mailbox,
+            out_start,
+            in_start,
+            outputs,
+            inputs,
+            lrw,
+        }
+    }
+
+    /// The type without objects and without a mailbox, with identity 0, which takes part in LRW.
+    pub fn plain(alloc: Global) -> Self
+        ensures { result ≡ plain_kind }
+    {
+        let identity = Identity {
+            vendor: 0,
+            product: 0,
+            revision: 0,
+            serial: 0,
+        };
+        SlaveType {
+            identity,
+            mailbox: None,
+            out_start: 0,
+            in_start: 0,
+            outputs: Listed::new(alloc),
+            inputs: Listed::new(alloc),
+            lrw: true,
+        }
+    }
+
+    /// What the type's slaves show as their identity.
+    pub fn identity(&self) -> Identity
+        ensures { result ≡ self.now.identity }
+    {
+        self.identity
+    }
+
+    /// Where the mailboxes lie, if the type has any.
+    pub fn mailbox(&self) -> Option<Mailbox>
+        ensures value { result ≡ self.now.mailbox }
+        ensures limits { IfSome result IsMailbox }
+    {
+        self.mailbox
+    }
+
+    /// The address of the output sync manager.
+    pub fn out_start(&self) -> u16
+        ensures { result ≡ self.now.out_start }
+    {
+        self.out_start
+    }
+
+    /// The address of the input sync manager.
+    pub fn in_start(&self) -> u16
+        ensures { result ≡ self.now.in_start }
+    {
+        self.in_start
+    }
+
+    /// The output PDOs: those that the slave receives.
+    pub fn outputs(&self) -> &[Pdo]
+        ensures value { result.now ≡ self.now.outputs }
+        ensures limits { ArePdos first_output_index result.now }
+    {
+        self.outputs.as_slice()
+    }
+
+    /// The input PDOs: those that the slave sends.
+    pub fn inputs(&self) -> &[Pdo]
+        ensures value { result.now ≡ self.now.inputs }
+        ensures limits { ArePdos first_input_index result.now }
+    {
+        self.inputs.as_slice()
+    }
+
+    /// Whether the type's slaves take part in LRW datagrams.
+    pub fn lrw(&self) -> bool
+        ensures { result ≡ self.now.lrw }
+    {
+        self.lrw
+    }
+
+    /// How many bits all output PDOs have together.
+    pub fn output_bits(&self) -> usize
+        ensures value { result ≡ pdos_bits self.now.outputs }
+        ensures limit { result ≤ 65536 }
+    {
+        bits_of(self.outputs.as_slice())
+    }
+
+    /// How many bits all input PDOs have together.
+    pub fn input_bits(&self) -> usize
+        ensures value { result ≡ pdos_bits self.now.inputs }
+        ensures limit { result ≤ 65536 }
+    {
+        bits_of(self.inputs.as_slice())
+    }
 }

@@ -1,0 +1,31 @@
+//! Laws of the definitions: each is the contract of a function that does nothing.
+
+ghost use Rattle.ec_regs.specs.Memory.{AccessIsTheTable};
+ghost use Rattle.ec_regs.specs.Managers.{ManagerIsReadBack};
+ghost use Rattle.ec_regs.specs.Fmmus.{FmmuIsReadBack};
+ghost use Rattle.ec_regs.specs.Words.{AlIsReadBack, SiiIsReadBack};
+
+/// Which register bytes take writes, as a table.
+pub fn access_is_the_table()
+    ensures { AccessIsTheTable }
+{}
+
+/// The settings of a sync manager are read back from their bytes.
+pub fn manager_is_read_back()
+    ensures { ManagerIsReadBack }
+{}
+
+/// The settings of an FMMU are read back from their bytes.
+pub fn fmmu_is_read_back()
+    ensures { FmmuIsReadBack }
+{}
+
+/// State and flag are read back from their word.
+pub fn al_is_read_back()
+    ensures { AlIsReadBack }
+{}
+
+/// Command and flags are read back from their word.
+pub fn sii_is_read_back()
+    ensures { SiiIsReadBack }
+{}

@@ -1,0 +1,59 @@
+//! The registers of a slave that this profile has, by the standard's names (ETG.1000.4, "Register
+//! description"), and where its RAM lies. Addresses are in bytes; numbers are little-endian.
+
+ghost use Rattle.std.specs.Prelude.{◌≡◌, ◌+◌, ◌*◌, ◌<◌};
+
+/// How many FMMUs there are: a byte, 4.
+pub const NUMBER_OF_FMMUS: u16 = 0x0004;
+/// How many sync managers there are: a byte, 4.
+pub const NUMBER_OF_SYNC_MANAGERS: u16 = 0x0005;
+/// The size of the RAM in KiB: a byte, 8.
+pub const RAM_SIZE: u16 = 0x0006;
+/// The station address, two bytes.
+pub const STATION_ADDRESS: u16 = 0x0010;
+/// AL control, two bytes: an `AlWord`.
+pub const AL_CONTROL: u16 = 0x0120;
+/// AL status, two bytes: an `AlWord`.
+pub const AL_STATUS: u16 = 0x0130;
+/// The AL status code, two bytes.
+pub const AL_STATUS_CODE: u16 = 0x0134;
+/// SII control and status, two bytes: a `SiiControl`.
+pub const SII_CONTROL: u16 = 0x0502;
+/// The SII word address, four bytes.
+pub const SII_ADDRESS: u16 = 0x0504;
+/// The data of the last SII read, four bytes.
+pub const SII_DATA: u16 = 0x0508;
+/// The first FMMU; `fmmu_address` has the others.
+pub const FMMUS: u16 = 0x0600;
+/// The bytes of an FMMU.
+pub const FMMU_SIZE: u16 = 16;
+/// The first sync manager; `manager_address` has the others.
+pub const SYNC_MANAGERS: u16 = 0x0800;
+/// The bytes of a sync manager.
+pub const MANAGER_SIZE: u16 = 8;
+/// The first byte of the RAM, right after the registers.
+pub const RAM_START: u16 = 0x1000;
+/// The first address after the RAM, and after all memory.
+pub const RAM_END: u16 = 0x3000;
+/// How many FMMUs a slave has: what its register says.
+pub const FMMU_COUNT: u8 = 4;
+/// How many sync managers a slave has: what its register says.
+pub const MANAGER_COUNT: u8 = 4;
+/// How many KiB of RAM a slave has: what its register says.
+pub const RAM_KIB: u8 = 8;
+
+/// The address of an FMMU.
+pub const fn fmmu_address(number: u16) -> u16
+    requires { number < 4 }
+    ensures { result ≡ 0x0600 + 16 * number }
+{
+    FMMUS + FMMU_SIZE * number
+}
+
+/// The address of a sync manager.
+pub const fn manager_address(number: u16) -> u16
+    requires { number < 4 }
+    ensures { result ≡ 0x0800 + 8 * number }
+{
+    SYNC_MANAGERS + MANAGER_SIZE * number
+}

@@ -1,0 +1,213 @@
+use crate::registers::{
+    AL_CONTROL, AL_STATUS, AL_STATUS_CODE, SII_ADDRESS, SII_CONTROL, SII_DATA, STATION_ADDRESS,
+    fmmu_address, manager_address,
+};
+use crate::{
+    AlWord, Entry, FmmuSettings, Identity, Listed, Mailbox, ManagerSettings, Pdo, SiiControl,
+    SlaveType, decode_fmmu, decode_manager, encode_fmmu, encode_manager, is_stored, takes_writes,
+};
+use std::alloc::Global;
+use std::test::Fail;
+
+// What `ecat plan` prints for the output manager of a slave with 12 output bits.
+#[test]
+fn output_manager(rt: HostRuntime) {
+    let bytes = [0x00, 0x11, 0x02, 0x00, 0x24, 0x00, 0x01, 0x00];
+    let settings = decode_manager(&bytes);
+    let fields = ManagerSettings {
+        start: 0x1100,
+        length: 2,
+        control: 0x24,
+        activate: 1,
+    };
+    assert_eq!(rt; settings, fields);
+    assert!(rt; settings.is_set());
+    assert!(rt; settings.is_buffered());
+    assert!(rt; settings.is_ring_written());
+    assert_eq!(rt; settings.span(), 6);
+    assert!(rt; encode_manager(&settings) == bytes);
+}
+
+// What `ecat plan` prints for the output FMMU of the same slave.
+#[test]
+fn output_fmmu(rt: HostRuntime) {
+    let bytes = [
+        0x00, 0x00, 0x01, 0x00, 0x02, 0x00, 0x04, 0x07, 0x00, 0x11, 0x00, 0x02, 0x01, 0x00, 0x00,
+        0x00,
+    ];
+    let settings = decode_fmmu(&bytes);
+    let fields = FmmuSettings {
+        logical_start: 0x0001_0000,
+        length: 2,
+        start_bit: 4,
+        stop_bit: 7,
+        physical_start: 0x1100,
+        physical_bit: 0,
+        reads: false,
+        writes: true,
+        active: true,
+    };
+    assert_eq!(rt; settings, fields);
+    assert!(rt; encode_fmmu(&settings) == bytes);
+}
+
+#[test]
+fn spans_at_the_end_of_the_ram(rt: HostRuntime) {
+    let buffered = decode_manager(&[0xFF, 0x2F, 0x01, 0x00, 0x24, 0x00, 0x01, 0x00]);
+    assert_eq!(rt; buffered.span(), 3);
+    assert!(rt; !buffered.is_set());
+    let mailbox = decode_manager(&[0xFF, 0x2F, 0x01, 0x00, 0x26, 0x00, 0x01, 0x00]);
+    assert!(rt; mailbox.is_mailbox());
+    assert!(rt; mailbox.is_set());
+    let longest = decode_manager(&[0x00, 0x10, 0xFF, 0xFF, 0x24, 0x00, 0x01, 0x00]);
+    assert!(rt; !longest.is_set());
+    let input = decode_manager(&[0x00, 0x14, 0x02, 0x00, 0x20, 0x00, 0x01, 0x00]);
+    assert!(rt; input.is_ring_read());
+    assert!(rt; input.is_set());
+}
+
+#[test]
+fn bytes_that_are_stored(rt: HostRuntime) {
+    let station = STATION_ADDRESS as usize;
+    assert!(rt; !is_stored(station - 1));
+    assert!(rt; is_stored(station));
+    assert!(rt; is_stored(station + 1));
+    assert!(rt; !is_stored(station + 2));
+    let control = AL_CONTROL as usize;
+    assert!(rt; !is_stored(control - 1));
+    assert!(rt; is_stored(control));
+    assert!(rt; is_stored(control + 1));
+    assert!(rt; !is_stored(control + 2));
+    assert!(rt; !is_stored(AL_STATUS as usize));
+    assert!(rt; !is_stored(AL_STATUS_CODE as usize));
+    assert!(rt; !is_stored(fmmu_address(0) as usize - 1));
+    assert!(rt; is_stored(fmmu_address(0) as usize));
+    assert!(rt; is_stored(fmmu_address(3) as usize + 15));
+    assert!(rt; !is_stored(fmmu_address(3) as usize + 16));
+}
+
+#[test]
+fn bytes_of_a_manager_that_are_stored(rt: HostRuntime) {
+    let last = manager_address(3) as usize;
+    assert!(rt; !is_stored(manager_address(0) as usize - 1));
+    assert!(rt; is_stored(last));
+    assert!(rt; is_stored(last + 4));
+    assert!(rt; !is_stored(last + 5));
+    assert!(rt; is_stored(last + 6));
+    assert!(rt; !is_stored(last + 7));
+    assert!(rt; !is_stored(last + 8));
+}
+
+#[test]
+fn bytes_of_the_sii_port(rt: HostRuntime) {
+    let control = SII_CONTROL as usize;
+    assert!(rt; !is_stored(control));
+    assert!(rt; !takes_writes(control - 1, false));
+    assert!(rt; takes_writes(control, false));
+    assert!(rt; !takes_writes(control, true));
+    assert!(rt; takes_writes(SII_ADDRESS as usize + 3, false));
+    assert!(rt; !takes_writes(SII_DATA as usize, false));
+    assert!(rt; takes_writes(AL_CONTROL as usize, true));
+}
+
+// The words that a slave in PREOP shows: after a refused request, and with an SII read under way.
+#[test]
+fn words(rt: HostRuntime) {
+    let status = AlWord(0x0012);
+    assert_eq!(rt; status.state(), 2);
+    assert!(rt; status.has_error());
+    assert!(rt; status.acknowledges());
+    assert_eq!(rt; AlWord::new(8, true).0, 0x0018);
+    let control = SiiControl(0x8100);
+    assert_eq!(rt; control.command(), 1);
+    assert!(rt; control.is_busy());
+    assert!(rt; !control.has_error());
+    assert_eq!(rt; SiiControl::new(1, false, true).0, 0x8100);
+    assert_eq!(rt; SiiControl::new(0, true, false).0, 0x2000);
+}
+
+fn one_pdo(alloc: Global, index: u16, entry: Entry) -> Result<Pdo, Fail> {
+    let mut entries = Listed::new(alloc);
+    entries.push(entry)?;
+    Ok(Pdo { index, entries })
+}
+
+// A slave with a mailbox, 12 output bits and a gap, and 16 input bits.
+#[test]
+fn a_type_with_objects(rt: HostRuntime) -> Result<(), Fail> {
+    let output = Entry {
+        index: 0x7010,
+        subindex: 1,
+        bits: 12,
+    };
+    let gap = Entry {
+        index: 0,
+        subindex: 0,
+        bits: 4,
+    };
+    let input = Entry {
+        index: 0x6010,
+        subindex: 1,
+        bits: 16,
+    };
+    let mut outputs = Listed::new(rt.alloc());
+    outputs.push(one_pdo(rt.alloc(), 0x1600, output)?)?;
+    outputs.push(one_pdo(rt.alloc(), 0x17FF, gap)?)?;
+    let mut inputs = Listed::new(rt.alloc());
+    inputs.push(one_pdo(rt.alloc(), 0x1A00, input)?)?;
+    let mailbox = Some(Mailbox {
+        receive_start: 0x1000,
+        receive_size: 128,
+        send_start: 0x1080,
+        send_size: 128,
+    });
+    let identity = Identity {
+        vendor: 0xABCD,
+        product: 3,
+        revision: 1,
+        serial: 0,
+    };
+    assert!(rt; SlaveType::is_within_limits(mailbox, outputs.as_slice(), inputs.as_slice()));
+    let kind = SlaveType::new(identity, mailbox, 0x1100, 0x1400, outputs, inputs, true);
+    assert_eq!(rt; kind.identity(), identity);
+    assert_eq!(rt; kind.mailbox(), mailbox);
+    assert_eq!(rt; kind.out_start(), 0x1100);
+    assert_eq!(rt; kind.in_start(), 0x1400);
+    assert_eq!(rt; kind.outputs().len(), 2);
+    assert_eq!(rt; kind.inputs().len(), 1);
+    assert_eq!(rt; kind.output_bits(), 16);
+    assert_eq!(rt; kind.input_bits(), 16);
+    assert!(rt; kind.lrw());
+    Ok(())
+}
+
+// Limits that a type breaks: an index twice, one of the other direction, an entry too long, and a
+// gap with a subindex.
+#[test]
+fn types_out_of_limits(rt: HostRuntime) -> Result<(), Fail> {
+    let entry = Entry {
+        index: 0x7000,
+        subindex: 1,
+        bits: 64,
+    };
+    let mut twice = Listed::new(rt.alloc());
+    twice.push(one_pdo(rt.alloc(), 0x1600, entry)?)?;
+    twice.push(one_pdo(rt.alloc(), 0x1600, entry)?)?;
+    assert!(rt; !SlaveType::is_within_limits(None, twice.as_slice(), &[]));
+    let other = [one_pdo(rt.alloc(), 0x1A00, entry)?];
+    assert!(rt; !SlaveType::is_within_limits(None, &other, &[]));
+    assert!(rt; SlaveType::is_within_limits(None, &[], &other));
+    assert!(rt; !Entry { bits: 65, ..entry }.is_within_limits());
+    assert!(rt; !Entry { index: 0, ..entry }.is_within_limits());
+    Ok(())
+}
+
+#[test]
+fn a_type_without_objects(rt: HostRuntime) {
+    let plain = SlaveType::plain(rt.alloc());
+    assert_eq!(rt; plain.mailbox(), None);
+    assert!(rt; plain.outputs().is_empty());
+    assert_eq!(rt; plain.output_bits(), 0);
+    assert_eq!(rt; plain.input_bits(), 0);
+    assert!(rt; plain.lrw());
+}
