@@ -1,5 +1,5 @@
 -- What `clap` makes of the plain words of a command.
-use Rattle.std.proofs.Common.{◌≡◌, ◌≢◌, ℕ, ◌<◌, ◌≤◌, ◌==◌, ◌&&◌, zero, suc, Bool, not, is_some, List, [], ◌∷◌, Option, Some, None, true, false, codes, pos, refl, ap, sym, ◌∙◌, inl, inr, arith, slice_index, eqb-true, ne_eqb}
+use Rattle.std.proofs.Common.{◌≡◌, ◌≢◌, ℕ, ◌<◌, ◌≤◌, ◌==◌, ◌&&◌, zero, suc, Bool, not, is_some, [], ◌∷◌, Option, Some, None, true, false, codes, pos, refl, ap, inl, inr, arith, slice_index, eqb-true, ne_eqb}
 use Rattle.std.proofs.lemmas.Bool.{cases_lt, not-true}
 use Rattle.std.specs.Fmt.{decimal}
 use Rattle.std.specs.Str.Parse.{digits_value, without_leading_plus}
@@ -11,8 +11,8 @@ use Rattle.std.specs.Char.{encode_utf8}
 use Rattle.std.specs.Str.{chars, bytes_eq}
 use Rattle.clap.specs.Lexer.{strip_byte, without_minus}
 use Rattle.clap.specs.Takes.{takes, flags_pass, walk_passes, level_passes, turn_passes}
-use Rattle.clap.specs.Walk.{Text, Row, Walk, Held, Waiting, idle, option, bundle_met, walked, walk, walk_from, nothing_held, rows_after}
-use Rattle.clap.specs.Simple.{Shape, App, built, built_leaf, names_of, subcommand_of}
+use Rattle.clap.specs.Walk.{Text, Row, Walk, idle, option, bundle_met, walked, walk, walk_from, nothing_held, rows_after}
+use Rattle.clap.specs.Simple.{Shape, built_leaf, subcommand_of}
 use Rattle.clap.specs.ValueTests.{accepts}
 use Rattle.clap.specs.declared.builder.value_parser.ValueParser.TheVariants.{Signed, Unsigned}
 use Rattle.clap.specs.declared.builder.value_parser.Reading.TheVariants.{AsWritten, WithoutMinus}

@@ -1,4 +1,3 @@
-use Rattle.std.proofs.Common.{map}
 use Rattle.ec_words.proofs.AskedLemmas.{pass_answer}
 use Rattle.ec_words.proofs.asked.read_words.Goals as goal
 
