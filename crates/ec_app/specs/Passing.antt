@@ -1,5 +1,6 @@
 -- What `ecat pass` answers (this project's profile).
-use Rattle.std.specs.Prelude.{◌≡◌, ℕ, ◌<◌, ◌≤◌, ◌⊎◌, List, length, replicate, Ok, Err}
+use Rattle.std.specs.Prelude.{◌≡◌, ℕ, ◌<◌, ◌≤◌, ◌⊎◌, List, [], ◌∷◌, ◌++◌, length, replicate, Option, Ok, Err}
+use Rattle.std.specs.Io.KnownBytes.{Appends}
 use Rattle.hex.specs.Hex.{decode_of, encode_lower}
 use Rattle.hex.specs.declared.error.FromHexError.{FromHexError}
 use Rattle.ec_regs.specs.declared.slave_type.Identity.{Identity}
@@ -10,7 +11,7 @@ use Rattle.ec_frame.specs.declared.error.FrameError.{FrameError}
 use Rattle.ec_frame.specs.declared.error.FrameError.TheVariants as frame
 use Rattle.ec_slave.specs.State.{SlaveState, power_on}
 use Rattle.ec_ring.specs.Rings.{rings}
-use Rattle.ec_app.specs.Refusals.{refusal_of}
+use Rattle.ec_app.specs.Refusals.{refusal_of, status_of}
 use Rattle.ec_app.specs.declared.refusal.Refusal.{Refusal}
 use Rattle.ec_app.specs.declared.refusal.Refusal.TheVariants.{Memory, Short, BadType, BadLength, BadMore, BadCommand, TooLong, BadHex, Output, Input}
 
@@ -66,3 +67,17 @@ IsPassRefusal text BadMore = SpellsNoFrame text frame.BadMore
 IsPassRefusal text BadCommand = SpellsNoFrame text frame.BadCommand
 IsPassRefusal text Output = ⊥
 IsPassRefusal text Input = ⊥
+
+-- what a writer holds grows by the line of the answer
+abbrev pub PrintsAnswer : ℕ → List ℕ → Option (List ℕ) → Option (List ℕ) → Type 0
+PrintsAnswer slaves text old new = (answer : List ℕ) × IsAnswer slaves text answer × Appends old new (answer ++ 10 ∷ [])
+
+-- the writer took no more, or the text is refused and what the writer holds stays
+abbrev pub RefusesPass : List ℕ → Refusal → Option (List ℕ) → Option (List ℕ) → Type 0
+RefusesPass text refusal old new = (refusal ≡ Output) ⊎ (IsPassRefusal text refusal × (new ≡ old))
+
+-- how `ecat pass` ends: with status 0 and the answer printed, or with the status of its refusal
+abbrev pub EndsPass : ℕ → List ℕ → ℕ → Option (List ℕ) → Option (List ℕ) → Type 0
+EndsPass slaves text status old new =
+    ((status ≡ 0) × PrintsAnswer slaves text old new)
+    ⊎ ((refusal : Refusal) × (status ≡ status_of refusal) × RefusesPass text refusal old new)

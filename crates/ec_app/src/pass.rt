@@ -1,8 +1,7 @@
 //! `ecat pass`: a frame in hex, through a ring of slaves at power-on.
-ghost use Rattle.std.specs.Prelude.{◌≡◌, ℕ, ◌≤◌, ◌⊎◌, [], ◌∷◌, ◌++◌, List, IfOk, IfErr, length, replicate};
+ghost use Rattle.std.specs.Prelude.{◌≡◌, ◌⊎◌, IfOk, IfErr, OnOk, replicate};
 ghost use Rattle.std.specs.String.{string_bytes};
-ghost use Rattle.std.specs.Io.KnownBytes.{Appends};
-ghost use Rattle.ec_app.specs.Passing.{ComesBack, IsAnswer, IsPassRefusal, SpellsPayload, plain_slave};
+ghost use Rattle.ec_app.specs.Passing.{IsAnswer, IsPassRefusal, PrintsAnswer, SpellsPayload, plain_slave};
 
 use crate::Refusal;
 use ec_regs::{Identity, SlaveType};
@@ -65,9 +64,14 @@ pub fn pass_hex(alloc: Global, slaves: usize, text: &str) -> Result<String, Refu
 }
 
 /// Prints what `pass_hex` answers, and a newline.
-pub fn print_pass<W: Write>(alloc: Global, slaves: usize, text: &str, output: &mut W) -> Result<(), Refusal>
-    ensures printed { IfOk result (λ _. (answer : List ℕ) × IsAnswer slaves text.now answer
-        × Appends (W.contents output.old) (W.contents output.new) (answer ++ 10 ∷ [])) }
+pub fn print_pass<W: Write>(
+    alloc: Global,
+    slaves: usize,
+    text: &str,
+    output: &mut W,
+) -> Result<(), Refusal>
+    ensures printed { OnOk result (PrintsAnswer slaves text.now (W.contents output.old)
+        (W.contents output.new)) }
     ensures refused { IfErr result (λ refusal. (refusal ≡ Refusal.Output)
         ⊎ (IsPassRefusal text.now refusal × (output.new ≡ output.old))) }
 {
