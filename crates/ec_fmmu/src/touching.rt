@@ -54,8 +54,8 @@ pub fn is_touched_by_reading(fmmus: &[Fmmu], from: u64, bits: u64, address: u16)
 /// Whether a write pair brings a physical bit one of the data bits.
 fn is_written(fmmus: &[Fmmu], from: u64, bits: u64, physical: u32) -> bool
     requires { from + bits < 2 ^ 64 }
-    ensures { result
-        ≡ is_some (inside_place (record { from = from; bits = bits }) (source (writers fmmus.now) physical)) }
+    ensures { result ≡ is_some (inside_place (record { from = from; bits = bits })
+        (source (writers fmmus.now) physical)) }
 {
     match write_source(fmmus, physical) {
         Some(logical) => within(from, bits, logical),
