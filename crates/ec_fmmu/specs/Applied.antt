@@ -19,12 +19,14 @@ inside_place p (Some logical) = if within p.from p.bits logical then Some (logic
 abbrev pub read_told : List FmmuSettings → (ℕ → Option Bool) → ℕ → ℕ → Option Bool
 read_told fs shown from i = option_and_then shown (target (readers fs) (from + i))
 
+-- the data bit that the write pairs bring to a physical bit
+abbrev pub brought : List FmmuSettings → ℕ → List ℕ → ℕ → Option Bool
+brought fs from bytes physical =
+    option_map (bit bytes) (inside_place (record { from = from; bits = 8 * length bytes }) (source (writers fs) physical))
+
 -- what a physical bit becomes by a write of the data, where `allowed` says which bytes may be written
 abbrev pub write_told : List FmmuSettings → (ℕ → Bool) → ℕ → List ℕ → ℕ → Option Bool
-write_told fs allowed from bytes physical =
-    if allowed (physical / 8)
-    then option_map (bit bytes) (inside_place (record { from = from; bits = 8 * length bytes }) (source (writers fs) physical))
-    else None
+write_told fs allowed from bytes physical = if allowed (physical / 8) then brought fs from bytes physical else None
 
 -- the same for bit k of a window whose first bit is the physical bit `origin`
 abbrev pub window_told : List FmmuSettings → (ℕ → Bool) → ℕ → List ℕ → ℕ → ℕ → Option Bool
