@@ -1,0 +1,2 @@
+mod GridLaws
+mod Going

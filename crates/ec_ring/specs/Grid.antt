@@ -1,0 +1,21 @@
+-- The ring as a grid, in which slaves and datagrams meet.
+use Rattle.std.specs.Prelude.{ℕ, ◌+◌, ◌<◌, ◌≡◌, List, length, slice_get, Some}
+use Rattle.ec_frame.specs.Datagram.{Datagram}
+use Rattle.ec_slave.specs.State.{SlaveState}
+use Rattle.ec_slave.specs.Meeting.{slave_met, datagram_met}
+use Rattle.ec_ring.specs.Rings.{rings}
+
+-- Cell (i, j) is the meeting of slave i, as datagram j - 1 left it, and datagram j, as slave i - 1 left it. `slave i j` is
+-- slave i before datagram j, `datagram i j` is datagram j before slave i.
+pub record IsGrid (ss : List SlaveState) (ds : List Datagram) (slave : ℕ → ℕ → SlaveState) (datagram : ℕ → ℕ → Datagram) : Type 0 where
+  pub rows : (i : ℕ) → i < length ss → slice_get ss i ≡ Some (slave i 0)
+  pub columns : (j : ℕ) → j < length ds → slice_get ds j ≡ Some (datagram 0 j)
+  pub slave_after : (i j : ℕ) → i < length ss → j < length ds → slave i (j + 1) ≡ slave_met (slave i j) (datagram i j)
+  pub datagram_after : (i j : ℕ) → i < length ss → j < length ds → datagram (i + 1) j ≡ datagram_met (slave i j) (datagram i j)
+
+-- slave after slave ends in the grid's last column and last row
+abbrev pub RingIsGrid : Type 0
+RingIsGrid =
+    (ss : List SlaveState) (ds : List Datagram) (slave : ℕ → ℕ → SlaveState) (datagram : ℕ → ℕ → Datagram) → IsGrid ss ds slave datagram
+    → ((i : ℕ) → i < length ss → slice_get (rings ss ds).slaves i ≡ Some (slave i (length ds)))
+    × ((j : ℕ) → j < length ds → slice_get (rings ss ds).datagrams j ≡ Some (datagram (length ss) j))

@@ -1,0 +1,35 @@
+-- A ring of slaves that a frame passes one after the other (ETG.1000.4, "Topology": a frame passes the slaves in order).
+use Rattle.std.specs.Prelude.{ℕ, ◌≡◌, List, [], ◌∷◌, set}
+use Rattle.ec_frame.specs.declared.error.FrameError.{FrameError}
+use Rattle.ec_frame.specs.Datagram.{Datagram}
+use Rattle.ec_frame.specs.Frame.{Payload, IsFrame, with_datagrams}
+use Rattle.ec_frame.specs.Refusals.{IsRefused}
+use Rattle.ec_slave.specs.State.{SlaveState}
+use Rattle.ec_slave.specs.Meeting.{passes}
+
+-- slaves and the datagrams of a frame after they met
+pub record Rung : Type 0 where
+  pub slaves : List SlaveState
+  pub datagrams : List Datagram
+
+-- slave after slave
+abbrev pub rings : List SlaveState → List Datagram → Rung
+rings [] ds = record { slaves = []; datagrams = ds }
+rings (s ∷ ss) ds = record {
+  slaves = (passes s ds).slave ∷ (rings ss (passes s ds).datagrams).slaves;
+  datagrams = (rings ss (passes s ds).datagrams).datagrams;
+}
+
+-- some test refuses the payload
+abbrev pub IsNoFrame : List ℕ → Type 0
+IsNoFrame payload = (e : FrameError) × IsRefused payload e
+
+-- slaves and a payload before and after it passed slave s, which stands at `place`
+pub record IsPassedAt (old : List SlaveState) (place : ℕ) (s : SlaveState) (before : List ℕ) (new : List SlaveState) (after : List ℕ) : Type 0 where
+  pub slaves : (p : Payload) → IsFrame before p → new ≡ set old place (passes s p.datagrams).slave
+  pub frame : (p : Payload) → IsFrame before p → IsFrame after (with_datagrams p (passes s p.datagrams).datagrams)
+
+-- slaves and a payload before and after it passed all of them; its header and the bytes after the datagrams stay
+pub record IsRung (old : List SlaveState) (before : List ℕ) (new : List SlaveState) (after : List ℕ) : Type 0 where
+  pub slaves : (p : Payload) → IsFrame before p → new ≡ (rings old p.datagrams).slaves
+  pub frame : (p : Payload) → IsFrame before p → IsFrame after (with_datagrams p (rings old p.datagrams).datagrams)

@@ -1,0 +1,110 @@
+ghost use Rattle.std.specs.Prelude.{◌≡◌, ◌==◌, ◌<◌, ◌↔◌, List, length, slice_get, Some, IsErr, OnErr, OnOk};
+ghost use Rattle.std.specs.Borrow.{sem};
+ghost use Rattle.ec_frame.specs.Frame.{Payload, IsFrame};
+ghost use Rattle.ec_slave.specs.State.{SlaveState};
+ghost use Rattle.ec_ring.specs.Lending.{LendsSlave};
+ghost use Rattle.ec_ring.specs.Rings.{IsNoFrame, IsPassedAt, IsRung};
+
+use crate::error::NotAFrame;
+use ec_frame::check;
+use ec_slave::Slave;
+use std::marker::Model;
+
+/// Slaves in the order in which a frame passes them.
+#[derive(Drop)]
+pub struct Ring {
+    slaves: Vec<Slave>,
+}
+
+impl Model for Ring {
+    ghost use Rattle.std.specs.Prelude.{List};
+    ghost use Rattle.ec_slave.specs.State.{SlaveState};
+
+    ghost Value = { List SlaveState };
+
+    ghost view = { λ r. r.slaves.items };
+}
+
+impl Ring {
+    /// The ring of these slaves, the first of which a frame passes first.
+    pub fn new(slaves: Vec<Slave>) -> Ring
+        ensures { result ≡ slaves.items }
+    {
+        Ring { slaves }
+    }
+
+    /// How many slaves there are.
+    pub fn len(&self) -> usize
+        ensures { result ≡ length self.now }
+    {
+        self.slaves.len()
+    }
+
+    /// Whether there is no slave.
+    pub fn is_empty(&self) -> bool
+        ensures { result ≡ (length self.now == 0) }
+    {
+        self.slaves.is_empty()
+    }
+
+    /// The slave at a place, the first at 0.
+    pub fn slave(&self, place: usize) -> &Slave
+        requires { place < length self.now }
+        ensures { slice_get self.now place ≡ Some result.now }
+    {
+        &self.slaves[place]
+    }
+
+    /// Lends the slave at a place; the others stay as they are.
+    pub fn slave_mut(&mut self, place: usize) -> &mut Slave
+        requires { place < length self.old }
+        ensures* writes_back { sem 𝓛 (LendsSlave self.entry place result) }
+        ensures value { slice_get self.old place ≡ Some result.now }
+    {
+        &mut self.slaves[place]
+    }
+
+    /// A frame passes the slave at a place, and no other. What `check` refuses is `NotAFrame`, and
+    /// leaves payload and slaves as they are.
+    pub fn pass_one(&mut self, frame: &mut [u8], place: usize) -> Result<(), NotAFrame>
+        requires { place < length self.old }
+        ensures refused { IsErr result ↔ IsNoFrame frame.old }
+        ensures slaves_kept { OnErr result (self.new ≡ self.old) }
+        ensures frame_kept { OnErr result (frame.new ≡ frame.old) }
+        ensures count { length self.new ≡ length self.old }
+        ensures meets { (s : SlaveState) → slice_get self.old place ≡ Some s
+            → IsPassedAt self.old place s frame.old self.new frame.new }
+    {
+        if check(frame).is_err() {
+            return Err(NotAFrame);
+        }
+        self.slaves[place].pass(frame);
+        Ok(())
+    }
+
+    /// A frame passes all slaves, one after the other. What `check` refuses is `NotAFrame`, and
+    /// leaves payload and slaves as they are.
+    pub fn pass_all(&mut self, frame: &mut [u8]) -> Result<(), NotAFrame>
+        ensures refused { IsErr result ↔ IsNoFrame frame.old }
+        ensures slaves_kept { OnErr result (self.new ≡ self.old) }
+        ensures frame_kept { OnErr result (frame.new ≡ frame.old) }
+        ensures count { length self.new ≡ length self.old }
+        ensures ring { IsRung self.old frame.old self.new frame.new }
+    {
+        if check(frame).is_err() {
+            return Err(NotAFrame);
+        }
+        pass_slaves(&mut self.slaves, frame);
+        Ok(())
+    }
+}
+
+/// A frame passes slaves, one after the other.
+fn pass_slaves(slaves: &mut [Slave], frame: &mut [u8])
+    requires { (p : Payload) × IsFrame frame.old p }
+    ensures { IsRung slaves.old frame.old slaves.new frame.new }
+{
+    for place in 0..slaves.len() {
+        slaves[place].pass(frame);
+    }
+}

@@ -1,0 +1,6 @@
+mod Answered
+mod Passing
+mod Bytes
+mod Tests
+mod Told
+mod Windows

@@ -1,0 +1,118 @@
+-- Datagrams that pass.
+use Rattle.std.proofs.Common.{ℕ, ◌+◌, ◌*◌, ◌/◌, ◌%◌, ◌^◌, ◌<◌, ◌≡◌, ◌≢◌, ◌⊎◌, ◌==◌, inl, inr, List, length, Bool, true, false, refl, sym, ◌∙◌, ap, arith, if◌then◌else◌}
+use Rattle.std.proofs.lemmas.Bool.{ne_eqb}
+use Rattle.ec_frame.specs.declared.command.Command.{Command}
+use Rattle.ec_frame.specs.declared.command.Command.TheVariants.{Nop, Aprd, Apwr, Aprw, Fprd, Fpwr, Fprw, Brd, Bwr, Brw, Lrd, Lwr, Lrw, Armw, Frmw}
+use Rattle.ec_frame.specs.Datagram.{Datagram, IsDatagram, adp_of, ado_of}
+use Rattle.ec_frame.specs.Fields.{with_adp}
+use Rattle.ec_slave.specs.declared.role.Role.{Role}
+use Rattle.ec_slave.specs.declared.role.Role.TheVariants.{Nothing, OrRead}
+use Rattle.ec_slave.specs.Roles.{role_of, adp_after}
+use Rattle.ec_slave.specs.State.{SlaveState, station_of}
+use Rattle.ec_slave.specs.Access.{Window, meeting}
+use Rattle.ec_slave.specs.Meeting.{Met, window_of, with_answer, meets, meets_by, meets_physically, datagram_met}
+use Rattle.ec_slave.specs.Keeping.{adp_after-bound, length-meeting}
+use Rattle.ec_slave.specs.Laws.{BroadcastReadChangesNoSlave, OtherStationPasses, OtherPositionPasses, HeadingStays, KeepsHeading}
+use Rattle.ec_slave.proofs.Tests.{if_false}
+
+kept-nothing : (s : SlaveState) (w : Window) → (meeting s Nothing w).slave ≡ s
+unfolding meeting
+kept-nothing s w = refl
+
+bytes-nothing : (s : SlaveState) (w : Window) → (meeting s Nothing w).bytes ≡ w.bytes
+unfolding meeting
+bytes-nothing s w = refl
+
+added-nothing : (s : SlaveState) (w : Window) → (meeting s Nothing w).added ≡ 0
+unfolding meeting
+added-nothing s w = refl
+
+kept-or_read : (s : SlaveState) (w : Window) → (meeting s OrRead w).slave ≡ s
+unfolding meeting
+kept-or_read s w = refl
+
+pub broadcast_read_changes_no_slave : BroadcastReadChangesNoSlave
+unfolding meets
+broadcast_read_changes_no_slave s d e =
+    ap (λ (c : Command). (meets_by c s d).slave) e
+    ∙ (ap (λ (c : Command). (meeting s (role_of c (adp_of d) (station_of s)) (window_of d)).slave) e ∙ kept-or_read s (window_of d))
+
+-- a slave that has nothing to do with a datagram
+pub passed_by : (s : SlaveState) (d : Datagram) → IsDatagram d → role_of d.command (adp_of d) (station_of s) ≡ Nothing
+  → meets_physically s d ≡ record { slave = s; datagram = with_adp d (adp_after d.command (adp_of d)) }
+passed_by s d good e =
+    let a : ℕ = adp_after d.command (adp_of d) in
+    let w : Window = window_of d in
+    let fits : d.counter < 65536 = good.counter in
+    let c : (d.counter + 0) % 65536 ≡ d.counter = omega arith in
+    ap (λ (r : Role). record { slave = (meeting s r w).slave; datagram = with_answer d a (meeting s r w).bytes (meeting s r w).added }) e
+    ∙ (ap (λ (t : SlaveState). record { slave = t; datagram = with_answer d a (meeting s Nothing w).bytes (meeting s Nothing w).added }) (kept-nothing s w)
+    ∙ (ap (λ (t : List ℕ). record { slave = s; datagram = with_answer d a t (meeting s Nothing w).added }) (bytes-nothing s w)
+    ∙ (ap (λ (t : ℕ). record { slave = s; datagram = with_answer d a d.data_bytes t }) (added-nothing s w)
+    ∙ ap (λ (t : ℕ). record { slave = s; datagram = record d { address = a + 65536 * ado_of d; counter = t } }) c)))
+
+own_address : (d : Datagram) → with_adp d (adp_of d) ≡ d
+own_address d = let e : d.address % 65536 + 65536 * (d.address / 65536) ≡ d.address = omega arith in ap (λ (t : ℕ). record d { address = t }) e
+
+-- the same for a command of which that is known
+passed_as : (s : SlaveState) (d : Datagram) (c : Command) → IsDatagram d → d.command ≡ c → meets_by c s d ≡ meets_physically s d
+  → role_of c (adp_of d) (station_of s) ≡ Nothing → meets s d ≡ record { slave = s; datagram = with_adp d (adp_after c (adp_of d)) }
+unfolding meets
+passed_as s d c good e p r =
+    ap (λ (k : Command). meets_by k s d) e ∙ (p
+    ∙ (passed_by s d good (ap (λ (k : Command). role_of k (adp_of d) (station_of s)) e ∙ r)
+    ∙ ap (λ (k : Command). record { slave = s; datagram = with_adp d (adp_after k (adp_of d)) }) e))
+
+pub other_station_passes : OtherStationPasses
+other_station_passes s d good h ne =
+    let t : (adp_of d == station_of s) ≡ false = ne_eqb (adp_of d) (station_of s) ne in
+    elim h [
+      inl e ↦ passed_as s d Fprd good e refl (if_false _ _ _ t) ∙ ap (λ (x : Datagram). record { slave = s; datagram = x }) (own_address d)
+    | inr k ↦ elim k [
+          inl e ↦ passed_as s d Fpwr good e refl (if_false _ _ _ t) ∙ ap (λ (x : Datagram). record { slave = s; datagram = x }) (own_address d)
+        | inr e ↦ passed_as s d Fprw good e refl (if_false _ _ _ t) ∙ ap (λ (x : Datagram). record { slave = s; datagram = x }) (own_address d)
+        ]
+    ]
+
+pub other_position_passes : OtherPositionPasses
+other_position_passes s d good h ne =
+    let t : (adp_of d == 0) ≡ false = ne_eqb (adp_of d) 0 ne in
+    elim h [
+      inl e ↦ passed_as s d Aprd good e refl (if_false _ _ _ t)
+    | inr k ↦ elim k [
+          inl e ↦ passed_as s d Apwr good e refl (if_false _ _ _ t)
+        | inr e ↦ passed_as s d Aprw good e refl (if_false _ _ _ t)
+        ]
+    ]
+
+physical_heading : (s : SlaveState) (d : Datagram) → IsDatagram d → KeepsHeading d (meets_physically s d).datagram
+physical_heading s d good =
+    let role : Role = role_of d.command (adp_of d) (station_of s) in
+    let a : ℕ = adp_after d.command (adp_of d) in
+    let bound : a < 65536 = adp_after-bound d.command (adp_of d) (omega arith) in
+    let e : (a + 65536 * (d.address / 65536)) / 65536 ≡ d.address / 65536 = omega arith in
+    record { command = refl; index = refl; ado = e; reserved = refl; circulating = refl; irq = refl; data_length = length-meeting s role (window_of d) }
+
+same_heading : (d : Datagram) → KeepsHeading d d
+same_heading d = record { command = refl; index = refl; ado = refl; reserved = refl; circulating = refl; irq = refl; data_length = refl }
+
+heading_by : (c : Command) (s : SlaveState) (d : Datagram) → IsDatagram d → KeepsHeading d (meets_by c s d).datagram
+heading_by Nop s d good = same_heading d
+heading_by Aprd s d good = physical_heading s d good
+heading_by Apwr s d good = physical_heading s d good
+heading_by Aprw s d good = physical_heading s d good
+heading_by Fprd s d good = physical_heading s d good
+heading_by Fpwr s d good = physical_heading s d good
+heading_by Fprw s d good = physical_heading s d good
+heading_by Brd s d good = physical_heading s d good
+heading_by Bwr s d good = physical_heading s d good
+heading_by Brw s d good = physical_heading s d good
+heading_by Lrd s d good = same_heading d
+heading_by Lwr s d good = same_heading d
+heading_by Lrw s d good = same_heading d
+heading_by Armw s d good = physical_heading s d good
+heading_by Frmw s d good = physical_heading s d good
+
+pub heading_stays : HeadingStays
+unfolding meets
+heading_stays s d good = heading_by d.command s d good

@@ -1,0 +1,70 @@
+-- Laws of the definitions of this crate.
+use Rattle.std.specs.Prelude.{ℕ, ◌+◌, ◌-◌, ◌%◌, ◌≡◌, ◌≢◌, ◌<◌, ◌⊎◌, List, length, slice_index, Bool, true, false, if◌then◌else◌, bit_or}
+use Rattle.ec_frame.specs.declared.command.Command.TheVariants.{Aprd, Apwr, Aprw, Fprd, Fpwr, Fprw, Brd}
+use Rattle.ec_frame.specs.Datagram.{Datagram, IsDatagram, adp_of, ado_of}
+use Rattle.ec_frame.specs.Fields.{with_adp}
+use Rattle.ec_slave.specs.declared.role.Role.{Role}
+use Rattle.ec_slave.specs.declared.role.Role.TheVariants.{Nothing, Read, Write, ReadWrite, OrRead, OrReadWrite}
+use Rattle.ec_slave.specs.State.{SlaveState, station_of}
+use Rattle.ec_slave.specs.Access.{Window, touches, byte_at, byte_read, may_read_byte, may_write_byte, memory_written, retold, some_byte_read, some_byte_written, meeting}
+use Rattle.ec_slave.specs.Meeting.{Met, meets, slave_met, datagram_met}
+
+abbrev pub BroadcastReadChangesNoSlave : Type 0
+BroadcastReadChangesNoSlave = (s : SlaveState) (d : Datagram) → d.command ≡ Brd → slave_met s d ≡ s
+
+-- the slave and the datagram are as they were
+abbrev pub OtherStationPasses : Type 0
+OtherStationPasses =
+    (s : SlaveState) (d : Datagram) → IsDatagram d → (d.command ≡ Fprd) ⊎ ((d.command ≡ Fpwr) ⊎ (d.command ≡ Fprw)) → adp_of d ≢ station_of s
+    → meets s d ≡ record { slave = s; datagram = d }
+
+-- only the slave that receives ADP 0 is meant
+abbrev pub OtherPositionPasses : Type 0
+OtherPositionPasses =
+    (s : SlaveState) (d : Datagram) → IsDatagram d → (d.command ≡ Aprd) ⊎ ((d.command ≡ Apwr) ⊎ (d.command ≡ Aprw)) → adp_of d ≢ 0
+    → meets s d ≡ record { slave = s; datagram = with_adp d ((adp_of d + 1) % 65536) }
+
+-- what a datagram keeps
+pub record KeepsHeading (before after : Datagram) : Type 0 where
+  pub command : after.command ≡ before.command
+  pub index : after.index ≡ before.index
+  pub ado : ado_of after ≡ ado_of before
+  pub reserved : after.reserved ≡ before.reserved
+  pub circulating : after.circulating ≡ before.circulating
+  pub irq : after.irq ≡ before.irq
+  pub data_length : length after.data_bytes ≡ length before.data_bytes
+
+abbrev pub HeadingStays : Type 0
+HeadingStays = (s : SlaveState) (d : Datagram) → IsDatagram d → KeepsHeading d (datagram_met s d)
+
+-- the byte of address a after a write: the data byte that belongs to it, or what it was
+pub record IsWrittenAt (w : Window) (memory : List ℕ) (a : ℕ) : Type 0 where
+  pub taken : touches w a ≡ true → may_write_byte a ≡ true → slice_index (memory_written w memory) a ≡ slice_index w.bytes (a - w.from)
+  pub refused : may_write_byte a ≡ false → slice_index (memory_written w memory) a ≡ slice_index memory a
+  pub untouched : touches w a ≡ false → slice_index (memory_written w memory) a ≡ slice_index memory a
+
+abbrev pub WritesByByte : Type 0
+WritesByByte =
+    (w : Window) (memory : List ℕ)
+    → (length (memory_written w memory) ≡ length memory) × ((a : ℕ) → a < length memory → IsWrittenAt w memory a)
+
+-- data byte k after a read: what its address reads, in a broadcast joined by OR, or what it was where no memory is
+pub record IsReadAt (s : SlaveState) (joining : Bool) (w : Window) (k : ℕ) : Type 0 where
+  pub given : may_read_byte (w.from + k) ≡ true
+    → slice_index (retold w.bytes (byte_read s joining w)) k ≡ (if joining then bit_or (slice_index w.bytes k) (byte_at s (w.from + k)) else byte_at s (w.from + k))
+  pub denied : may_read_byte (w.from + k) ≡ false → slice_index (retold w.bytes (byte_read s joining w)) k ≡ slice_index w.bytes k
+
+abbrev pub ReadsByByte : Type 0
+ReadsByByte = (s : SlaveState) (joining : Bool) (w : Window) (k : ℕ) → k < length w.bytes → IsReadAt s joining w k
+
+-- by the role, whether some byte was read, and whether some byte was written
+abbrev pub count_of : Role → Bool → Bool → ℕ
+count_of Nothing read written = 0
+count_of Read read written = if read then 1 else 0
+count_of Write read written = if written then 1 else 0
+count_of ReadWrite read written = if read then (if written then 3 else 1) else (if written then 2 else 0)
+count_of OrRead read written = if read then 1 else 0
+count_of OrReadWrite read written = if read then (if written then 3 else 1) else (if written then 2 else 0)
+
+abbrev pub CountsByRole : Type 0
+CountsByRole = (s : SlaveState) (role : Role) (w : Window) → (meeting s role w).added ≡ count_of role (some_byte_read w) (some_byte_written w)
