@@ -57,8 +57,9 @@ fn write_range<A: Allowed>(
     requires can { A.can_allow rights.now }
     requires data_fits { from + 8 * length data.now < 2 ^ 64 }
     requires window_fits { origin + 8 * length window.old < 2 ^ 32 }
-    ensures any { result ≡ any_below (8 * length window.old)
-        (λ k. is_some (range_write_told range.now fmmus.now (A.allowed rights.now) from data.now origin k)) }
+    ensures any { result
+        ≡ any_below (8 * length window.old) (λ k. is_some
+        (range_write_told range.now fmmus.now (A.allowed rights.now) from data.now origin k)) }
     ensures bits { window.new ≡ overlay window.old
         (range_write_told range.now fmmus.now (A.allowed rights.now) from data.now origin) }
 {
@@ -70,8 +71,12 @@ fn write_range<A: Allowed>(
     let physical = range.first_physical();
     let data_end = from + 8 * data.len() as u64;
     let window_end = u64::from(origin) + 8 * window.len() as u64;
-    let first = from.saturating_sub(logical).max(u64::from(origin).saturating_sub(physical));
-    let end = data_end.saturating_sub(logical).min(window_end.saturating_sub(physical));
+    let first = from
+        .saturating_sub(logical)
+        .max(u64::from(origin).saturating_sub(physical));
+    let end = data_end
+        .saturating_sub(logical)
+        .min(window_end.saturating_sub(physical));
     for i in first..end.min(range.bit_count()) {
         let place = (physical + i) as u32;
         let told = written_bit(fmmus, rights, from, data, place);
