@@ -1,0 +1,6 @@
+pub mod Faults
+pub mod Contents
+pub mod Fields
+pub mod InOrder
+pub mod Pdos
+pub mod Reading

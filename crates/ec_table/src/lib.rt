@@ -1,0 +1,21 @@
+//! Link tables: the types, slaves, variables and links that a TOML text states.
+#![tactic(auto)]
+
+mod fault;
+mod fields;
+mod links;
+mod pdos;
+mod read;
+mod rows;
+mod slaves;
+mod table;
+mod types;
+mod variables;
+
+pub use crate::fault::{Fault, Place, Section, TableError};
+pub use crate::read::read_table;
+pub use crate::rows::{
+    Device, Direction, LinkBits, LinkRow, Name, ProcessData, SlaveRow, TypeRow, VariableRow,
+    Version,
+};
+pub use crate::table::Table;
