@@ -1,2 +1,6 @@
 pub mod Lookups
 pub mod InOrder
+pub mod Meets
+pub mod SoundReads
+pub mod SoundRows
+pub mod ObjectLemmas

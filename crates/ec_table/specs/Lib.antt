@@ -4,3 +4,5 @@ pub mod Fields
 pub mod InOrder
 pub mod Pdos
 pub mod Reading
+pub mod Sound
+pub mod Objects

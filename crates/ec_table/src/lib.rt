@@ -4,6 +4,7 @@
 mod fault;
 mod fields;
 mod links;
+mod objects;
 mod pdos;
 mod read;
 mod rows;

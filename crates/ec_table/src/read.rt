@@ -38,13 +38,7 @@ fn table_of_document(alloc: Global, document: &toml::Table) -> Result<Table, Tab
         variables.as_slice(),
         links,
     )?;
-    Ok(Table {
-        version,
-        types,
-        slaves,
-        variables,
-        links,
-    })
+    Ok(Table::new(version, types, slaves, variables, links))
 }
 
 /// The table that a text states, or the first fault of the text.
