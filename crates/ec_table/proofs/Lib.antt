@@ -4,3 +4,6 @@ pub mod Meets
 pub mod SoundReads
 pub mod SoundRows
 pub mod ObjectLemmas
+pub mod Placed
+pub mod Written
+pub mod WrittenRows

@@ -15,9 +15,10 @@ use Rattle.std.proofs.lemmas.List.Folds.{Any-from_list_any}
 use Rattle.std.proofs.lemmas.List.Elements.{All-push, All-nil, All-cons, All-get_or}
 use Rattle.std.proofs.lemmas.List.Quantifiers.{all_pairs_push, position-Some}
 use Rattle.std.proofs.lemmas.Option.{slice_get_within, get_or_from_slice_get}
+use Rattle.toml.specs.Parse.{parse_document}
 use Rattle.toml.specs.Data.{Data, Members, no_members, member, Items, at, get_member}
 use Rattle.ec_regs.specs.declared.slave_type.Mailbox.{Mailbox}
-use Rattle.ec_table.specs.declared.fault.Fault.TheVariants.{BadKey, BadValue, TwiceNamed, UnknownName}
+use Rattle.ec_table.specs.declared.fault.Fault.TheVariants.{Toml, BadKey, BadValue, TwiceNamed, UnknownName}
 use Rattle.ec_table.specs.declared.fault.Place.{Place}
 use Rattle.ec_table.specs.declared.rows.Version.{Version}
 use Rattle.ec_table.specs.declared.rows.Version.TheVariants.{One, Two}
@@ -30,17 +31,17 @@ use Rattle.ec_table.specs.declared.rows.LinkBits.{LinkBits}
 use Rattle.ec_table.specs.declared.rows.LinkRow.{LinkRow}
 use Rattle.ec_table.specs.declared.fields.Shape.TheVariants as shape
 use Rattle.ec_table.specs.Contents.{Contents, pdos_toward, assigned_toward}
-use Rattle.ec_table.specs.Fields.{◌>>=◌, must, each_key, is_key, has_required, keys_are, number_in, link_bits_of, link_bits_in, number_or_0}
+use Rattle.ec_table.specs.Fields.{◌>>=◌, must, each_key, is_key, has_required, keys_are, number_in, link_bits_of, link_bits_in, number_or_0, version_in, section_in}
 use Rattle.ec_table.specs.InOrder.{rows_after}
 use Rattle.ec_table.specs.Pdos.{indices_of, has_twice, numbers_in}
-use Rattle.ec_table.specs.Reading.{is_slave_name, type_named, all_in, same_list, assigned_in, slave_at, slave_element, slave_named, variable_named, all_bits, link_at, link_element, type_element, variable_element}
+use Rattle.ec_table.specs.Reading.{is_slave_name, type_named, all_in, same_list, assigned_in, slave_at, slave_element, slave_named, variable_named, all_bits, link_at, link_element, type_element, variable_element, top, table_of_document, table_of}
 use Rattle.ec_table.specs.Sound.{IsOnce, IsType, AreTypes, IsAssignment, IsSlave, AreSlaves, IsVariable, AreVariables, IsBits, IsLink, IsSound, IsName}
 use Rattle.ec_table.proofs.Meets.{Meets, meets_ok, meets_err, meets_then, any_met, must_met, ok_or_met, number_met, name_met, rows_met}
 use Rattle.ec_table.proofs.SoundReads.{once_from_test, not_true, fresh, members_met, types_met, variables_met}
 
 -- ---- keys
 
-false_from : (b : Bool) → (b ≡ true → ⊥) → b ≡ false
+pub false_from : (b : Bool) → (b ≡ true → ⊥) → b ≡ false
 false_from true h = absurd (h refl)
 false_from false h = refl
 
@@ -230,3 +231,22 @@ read_sound v type_items slave_items variable_items link_items ts ss ws ls it is 
     let types : AreTypes ts = (types_met v type_items).all ts it in
     let variables : AreVariables ws = (variables_met v variable_items).all ws iw in
     record { types = types; slaves = (slaves_met v ts slave_items types).all ss is; variables = variables; links = (links_met v ss ws link_items variables).all ls il }
+
+pub document_met : (ms : Members) → Meets (table_of_document ms) IsSound
+unfolding table_of_document
+document_met ms =
+    meets_then _ IsSound _ _ (any_met (version_in top (get_member (codes "version") ms))) (λ v _.
+    meets_then _ IsSound _ _ (any_met (must (keys_are shape.Document v ms) (BadKey top))) (λ u _.
+    meets_then _ IsSound _ _ (any_met (section_in top (get_member (codes "type") ms))) (λ type_items _.
+    meets_then _ IsSound _ _ (any_met (section_in top (get_member (codes "slave") ms))) (λ slave_items _.
+    meets_then _ IsSound _ _ (any_met (section_in top (get_member (codes "variable") ms))) (λ variable_items _.
+    meets_then _ IsSound _ _ (any_met (section_in top (get_member (codes "link") ms))) (λ link_items _.
+    meets_then _ IsSound _ _ (types_met v type_items) (λ ts types.
+    meets_then _ IsSound _ _ (slaves_met v ts slave_items types) (λ ss slaves.
+    meets_then _ IsSound _ _ (variables_met v variable_items) (λ ws variables.
+    meets_then _ IsSound _ _ (links_met v ss ws link_items variables) (λ ls links.
+    meets_ok IsSound (record { version = v; types = ts; slaves = ss; variables = ws; links = ls }) (record { types = types; slaves = slaves; variables = variables; links = links })))))))))))
+
+pub text_met : (text : List ℕ) → Meets (table_of text) IsSound
+unfolding table_of
+text_met text = meets_then _ IsSound _ _ (any_met (ok_or (parse_document text) Toml)) (λ ms _. document_met ms)

@@ -179,6 +179,6 @@ impl From<Fault> for TableError {
     ghost from_gives = { λ f e. e ≡ Refused f };
 
     fn from(fault: Fault) -> TableError {
-        TableError::Refused(fault)
+        Self::Refused(fault)
     }
 }

@@ -3,6 +3,7 @@
 
 mod fault;
 mod fields;
+pub mod laws;
 mod links;
 mod objects;
 mod pdos;
@@ -10,6 +11,8 @@ mod read;
 mod rows;
 mod slaves;
 mod table;
+#[cfg(test)]
+mod tests;
 mod types;
 mod variables;
 
