@@ -7,3 +7,5 @@ pub mod ObjectLemmas
 pub mod Placed
 pub mod Written
 pub mod WrittenRows
+pub mod WrittenWhole
+pub mod ElementByElement

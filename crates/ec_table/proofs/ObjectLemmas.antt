@@ -1,13 +1,11 @@
 -- How many entries and bits a slave's objects have.
-use Rattle.std.proofs.Common.{◌≡◌, ◌≢◌, ℕ, ◌+◌, ◌*◌, ◌<◌, ◌≤◌, Bool, true, false, ◌==◌, List, [], ◌∷◌, ◌++◌, length, Option, Some, None, All, AllPairs, Contains, map, find, sum_by, slice_get, slice_index_or, subst, length-append, arith, refl, sym, ◌∙◌}
-use Rattle.std.specs.List.{flat_map, position_or_len}
+use Rattle.std.proofs.Common.{◌≡◌, ℕ, ◌*◌, ◌<◌, ◌≤◌, ◌==◌, List, [], ◌∷◌, length, Option, Some, None, All, Contains, find, slice_get, slice_index_or, subst, length-append, arith, refl, sym, ◌∙◌}
+use Rattle.std.specs.List.{position_or_len}
 use Rattle.std.specs.Option.{option_map_or}
 use Rattle.std.specs.Cmp.{nat_eq_equiv}
-use Rattle.std.specs.Set.{is_member}
 use Rattle.std.proofs.lemmas.Bool.Decides.{Decides-eqb}
 use Rattle.std.proofs.lemmas.List.{length-map}
-use Rattle.std.proofs.lemmas.List.Concat.{length-flat_map, flat_map-cons}
-use Rattle.std.proofs.lemmas.List.Elements.{All-nil, All-cons, All-append, All-contains, All-get_or}
+use Rattle.std.proofs.lemmas.List.Elements.{All-nil, All-append, All-contains, All-get_or}
 use Rattle.std.proofs.lemmas.List.Folds.{find_at}
 use Rattle.std.proofs.lemmas.List.Sums.{sum_by-le}
 use Rattle.std.proofs.lemmas.Map.Made.{length-le_from_is_member, IsDistinct-from_AllPairs}
@@ -20,9 +18,8 @@ use Rattle.ec_table.specs.declared.rows.TypeRow.{TypeRow}
 use Rattle.ec_table.specs.declared.rows.SlaveRow.{SlaveRow}
 use Rattle.ec_table.specs.Contents.{Contents, pdos_toward, assigned_toward}
 use Rattle.ec_table.specs.Pdos.{indices_of}
-use Rattle.ec_table.specs.Sound.{IsSound, IsOnce, IsEntry, IsPdo, ArePdos, IsType, AreTypes, IsAssignment, IsSlave, AreSlaves}
+use Rattle.ec_table.specs.Sound.{IsOnce, IsEntry, IsPdo, ArePdos, IsType, IsAssignment, IsSlave, AreSlaves}
 use Rattle.ec_table.specs.Objects.{entries_at, assigned_entries, entries_of, bits_of, type_of}
-use Rattle.ec_table.proofs.SoundRows.{type_at_place}
 
 -- no list without doubles is longer than one that has all its elements
 length_le : (xs ys : List ℕ) → IsOnce xs → All (Contains ys) xs → length xs ≤ length ys

@@ -5,18 +5,17 @@ use Rattle.std.specs.Str.{bytes_eq}
 use Rattle.ec_table.specs.declared.rows.Direction.TheVariants.{Out, In}
 use Rattle.toml.specs.Data.{Data, string, integer, float, boolean, datetime, array, table, Members, Items, no_items, item, get_member, at, as_array, as_bool, as_integer, as_str}
 use Rattle.ec_table.specs.declared.fault.Fault.{Fault}
-use Rattle.ec_table.specs.declared.fault.Fault.TheVariants.{Toml, BadKey, BadValue, TwiceNamed, UnknownName}
+use Rattle.ec_table.specs.declared.fault.Fault.TheVariants.{BadKey, BadValue, TwiceNamed, UnknownName}
 use Rattle.ec_table.specs.declared.fault.Place.{Place}
 use Rattle.ec_table.specs.declared.rows.Version.{Version}
 use Rattle.ec_table.specs.declared.rows.TypeRow.{TypeRow}
 use Rattle.ec_table.specs.declared.rows.SlaveRow.{SlaveRow}
 use Rattle.ec_table.specs.declared.rows.VariableRow.{VariableRow}
-use Rattle.ec_table.specs.declared.rows.LinkRow.{LinkRow}
 use Rattle.ec_table.specs.Faults.{fault_place}
-use Rattle.ec_table.specs.Fields.{◌>>=◌, must, keys_are, in_range, magnitude, is_name, number_in, name_in, mailbox_of, mailbox_in, direction_in, link_bits_of, link_bits_in, number_or_0, truth_in}
+use Rattle.ec_table.specs.Fields.{◌>>=◌, must, in_range, magnitude, is_name, number_in, name_in, mailbox_of, mailbox_in, direction_in, link_bits_of, link_bits_in, number_or_0, truth_in}
 use Rattle.ec_table.specs.InOrder.{members_in, rows_after}
 use Rattle.ec_table.specs.Pdos.{entry_of, entry_row, array_of, array_in, pdo_of, pdo_row, pdos_in, number_row, number_list, numbers_in, indices_of, has_twice}
-use Rattle.ec_table.specs.Reading.{device_in, process_in, type_at, type_element, is_slave_name, type_named, assigned_in, all_in, same_list, slave_at, slave_element, variable_at, variable_element, link_at, link_element}
+use Rattle.ec_table.specs.Reading.{device_in, process_in, type_at, is_slave_name, type_named, assigned_in, all_in, same_list, slave_at, variable_at, link_at}
 
 -- a fault, if there is one, is at the place
 pub record FailsAt {A : Type 0} (p : Place) (r : Result A Fault) : Type 0 where

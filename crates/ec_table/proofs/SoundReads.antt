@@ -1,41 +1,33 @@
 -- What was read is sound.
-use Rattle.std.proofs.Common.{◌≡◌, ◌≢◌, ℕ, zero, suc, ◌+◌, ◌<◌, ◌≤◌, Bool, true, false, not, ◌&&◌, ◌||◌, ◌==◌, List, [], ◌∷◌, ◌++◌, length, get_or, Result, Ok, Err, Option, Some, None, is_some, IsTrue, All, AllPairs, Contains, map, nat_le, if◌then◌else◌, unwrap_or, subst, arith, refl, ap, sym, ◌∙◌, codes, slice_get}
-use Rattle.std.specs.List.{list_any, list_all}
+use Rattle.std.proofs.Common.{◌≡◌, ◌≢◌, ℕ, ◌<◌, ◌≤◌, Bool, true, false, not, ◌&&◌, ◌||◌, ◌==◌, List, [], ◌∷◌, ◌++◌, length, get_or, Result, Option, Some, None, is_some, All, nat_le, subst, arith, refl, sym, codes}
+use Rattle.std.specs.List.{list_any}
 use Rattle.std.specs.Str.{bytes_eq}
-use Rattle.std.specs.Option.{ok_or}
 use Rattle.std.proofs.lemmas.Bool.Decides.{nat_tests, Decides-eqb}
 use Rattle.std.proofs.lemmas.Slice.Eq.{bytes_eq-Decides}
-use Rattle.std.proofs.lemmas.List.Elements.{All-push, All-nil, All-cons, All-get_or, All-from_get_or}
+use Rattle.std.proofs.lemmas.List.Elements.{All-push, All-nil, All-cons}
 use Rattle.std.proofs.lemmas.Bool.{or_parts}
 use Rattle.std.proofs.lemmas.List.Folds.{list_any_at}
-use Rattle.std.proofs.lemmas.List.Quantifiers.{all_pairs_push, position-Some}
+use Rattle.std.proofs.lemmas.List.Quantifiers.{all_pairs_push}
 use Rattle.std.proofs.lemmas.List.Kept.{AllPairs-cons}
-use Rattle.toml.specs.Data.{Data, Members, Items, get_member, at, as_array}
-use Rattle.ec_regs.specs.declared.slave_type.Entry.{Entry}
-use Rattle.ec_regs.specs.declared.slave_type.Pdo.{Pdo}
+use Rattle.toml.specs.Data.{Data, Members, Items, get_member, at}
 use Rattle.ec_regs.specs.declared.slave_type.Mailbox.{Mailbox}
 use Rattle.ec_table.specs.declared.fault.Fault.{Fault}
-use Rattle.ec_table.specs.declared.fault.Fault.TheVariants.{BadKey, BadValue, TwiceNamed, UnknownName}
+use Rattle.ec_table.specs.declared.fault.Fault.TheVariants.{BadKey, BadValue, TwiceNamed}
 use Rattle.ec_table.specs.declared.fault.Place.{Place}
 use Rattle.ec_table.specs.declared.rows.Version.{Version}
-use Rattle.ec_table.specs.declared.rows.Version.TheVariants as versions
 use Rattle.ec_table.specs.declared.rows.Direction.{Direction}
 use Rattle.ec_table.specs.declared.rows.Direction.TheVariants.{Out, In}
-use Rattle.ec_table.specs.declared.rows.Device.{Device}
 use Rattle.ec_table.specs.declared.rows.ProcessData.{ProcessData}
 use Rattle.ec_table.specs.declared.rows.TypeRow.{TypeRow}
-use Rattle.ec_table.specs.declared.rows.SlaveRow.{SlaveRow}
 use Rattle.ec_table.specs.declared.rows.VariableRow.{VariableRow}
-use Rattle.ec_table.specs.declared.rows.LinkBits.{LinkBits}
-use Rattle.ec_table.specs.declared.rows.LinkRow.{LinkRow}
 use Rattle.ec_table.specs.declared.fields.Shape.TheVariants as shape
-use Rattle.ec_table.specs.Contents.{Contents, pdos_toward, assigned_toward}
-use Rattle.ec_table.specs.Fields.{◌>>=◌, must, keys_are, number_in, name_in, is_name, mailbox_of, mailbox_in, direction_in, link_bits_of, link_bits_in, number_or_0, truth_in, version_in}
+use Rattle.ec_table.specs.Contents.{pdos_toward}
+use Rattle.ec_table.specs.Fields.{◌>>=◌, must, keys_are, mailbox_of, mailbox_in, direction_in, truth_in}
 use Rattle.ec_table.specs.InOrder.{members_in, rows_after}
-use Rattle.ec_table.specs.Pdos.{entry_of, entry_row, array_of, array_in, pdo_of, pdo_row, pdos_in, indices_of, has_twice, number_row, number_list, numbers_in}
-use Rattle.ec_table.specs.Reading.{is_type_name, device_in, process_in, process_twice, type_at, type_element, is_slave_name, type_named, all_in, same_list, assigned_in, slave_at, slave_element, is_variable_name, variable_at, variable_element, slave_named, variable_named, all_bits, link_at, link_element}
-use Rattle.ec_table.specs.Sound.{IsName, IsOnce, IsDevice, IsMailbox, IsEntry, IsPdo, ArePdos, IsType, AreTypes, IsAssignment, IsSlave, AreSlaves, IsVariable, AreVariables, IsBits, IsLink, IsSound, first_index, last_index}
-use Rattle.ec_table.proofs.Meets.{Meets, meets_ok, meets_err, meets_then, any_met, must_met, ok_or_met, if_met, number_met, name_met, rows_met}
+use Rattle.ec_table.specs.Pdos.{entry_of, entry_row, array_of, array_in, pdo_of, pdo_row, pdos_in, indices_of, has_twice}
+use Rattle.ec_table.specs.Reading.{is_type_name, device_in, process_in, process_twice, type_at, type_element, is_variable_name, variable_at, variable_element}
+use Rattle.ec_table.specs.Sound.{IsOnce, IsDevice, IsMailbox, IsEntry, IsPdo, ArePdos, IsType, AreTypes, IsVariable, AreVariables, first_index, last_index}
+use Rattle.ec_table.proofs.Meets.{Meets, meets_ok, meets_then, any_met, must_met, number_met, name_met, rows_met}
 
 -- ---- values
 

@@ -1,6 +1,6 @@
 -- What was read is sound: slaves, links, and the whole.
-use Rattle.std.proofs.Common.{◌≡◌, ◌≢◌, ℕ, ◌+◌, ◌<◌, ◌≤◌, Bool, true, false, not, ◌&&◌, ◌||◌, ◌==◌, List, [], ◌∷◌, ◌++◌, length, get_or, Result, Ok, Err, Option, Some, None, is_some, All, AllPairs, Contains, unwrap_or, position, subst, arith, refl, sym, ◌∙◌, codes, slice_get}
-use Rattle.std.specs.List.{list_any, list_all}
+use Rattle.std.proofs.Common.{◌≡◌, ◌≢◌, ℕ, ◌<◌, ◌≤◌, Bool, true, false, not, ◌&&◌, ◌||◌, ◌==◌, List, [], ◌∷◌, ◌++◌, length, get_or, Ok, Option, Some, None, is_some, All, Contains, unwrap_or, position, subst, arith, refl, codes, slice_get}
+use Rattle.std.specs.List.{list_any}
 use Rattle.std.specs.Str.{bytes_eq}
 use Rattle.std.specs.Option.{ok_or}
 use Rattle.std.specs.Ordering.{is_eq, match_ordering, nat_cmp}
@@ -30,13 +30,13 @@ use Rattle.ec_table.specs.declared.rows.VariableRow.{VariableRow}
 use Rattle.ec_table.specs.declared.rows.LinkBits.{LinkBits}
 use Rattle.ec_table.specs.declared.rows.LinkRow.{LinkRow}
 use Rattle.ec_table.specs.declared.fields.Shape.TheVariants as shape
-use Rattle.ec_table.specs.Contents.{Contents, pdos_toward, assigned_toward}
-use Rattle.ec_table.specs.Fields.{◌>>=◌, must, each_key, is_key, has_required, keys_are, number_in, link_bits_of, link_bits_in, number_or_0, version_in, section_in}
+use Rattle.ec_table.specs.Contents.{pdos_toward, assigned_toward}
+use Rattle.ec_table.specs.Fields.{must, each_key, is_key, has_required, keys_are, link_bits_of, link_bits_in, number_or_0, version_in, section_in}
 use Rattle.ec_table.specs.InOrder.{rows_after}
 use Rattle.ec_table.specs.Pdos.{indices_of, has_twice, numbers_in}
 use Rattle.ec_table.specs.Reading.{is_slave_name, type_named, all_in, same_list, assigned_in, slave_at, slave_element, slave_named, variable_named, all_bits, link_at, link_element, type_element, variable_element, top, table_of_document, table_of}
 use Rattle.ec_table.specs.Sound.{IsOnce, IsType, AreTypes, IsAssignment, IsSlave, AreSlaves, IsVariable, AreVariables, IsBits, IsLink, IsSound, IsName}
-use Rattle.ec_table.proofs.Meets.{Meets, meets_ok, meets_err, meets_then, any_met, must_met, ok_or_met, number_met, name_met, rows_met}
+use Rattle.ec_table.proofs.Meets.{Meets, meets_ok, meets_then, any_met, must_met, ok_or_met, number_met, name_met, rows_met}
 use Rattle.ec_table.proofs.SoundReads.{once_from_test, not_true, fresh, members_met, types_met, variables_met}
 
 -- ---- keys

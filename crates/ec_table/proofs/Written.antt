@@ -1,32 +1,30 @@
 -- A sound table, written out, is read: values, entries, objects, variables.
-use Rattle.std.proofs.Common.{◌≡◌, ◌≢◌, ℕ, zero, suc, pos, ◌+◌, ◌<◌, ◌≤◌, Bool, true, false, not, ◌&&◌, ◌||◌, ◌==◌, nat_le, List, [], ◌∷◌, ◌++◌, length, get_or, map, codes, Result, Ok, Err, Option, Some, None, All, AllPairs, slice_get, refl, sym, ◌∙◌, ap, subst, arith, append_assoc, length-append}
-use Rattle.std.specs.List.{list_any, list_all}
+use Rattle.std.proofs.Common.{◌≡◌, ◌≢◌, ℕ, ◌+◌, ◌<◌, ◌≤◌, true, false, not, ◌||◌, ◌==◌, nat_le, List, [], ◌∷◌, ◌++◌, length, get_or, map, Result, Ok, Some, All, AllPairs, refl, sym, ◌∙◌, ap, subst, arith, append_assoc, length-append}
+use Rattle.std.specs.List.{list_any}
 use Rattle.std.specs.Str.{bytes_eq}
-use Rattle.std.specs.Option.{option_map_or}
-use Rattle.std.proofs.lemmas.Bool.Decides.{nat_tests, Decides-eqb}
+use Rattle.std.proofs.lemmas.Bool.Decides.{nat_tests}
 use Rattle.std.proofs.lemmas.List.{append-nil}
 use Rattle.std.proofs.lemmas.List.Folds.{list_any_none}
 use Rattle.std.proofs.lemmas.Slice.Eq.{bytes_eq-Decides}
 use Rattle.std.proofs.Math.Seq.{get_or-append_seam}
 use Rattle.std.proofs.Math.ListN.{get_or-append}
-use Rattle.toml.specs.Data.{Data, string, integer, boolean, array, table, Members, no_members, member, Items, no_items, item, get_member, at, as_array}
+use Rattle.toml.specs.Data.{Data, string}
 use Rattle.toml.specs.View.{items_of}
 use Rattle.ec_regs.specs.declared.slave_type.Entry.{Entry}
 use Rattle.ec_regs.specs.declared.slave_type.Pdo.{Pdo}
 use Rattle.ec_regs.specs.declared.slave_type.Mailbox.{Mailbox}
 use Rattle.ec_table.specs.declared.fault.Fault.{Fault}
-use Rattle.ec_table.specs.declared.fault.Fault.TheVariants.{BadKey, BadValue, TwiceNamed}
 use Rattle.ec_table.specs.declared.fault.Place.{Place}
 use Rattle.ec_table.specs.declared.rows.Version.{Version}
 use Rattle.ec_table.specs.declared.rows.Direction.{Direction}
 use Rattle.ec_table.specs.declared.rows.Direction.TheVariants.{Out, In}
 use Rattle.ec_table.specs.declared.rows.VariableRow.{VariableRow}
 use Rattle.ec_table.specs.declared.rows.LinkBits.{LinkBits}
-use Rattle.ec_table.specs.Fields.{◌>>=◌, must, number_in, name_in, is_name, mailbox_of, mailbox_in, direction_in, link_bits_of, link_bits_in}
+use Rattle.ec_table.specs.Fields.{number_in, name_in, mailbox_of, mailbox_in, direction_in, link_bits_of, link_bits_in}
 use Rattle.ec_table.specs.InOrder.{rows_after}
-use Rattle.ec_table.specs.Pdos.{entry_of, entry_row, array_of, array_in, pdo_of, pdo_row, pdos_in, indices_of, has_twice, number_row, number_list, numbers_in}
+use Rattle.ec_table.specs.Pdos.{entry_of, entry_row, array_of, array_in, pdo_of, pdo_row, pdos_in, number_row, number_list, numbers_in}
 use Rattle.ec_table.specs.Reading.{is_variable_name, variable_at}
-use Rattle.ec_table.specs.Sound.{IsName, IsOnce, IsMailbox, IsEntry, IsPdo, ArePdos, IsVariable, IsBits, first_index, last_index}
+use Rattle.ec_table.specs.Sound.{IsName, IsMailbox, IsEntry, IsPdo, ArePdos, IsVariable, IsBits, first_index, last_index}
 use Rattle.ec_table.proofs.SoundRows.{false_from}
 use Rattle.ec_table.specs.Writing.{number, array_of_all, entry_data, pdo_data, mailbox_data, direction_text, variable_members, bits_data}
 

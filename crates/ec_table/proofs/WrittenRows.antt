@@ -1,39 +1,27 @@
 -- A sound table, written out, is read: types, slaves, links, the document.
-use Rattle.std.proofs.Common.{◌≡◌, ◌≢◌, ℕ, zero, suc, pos, ◌+◌, ◌<◌, ◌≤◌, Bool, true, false, not, ◌&&◌, ◌||◌, ◌==◌, List, [], ◌∷◌, ◌++◌, length, get_or, map, codes, Result, Ok, Err, Option, Some, None, is_some, unwrap_or, position, All, AllPairs, Contains, slice_get, refl, sym, ◌∙◌, ap, subst, arith, add-one}
-use Rattle.std.specs.List.{list_any, list_all}
-use Rattle.std.specs.Str.{bytes_eq}
-use Rattle.std.specs.Option.{option_map_or, ok_or}
+use Rattle.std.proofs.Common.{◌≡◌, ◌≢◌, ℕ, ◌+◌, Bool, false, ◌==◌, List, [], ◌∷◌, get_or, map, Ok, Option, Some, None, All, refl, sym, arith, add-one}
+use Rattle.std.specs.List.{list_any}
 use Rattle.std.proofs.lemmas.Bool.{or_from}
 use Rattle.std.proofs.lemmas.List.Folds.{list_any_none}
 use Rattle.std.proofs.lemmas.Bool.Decides.{Decides-eqb}
-use Rattle.std.proofs.lemmas.List.Elements.{All-get_or, All-contains}
-use Rattle.std.proofs.lemmas.Option.{slice_get_within, get_or_from_slice_get, slice_get-get_or}
-use Rattle.std.proofs.lemmas.Slice.Eq.{bytes_eq-Decides}
-use Rattle.toml.specs.Data.{Data, string, integer, boolean, array, table, Members, no_members, member, Items, no_items, item, get_member}
+use Rattle.toml.specs.Data.{table}
 use Rattle.toml.specs.View.{items_of}
 use Rattle.ec_regs.specs.declared.slave_type.Mailbox.{Mailbox}
-use Rattle.ec_regs.specs.declared.slave_type.Pdo.{Pdo}
-use Rattle.ec_table.specs.declared.fault.Fault.{Fault}
 use Rattle.ec_table.specs.declared.fault.Place.{Place}
 use Rattle.ec_table.specs.declared.rows.Version.{Version}
-use Rattle.ec_table.specs.declared.rows.Version.TheVariants.{One, Two}
-use Rattle.ec_table.specs.declared.rows.Direction.{Direction}
 use Rattle.ec_table.specs.declared.rows.Direction.TheVariants.{Out, In}
 use Rattle.ec_table.specs.declared.rows.Device.{Device}
 use Rattle.ec_table.specs.declared.rows.ProcessData.{ProcessData}
 use Rattle.ec_table.specs.declared.rows.TypeRow.{TypeRow}
-use Rattle.ec_table.specs.declared.rows.SlaveRow.{SlaveRow}
 use Rattle.ec_table.specs.declared.rows.VariableRow.{VariableRow}
-use Rattle.ec_table.specs.declared.rows.LinkRow.{LinkRow}
-use Rattle.ec_table.specs.Contents.{Contents, pdos_toward, assigned_toward}
-use Rattle.ec_table.specs.Fields.{◌>>=◌, must, number_in, name_in, mailbox_in, section_in, are_tables, is_table, version_in}
+use Rattle.ec_table.specs.Fields.{mailbox_in}
 use Rattle.ec_table.specs.InOrder.{rows_after}
-use Rattle.ec_table.specs.Pdos.{pdos_in, indices_of, has_twice, numbers_in}
-use Rattle.ec_table.specs.Reading.{is_type_name, device_in, process_in, process_twice, type_at, type_element, is_slave_name, type_named, all_in, same_list, assigned_in, slave_at, slave_element, variable_element, slave_named, variable_named, link_at, link_element, table_of_document}
-use Rattle.ec_table.specs.Sound.{IsName, IsOnce, IsDevice, IsMailbox, IsPdo, ArePdos, IsType, AreTypes, IsAssignment, IsSlave, AreSlaves, IsVariable, AreVariables, IsBits, IsLink, IsSound, first_index, last_index}
-use Rattle.ec_table.specs.Writing.{number, array_of_all, pdo_data, mailbox_data, with_mailbox, type_members, unit_members, type_name, slave_members, variable_members, bits_data, slave_name, variable_name, link_members, version_number, document_of}
-use Rattle.ec_table.proofs.Written.{number_reads, name_reads, direction_reads, mailbox_reads, bits_read, rows_written, middle, pdos_read, numbers_read, differ, not_before, variable_reads}
-use Rattle.ec_table.proofs.SoundRows.{type_at_place, false_from}
+use Rattle.ec_table.specs.Pdos.{indices_of, has_twice}
+use Rattle.ec_table.specs.Reading.{is_type_name, device_in, process_in, process_twice, type_at, type_element, variable_element}
+use Rattle.ec_table.specs.Sound.{IsOnce, IsDevice, IsType, AreTypes, IsVariable, AreVariables}
+use Rattle.ec_table.specs.Writing.{type_members, variable_members}
+use Rattle.ec_table.proofs.Written.{number_reads, name_reads, mailbox_reads, rows_written, middle, pdos_read, not_before, variable_reads}
+use Rattle.ec_table.proofs.SoundRows.{false_from}
 
 -- ---- types
 

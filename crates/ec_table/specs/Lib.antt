@@ -6,5 +6,5 @@ pub mod Pdos
 pub mod Reading
 pub mod Sound
 pub mod Objects
-pub mod Laws
 pub mod Writing
+pub mod Laws

@@ -1,5 +1,5 @@
 -- The elements of the sections, in the order of their tests: keys, values key by key, doubles, references.
-use Rattle.std.specs.Prelude.{List, [], ℕ, ◌==◌, Bool, not, ◌&&◌, ◌||◌, codes, Option, Some, None, is_some, unwrap_or, position, slice_get, Result, Ok}
+use Rattle.std.specs.Prelude.{List, [], ℕ, ◌==◌, Bool, not, ◌&&◌, ◌||◌, codes, Option, is_some, unwrap_or, position, slice_get, Result, Ok}
 use Rattle.std.specs.List.{list_any, list_all}
 use Rattle.std.specs.Str.{bytes_eq}
 use Rattle.std.specs.Option.{ok_or}
@@ -10,7 +10,6 @@ use Rattle.ec_table.specs.declared.fault.Fault.TheVariants.{Toml, BadKey, BadVal
 use Rattle.ec_table.specs.declared.fault.Place.{Place}
 use Rattle.ec_table.specs.declared.fault.Section.TheVariants as section
 use Rattle.ec_table.specs.declared.rows.Version.{Version}
-use Rattle.ec_table.specs.declared.rows.Version.TheVariants as versions
 use Rattle.ec_table.specs.declared.rows.Device.{Device}
 use Rattle.ec_table.specs.declared.rows.ProcessData.{ProcessData}
 use Rattle.ec_table.specs.declared.rows.TypeRow.{TypeRow}

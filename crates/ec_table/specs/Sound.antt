@@ -1,5 +1,5 @@
 -- What each table that was read keeps.
-use Rattle.std.specs.Prelude.{◌≡◌, ◌≢◌, ℕ, ◌<◌, ◌≤◌, List, length, Option, Some, None, All, AllPairs, Contains, IsTrue, map, slice_get}
+use Rattle.std.specs.Prelude.{◌≡◌, ◌≢◌, ℕ, ◌<◌, ◌≤◌, List, length, Option, Some, None, All, AllPairs, Contains, IsTrue, slice_get}
 use Rattle.ec_regs.specs.declared.slave_type.Entry.{Entry}
 use Rattle.ec_regs.specs.declared.slave_type.Pdo.{Pdo}
 use Rattle.ec_regs.specs.declared.slave_type.Mailbox.{Mailbox}

@@ -1,5 +1,5 @@
 -- The document of a table, with each key written.
-use Rattle.std.specs.Prelude.{◌≡◌, ℕ, pos, List, [], ◌∷◌, map, codes, Option, Some, None, Ok, slice_get}
+use Rattle.std.specs.Prelude.{ℕ, pos, List, [], map, codes, Option, Some, None, slice_get}
 use Rattle.std.specs.Option.{option_map_or}
 use Rattle.toml.specs.Data.{Data, string, integer, boolean, array, table, Members, no_members, member, no_items, item}
 use Rattle.toml.specs.View.{items_of}
@@ -16,8 +16,6 @@ use Rattle.ec_table.specs.declared.rows.VariableRow.{VariableRow}
 use Rattle.ec_table.specs.declared.rows.LinkRow.{LinkRow}
 use Rattle.ec_table.specs.declared.rows.LinkBits.{LinkBits}
 use Rattle.ec_table.specs.Contents.{Contents}
-use Rattle.ec_table.specs.Sound.{IsSound}
-use Rattle.ec_table.specs.Reading.{table_of_document}
 
 abbrev pub number : ℕ → Data
 number n = integer (pos n)

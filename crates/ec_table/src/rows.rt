@@ -20,8 +20,8 @@ impl Model for Name {
 }
 
 impl Name {
-    /// A copy of a text as a name.
-    pub fn new(alloc: Global, text: &str) -> Result<Name, AllocError>
+    /// A copy of a text as a name; the caller has tested it.
+    pub(crate) fn new(alloc: Global, text: &str) -> Result<Name, AllocError>
         ensures { IfOk result (λ n. n ≡ text.now) }
     {
         Ok(Name {
