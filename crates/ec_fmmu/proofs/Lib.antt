@@ -3,3 +3,4 @@ pub mod SetLaws
 pub mod AppliedLaws
 pub mod RunLaws
 pub mod RangeLaws
+pub mod TouchLaws

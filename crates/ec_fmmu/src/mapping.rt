@@ -4,11 +4,8 @@ ghost use Rattle.ec_regs.specs.Memory.{ram_end};
 ghost use Rattle.ec_fmmu.specs.Pairs.{first_logical as first_logical_of, first_physical as first_physical_of, bit_count as bit_count_of, mapped, unmapped, is_ram_bit as is_ram_bit_of};
 
 use ec_regs::FmmuSettings;
+use ec_regs::registers::{RAM_END, RAM_START};
 use std::marker::Model;
-
-const RAM_START: u64 = 8 * 0x1000;
-
-const RAM_BITS: u64 = 8 * 0x2000;
 
 /// Whether `from ≤ place < from + count`.
 pub(crate) fn within(from: u64, count: u64, place: u64) -> bool
@@ -22,7 +19,8 @@ pub(crate) fn within(from: u64, count: u64, place: u64) -> bool
 fn is_ram_bit(physical: u64) -> bool
     ensures { result ≡ is_ram_bit_of physical }
 {
-    within(RAM_START, RAM_BITS, physical)
+    let address = physical / 8;
+    u64::from(RAM_START) <= address && address < u64::from(RAM_END)
 }
 
 /// One FMMU (fieldbus memory management unit): a set of pairs of a logical and a physical bit.

@@ -57,8 +57,9 @@ fn write_range<A: Allowed>(
     requires can { A.can_allow rights.now }
     requires data_fits { from + 8 * length data.now < 2 ^ 64 }
     requires window_fits { origin + 8 * length window.old < 2 ^ 32 }
-    ensures any { result ≡ any_below (8 * length window.old)
-        (λ k. is_some (range_write_told range.now fmmus.now (A.allowed rights.now) from data.now origin k)) }
+    ensures any { result
+        ≡ any_below (8 * length window.old) (λ k. is_some
+        (range_write_told range.now fmmus.now (A.allowed rights.now) from data.now origin k)) }
     ensures bits { window.new ≡ overlay window.old
         (range_write_told range.now fmmus.now (A.allowed rights.now) from data.now origin) }
 {

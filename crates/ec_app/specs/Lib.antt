@@ -1,0 +1,3 @@
+pub mod Passing
+pub mod Refusals
+pub mod Running

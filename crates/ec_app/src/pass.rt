@@ -1,0 +1,80 @@
+//! `ecat pass`: a frame in hex, through a ring of slaves at power-on.
+ghost use Rattle.std.specs.Prelude.{◌≡◌, ◌⊎◌, IfOk, IfErr, OnOk, replicate};
+ghost use Rattle.std.specs.String.{string_bytes};
+ghost use Rattle.ec_app.specs.Passing.{IsAnswer, IsPassRefusal, PrintsAnswer, SpellsPayload, plain_slave};
+
+use crate::Refusal;
+use ec_regs::{Identity, SlaveType};
+use ec_ring::Ring;
+use ec_slave::Slave;
+use hex::FromHexError;
+use std::alloc::{AllocError, Global};
+use std::io::Write;
+
+/// The most bytes that the payload of an EtherCAT frame has.
+const MAX_PAYLOAD: usize = 1472;
+
+/// The identity of slaves that stand for none in particular.
+const NO_IDENTITY: Identity = Identity {
+    vendor: 0,
+    product: 0,
+    revision: 0,
+    serial: 0,
+};
+
+/// A ring of that many slaves at power-on, without objects.
+fn plain_ring(alloc: Global, slaves: usize) -> Result<Ring, AllocError>
+    ensures { IfOk result (λ ring. ring ≡ replicate slaves plain_slave) }
+{
+    let mut ring = Vec::with_capacity(alloc, slaves)?;
+    for _ in 0..slaves {
+        ring.push(Slave::new(alloc, SlaveType::plain(alloc), NO_IDENTITY)?)?;
+    }
+    Ok(Ring::new(ring))
+}
+
+/// The payload that the text spells.
+fn read_payload(alloc: Global, text: &str) -> Result<Vec<u8>, Refusal>
+    ensures spelled { IfOk result (λ payload. SpellsPayload text.now payload.items) }
+    ensures refused { IfErr result (IsPassRefusal text.now) }
+{
+    let payload = match hex::decode(alloc, text) {
+        Ok(payload) => payload,
+        Err(FromHexError::OutOfMemory) => return Err(Refusal::Memory),
+        Err(_) => return Err(Refusal::BadHex),
+    };
+    if payload.len() > MAX_PAYLOAD {
+        return Err(Refusal::TooLong);
+    }
+    Ok(payload)
+}
+
+/// The frame that the text spells in hex digits of either case, as it comes back from a ring of that
+/// many slaves at power-on without objects, in lower-case hex. Refused are, in this order, a text that
+/// is no hex, more than 1472 bytes, and what `ec_frame::check` refuses.
+pub fn pass_hex(alloc: Global, slaves: usize, text: &str) -> Result<String, Refusal>
+    ensures answer { IfOk result (λ answer. IsAnswer slaves text.now (string_bytes answer)) }
+    ensures refused { IfErr result (IsPassRefusal text.now) }
+{
+    let mut payload = read_payload(alloc, text)?;
+    ec_frame::check(payload.as_slice())?;
+    let mut ring = plain_ring(alloc, slaves)?;
+    ring.pass_all(payload.as_mut_slice()).unwrap();
+    Ok(hex::encode(alloc, payload.as_slice())?)
+}
+
+/// Prints what `pass_hex` answers, and a newline.
+pub fn print_pass<W: Write>(
+    alloc: Global,
+    slaves: usize,
+    text: &str,
+    output: &mut W,
+) -> Result<(), Refusal>
+    ensures printed { OnOk result (PrintsAnswer slaves text.now (W.contents output.old)
+        (W.contents output.new)) }
+    ensures refused { IfErr result (λ refusal. (refusal ≡ Refusal.Output)
+        ⊎ (IsPassRefusal text.now refusal × (output.new ≡ output.old))) }
+{
+    let answer = pass_hex(alloc, slaves, text)?;
+    writeln!(output, "{answer}").map_err(|_| Refusal::Output)
+}
