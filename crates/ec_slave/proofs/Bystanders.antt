@@ -1,5 +1,5 @@
 -- Datagrams that pass.
-use Rattle.std.proofs.Common.{Bool, true, false, if◌then◌else◌, ℕ, ◌+◌, ◌*◌, ◌/◌, ◌%◌, ◌<◌, ◌≡◌, ◌==◌, inl, inr, List, false, refl, ◌∙◌, ap, arith}
+use Rattle.std.proofs.Common.{[], ◌∷◌, Bool, true, false, if◌then◌else◌, ℕ, ◌+◌, ◌*◌, ◌/◌, ◌%◌, ◌<◌, ◌≡◌, ◌==◌, inl, inr, List, false, refl, ◌∙◌, ap, arith}
 use Rattle.std.proofs.lemmas.Bool.{ne_eqb}
 use Rattle.ec_frame.specs.declared.command.Command.{Command}
 use Rattle.ec_frame.specs.declared.command.Command.TheVariants.{Nop, Aprd, Apwr, Aprw, Fprd, Fpwr, Fprw, Brd, Bwr, Brw, Lrd, Lwr, Lrw, Armw, Frmw}
@@ -9,8 +9,8 @@ use Rattle.ec_slave.specs.declared.role.Role.{Role}
 use Rattle.ec_slave.specs.declared.role.Role.TheVariants.{Nothing}
 use Rattle.ec_slave.specs.Roles.{role_of, adp_after}
 use Rattle.ec_slave.specs.State.{SlaveState, Met, station_of, with_answer}
-use Rattle.ec_slave.specs.Access.{Window, meeting}
-use Rattle.ec_slave.specs.Meeting.{window_of, meets, meets_by, meets_physically}
+use Rattle.ec_slave.specs.Access.{Window, meeting, slave_after}
+use Rattle.ec_slave.specs.Meeting.{window_of, meets, meets_by, meets_physically, passes, slave_met}
 use Rattle.ec_slave.specs.Keeping.{adp_after-bound, length-meeting}
 use Rattle.ec_slave.specs.Laws.{OtherStationPasses, OtherPositionPasses, HeadingStays, KeepsHeading}
 use Rattle.ec_bits.proofs.BitLaws.{length-overlay}
@@ -118,3 +118,48 @@ heading_by Frmw s d good = physical_heading s d good
 pub heading_stays : HeadingStays
 unfolding meets
 heading_stays s d good = heading_by d.command s d good
+
+-- ---- what no datagram changes in a slave
+
+meeting-kept : (s : SlaveState) (role : Role) (w : Window) → ((meeting s role w).slave.kind ≡ s.kind) × ((meeting s role w).slave.identity ≡ s.identity)
+unfolding meeting slave_after
+meeting-kept s role w = (refl, refl)
+
+logical-kept : (reading writing : Bool) (weight : ℕ) (s : SlaveState) (d : Datagram)
+  → ((meets_logical reading writing weight s d).slave.kind ≡ s.kind) × ((meets_logical reading writing weight s d).slave.identity ≡ s.identity)
+unfolding meets_logical
+logical-kept reading writing weight s d = (refl, refl)
+
+lrw-kept : (b : Bool) (s : SlaveState) (d : Datagram)
+  → ((if b then meets_logical true true 2 s d else record { slave = s; datagram = d }).slave.kind ≡ s.kind)
+  × ((if b then meets_logical true true 2 s d else record { slave = s; datagram = d }).slave.identity ≡ s.identity)
+lrw-kept true s d = logical-kept true true 2 s d
+lrw-kept false s d = (refl, refl)
+
+kept_by : (c : Command) (s : SlaveState) (d : Datagram) → ((meets_by c s d).slave.kind ≡ s.kind) × ((meets_by c s d).slave.identity ≡ s.identity)
+kept_by Nop s d = (refl, refl)
+kept_by Aprd s d = meeting-kept s _ _
+kept_by Apwr s d = meeting-kept s _ _
+kept_by Aprw s d = meeting-kept s _ _
+kept_by Fprd s d = meeting-kept s _ _
+kept_by Fpwr s d = meeting-kept s _ _
+kept_by Fprw s d = meeting-kept s _ _
+kept_by Brd s d = meeting-kept s _ _
+kept_by Bwr s d = meeting-kept s _ _
+kept_by Brw s d = meeting-kept s _ _
+kept_by Lrd s d = logical-kept true false 1 s d
+kept_by Lwr s d = logical-kept false true 1 s d
+kept_by Lrw s d = lrw-kept s.kind.lrw s d
+kept_by Armw s d = meeting-kept s _ _
+kept_by Frmw s d = meeting-kept s _ _
+
+met-kept : (s : SlaveState) (d : Datagram) → ((slave_met s d).kind ≡ s.kind) × ((slave_met s d).identity ≡ s.identity)
+unfolding meets
+met-kept s d = kept_by d.command s d
+
+pub passes-kept : (s : SlaveState) (ds : List Datagram) → ((passes s ds).slave.kind ≡ s.kind) × ((passes s ds).slave.identity ≡ s.identity)
+passes-kept s [] = (refl, refl)
+passes-kept s (d ∷ ds) =
+    let m = met-kept s d in
+    let r = passes-kept (slave_met s d) ds in
+    (r.0 ∙ m.0, r.1 ∙ m.1)

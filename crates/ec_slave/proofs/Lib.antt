@@ -1,5 +1,7 @@
 pub mod AgainstAll
 mod Answered
+mod Applications
+mod Assigning
 mod Bytes
 pub mod Broadcast
 mod Decoded

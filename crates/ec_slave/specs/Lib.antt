@@ -8,6 +8,7 @@ pub mod Written
 pub mod Sights
 pub mod Meeting
 pub mod Ways
+pub mod Application
 pub mod Telling
 pub mod Keeping
 pub mod Exchange

@@ -2,6 +2,7 @@
 #![tactic(auto)]
 
 mod access;
+mod application;
 mod fmmus;
 pub mod laws;
 mod logical;

@@ -14,7 +14,9 @@ impl Slave {
     /// left it. Allocates nothing.
     pub fn pass(&mut self, frame: &mut [u8])
         requires { (p : Payload) × IsFrame frame.old p }
-        ensures { IsPassed self.old frame.old self.new frame.new }
+        ensures kind { self.new.kind ≡ self.old.kind }
+        ensures identity { self.new.identity ≡ self.old.identity }
+        ensures meets { IsPassed self.old frame.old self.new frame.new }
     {
         pass(self, frame);
     }

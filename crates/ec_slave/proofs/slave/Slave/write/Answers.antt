@@ -6,6 +6,8 @@ use Rattle.ec_slave.specs.State.{fmmus_of}
 use Rattle.ec_slave.specs.Access.{Window, memory_written}
 use Rattle.ec_slave.specs.Keeping.{length-retold}
 use Rattle.ec_slave.proofs.Decoded.{decoded-kept}
+use Rattle.ec_sii.specs.Port.{Sii}
+use Rattle.ec_slave.proofs.Assigning.{written-image}
 use Rattle.ec_slave.proofs.Meets.{front-taken}
 use Rattle.ec_slave.proofs.slave.Slave.write.Goals as goal
 
@@ -31,4 +33,7 @@ invariant_of-self c =
         ∙ (ap (λ (xs : List ℕ). if nat_lt w.from 1600 then fmmus_of xs else fs) now
         ∙ (decoded-kept ms w old fs room (c.self.invariant.decoded ∙ ap fmmus_of (sym own))
         ∙ ap fmmus_of (sym (front ∙ written))));
+      image = ap (λ (p : Sii). p.image) c.write.ensures ∙ (written-image c.self.inside.port c.args.from c.args.bytes.now ∙ c.self.invariant.image);
+      outs = c.self.invariant.outs;
+      ins = c.self.invariant.ins;
     }

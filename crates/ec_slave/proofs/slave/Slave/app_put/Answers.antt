@@ -1,0 +1,19 @@
+use Rattle.std.proofs.Common.{◌≡◌, ◌<◌, ◌∙◌, ap, sym, arith, length, unwrap_or}
+use Rattle.ec_al.specs.Al.{Al}
+use Rattle.ec_sync.specs.Manager.{Manager, app_put}
+use Rattle.ec_slave.specs.State.{SlaveState, manager_at}
+use Rattle.ec_slave.specs.Application.{is_running, with_manager}
+use Rattle.ec_slave.proofs.Applications.{put_after, indexed}
+use Rattle.ec_slave.proofs.slave.Slave.app_put.Goals as goal
+
+pub returns-clause-after : goal.returns-clause-after
+returns-clause-after c =
+    let s : SlaveState = c.args.self.now in
+    let four : 3 < length c.self.inside.managers.items = omega (arith, c.self.invariant.four) in
+    let managers = ap (λ (x : SlaveState). x.managers) c.self.view_is in
+    let al = ap (λ (x : SlaveState). x.al.state) c.self.view_is in
+    let here : c.index_mut.result.now ≡ manager_at s.managers 3 = indexed _ s.managers 3 _ four c.index_mut.ensures.value managers in
+    ap (λ (x : SlaveState). with_manager x 3 c.app_put.new.self) c.self.view_is
+    ∙ put_after s c.args.place c.args.byte c.app_put.new.self
+        (sym (ap is_running al) ∙ (sym (c.is_running.ensures ∙ ap is_running c.state.ensures) ∙ c.if-not-is_running.false))
+        (c.app_put.ensures.after ∙ ap (λ (m : Manager). unwrap_or (app_put m c.args.place c.args.byte) m) here)

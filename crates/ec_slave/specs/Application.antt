@@ -1,0 +1,45 @@
+-- What a slave's application reads and writes (ETG.1000.5, "process data"; byte by byte, the profile of the simulated
+-- slaves): the outputs of manager 2 and the inputs of manager 3, in SAFEOP and in OP.
+use Rattle.std.specs.Prelude.{ℕ, ◌&&◌, List, [], Bool, true, false, if◌then◌else◌, Option, Some, None, option_map, slice_set}
+use Rattle.ec_regs.specs.Managers.{is_set, is_buffered}
+use Rattle.ec_al.specs.declared.state.State.{State}
+use Rattle.ec_al.specs.declared.state.State.TheVariants.{SafeOp, Op}
+use Rattle.ec_sync.specs.Buffer.{Got}
+use Rattle.ec_sync.specs.Manager.{Manager, may_app_put, may_app_get, app_put, app_got, after_get}
+use Rattle.ec_slave.specs.State.{SlaveState, manager_at}
+
+-- the states in which the application has process data
+abbrev pub is_running : State → Bool
+is_running SafeOp = true
+is_running Op = true
+is_running state = false
+
+-- the last outputs that were published whole; none where manager 2 isn't a set buffered manager
+abbrev pub outputs_shown : SlaveState → List ℕ
+outputs_shown s =
+    let m = manager_at s.managers 2 in
+    if is_set m.settings && is_buffered m.settings then m.buffer.published else []
+
+-- how many bytes of outputs the application may read now, 0 where it is denied every byte
+abbrev pub get_size : SlaveState → ℕ
+get_size s = let m = manager_at s.managers 2 in if is_running s.al.state && may_app_get m then m.settings.length else 0
+
+-- how many bytes of inputs it may write now, 0 where it is denied every byte
+abbrev pub put_size : SlaveState → ℕ
+put_size s = let m = manager_at s.managers 3 in if is_running s.al.state && may_app_put m then m.settings.length else 0
+
+abbrev pub with_manager : SlaveState → ℕ → Manager → SlaveState
+with_manager s n m = record s { managers = slice_set s.managers n m }
+
+-- the application writes byte i of the inputs: nothing where it is denied
+abbrev pub input_put : SlaveState → ℕ → ℕ → Option SlaveState
+input_put s i x = if is_running s.al.state then option_map (with_manager s 3) (app_put (manager_at s.managers 3) i x) else None
+
+-- the application reads byte i of the outputs: nothing where it is denied
+abbrev pub output_got : SlaveState → ℕ → Option Got
+output_got s i = if is_running s.al.state then app_got (manager_at s.managers 2) i else None
+
+-- the slave after it
+abbrev pub output_taken : SlaveState → Option Got → SlaveState
+output_taken s None = s
+output_taken s (Some got) = with_manager s 2 (after_get (manager_at s.managers 2) (Some got))

@@ -1,0 +1,126 @@
+//! What a slave's application reads and writes, and the slave switched off and on.
+
+ghost use Rattle.std.specs.Prelude.{◌≡◌, ◌<◌, ◌≤◌, [], ◌∷◌, length, is_some, option_map, unwrap_or};
+ghost use Rattle.ec_bits.specs.Bits.{zeros};
+ghost use Rattle.ec_sync.specs.Manager.{no_manager};
+ghost use Rattle.ec_slave.specs.State.{indices, power_on};
+ghost use Rattle.ec_slave.specs.Application.{is_running as runs_in, outputs_shown, get_size, put_size, input_put, output_got, output_taken};
+
+use crate::fmmus::read_fmmus;
+use crate::slave::Slave;
+use ec_al::State;
+use ec_regs::{ManagerSettings, Pdo};
+use ec_sync::Manager;
+
+/// Whether the application has process data in an AL state.
+fn is_running(state: State) -> bool
+    ensures { result ≡ runs_in state }
+{
+    match state {
+        State::SafeOp | State::Op => true,
+        State::Init | State::PreOp => false,
+    }
+}
+
+impl Slave {
+    /// The outputs that were published last, of manager 2; empty where that manager isn't set or is a mailbox.
+    pub fn outputs(&self) -> &[u8]
+        ensures { result.now ≡ outputs_shown self.now }
+    {
+        self.managers[2].published()
+    }
+
+    /// How many bytes of outputs `app_get` has now, and how many bytes of inputs `app_put` has: 0 where it is denied every
+    /// byte.
+    pub fn app_sizes(&self) -> (usize, usize)
+        ensures get { result.0 ≡ get_size self.now }
+        ensures put { result.1 ≡ put_size self.now }
+    {
+        let is_running = is_running(self.al.state());
+        let outputs = &self.managers[2];
+        let inputs = &self.managers[3];
+        (
+            if is_running && outputs.may_app_get() { outputs.settings().length as usize } else { 0 },
+            if is_running && inputs.may_app_put() { inputs.settings().length as usize } else { 0 },
+        )
+    }
+
+    /// The application writes byte `place` of the inputs: byte 0 opens a draft of zeros, the last byte publishes it. False,
+    /// and nothing changes, exactly where it is denied: in SAFEOP and OP alone, on manager 3 enabled, buffered and read by
+    /// the ring, and below its length, the bytes after the first on an open draft.
+    pub fn app_put(&mut self, place: usize, byte: u8) -> bool
+        ensures granted { result ≡ is_some (input_put self.old place byte) }
+        ensures after { self.new ≡ unwrap_or (input_put self.old place byte) self.old }
+    {
+        if !is_running(self.al.state()) {
+            return false;
+        }
+        self.managers[3].app_put(place, byte)
+    }
+
+    /// The application reads byte `place` of the outputs: byte 0 opens a view of what is published, the last byte closes it.
+    /// `None`, and nothing changes, exactly where it is denied: in SAFEOP and OP alone, on manager 2 enabled, buffered and
+    /// written by the ring, and below its length, the bytes after the first on an open view.
+    pub fn app_get(&mut self, place: usize) -> Option<u8>
+        ensures byte { result ≡ option_map (λ got. got.byte) (output_got self.old place) }
+        ensures after { self.new ≡ output_taken self.old (output_got self.old place) }
+    {
+        if !is_running(self.al.state()) {
+            return None;
+        }
+        self.managers[2].app_get(place)
+    }
+}
+
+/// Each slot gets the index of its PDO.
+fn assign_all(slots: &mut [u16], pdos: &[Pdo])
+    requires { length slots.old ≡ length pdos.now }
+    ensures { slots.new ≡ indices pdos.now }
+{
+    for k in 0..pdos.len() {
+        slots[k] = pdos[k].index;
+    }
+}
+
+/// A manager as the power comes on.
+fn reset_manager(manager: &mut Manager)
+    ensures { manager.new ≡ no_manager }
+{
+    manager.set_locked(false);
+    manager.configure(ManagerSettings {
+        start: 0,
+        length: 0,
+        control: 0,
+        activate: 0,
+    });
+}
+
+/// The four managers as the power comes on.
+fn reset_managers(managers: &mut [Manager])
+    requires { length managers.old ≡ 4 }
+    ensures { managers.new ≡ no_manager ∷ no_manager ∷ no_manager ∷ no_manager ∷ [] }
+{
+    reset_manager(&mut managers[0]);
+    reset_manager(&mut managers[1]);
+    reset_manager(&mut managers[2]);
+    reset_manager(&mut managers[3]);
+}
+
+impl Slave {
+    /// The power goes off and on: the slave is as `new` makes one of its type and identity.
+    #[tactic(auto, unfolding(crate::specs::State::power_on))]
+    pub fn reset(&mut self)
+        ensures { self.new ≡ power_on self.old.kind self.old.identity }
+    {
+        self.memory.fill(0);
+        self.fmmus = read_fmmus(&self.memory);
+        reset_managers(&mut self.managers);
+        self.al.reset();
+        self.port.reset();
+        assign_all(&mut self.out_slots, self.kind.outputs());
+        self.out_count = self.kind.outputs().len() as u8;
+        assign_all(&mut self.in_slots, self.kind.inputs());
+        self.in_count = self.kind.inputs().len() as u8;
+        self.replies = 0;
+    }
+}
