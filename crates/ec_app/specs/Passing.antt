@@ -1,5 +1,5 @@
 -- What `ecat pass` answers (this project's profile).
-use Rattle.std.specs.Prelude.{◌≡◌, ℕ, ◌<◌, ◌≤◌, ◌⊎◌, List, [], ◌∷◌, ◌++◌, length, replicate, Option, Ok, Err}
+use Rattle.std.specs.Prelude.{◌≡◌, ℕ, ◌<◌, ◌≤◌, ◌⊎◌, List, [], ◌∷◌, ◌++◌, length, replicate, Option, Result, Ok, Err}
 use Rattle.std.specs.Io.KnownBytes.{Appends}
 use Rattle.hex.specs.Hex.{decode_of, encode_lower}
 use Rattle.hex.specs.declared.error.FromHexError.{FromHexError}
@@ -75,6 +75,11 @@ PrintsAnswer slaves text old new = (answer : List ℕ) × IsAnswer slaves text a
 -- the writer took no more, or the text is refused and what the writer holds stays
 abbrev pub RefusesPass : List ℕ → Refusal → Option (List ℕ) → Option (List ℕ) → Type 0
 RefusesPass text refusal old new = (refusal ≡ Output) ⊎ (IsPassRefusal text refusal × (new ≡ old))
+
+-- what comes of printing it
+abbrev pub GivesPass : ℕ → List ℕ → Option (List ℕ) → Option (List ℕ) → Result Unit Refusal → Type 0
+GivesPass slaves text old new (Ok done) = PrintsAnswer slaves text old new
+GivesPass slaves text old new (Err refusal) = RefusesPass text refusal old new
 
 -- how `ecat pass` ends: with status 0 and the answer printed, or with the status of its refusal
 abbrev pub EndsPass : ℕ → List ℕ → ℕ → Option (List ℕ) → Option (List ℕ) → Type 0

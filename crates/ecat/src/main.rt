@@ -1,8 +1,8 @@
-//! The program `ecat`: an EtherCAT master and a segment of simulated slaves. Its commands are those of
-//! `ec_app`, over the words, the streams and the memory of the system.
+//! The program `ecat`: an EtherCAT master and a segment of simulated slaves. Its commands are those
+//! of `ec_app`, over the words, the streams and the memory of the system.
 #![tactic(auto)]
 
-use ec_app::{App, run_command};
+use ec_app::{App, Refusal, run_command};
 use std::process::ExitCode;
 
 /// An application that shows its outputs as its inputs, and 0 where it has more inputs.
@@ -21,12 +21,14 @@ impl App for Echo {
 }
 
 fn main(rt: HostRuntime) -> ExitCode {
-    // A word that isn't text is a fault of the words.
     let Ok(given) = std::env::args(&rt) else {
+        let _ = eprintln!(rt; "error: a word of the command line isn't text");
         return ExitCode::from(2);
     };
     let Ok(words): Result<Vec<String>, _> = given.collect(rt.alloc()) else {
-        return ExitCode::from(3);
+        let refused = Refusal::Memory;
+        let _ = eprintln!(rt; "ecat: {refused}");
+        return ExitCode::from(refused.status());
     };
     let (mut input, mut output, mut faults) = (rt.stdin(), rt.stdout(), rt.stderr());
     let status = run_command(
