@@ -1,5 +1,5 @@
 -- Bits of byte lists. Bit 8k + j is bit j of byte k.
-use Rattle.std.specs.Prelude.{ℕ, zero, suc, ◌+◌, ◌-◌, ◌*◌, ◌/◌, ◌%◌, ◌^◌, ◌<◌, ◌≤◌, ◌≡◌, ◌==◌, ◌&&◌, List, [], ◌∷◌, length, Bool, true, false, if◌then◌else◌, nat_lt, nat_le, slice_index, slice_set, Option, Some, None, unwrap_or, replicate, All}
+use Rattle.std.specs.Prelude.{ℕ, zero, suc, ◌+◌, ◌-◌, ◌*◌, ◌/◌, ◌%◌, ◌^◌, ◌==◌, ◌&&◌, List, length, Bool, true, false, if◌then◌else◌, nat_lt, nat_le, slice_index, slice_set, Option, Some, None, replicate}
 use Rattle.std.specs.Int.{bit_at, from_bool}
 
 -- bit i of a byte list, false past its end
@@ -54,3 +54,11 @@ with_number bytes from n value = overlay bytes (λ i. if within from n i then So
 
 abbrev pub bytes_of_bits : ℕ → ℕ
 bytes_of_bits n = (n + 7) / 8
+
+-- the n bits of `src` from `from` on, told as the bits from `to` on
+abbrev pub run_told : ℕ → List ℕ → ℕ → ℕ → ℕ → Option Bool
+run_told to src from n i = if within to n i then Some (bit src (from + (i - to))) else None
+
+-- the bytes `dst` with the n bits from `to` on those of `src` from `from` on
+abbrev pub copied : List ℕ → ℕ → List ℕ → ℕ → ℕ → List ℕ
+copied dst to src from n = overlay dst (run_told to src from n)

@@ -8,7 +8,7 @@ use Rattle.ec_frame.specs.Building.{IsBuilt, bare_payload, new_datagram}
 use Rattle.ec_frame.specs.Commands.{number_of}
 use Rattle.ec_frame.specs.Datagram.{Datagram, flags, spelling, IsDatagram, joined}
 use Rattle.ec_frame.specs.Decoded.{after_data, decoded, datagrams_in}
-use Rattle.ec_frame.specs.Frame.{Payload, IsFrame}
+use Rattle.ec_frame.specs.Frame.{IsFrame}
 use Rattle.ec_frame.specs.Refusals.{opened}
 use Rattle.ec_frame.proofs.Decoding.{after_again, decoded_again}
 use Rattle.ec_frame.proofs.Readings.{ended}
@@ -22,7 +22,7 @@ opened_many : (ds : List Datagram) → length ds ≤ length (opened ds)
 opened_many [] = omega arith
 opened_many (d ∷ ds) = omega (arith, opened_many ds, length-append (spelling true d) (opened ds))
 
-read_again : (n : ℕ) (ds : List Datagram) → AllByRecursion IsDatagram ds → length ds ≤ n → datagrams_in n (opened ds) ≡ ds
+pub read_again : (n : ℕ) (ds : List Datagram) → AllByRecursion IsDatagram ds → length ds ≤ n → datagrams_in n (opened ds) ≡ ds
 read_again zero [] each le = refl
 read_again (suc n) [] each le = refl
 read_again zero (d ∷ ds) each le = absurd (omega arith)

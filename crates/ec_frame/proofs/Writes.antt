@@ -94,6 +94,12 @@ data_written part new more d k e at same =
     ap (λ (xs : List ℕ). take 10 part ++ (new ++ xs)) behind ∙ ap (λ (xs : List ℕ). take 10 xs ++ (new ++ little_bytes 2 d.counter)) e
     ∙ ap (λ (xs : List ℕ). xs ++ (new ++ little_bytes 2 d.counter)) (sym (heading-with_data more d new same))
 
+-- the three parts joined again, after a write of the data
+pub data_rejoined : (first new last : List ℕ) (more : Bool) (d : Datagram) → first ≡ heading more d → last ≡ little_bytes 2 d.counter → length new ≡ length d.data_bytes
+    → first ++ (new ++ last) ≡ spelling more (with_data d new)
+data_rejoined first new last more d p q same =
+    ap (λ (xs : List ℕ). xs ++ (new ++ last)) (p ∙ sym (heading-with_data more d new same)) ∙ ap (λ (xs : List ℕ). heading more (with_data d new) ++ (new ++ xs)) q
+
 -- ---- the header
 
 same_header : (c : Command) (i a n r : ℕ) (k m : Bool) (t : ℕ) (h : Header) → c ≡ h.command → i ≡ h.index → a ≡ h.address → n ≡ h.data_length → r ≡ h.reserved → k ≡ h.circulating → m ≡ h.more → t ≡ h.irq

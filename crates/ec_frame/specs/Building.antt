@@ -29,4 +29,5 @@ pub record IsBuilt (bytes : List ℕ) (last : ℕ) (ds : List Datagram) : Type 0
   pub most : length (joined ds) ≤ 1470
   pub spelled : bytes ≡ 0 ∷ 0 ∷ opened ds
   -- where the last one begins
-  pub place : (before : List Datagram) (d : Datagram) → ds ≡ before ++ d ∷ [] → last ≡ 2 + length (opened before)
+  pub place : (before : List Datagram) (d : Datagram) → ds ≡ before ++ d ∷ []
+      → last ≡ 2 + length (opened before)

@@ -1,5 +1,6 @@
--- The datagrams that bytes spell, read from the front: what a builder holds. Laws elsewhere tie it to spellings.
-use Rattle.std.specs.Prelude.{ℕ, zero, suc, ◌/◌, ◌%◌, Bool, nat_eq, List, [], ◌∷◌, take, drop, get_or}
+-- The datagrams that bytes spell, read from the front: how a builder is seen. The law
+-- `SpellingsAreReadBack` ties them to spellings.
+use Rattle.std.specs.Prelude.{ℕ, zero, suc, ◌/◌, ◌%◌, nat_eq, List, [], ◌∷◌, length, take, drop, get_or}
 use Rattle.byteorder.specs.Endian.{little_number}
 use Rattle.ec_frame.specs.declared.command.Command.{Command}
 use Rattle.ec_frame.specs.declared.command.Command.TheVariants.{Nop, Aprd, Apwr, Aprw, Fprd, Fpwr, Fprw, Brd, Bwr, Brw, Lrd, Lwr, Lrw, Armw, Frmw}
@@ -7,7 +8,8 @@ use Rattle.ec_frame.specs.Datagram.{Datagram}
 use Rattle.ec_frame.specs.Refusals.{data_length}
 
 abbrev pub command_at : ℕ → Command
-command_at n = get_or (Nop ∷ Aprd ∷ Apwr ∷ Aprw ∷ Fprd ∷ Fpwr ∷ Fprw ∷ Brd ∷ Bwr ∷ Brw ∷ Lrd ∷ Lwr ∷ Lrw ∷ Armw ∷ Frmw ∷ []) n Nop
+command_at n =
+    get_or (Nop ∷ Aprd ∷ Apwr ∷ Aprw ∷ Fprd ∷ Fpwr ∷ Fprw ∷ Brd ∷ Bwr ∷ Brw ∷ Lrd ∷ Lwr ∷ Lrw ∷ Armw ∷ Frmw ∷ []) n Nop
 
 -- the counter and what follows the datagram
 abbrev pub after_data : List ℕ → List ℕ
@@ -26,8 +28,13 @@ decoded bytes = record {
   counter = little_number 2 (after_data bytes);
 }
 
--- as many as the number at most
+-- the datagrams one after another, as many as the number at most
 abbrev pub datagrams_in : ℕ → List ℕ → List Datagram
 datagrams_in zero bytes = []
 datagrams_in (suc n) [] = []
-datagrams_in (suc n) (b ∷ bytes) = decoded (b ∷ bytes) ∷ datagrams_in n (drop 2 (after_data (b ∷ bytes)))
+datagrams_in (suc n) (b ∷ bytes) =
+    decoded (b ∷ bytes) ∷ datagrams_in n (drop 2 (after_data (b ∷ bytes)))
+
+-- those behind the two bytes of a header
+abbrev pub datagrams_of : List ℕ → List Datagram
+datagrams_of bytes = datagrams_in (length bytes) (drop 2 bytes)

@@ -1,7 +1,10 @@
 -- Laws over the definitions of frames alone.
-use Rattle.std.specs.Prelude.{◌≡◌, Bool, ℕ, List, ◌++◌}
+use Rattle.std.specs.Prelude.{◌≡◌, ◌≤◌, Bool, ℕ, List, ◌++◌, length}
+use Rattle.std.specs.List.{AllByRecursion}
 use Rattle.ec_frame.specs.Datagram.{Datagram, IsDatagram, spelling}
+use Rattle.ec_frame.specs.Decoded.{datagrams_in}
 use Rattle.ec_frame.specs.Frame.{Payload, IsFrame}
+use Rattle.ec_frame.specs.Refusals.{opened}
 
 -- bytes are a frame of one payload at most
 abbrev pub FramesAreReadOneWay : Type 0
@@ -12,3 +15,8 @@ abbrev pub NoSpellingBeginsAnother : Type 0
 NoSpellingBeginsAnother =
     (m n : Bool) (d e : Datagram) (x y : List ℕ) → IsDatagram d → IsDatagram e
     → spelling m d ++ x ≡ spelling n e ++ y → (m ≡ n) × (d ≡ e) × (x ≡ y)
+
+-- spellings that say that another follows are read back, whatever the most that may be read
+abbrev pub SpellingsAreReadBack : Type 0
+SpellingsAreReadBack =
+    (n : ℕ) (ds : List Datagram) → AllByRecursion IsDatagram ds → length ds ≤ n → datagrams_in n (opened ds) ≡ ds

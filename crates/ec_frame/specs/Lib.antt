@@ -4,6 +4,7 @@ pub mod Datagram
 pub mod Decoded
 pub mod Fields
 pub mod Frame
+pub mod Kept
 pub mod Laws
 pub mod Parts
 pub mod Passing

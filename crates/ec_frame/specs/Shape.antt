@@ -22,7 +22,8 @@ GivesShape rest (Ok s) = HasShape rest s
 GivesShape rest (Err e) = FaultAt rest e
 
 abbrev pub GivesCount : List ℕ → Result ℕ FrameError → Type 0
-GivesCount area (Ok count) = (ds : List Datagram) × AllByRecursion IsDatagram ds × (area ≡ joined ds) × (count ≡ length ds)
+GivesCount area (Ok count) =
+    (ds : List Datagram) × AllByRecursion IsDatagram ds × (area ≡ joined ds) × (count ≡ length ds)
 GivesCount area (Err e) = FirstFault area e
 
 abbrev pub GivesVerdict : List ℕ → Result ℕ FrameError → Type 0

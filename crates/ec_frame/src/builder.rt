@@ -1,10 +1,11 @@
-ghost use Rattle.std.specs.Prelude.{◌≡◌, ◌≤◌, ◌<◌, ◌+◌, ◌∷◌, ◌++◌, [], List, drop, length, OnOk, OnErr};
+ghost use Rattle.std.specs.Prelude.{◌≡◌, ◌≤◌, ◌<◌, ◌+◌, ◌∷◌, ◌++◌, [], List, length};
+ghost use Rattle.std.specs.Prelude.{OnOk, OnErr};
 ghost use Rattle.byteorder.specs.Endian.{little_bytes};
 ghost use Rattle.ec_frame.specs.declared.command.Command.{Command};
 ghost use Rattle.ec_frame.specs.Building.{IsBuilt, bare_payload, new_datagram};
 ghost use Rattle.ec_frame.specs.Commands.{number_of};
 ghost use Rattle.ec_frame.specs.Datagram.{Datagram, joined};
-ghost use Rattle.ec_frame.specs.Decoded.{datagrams_in};
+ghost use Rattle.ec_frame.specs.Decoded.{datagrams_of};
 ghost use Rattle.ec_frame.specs.Frame.{IsFrame};
 
 use crate::command::Command;
@@ -36,14 +37,23 @@ const DATAGRAMS: u16 = 0x1000;
 
 /// The ten bytes before the data.
 fn heading_of(command: Command, index: u8, address: u32, flags: u16) -> [u8; 10]
-    ensures {
-        result ≡ number_of command ∷ index ∷ little_bytes 4 address ++ little_bytes 2 flags
-            ++ little_bytes 2 0
-    }
+    ensures { result ≡ number_of command ∷ index ∷ little_bytes 4 address ++ little_bytes 2 flags
+        ++ little_bytes 2 0 }
 {
     let a = address.to_le_bytes();
     let f = flags.to_le_bytes();
-    [command.number(), index, a[0], a[1], a[2], a[3], f[0], f[1], 0, 0]
+    [
+        command.number(),
+        index,
+        a[0],
+        a[1],
+        a[2],
+        a[3],
+        f[0],
+        f[1],
+        0,
+        0,
+    ]
 }
 
 fn append(frame: &mut Frame, bytes: &[u8])
@@ -65,11 +75,9 @@ pub struct Builder {
 impl Model for Builder {
     ghost Value = { List Datagram };
 
-    ghost view = { λ b. datagrams_in (length b.frame.items) (drop 2 b.frame.items) };
+    ghost view = { λ b. datagrams_of b.frame.items };
 
-    ghost invariant = {
-        λ b. IsBuilt b.frame.items b.last (datagrams_in (length b.frame.items) (drop 2 b.frame.items))
-    };
+    ghost invariant = { λ b. IsBuilt b.frame.items b.last (datagrams_of b.frame.items) };
 }
 
 impl Builder {
@@ -92,9 +100,7 @@ impl Builder {
         address: u32,
         content: &[u8],
     ) -> Result<(), Full>
-        ensures ok {
-            OnOk result (self.new ≡ self.old ++ new_datagram command index address content.now ∷ [])
-        }
+        ensures ok { OnOk result (self.new ≡ self.old ++ new_datagram command index address content.now ∷ []) }
         ensures err { OnErr result (self.new ≡ self.old) }
         ensures fits { OnOk result (length (joined self.old) + 12 + length content.now ≤ 1470) }
         ensures full { OnErr result (1470 < length (joined self.old) + 12 + length content.now) }

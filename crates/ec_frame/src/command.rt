@@ -2,7 +2,8 @@ ghost use Rattle.std.specs.Prelude.{◌≡◌, ◌<◌, IfSome, IfNone};
 ghost use Rattle.ec_frame.specs.declared.command.Command.{Command};
 ghost use Rattle.ec_frame.specs.Commands.{number_of};
 
-/// What a datagram asks of the slaves that it passes (ETG.1000.4, "Commands"), with the number of each on the wire.
+/// What a datagram asks of the slaves that it passes (ETG.1000.4, "Commands"), with the number of
+/// each on the wire.
 #[derive(Clone, Copy, Debug, PartialEq, Eq, Drop)]
 pub enum Command {
     /// No operation.

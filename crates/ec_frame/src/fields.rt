@@ -28,8 +28,9 @@ pub fn read_counter(part: &[u8]) -> u16
 /// Writes the working counter, and nothing else.
 pub fn write_counter(part: &mut [u8], counter: u16)
     requires { IsSpelling part.old }
-    ensures { (more : Bool) (d : Datagram) → IsDatagram d → part.old ≡ spelling more d
+    ensures written { (more : Bool) (d : Datagram) → IsDatagram d → part.old ≡ spelling more d
         → part.new ≡ spelling more (with_counter d counter) }
+    ensures spelled { IsSpelling part.new }
 {
     let at = part.len() - 2;
     LittleEndian::write_u16(&mut part[at..], counter);
@@ -38,8 +39,9 @@ pub fn write_counter(part: &mut [u8], counter: u16)
 /// Writes ADP, the low half of the address, and nothing else.
 pub fn write_adp(part: &mut [u8], adp: u16)
     requires { IsSpelling part.old }
-    ensures { (more : Bool) (d : Datagram) → IsDatagram d → part.old ≡ spelling more d
+    ensures written { (more : Bool) (d : Datagram) → IsDatagram d → part.old ≡ spelling more d
         → part.new ≡ spelling more (with_adp d adp) }
+    ensures spelled { IsSpelling part.new }
 {
     LittleEndian::write_u16(&mut part[2..4], adp);
 }
@@ -47,8 +49,9 @@ pub fn write_adp(part: &mut [u8], adp: u16)
 /// Writes the four address bytes, and nothing else.
 pub fn write_address(part: &mut [u8], address: u32)
     requires { IsSpelling part.old }
-    ensures { (more : Bool) (d : Datagram) → IsDatagram d → part.old ≡ spelling more d
+    ensures written { (more : Bool) (d : Datagram) → IsDatagram d → part.old ≡ spelling more d
         → part.new ≡ spelling more (with_address d address) }
+    ensures spelled { IsSpelling part.new }
 {
     LittleEndian::write_u32(&mut part[2..6], address);
 }

@@ -35,7 +35,7 @@ impl Header {
     {
         let flags = LittleEndian::read_u16(&part[6..]);
         Header {
-            command: Command::from_number(part[0]).unwrap_or(Command::Nop),
+            command: Command::from_number(part[0]).unwrap(),
             index: part[1],
             address: LittleEndian::read_u32(&part[2..]),
             data_length: flags % 2048,

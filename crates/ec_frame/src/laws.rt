@@ -1,5 +1,6 @@
 //! Laws of the definitions of frames. Each function does nothing: its contract is the law.
 ghost use Rattle.ec_frame.specs.Laws.{FramesAreReadOneWay, NoSpellingBeginsAnother};
+ghost use Rattle.ec_frame.specs.Laws.{SpellingsAreReadBack};
 
 /// The bytes of a frame say one payload: one list of datagrams, one reserved bit, one rest.
 pub fn frames_are_read_one_way()
@@ -9,4 +10,9 @@ pub fn frames_are_read_one_way()
 /// No datagram's spelling begins another's.
 pub fn no_spelling_begins_another()
     ensures { NoSpellingBeginsAnother }
+{}
+
+/// Reading undoes spelling: what a builder is seen as is what its bytes spell.
+pub fn spellings_are_read_back()
+    ensures { SpellingsAreReadBack }
 {}

@@ -12,6 +12,8 @@ mod parts;
 mod passing;
 mod places;
 mod reading;
+#[cfg(test)]
+mod tests;
 
 pub use crate::builder::{Builder, Frame, Full};
 pub use crate::command::Command;

@@ -14,6 +14,7 @@ pub fn cut_heading(part: &mut [u8]) -> (&mut [u8], &mut [u8])
         → result.0.now ≡ heading more d }
     ensures body { (more : Bool) (d : Datagram) → IsDatagram d → part.old ≡ spelling more d
         → result.1.now ≡ d.data_bytes ++ little_bytes 2 d.counter }
+    ensures room { 2 ≤ length result.1.now }
 {
     part.split_at_mut(10)
 }
@@ -22,7 +23,8 @@ pub fn cut_heading(part: &mut [u8]) -> (&mut [u8], &mut [u8])
 pub fn cut_counter(body: &mut [u8]) -> (&mut [u8], &mut [u8])
     requires { 2 ≤ length body.old }
     ensures* lends { sem 𝓛 (LendsParts body.entry result) }
-    ensures content { (bytes : List ℕ) (n : ℕ) → body.old ≡ bytes ++ little_bytes 2 n → result.0.now ≡ bytes }
+    ensures content { (bytes : List ℕ) (n : ℕ) → body.old ≡ bytes ++ little_bytes 2 n
+        → result.0.now ≡ bytes }
     ensures counter { (bytes : List ℕ) (n : ℕ) → body.old ≡ bytes ++ little_bytes 2 n
         → result.1.now ≡ little_bytes 2 n }
 {

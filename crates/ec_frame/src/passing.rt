@@ -30,7 +30,8 @@ pub trait Handler {
 pub fn pass<H: Handler>(handler: &mut H, frame: &mut [u8])
     requires { (p : Payload) × IsFrame frame.old p }
     ensures frame { (p : Payload) → IsFrame frame.old p
-        → IsFrame frame.new (with_datagrams p (handled_all H.handled H.after handler.old p.datagrams)) }
+        → IsFrame frame.new
+        (with_datagrams p (handled_all H.handled H.after handler.old p.datagrams)) }
     ensures state { (p : Payload) → IsFrame frame.old p
         → handler.new ≡ after_all H.handled H.after handler.old p.datagrams }
 {

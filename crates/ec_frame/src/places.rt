@@ -1,5 +1,5 @@
-ghost use Rattle.std.specs.Prelude.{◌≡◌, ◌+◌, ◌≤◌, List, length, IfSome};
-ghost use Rattle.ec_frame.specs.Datagram.{Datagram};
+ghost use Rattle.std.specs.Prelude.{◌≡◌, ◌+◌, ◌≤◌, ◌∷◌, List, length, slice_range, IfSome};
+ghost use Rattle.ec_frame.specs.Datagram.{Datagram, IsSpelling, is_followed, spelling};
 ghost use Rattle.ec_frame.specs.Frame.{Payload, IsFrame};
 ghost use Rattle.ec_frame.specs.Places.{IsAhead, StepsTo};
 ghost use Rattle.ec_frame.specs.Refusals.{stated};
@@ -15,7 +15,7 @@ pub struct Span {
 }
 
 /// A cursor over the places of a checked frame's datagrams, one after the other. It holds no
-/// reference, so the frame may be written between two steps, as long as lengths stay.
+/// reference: the frame stands beside it, and `pass` writes each datagram between two steps.
 #[derive(Clone, Copy, Debug, PartialEq, Eq, Drop)]
 pub struct Places {
     /// Where the next datagram begins.
@@ -42,8 +42,16 @@ impl Places {
     /// The place of the next datagram; none after the last.
     pub fn next(&mut self, frame: &[u8]) -> Option<Span>
         requires { (ds : List Datagram) × IsAhead frame.now self.old ds }
-        ensures steps { (ds : List Datagram) → IsAhead frame.now self.old ds → StepsTo self.old self.new result ds }
+        ensures steps { (ds : List Datagram) → IsAhead frame.now self.old ds
+            → StepsTo self.old self.new result ds }
         ensures within { IfSome result (λ span. (span.from ≤ span.to) × (span.to ≤ length frame.now)) }
+        ensures spelled { IfSome result (λ span. IsSpelling (slice_range frame.now span.from span.to)) }
+        ensures first { (d : Datagram) (ds : List Datagram) → IsAhead frame.now self.old (d ∷ ds)
+            → IfSome result (λ span.
+            slice_range frame.now span.from span.to ≡ spelling (is_followed ds) d) }
+        ensures others { (d : Datagram) (ds : List Datagram) → IsAhead frame.now self.old (d ∷ ds)
+            → IsAhead frame.now self.new ds }
+        ensures ahead { (ds : List Datagram) × IsAhead frame.now self.new ds }
     {
         if self.at == self.end {
             return None;

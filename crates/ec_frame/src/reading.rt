@@ -7,11 +7,12 @@ ghost use Rattle.ec_frame.specs.Shape.{GivesShape, GivesCount, GivesVerdict};
 use crate::error::FrameError;
 use byteorder::{ByteOrder, LittleEndian};
 
-/// How many bytes of datagrams a payload may have.
+/// How many bytes of datagrams a payload has at most.
 const MAX_AREA: u16 = 1470;
 /// What a datagram has beside its data.
 pub(crate) const OVERHEAD: usize = 12;
 
+/// The greatest number of a command.
 const MAX_COMMAND: u8 = 14;
 
 /// The datagram at the front of some bytes.
@@ -71,6 +72,7 @@ fn count_datagrams(area: &[u8]) -> Result<usize, FrameError>
     }
 }
 
+/// Tests the header, and then counts the datagrams of the stated length.
 fn read_frame(payload: &[u8]) -> Result<usize, FrameError>
     ensures { GivesVerdict payload.now result }
 {
@@ -95,9 +97,16 @@ fn read_frame(payload: &[u8]) -> Result<usize, FrameError>
     count_datagrams(&payload[2..end])
 }
 
-/// Whether a payload is a frame, and of how many datagrams.
+/// Tells whether a payload is a frame of datagrams (ETG.1000.4, "EtherCAT frame structure"), and
+/// of how many. Reserved bits and all bytes after the datagrams are free.
+///
+/// It tests in this order: fewer than 2 bytes, `Short`; a type other than 1, `BadType`; a stated
+/// length over 1470, `TooLong`; fewer bytes than stated, `Short`; a stated length of 0, `BadLength`;
+/// then for each datagram no room for it, `BadLength`, a command over 14, `BadCommand`, and a more
+/// bit that is wrong, `BadMore`.
 pub fn check(payload: &[u8]) -> Result<usize, FrameError>
-    ensures accepted { IfOk result (λ count. (p : Payload) × IsFrame payload.now p × (count ≡ length p.datagrams)) }
+    ensures accepted { IfOk result (λ count.
+        (p : Payload) × IsFrame payload.now p × (count ≡ length p.datagrams)) }
     ensures refused { IfErr result (IsRefused payload.now) }
     ensures accepts { (p : Payload) → IsFrame payload.now p → result ≡ Ok (length p.datagrams) }
     ensures refuses { (e : FrameError) → IsRefused payload.now e → result ≡ Err e }

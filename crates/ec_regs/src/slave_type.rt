@@ -1,8 +1,8 @@
-ghost use Rattle.std.specs.Prelude.{◌≡◌, ◌≤◌, ◌↔◌, length, All, AllPairs, ◌≢◌, IsTrue, IfSome};
+ghost use Rattle.std.specs.Prelude.{◌≡◌, ◌≤◌, ◌↔◌, length, All, AllPairs, ◌≢◌, IsTrue, IfSome, IfOk};
 ghost use Rattle.ec_regs.specs.Types.{IsEntry, IsPdo, ArePdos, IsMailbox, IsWithinLimits, pdo_bits, pdos_bits, plain_kind, first_output_index, first_input_index};
 
 use crate::listed::Listed;
-use std::alloc::Global;
+use std::alloc::{AllocError, Global};
 use std::marker::Model;
 
 /// Where the indices of the output PDOs begin: those that the slave receives.
@@ -171,6 +171,32 @@ pub fn are_within_limits(pdos: &[Pdo], first: u16) -> bool
         && have_own_indices(pdos)
 }
 
+/// A copy of a PDO's entries.
+fn copied_entries(alloc: Global, entries: &[Entry]) -> Result<Listed<Entry>, AllocError>
+    ensures { IfOk result (λ es. es ≡ entries.now) }
+{
+    let mut copied = Listed::new(alloc);
+    for entry in entries {
+        copied.push(*entry)?;
+    }
+    Ok(copied)
+}
+
+/// A copy of the PDOs of a direction.
+fn copied_pdos(alloc: Global, pdos: &[Pdo]) -> Result<Listed<Pdo>, AllocError>
+    ensures { IfOk result (λ ps. ps ≡ pdos.now) }
+{
+    let mut copied = Listed::new(alloc);
+    for pdo in pdos {
+        let entries = copied_entries(alloc, pdo.entries.as_slice())?;
+        copied.push(Pdo {
+            index: pdo.index,
+            entries,
+        })?;
+    }
+    Ok(copied)
+}
+
 /// How many bits the PDOs of a direction have together.
 fn bits_of(pdos: &[Pdo]) -> usize
     requires few { length pdos.now ≤ 16 }
@@ -253,6 +279,30 @@ impl SlaveType {
         }
     }
 
+    /// A copy, for one more slave of the type. The error says that memory was refused.
+    pub fn copied(&self, alloc: Global) -> Result<SlaveType, AllocError>
+        ensures { IfOk result (λ t. t ≡ self.now) }
+    {
+        let SlaveType {
+            identity,
+            mailbox,
+            out_start,
+            in_start,
+            outputs,
+            inputs,
+            lrw: has_lrw,
+        } = self;
+        Ok(SlaveType {
+            identity: *identity,
+            mailbox: *mailbox,
+            out_start: *out_start,
+            in_start: *in_start,
+            outputs: copied_pdos(alloc, outputs.as_slice())?,
+            inputs: copied_pdos(alloc, inputs.as_slice())?,
+            lrw: *has_lrw,
+        })
+    }
+
     /// What the type's slaves show as their identity.
     pub fn identity(&self) -> Identity
         ensures { result ≡ self.now.identity }
@@ -310,7 +360,7 @@ impl SlaveType {
         ensures value { result ≡ pdos_bits self.now.outputs }
         ensures limit { result ≤ 65536 }
     {
-        bits_of(self.outputs.as_slice())
+        bits_of(self.outputs())
     }
 
     /// How many bits all input PDOs have together.
@@ -318,6 +368,6 @@ impl SlaveType {
         ensures value { result ≡ pdos_bits self.now.inputs }
         ensures limit { result ≤ 65536 }
     {
-        bits_of(self.inputs.as_slice())
+        bits_of(self.inputs())
     }
 }

@@ -178,6 +178,9 @@ fn a_type_with_objects(rt: HostRuntime) -> Result<(), Fail> {
     assert_eq!(rt; kind.output_bits(), 16);
     assert_eq!(rt; kind.input_bits(), 16);
     assert!(rt; kind.lrw());
+    let copy = kind.copied(rt.alloc())?;
+    assert_eq!(rt; copy.identity(), identity);
+    assert_eq!(rt; copy.output_bits(), 16);
     Ok(())
 }
 

@@ -1,6 +1,6 @@
 -- The loop over the slaves of a ring.
 use Rattle.std.proofs.Common.{ℕ, ◌+◌, ◌<◌, ◌≤◌, ◌≡◌, List, [], ◌∷◌, ◌++◌, length, drop, get_or, set, refl, sym, ◌∙◌, ap, subst, arith}
-use Rattle.std.proofs.lemmas.List.{drop_all, drop_more, append_assoc, append-nil, length-append, get_or_at}
+use Rattle.std.proofs.lemmas.List.{drop_all, drop_more, append_assoc, length-append, get_or_at}
 use Rattle.std.proofs.Math.Seq.{set-append_seam}
 use Rattle.ec_frame.specs.Datagram.{Datagram}
 use Rattle.ec_frame.specs.Frame.{Payload, IsFrame, with_datagrams}
@@ -22,7 +22,7 @@ pub started : (ss : List SlaveState) (p : Payload) (frame : List ℕ) → IsFram
 started ss p frame h = record { done = []; datagrams = p.datagrams; many = refl; slaves_are = refl; frame_is = h; ends_slaves = refl; ends_datagrams = refl }
 
 pub passed_one : (ss : List SlaveState) (p : Payload) (i : ℕ) (slaves : List SlaveState) (frame : List ℕ) (s after : SlaveState) (left : List ℕ)
-  → IsUnderWay ss p i slaves frame → i < length ss → IsPassed (get_or slaves i s) frame after left → IsUnderWay ss p (i + 1) (set slaves i after) left
+    → IsUnderWay ss p i slaves frame → i < length ss → IsPassed (get_or slaves i s) frame after left → IsUnderWay ss p (i + 1) (set slaves i after) left
 passed_one ss p i slaves frame s after left u l q =
     let m : SlaveState = get_or ss i s in
     let rest : drop i ss ≡ m ∷ drop (i + 1) ss = drop_more ss i s l in
@@ -37,14 +37,14 @@ passed_one ss p i slaves frame s after left u l q =
       datagrams = ds;
       many = long;
       slaves_are =
-        ap (λ (t : List SlaveState). set t i after) now
-        ∙ (ap (λ (n : ℕ). set (u.done ++ m ∷ drop (i + 1) ss) n after) (sym u.many)
-        ∙ (set-append_seam u.done m (drop (i + 1) ss) after ∙ sym (whole (drop (i + 1) ss))));
+          ap (λ (t : List SlaveState). set t i after) now
+          ∙ (ap (λ (n : ℕ). set (u.done ++ m ∷ drop (i + 1) ss) n after) (sym u.many)
+          ∙ (set-append_seam u.done m (drop (i + 1) ss) after ∙ sym (whole (drop (i + 1) ss))));
       frame_is = subst (λ (t : SlaveState). IsFrame left (with_datagrams p (passes t u.datagrams).datagrams)) own (q.frame (with_datagrams p u.datagrams) u.frame_is);
       ends_slaves =
-        whole (rings (drop (i + 1) ss) ds).slaves
-        ∙ (ap (λ (t : SlaveState). u.done ++ t ∷ (rings (drop (i + 1) ss) ds).slaves) made
-        ∙ (ap (λ (t : List SlaveState). u.done ++ (rings t u.datagrams).slaves) (sym rest) ∙ u.ends_slaves));
+          whole (rings (drop (i + 1) ss) ds).slaves
+          ∙ (ap (λ (t : SlaveState). u.done ++ t ∷ (rings (drop (i + 1) ss) ds).slaves) made
+          ∙ (ap (λ (t : List SlaveState). u.done ++ (rings t u.datagrams).slaves) (sym rest) ∙ u.ends_slaves));
       ends_datagrams = ap (λ (t : List SlaveState). (rings t u.datagrams).datagrams) (sym rest) ∙ u.ends_datagrams;
     }
 

@@ -1,8 +1,8 @@
 -- Slave after slave against the grid.
-use Rattle.std.proofs.Common.{ℕ, zero, suc, ◌+◌, ◌<◌, ◌≤◌, ◌≡◌, refl, sym, ◌∙◌, ap, subst, arith, List, [], ◌∷◌, length, slice_get, Option, Some, None}
+use Rattle.std.proofs.Common.{ℕ, zero, suc, ◌+◌, ◌<◌, ◌≡◌, refl, sym, ◌∙◌, ap, arith, List, [], ◌∷◌, length, slice_get, Some}
 use Rattle.ec_frame.specs.Datagram.{Datagram}
 use Rattle.ec_slave.specs.State.{SlaveState}
-use Rattle.ec_slave.specs.Meeting.{Met, meets, slave_met, datagram_met, passes}
+use Rattle.ec_slave.specs.Meeting.{meets, passes}
 use Rattle.ec_ring.specs.Rings.{rings}
 use Rattle.ec_ring.specs.Grid.{IsGrid, RingIsGrid}
 

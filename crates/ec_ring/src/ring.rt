@@ -1,4 +1,5 @@
-ghost use Rattle.std.specs.Prelude.{◌≡◌, ◌==◌, ◌<◌, ◌↔◌, List, length, slice_get, Some, IsErr, OnErr, OnOk};
+ghost use Rattle.std.specs.Prelude.{◌≡◌, ◌==◌, ◌<◌, ◌↔◌, List, length, slice_get, Some};
+ghost use Rattle.std.specs.Prelude.{IsErr, OnErr};
 ghost use Rattle.std.specs.Borrow.{sem};
 ghost use Rattle.ec_frame.specs.Frame.{Payload, IsFrame};
 ghost use Rattle.ec_slave.specs.State.{SlaveState};

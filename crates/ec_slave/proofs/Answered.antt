@@ -1,5 +1,5 @@
 -- The bytes of a datagram that was answered.
-use Rattle.std.proofs.Common.{ℕ, ◌+◌, ◌<◌, arith, ◌*◌, ◌/◌, ◌%◌, ◌≡◌, ◌≢◌, ◌⊎◌, inl, inr, Bool, List, [], ◌∷◌, ◌++◌, length, refl, sym, ◌∙◌, ap}
+use Rattle.std.proofs.Common.{ℕ, ◌+◌, ◌<◌, arith, ◌/◌, ◌%◌, ◌≡◌, ◌≢◌, ◌⊎◌, inl, inr, Bool, List, ◌++◌, length, refl, sym, ◌∙◌, ap}
 use Rattle.byteorder.specs.Endian.{little_bytes}
 use Rattle.ec_frame.specs.declared.command.Command.{Command}
 use Rattle.ec_frame.specs.declared.command.Command.TheVariants.{Nop, Aprd, Apwr, Aprw, Fprd, Fpwr, Fprw, Brd, Bwr, Brw, Lrd, Lwr, Lrw, Armw, Frmw}
@@ -15,8 +15,8 @@ use Rattle.ec_slave.specs.Keeping.{address-bound, length-meeting}
 
 -- data written between heading and counter
 pub data_written : (more : Bool) (d : Datagram) (front bytes back : List ℕ) (w : Window) (s : SlaveState) (role : Role)
-  → front ≡ heading more d → bytes ≡ (meeting s role w).bytes → back ≡ little_bytes 2 d.counter → w.bytes ≡ d.data_bytes
-  → front ++ (bytes ++ back) ≡ spelling more (with_data d (meeting s role w).bytes)
+    → front ≡ heading more d → bytes ≡ (meeting s role w).bytes → back ≡ little_bytes 2 d.counter → w.bytes ≡ d.data_bytes
+    → front ++ (bytes ++ back) ≡ spelling more (with_data d (meeting s role w).bytes)
 data_written more d front bytes back w s role f b k own =
     let same : length (meeting s role w).bytes ≡ length d.data_bytes = length-meeting s role w ∙ ap length own in
     let h : heading more d ≡ heading more (with_data d (meeting s role w).bytes) = cc in
@@ -36,32 +36,32 @@ adp-good d adp good a =
 
 -- what the fields of a header give is what those of the datagram give
 pub meeting-is : (s : SlaveState) (h : Header) (more : Bool) (d : Datagram) (role : Role) (ado adp station : ℕ)
-  → h ≡ header_of more d → ado ≡ h.address / 65536 → adp ≡ h.address % 65536 → station ≡ station_of s → role ≡ role_of h.command adp station
-  → meeting s role (record { from = ado; bytes = d.data_bytes }) ≡ meeting s (role_of d.command (adp_of d) (station_of s)) (window_of d)
+    → h ≡ header_of more d → ado ≡ h.address / 65536 → adp ≡ h.address % 65536 → station ≡ station_of s → role ≡ role_of h.command adp station
+    → meeting s role (record { from = ado; bytes = d.data_bytes }) ≡ meeting s (role_of d.command (adp_of d) (station_of s)) (window_of d)
 meeting-is s h more d role ado adp station e a b t r =
     let c : h.command ≡ d.command = ap (λ (x : Header). x.command) e in
     let f : h.address ≡ d.address = ap (λ (x : Header). x.address) e in
     let a2 : ado ≡ d.address / 65536 = a ∙ ap (λ (n : ℕ). n / 65536) f in
     let b2 : adp ≡ d.address % 65536 = b ∙ ap (λ (n : ℕ). n % 65536) f in
     let r2 : role ≡ role_of d.command (adp_of d) (station_of s) =
-        r ∙ (ap (λ (x : Command). role_of x adp station) c ∙ (ap (λ (n : ℕ). role_of d.command n station) b2 ∙ ap (role_of d.command (adp_of d)) t)) in
+    r ∙ (ap (λ (x : Command). role_of x adp station) c ∙ (ap (λ (n : ℕ). role_of d.command n station) b2 ∙ ap (role_of d.command (adp_of d)) t)) in
     ap (λ (x : Role). meeting s x (record { from = ado; bytes = d.data_bytes })) r2
     ∙ ap (λ (n : ℕ). meeting s (role_of d.command (adp_of d) (station_of s)) (record { from = n; bytes = d.data_bytes })) a2
 
 pub answer-is : (s : SlaveState) (h : Header) (more : Bool) (d : Datagram) (role : Role) (ado adp adp2 station after counter added counted : ℕ)
-  → h ≡ header_of more d → ado ≡ h.address / 65536 → adp ≡ h.address % 65536 → adp2 ≡ h.address % 65536 → station ≡ station_of s → role ≡ role_of h.command adp station
-  → after ≡ adp_after h.command adp2 → counter ≡ d.counter → added ≡ (meeting s role (record { from = ado; bytes = d.data_bytes })).added → counted ≡ (counter + added) % 65536
-  → with_counter (with_adp (with_data d (meeting s role (record { from = ado; bytes = d.data_bytes })).bytes) after) counted ≡ (meets_physically s d).datagram
+    → h ≡ header_of more d → ado ≡ h.address / 65536 → adp ≡ h.address % 65536 → adp2 ≡ h.address % 65536 → station ≡ station_of s → role ≡ role_of h.command adp station
+    → after ≡ adp_after h.command adp2 → counter ≡ d.counter → added ≡ (meeting s role (record { from = ado; bytes = d.data_bytes })).added → counted ≡ (counter + added) % 65536
+    → with_counter (with_adp (with_data d (meeting s role (record { from = ado; bytes = d.data_bytes })).bytes) after) counted ≡ (meets_physically s d).datagram
 answer-is s h more d role ado adp adp2 station after counter added counted e a b b2 t r f k ad n =
     let m : meeting s role (record { from = ado; bytes = d.data_bytes }) ≡ meeting s (role_of d.command (adp_of d) (station_of s)) (window_of d) =
-        meeting-is s h more d role ado adp station e a b t r in
+    meeting-is s h more d role ado adp station e a b t r in
     let c : h.command ≡ d.command = ap (λ (x : Header). x.command) e in
     let g : h.address ≡ d.address = ap (λ (x : Header). x.address) e in
     let after2 : after ≡ adp_after d.command (adp_of d) =
-        f ∙ (ap (λ (x : Command). adp_after x adp2) c ∙ ap (adp_after d.command) (b2 ∙ ap (λ (x : ℕ). x % 65536) g)) in
+    f ∙ (ap (λ (x : Command). adp_after x adp2) c ∙ ap (adp_after d.command) (b2 ∙ ap (λ (x : ℕ). x % 65536) g)) in
     let added2 : added ≡ (meeting s (role_of d.command (adp_of d) (station_of s)) (window_of d)).added = ad ∙ ap (λ (x : Meeting). x.added) m in
     let counted2 : counted ≡ (d.counter + (meeting s (role_of d.command (adp_of d) (station_of s)) (window_of d)).added) % 65536 =
-        n ∙ (ap (λ (x : ℕ). (x + added) % 65536) k ∙ ap (λ (x : ℕ). (d.counter + x) % 65536) added2) in
+    n ∙ (ap (λ (x : ℕ). (x + added) % 65536) k ∙ ap (λ (x : ℕ). (d.counter + x) % 65536) added2) in
     ap (λ (x : Meeting). with_counter (with_adp (with_data d x.bytes) after) counted) m
     ∙ (ap (λ (x : ℕ). with_counter (with_adp (with_data d (meeting s (role_of d.command (adp_of d) (station_of s)) (window_of d)).bytes) x) counted) after2
     ∙ ap (λ (x : ℕ). with_counter (with_adp (with_data d (meeting s (role_of d.command (adp_of d) (station_of s)) (window_of d)).bytes) (adp_after d.command (adp_of d))) x) counted2)
@@ -71,15 +71,15 @@ answer-is s h more d role ado adp adp2 station after counter added counted e a b
 pub passed_over : (s : SlaveState) (d : Datagram) (c : Command) → c ≡ d.command → (c ≡ Nop) ⊎ ((c ≡ Lrd) ⊎ ((c ≡ Lwr) ⊎ (c ≡ Lrw))) → meets s d ≡ record { slave = s; datagram = d }
 unfolding meets
 passed_over s d c e h = elim h [
-      inl n ↦ ap (λ (k : Command). meets_by k s d) (sym e ∙ n)
-    | inr x ↦ elim x [
-          inl n ↦ ap (λ (k : Command). meets_by k s d) (sym e ∙ n)
-        | inr y ↦ elim y [
-              inl n ↦ ap (λ (k : Command). meets_by k s d) (sym e ∙ n)
-            | inr n ↦ ap (λ (k : Command). meets_by k s d) (sym e ∙ n)
-            ]
-        ]
+  | inl n ↦ ap (λ (k : Command). meets_by k s d) (sym e ∙ n)
+  | inr x ↦ elim x [
+    | inl n ↦ ap (λ (k : Command). meets_by k s d) (sym e ∙ n)
+    | inr y ↦ elim y [
+      | inl n ↦ ap (λ (k : Command). meets_by k s d) (sym e ∙ n)
+      | inr n ↦ ap (λ (k : Command). meets_by k s d) (sym e ∙ n)
     ]
+  ]
+]
 
 by-physical : (c : Command) (s : SlaveState) (d : Datagram) → c ≢ Nop → c ≢ Lrd → c ≢ Lwr → c ≢ Lrw → meets_by c s d ≡ meets_physically s d
 by-physical Nop s d n r w x = absurd (n refl)

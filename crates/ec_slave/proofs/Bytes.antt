@@ -1,14 +1,12 @@
 -- Reads and writes byte by byte, and what they count.
-use Rattle.std.proofs.Common.{ℕ, ◌+◌, ◌*◌, ◌<◌, ◌≡◌, if◌then◌else◌, List, length, Bool, true, false, slice_index, Option, Some, None, unwrap_or, refl, ◌∙◌, ap}
+use Rattle.std.proofs.Common.{ℕ, ◌+◌, ◌*◌, ◌<◌, ◌≡◌, if◌then◌else◌, List, length, Bool, true, false, slice_index, Option, unwrap_or, refl, ◌∙◌, ap}
 use Rattle.std.specs.Int.{from_bool}
 use Rattle.std.proofs.lemmas.Bool.{and_left, and_right, and_from}
-use Rattle.ec_slave.specs.declared.role.Role.{Role}
 use Rattle.ec_slave.specs.declared.role.Role.TheVariants.{Nothing, Read, Write, ReadWrite, OrRead, OrReadWrite}
-use Rattle.ec_slave.specs.State.{SlaveState}
-use Rattle.ec_slave.specs.Access.{Window, touches, byte_at, byte_for, byte_read, may_read_byte, may_write_byte, memory_written, some_byte_read, some_byte_written, meeting}
+use Rattle.ec_slave.specs.Access.{Window, touches, byte_for, byte_read, may_write_byte, some_byte_read, some_byte_written, meeting}
 use Rattle.ec_slave.specs.Keeping.{length-retold}
-use Rattle.ec_slave.specs.Laws.{WritesByByte, IsWrittenAt, ReadsByByte, IsReadAt, CountsByRole, count_of}
-use Rattle.ec_slave.proofs.Tests.{if_true, if_false}
+use Rattle.ec_slave.specs.Laws.{WritesByByte, IsWrittenAt, ReadsByByte, CountsByRole}
+use Rattle.ec_slave.proofs.Choices.{if_true, if_false}
 use Rattle.ec_slave.proofs.Told.{get-retold0}
 
 written_at : (w : Window) (memory : List ℕ) (a : ℕ) → a < length memory → IsWrittenAt w memory a

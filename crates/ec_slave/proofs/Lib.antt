@@ -1,6 +1,6 @@
 mod Answered
 mod Passing
 mod Bytes
-mod Tests
+mod Choices
 mod Told
 mod Windows

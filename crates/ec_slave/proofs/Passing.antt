@@ -1,19 +1,19 @@
 -- Datagrams that pass.
-use Rattle.std.proofs.Common.{ℕ, ◌+◌, ◌*◌, ◌/◌, ◌%◌, ◌^◌, ◌<◌, ◌≡◌, ◌≢◌, ◌⊎◌, ◌==◌, inl, inr, List, length, Bool, true, false, refl, sym, ◌∙◌, ap, arith, if◌then◌else◌}
+use Rattle.std.proofs.Common.{ℕ, ◌+◌, ◌*◌, ◌/◌, ◌%◌, ◌<◌, ◌≡◌, ◌==◌, inl, inr, List, [], ◌∷◌, false, refl, ◌∙◌, ap, arith}
 use Rattle.std.proofs.lemmas.Bool.{ne_eqb}
 use Rattle.ec_frame.specs.declared.command.Command.{Command}
 use Rattle.ec_frame.specs.declared.command.Command.TheVariants.{Nop, Aprd, Apwr, Aprw, Fprd, Fpwr, Fprw, Brd, Bwr, Brw, Lrd, Lwr, Lrw, Armw, Frmw}
 use Rattle.ec_frame.specs.Datagram.{Datagram, IsDatagram, adp_of, ado_of}
 use Rattle.ec_frame.specs.Fields.{with_adp}
 use Rattle.ec_slave.specs.declared.role.Role.{Role}
-use Rattle.ec_slave.specs.declared.role.Role.TheVariants.{Nothing, OrRead}
+use Rattle.ec_slave.specs.declared.role.Role.TheVariants.{Nothing, Read, Write, ReadWrite, OrRead, OrReadWrite}
 use Rattle.ec_slave.specs.Roles.{role_of, adp_after}
 use Rattle.ec_slave.specs.State.{SlaveState, station_of}
 use Rattle.ec_slave.specs.Access.{Window, meeting}
-use Rattle.ec_slave.specs.Meeting.{Met, window_of, with_answer, meets, meets_by, meets_physically, datagram_met}
+use Rattle.ec_slave.specs.Meeting.{window_of, with_answer, meets, meets_by, meets_physically, passes, slave_met}
 use Rattle.ec_slave.specs.Keeping.{adp_after-bound, length-meeting}
 use Rattle.ec_slave.specs.Laws.{BroadcastReadChangesNoSlave, OtherStationPasses, OtherPositionPasses, HeadingStays, KeepsHeading}
-use Rattle.ec_slave.proofs.Tests.{if_false}
+use Rattle.ec_slave.proofs.Choices.{if_false}
 
 kept-nothing : (s : SlaveState) (w : Window) → (meeting s Nothing w).slave ≡ s
 unfolding meeting
@@ -39,7 +39,7 @@ broadcast_read_changes_no_slave s d e =
 
 -- a slave that has nothing to do with a datagram
 pub passed_by : (s : SlaveState) (d : Datagram) → IsDatagram d → role_of d.command (adp_of d) (station_of s) ≡ Nothing
-  → meets_physically s d ≡ record { slave = s; datagram = with_adp d (adp_after d.command (adp_of d)) }
+    → meets_physically s d ≡ record { slave = s; datagram = with_adp d (adp_after d.command (adp_of d)) }
 passed_by s d good e =
     let a : ℕ = adp_after d.command (adp_of d) in
     let w : Window = window_of d in
@@ -56,7 +56,7 @@ own_address d = let e : d.address % 65536 + 65536 * (d.address / 65536) ≡ d.ad
 
 -- the same for a command of which that is known
 passed_as : (s : SlaveState) (d : Datagram) (c : Command) → IsDatagram d → d.command ≡ c → meets_by c s d ≡ meets_physically s d
-  → role_of c (adp_of d) (station_of s) ≡ Nothing → meets s d ≡ record { slave = s; datagram = with_adp d (adp_after c (adp_of d)) }
+    → role_of c (adp_of d) (station_of s) ≡ Nothing → meets s d ≡ record { slave = s; datagram = with_adp d (adp_after c (adp_of d)) }
 unfolding meets
 passed_as s d c good e p r =
     ap (λ (k : Command). meets_by k s d) e ∙ (p
@@ -67,22 +67,22 @@ pub other_station_passes : OtherStationPasses
 other_station_passes s d good h ne =
     let t : (adp_of d == station_of s) ≡ false = ne_eqb (adp_of d) (station_of s) ne in
     elim h [
-      inl e ↦ passed_as s d Fprd good e refl (if_false _ _ _ t) ∙ ap (λ (x : Datagram). record { slave = s; datagram = x }) (own_address d)
-    | inr k ↦ elim k [
-          inl e ↦ passed_as s d Fpwr good e refl (if_false _ _ _ t) ∙ ap (λ (x : Datagram). record { slave = s; datagram = x }) (own_address d)
+      | inl e ↦ passed_as s d Fprd good e refl (if_false _ _ _ t) ∙ ap (λ (x : Datagram). record { slave = s; datagram = x }) (own_address d)
+      | inr k ↦ elim k [
+        | inl e ↦ passed_as s d Fpwr good e refl (if_false _ _ _ t) ∙ ap (λ (x : Datagram). record { slave = s; datagram = x }) (own_address d)
         | inr e ↦ passed_as s d Fprw good e refl (if_false _ _ _ t) ∙ ap (λ (x : Datagram). record { slave = s; datagram = x }) (own_address d)
-        ]
+      ]
     ]
 
 pub other_position_passes : OtherPositionPasses
 other_position_passes s d good h ne =
     let t : (adp_of d == 0) ≡ false = ne_eqb (adp_of d) 0 ne in
     elim h [
-      inl e ↦ passed_as s d Aprd good e refl (if_false _ _ _ t)
-    | inr k ↦ elim k [
-          inl e ↦ passed_as s d Apwr good e refl (if_false _ _ _ t)
+      | inl e ↦ passed_as s d Aprd good e refl (if_false _ _ _ t)
+      | inr k ↦ elim k [
+        | inl e ↦ passed_as s d Apwr good e refl (if_false _ _ _ t)
         | inr e ↦ passed_as s d Aprw good e refl (if_false _ _ _ t)
-        ]
+      ]
     ]
 
 physical_heading : (s : SlaveState) (d : Datagram) → IsDatagram d → KeepsHeading d (meets_physically s d).datagram
@@ -116,3 +116,42 @@ heading_by Frmw s d good = physical_heading s d good
 pub heading_stays : HeadingStays
 unfolding meets
 heading_stays s d good = heading_by d.command s d good
+
+-- ---- what no datagram changes in a slave
+
+meeting-kept : (s : SlaveState) (role : Role) (w : Window) → ((meeting s role w).slave.kind ≡ s.kind) × ((meeting s role w).slave.identity ≡ s.identity)
+unfolding meeting
+meeting-kept s Nothing w = (refl, refl)
+meeting-kept s Read w = (refl, refl)
+meeting-kept s Write w = (refl, refl)
+meeting-kept s ReadWrite w = (refl, refl)
+meeting-kept s OrRead w = (refl, refl)
+meeting-kept s OrReadWrite w = (refl, refl)
+
+kept_by : (c : Command) (s : SlaveState) (d : Datagram) → ((meets_by c s d).slave.kind ≡ s.kind) × ((meets_by c s d).slave.identity ≡ s.identity)
+kept_by Nop s d = (refl, refl)
+kept_by Aprd s d = meeting-kept s _ _
+kept_by Apwr s d = meeting-kept s _ _
+kept_by Aprw s d = meeting-kept s _ _
+kept_by Fprd s d = meeting-kept s _ _
+kept_by Fpwr s d = meeting-kept s _ _
+kept_by Fprw s d = meeting-kept s _ _
+kept_by Brd s d = meeting-kept s _ _
+kept_by Bwr s d = meeting-kept s _ _
+kept_by Brw s d = meeting-kept s _ _
+kept_by Lrd s d = (refl, refl)
+kept_by Lwr s d = (refl, refl)
+kept_by Lrw s d = (refl, refl)
+kept_by Armw s d = meeting-kept s _ _
+kept_by Frmw s d = meeting-kept s _ _
+
+met-kept : (s : SlaveState) (d : Datagram) → ((slave_met s d).kind ≡ s.kind) × ((slave_met s d).identity ≡ s.identity)
+unfolding meets
+met-kept s d = kept_by d.command s d
+
+pub passes-kept : (s : SlaveState) (ds : List Datagram) → ((passes s ds).slave.kind ≡ s.kind) × ((passes s ds).slave.identity ≡ s.identity)
+passes-kept s [] = (refl, refl)
+passes-kept s (d ∷ ds) =
+    let m = met-kept s d in
+    let r = passes-kept (slave_met s d) ds in
+    (r.0 ∙ m.0, r.1 ∙ m.1)

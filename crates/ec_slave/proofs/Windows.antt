@@ -1,9 +1,9 @@
 -- What one byte of a window gives.
-use Rattle.std.proofs.Common.{ℕ, ◌+◌, ◌-◌, ◌<◌, ◌≤◌, ◌≡◌, ◌⊎◌, List, length, Bool, true, false, slice_index, get_or, Option, Some, None, bit_or, refl, sym, ◌∙◌, ap, inl, inr, arith, if◌then◌else◌}
+use Rattle.std.proofs.Common.{ℕ, ◌+◌, ◌-◌, ◌<◌, ◌≤◌, ◌≡◌, ◌⊎◌, List, length, Bool, true, false, slice_index, get_or, Some, None, bit_or, refl, sym, ◌∙◌, ap, inl, inr, arith, if◌then◌else◌}
 use Rattle.ec_bits.specs.Bits.{within}
 use Rattle.ec_slave.specs.State.{SlaveState}
 use Rattle.ec_slave.specs.Access.{Window, byte_at, byte_for, byte_read, may_read_byte, may_write_byte}
-use Rattle.ec_slave.proofs.Tests.{if_true, if_false, within_true, within_below, within_above}
+use Rattle.ec_slave.proofs.Choices.{if_true, if_false, within_true, within_below, within_above}
 use Rattle.ec_slave.proofs.Told.{told_along, get-told_outside}
 
 pub for-outside : (w : Window) (a : ℕ) → (a < w.from) ⊎ (w.from + length w.bytes ≤ a) → byte_for w a ≡ None
@@ -30,7 +30,7 @@ pub read-denied : (s : SlaveState) (joining : Bool) (w : Window) (i : ℕ) → m
 read-denied s joining w i h = if_false _ _ _ h
 
 pub read-given : (s : SlaveState) (joining : Bool) (w : Window) (i : ℕ) (now : List ℕ) (y r : ℕ) → may_read_byte (w.from + i) ≡ true
-  → now ≡ told_along i 0 w.bytes (byte_read s joining w) → y ≡ byte_at s (w.from + i) → r ≡ over joining (slice_index now i) y → byte_read s joining w i ≡ Some r
+    → now ≡ told_along i 0 w.bytes (byte_read s joining w) → y ≡ byte_at s (w.from + i) → r ≡ over joining (slice_index now i) y → byte_read s joining w i ≡ Some r
 read-given s joining w i now y r h inv e g =
     let own : get_or now i 0 ≡ get_or w.bytes i 0 = ap (λ xs. get_or xs i 0) inv ∙ get-told_outside i 0 w.bytes (byte_read s joining w) i (inr (omega arith)) in
     if_true _ _ _ h ∙ ap Some (sym (g ∙ (ap (λ x. over joining x y) own ∙ ap (over joining (slice_index w.bytes i)) e)))

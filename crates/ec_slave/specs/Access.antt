@@ -1,5 +1,5 @@
 -- What a datagram reads and writes in the memory of a slave, byte by byte (ETG.1000.4, "Physical memory", "Register description").
-use Rattle.std.specs.Prelude.{ℕ, ◌+◌, ◌-◌, ◌*◌, ◌==◌, ◌&&◌, ◌||◌, List, [], ◌∷◌, length, Bool, false, if◌then◌else◌, nat_lt, slice_index, Option, Some, None, is_some, unwrap_or, bit_or}
+use Rattle.std.specs.Prelude.{ℕ, ◌+◌, ◌-◌, ◌*◌, ◌==◌, ◌&&◌, List, [], ◌∷◌, length, Bool, false, if◌then◌else◌, nat_lt, slice_index, Option, Some, None, unwrap_or, bit_or}
 use Rattle.std.specs.Int.{from_bool}
 use Rattle.ec_bits.specs.Bits.{any_below, within}
 use Rattle.ec_regs.specs.Memory.{ram_start, ram_end, takes_writes}
@@ -12,6 +12,9 @@ use Rattle.ec_slave.specs.State.{SlaveState, with_memory}
 pub record Window : Type 0 where
   pub from : ℕ
   pub bytes : List ℕ
+
+abbrev pub bytes_at : ℕ → List ℕ → Window
+bytes_at from bytes = record { from = from; bytes = bytes }
 
 abbrev pub touches : Window → ℕ → Bool
 touches w a = within w.from (length w.bytes) a
@@ -58,8 +61,15 @@ byte_read s joining w k =
     then Some (if joining then bit_or (slice_index w.bytes k) (byte_at s (w.from + k)) else byte_at s (w.from + k))
     else None
 
+-- the data after a read, and the memory and the slave after a write
+abbrev pub data_read : SlaveState → Bool → Window → List ℕ
+data_read s joining w = retold w.bytes (byte_read s joining w)
+
 abbrev pub memory_written : Window → List ℕ → List ℕ
 memory_written w memory = retold memory (byte_for w)
+
+abbrev pub slave_written : SlaveState → Window → SlaveState
+slave_written s w = with_memory s (memory_written w s.memory)
 
 -- one byte is enough for a read, or a write, to count
 abbrev pub some_byte_read : Window → Bool
@@ -67,6 +77,10 @@ some_byte_read w = any_below (length w.bytes) (λ k. may_read_byte (w.from + k))
 
 abbrev pub some_byte_written : Window → Bool
 some_byte_written w = any_below (length w.bytes) (λ k. may_write_byte (w.from + k))
+
+-- what a datagram that both reads and writes counts
+abbrev pub both_count : Window → ℕ
+both_count w = from_bool (some_byte_read w) + 2 * from_bool (some_byte_written w)
 
 -- what a slave and the bytes of a datagram become, and what the working counter grows by
 pub record Meeting : Type 0 where
@@ -78,7 +92,7 @@ pub record Meeting : Type 0 where
 -- received. A read counts 1; a write counts 1, in a datagram that reads as well 2.
 unfoldable pub meeting : SlaveState → Role → Window → Meeting
 meeting s role w = record {
-  slave = if is_writing role then with_memory s (memory_written w s.memory) else s;
-  bytes = if is_reading role then retold w.bytes (byte_read s (is_joining role) w) else w.bytes;
+  slave = if is_writing role then slave_written s w else s;
+  bytes = if is_reading role then data_read s (is_joining role) w else w.bytes;
   added = from_bool (is_reading role && some_byte_read w) + (if is_reading role then 2 else 1) * from_bool (is_writing role && some_byte_written w);
 }

@@ -49,15 +49,17 @@ pub physically-keeps : (s : SlaveState) (d : Datagram) → IsDatagram d → IsDa
 physically-keeps s d h =
     let role : Role = role_of d.command (adp_of d) (station_of s) in
     let e : length (meeting s role (window_of d)).bytes ≡ length d.data_bytes = length-meeting s role (window_of d) in
-    let a : adp_after d.command (adp_of d) < 65536 = adp_after-bound d.command (adp_of d) (omega arith) in
-    (record {
-      index = h.index;
-      address = address-bound d.address (adp_after d.command (adp_of d)) h.address a;
-      reserved = h.reserved;
-      irq = h.irq;
-      data_bytes = omega (arith, e, h.data_bytes);
-      counter = omega arith;
-    }, e)
+    let a : adp_after d.command (adp_of d) < 65536 = adp_after-bound d.command (adp_of d) (omega arith) in (
+      record {
+        index = h.index;
+        address = address-bound d.address (adp_after d.command (adp_of d)) h.address a;
+        reserved = h.reserved;
+        irq = h.irq;
+        data_bytes = omega (arith, e, h.data_bytes);
+        counter = omega arith;
+      },
+      e,
+    )
 
 by-keeps : (c : Command) (s : SlaveState) (d : Datagram) → IsDatagram d → IsDatagram (meets_by c s d).datagram × (length (meets_by c s d).datagram.data_bytes ≡ length d.data_bytes)
 by-keeps Nop s d h = (h, refl)

@@ -7,7 +7,7 @@ use Rattle.ec_slave.specs.declared.role.Role.{Role}
 use Rattle.ec_slave.specs.declared.role.Role.TheVariants.{Nothing, Read, Write, ReadWrite, OrRead, OrReadWrite}
 use Rattle.ec_slave.specs.State.{SlaveState, station_of}
 use Rattle.ec_slave.specs.Access.{Window, touches, byte_at, byte_read, may_read_byte, may_write_byte, memory_written, retold, some_byte_read, some_byte_written, meeting}
-use Rattle.ec_slave.specs.Meeting.{Met, meets, slave_met, datagram_met}
+use Rattle.ec_slave.specs.Meeting.{meets, slave_met, datagram_met}
 
 abbrev pub BroadcastReadChangesNoSlave : Type 0
 BroadcastReadChangesNoSlave = (s : SlaveState) (d : Datagram) → d.command ≡ Brd → slave_met s d ≡ s
@@ -51,7 +51,7 @@ WritesByByte =
 -- data byte k after a read: what its address reads, in a broadcast joined by OR, or what it was where no memory is
 pub record IsReadAt (s : SlaveState) (joining : Bool) (w : Window) (k : ℕ) : Type 0 where
   pub given : may_read_byte (w.from + k) ≡ true
-    → slice_index (retold w.bytes (byte_read s joining w)) k ≡ (if joining then bit_or (slice_index w.bytes k) (byte_at s (w.from + k)) else byte_at s (w.from + k))
+      → slice_index (retold w.bytes (byte_read s joining w)) k ≡ (if joining then bit_or (slice_index w.bytes k) (byte_at s (w.from + k)) else byte_at s (w.from + k))
   pub denied : may_read_byte (w.from + k) ≡ false → slice_index (retold w.bytes (byte_read s joining w)) k ≡ slice_index w.bytes k
 
 abbrev pub ReadsByByte : Type 0

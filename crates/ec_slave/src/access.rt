@@ -1,6 +1,7 @@
 ghost use Rattle.std.specs.Prelude.{◌≡◌, ◌+◌, ◌<◌, ◌^◌, if◌then◌else◌, bit_or, length};
 ghost use Rattle.std.specs.Bool.{OnTrue};
-ghost use Rattle.ec_slave.specs.Access.{Window, may_read_byte, may_write_byte, memory_written, some_byte_written};
+ghost use Rattle.ec_slave.specs.Access.{bytes_at, may_read_byte, may_write_byte};
+ghost use Rattle.ec_slave.specs.Access.{memory_written, some_byte_written};
 
 use ec_regs::registers::{RAM_END, RAM_START};
 use ec_regs::takes_writes;
@@ -31,8 +32,8 @@ pub(crate) fn may_write(address: usize) -> bool
 pub(crate) fn write_memory(memory: &mut [u8], from: usize, bytes: &[u8]) -> bool
     requires room { length memory.old ≡ 12288 }
     requires small { from + length bytes.now < 2 ^ 32 }
-    ensures memory { memory.new ≡ memory_written (record { from = from; bytes = bytes.now }) memory.old }
-    ensures some { result ≡ some_byte_written (record { from = from; bytes = bytes.now }) }
+    ensures memory { memory.new ≡ memory_written (bytes_at from bytes.now) memory.old }
+    ensures some { result ≡ some_byte_written (bytes_at from bytes.now) }
 {
     let mut is_some = false;
     for (i, byte) in bytes.iter().enumerate() {

@@ -1,6 +1,8 @@
 //! Laws of the definitions: each is the contract of a function that does nothing.
 
-ghost use Rattle.ec_slave.specs.Laws.{BroadcastReadChangesNoSlave, OtherStationPasses, OtherPositionPasses, HeadingStays, WritesByByte, ReadsByByte, CountsByRole};
+ghost use Rattle.ec_slave.specs.Laws.{BroadcastReadChangesNoSlave, OtherStationPasses};
+ghost use Rattle.ec_slave.specs.Laws.{OtherPositionPasses};
+ghost use Rattle.ec_slave.specs.Laws.{HeadingStays, WritesByByte, ReadsByByte, CountsByRole};
 
 /// A broadcast read leaves every slave as it is.
 pub fn broadcast_read_changes_no_slave()

@@ -6,7 +6,6 @@ pub mod laws;
 mod role;
 mod slave;
 
-
 pub use crate::slave::Slave;
 
 #[cfg(test)]

@@ -22,7 +22,8 @@ pub(crate) enum Role {
 }
 
 impl Role {
-    /// The role of the slave that a datagram with the ADP reaches, by the table of commands (ETG.1000.4, "EtherCAT commands").
+    /// The role of the slave that a datagram with the ADP reaches, by the table of commands
+    /// (ETG.1000.4, "EtherCAT commands").
     pub fn of(command: Command, adp: u16, station_address: u16) -> Role
         ensures { result ≡ role_of command adp station_address }
     {

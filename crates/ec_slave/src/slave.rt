@@ -1,20 +1,25 @@
-ghost use Rattle.std.specs.Prelude.{◌≡◌, ◌+◌, ◌*◌, ◌<◌, ◌^◌, Bool, IfOk, length, if◌then◌else◌, Option, Some, None, nat_lt};
-ghost use Rattle.std.specs.Int.{from_bool};
-ghost use Rattle.ec_bits.specs.Bits.{zeros};
+ghost use Rattle.std.specs.Prelude.{◌≡◌, ◌+◌, ◌<◌, ◌^◌, Bool, IfOk, Some, None, length};
+ghost use Rattle.std.specs.Prelude.{if◌then◌else◌, nat_lt};
+ghost use Rattle.ec_regs.specs.Memory.{ram_end};
 ghost use Rattle.ec_frame.specs.Datagram.{Datagram, IsDatagram, IsSpelling, spelling};
 ghost use Rattle.ec_frame.specs.Fields.{header_of, with_data};
 ghost use Rattle.ec_frame.specs.Frame.{Payload, IsFrame};
-ghost use Rattle.ec_slave.specs.Access.{Window, byte_at, byte_read, meeting, memory_written, register_byte, retold, some_byte_read, some_byte_written};
+ghost use Rattle.ec_slave.specs.Access.{byte_at, bytes_at, data_read, meeting, register_byte};
+ghost use Rattle.ec_slave.specs.Access.{both_count, slave_written, some_byte_read};
+ghost use Rattle.ec_slave.specs.Access.{some_byte_written};
 ghost use Rattle.ec_slave.specs.Keeping.{meets-keeps};
 ghost use Rattle.ec_slave.specs.Meeting.{IsPassed, datagram_met, meets_physically, slave_met};
-ghost use Rattle.ec_slave.specs.State.{SlaveState, memory_length, power_on, station_of, with_memory};
+ghost use Rattle.ec_slave.specs.State.{memory_length, power_on, station_of};
 
 use crate::access::{may_read, read_over, write_memory};
 use crate::role::{Role, adp_after_slave};
-use ec_frame::{Command, Handler, Header, cut_counter, cut_heading, pass, read_counter, write_adp, write_counter};
+use ec_frame::{
+    Command, Handler, Header, cut_counter, cut_heading, pass, read_counter, write_adp,
+    write_counter,
+};
 use ec_regs::registers::{
-    AL_STATUS, FMMU_COUNT, MANAGER_COUNT, NUMBER_OF_FMMUS, NUMBER_OF_SYNC_MANAGERS, RAM_END, RAM_KIB, RAM_SIZE,
-    RAM_START, STATION_ADDRESS,
+    AL_STATUS, FMMU_COUNT, MANAGER_COUNT, NUMBER_OF_FMMUS, NUMBER_OF_SYNC_MANAGERS, RAM_END,
+    RAM_KIB, RAM_SIZE, RAM_START, STATION_ADDRESS,
 };
 use ec_regs::{Identity, SlaveType, takes_writes};
 use std::alloc::{AllocError, Global};
@@ -77,7 +82,8 @@ impl Slave {
     /// What an address reads now; none past the RAM's end.
     #[tactic(auto, unfolding(crate::specs::Access::byte_at))]
     pub fn byte(&self, address: u16) -> Option<u8>
-        ensures { result ≡ (if nat_lt address 12288 then Some (byte_at self.now address) else None) }
+        ensures { result
+            ≡ (if nat_lt address ram_end then Some (byte_at self.now address) else None) }
     {
         let address = address as usize;
         if address < RAM_END as usize {
@@ -119,8 +125,8 @@ impl Slave {
     /// Reads into the bytes of a datagram, and answers whether one was read.
     fn read(&self, joining: bool, from: usize, bytes: &mut [u8]) -> bool
         requires { from + length bytes.old < 2 ^ 32 }
-        ensures bytes { bytes.new ≡ retold bytes.old (byte_read self.now joining (record { from = from; bytes = bytes.old })) }
-        ensures some { result ≡ some_byte_read (record { from = from; bytes = bytes.old }) }
+        ensures bytes { bytes.new ≡ data_read self.now joining (bytes_at from bytes.old) }
+        ensures some { result ≡ some_byte_read (bytes_at from bytes.old) }
     {
         let mut is_some = false;
         for (i, byte) in bytes.iter_mut().enumerate() {
@@ -136,32 +142,39 @@ impl Slave {
     /// Writes the bytes of a datagram, and answers whether one was written.
     fn write(&mut self, from: usize, bytes: &[u8]) -> bool
         requires { from + length bytes.now < 2 ^ 32 }
-        ensures slave { self.new ≡ with_memory self.old (memory_written (record { from = from; bytes = bytes.now }) self.old.memory) }
-        ensures some { result ≡ some_byte_written (record { from = from; bytes = bytes.now }) }
+        ensures slave { self.new ≡ slave_written self.old (bytes_at from bytes.now) }
+        ensures some { result ≡ some_byte_written (bytes_at from bytes.now) }
     {
         write_memory(&mut self.memory, from, bytes)
     }
 
-    /// Reads into the bytes of a datagram and writes what was received, of which `received` is a copy.
-    fn read_and_write(&mut self, joining: bool, from: usize, received: &[u8], bytes: &mut [u8]) -> u16
+    /// Reads into the bytes of a datagram and writes what was received, of which `received` is a
+    /// copy; answers what that counts.
+    fn read_and_write(
+        &mut self,
+        joining: bool,
+        from: usize,
+        received: &[u8],
+        bytes: &mut [u8],
+    ) -> u16
         requires small { from + length bytes.old < 2 ^ 32 }
         requires same { received.now ≡ bytes.old }
-        ensures slave { self.new ≡ with_memory self.old (memory_written (record { from = from; bytes = bytes.old }) self.old.memory) }
-        ensures bytes { bytes.new ≡ retold bytes.old (byte_read self.old joining (record { from = from; bytes = bytes.old })) }
-        ensures added { result ≡ from_bool (some_byte_read (record { from = from; bytes = bytes.old })) + 2 * from_bool (some_byte_written (record { from = from; bytes = bytes.old })) }
+        ensures slave { self.new ≡ slave_written self.old (bytes_at from bytes.old) }
+        ensures bytes { bytes.new ≡ data_read self.old joining (bytes_at from bytes.old) }
+        ensures added { result ≡ both_count (bytes_at from bytes.old) }
     {
         let is_read = self.read(joining, from, bytes);
         let is_written = self.write(from, received);
         is_read as u16 + 2 * is_written as u16
     }
 
-    /// The same, with a copy of its own.
+    /// The same, with a copy of its own: only here are the received bytes needed beside the answer.
     fn exchange(&mut self, joining: bool, from: usize, bytes: &mut [u8]) -> u16
         requires small { from + length bytes.old < 2 ^ 32 }
         requires few { length bytes.old < 2048 }
-        ensures slave { self.new ≡ with_memory self.old (memory_written (record { from = from; bytes = bytes.old }) self.old.memory) }
-        ensures bytes { bytes.new ≡ retold bytes.old (byte_read self.old joining (record { from = from; bytes = bytes.old })) }
-        ensures added { result ≡ from_bool (some_byte_read (record { from = from; bytes = bytes.old })) + 2 * from_bool (some_byte_written (record { from = from; bytes = bytes.old })) }
+        ensures slave { self.new ≡ slave_written self.old (bytes_at from bytes.old) }
+        ensures bytes { bytes.new ≡ data_read self.old joining (bytes_at from bytes.old) }
+        ensures added { result ≡ both_count (bytes_at from bytes.old) }
     {
         let mut copy = [0; MAX_DATA];
         let received = &mut copy[..bytes.len()];
@@ -174,9 +187,9 @@ impl Slave {
     fn meet(&mut self, role: Role, from: usize, bytes: &mut [u8]) -> u16
         requires small { from + length bytes.old < 2 ^ 32 }
         requires few { length bytes.old < 2048 }
-        ensures slave { self.new ≡ (meeting self.old role (record { from = from; bytes = bytes.old })).slave }
-        ensures bytes { bytes.new ≡ (meeting self.old role (record { from = from; bytes = bytes.old })).bytes }
-        ensures added { result ≡ (meeting self.old role (record { from = from; bytes = bytes.old })).added }
+        ensures slave { self.new ≡ (meeting self.old role (bytes_at from bytes.old)).slave }
+        ensures bytes { bytes.new ≡ (meeting self.old role (bytes_at from bytes.old)).bytes }
+        ensures added { result ≡ (meeting self.old role (bytes_at from bytes.old)).added }
     {
         match role {
             Role::Nothing => 0,
@@ -192,11 +205,12 @@ impl Slave {
     fn meet_data(&mut self, role: Role, ado: u16, part: &mut [u8]) -> u16
         requires { IsSpelling part.old }
         ensures slave { (more : Bool) (d : Datagram) → IsDatagram d → part.old ≡ spelling more d
-            → self.new ≡ (meeting self.old role (record { from = ado; bytes = d.data_bytes })).slave }
+            → self.new ≡ (meeting self.old role (bytes_at ado d.data_bytes)).slave }
         ensures content { (more : Bool) (d : Datagram) → IsDatagram d → part.old ≡ spelling more d
-            → part.new ≡ spelling more (with_data d (meeting self.old role (record { from = ado; bytes = d.data_bytes })).bytes) }
+            → part.new ≡ spelling more
+            (with_data d (meeting self.old role (bytes_at ado d.data_bytes)).bytes) }
         ensures added { (more : Bool) (d : Datagram) → IsDatagram d → part.old ≡ spelling more d
-            → result ≡ (meeting self.old role (record { from = ado; bytes = d.data_bytes })).added }
+            → result ≡ (meeting self.old role (bytes_at ado d.data_bytes)).added }
     {
         let (_heading, body) = cut_heading(part);
         let (content, _counter) = cut_counter(body);
@@ -224,7 +238,9 @@ impl Slave {
     /// left it. Allocates nothing.
     pub fn pass(&mut self, frame: &mut [u8])
         requires { (p : Payload) × IsFrame frame.old p }
-        ensures { IsPassed self.old frame.old self.new frame.new }
+        ensures kind { self.new.kind ≡ self.old.kind }
+        ensures identity { self.new.identity ≡ self.old.identity }
+        ensures meets { IsPassed self.old frame.old self.new frame.new }
     {
         pass(self, frame);
     }

@@ -59,10 +59,9 @@ fn station_address_counts_from_the_next_datagram(rt: HostRuntime) -> Result<(), 
     Ok(())
 }
 
-// A datagram over the end of the memory reads what is there, and the same over a register that
-// can only be read writes nothing.
+// A register that can only be read gives its byte and takes none: a read and write counts 1.
 #[test]
-fn read_write_counts(rt: HostRuntime) -> Result<(), Fail> {
+fn read_write_of_a_fixed_register(rt: HostRuntime) -> Result<(), Fail> {
     let mut slave = plain_slave(rt.alloc())?;
     let mut frame = [
         0x0D, 0x10, 0x06, 0x00, 0x00, 0x00, 0x06, 0x00, 0x01, 0x00, 0x00, 0x00, 0x55, 0x00, 0x00,

@@ -1,4 +1,4 @@
-use Rattle.std.proofs.Common.{◌≤◌, length, arith}
+use Rattle.std.proofs.Common.{◌≤◌, length}
 use Rattle.ec_frame.specs.Frame.{with_datagrams}
 use Rattle.ec_ring.proofs.Going.{started, passed_one, arrived_slaves, arrived_frame}
 use Rattle.ec_ring.proofs.ring.pass_slaves.Goals as goal
@@ -12,7 +12,7 @@ pass-requires c =
     (with_datagrams c.requires.0 u.datagrams, u.frame_is)
 
 pub loop-place-preserved : goal.loop-place-preserved
-loop-place-preserved c = λ p h. passed_one _ p _ _ _ c.index-slaves-place.result c.pass.new.self c.pass.new.frame (c.loop-place.invariant p h) c.loop-place-test.true c.pass.ensures
+loop-place-preserved c = λ p h. passed_one _ p _ _ _ c.index-slaves-place.result c.pass.new.self c.pass.new.frame (c.loop-place.invariant p h) c.loop-place-test.true c.pass.ensures.meets
 
 pub returns : goal.returns
 returns c =

@@ -1,7 +1,7 @@
 use Rattle.std.proofs.Common.{◌≡◌, ◌+◌, length, ℕ, Bool, ◌∙◌, sym, ap, arith}
 use Rattle.ec_bits.specs.Bits.{any_below}
 use Rattle.ec_slave.specs.Access.{Window, byte_for, may_write_byte}
-use Rattle.ec_slave.proofs.Tests.{any-none, any-hit, any-miss}
+use Rattle.ec_slave.proofs.Choices.{any-none, any-hit, any-miss}
 use Rattle.ec_slave.proofs.Told.{told_along, told-none, told-step, retold-along}
 use Rattle.ec_slave.proofs.Windows.{for-outside, for-taken, for-refused}
 use Rattle.ec_slave.proofs.access.write_memory.Goals as goal
@@ -18,11 +18,11 @@ loop-i-preserved c =
     let step = told-step i c.args.from c.args.memory.now (byte_for w) c.loop-i.memory in
     let is : c.may_write.result ≡ may_write_byte (c.args.from + i) = c.may_write.ensures.value in
     elim c.if-may_write.branch [
-      then-may_write v ↦ record {
+      | then-may_write v ↦ record {
         memory = step _ _ c.loop-i.invariant.memory (for-taken w i c.loop-i-test.true (sym is ∙ v.if-may_write.true)) v.memory-is;
         some = v.is_some-is ∙ any-hit i p (sym is ∙ v.if-may_write.true);
       }
-    | else-may_write v ↦ record {
+      | else-may_write v ↦ record {
         memory = step _ _ c.loop-i.invariant.memory (for-refused w i c.loop-i-test.true (sym is ∙ v.if-may_write.false)) v.memory-is;
         some = v.is_some-is ∙ any-miss i p _ c.loop-i.invariant.some (sym is ∙ v.if-may_write.false);
       }

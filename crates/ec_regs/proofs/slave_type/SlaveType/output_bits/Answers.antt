@@ -3,4 +3,4 @@ use Rattle.ec_regs.proofs.Limits.{few_bits}
 use Rattle.ec_regs.proofs.slave_type.SlaveType.output_bits.Goals as goal
 
 pub bits_of-requires-clause-small : goal.bits_of-requires-clause-small
-bits_of-requires-clause-small c = rw c.as_slice.ensures (few_bits first_output_index c.self.inside.outputs c.self.invariant.outputs)
+bits_of-requires-clause-small c = few_bits first_output_index _ c.outputs.ensures.limits

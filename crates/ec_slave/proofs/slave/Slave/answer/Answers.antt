@@ -10,13 +10,6 @@ write_adp-requires c =
     let r = c.requires.spelt in
     (r.0, with_data r.1 _, data-good r.1 c.args.self.now c.of-role.result (record { from = c.ado.result; bytes = r.1.data_bytes }) r.2 refl, c.meet_data-added.ensures.content r.0 r.1 r.2 r.3)
 
-pub write_counter-requires : goal.write_counter-requires
-write_counter-requires c =
-    let r = c.requires.spelt in
-    let g = data-good r.1 c.args.self.now c.of-role.result (record { from = c.ado.result; bytes = r.1.data_bytes }) r.2 refl in
-    (r.0, with_adp (with_data r.1 _) _, adp-good (with_data r.1 _) c.adp_after_slave.result g c.adp_after_slave.type_inv,
-      c.write_adp.ensures r.0 (with_data r.1 _) g (c.meet_data-added.ensures.content r.0 r.1 r.2 r.3))
-
 pub returns-clause-datagram : goal.returns-clause-datagram
 returns-clause-datagram c = λ more d good e.
     let w : Window = record { from = c.ado.result; bytes = d.data_bytes } in
@@ -25,11 +18,11 @@ returns-clause-datagram c = λ more d good e.
     let g : IsDatagram (with_data d m.bytes) = data-good d c.args.self.now c.of-role.result w good refl in
     let h : IsDatagram (with_adp (with_data d m.bytes) c.adp_after_slave.result) = adp-good (with_data d m.bytes) c.adp_after_slave.result g c.adp_after_slave.type_inv in
     let e1 = c.meet_data-added.ensures.content more d good e in
-    let e2 = c.write_adp.ensures more (with_data d m.bytes) g e1 in
-    c.write_counter.ensures more (with_adp (with_data d m.bytes) c.adp_after_slave.result) h e2
+    let e2 = c.write_adp.ensures.written more (with_data d m.bytes) g e1 in
+    c.write_counter.ensures.written more (with_adp (with_data d m.bytes) c.adp_after_slave.result) h e2
     ∙ ap (spelling more) (answer-is c.args.self.now c.args.header more d c.of-role.result c.ado.result c.adp.result c.adp-2.result c.station_address.result c.adp_after_slave.result
-        c.read_counter-counter.result c.meet_data-added.result _ e0 c.ado.ensures c.adp.ensures c.adp-2.ensures c.station_address.ensures c.of-role.ensures c.adp_after_slave.ensures
-        (c.read_counter-counter.ensures more d good e) (c.meet_data-added.ensures.added more d good e) refl)
+    c.read_counter-counter.result c.meet_data-added.result _ e0 c.ado.ensures c.adp.ensures c.adp-2.ensures c.station_address.ensures c.of-role.ensures c.adp_after_slave.ensures
+    (c.read_counter-counter.ensures more d good e) (c.meet_data-added.ensures.added more d good e) refl)
 
 pub returns-clause-state : goal.returns-clause-state
 returns-clause-state c = λ more d good e.

@@ -1,7 +1,6 @@
-use Rattle.std.proofs.Common.{◌≡◌, ◌≤◌, ◌<◌, ◌+◌, ◌∙◌, ◌++◌, ap, List, ℕ, Bool, length, arith, refl}
+use Rattle.std.proofs.Common.{◌≡◌, ◌<◌, ◌+◌, ◌∙◌, ◌++◌, ap, List, ℕ, length, arith, refl}
 use Rattle.std.proofs.lemmas.List.{length-append}
 use Rattle.byteorder.specs.Endian.{little_bytes}
-use Rattle.ec_frame.specs.Datagram.{Datagram, IsDatagram, spelling}
 use Rattle.ec_slave.specs.Access.{meeting}
 use Rattle.ec_slave.proofs.Answered.{data_written}
 use Rattle.ec_slave.proofs.slave.Slave.meet_data.Goals as goal
@@ -41,6 +40,6 @@ returns-clause-content c = λ more d good e.
     let b = c.cut_heading-heading.ensures.body more d good e in
     let is : c.cut_counter-content.result.0.now ≡ d.data_bytes = c.cut_counter-content.ensures.content d.data_bytes d.counter b in
     data_written more d _ _ _ (record { from = c.args.ado; bytes = d.data_bytes }) c.args.self.now c.args.role
-      (c.cut_heading-heading.ensures.heading more d good e)
-      (c.meet.ensures.bytes ∙ ap (λ (t : List ℕ). (meeting c.args.self.now c.args.role (record { from = c.args.ado; bytes = t })).bytes) is)
-      (c.cut_counter-content.ensures.counter d.data_bytes d.counter b) refl
+    (c.cut_heading-heading.ensures.heading more d good e)
+    (c.meet.ensures.bytes ∙ ap (λ (t : List ℕ). (meeting c.args.self.now c.args.role (record { from = c.args.ado; bytes = t })).bytes) is)
+    (c.cut_counter-content.ensures.counter d.data_bytes d.counter b) refl

@@ -1,9 +1,9 @@
-use Rattle.std.proofs.Common.{◌≡◌, ◌+◌, length, ℕ, Bool, List, Option, ◌∙◌, sym, ap, arith}
+use Rattle.std.proofs.Common.{◌≡◌, ◌+◌, length, ℕ, Bool, Option, ◌∙◌, sym, ap, arith}
 use Rattle.std.proofs.lemmas.List.{set-get_or}
 use Rattle.ec_bits.specs.Bits.{any_below}
 use Rattle.ec_slave.specs.State.{SlaveState}
 use Rattle.ec_slave.specs.Access.{Window, byte_read, may_read_byte}
-use Rattle.ec_slave.proofs.Tests.{any-none, any-hit, any-miss}
+use Rattle.ec_slave.proofs.Choices.{any-none, any-hit, any-miss}
 use Rattle.ec_slave.proofs.Told.{told_along, told-none, told-step0, retold-whole}
 use Rattle.ec_slave.proofs.Windows.{read-denied, read-given}
 use Rattle.ec_slave.proofs.slave.Slave.read.Goals as goal
@@ -21,14 +21,14 @@ loop-i-preserved c =
     let f : ℕ → Option ℕ = byte_read s c.args.joining w in
     let is : c.may_read.result ≡ may_read_byte (c.args.from + i) = c.may_read.ensures.value in
     elim c.if-may_read.branch [
-      then-may_read v ↦ record {
+      | then-may_read v ↦ record {
         bytes = told-step0 i _ f c.loop-i.bytes _ _ c.loop-i.invariant.bytes
-          (read-given s c.args.joining w i c.loop-i.bytes _ _ (sym is ∙ v.if-may_read.true) c.loop-i.invariant.bytes v.byte_at-shown.ensures v.read_over.ensures) v.bytes-is;
+            (read-given s c.args.joining w i c.loop-i.bytes _ _ (sym is ∙ v.if-may_read.true) c.loop-i.invariant.bytes v.byte_at-shown.ensures v.read_over.ensures) v.bytes-is;
         some = v.is_some-is ∙ any-hit i p (sym is ∙ v.if-may_read.true);
       }
-    | else-may_read v ↦ record {
+      | else-may_read v ↦ record {
         bytes = told-step0 i _ f c.loop-i.bytes _ _ c.loop-i.invariant.bytes
-          (read-denied s c.args.joining w i (sym is ∙ v.if-may_read.false)) (v.bytes-is ∙ set-get_or _ _ 0);
+            (read-denied s c.args.joining w i (sym is ∙ v.if-may_read.false)) (v.bytes-is ∙ set-get_or _ _ 0);
         some = v.is_some-is ∙ any-miss i p _ c.loop-i.invariant.some (sym is ∙ v.if-may_read.false);
       }
     ]

@@ -1,0 +1,55 @@
+//! What the standard says of the EtherCAT state machine, proved of the definitions that the contracts of this
+//! crate cite. Each function does nothing; its contract is the law, which `specs/Laws.antt` spells out.
+
+ghost use Rattle.ec_al.specs.Laws.{AsksByNumber, GrantsByRungs, ClimbsByRungs, KeepsErrors, ReachesOpByRequest, CodeTellsErrors, NeverEntersBootstrap, DecidesOnce, ReturnsToInit, ComesUpToOp};
+
+/// A control word asks for a state exactly by that state's number.
+pub fn asks_by_number()
+    ensures { AsksByNumber }
+{}
+
+/// A request for a state is granted exactly for the same state, for a lower one, and for the next one up where
+/// its checks pass.
+pub fn grants_by_rungs()
+    ensures { GrantsByRungs }
+{}
+
+/// No transition skips a state upwards.
+pub fn climbs_by_rungs()
+    ensures { ClimbsByRungs }
+{}
+
+/// An error stays until it is acknowledged, and so does the state, whatever is requested.
+pub fn keeps_errors()
+    ensures { KeepsErrors }
+{}
+
+/// OP is reached only from SAFEOP, by a granted request for it.
+pub fn reaches_op_by_request()
+    ensures { ReachesOpByRequest }
+{}
+
+/// The AL status code is 0 exactly without an error.
+pub fn code_tells_errors()
+    ensures { CodeTellsErrors }
+{}
+
+/// BOOT is never entered.
+pub fn never_enters_bootstrap()
+    ensures { NeverEntersBootstrap }
+{}
+
+/// A request is decided once, by the first firmware step after it.
+pub fn decides_once()
+    ensures { DecidesOnce }
+{}
+
+/// A request for INIT with the acknowledgement leads to INIT without error, from everywhere.
+pub fn returns_to_init()
+    ensures { ReturnsToInit }
+{}
+
+/// Requests for PREOP, SAFEOP and OP lead from INIT to OP where all checks pass.
+pub fn comes_up_to_op()
+    ensures { ComesUpToOp }
+{}

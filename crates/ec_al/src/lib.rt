@@ -1,0 +1,18 @@
+//! The AL state machine of a simulated slave (ETG.1000.6, "EtherCAT state machine"): a master asks for a
+//! state by the AL control word, the slave's firmware grants or refuses it, and the AL status word and
+//! the AL status code say how it stands. BOOT isn't supported.
+#![tactic(auto)]
+
+pub mod laws;
+mod machine;
+mod state;
+mod status_code;
+mod transition;
+
+pub use crate::machine::Al;
+pub use crate::state::State;
+pub use crate::status_code::StatusCode;
+pub use crate::transition::{Checks, Requested};
+
+#[cfg(test)]
+mod tests;

@@ -1,0 +1,130 @@
+ghost use Rattle.std.specs.Prelude.{◌≡◌, ◌↔◌, IsTrue};
+ghost use Rattle.ec_al.specs.Al.{power_on, requesting, stepped, faulted, status_word, IsSound};
+ghost use Rattle.ec_al.specs.declared.state.State.TheVariants.{Op};
+
+use crate::state::State;
+use crate::status_code::StatusCode;
+use crate::transition::{Checks, Requested, is_acknowledge};
+use std::marker::Model;
+
+/// The AL state machine of one slave: its state, its error, and whether a request waits for the firmware.
+/// A contract sees it as an `Al` of specs/, where the error is a flag and a code.
+#[derive(Debug, Drop)]
+pub struct Al {
+    state: State,
+    error: Option<StatusCode>,
+    is_requested: bool,
+}
+
+impl Model for Al {
+    ghost use Rattle.std.specs.Prelude.{is_some};
+    ghost use Rattle.ec_al.specs.Al.{Al, shown_code};
+
+    ghost Value = { Al };
+
+    ghost view = { λ a. record {
+      state = a.state;
+      error = is_some a.error;
+      code = shown_code a.error;
+      requested = a.is_requested;
+    } };
+}
+
+impl Al {
+    /// A state machine as a slave powers on: INIT, no error, no request.
+    pub fn new() -> Self
+        ensures { result ≡ power_on }
+    {
+        Al {
+            state: State::Init,
+            error: None,
+            is_requested: false,
+        }
+    }
+
+    /// The master wrote the AL control word: a request waits from now on.
+    pub fn request(&mut self)
+        ensures { self.new ≡ requesting self.old }
+    {
+        self.is_requested = true;
+    }
+
+    /// A firmware step: a request that waits is decided by the AL control word as it now stands, and waits no
+    /// longer. Without one nothing changes.
+    pub fn step(&mut self, control: u16, checks: Checks)
+        ensures { self.new ≡ stepped self.old control checks }
+    {
+        if !self.is_requested {
+            return;
+        }
+        self.is_requested = false;
+        if self.error.is_some() && !is_acknowledge(control) {
+            return;
+        }
+        match self.state.answer(Requested::of(control), checks) {
+            Ok(state) => {
+                self.state = state;
+                self.error = None;
+            }
+            Err(code) => self.error = Some(code),
+        }
+    }
+
+    /// A fault of the application: in OP it leads to SAFEOP with an error, and the answer is true. In any other
+    /// state nothing changes. A request that waits still waits.
+    pub fn fault(&mut self) -> bool
+        ensures taken { IsTrue result ↔ (self.old.state ≡ Op) }
+        ensures state { self.new ≡ faulted self.old }
+    {
+        if self.state == State::Op {
+            self.state = State::SafeOp;
+            self.error = Some(StatusCode::Unspecified);
+            true
+        } else {
+            false
+        }
+    }
+
+    /// The slave is as at power-on.
+    pub fn reset(&mut self)
+        ensures { self.new ≡ power_on }
+    {
+        *self = Al::new();
+    }
+
+    /// The state.
+    pub fn state(&self) -> State
+        ensures { result ≡ self.now.state }
+    {
+        self.state
+    }
+
+    /// Whether there is an error, bit 4 of the AL status word.
+    pub fn has_error(&self) -> bool
+        ensures { result ≡ self.now.error }
+    {
+        self.error.is_some()
+    }
+
+    /// The AL status code, 0 exactly without an error.
+    pub fn code(&self) -> u16
+        ensures value { result ≡ self.now.code }
+        ensures sound { IsSound self.now }
+    {
+        self.error.map_or(0, |code| code.number())
+    }
+
+    /// Whether a request waits for a firmware step.
+    pub fn is_requested(&self) -> bool
+        ensures { result ≡ self.now.requested }
+    {
+        self.is_requested
+    }
+
+    /// The AL status word: bits 0 to 3 the state, bit 4 the error.
+    pub fn status_word(&self) -> u16
+        ensures { result ≡ status_word self.now }
+    {
+        self.state.number() + 16 * self.error.is_some() as u16
+    }
+}

@@ -1,0 +1,6 @@
+pub mod PairLaws
+pub mod SetLaws
+pub mod AppliedLaws
+pub mod RunLaws
+pub mod RangeLaws
+pub mod TouchLaws

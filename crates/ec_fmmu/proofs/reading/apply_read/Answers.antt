@@ -1,0 +1,70 @@
+use Rattle.std.proofs.Common.{ℕ, List, ap, ◌+◌, ◌*◌, ◌≡◌, ◌⊎◌, ◌∙◌, sym, subst, arith, None, inl, inr, length, true, if◌then◌else◌, get_or, ◌||◌, is_some}
+use Rattle.std.proofs.lemmas.Bool.{cases_Bool}
+use Rattle.std.proofs.lemmas.List.{get_or_default}
+use Rattle.ec_bits.specs.Bits.{any_below}
+use Rattle.ec_bits.proofs.Overlays.{Telling, telling_none, telling_end, telling_overlay, telling_fewer, counted_none, counted_part, counted_fewer, counted_end}
+use Rattle.ec_regs.specs.declared.fmmu.FmmuSettings.{FmmuSettings}
+use Rattle.ec_regs.specs.Fmmus.{no_fmmu}
+use Rattle.ec_fmmu.specs.Applied.{read_told}
+use Rattle.ec_fmmu.specs.Ranges.{reads_to}
+use Rattle.ec_fmmu.proofs.RangeLaws.{passed, none_passed, one_more_passed, nothing_read}
+use Rattle.ec_fmmu.proofs.reading.apply_read.Goals as goal
+
+pub loop-range-init : goal.loop-range-init
+loop-range-init g c =
+    record {
+      bits = telling_none _ _ _ (λ i d. absurd (none_passed c.args.fmmus.now (λ f. reads_to f (c.args.from + i)) d));
+      any = counted_none _ _ _ (λ i d. absurd (none_passed c.args.fmmus.now (λ f. reads_to f (c.args.from + i)) d));
+    }
+
+pub loop-range-preserved : goal.loop-range-preserved
+loop-range-preserved g c =
+    let fs = c.args.fmmus.now in
+    let from = c.args.from in
+    let n = c.loop-range.range-index in
+    let f = read_told fs (g.M.Shown.shown c.args.memory.now) from in
+    let bits = 8 * length c.args.data.now in
+    let item : c.range-item.result ≡ get_or fs n no_fmmu = c.range-item.is ∙ get_or_default fs n (c.range-item.result) no_fmmu (omega arith) in
+    let p = λ (i : ℕ). reads_to c.range-item.result (from + i) in
+    let before = λ (i : ℕ). passed n fs (λ f. reads_to f (from + i)) ≡ true in
+    let after = λ (i : ℕ). passed (n + 1) fs (λ f. reads_to f (from + i)) ≡ true in
+    let more : (i : ℕ) → after i → (p i ≡ true) ⊎ before i
+    = λ i d. elim (one_more_passed n fs (λ f. reads_to f (from + i)) d) [
+      | inl h ↦ inl (subst (λ (m : FmmuSettings). reads_to m (from + i) ≡ true) (sym item) h)
+      | inr h ↦ inr h
+    ] in
+    let same : length c.loop-range.data ≡ length c.args.data.now = c.loop-range.auto.«data» in
+    let any : c.read_range-any.result ≡ any_below bits (λ i. is_some (if p i then f i else None))
+    = c.read_range-any.ensures.any ∙ ap (λ (n : ℕ). any_below (8 * n) (λ i. is_some (if p i then f i else None))) same in
+    record {
+      bits = subst (λ (xs : List ℕ). Telling c.args.data.now f after xs) (sym c.read_range-any.ensures.bits)
+          (telling_fewer c.args.data.now f (λ i. (p i ≡ true) ⊎ before i) after _
+          (telling_overlay c.args.data.now f before c.loop-range.data p c.loop-range.invariant.bits)
+          (λ i l d. more i d));
+      any = counted_fewer f bits (λ i. (p i ≡ true) ⊎ before i) after (c.loop-range.any || c.read_range-any.result)
+          (counted_part f bits before p (c.loop-range.any) (c.read_range-any.result) c.loop-range.invariant.any any) more;
+    }
+
+pub returns-clause-bits : goal.returns-clause-bits
+returns-clause-bits g c =
+    let fs = c.args.fmmus.now in
+    let from = c.args.from in
+    let n = c.loop-range.range-index in
+    let shown = g.M.Shown.shown c.args.memory.now in
+    telling_end c.args.data.now (read_told fs shown from) (λ i. passed n fs (λ f. reads_to f (from + i)) ≡ true) c.loop-range.data c.loop-range.invariant.bits
+    (λ i l. elim (cases_Bool (passed n fs (λ f. reads_to f (from + i)))) [
+      | inl t ↦ inr t
+      | inr f ↦ inl (nothing_read fs shown from i n (omega arith) f)
+    ])
+
+pub returns-clause-any : goal.returns-clause-any
+returns-clause-any g c =
+    let fs = c.args.fmmus.now in
+    let from = c.args.from in
+    let n = c.loop-range.range-index in
+    let shown = g.M.Shown.shown c.args.memory.now in
+    counted_end (read_told fs shown from) (8 * length c.args.data.now) (λ i. passed n fs (λ f. reads_to f (from + i)) ≡ true) (c.loop-range.any) c.loop-range.invariant.any
+    (λ i l. elim (cases_Bool (passed n fs (λ f. reads_to f (from + i)))) [
+      | inl t ↦ inr t
+      | inr f ↦ inl (nothing_read fs shown from i n (omega arith) f)
+    ])

@@ -1,0 +1,14 @@
+use Rattle.std.proofs.Common.{◌≡◌, ◌+◌, ◌*◌, length, true}
+use Rattle.ec_bits.proofs.Overlays.{Telling, Counted}
+use Rattle.ec_fmmu.specs.Applied.{read_told}
+use Rattle.ec_fmmu.specs.Ranges.{reads_to}
+use Rattle.ec_fmmu.proofs.RangeLaws.{passed}
+use Rattle.ec_fmmu.proofs.reading.apply_read.Given as goal
+
+abbrev pub invariant-loop-range : goal.invariant-loop-range
+invariant-loop-range g l =
+    let told = read_told l.fmmus (g.M.Shown.shown l.memory) l.from in
+    record {
+      bits : Telling l.fn.data told (λ i. passed l.range-index l.fmmus (λ f. reads_to f (l.from + i)) ≡ true) l.data;
+      any : Counted told (8 * length l.fn.data) (λ i. passed l.range-index l.fmmus (λ f. reads_to f (l.from + i)) ≡ true) l.any;
+    }

@@ -1,0 +1,136 @@
+ghost use Rattle.std.specs.Prelude.{◌≡◌, ◌<◌, ◌≤◌, ◌+◌, ◌*◌, ◌^◌, IfSome, OnSome};
+ghost use Rattle.ec_bits.specs.Bits.{within as within_of};
+ghost use Rattle.ec_regs.specs.Memory.{ram_end};
+ghost use Rattle.ec_fmmu.specs.Pairs.{first_logical as first_logical_of, first_physical as first_physical_of, bit_count as bit_count_of, mapped, unmapped, is_ram_bit as is_ram_bit_of};
+
+use ec_regs::FmmuSettings;
+use ec_regs::registers::{RAM_END, RAM_START};
+use std::marker::Model;
+
+/// Whether `from ≤ place < from + count`.
+pub(crate) fn within(from: u64, count: u64, place: u64) -> bool
+    requires { from + count < 2 ^ 64 }
+    ensures { result ≡ within_of from count place }
+{
+    from <= place && place < from + count
+}
+
+/// Whether a physical bit lies in the RAM.
+fn is_ram_bit(physical: u64) -> bool
+    ensures { result ≡ is_ram_bit_of physical }
+{
+    let address = physical / 8;
+    u64::from(RAM_START) <= address && address < u64::from(RAM_END)
+}
+
+/// One FMMU (fieldbus memory management unit): a set of pairs of a logical and a physical bit.
+#[derive(Clone, Copy, Debug, PartialEq, Eq)]
+pub struct Fmmu {
+    registers: FmmuSettings,
+}
+
+impl Model for Fmmu {
+    ghost use Rattle.ec_regs.specs.declared.fmmu.FmmuSettings.{FmmuSettings as Settings};
+
+    ghost Value = { Settings };
+
+    ghost view = { λ f. f.registers };
+
+    ghost inverse = { λ s. record { registers = s } };
+}
+
+impl Fmmu {
+    /// The FMMU with these settings. Its range begins at bit `start_bit` of the logical byte
+    /// `logical_start` and ends with bit `stop_bit` of the byte `logical_start + length - 1`; an
+    /// empty or backward range maps nothing, and neither does an FMMU that isn't activated.
+    pub fn new(settings: FmmuSettings) -> Self
+        ensures { result ≡ settings }
+    {
+        Fmmu {
+            registers: settings,
+        }
+    }
+
+    /// The settings that it was made of.
+    pub fn settings(&self) -> FmmuSettings
+        ensures { result ≡ self.now }
+    {
+        self.registers
+    }
+
+    /// Whether logical reads go through it.
+    pub fn reads(&self) -> bool
+        ensures { result ≡ self.now.reads }
+    {
+        self.settings().reads
+    }
+
+    /// Whether logical writes go through it.
+    pub fn writes(&self) -> bool
+        ensures { result ≡ self.now.writes }
+    {
+        self.settings().writes
+    }
+
+    pub(crate) fn first_logical(&self) -> u64
+        ensures value { result ≡ first_logical_of self.now }
+        ensures small { result < 2 ^ 40 }
+    {
+        let settings = self.settings();
+        8 * u64::from(settings.logical_start) + u64::from(settings.start_bit)
+    }
+
+    pub(crate) fn first_physical(&self) -> u64
+        ensures value { result ≡ first_physical_of self.now }
+        ensures small { result < 2 ^ 20 }
+    {
+        let settings = self.settings();
+        8 * u64::from(settings.physical_start) + u64::from(settings.physical_bit)
+    }
+
+    pub(crate) fn bit_count(&self) -> u64
+        ensures value { result ≡ bit_count_of self.now }
+        ensures small { result < 2 ^ 40 }
+    {
+        let settings = self.settings();
+        if !settings.active {
+            return 0;
+        }
+        let behind = u64::from(settings.logical_start) + u64::from(settings.length);
+        let end = (8 * behind + u64::from(settings.stop_bit)).saturating_sub(7);
+        end.saturating_sub(self.first_logical())
+    }
+
+    /// The physical bit of the pair that a logical bit is in, if it is in one.
+    #[tactic(auto, unfolding(crate::specs::Pairs::mapped))]
+    pub fn map(&self, logical: u64) -> Option<u32>
+        ensures inside { IfSome result (λ q. q < 8 * ram_end) }
+        ensures value { result ≡ mapped self.now logical }
+    {
+        let first = self.first_logical();
+        if !within(first, self.bit_count(), logical) {
+            return None;
+        }
+        let physical = self.first_physical() + (logical - first);
+        if is_ram_bit(physical) {
+            Some(physical as u32)
+        } else {
+            None
+        }
+    }
+
+    /// The logical bit of the pair that a physical bit is in, if it is in one.
+    #[tactic(auto, unfolding(crate::specs::Pairs::unmapped))]
+    pub fn inverse(&self, physical: u32) -> Option<u64>
+        ensures inside { OnSome result (physical < 8 * ram_end) }
+        ensures value { result ≡ unmapped self.now physical }
+    {
+        let place = u64::from(physical);
+        let first = self.first_physical();
+        if within(first, self.bit_count(), place) && is_ram_bit(place) {
+            Some(self.first_logical() + (place - first))
+        } else {
+            None
+        }
+    }
+}

@@ -1,0 +1,99 @@
+-- The registers by which datagrams read the slave information interface (ETG.1000.4, "Slave information interface"):
+-- 0x0502 control and status, 0x0504 the word address, 0x0508 the data that were read last.
+use Rattle.std.specs.Prelude.{ℕ, ◌+◌, ◌-◌, ◌*◌, ◌%◌, ◌==◌, List, [], ◌∷◌, length, Bool, true, false, if◌then◌else◌, nat_le, slice_index, Option, Some, None, unwrap_or}
+use Rattle.std.specs.Int.{from_bool, to_le_bytes, from_le_bytes, w32}
+use Rattle.ec_bits.specs.Bits.{within}
+use Rattle.ec_sii.specs.Image.{word_at}
+use Rattle.ec_sii.specs.declared.image.Image.{Image}
+
+abbrev pub control_place : ℕ
+control_place = 0x0502
+
+-- the high byte of the control and status word, which has the command
+abbrev pub command_place : ℕ
+command_place = 0x0503
+
+abbrev pub address_place : ℕ
+address_place = 0x0504
+
+abbrev pub data_place : ℕ
+data_place = 0x0508
+
+pub record Sii : Type 0 where
+  pub image : Image
+  -- the word address that was written last
+  pub address : ℕ
+  -- a read was commanded and isn't finished
+  pub busy : Bool
+  -- a command or a word address was not possible
+  pub error : Bool
+  -- the two words that were read last
+  pub found : ℕ
+
+abbrev pub idle_port : Image → Sii
+idle_port image = record { image = image; address = 0; busy = false; error = false; found = 0 }
+
+-- ---- what datagrams read
+
+-- bits 8..10 of the control and status word are the command under way (1 a read), bit 13 is the error, bit 15 busy
+abbrev pub status_byte : Sii → ℕ
+status_byte p = from_bool p.busy + 32 * from_bool p.error + 128 * from_bool p.busy
+
+-- the byte that an address of the port reads
+unfoldable pub sii_byte : Sii → ℕ → ℕ
+sii_byte p address =
+    if address == command_place then status_byte p
+    else (if within address_place 4 address then slice_index (to_le_bytes w32 p.address) (address - address_place)
+    else (if within data_place 4 address then slice_index (to_le_bytes w32 p.found) (address - data_place) else 0))
+
+-- ---- what datagrams write
+
+-- the byte that a datagram, whose bytes lie from `from` on, has for an address
+abbrev pub byte_for : ℕ → List ℕ → ℕ → Option ℕ
+byte_for from bytes address = if within from (length bytes) address then Some (slice_index bytes (address - from)) else None
+
+-- byte k of the word address, after the datagram
+abbrev pub address_byte : ℕ → ℕ → List ℕ → ℕ → ℕ
+address_byte old from bytes k = unwrap_or (byte_for from bytes (address_place + k)) (slice_index (to_le_bytes w32 old) k)
+
+abbrev pub address_written : ℕ → ℕ → List ℕ → ℕ
+address_written old from bytes =
+    from_le_bytes w32 (address_byte old from bytes 0 ∷ address_byte old from bytes 1 ∷ address_byte old from bytes 2 ∷ address_byte old from bytes 3 ∷ [])
+
+-- What the byte for 0x0503 commands by its bits 0..2: 0 clears the error, 1 begins a read, and any other is an
+-- error (this project's profile). Its other bits are ignored.
+abbrev pub commanded : Sii → Option ℕ → Sii
+commanded p None = p
+commanded p (Some control) =
+    if control % 8 == 0 then record { image = p.image; address = p.address; busy = p.busy; error = false; found = p.found }
+    else (if control % 8 == 1 then record { image = p.image; address = p.address; busy = true; error = false; found = p.found }
+    else record { image = p.image; address = p.address; busy = p.busy; error = true; found = p.found })
+
+abbrev pub addressed : Sii → ℕ → Sii
+addressed p address = record { image = p.image; address = address; busy = p.busy; error = p.error; found = p.found }
+
+-- A datagram is written to the port: first its bytes are stored, then the command counts. While it is busy the port
+-- takes no write.
+unfoldable pub written : Sii → ℕ → List ℕ → Sii
+written p from bytes =
+    if p.busy then p
+    else commanded (addressed p (address_written p.address from bytes)) (byte_for from bytes command_place)
+
+-- ---- the firmware
+
+-- the last word address at which two words stand in the image
+abbrev pub last_address : ℕ
+last_address = 62
+
+-- two words as they stand in the data register
+abbrev pub two_words : Image → ℕ → ℕ
+two_words image address = word_at image address + 65536 * word_at image (address + 1)
+
+-- a firmware step finishes the read under way: it shows two words, or an error and the data as they were
+unfoldable pub stepped : Sii → Sii
+stepped p =
+    if p.busy
+    then (if nat_le p.address last_address
+    then record { image = p.image; address = p.address; busy = false; error = p.error; found = two_words p.image p.address }
+    else record { image = p.image; address = p.address; busy = false; error = true; found = p.found })
+    else p

@@ -1,0 +1,153 @@
+ghost use Rattle.std.specs.Prelude.{◌≡◌};
+ghost use Rattle.ec_sii.specs.Port.{idle_port, sii_byte, status_byte, byte_for, address_written, written, stepped};
+
+use crate::image::Image;
+use std::marker::Model;
+
+/// Where the command stands: the high byte of the control and status word at 0x0502, whose low byte reads 0.
+const COMMAND: usize = 0x0503;
+
+/// Where the word address of a read stands, four bytes.
+const WORD_ADDRESS: usize = 0x0504;
+
+/// Where the data of the last read stand, four bytes.
+const DATA: usize = 0x0508;
+
+/// The first address after the port.
+const END: usize = 0x050C;
+
+/// The last word address at which two words stand in the image.
+const LAST_ADDRESS: u32 = 62;
+
+/// The registers by which datagrams read the SII (ETG.1000.4, "Slave information interface"): 0x0502 control and
+/// status, 0x0504 the word address, 0x0508 the four bytes of the last read.
+#[derive(Debug, Drop)]
+pub struct Port {
+    image: Image,
+    address: u32,
+    is_busy: bool,
+    is_error: bool,
+    found: u32,
+}
+
+impl Model for Port {
+    ghost use Rattle.ec_sii.specs.Port.{Sii};
+
+    ghost Value = { Sii };
+
+    ghost view = { λ p. record {
+      image = p.image;
+      address = p.address;
+      busy = p.is_busy;
+      error = p.is_error;
+      found = p.found;
+    } };
+}
+
+impl Port {
+    /// The port of an image, as a slave powers on.
+    pub fn new(image: Image) -> Self
+        ensures { result ≡ idle_port image }
+    {
+        Port {
+            image,
+            address: 0,
+            is_busy: false,
+            is_error: false,
+            found: 0,
+        }
+    }
+
+    /// Whether a read is under way. Until the next firmware step the port then takes no write.
+    pub fn is_busy(&self) -> bool
+        ensures { result ≡ self.now.busy }
+    {
+        self.is_busy
+    }
+
+    /// The byte that an address reads, 0 where it is none of 0x0502 to 0x050B.
+    #[tactic(auto, unfolding(crate::specs::Port::sii_byte))]
+    pub fn read(&self, address: usize) -> u8
+        ensures { result ≡ sii_byte self.now address }
+    {
+        match address {
+            COMMAND => self.status(),
+            WORD_ADDRESS..DATA => self.address.to_le_bytes()[address - WORD_ADDRESS],
+            DATA..END => self.found.to_le_bytes()[address - DATA],
+            _ => 0,
+        }
+    }
+
+    /// The high byte of the control and status word: bits 0 to 2 the command under way, 1 for a read; bit 5 the
+    /// error; bit 7 busy.
+    fn status(&self) -> u8
+        ensures { result ≡ status_byte self.now }
+    {
+        self.is_busy as u8 | (self.is_error as u8) << 5 | (self.is_busy as u8) << 7
+    }
+
+    /// A datagram writes bytes to the addresses from `from` on; those outside 0x0502 to 0x0507 are left alone. While
+    /// the port is busy nothing changes. Else the bytes are stored, and then that of 0x0503, if there is one, gives a
+    /// command by its bits 0 to 2: 0 clears the error, 1 begins a read, any other is an error.
+    #[tactic(auto, unfolding(crate::specs::Port::written))]
+    pub fn write(&mut self, from: usize, bytes: &[u8])
+        ensures { self.new ≡ written self.old from bytes.now }
+    {
+        if self.is_busy {
+            return;
+        }
+        self.address = address_written(self.address, from, bytes);
+        if let Some(control) = byte_for(from, bytes, COMMAND) {
+            let command = control % 8;
+            self.is_busy = command == 1;
+            self.is_error = command > 1;
+        }
+    }
+
+    /// A firmware step: a read that is under way is finished. The two words at the word address then stand in the
+    /// data; for a word address over 62 there is an error and the data stay.
+    #[tactic(auto, unfolding(crate::specs::Port::stepped))]
+    pub fn step(&mut self)
+        ensures { self.new ≡ stepped self.old }
+    {
+        if !self.is_busy {
+            return;
+        }
+        self.is_busy = false;
+        if self.address <= LAST_ADDRESS {
+            let low = self.image.word(self.address);
+            let high = self.image.word(self.address + 1);
+            self.found = low as u32 | (high as u32) << 16;
+        } else {
+            self.is_error = true;
+        }
+    }
+
+    /// The port is as at power-on.
+    pub fn reset(&mut self)
+        ensures { self.new ≡ idle_port self.old.image }
+    {
+        *self = Port::new(self.image);
+    }
+}
+
+/// The byte that a datagram, whose bytes lie from `from` on, has for an address.
+fn byte_for(from: usize, bytes: &[u8], address: usize) -> Option<u8>
+    ensures { result ≡ byte_for from bytes.now address }
+{
+    let place = address.checked_sub(from)?;
+    bytes.get(place).copied()
+}
+
+/// The word address, after a datagram's bytes for it were stored.
+fn address_written(old: u32, from: usize, bytes: &[u8]) -> u32
+    ensures { result ≡ address_written old from bytes.now }
+{
+    let [byte_0, byte_1, byte_2, byte_3] = old.to_le_bytes();
+    u32::from_le_bytes([
+        byte_for(from, bytes, WORD_ADDRESS).unwrap_or(byte_0),
+        byte_for(from, bytes, WORD_ADDRESS + 1).unwrap_or(byte_1),
+        byte_for(from, bytes, WORD_ADDRESS + 2).unwrap_or(byte_2),
+        byte_for(from, bytes, WORD_ADDRESS + 3).unwrap_or(byte_3),
+    ])
+}

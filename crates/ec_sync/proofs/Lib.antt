@@ -1,0 +1,4 @@
+pub mod Lengths
+pub mod WholeValues
+pub mod Openings
+pub mod Newest

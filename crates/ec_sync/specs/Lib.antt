@@ -1,0 +1,5 @@
+pub mod Buffer
+pub mod Manager
+pub mod Governing
+pub mod Touching
+pub mod Runs

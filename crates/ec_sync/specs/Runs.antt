@@ -1,0 +1,155 @@
+-- Whole runs of one manager: any list of accesses of the ring, bytes of the application, messages of the firmware and
+-- changes of the settings, in any order, granted or denied. Each step is what the contract of the call of that name says.
+use Rattle.std.specs.Prelude.{ℕ, suc, ◌+◌, ◌==◌, ◌&&◌, ◌≡◌, List, [], ◌∷◌, ◌++◌, length, Bool, true, false, if◌then◌else◌, nat_lt, slice_index, slice_set, Option, Some, None, is_some, unwrap_or, option_map, Contains}
+use Rattle.std.specs.List.{All}
+use Rattle.ec_bits.specs.Bits.{zeros}
+use Rattle.ec_regs.specs.declared.manager.ManagerSettings.{ManagerSettings}
+use Rattle.ec_regs.specs.Managers.{settings_of, is_mailbox}
+use Rattle.ec_sync.specs.Buffer.{Got}
+use Rattle.ec_sync.specs.Manager.{Manager, no_manager, buffer_length, empty_manager, zeros_published, may_read, may_write, ring_written, ring_read, shown, may_app_put, app_put, app_got, after_get, message_in, message_taken, may_put_message, padded, message_put}
+use Rattle.ec_sync.specs.Governing.{manager_byte}
+
+-- Of an access of the ring it counts whether it touches the first and the last byte, and the value that it leaves.
+pub data Operation : Type 0 where
+  Configure : ManagerSettings → Operation
+  Lock : Bool → Operation
+  Empty : Operation
+  PublishZeros : Operation
+  RingWrite : Bool → List ℕ → Operation
+  RingRead : Bool → Operation
+  AppPut : ℕ → ℕ → Operation
+  AppGet : ℕ → Operation
+  MessageTake : Operation
+  MessagePut : List ℕ → Operation
+
+-- the manager after one
+abbrev pub step : Manager → Operation → Manager
+step m (Configure settings) = empty_manager settings m.locked
+step m (Lock locked) = record m { locked = locked }
+step m Empty = empty_manager m.settings m.locked
+step m PublishZeros = zeros_published m
+step m (RingWrite covered value) = if covered && may_write m then ring_written m value else m
+step m (RingRead covered) = if covered && may_read m then ring_read m else m
+step m (AppPut i x) = unwrap_or (app_put m i x) m
+step m (AppGet i) = after_get m (app_got m i)
+step m MessageTake = message_taken m
+step m (MessagePut message) = message_put m message
+
+-- the manager after all of them, the first one first
+abbrev pub run : Manager → List Operation → Manager
+run m [] = m
+run m (o ∷ ops) = run (step m o) ops
+
+-- ---- what is published as a whole
+
+-- the draft that byte i goes into: byte 0 opens one
+abbrev pub draft_for : Manager → ℕ → Option (List ℕ)
+draft_for m i = if i == 0 then Some (zeros (length m.buffer.published)) else m.buffer.draft
+
+abbrev pub only : Option (List ℕ) → List (List ℕ)
+only None = []
+only (Some value) = value ∷ []
+
+-- the draft that a granted byte closes
+abbrev pub closed_draft : Manager → ℕ → ℕ → Option (List ℕ)
+closed_draft m i x =
+    if is_some (app_put m i x) && (i + 1 == length m.buffer.published)
+    then option_map (λ d. slice_set d i x) (draft_for m i)
+    else None
+
+-- The values that an operation publishes as a whole: zeros where it empties, the value of a granted ring write, a draft
+-- that its last byte closes, and the message that the firmware puts.
+abbrev pub publications : Manager → Operation → List (List ℕ)
+publications m (Configure settings) = zeros (buffer_length settings) ∷ []
+publications m (Lock locked) = []
+publications m Empty = zeros (buffer_length m.settings) ∷ []
+publications m PublishZeros = zeros (length m.buffer.published) ∷ []
+publications m (RingWrite covered value) = if covered && may_write m then value ∷ [] else []
+publications m (RingRead covered) = []
+publications m (AppPut i x) = only (closed_draft m i x)
+publications m (AppGet i) = []
+publications m MessageTake = []
+publications m (MessagePut message) = if may_put_message m (length message) then padded m message ∷ [] else []
+
+-- all that is published in a run, in order
+abbrev pub history : Manager → List Operation → List (List ℕ)
+history m [] = []
+history m (o ∷ ops) = publications m o ++ history (step m o) ops
+
+-- ---- what a reader gets
+
+-- the value of which the application gets byte i, if that is granted: byte 0 opens a view
+abbrev pub viewed : Manager → ℕ → Option (List ℕ)
+viewed m i =
+    if is_some (app_got m i)
+    then (if i == 0 then Some m.buffer.published else m.buffer.view)
+    else None
+
+-- the whole value that a ring read or a message shows, and the value of which the application gets a byte
+abbrev pub shown_by : Manager → Operation → Option (List ℕ)
+shown_by m (RingRead covered) = if covered && may_read m then Some (shown m) else None
+shown_by m (AppGet i) = viewed m i
+shown_by m MessageTake = message_in m
+shown_by m o = None
+
+-- ---- the laws
+
+-- Over every run from a new manager: what a reader gets was published as a whole, or is what a new manager holds.
+abbrev pub OnlyWholeValues : Type 0
+OnlyWholeValues =
+    (ops : List Operation) (o : Operation) (value : List ℕ) → shown_by (run no_manager ops) o ≡ Some value
+    → Contains (no_manager.buffer.published ∷ history no_manager ops) value
+
+-- and the byte that the application gets is that value's
+abbrev pub BytesOfTheView : Type 0
+BytesOfTheView = (m : Manager) (i : ℕ) (got : Got) → app_got m i ≡ Some got → option_map (λ v. slice_index v i) (viewed m i) ≡ Some got.byte
+
+-- the operation opens no view, no draft
+abbrev pub OpensNoView : Operation → Type 0
+OpensNoView (AppGet i) = ¬ (i ≡ 0)
+OpensNoView o = Unit {0}
+
+abbrev pub OpensNoDraft : Operation → Type 0
+OpensNoDraft (AppPut i x) = ¬ (i ≡ 0)
+OpensNoDraft o = Unit {0}
+
+-- Whatever happens after the application got byte 0: each further byte of that view is of the value that was published
+-- then, until byte 0 opens another.
+abbrev pub ViewsStay : Type 0
+ViewsStay =
+    (m : Manager) (ops : List Operation) (i : ℕ) (value : List ℕ) → is_some (app_got m 0) ≡ true → All OpensNoView ops
+    → viewed (run (step m (AppGet 0)) ops) (suc i) ≡ Some value → value ≡ m.buffer.published
+
+-- a value with the bytes that the application put in a run, where each was granted
+abbrev pub with_puts : Manager → List Operation → List ℕ → List ℕ
+with_puts m [] value = value
+with_puts m (AppPut i x ∷ ops) value = with_puts (step m (AppPut i x)) ops (if is_some (app_put m i x) then slice_set value i x else value)
+with_puts m (o ∷ ops) value = with_puts (step m o) ops value
+
+-- Whatever happens after the application put byte 0: a draft that is closed then has just the bytes that were put since,
+-- and zeros elsewhere.
+abbrev pub DraftsAreTheBytesPut : Type 0
+DraftsAreTheBytesPut =
+    (m : Manager) (ops : List Operation) (x i y : ℕ) (value : List ℕ) → is_some (app_put m 0 x) ≡ true → All OpensNoDraft ops
+    → closed_draft (run (step m (AppPut 0 x)) ops) (suc i) y ≡ Some value
+    → value ≡ slice_set (with_puts (step m (AppPut 0 x)) ops (slice_set (zeros (length m.buffer.published)) 0 x)) (suc i) y
+
+-- the value that was published last, where v was before
+abbrev pub newest : List ℕ → List (List ℕ) → List ℕ
+newest v [] = v
+newest v (x ∷ xs) = newest x xs
+
+-- the operation makes no mailbox of it
+abbrev pub StaysBuffered : Operation → Type 0
+StaysBuffered (Configure settings) = is_mailbox settings ≡ false
+StaysBuffered o = Unit {0}
+
+-- Over every run: what a buffered manager shows is the value that was published last, and no older one.
+abbrev pub ShowsTheNewest : Type 0
+ShowsTheNewest =
+    (m : Manager) (ops : List Operation) → is_mailbox m.settings ≡ false → All StaysBuffered ops
+    → newest m.buffer.published (history m ops) ≡ (run m ops).buffer.published
+
+-- What the eight register bytes of a manager say, read one by one, are its settings.
+abbrev pub RegistersReadBack : Type 0
+RegistersReadBack = (m : Manager) → settings_of (manager_byte m) ≡ m.settings

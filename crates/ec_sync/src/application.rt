@@ -1,0 +1,48 @@
+//! Bytes of the slave's application.
+
+ghost use Rattle.std.specs.Prelude.{◌≡◌, is_some, unwrap_or, option_map};
+ghost use Rattle.ec_sync.specs.Manager.{may_app_put as application_may_put, may_app_get as application_may_get, app_put as put_by_application, app_got, after_get};
+
+use crate::manager::Manager;
+
+impl Manager {
+    /// Whether the application may write: an enabled buffered manager that the ring reads.
+    pub fn may_app_put(&self) -> bool
+        ensures { result ≡ application_may_put self.now }
+    {
+        self.is_enabled() && self.settings.is_buffered() && self.settings.is_ring_read()
+    }
+
+    /// Whether the application may read: an enabled buffered manager that the ring writes.
+    pub fn may_app_get(&self) -> bool
+        ensures { result ≡ application_may_get self.now }
+    {
+        self.is_enabled() && self.settings.is_buffered() && self.settings.is_ring_written()
+    }
+
+    /// The application writes byte `place`: byte 0 opens a draft of zeros, the last byte publishes it. False, and nothing
+    /// changes, exactly where it is denied: it must be an enabled buffered manager that the ring reads, the place below
+    /// its length, and a draft open for the bytes after the first.
+    pub fn app_put(&mut self, place: usize, byte: u8) -> bool
+        ensures granted { result ≡ is_some (put_by_application self.old place byte) }
+        ensures after { self.new ≡ unwrap_or (put_by_application self.old place byte) self.old }
+    {
+        if !self.may_app_put() {
+            return false;
+        }
+        self.buffer.put(place, byte)
+    }
+
+    /// The application reads byte `place`: byte 0 opens a view of the published value, the last byte closes it. `None`,
+    /// and nothing changes, exactly where it is denied: it must be an enabled buffered manager that the ring writes, the
+    /// place below its length, and a view open for the bytes after the first.
+    pub fn app_get(&mut self, place: usize) -> Option<u8>
+        ensures byte { result ≡ option_map (λ got. got.byte) (app_got self.old place) }
+        ensures after { self.new ≡ after_get self.old (app_got self.old place) }
+    {
+        if !self.may_app_get() {
+            return None;
+        }
+        self.buffer.get(place)
+    }
+}

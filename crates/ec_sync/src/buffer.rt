@@ -1,0 +1,198 @@
+//! What a buffered manager holds.
+
+ghost use Rattle.std.specs.Prelude.{◌≡◌, ◌+◌, ◌-◌, ◌<◌, ◌≤◌, ◌++◌, length, take, drop, slice_set, slice_index, IfOk, Some, is_some, unwrap_or, option_map, true};
+ghost use Rattle.ec_bits.specs.Bits.{zeros};
+ghost use Rattle.ec_regs.specs.Memory.{ram_end};
+ghost use Rattle.ec_sync.specs.Buffer.{emptied_buffer, publishing, draft_next, app_written, app_read, after_read};
+
+use crate::touching::Writing;
+use std::alloc::{AllocError, Global};
+use std::marker::Model;
+use std::mem;
+
+/// The longest value: three of them fit into the RAM.
+const LONGEST: usize = 2730;
+
+/// The published value, a writer's draft and a reader's view, each in storage that every configuration fits.
+#[derive(Drop)]
+pub struct Buffer {
+    len: usize,
+    published: Vec<u8>,
+    draft: Vec<u8>,
+    is_drafting: bool,
+    seen: Vec<u8>,
+    is_viewing: bool,
+}
+
+impl Model for Buffer {
+    ghost use Rattle.std.specs.Prelude.{◌≡◌, ◌≤◌, length, take, Some, None, if◌then◌else◌};
+    ghost use Rattle.ec_sync.specs.Buffer.{Buffer as Triple};
+
+    ghost Value = { Triple };
+
+    ghost view = { λ b. record {
+      published = take b.len b.published.items;
+      draft = if b.is_drafting then Some (take b.len b.draft.items) else None;
+      view = if b.is_viewing then Some (take b.len b.seen.items) else None;
+    } };
+
+    ghost invariant = { λ b.
+        (length b.published.items ≡ 2730) × (length b.draft.items ≡ 2730)
+        × (length b.seen.items ≡ 2730) × (b.len ≤ 2730) };
+}
+
+impl Buffer {
+    /// Without a value.
+    pub fn new(alloc: Global) -> Result<Buffer, AllocError>
+        ensures { IfOk result (λ b. b ≡ emptied_buffer 0) }
+    {
+        Ok(Buffer {
+            len: 0,
+            published: vec![in alloc; 0; LONGEST]?,
+            draft: vec![in alloc; 0; LONGEST]?,
+            is_drafting: false,
+            seen: vec![in alloc; 0; LONGEST]?,
+            is_viewing: false,
+        })
+    }
+
+    /// The last value that was published.
+    pub fn published(&self) -> &[u8]
+        ensures value { result.now ≡ self.now.published }
+        ensures small { length self.now.published ≤ 2730 }
+    {
+        &self.published[..self.len]
+    }
+
+    /// Publishes so many zeros, and drops draft and view.
+    pub fn empty(&mut self, len: usize)
+        requires { len ≤ 2730 }
+        ensures { self.new ≡ emptied_buffer len }
+    {
+        self.len = len;
+        self.is_drafting = false;
+        self.is_viewing = false;
+        clear_front(&mut self.published, len);
+    }
+
+    /// Publishes zeros, and leaves draft and view.
+    pub fn publish_zeros(&mut self)
+        ensures { self.new ≡ publishing self.old (zeros (length self.old.published)) }
+    {
+        clear_front(&mut self.published, self.len);
+    }
+
+    /// Publishes what an access writes.
+    pub fn publish<W: Writing>(&mut self, start: usize, len: usize, writing: &W)
+        requires long { length self.old.published ≡ len }
+        requires some { 0 < len }
+        requires inside { start + len ≤ ram_end }
+        requires first { W.touched writing.now start ≡ true }
+        requires last { W.touched writing.now (start + len - 1) ≡ true }
+        ensures after { self.new ≡ publishing self.old (W.written writing.now start len) }
+        ensures long { length self.new.published ≡ length self.old.published }
+    {
+        fill_front(&mut self.published, len, start, writing);
+    }
+
+    /// The application writes a byte: false, and nothing changes, where there is no open draft, or no such byte.
+    #[tactic(auto, unfolding(crate::specs::Buffer::app_written))]
+    pub fn put(&mut self, place: usize, byte: u8) -> bool
+        ensures granted { result ≡ is_some (app_written self.old place byte) }
+        ensures after { self.new ≡ unwrap_or (app_written self.old place byte) self.old }
+        ensures long { length self.new.published ≡ length self.old.published }
+    {
+        if place >= self.len {
+            return false;
+        }
+        if place == 0 {
+            self.open_draft();
+        } else if !self.is_drafting {
+            return false;
+        }
+        self.write_draft(place, byte);
+        true
+    }
+
+    /// Opens a draft of zeros.
+    fn open_draft(&mut self)
+        ensures { self.new ≡ record self.old { draft = Some (zeros (length self.old.published)) } }
+    {
+        self.is_drafting = true;
+        clear_front(&mut self.draft, self.len);
+    }
+
+    /// Writes a byte of the open draft, which the last one publishes.
+    fn write_draft(&mut self, place: usize, byte: u8)
+        requires open { is_some self.old.draft ≡ true }
+        requires inside { place < length self.old.published }
+        ensures after { Some self.new ≡ draft_next self.old place byte self.old.draft }
+        ensures long { length self.new.published ≡ length self.old.published }
+    {
+        set_byte(&mut self.draft, self.len, place, byte);
+        if place + 1 == self.len {
+            self.is_drafting = false;
+            mem::swap(&mut self.published, &mut self.draft);
+        }
+    }
+
+    /// The application reads a byte: `None`, and nothing changes, where there is no open view, or no such byte.
+    #[tactic(auto, unfolding(crate::specs::Buffer::app_read))]
+    pub fn get(&mut self, place: usize) -> Option<u8>
+        ensures byte { result ≡ option_map (λ got. got.byte) (app_read self.old place) }
+        ensures after { self.new ≡ after_read self.old (app_read self.old place) }
+        ensures long { length self.new.published ≡ length self.old.published }
+    {
+        if place >= self.len {
+            return None;
+        }
+        if place == 0 {
+            copy_front(&mut self.seen, &self.published, self.len);
+        } else if !self.is_viewing {
+            return None;
+        }
+        self.is_viewing = place + 1 != self.len;
+        Some(self.seen[place])
+    }
+}
+
+/// Writes zeros at the front.
+pub fn clear_front(storage: &mut [u8], len: usize)
+    requires { len ≤ length storage.old }
+    ensures { storage.new ≡ zeros len ++ drop len storage.old }
+{
+    storage[..len].fill(0);
+}
+
+/// Sets a byte at the front.
+fn set_byte(storage: &mut [u8], len: usize, place: usize, byte: u8)
+    requires room { len ≤ length storage.old }
+    requires inside { place < len }
+    ensures { take len storage.new ≡ slice_set (take len storage.old) place byte }
+{
+    storage[place] = byte;
+}
+
+/// Copies the front.
+fn copy_front(storage: &mut [u8], from: &[u8], len: usize)
+    requires to { len ≤ length storage.old }
+    requires from { len ≤ length from.now }
+    ensures { storage.new ≡ take len from.now ++ drop len storage.old }
+{
+    storage[..len].copy_from_slice(&from[..len]);
+}
+
+/// Writes at the front the value that an access leaves in so many bytes from an address on.
+pub fn fill_front<W: Writing>(storage: &mut [u8], len: usize, start: usize, writing: &W)
+    requires room { len ≤ length storage.old }
+    requires some { 0 < len }
+    requires inside { start + len ≤ ram_end }
+    requires first { W.touched writing.now start ≡ true }
+    requires last { W.touched writing.now (start + len - 1) ≡ true }
+    ensures front { storage.new ≡ W.written writing.now start len ++ drop len storage.old }
+    ensures length { length (W.written writing.now start len) ≡ len }
+{
+    let value = &mut storage[..len];
+    value.fill(0);
+    writing.fill(start, value);
+}

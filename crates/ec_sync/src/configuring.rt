@@ -1,0 +1,55 @@
+//! Settings, the deactivate bit, and what empties a manager.
+
+ghost use Rattle.std.specs.Prelude.{◌≡◌, ◌≤◌};
+ghost use Rattle.ec_sync.specs.Manager.{buffer_length as buffer_length_of, empty_manager, zeros_published};
+
+use crate::manager::Manager;
+use ec_regs::ManagerSettings;
+
+impl Manager {
+    /// A ring write to its settings: it takes them and is empty, also where they are what they were. It stays locked or
+    /// not.
+    pub fn configure(&mut self, settings: ManagerSettings)
+        ensures { self.new ≡ empty_manager settings self.old.locked }
+    {
+        self.settings = settings;
+        self.mail.empty();
+        self.buffer.empty(buffer_length(settings));
+    }
+
+    /// Sets or clears the deactivate bit, and leaves what it holds.
+    pub fn set_locked(&mut self, is_locked: bool)
+        ensures { self.new ≡ record self.old { locked = is_locked } }
+    {
+        self.is_locked = is_locked;
+    }
+
+    /// Empties it: zeros, no draft, no view, no message.
+    pub fn empty(&mut self)
+        ensures { self.new ≡ empty_manager self.old.settings self.old.locked }
+    {
+        self.mail.empty();
+        self.buffer.empty(buffer_length(self.settings));
+    }
+
+    /// Publishes zeros, as a slave that enters SAFEOP does, and leaves an open draft and an open view. Where there is no
+    /// published value nothing changes.
+    pub fn publish_zeros(&mut self)
+        ensures { self.new ≡ zeros_published self.old }
+    {
+        self.buffer.publish_zeros();
+    }
+}
+
+/// How long the published value is: 0 where it isn't a set buffered manager.
+#[tactic(auto, unfolding(ec_regs::specs::Managers::is_set))]
+fn buffer_length(settings: ManagerSettings) -> usize
+    ensures value { result ≡ buffer_length_of settings }
+    ensures small { result ≤ 2730 }
+{
+    if settings.is_set() && settings.is_buffered() {
+        settings.length as usize
+    } else {
+        0
+    }
+}

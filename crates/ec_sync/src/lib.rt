@@ -1,0 +1,20 @@
+//! Sync managers: what lies between the frames on the ring and a slave's own side (ETG.1000.4, "Sync manager").
+//!
+//! A `Manager` is a buffered value, which is only ever seen whole, or a mailbox, which holds one message.
+#![tactic(auto)]
+
+mod application;
+mod buffer;
+mod configuring;
+pub mod laws;
+mod mail;
+mod mailbox;
+mod manager;
+mod ring;
+mod touching;
+
+pub use crate::manager::Manager;
+pub use crate::touching::{Range, Reach, Touching, Writing};
+
+#[cfg(test)]
+mod tests;

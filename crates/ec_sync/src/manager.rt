@@ -1,0 +1,172 @@
+//! One sync manager, and what can be asked of it.
+
+ghost use Rattle.std.specs.Prelude.{◌≡◌, ◌+◌, ◌-◌, ◌<◌, ◌≤◌, length, IfOk, true, false};
+ghost use Rattle.std.specs.Bool.{OnTrue};
+ghost use Rattle.ec_bits.specs.Bits.{within};
+ghost use Rattle.ec_regs.specs.Managers.{is_set as is_set_of};
+ghost use Rattle.ec_sync.specs.Manager.{buffer_length as buffer_length_of, no_manager, LiesInRam, is_enabled as is_enabled_of, may_read as may_be_read, may_write as may_be_written};
+ghost use Rattle.ec_sync.specs.Governing.{governs as governs_byte, covers, in_front as lies_in_front, manager_byte, shown_byte as byte_shown};
+
+use crate::buffer::Buffer;
+use crate::mail::Mail;
+use ec_regs::ManagerSettings;
+use std::alloc::{AllocError, Global};
+use std::marker::Model;
+
+/// A sync manager: its settings, whether it is locked, and what it holds.
+#[derive(Drop)]
+pub struct Manager {
+    pub(crate) settings: ManagerSettings,
+    pub(crate) is_locked: bool,
+    pub(crate) buffer: Buffer,
+    pub(crate) mail: Mail,
+}
+
+impl Model for Manager {
+    ghost use Rattle.std.specs.Prelude.{◌≡◌, length};
+    ghost use Rattle.ec_sync.specs.Manager.{Manager as ManagerState, buffer_length};
+
+    ghost Value = { ManagerState };
+
+    ghost view = { λ m.
+        record { settings = m.settings; locked = m.is_locked; buffer = m.buffer; mail = m.mail } };
+
+    ghost invariant = { λ m. length m.buffer.published ≡ buffer_length m.settings };
+}
+
+impl Manager {
+    /// A manager as the power comes on: not set, and empty. It has room for every configuration, so that no other call
+    /// takes memory.
+    ///
+    /// # Errors
+    ///
+    /// `AllocError` where there is no memory.
+    pub fn new(alloc: Global) -> Result<Manager, AllocError>
+        ensures { IfOk result (λ m. m ≡ no_manager) }
+    {
+        Ok(Manager {
+            settings: ManagerSettings {
+                start: 0,
+                length: 0,
+                control: 0,
+                activate: 0,
+            },
+            is_locked: false,
+            buffer: Buffer::new(alloc)?,
+            mail: Mail::new(alloc)?,
+        })
+    }
+
+    /// Its settings.
+    pub fn settings(&self) -> ManagerSettings
+        ensures { result ≡ self.now.settings }
+    {
+        self.settings
+    }
+
+    /// Whether its settings make a manager.
+    #[tactic(auto, using(crate::proofs::Lengths::set_lies_in_ram))]
+    pub fn is_set(&self) -> bool
+        ensures value { result ≡ is_set_of self.now.settings }
+        ensures inside { OnTrue result (LiesInRam self.now.settings) }
+    {
+        self.settings.is_set()
+    }
+
+    /// Whether it is set and not locked: a locked manager denies every access.
+    pub fn is_enabled(&self) -> bool
+        ensures value { result ≡ is_enabled_of self.now }
+        ensures set { OnTrue result (is_set_of self.now.settings ≡ true) }
+        ensures inside { OnTrue result (LiesInRam self.now.settings) }
+    {
+        self.is_set() && !self.is_locked
+    }
+
+    /// Whether its span has the byte.
+    pub fn governs(&self, address: usize) -> bool
+        ensures { result ≡ governs_byte self.now address }
+    {
+        let start = self.settings.start as usize;
+        self.is_set() && start <= address && address < start + self.settings.span()
+    }
+
+    /// Whether the byte lies before the end of its value, and not in a buffer behind it.
+    pub fn in_front(&self, address: usize) -> bool
+        ensures { result ≡ lies_in_front self.now address }
+    {
+        address < self.settings.start as usize + self.settings.length as usize
+    }
+
+    /// Whether the ring may read it, by a datagram that touches its first and its last byte.
+    pub fn may_read(&self) -> bool
+        ensures value { result ≡ may_be_read self.now }
+        ensures set { OnTrue result (is_set_of self.now.settings ≡ true) }
+        ensures inside { OnTrue result (LiesInRam self.now.settings) }
+    {
+        self.is_enabled()
+            && self.settings.is_ring_read()
+            && (!self.settings.is_mailbox() || self.mail.is_full())
+    }
+
+    /// Whether the ring may write it, by a datagram that touches its first and its last byte.
+    pub fn may_write(&self) -> bool
+        ensures value { result ≡ may_be_written self.now }
+        ensures set { OnTrue result (is_set_of self.now.settings ≡ true) }
+        ensures inside { OnTrue result (LiesInRam self.now.settings) }
+    {
+        self.is_enabled()
+            && self.settings.is_ring_written()
+            && (!self.settings.is_mailbox() || !self.mail.is_full())
+    }
+
+    /// Whether the `len` bytes from `from` on have its first and its last byte.
+    pub fn is_covered(&self, from: usize, len: usize) -> bool
+        ensures { result ≡ covers (within from len) self.now }
+    {
+        let first = self.settings.start as usize;
+        let last = (first + self.settings.length as usize).saturating_sub(1);
+        first >= from && first - from < len && last >= from && last - from < len
+    }
+
+    /// Byte k of its eight registers.
+    pub fn register(&self, k: usize) -> u8
+        requires { k < 8 }
+        ensures { result ≡ manager_byte self.now k }
+    {
+        match k {
+            0 => (self.settings.start % 256) as u8,
+            1 => (self.settings.start / 256) as u8,
+            2 => (self.settings.length % 256) as u8,
+            3 => (self.settings.length / 256) as u8,
+            4 => self.settings.control,
+            5 => 8 * self.mail.is_full() as u8,
+            6 => self.settings.activate,
+            _ => self.is_locked as u8,
+        }
+    }
+
+    /// The last value that was published whole: empty where it isn't a set buffered manager.
+    pub fn published(&self) -> &[u8]
+        ensures value { result.now ≡ self.now.buffer.published }
+        ensures long { length self.now.buffer.published ≡ buffer_length_of self.now.settings }
+        ensures small { length self.now.buffer.published ≤ 2730 }
+    {
+        self.buffer.published()
+    }
+
+    /// The byte that a datagram reads at an address in its value.
+    pub fn shown_byte(&self, address: usize) -> u8
+        ensures { result ≡ byte_shown self.now address }
+    {
+        let bytes = if self.settings.is_mailbox() {
+            self.mail.message()
+        } else {
+            self.buffer.published()
+        };
+        let place = address.saturating_sub(self.settings.start as usize);
+        match bytes.get(place) {
+            Some(byte) => *byte,
+            None => 0,
+        }
+    }
+}

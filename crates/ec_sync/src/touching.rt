@@ -1,0 +1,80 @@
+//! What a datagram touches, and what it writes there.
+
+ghost use Rattle.std.specs.Prelude.{◌≡◌, ◌+◌, ◌-◌, ◌<◌, ◌≤◌, length, true};
+ghost use Rattle.ec_bits.specs.Bits.{zeros, within};
+ghost use Rattle.ec_regs.specs.Memory.{ram_end};
+
+/// An access of the ring to a slave's memory: which bytes one datagram touches.
+pub trait Touching {
+    ghost use Rattle.std.specs.Prelude.{ℕ, Bool};
+
+    /// Whether it touches the byte at an address.
+    ghost touched: { Self → ℕ → Bool };
+
+    /// Whether it touches the byte at an address of the memory.
+    fn touches(&self, address: usize) -> bool
+        requires { address < ram_end }
+        ensures { result ≡ touched self.now address };
+}
+
+/// An access that writes.
+pub trait Writing: Touching {
+    ghost use Rattle.std.specs.Prelude.{ℕ, List};
+
+    /// What it leaves in a value of so many bytes that begins at an address, where it touches the first and the last.
+    ghost written: { Self → ℕ → ℕ → List ℕ };
+
+    /// Fills a value that begins at `start`; what it does not touch stays 0.
+    fn fill(&self, start: usize, value: &mut [u8])
+        requires some { 0 < length value.old }
+        requires inside { start + length value.old ≤ ram_end }
+        requires zeroed { value.old ≡ zeros (length value.old) }
+        requires first { Self.touched self.now start ≡ true }
+        requires last { Self.touched self.now (start + length value.old - 1) ≡ true }
+        ensures { value.new ≡ written self.now start (length value.old) };
+}
+
+/// The `len` bytes from `from` on, as a physical datagram reads them.
+#[derive(Clone, Copy, Debug)]
+pub struct Reach {
+    /// The first address.
+    pub from: usize,
+    /// How many bytes.
+    pub len: usize,
+}
+
+impl Touching for Reach {
+    ghost touched = { λ r a. within r.from r.len a };
+
+    fn touches(&self, address: usize) -> bool {
+        address >= self.from && address - self.from < self.len
+    }
+}
+
+/// The bytes that a physical datagram writes from an address on.
+#[derive(Clone, Copy)]
+pub struct Range<'a> {
+    /// The first address.
+    pub from: usize,
+    /// The bytes.
+    pub bytes: &'a [u8],
+}
+
+impl Touching for Range<'_> {
+    ghost touched = { λ r a. within r.from (length r.bytes.now) a };
+
+    fn touches(&self, address: usize) -> bool {
+        address >= self.from && address - self.from < self.bytes.len()
+    }
+}
+
+impl Writing for Range<'_> {
+    ghost use Rattle.ec_sync.specs.Touching.{cut_out};
+
+    ghost written = { λ r start len. cut_out r.from r.bytes.now start len };
+
+    fn fill(&self, start: usize, value: &mut [u8]) {
+        let place = start - self.from;
+        value.copy_from_slice(&self.bytes[place..place + value.len()]);
+    }
+}

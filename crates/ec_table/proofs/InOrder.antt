@@ -1,0 +1,37 @@
+-- One row of a section, and the end.
+use Rattle.std.proofs.Common.{◌≡◌, ℕ, ◌+◌, ◌<◌, ◌≤◌, List, [], ◌∷◌, ◌++◌, length, get_or, drop, Result, Ok, sym, ◌∙◌}
+use Rattle.std.proofs.lemmas.List.{drop_all}
+use Rattle.toml.specs.Data.{Data}
+use Rattle.toml.specs.View.{view, items_view}
+use Rattle.toml.specs.declared.value.Value.{Value}
+use Rattle.toml.proofs.Views.{items_view-drop}
+use Rattle.ec_table.specs.declared.fault.Fault.{Fault}
+use Rattle.ec_table.specs.Fields.{◌>>=◌}
+use Rattle.ec_table.specs.declared.fault.TableError.{TableError}
+use Rattle.ec_table.specs.declared.fault.TableError.TheVariants.{Memory, Refused}
+use Rattle.ec_table.specs.InOrder.{rows_after, Fails}
+
+pub rows_at : {X : Type 0} (row : ℕ → Data → List X → Result X Fault) (found : List X) (vs : List Value) (i : ℕ) (v : Value) → i < length vs → v ≡ get_or vs i v
+    → rows_after row found i (items_view (drop i vs)) ≡ (row i (view v) found >>= (λ x. rows_after row (found ++ x ∷ []) (i + 1) (items_view (drop (i + 1) vs))))
+unfolding rows_after
+rows_at row found vs i v h is = rw (items_view-drop vs i v h, ← is)
+
+pub rows_end : {X : Type 0} (row : ℕ → Data → List X → Result X Fault) (found : List X) (vs : List Value) (i : ℕ) → length vs ≤ i → rows_after row found i (items_view (drop i vs)) ≡ Ok found
+unfolding rows_after
+rows_end row found vs i h = rw (drop_all i vs h)
+
+pub ruleset rows_steps = (rows_at, rows_end)
+
+-- a row that reads
+pub rows_ok : {X : Type 0} (row : ℕ → Data → List X → Result X Fault) (found more : List X) (vs : List Value) (i : ℕ) (v : Value) (x : X) → i < length vs → v ≡ get_or vs i v
+    → row i (view v) found ≡ Ok x → more ≡ found ++ x ∷ []
+    → rows_after row more (i + 1) (items_view (drop (i + 1) vs)) ≡ rows_after row found i (items_view (drop i vs))
+rows_ok row found more vs i v x h is ok e = rw (rows_at row found vs i v h is, ok, e)
+
+-- a row that fails, or memory that runs out
+pub rows_fail : {X : Type 0} (row : ℕ → Data → List X → Result X Fault) (found : List X) (vs : List Value) (i : ℕ) (v : Value) (whole : Result (List X) Fault) (e : TableError) → i < length vs → v ≡ get_or vs i v
+    → rows_after row found i (items_view (drop i vs)) ≡ whole → Fails e (row i (view v) found) → Fails e whole
+rows_fail row found vs i v whole Memory h is same f = tt
+rows_fail row found vs i v whole (Refused fault) h is inv f = sym inv ∙ rw (rows_at row found vs i v h is, f)
+
+pub ruleset rows_all = (rows_ok, rows_fail, rows_end)

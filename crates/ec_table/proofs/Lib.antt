@@ -1,0 +1,11 @@
+pub mod Lookups
+pub mod InOrder
+pub mod Meets
+pub mod SoundReads
+pub mod SoundRows
+pub mod ObjectLemmas
+pub mod Placed
+pub mod Written
+pub mod WrittenRows
+pub mod WrittenWhole
+pub mod ElementByElement

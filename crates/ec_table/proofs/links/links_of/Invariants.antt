@@ -1,0 +1,9 @@
+use Rattle.std.proofs.Common.{◌≡◌, [], drop}
+use Rattle.toml.specs.View.{items_view}
+use Rattle.ec_table.specs.Reading.{link_element}
+use Rattle.ec_table.specs.InOrder.{rows_after}
+use Rattle.ec_table.proofs.links.links_of.Given as goal
+
+abbrev pub invariant-loop-element : goal.invariant-loop-element
+invariant-loop-element l =
+    rows_after (link_element l.version l.slaves l.variables) l.found l.element (items_view (drop l.element l.elements)) ≡ rows_after (link_element l.version l.slaves l.variables) [] 0 (items_view l.elements)

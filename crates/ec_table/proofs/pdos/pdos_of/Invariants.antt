@@ -1,0 +1,9 @@
+use Rattle.std.proofs.Common.{◌≡◌, [], drop}
+use Rattle.toml.specs.View.{items_view}
+use Rattle.ec_table.specs.Pdos.{pdo_row}
+use Rattle.ec_table.specs.InOrder.{rows_after}
+use Rattle.ec_table.proofs.pdos.pdos_of.Given as goal
+
+abbrev pub invariant-loop-value : goal.invariant-loop-value
+invariant-loop-value l =
+    rows_after (pdo_row l.place l.low l.high) l.found l.value-index (items_view (drop l.value-index l.elements)) ≡ rows_after (pdo_row l.place l.low l.high) [] 0 (items_view l.elements)

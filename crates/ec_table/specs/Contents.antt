@@ -1,0 +1,28 @@
+-- What a link table holds.
+use Rattle.std.specs.Prelude.{ℕ, List}
+use Rattle.ec_regs.specs.declared.slave_type.Pdo.{Pdo}
+use Rattle.ec_table.specs.declared.rows.Version.{Version}
+use Rattle.ec_table.specs.declared.rows.Direction.{Direction}
+use Rattle.ec_table.specs.declared.rows.Direction.TheVariants.{Out, In}
+use Rattle.ec_table.specs.declared.rows.TypeRow.{TypeRow}
+use Rattle.ec_table.specs.declared.rows.SlaveRow.{SlaveRow}
+use Rattle.ec_table.specs.declared.rows.VariableRow.{VariableRow}
+use Rattle.ec_table.specs.declared.rows.LinkRow.{LinkRow}
+
+-- the value of a `Table`: its version, and each section's rows in file order
+pub record Contents : Type 0 where
+  pub version : Version
+  pub types : List TypeRow
+  pub slaves : List SlaveRow
+  pub variables : List VariableRow
+  pub links : List LinkRow
+
+-- the process data objects of a type in one direction
+abbrev pub pdos_toward : Direction → TypeRow → List Pdo
+pdos_toward Out t = t.process.outputs
+pdos_toward In t = t.process.inputs
+
+-- the indices of the objects that a slave assigns in one direction
+abbrev pub assigned_toward : Direction → SlaveRow → List ℕ
+assigned_toward Out s = s.outputs
+assigned_toward In s = s.inputs

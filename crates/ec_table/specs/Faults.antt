@@ -1,0 +1,49 @@
+-- The refusals of a link table: their numbers, names and places.
+use Rattle.std.specs.Prelude.{ℕ, List, codes, Option, Some, None}
+use Rattle.ec_table.specs.declared.fault.Section.{Section}
+use Rattle.ec_table.specs.declared.fault.Section.TheVariants as section
+use Rattle.ec_table.specs.declared.fault.Place.{Place}
+use Rattle.ec_table.specs.declared.fault.Fault.{Fault}
+use Rattle.ec_table.specs.declared.fault.Fault.TheVariants.{Toml, BadKey, BadValue, TwiceNamed, UnknownName}
+use Rattle.ec_table.specs.declared.fault.TableError.{TableError}
+use Rattle.ec_table.specs.declared.fault.TableError.TheVariants.{Memory, Refused}
+
+abbrev pub section_number : Section → ℕ
+section_number section.Top = 0
+section_number section.Type = 1
+section_number section.Slave = 2
+section_number section.Variable = 3
+section_number section.Link = 4
+
+abbrev pub fault_number : Fault → ℕ
+fault_number Toml = 11
+fault_number (BadKey p) = 12
+fault_number (BadValue p) = 13
+fault_number (TwiceNamed p) = 14
+fault_number (UnknownName p) = 15
+
+abbrev pub fault_name : Fault → List ℕ
+fault_name Toml = codes "Toml"
+fault_name (BadKey p) = codes "BadKey"
+fault_name (BadValue p) = codes "BadValue"
+fault_name (TwiceNamed p) = codes "TwiceNamed"
+fault_name (UnknownName p) = codes "UnknownName"
+
+abbrev pub fault_place : Fault → Option Place
+fault_place Toml = None
+fault_place (BadKey p) = Some p
+fault_place (BadValue p) = Some p
+fault_place (TwiceNamed p) = Some p
+fault_place (UnknownName p) = Some p
+
+abbrev pub error_number : TableError → ℕ
+error_number Memory = 1
+error_number (Refused f) = fault_number f
+
+abbrev pub error_name : TableError → List ℕ
+error_name Memory = codes "Memory"
+error_name (Refused f) = fault_name f
+
+abbrev pub error_place : TableError → Option Place
+error_place Memory = None
+error_place (Refused f) = fault_place f

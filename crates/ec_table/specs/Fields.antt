@@ -1,0 +1,174 @@
+-- What stands under the keys of one table.
+use Rattle.std.specs.Prelude.{ℕ, ℤ, pos, Bool, true, false, ◌&&◌, ◌||◌, ◌==◌, nat_le, if◌then◌else◌, List, [], ◌∷◌, length, codes, not, Option, Some, None, option_map, option_and_then, is_some, Result, Ok, Err}
+use Rattle.std.specs.List.{list_all, list_any}
+use Rattle.std.specs.Option.{ok_or}
+use Rattle.std.specs.Char.{is_ascii_alphanumeric}
+use Rattle.std.specs.Str.{bytes_eq}
+use Rattle.std.specs.Borrow.{Bor}
+use Rattle.toml.specs.Data.{Data, Members, no_members, member, no_items, item, Items, table, at, get_member, as_integer, as_str, as_bool, as_array}
+use Rattle.toml.specs.View.{view, items_view}
+use Rattle.toml.specs.declared.value.Value.{Value}
+use Rattle.ec_table.specs.declared.fault.Fault.{Fault}
+use Rattle.ec_table.specs.declared.fault.Fault.TheVariants.{BadValue}
+use Rattle.ec_table.specs.declared.fault.Place.{Place}
+use Rattle.ec_table.specs.declared.rows.Direction.{Direction}
+use Rattle.ec_table.specs.declared.rows.Direction.TheVariants.{Out, In}
+use Rattle.ec_regs.specs.declared.slave_type.Mailbox.{Mailbox}
+use Rattle.ec_table.specs.declared.rows.Version.{Version}
+use Rattle.ec_table.specs.declared.rows.Version.TheVariants as versions
+use Rattle.ec_table.specs.declared.rows.LinkBits.{LinkBits}
+use Rattle.ec_table.specs.declared.fields.Shape.{Shape}
+use Rattle.ec_table.specs.declared.fields.Shape.TheVariants as shape
+
+-- a letter, a digit or `_`
+abbrev pub is_name_byte : ℕ → Bool
+is_name_byte b = is_ascii_alphanumeric b || (b == 95)
+
+-- 1 to 32 of them
+abbrev pub is_name : List ℕ → Bool
+is_name s = (nat_le 1 (length s) && nat_le (length s) 32) && list_all is_name_byte s
+
+-- what a reference to a value shows
+abbrev pub seen : Option (Bor Value) → Option Data
+seen o = option_map (λ v. view v.now) o
+
+abbrev pub result_seen : {E : Type 0} → Result (Bor (List ℕ)) E → Result (List ℕ) E
+result_seen (Ok s) = Ok s.now
+result_seen (Err e) = Err e
+
+-- the keys that a table of a shape must have
+abbrev pub required : Shape → List (List ℕ)
+required shape.Document = []
+required shape.Type = codes "name" ∷ codes "vendor" ∷ codes "product" ∷ codes "revision" ∷ codes "out_start" ∷ codes "in_start" ∷ []
+required shape.Pdo = codes "index" ∷ codes "entries" ∷ []
+required shape.Slave = codes "name" ∷ codes "type" ∷ []
+required shape.Variable = codes "name" ∷ codes "dir" ∷ codes "bits" ∷ []
+required shape.Link = codes "var" ∷ codes "slave" ∷ codes "index" ∷ codes "sub" ∷ []
+
+-- the keys that a slave may have besides
+abbrev pub optional_of_slave : Version → List (List ℕ)
+optional_of_slave versions.One = codes "out" ∷ codes "in" ∷ codes "serial" ∷ []
+optional_of_slave versions.Two = codes "out" ∷ codes "in" ∷ codes "serial" ∷ codes "unit" ∷ []
+
+-- the keys that a table of a shape may have besides, in a version of the format
+abbrev pub optional : Shape → Version → List (List ℕ)
+optional shape.Document v = codes "version" ∷ codes "type" ∷ codes "slave" ∷ codes "variable" ∷ codes "link" ∷ []
+optional shape.Type v = codes "mailbox" ∷ codes "rxpdo" ∷ codes "txpdo" ∷ codes "lrw" ∷ []
+optional shape.Pdo v = []
+optional shape.Slave v = optional_of_slave v
+optional shape.Variable v = []
+optional shape.Link v = codes "bits" ∷ []
+
+abbrev pub is_key : Shape → Version → List ℕ → Bool
+is_key s v key = list_any (bytes_eq key) (required s) || list_any (bytes_eq key) (optional s v)
+
+abbrev pub has_required : Shape → Members → Bool
+has_required s ms = list_all (λ key. is_some (get_member key ms)) (required s)
+
+-- each key passes a test
+abbrev pub each_key : (List ℕ → Bool) → Members → Bool
+each_key test no_members = true
+each_key test (member key d ms) = test key && each_key test ms
+
+-- no unknown key, and none missing
+abbrev pub keys_are : Shape → Version → Members → Bool
+keys_are s v ms = each_key (is_key s v) ms && has_required s ms
+
+abbrev pub in_range : ℕ → ℕ → ℤ → Bool
+in_range low high (pos n) = nat_le low n && nat_le n high
+in_range low high _ = false
+
+abbrev pub magnitude : ℤ → ℕ
+magnitude (pos n) = n
+magnitude _ = 0
+
+infixl 10 ◌>>=◌
+abbrev pub ◌>>=◌ : {A B : Type 0} → Result A Fault → (A → Result B Fault) → Result B Fault
+(Ok x) >>= f = f x
+(Err e) >>= f = Err e
+
+-- a whole number from low to high
+unfoldable pub number_in : Place → ℕ → ℕ → Option Data → Result ℕ Fault
+number_in p low high value = do
+  z ← ok_or (option_and_then as_integer value) (BadValue p)
+  if in_range low high z then Ok (magnitude z) else Err (BadValue p)
+
+-- a name
+unfoldable pub name_in : Place → Option Data → Result (List ℕ) Fault
+name_in p value = do
+  s ← ok_or (option_and_then as_str value) (BadValue p)
+  if is_name s then Ok s else Err (BadValue p)
+
+-- a direction, out or in
+unfoldable pub direction_in : Place → Option Data → Result Direction Fault
+direction_in p value = do
+  s ← ok_or (option_and_then as_str value) (BadValue p)
+  if bytes_eq s (codes "out") then Ok Out else if bytes_eq s (codes "in") then Ok In else Err (BadValue p)
+
+-- the version of the format, 1 where it is left out
+unfoldable pub version_in : Place → Option Data → Result Version Fault
+version_in p None = Ok versions.One
+version_in p (Some d) = number_in p 1 2 (Some d) >>= (λ n. Ok (if n == 1 then versions.One else versions.Two))
+
+-- a number up to `most`, 0 where it is left out
+abbrev pub number_or_0 : Place → ℕ → Option Data → Result ℕ Fault
+number_or_0 p most None = Ok 0
+number_or_0 p most (Some d) = number_in p 0 most (Some d)
+
+-- a truth value, true where it is left out
+abbrev pub truth_in : Place → Option Data → Result Bool Fault
+truth_in p None = Ok true
+truth_in p (Some d) = ok_or (as_bool d) (BadValue p)
+
+-- a test that must pass
+abbrev pub must : Bool → Fault → Result (Unit {0}) Fault
+must b f = if b then Ok tt else Err f
+
+-- [receive start, size, send start, size]
+unfoldable pub mailbox_of : Place → Data → Result Mailbox Fault
+mailbox_of p d = do
+  receive_start ← number_in p 0 65535 (at 0 d)
+  receive_size ← number_in p 16 1024 (at 1 d)
+  send_start ← number_in p 0 65535 (at 2 d)
+  send_size ← number_in p 16 1024 (at 3 d)
+  _ ← must (not (is_some (at 4 d))) (BadValue p)
+  Ok (record { receive_start = receive_start; receive_size = receive_size; send_start = send_start; send_size = send_size })
+
+-- a mailbox, where there is one
+unfoldable pub mailbox_in : Place → Option Data → Result (Option Mailbox) Fault
+mailbox_in p None = Ok None
+mailbox_in p (Some d) = mailbox_of p d >>= (λ m. Ok (Some m))
+
+-- [variable bit, entry bit, count]
+unfoldable pub link_bits_of : Place → Data → Result LinkBits Fault
+link_bits_of p d = do
+  variable_bit ← number_in p 0 63 (at 0 d)
+  entry_bit ← number_in p 0 63 (at 1 d)
+  count ← number_in p 1 64 (at 2 d)
+  _ ← must (not (is_some (at 3 d))) (BadValue p)
+  Ok (record { variable_bit = variable_bit; entry_bit = entry_bit; count = count })
+
+-- a link's bits, where they are written
+unfoldable pub link_bits_in : Place → Option Data → Result (Option LinkBits) Fault
+link_bits_in p None = Ok None
+link_bits_in p (Some d) = link_bits_of p d >>= (λ b. Ok (Some b))
+
+abbrev pub is_table : Data → Bool
+is_table (table ms) = true
+is_table _ = false
+
+abbrev pub are_tables : Items → Bool
+are_tables no_items = true
+are_tables (item d ds) = is_table d && are_tables ds
+
+-- the elements of a section, none where it is left out
+unfoldable pub section_in : Place → Option Data → Result Items Fault
+section_in p None = Ok no_items
+section_in p (Some d) = do
+  ds ← ok_or (as_array d) (BadValue p)
+  _ ← must (are_tables ds) (BadValue p)
+  Ok ds
+
+abbrev pub result_items : {E : Type 0} → Result (Bor (List Value)) E → Result Items E
+result_items (Ok s) = Ok (items_view s.now)
+result_items (Err e) = Err e

@@ -1,0 +1,78 @@
+-- What the reading of link tables keeps, in the format's own words.
+use Rattle.std.specs.Prelude.{◌≡◌, ℕ, List, ◌∷◌, ◌++◌, length, take, codes, IsTrue, slice_get, Result, Ok, Err, Option, Some}
+use Rattle.toml.specs.Data.{Data, Members, get_member}
+use Rattle.toml.specs.View.{items_of}
+use Rattle.ec_table.specs.declared.fault.Fault.{Fault}
+use Rattle.ec_table.specs.declared.rows.Version.{Version}
+use Rattle.ec_table.specs.declared.fault.Place.{Place}
+use Rattle.ec_table.specs.declared.fault.Section.{Section}
+use Rattle.ec_table.specs.declared.fault.Section.TheVariants as section
+use Rattle.ec_table.specs.declared.rows.TypeRow.{TypeRow}
+use Rattle.ec_table.specs.declared.rows.SlaveRow.{SlaveRow}
+use Rattle.ec_table.specs.declared.rows.VariableRow.{VariableRow}
+use Rattle.ec_table.specs.declared.rows.LinkRow.{LinkRow}
+use Rattle.ec_table.specs.Contents.{Contents}
+use Rattle.ec_table.specs.Sound.{IsSound}
+use Rattle.ec_table.specs.Faults.{fault_place}
+use Rattle.ec_table.specs.Reading.{type_element, slave_element, variable_element, link_element, top, table_of_document, table_of}
+use Rattle.ec_table.specs.Fields.{keys_are, version_in, section_in}
+use Rattle.ec_table.specs.Writing.{document_of}
+use Rattle.ec_table.specs.declared.fields.Shape.TheVariants as shape
+
+-- What is accepted has unique names, known references, values in range, and assigned objects of its type without a double.
+abbrev pub AcceptedIsSound : Type 0
+AcceptedIsSound = (text : List ℕ) (c : Contents) → table_of text ≡ Ok c → IsSound c
+
+-- Every fault that an element has carries the element's section and place.
+abbrev pub place_in : Section → ℕ → Option Place
+place_in s n = Some (record { section = s; element = n })
+
+pub record FaultsHaveTheirPlace : Type 0 where
+  pub types : (v : Version) (n : ℕ) (d : Data) (found : List TypeRow) (f : Fault) → type_element v n d found ≡ Err f → fault_place f ≡ place_in section.Type n
+  pub slaves : (v : Version) (ts : List TypeRow) (n : ℕ) (d : Data) (found : List SlaveRow) (f : Fault) → slave_element v ts n d found ≡ Err f → fault_place f ≡ place_in section.Slave n
+  pub variables : (v : Version) (n : ℕ) (d : Data) (found : List VariableRow) (f : Fault) → variable_element v n d found ≡ Err f → fault_place f ≡ place_in section.Variable n
+  pub links : (v : Version) (ss : List SlaveRow) (ws : List VariableRow) (n : ℕ) (d : Data) (found : List LinkRow) (f : Fault) → link_element v ss ws n d found ≡ Err f → fault_place f ≡ place_in section.Link n
+
+-- ---- element by element
+
+-- a document of a version, with the elements of its sections
+pub record HasSections (ms : Members) (v : Version) (type_data slave_data variable_data link_data : List Data) : Type 0 where
+  pub version : version_in top (get_member (codes "version") ms) ≡ Ok v
+  pub keys : IsTrue (keys_are shape.Document v ms)
+  pub types : section_in top (get_member (codes "type") ms) ≡ Ok (items_of type_data)
+  pub slaves : section_in top (get_member (codes "slave") ms) ≡ Ok (items_of slave_data)
+  pub variables : section_in top (get_member (codes "variable") ms) ≡ Ok (items_of variable_data)
+  pub links : section_in top (get_member (codes "link") ms) ≡ Ok (items_of link_data)
+
+-- each element passes its tests, which see the rows before it
+pub record EachReads {X : Type 0} (row : ℕ → Data → List X → Result X Fault) (ds : List Data) (xs : List X) : Type 0 where
+  pub as_many : length ds ≡ length xs
+  pub each : (k : ℕ) (d : Data) (x : X) → slice_get ds k ≡ Some d → slice_get xs k ≡ Some x → row k d (take k xs) ≡ Ok x
+
+-- all elements of a table pass their tests
+pub record AllRead (type_data slave_data variable_data link_data : List Data) (c : Contents) : Type 0 where
+  pub types : EachReads (type_element c.version) type_data c.types
+  pub slaves : EachReads (slave_element c.version c.types) slave_data c.slaves
+  pub variables : EachReads (variable_element c.version) variable_data c.variables
+  pub links : EachReads (link_element c.version c.slaves c.variables) link_data c.links
+
+-- A document whose every element passes its own tests is accepted.
+abbrev pub AcceptedElementByElement : Type 0
+AcceptedElementByElement = (ms : Members) (types slaves variables links : List Data) (c : Contents) → HasSections ms c.version types slaves variables links → AllRead types slaves variables links c → table_of_document ms ≡ Ok c
+
+-- The first element in order that fails a test is told: all types before it, then all types and all slaves before it, and so on.
+pub record FirstFaultIsTold : Type 0 where
+  pub types : (ms : Members) (v : Version) (before : List Data) (d : Data) (after slaves variables links : List Data) (ts : List TypeRow) (f : Fault) → HasSections ms v (before ++ d ∷ after) slaves variables links
+      → EachReads (type_element v) before ts → type_element v (length before) d ts ≡ Err f → table_of_document ms ≡ Err f
+  pub slaves : (ms : Members) (v : Version) (types before : List Data) (d : Data) (after variables links : List Data) (ts : List TypeRow) (ss : List SlaveRow) (f : Fault) → HasSections ms v types (before ++ d ∷ after) variables links
+      → EachReads (type_element v) types ts → EachReads (slave_element v ts) before ss → slave_element v ts (length before) d ss ≡ Err f → table_of_document ms ≡ Err f
+  pub variables : (ms : Members) (v : Version) (types slaves before : List Data) (d : Data) (after links : List Data) (ts : List TypeRow) (ss : List SlaveRow) (ws : List VariableRow) (f : Fault) → HasSections ms v types slaves (before ++ d ∷ after) links
+      → EachReads (type_element v) types ts → EachReads (slave_element v ts) slaves ss → EachReads (variable_element v) before ws → variable_element v (length before) d ws ≡ Err f → table_of_document ms ≡ Err f
+  pub links : (ms : Members) (v : Version) (types slaves variables before : List Data) (d : Data) (after : List Data) (ts : List TypeRow) (ss : List SlaveRow) (ws : List VariableRow) (ls : List LinkRow) (f : Fault) → HasSections ms v types slaves variables (before ++ d ∷ after)
+      → EachReads (type_element v) types ts → EachReads (slave_element v ts) slaves ss → EachReads (variable_element v) variables ws → EachReads (link_element v ss ws) before ls → link_element v ss ws (length before) d ls ≡ Err f → table_of_document ms ≡ Err f
+
+-- ---- written out
+
+-- Each sound table has a document that states it: its sections written out, with each key.
+abbrev pub WrittenIsRead : Type 0
+WrittenIsRead = (c : Contents) → IsSound c → table_of_document (document_of c) ≡ Ok c

@@ -1,0 +1,188 @@
+-- The elements of the sections, in the order of their tests: keys, values key by key, doubles, references.
+use Rattle.std.specs.Prelude.{List, [], ℕ, ◌==◌, Bool, not, ◌&&◌, ◌||◌, codes, Option, is_some, unwrap_or, position, slice_get, Result, Ok}
+use Rattle.std.specs.List.{list_any, list_all}
+use Rattle.std.specs.Str.{bytes_eq}
+use Rattle.std.specs.Option.{ok_or}
+use Rattle.toml.specs.Data.{Data, Members, get_member}
+use Rattle.toml.specs.Parse.{parse_document}
+use Rattle.ec_table.specs.declared.fault.Fault.{Fault}
+use Rattle.ec_table.specs.declared.fault.Fault.TheVariants.{Toml, BadKey, BadValue, TwiceNamed, UnknownName}
+use Rattle.ec_table.specs.declared.fault.Place.{Place}
+use Rattle.ec_table.specs.declared.fault.Section.TheVariants as section
+use Rattle.ec_table.specs.declared.rows.Version.{Version}
+use Rattle.ec_table.specs.declared.rows.Device.{Device}
+use Rattle.ec_table.specs.declared.rows.ProcessData.{ProcessData}
+use Rattle.ec_table.specs.declared.rows.TypeRow.{TypeRow}
+use Rattle.ec_table.specs.declared.rows.SlaveRow.{SlaveRow}
+use Rattle.ec_table.specs.declared.rows.VariableRow.{VariableRow}
+use Rattle.ec_table.specs.declared.rows.LinkBits.{LinkBits}
+use Rattle.ec_table.specs.declared.rows.LinkRow.{LinkRow}
+use Rattle.ec_table.specs.declared.fields.Shape.TheVariants as shape
+use Rattle.ec_table.specs.Contents.{Contents}
+use Rattle.ec_table.specs.InOrder.{members_in, rows_after}
+use Rattle.ec_table.specs.Pdos.{pdos_in, indices_of, has_twice, numbers_in}
+use Rattle.ec_table.specs.Fields.{◌>>=◌, must, keys_are, name_in, direction_in, mailbox_in, section_in, number_in, number_or_0, truth_in, version_in, link_bits_in}
+
+-- ---- types
+
+-- some type has the name
+abbrev pub is_type_name : List ℕ → List TypeRow → Bool
+is_type_name name found = list_any (λ (t : TypeRow). bytes_eq t.name name) found
+
+-- vendor, product, revision
+unfoldable pub device_in : Place → Members → Result Device Fault
+device_in p ms = do
+  vendor ← number_in p 0 4294967295 (get_member (codes "vendor") ms)
+  product ← number_in p 0 4294967295 (get_member (codes "product") ms)
+  revision ← number_in p 0 4294967295 (get_member (codes "revision") ms)
+  Ok (record { vendor = vendor; product = product; revision = revision })
+
+-- where the process data begin, and their objects
+unfoldable pub process_in : Place → Members → Result ProcessData Fault
+process_in p ms = do
+  out_start ← number_in p 0 65535 (get_member (codes "out_start") ms)
+  in_start ← number_in p 0 65535 (get_member (codes "in_start") ms)
+  outputs ← pdos_in p 0x1600 0x17FF (get_member (codes "rxpdo") ms)
+  inputs ← pdos_in p 0x1A00 0x1BFF (get_member (codes "txpdo") ms)
+  Ok (record { out_start = out_start; in_start = in_start; outputs = outputs; inputs = inputs })
+
+-- some object stands twice in a direction
+abbrev pub process_twice : ProcessData → Bool
+process_twice d = has_twice (indices_of d.outputs) || has_twice (indices_of d.inputs)
+
+-- the type that an element states, after those found
+unfoldable pub type_at : Version → Place → Members → List TypeRow → Result TypeRow Fault
+type_at v p ms found = do
+  _ ← must (keys_are shape.Type v ms) (BadKey p)
+  name ← name_in p (get_member (codes "name") ms)
+  device ← device_in p ms
+  mailbox ← mailbox_in p (get_member (codes "mailbox") ms)
+  process ← process_in p ms
+  lrw ← truth_in p (get_member (codes "lrw") ms)
+  _ ← must (not (is_type_name name found || process_twice process)) (TwiceNamed p)
+  Ok (record { name = name; device = device; mailbox = mailbox; process = process; lrw = lrw })
+
+abbrev pub type_element : Version → ℕ → Data → List TypeRow → Result TypeRow Fault
+type_element v n d found =
+    let p : Place = record { section = section.Type; element = n } in
+    members_in p d >>= (λ ms. type_at v p ms found)
+
+-- ---- slaves
+
+-- some slave has the name
+abbrev pub is_slave_name : List ℕ → List SlaveRow → Bool
+is_slave_name name found = list_any (λ (s : SlaveRow). bytes_eq s.name name) found
+
+-- the place of the first type with a name
+abbrev pub type_named : List ℕ → List TypeRow → Option ℕ
+type_named name types = position (λ (t : TypeRow). bytes_eq t.name name) types
+
+abbrev pub all_in : List ℕ → List ℕ → Bool
+all_in xs ys = list_all (λ x. list_any (λ y. y == x) ys) xs
+
+abbrev pub same_list : List ℕ → List ℕ → Bool
+same_list xs ys = bytes_eq xs ys
+
+-- the assigned objects are the type's, and without a mailbox all of them in order
+unfoldable pub assigned_in : Place → TypeRow → SlaveRow → Result SlaveRow Fault
+assigned_in p t s = do
+  _ ← must (all_in s.outputs (indices_of t.process.outputs) && all_in s.inputs (indices_of t.process.inputs)) (UnknownName p)
+  _ ← must (is_some t.mailbox || (same_list s.outputs (indices_of t.process.outputs) && same_list s.inputs (indices_of t.process.inputs))) (BadValue p)
+  Ok s
+
+-- the slave that an element states, after those found; left out, `out` and `in` are all objects of the type in order
+unfoldable pub slave_at : Version → List TypeRow → Place → Members → List SlaveRow → Result SlaveRow Fault
+slave_at v types p ms found = do
+  _ ← must (keys_are shape.Slave v ms) (BadKey p)
+  name ← name_in p (get_member (codes "name") ms)
+  type_name ← name_in p (get_member (codes "type") ms)
+  outputs ← numbers_in p 0x1600 0x17FF (get_member (codes "out") ms)
+  inputs ← numbers_in p 0x1A00 0x1BFF (get_member (codes "in") ms)
+  serial ← number_or_0 p 4294967295 (get_member (codes "serial") ms)
+  unit ← number_or_0 p 63 (get_member (codes "unit") ms)
+  _ ← must (not (is_slave_name name found || (has_twice (unwrap_or outputs []) || has_twice (unwrap_or inputs [])))) (TwiceNamed p)
+  at ← ok_or (type_named type_name types) (UnknownName p)
+  t ← ok_or (slice_get types at) (UnknownName p)
+  assigned_in p t (record { name = name; type_place = at; outputs = unwrap_or outputs (indices_of t.process.outputs); inputs = unwrap_or inputs (indices_of t.process.inputs); serial = serial; unit = unit })
+
+abbrev pub slave_element : Version → List TypeRow → ℕ → Data → List SlaveRow → Result SlaveRow Fault
+slave_element v types n d found =
+    let p : Place = record { section = section.Slave; element = n } in
+    members_in p d >>= (λ ms. slave_at v types p ms found)
+
+-- ---- variables
+
+-- some variable has the name
+abbrev pub is_variable_name : List ℕ → List VariableRow → Bool
+is_variable_name name found = list_any (λ (w : VariableRow). bytes_eq w.name name) found
+
+-- the variable that an element states, after those found
+unfoldable pub variable_at : Version → Place → Members → List VariableRow → Result VariableRow Fault
+variable_at v p ms found = do
+  _ ← must (keys_are shape.Variable v ms) (BadKey p)
+  name ← name_in p (get_member (codes "name") ms)
+  direction ← direction_in p (get_member (codes "dir") ms)
+  bits ← number_in p 1 64 (get_member (codes "bits") ms)
+  _ ← must (not (is_variable_name name found)) (TwiceNamed p)
+  Ok (record { name = name; direction = direction; bits = bits })
+
+abbrev pub variable_element : Version → ℕ → Data → List VariableRow → Result VariableRow Fault
+variable_element v n d found =
+    let p : Place = record { section = section.Variable; element = n } in
+    members_in p d >>= (λ ms. variable_at v p ms found)
+
+-- ---- links
+
+-- the place of the first slave, and of the first variable, with a name
+abbrev pub slave_named : List ℕ → List SlaveRow → Option ℕ
+slave_named name slaves = position (λ (s : SlaveRow). bytes_eq s.name name) slaves
+
+abbrev pub variable_named : List ℕ → List VariableRow → Option ℕ
+variable_named name variables = position (λ (w : VariableRow). bytes_eq w.name name) variables
+
+-- all bits of a variable, from bit 0 of both
+abbrev pub all_bits : VariableRow → LinkBits
+all_bits w = record { variable_bit = 0; entry_bit = 0; count = w.bits }
+
+-- the link that an element states; left out, `bits` are all of the variable's
+unfoldable pub link_at : Version → List SlaveRow → List VariableRow → Place → Members → Result LinkRow Fault
+link_at v slaves variables p ms = do
+  _ ← must (keys_are shape.Link v ms) (BadKey p)
+  variable_name ← name_in p (get_member (codes "var") ms)
+  slave_name ← name_in p (get_member (codes "slave") ms)
+  index ← number_in p 1 65535 (get_member (codes "index") ms)
+  subindex ← number_in p 0 255 (get_member (codes "sub") ms)
+  bits ← link_bits_in p (get_member (codes "bits") ms)
+  variable ← ok_or (variable_named variable_name variables) (UnknownName p)
+  w ← ok_or (slice_get variables variable) (UnknownName p)
+  slave ← ok_or (slave_named slave_name slaves) (UnknownName p)
+  Ok (record { variable = variable; slave = slave; index = index; subindex = subindex; bits = unwrap_or bits (all_bits w) })
+
+abbrev pub link_element : Version → List SlaveRow → List VariableRow → ℕ → Data → List LinkRow → Result LinkRow Fault
+link_element v slaves variables n d found =
+    let p : Place = record { section = section.Link; element = n } in
+    members_in p d >>= (λ ms. link_at v slaves variables p ms)
+
+-- ---- the document
+
+abbrev pub top : Place
+top = record { section = section.Top; element = 0 }
+
+-- the table that a document states: its version, its keys, its sections, then each section's elements
+unfoldable pub table_of_document : Members → Result Contents Fault
+table_of_document ms = do
+  version ← version_in top (get_member (codes "version") ms)
+  _ ← must (keys_are shape.Document version ms) (BadKey top)
+  type_items ← section_in top (get_member (codes "type") ms)
+  slave_items ← section_in top (get_member (codes "slave") ms)
+  variable_items ← section_in top (get_member (codes "variable") ms)
+  link_items ← section_in top (get_member (codes "link") ms)
+  types ← rows_after (type_element version) [] 0 type_items
+  slaves ← rows_after (slave_element version types) [] 0 slave_items
+  variables ← rows_after (variable_element version) [] 0 variable_items
+  links ← rows_after (link_element version slaves variables) [] 0 link_items
+  Ok (record { version = version; types = types; slaves = slaves; variables = variables; links = links })
+
+-- the table that a text states
+unfoldable pub table_of : List ℕ → Result Contents Fault
+table_of text = ok_or (parse_document text) Toml >>= table_of_document

@@ -1,0 +1,138 @@
+-- What each table that was read keeps.
+use Rattle.std.specs.Prelude.{◌≡◌, ◌≢◌, ℕ, ◌<◌, ◌≤◌, List, length, Option, Some, None, All, AllPairs, Contains, IsTrue, slice_get}
+use Rattle.ec_regs.specs.declared.slave_type.Entry.{Entry}
+use Rattle.ec_regs.specs.declared.slave_type.Pdo.{Pdo}
+use Rattle.ec_regs.specs.declared.slave_type.Mailbox.{Mailbox}
+use Rattle.ec_table.specs.declared.rows.Version.{Version}
+use Rattle.ec_table.specs.declared.rows.Version.TheVariants.{One}
+use Rattle.ec_table.specs.declared.rows.Direction.{Direction}
+use Rattle.ec_table.specs.declared.rows.Direction.TheVariants.{Out, In}
+use Rattle.ec_table.specs.declared.rows.Device.{Device}
+use Rattle.ec_table.specs.declared.rows.TypeRow.{TypeRow}
+use Rattle.ec_table.specs.declared.rows.SlaveRow.{SlaveRow}
+use Rattle.ec_table.specs.declared.rows.VariableRow.{VariableRow}
+use Rattle.ec_table.specs.declared.rows.LinkBits.{LinkBits}
+use Rattle.ec_table.specs.declared.rows.LinkRow.{LinkRow}
+use Rattle.ec_table.specs.Contents.{Contents, pdos_toward, assigned_toward}
+use Rattle.ec_table.specs.Fields.{is_name}
+use Rattle.ec_table.specs.Pdos.{indices_of}
+
+-- 1 to 32 ASCII letters, digits and `_`
+abbrev pub IsName : List ℕ → Type 0
+IsName s = IsTrue (is_name s)
+
+-- no two are the same
+abbrev pub IsOnce : {X : Type 0} → List X → Type 0
+IsOnce xs = AllPairs (λ x y. x ≢ y) xs
+
+-- ---- types
+
+pub record IsDevice (d : Device) : Type 0 where
+  pub vendor : d.vendor ≤ 4294967295
+  pub product : d.product ≤ 4294967295
+  pub revision : d.revision ≤ 4294967295
+
+pub record IsMailbox (m : Mailbox) : Type 0 where
+  pub receive_start : m.receive_start ≤ 65535
+  pub receive_least : 16 ≤ m.receive_size
+  pub receive_most : m.receive_size ≤ 1024
+  pub send_start : m.send_start ≤ 65535
+  pub send_least : 16 ≤ m.send_size
+  pub send_most : m.send_size ≤ 1024
+
+pub record IsEntry (e : Entry) : Type 0 where
+  pub index : e.index ≤ 65535
+  pub subindex : e.subindex ≤ 255
+  pub least : 1 ≤ e.bits
+  pub most : e.bits ≤ 64
+  pub gap : e.index ≡ 0 → e.subindex ≡ 0
+
+-- the indices of process data objects: RxPDOs are outputs, TxPDOs inputs (ETG.1000.6, "Object dictionary")
+abbrev pub first_index : Direction → ℕ
+first_index Out = 0x1600
+first_index In = 0x1A00
+
+abbrev pub last_index : Direction → ℕ
+last_index Out = 0x17FF
+last_index In = 0x1BFF
+
+pub record IsPdo (d : Direction) (q : Pdo) : Type 0 where
+  pub first : first_index d ≤ q.index
+  pub last : q.index ≤ last_index d
+  pub entries : All IsEntry q.entries
+  pub few : length q.entries ≤ 64
+
+-- the objects of one direction: at most 16, each index once
+pub record ArePdos (d : Direction) (pdos : List Pdo) : Type 0 where
+  pub each : All (IsPdo d) pdos
+  pub few : length pdos ≤ 16
+  pub once : IsOnce (indices_of pdos)
+
+pub record IsType (t : TypeRow) : Type 0 where
+  pub name : IsName t.name
+  pub device : IsDevice t.device
+  pub mailbox : (m : Mailbox) → t.mailbox ≡ Some m → IsMailbox m
+  pub out_start : t.process.out_start ≤ 65535
+  pub in_start : t.process.in_start ≤ 65535
+  pub pdos : (d : Direction) → ArePdos d (pdos_toward d t)
+
+pub record AreTypes (ts : List TypeRow) : Type 0 where
+  pub each : All IsType ts
+  pub once : AllPairs (λ (t u : TypeRow). t.name ≢ u.name) ts
+
+-- ---- slaves
+
+-- the assigned objects of one direction: each the type's, each once, and without a mailbox all in order
+pub record IsAssignment (mailbox : Option Mailbox) (pdos : List Pdo) (assigned : List ℕ) : Type 0 where
+  pub known : All (Contains (indices_of pdos)) assigned
+  pub once : IsOnce assigned
+  pub fixed : mailbox ≡ None → assigned ≡ indices_of pdos
+
+pub record IsSlave (v : Version) (ts : List TypeRow) (s : SlaveRow) : Type 0 where
+  pub name : IsName s.name
+  pub known : s.type_place < length ts
+  pub assigned : (t : TypeRow) (d : Direction) → slice_get ts s.type_place ≡ Some t → IsAssignment t.mailbox (pdos_toward d t) (assigned_toward d s)
+  pub serial : s.serial ≤ 4294967295
+  pub unit : s.unit ≤ 63
+  -- version 1 has one sync unit
+  pub one_unit : v ≡ One → s.unit ≡ 0
+
+pub record AreSlaves (v : Version) (ts : List TypeRow) (ss : List SlaveRow) : Type 0 where
+  pub each : All (IsSlave v ts) ss
+  pub once : AllPairs (λ (s r : SlaveRow). s.name ≢ r.name) ss
+
+-- ---- variables
+
+pub record IsVariable (w : VariableRow) : Type 0 where
+  pub name : IsName w.name
+  pub least : 1 ≤ w.bits
+  pub most : w.bits ≤ 64
+
+pub record AreVariables (ws : List VariableRow) : Type 0 where
+  pub each : All IsVariable ws
+  pub once : AllPairs (λ (w x : VariableRow). w.name ≢ x.name) ws
+
+-- ---- links
+
+pub record IsBits (b : LinkBits) : Type 0 where
+  pub variable_bit : b.variable_bit ≤ 63
+  pub entry_bit : b.entry_bit ≤ 63
+  pub least : 1 ≤ b.count
+  pub most : b.count ≤ 64
+
+-- a link joins a variable and an object, no gap, of a slave that there are; whether the slave has the object is not said
+pub record IsLink (ss : List SlaveRow) (ws : List VariableRow) (l : LinkRow) : Type 0 where
+  pub variable : l.variable < length ws
+  pub slave : l.slave < length ss
+  pub least : 1 ≤ l.index
+  pub most : l.index ≤ 65535
+  pub subindex : l.subindex ≤ 255
+  pub bits : IsBits l.bits
+
+-- ---- the whole
+
+pub record IsSound (c : Contents) : Type 0 where
+  pub types : AreTypes c.types
+  pub slaves : AreSlaves c.version c.types c.slaves
+  pub variables : AreVariables c.variables
+  pub links : All (IsLink c.slaves c.variables) c.links

@@ -1,0 +1,111 @@
+-- The document of a table, with each key written.
+use Rattle.std.specs.Prelude.{ℕ, pos, List, [], map, codes, Option, Some, None, slice_get}
+use Rattle.std.specs.Option.{option_map_or}
+use Rattle.toml.specs.Data.{Data, string, integer, boolean, array, table, Members, no_members, member, no_items, item}
+use Rattle.toml.specs.View.{items_of}
+use Rattle.ec_regs.specs.declared.slave_type.Entry.{Entry}
+use Rattle.ec_regs.specs.declared.slave_type.Pdo.{Pdo}
+use Rattle.ec_regs.specs.declared.slave_type.Mailbox.{Mailbox}
+use Rattle.ec_table.specs.declared.rows.Version.{Version}
+use Rattle.ec_table.specs.declared.rows.Version.TheVariants.{One, Two}
+use Rattle.ec_table.specs.declared.rows.Direction.{Direction}
+use Rattle.ec_table.specs.declared.rows.Direction.TheVariants.{Out, In}
+use Rattle.ec_table.specs.declared.rows.TypeRow.{TypeRow}
+use Rattle.ec_table.specs.declared.rows.SlaveRow.{SlaveRow}
+use Rattle.ec_table.specs.declared.rows.VariableRow.{VariableRow}
+use Rattle.ec_table.specs.declared.rows.LinkRow.{LinkRow}
+use Rattle.ec_table.specs.declared.rows.LinkBits.{LinkBits}
+use Rattle.ec_table.specs.Contents.{Contents}
+
+abbrev pub number : ℕ → Data
+number n = integer (pos n)
+
+abbrev pub array_of_all : {X : Type 0} → (X → Data) → List X → Data
+array_of_all spell xs = array (items_of (map spell xs))
+
+-- [index, subindex, bits]
+abbrev pub entry_data : Entry → Data
+entry_data e = array (item (number e.index) (item (number e.subindex) (item (number e.bits) no_items)))
+
+abbrev pub pdo_data : Pdo → Data
+pdo_data q = table (member (codes "entries") (array_of_all entry_data q.entries) (member (codes "index") (number q.index) no_members))
+
+-- [receive start, receive size, send start, send size]
+abbrev pub mailbox_data : Mailbox → Data
+mailbox_data m = array (item (number m.receive_start) (item (number m.receive_size) (item (number m.send_start) (item (number m.send_size) no_items))))
+
+-- a type without a mailbox has no such key
+abbrev pub with_mailbox : Option Mailbox → Members → Members
+with_mailbox None ms = ms
+with_mailbox (Some m) ms = member (codes "mailbox") (mailbox_data m) ms
+
+-- the keys of each element in ascending order, as a document has them
+abbrev pub type_members : TypeRow → Members
+type_members t =
+    member (codes "in_start") (number t.process.in_start)
+    (member (codes "lrw") (boolean t.lrw)
+    (with_mailbox t.mailbox
+    (member (codes "name") (string t.name)
+    (member (codes "out_start") (number t.process.out_start)
+    (member (codes "product") (number t.device.product)
+    (member (codes "revision") (number t.device.revision)
+    (member (codes "rxpdo") (array_of_all pdo_data t.process.outputs)
+    (member (codes "txpdo") (array_of_all pdo_data t.process.inputs)
+    (member (codes "vendor") (number t.device.vendor) no_members)))))))))
+
+-- version 1 has no key `unit`
+abbrev pub unit_members : Version → ℕ → Members
+unit_members One unit = no_members
+unit_members Two unit = member (codes "unit") (number unit) no_members
+
+abbrev pub type_name : List TypeRow → ℕ → List ℕ
+type_name ts k = option_map_or (λ (t : TypeRow). t.name) (slice_get ts k) []
+
+abbrev pub slave_members : Version → List TypeRow → SlaveRow → Members
+slave_members v ts s =
+    member (codes "in") (array_of_all number s.inputs)
+    (member (codes "name") (string s.name)
+    (member (codes "out") (array_of_all number s.outputs)
+    (member (codes "serial") (number s.serial)
+    (member (codes "type") (string (type_name ts s.type_place))
+    (unit_members v s.unit)))))
+
+abbrev pub direction_text : Direction → List ℕ
+direction_text Out = codes "out"
+direction_text In = codes "in"
+
+abbrev pub variable_members : VariableRow → Members
+variable_members w =
+    member (codes "bits") (number w.bits)
+    (member (codes "dir") (string (direction_text w.direction))
+    (member (codes "name") (string w.name) no_members))
+
+-- [variable bit, entry bit, count]
+abbrev pub bits_data : LinkBits → Data
+bits_data b = array (item (number b.variable_bit) (item (number b.entry_bit) (item (number b.count) no_items)))
+
+abbrev pub slave_name : List SlaveRow → ℕ → List ℕ
+slave_name ss k = option_map_or (λ (s : SlaveRow). s.name) (slice_get ss k) []
+
+abbrev pub variable_name : List VariableRow → ℕ → List ℕ
+variable_name ws k = option_map_or (λ (w : VariableRow). w.name) (slice_get ws k) []
+
+abbrev pub link_members : List SlaveRow → List VariableRow → LinkRow → Members
+link_members ss ws l =
+    member (codes "bits") (bits_data l.bits)
+    (member (codes "index") (number l.index)
+    (member (codes "slave") (string (slave_name ss l.slave))
+    (member (codes "sub") (number l.subindex)
+    (member (codes "var") (string (variable_name ws l.variable)) no_members))))
+
+abbrev pub version_number : Version → ℕ
+version_number One = 1
+version_number Two = 2
+
+unfoldable pub document_of : Contents → Members
+document_of c =
+    member (codes "link") (array_of_all (λ l. table (link_members c.slaves c.variables l)) c.links)
+    (member (codes "slave") (array_of_all (λ s. table (slave_members c.version c.types s)) c.slaves)
+    (member (codes "type") (array_of_all (λ t. table (type_members t)) c.types)
+    (member (codes "variable") (array_of_all (λ w. table (variable_members w)) c.variables)
+    (member (codes "version") (number (version_number c.version)) no_members))))

@@ -1,0 +1,184 @@
+ghost use Rattle.std.specs.Prelude.{◌≡◌};
+ghost use Rattle.ec_table.specs.Faults.{section_number, fault_number, fault_name, fault_place, error_number, error_name, error_place};
+
+use std::alloc::{AllocError, AllocFailed};
+use std::fmt;
+use thiserror::Error;
+
+/// A section of a link table, `Top` for the document itself.
+#[derive(Clone, Copy, Debug, PartialEq, Eq)]
+pub enum Section {
+    Top,
+    Type,
+    Slave,
+    Variable,
+    Link,
+}
+
+impl Section {
+    /// The number by which the machine form of a refusal names the section.
+    pub fn number(self) -> u8
+        ensures { result ≡ section_number self }
+    {
+        match self {
+            Section::Top => 0,
+            Section::Type => 1,
+            Section::Slave => 2,
+            Section::Variable => 3,
+            Section::Link => 4,
+        }
+    }
+}
+
+/// An element of a section, counted from 0 in file order; the document itself is element 0 of `Top`.
+#[derive(Clone, Copy, Debug, PartialEq, Eq)]
+pub struct Place {
+    pub section: Section,
+    pub element: usize,
+}
+
+impl fmt::Display for Place {
+    fn fmt<W: fmt::Write>(&self, f: &mut fmt::Formatter<W>) -> fmt::Result {
+        match self.section {
+            Section::Top => write!(f, "the document"),
+            Section::Type => write!(f, "type {}", self.element),
+            Section::Slave => write!(f, "slave {}", self.element),
+            Section::Variable => write!(f, "variable {}", self.element),
+            Section::Link => write!(f, "link {}", self.element),
+        }
+    }
+}
+
+/// What is wrong with a text, and where.
+#[derive(Clone, Copy, Debug, PartialEq, Eq, Error)]
+pub enum Fault {
+    /// The text is no TOML.
+    #[error("the text is not TOML")]
+    Toml,
+    /// A key that the section doesn't have, or one missing that it must have.
+    #[error("{0}: a key is unknown, or one is missing")]
+    BadKey(Place),
+    /// A value of the wrong kind, out of its range, or with too few or too many items.
+    #[error("{0}: a value has the wrong kind, range or number of items")]
+    BadValue(Place),
+    /// A name that its section has already, or a process data object that its list has already.
+    #[error("{0}: a name or an index stands twice")]
+    TwiceNamed(Place),
+    /// A reference to a type, slave, variable or process data object that there is not.
+    #[error("{0}: a name or an index is unknown")]
+    UnknownName(Place),
+}
+
+impl Fault {
+    /// The number of the refusal, 11 to 15.
+    pub fn number(self) -> u8
+        ensures { result ≡ fault_number self }
+    {
+        match self {
+            Fault::Toml => 11,
+            Fault::BadKey(_) => 12,
+            Fault::BadValue(_) => 13,
+            Fault::TwiceNamed(_) => 14,
+            Fault::UnknownName(_) => 15,
+        }
+    }
+
+    /// The name of the refusal, one word.
+    pub fn name(self) -> &'static str
+        ensures { result.now ≡ fault_name self }
+    {
+        match self {
+            Fault::Toml => "Toml",
+            Fault::BadKey(_) => "BadKey",
+            Fault::BadValue(_) => "BadValue",
+            Fault::TwiceNamed(_) => "TwiceNamed",
+            Fault::UnknownName(_) => "UnknownName",
+        }
+    }
+
+    /// Where it stands; a text that is no TOML has no place.
+    pub fn place(self) -> Option<Place>
+        ensures { result ≡ fault_place self }
+    {
+        match self {
+            Fault::Toml => None,
+            Fault::BadKey(place)
+            | Fault::BadValue(place)
+            | Fault::TwiceNamed(place)
+            | Fault::UnknownName(place) => Some(place),
+        }
+    }
+}
+
+/// Why no table was read.
+#[derive(Clone, Copy, Debug, PartialEq, Eq, Error)]
+pub enum TableError {
+    /// Memory ran out; the text may be good or bad.
+    #[error("out of memory")]
+    Memory,
+    /// The first fault of the text.
+    #[error("{0}")]
+    Refused(Fault),
+}
+
+impl TableError {
+    /// The number of the refusal: 1 for memory, else the fault's.
+    pub fn number(self) -> u8
+        ensures { result ≡ error_number self }
+    {
+        match self {
+            TableError::Memory => 1,
+            TableError::Refused(fault) => fault.number(),
+        }
+    }
+
+    /// The name of the refusal, one word.
+    pub fn name(self) -> &'static str
+        ensures { result.now ≡ error_name self }
+    {
+        match self {
+            TableError::Memory => "Memory",
+            TableError::Refused(fault) => fault.name(),
+        }
+    }
+
+    /// Where the fault stands; memory and a text that is no TOML have no place.
+    pub fn place(self) -> Option<Place>
+        ensures { result ≡ error_place self }
+    {
+        match self {
+            TableError::Memory => None,
+            TableError::Refused(fault) => fault.place(),
+        }
+    }
+}
+
+impl From<AllocError> for TableError {
+    ghost use Rattle.ec_table.specs.declared.fault.TableError.TheVariants.{Memory};
+
+    ghost from_gives = { λ _ e. e ≡ Memory };
+
+    fn from(_e: AllocError) -> TableError {
+        TableError::Memory
+    }
+}
+
+impl<T: Drop> From<AllocFailed<T>> for TableError {
+    ghost use Rattle.ec_table.specs.declared.fault.TableError.TheVariants.{Memory};
+
+    ghost from_gives = { λ _ e. e ≡ Memory };
+
+    fn from(_e: AllocFailed<T>) -> TableError {
+        TableError::Memory
+    }
+}
+
+impl From<Fault> for TableError {
+    ghost use Rattle.ec_table.specs.declared.fault.TableError.TheVariants.{Refused};
+
+    ghost from_gives = { λ f e. e ≡ Refused f };
+
+    fn from(fault: Fault) -> TableError {
+        Self::Refused(fault)
+    }
+}

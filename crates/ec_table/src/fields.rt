@@ -1,0 +1,346 @@
+ghost use Rattle.std.specs.Prelude.{◌≡◌, ◌≤◌, IfOk, is_some, string_bytes};
+ghost use Rattle.std.specs.List.{list_all};
+ghost use Rattle.std.specs.Map.{keys_of};
+ghost use Rattle.toml.specs.Data.{get_member};
+ghost use Rattle.toml.specs.View.{view, table_view, items_view};
+ghost use Rattle.ec_table.specs.declared.rows.Version.TheVariants as version;
+ghost use Rattle.ec_table.specs.declared.fields.Shape.TheVariants as shape;
+ghost use Rattle.ec_table.specs.Fields.{number_or_0, truth_in, version_in, link_bits_of, link_bits_in, is_name_byte, is_name, is_key, each_key, has_required, keys_are, number_in, name_in, direction_in, mailbox_of, mailbox_in, is_table, are_tables, section_in, seen, result_seen, result_items};
+
+use crate::fault::{Fault, Place};
+use crate::rows::{Direction, LinkBits, Version};
+use ec_regs::Mailbox;
+use toml::Value;
+
+/// A kind of table in a document.
+#[derive(Clone, Copy, Debug, PartialEq, Eq)]
+pub enum Shape {
+    Document,
+    Type,
+    Pdo,
+    Slave,
+    Variable,
+    Link,
+}
+
+fn is_name_byte(byte: u8) -> bool
+    ensures { result ≡ is_name_byte byte }
+{
+    byte.is_ascii_alphanumeric() || byte == b'_'
+}
+
+/// Whether a text is a name: 1 to 32 ASCII letters, digits and `_`.
+pub fn is_name(text: &str) -> bool
+    ensures { result ≡ is_name text.now }
+{
+    1 <= text.len() && text.len() <= 32 && are_name_bytes(text.as_bytes())
+}
+
+fn are_name_bytes(bytes: &[u8]) -> bool
+    ensures { result ≡ list_all is_name_byte bytes.now }
+{
+    bytes.iter().all(|byte| is_name_byte(*byte))
+}
+
+/// The value under a key.
+pub fn member<'a>(members: &'a toml::Table, key: &str) -> Option<&'a Value>
+    ensures { seen result ≡ get_member key.now (table_view members.now) }
+{
+    members.get(key)
+}
+
+/// Whether a table of a shape may have a key, in a version of the format. All keys stand here.
+fn is_key(shape: Shape, version: Version, key: &str) -> bool
+    ensures { result ≡ is_key shape version key.now }
+{
+    match shape {
+        Shape::Document => {
+            key == "version"
+                || key == "type"
+                || key == "slave"
+                || key == "variable"
+                || key == "link"
+        }
+        Shape::Type => is_type_key(key),
+        Shape::Pdo => key == "index" || key == "entries",
+        Shape::Slave => {
+            key == "name"
+                || key == "type"
+                || key == "out"
+                || key == "in"
+                || key == "serial"
+                || (version == Version::Two && key == "unit")
+        }
+        Shape::Variable => key == "name" || key == "dir" || key == "bits",
+        Shape::Link => {
+            key == "var" || key == "slave" || key == "index" || key == "sub" || key == "bits"
+        }
+    }
+}
+
+fn is_type_key(key: &str) -> bool
+    ensures { result ≡ is_key shape.Type version.One key.now }
+{
+    key == "name"
+        || key == "vendor"
+        || key == "product"
+        || key == "revision"
+        || key == "out_start"
+        || key == "in_start"
+        || key == "mailbox"
+        || key == "rxpdo"
+        || key == "txpdo"
+        || key == "lrw"
+}
+
+/// Whether a table has each key that its shape must have.
+fn has_required(shape: Shape, members: &toml::Table) -> bool
+    ensures { result ≡ has_required shape (table_view members.now) }
+{
+    match shape {
+        Shape::Document => true,
+        Shape::Type => has_type_keys(members),
+        Shape::Pdo => has(members, "index") && has(members, "entries"),
+        Shape::Slave => has(members, "name") && has(members, "type"),
+        Shape::Variable => has(members, "name") && has(members, "dir") && has(members, "bits"),
+        Shape::Link => {
+            has(members, "var")
+                && has(members, "slave")
+                && has(members, "index")
+                && has(members, "sub")
+        }
+    }
+}
+
+fn has_type_keys(members: &toml::Table) -> bool
+    ensures { result ≡ has_required shape.Type (table_view members.now) }
+{
+    has(members, "name")
+        && has(members, "vendor")
+        && has(members, "product")
+        && has(members, "revision")
+        && has(members, "out_start")
+        && has(members, "in_start")
+}
+
+/// Whether a table has a key.
+fn has(members: &toml::Table, key: &str) -> bool
+    ensures { result ≡ is_some (get_member key.now (table_view members.now)) }
+{
+    member(members, key).is_some()
+}
+
+/// Whether a table has no unknown key of its shape, and none missing.
+pub fn keys_are(shape: Shape, version: Version, members: &toml::Table) -> bool
+    ensures { result ≡ keys_are shape version (table_view members.now) }
+{
+    each_key(shape, version, members) && has_required(shape, members)
+}
+
+#[tactic(auto, using(crate::proofs::Lookups::each_key_of))]
+fn each_key(shape: Shape, version: Version, members: &toml::Table) -> bool
+    ensures { result ≡ each_key (is_key shape version) (table_view members.now) }
+{
+    each_entry_key(shape, version, members)
+}
+
+fn each_entry_key(shape: Shape, version: Version, members: &toml::Table) -> bool
+    ensures { result
+        ≡ list_all (λ k. is_key shape version (string_bytes k)) (keys_of members.now.entries) }
+{
+    members
+        .keys()
+        .all(|key| is_key(shape, version, key.as_str()))
+}
+
+/// A number from `low` to `high`.
+#[tactic(auto, unfolding(crate::specs::Fields::number_in))]
+pub fn number_in(place: Place, value: Option<&Value>, low: u32, high: u32) -> Result<u32, Fault>
+    ensures value { result ≡ number_in place low high (seen value.entry) }
+    ensures range { IfOk result (λ n. (low ≤ n) × (n ≤ high)) }
+{
+    let Some(value) = value else {
+        return Err(Fault::BadValue(place));
+    };
+    let Some(number) = value.as_integer() else {
+        return Err(Fault::BadValue(place));
+    };
+    if i64::from(low) <= number && number <= i64::from(high) {
+        Ok(number as u32)
+    } else {
+        Err(Fault::BadValue(place))
+    }
+}
+
+/// A name.
+#[tactic(auto, unfolding(crate::specs::Fields::name_in))]
+pub fn name_in<'a>(place: Place, value: Option<&'a Value>) -> Result<&'a str, Fault>
+    ensures { result_seen result ≡ name_in place (seen value.entry) }
+{
+    let Some(value) = value else {
+        return Err(Fault::BadValue(place));
+    };
+    let Some(text) = value.as_str() else {
+        return Err(Fault::BadValue(place));
+    };
+    if is_name(text) {
+        Ok(text)
+    } else {
+        Err(Fault::BadValue(place))
+    }
+}
+
+/// A direction, "out" or "in".
+#[tactic(auto, unfolding(crate::specs::Fields::direction_in))]
+pub fn direction_in(place: Place, value: Option<&Value>) -> Result<Direction, Fault>
+    ensures { result ≡ direction_in place (seen value.entry) }
+{
+    let Some(value) = value else {
+        return Err(Fault::BadValue(place));
+    };
+    let Some(text) = value.as_str() else {
+        return Err(Fault::BadValue(place));
+    };
+    if text == "out" {
+        Ok(Direction::Out)
+    } else if text == "in" {
+        Ok(Direction::In)
+    } else {
+        Err(Fault::BadValue(place))
+    }
+}
+
+#[tactic(auto, unfolding(crate::specs::Fields::mailbox_of))]
+fn mailbox_of(place: Place, value: &Value) -> Result<Mailbox, Fault>
+    ensures { result ≡ mailbox_of place (view value.now) }
+{
+    let receive_start = number_in(place, value.get(0), 0, 65535)?;
+    let receive_size = number_in(place, value.get(1), 16, 1024)?;
+    let send_start = number_in(place, value.get(2), 0, 65535)?;
+    let send_size = number_in(place, value.get(3), 16, 1024)?;
+    if value.get(4).is_some() {
+        return Err(Fault::BadValue(place));
+    }
+    Ok(Mailbox {
+        receive_start: receive_start as u16,
+        receive_size: receive_size as u16,
+        send_start: send_start as u16,
+        send_size: send_size as u16,
+    })
+}
+
+/// A mailbox, where there is one.
+#[tactic(auto, unfolding(crate::specs::Fields::mailbox_in))]
+pub fn mailbox_in(place: Place, value: Option<&Value>) -> Result<Option<Mailbox>, Fault>
+    ensures { result ≡ mailbox_in place (seen value.entry) }
+{
+    match value {
+        None => Ok(None),
+        Some(value) => Ok(Some(mailbox_of(place, value)?)),
+    }
+}
+
+#[tactic(auto, unfolding(crate::specs::Fields::link_bits_of))]
+fn link_bits_of(place: Place, value: &Value) -> Result<LinkBits, Fault>
+    ensures { result ≡ link_bits_of place (view value.now) }
+{
+    let variable_bit = number_in(place, value.get(0), 0, 63)?;
+    let entry_bit = number_in(place, value.get(1), 0, 63)?;
+    let count = number_in(place, value.get(2), 1, 64)?;
+    if value.get(3).is_some() {
+        return Err(Fault::BadValue(place));
+    }
+    Ok(LinkBits {
+        variable_bit: variable_bit as u8,
+        entry_bit: entry_bit as u8,
+        count: count as u8,
+    })
+}
+
+/// A link's bits, where they are written.
+#[tactic(auto, unfolding(crate::specs::Fields::link_bits_in))]
+pub fn link_bits_in(place: Place, value: Option<&Value>) -> Result<Option<LinkBits>, Fault>
+    ensures { result ≡ link_bits_in place (seen value.entry) }
+{
+    match value {
+        None => Ok(None),
+        Some(value) => Ok(Some(link_bits_of(place, value)?)),
+    }
+}
+
+/// The version of the format, 1 where it is left out.
+#[tactic(auto, unfolding(crate::specs::Fields::version_in))]
+pub fn version_in(place: Place, value: Option<&Value>) -> Result<Version, Fault>
+    ensures { result ≡ version_in place (seen value.entry) }
+{
+    let Some(value) = value else {
+        return Ok(Version::One);
+    };
+    let number = number_in(place, Some(value), 1, 2)?;
+    if number == 1 {
+        Ok(Version::One)
+    } else {
+        Ok(Version::Two)
+    }
+}
+
+/// A number up to `most`, 0 where it is left out.
+pub fn number_or_0(place: Place, value: Option<&Value>, most: u32) -> Result<u32, Fault>
+    ensures value { result ≡ number_or_0 place most (seen value.entry) }
+    ensures range { IfOk result (λ n. n ≤ most) }
+{
+    match value {
+        None => Ok(0),
+        Some(value) => number_in(place, Some(value), 0, most),
+    }
+}
+
+/// A truth value, true where it is left out.
+pub fn truth_in(place: Place, value: Option<&Value>) -> Result<bool, Fault>
+    ensures { result ≡ truth_in place (seen value.entry) }
+{
+    let Some(value) = value else {
+        return Ok(true);
+    };
+    match value.as_bool() {
+        Some(truth) => Ok(truth),
+        None => Err(Fault::BadValue(place)),
+    }
+}
+
+fn is_table_value(value: &Value) -> bool
+    ensures { result ≡ is_table (view value.now) }
+{
+    value.as_table().is_some()
+}
+
+#[tactic(auto, using(crate::proofs::Lookups::are_tables_of))]
+fn are_tables(elements: &[Value]) -> bool
+    ensures { result ≡ are_tables (items_view elements.now) }
+{
+    each_is_table(elements)
+}
+
+fn each_is_table(elements: &[Value]) -> bool
+    ensures { result ≡ list_all (λ v. is_table (view v)) elements.now }
+{
+    elements.iter().all(|value| is_table_value(value))
+}
+
+/// The elements of a section, none where it is left out.
+#[tactic(auto, unfolding(crate::specs::Fields::section_in))]
+pub fn section_in<'a>(place: Place, value: Option<&'a Value>) -> Result<&'a [Value], Fault>
+    ensures { result_items result ≡ section_in place (seen value.entry) }
+{
+    let Some(value) = value else {
+        return Ok(&[]);
+    };
+    let Some(elements) = value.as_array() else {
+        return Err(Fault::BadValue(place));
+    };
+    if are_tables(elements.as_slice()) {
+        Ok(elements.as_slice())
+    } else {
+        Err(Fault::BadValue(place))
+    }
+}

@@ -1,0 +1,29 @@
+//! What the definition of a link table's reading keeps, in the format's own words. Nothing runs here.
+
+ghost use Rattle.ec_table.specs.Laws.{AcceptedIsSound, FaultsHaveTheirPlace, AcceptedElementByElement, FirstFaultIsTold, WrittenIsRead};
+
+/// What is accepted has unique names, known references, values in range, and assigned objects of its type
+/// without a double.
+pub fn accepted_is_sound()
+    ensures { AcceptedIsSound }
+{}
+
+/// A document whose every element passes its own tests is accepted.
+pub fn accepted_element_by_element()
+    ensures { AcceptedElementByElement }
+{}
+
+/// The first element in order that fails a test is told.
+pub fn first_fault_is_told()
+    ensures { FirstFaultIsTold }
+{}
+
+/// A fault of an element carries its section and its place.
+pub fn faults_have_their_place()
+    ensures { FaultsHaveTheirPlace }
+{}
+
+/// Each sound table is what some document states: its own, with each key written out.
+pub fn written_is_read()
+    ensures { WrittenIsRead }
+{}

@@ -1,0 +1,25 @@
+//! Link tables: the types, slaves, variables and links that a TOML text states.
+#![tactic(auto)]
+
+mod fault;
+mod fields;
+pub mod laws;
+mod links;
+mod objects;
+mod pdos;
+mod read;
+mod rows;
+mod slaves;
+mod table;
+#[cfg(test)]
+mod tests;
+mod types;
+mod variables;
+
+pub use crate::fault::{Fault, Place, Section, TableError};
+pub use crate::read::read_table;
+pub use crate::rows::{
+    Device, Direction, LinkBits, LinkRow, Name, ProcessData, SlaveRow, TypeRow, VariableRow,
+    Version,
+};
+pub use crate::table::Table;

@@ -1,0 +1,48 @@
+ghost use Rattle.std.specs.Prelude.{◌≡◌, ◌==◌, ◌++◌, find, IfOk, OnOk};
+ghost use Rattle.std.specs.Option.{option_copied};
+ghost use Rattle.ec_regs.specs.declared.slave_type.Pdo.{Pdo};
+ghost use Rattle.ec_table.specs.Objects.{entries_at, assigned_entries};
+
+use ec_regs::{Entry, Listed, Pdo};
+use std::alloc::{AllocError, Global};
+
+/// The object with an index.
+fn pdo_at(pdos: &[Pdo], index: u16) -> Option<&Pdo>
+    ensures { option_copied result ≡ find (λ (q : Pdo). q.index == index) pdos.now }
+{
+    pdos.iter().find(|pdo| pdo.index == index)
+}
+
+/// The entries of the object with an index, none where there is no such object.
+fn entries_at(pdos: &[Pdo], index: u16) -> &[Entry]
+    ensures { result.now ≡ entries_at pdos.now index }
+{
+    match pdo_at(pdos, index) {
+        Some(pdo) => pdo.entries.as_slice(),
+        None => &[],
+    }
+}
+
+fn push_all(found: &mut Listed<Entry>, entries: &[Entry]) -> Result<(), AllocError>
+    ensures { OnOk result (found.new ≡ found.old ++ entries.now) }
+{
+    for entry in entries {
+        found.push(*entry)?;
+    }
+    Ok(())
+}
+
+/// The entries of objects, one after another.
+pub fn assigned_entries(
+    alloc: Global,
+    pdos: &[Pdo],
+    indices: &[u16],
+) -> Result<Listed<Entry>, AllocError>
+    ensures { IfOk result (λ es. es ≡ assigned_entries pdos.now indices.now) }
+{
+    let mut found = Listed::new(alloc);
+    for index in indices {
+        push_all(&mut found, entries_at(pdos, *index))?;
+    }
+    Ok(found)
+}

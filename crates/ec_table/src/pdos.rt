@@ -1,0 +1,237 @@
+ghost use Rattle.std.specs.Prelude.{◌≡◌, ◌==◌, [], IfOk};
+ghost use Rattle.std.specs.List.{list_any};
+ghost use Rattle.toml.specs.View.{view, table_view, items_view};
+ghost use Rattle.ec_table.specs.Fields.{seen};
+ghost use Rattle.ec_table.specs.InOrder.{Gives, rows_after};
+ghost use Rattle.ec_table.specs.Pdos.{entry_of, entry_row, array_of, array_in, pdo_of, pdo_row, pdos_in, indices_of, has_twice, number_row, number_list, numbers_in};
+
+use crate::fault::{Fault, Place, TableError};
+use crate::fields::{Shape, keys_are, member, number_in};
+use crate::rows::Version;
+use ec_regs::{Entry, Listed, Pdo};
+use std::alloc::{AllocError, Global};
+use toml::Value;
+
+#[tactic(auto, unfolding(crate::specs::Pdos::entry_of))]
+fn entry_of(place: Place, value: &Value) -> Result<Entry, Fault>
+    ensures { result ≡ entry_of place (view value.now) }
+{
+    let index = number_in(place, value.get(0), 0, 65535)?;
+    let subindex = number_in(place, value.get(1), 0, 255)?;
+    let bits = number_in(place, value.get(2), 1, 64)?;
+    if value.get(3).is_some() || (index == 0 && subindex != 0) {
+        return Err(Fault::BadValue(place));
+    }
+    Ok(Entry {
+        index: index as u16,
+        subindex: subindex as u8,
+        bits: bits as u8,
+    })
+}
+
+#[tactic(auto, using(crate::proofs::InOrder::rows_all))]
+fn entries_of(alloc: Global, place: Place, elements: &[Value]) -> Result<Listed<Entry>, TableError>
+    ensures { Gives result (rows_after (entry_row place) [] 0 (items_view elements.now)) }
+{
+    let mut found = Listed::new(alloc);
+    for value in elements {
+        let entry = entry_of(place, value)?;
+        found.push(entry)?;
+    }
+    Ok(found)
+}
+
+#[tactic(auto, unfolding(crate::specs::Pdos::array_of))]
+fn entry_array(alloc: Global, place: Place, value: &Value) -> Result<Listed<Entry>, TableError>
+    ensures { Gives result (array_of (entry_row place) place 64 (view value.now)) }
+{
+    let Some(elements) = value.as_array() else {
+        return Err(TableError::Refused(Fault::BadValue(place)));
+    };
+    let entries = entries_of(alloc, place, elements.as_slice())?;
+    if entries.len() > 64 {
+        return Err(TableError::Refused(Fault::BadValue(place)));
+    }
+    Ok(entries)
+}
+
+fn entries_in(
+    alloc: Global,
+    place: Place,
+    value: Option<&Value>,
+) -> Result<Listed<Entry>, TableError>
+    ensures { Gives result (array_in (entry_row place) place 64 (seen value.entry)) }
+{
+    match value {
+        None => Ok(Listed::new(alloc)),
+        Some(value) => entry_array(alloc, place, value),
+    }
+}
+
+#[tactic(auto, unfolding(crate::specs::Pdos::pdo_of))]
+fn pdo_of(
+    alloc: Global,
+    place: Place,
+    low: u32,
+    high: u16,
+    members: &toml::Table,
+) -> Result<Pdo, TableError>
+    ensures { Gives result (pdo_of place low high (table_view members.now)) }
+{
+    if !keys_are(Shape::Pdo, Version::One, members) {
+        return Err(TableError::Refused(Fault::BadValue(place)));
+    }
+    let index = number_in(place, member(members, "index"), low, u32::from(high))?;
+    let entries = entries_in(alloc, place, member(members, "entries"))?;
+    Ok(Pdo {
+        index: index as u16,
+        entries,
+    })
+}
+
+fn pdo_row(
+    alloc: Global,
+    place: Place,
+    low: u32,
+    high: u16,
+    value: &Value,
+) -> Result<Pdo, TableError>
+    ensures { Gives result (pdo_row place low high 0 (view value.now) []) }
+{
+    match value.as_table() {
+        Some(members) => pdo_of(alloc, place, low, high, members),
+        None => Err(TableError::Refused(Fault::BadValue(place))),
+    }
+}
+
+#[tactic(auto, using(crate::proofs::InOrder::rows_all))]
+fn pdos_of(
+    alloc: Global,
+    place: Place,
+    low: u32,
+    high: u16,
+    elements: &[Value],
+) -> Result<Listed<Pdo>, TableError>
+    ensures { Gives result (rows_after (pdo_row place low high) [] 0 (items_view elements.now)) }
+{
+    let mut found = Listed::new(alloc);
+    for value in elements {
+        let pdo = pdo_row(alloc, place, low, high, value)?;
+        found.push(pdo)?;
+    }
+    Ok(found)
+}
+
+#[tactic(auto, unfolding(crate::specs::Pdos::array_of))]
+fn pdo_array(
+    alloc: Global,
+    place: Place,
+    low: u32,
+    high: u16,
+    value: &Value,
+) -> Result<Listed<Pdo>, TableError>
+    ensures { Gives result (array_of (pdo_row place low high) place 16 (view value.now)) }
+{
+    let Some(elements) = value.as_array() else {
+        return Err(TableError::Refused(Fault::BadValue(place)));
+    };
+    let pdos = pdos_of(alloc, place, low, high, elements.as_slice())?;
+    if pdos.len() > 16 {
+        return Err(TableError::Refused(Fault::BadValue(place)));
+    }
+    Ok(pdos)
+}
+
+/// The PDOs of one direction, none where they are left out.
+pub fn pdos_in(
+    alloc: Global,
+    place: Place,
+    value: Option<&Value>,
+    low: u32,
+    high: u16,
+) -> Result<Listed<Pdo>, TableError>
+    ensures { Gives result (pdos_in place low high (seen value.entry)) }
+{
+    match value {
+        None => Ok(Listed::new(alloc)),
+        Some(value) => pdo_array(alloc, place, low, high, value),
+    }
+}
+
+#[tactic(auto, using(crate::proofs::InOrder::rows_all))]
+fn numbers_of(
+    alloc: Global,
+    place: Place,
+    low: u32,
+    high: u16,
+    elements: &[Value],
+) -> Result<Listed<u16>, TableError>
+    ensures { Gives result (rows_after (number_row place low high) [] 0 (items_view elements.now)) }
+{
+    let mut found = Listed::new(alloc);
+    for value in elements {
+        let number = number_in(place, Some(value), low, u32::from(high))?;
+        found.push(number as u16)?;
+    }
+    Ok(found)
+}
+
+#[tactic(auto, unfolding(crate::specs::Pdos::number_list))]
+fn number_list(
+    alloc: Global,
+    place: Place,
+    low: u32,
+    high: u16,
+    value: &Value,
+) -> Result<Listed<u16>, TableError>
+    ensures { Gives result (number_list place low high (view value.now)) }
+{
+    let Some(elements) = value.as_array() else {
+        return Err(TableError::Refused(Fault::BadValue(place)));
+    };
+    numbers_of(alloc, place, low, high, elements.as_slice())
+}
+
+/// The numbers of an array, if there is one.
+pub fn numbers_in(
+    alloc: Global,
+    place: Place,
+    value: Option<&Value>,
+    low: u32,
+    high: u16,
+) -> Result<Option<Listed<u16>>, TableError>
+    ensures { Gives result (numbers_in place low high (seen value.entry)) }
+{
+    match value {
+        None => Ok(None),
+        Some(value) => Ok(Some(number_list(alloc, place, low, high, value)?)),
+    }
+}
+
+/// The indices of PDOs, in order.
+pub fn indices_of(alloc: Global, pdos: &[Pdo]) -> Result<Listed<u16>, AllocError>
+    ensures { IfOk result (λ v. v ≡ indices_of pdos.now) }
+{
+    let mut indices = Listed::new(alloc);
+    for pdo in pdos {
+        indices.push(pdo.index)?;
+    }
+    Ok(indices)
+}
+
+/// Whether some number stands twice.
+pub fn has_twice(numbers: &[u16]) -> bool
+    ensures { result ≡ has_twice numbers.now }
+{
+    match numbers {
+        [] => false,
+        [first, rest @ ..] => is_in(*first, rest) || has_twice(rest),
+    }
+}
+
+/// Whether a number is among others.
+pub fn is_in(number: u16, known: &[u16]) -> bool
+    ensures { result ≡ list_any (λ y. y == number) known.now }
+{
+    known.iter().any(|other| *other == number)
+}

@@ -1,0 +1,54 @@
+ghost use Rattle.toml.specs.View.{table_view};
+ghost use Rattle.ec_table.specs.InOrder.{Gives};
+ghost use Rattle.ec_table.specs.Reading.{table_of_document, table_of};
+
+use crate::fault::{Fault, Place, Section, TableError};
+use crate::fields::{Shape, keys_are, member, section_in, version_in};
+use crate::links::links_of;
+use crate::slaves::slaves_of;
+use crate::table::Table;
+use crate::types::types_of;
+use crate::variables::variables_of;
+use std::alloc::Global;
+
+/// The table that a document states.
+#[tactic(auto, unfolding(crate::specs::Reading::table_of_document))]
+fn table_of_document(alloc: Global, document: &toml::Table) -> Result<Table, TableError>
+    ensures { Gives result (table_of_document (table_view document.now)) }
+{
+    let top = Place {
+        section: Section::Top,
+        element: 0,
+    };
+    let version = version_in(top, member(document, "version"))?;
+    if !keys_are(Shape::Document, version, document) {
+        return Err(TableError::Refused(Fault::BadKey(top)));
+    }
+    let types = section_in(top, member(document, "type"))?;
+    let slaves = section_in(top, member(document, "slave"))?;
+    let variables = section_in(top, member(document, "variable"))?;
+    let links = section_in(top, member(document, "link"))?;
+    let types = types_of(alloc, version, types)?;
+    let slaves = slaves_of(alloc, version, types.as_slice(), slaves)?;
+    let variables = variables_of(alloc, version, variables)?;
+    let links = links_of(
+        alloc,
+        version,
+        slaves.as_slice(),
+        variables.as_slice(),
+        links,
+    )?;
+    Ok(Table::new(version, types, slaves, variables, links))
+}
+
+/// The table that a text states, or the first fault of the text.
+#[tactic(auto, unfolding(crate::specs::Reading::table_of))]
+pub fn read_table(alloc: Global, text: &str) -> Result<Table, TableError>
+    ensures { Gives result (table_of text.now) }
+{
+    match toml::table_from_str(alloc, text) {
+        Ok(document) => table_of_document(alloc, &document),
+        Err(error) if error.is_memory() => Err(TableError::Memory),
+        Err(_) => Err(TableError::Refused(Fault::Toml)),
+    }
+}

@@ -1,0 +1,155 @@
+ghost use Rattle.std.specs.Prelude.{◌≡◌, IfOk, string_bytes};
+ghost use Rattle.ec_table.specs.Contents.{pdos_toward, assigned_toward};
+
+use ec_regs::{Identity, Listed, Mailbox, Pdo};
+use std::alloc::{AllocError, Global};
+use std::marker::Model;
+
+/// A name: in a table that was read 1 to 32 ASCII letters, digits and `_`.
+#[derive(Debug, Drop)]
+pub struct Name {
+    text: String,
+}
+
+impl Model for Name {
+    ghost use Rattle.std.specs.Prelude.{List, ℕ, string_bytes};
+
+    ghost Value = { List ℕ };
+
+    ghost view = { λ a. string_bytes a.text };
+}
+
+impl Name {
+    /// A copy of a text as a name; the caller has tested it.
+    pub(crate) fn new(alloc: Global, text: &str) -> Result<Name, AllocError>
+        ensures { IfOk result (λ n. n ≡ text.now) }
+    {
+        Ok(Name {
+            text: String::from_str(alloc, text)?,
+        })
+    }
+
+    pub fn as_str(&self) -> &str
+        ensures { result.now ≡ self.now }
+    {
+        self.text.as_str()
+    }
+}
+
+/// The version of a link table's format.
+#[derive(Clone, Copy, Debug, PartialEq, Eq)]
+pub enum Version {
+    /// One sync unit for all slaves.
+    One,
+    /// A sync unit for each slave, by its key `unit`.
+    Two,
+}
+
+/// Which way data go: `Out` from the master to a slave, `In` from a slave to the master.
+#[derive(Clone, Copy, Debug, PartialEq, Eq)]
+pub enum Direction {
+    Out,
+    In,
+}
+
+/// What tells the devices of one type from those of another (ETG.1000.6, object 0x1018).
+#[derive(Clone, Copy, Debug, PartialEq, Eq)]
+pub struct Device {
+    pub vendor: u32,
+    pub product: u32,
+    pub revision: u32,
+}
+
+/// A type's process data: where they begin in a slave's memory, in bytes, and their objects.
+#[derive(Debug, Drop)]
+pub struct ProcessData {
+    pub out_start: u16,
+    pub in_start: u16,
+    /// The objects that the master writes (RxPDOs).
+    pub outputs: Listed<Pdo>,
+    /// The objects that the master reads (TxPDOs).
+    pub inputs: Listed<Pdo>,
+}
+
+/// A row of the section `type`: a type of slaves.
+#[derive(Debug, Drop)]
+pub struct TypeRow {
+    pub name: Name,
+    pub device: Device,
+    pub mailbox: Option<Mailbox>,
+    pub process: ProcessData,
+    /// Whether slaves of the type take part in LRW datagrams.
+    pub lrw: bool,
+}
+
+impl TypeRow {
+    /// The process data objects of one direction, in order.
+    pub fn pdos(&self, direction: Direction) -> &[Pdo]
+        ensures { result.now ≡ pdos_toward direction self.now }
+    {
+        match direction {
+            Direction::Out => self.process.outputs.as_slice(),
+            Direction::In => self.process.inputs.as_slice(),
+        }
+    }
+}
+
+/// A row of the section `slave`: a slave, of the type at place `type_place`.
+#[derive(Debug, Drop)]
+pub struct SlaveRow {
+    pub name: Name,
+    /// The place of its type in the section `type`, counted from 0.
+    pub type_place: usize,
+    /// The indices of the output objects that it assigns, in order.
+    pub outputs: Listed<u16>,
+    /// The indices of the input objects that it assigns, in order.
+    pub inputs: Listed<u16>,
+    pub serial: u32,
+    /// Its sync unit, 0 to 63; 0 in version 1.
+    pub unit: u8,
+}
+
+impl SlaveRow {
+    /// The indices of the objects that it assigns in one direction, in order.
+    pub fn assigned(&self, direction: Direction) -> &[u16]
+        ensures { result.now ≡ assigned_toward direction self.now }
+    {
+        match direction {
+            Direction::Out => self.outputs.as_slice(),
+            Direction::In => self.inputs.as_slice(),
+        }
+    }
+}
+
+/// A row of the section `variable`: a variable of the process image.
+#[derive(Debug, Drop)]
+pub struct VariableRow {
+    pub name: Name,
+    pub direction: Direction,
+    /// How many bits it has, 1 to 64.
+    pub bits: u8,
+}
+
+/// Which bits a link joins: `count` bits, from one of the variable and one of the entry on.
+#[derive(Clone, Copy, Debug, PartialEq, Eq)]
+pub struct LinkBits {
+    /// The first bit of the variable, 0 to 63.
+    pub variable_bit: u8,
+    /// The first bit of the entry, 0 to 63.
+    pub entry_bit: u8,
+    /// How many bits, 1 to 64.
+    pub count: u8,
+}
+
+/// A row of the section `link`: bits of a variable and of an entry of a slave.
+#[derive(Clone, Copy, Debug, PartialEq, Eq)]
+pub struct LinkRow {
+    /// The place of the variable in its section, counted from 0.
+    pub variable: usize,
+    /// The place of the slave in its section, counted from 0.
+    pub slave: usize,
+    /// The index of the entry's object, 1 to 65535.
+    pub index: u16,
+    pub subindex: u8,
+    pub bits: LinkBits,
+}

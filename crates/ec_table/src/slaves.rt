@@ -1,0 +1,162 @@
+ghost use Rattle.std.specs.Prelude.{◌≡◌, ◌||◌, [], IfOk, unwrap_or};
+ghost use Rattle.toml.specs.View.{view, table_view, items_view};
+ghost use Rattle.ec_table.specs.Pdos.{has_twice, indices_of};
+ghost use Rattle.ec_table.specs.InOrder.{Gives, rows_after};
+ghost use Rattle.ec_table.specs.Reading.{is_slave_name, type_named, all_in, assigned_in, slave_at, slave_element};
+
+use crate::fault::{Fault, Place, Section, TableError};
+use crate::fields::{Shape, keys_are, member, name_in, number_or_0};
+use crate::pdos::{has_twice, indices_of, is_in, numbers_in};
+use crate::rows::{Name, SlaveRow, TypeRow, Version};
+use ec_regs::{Listed, Pdo};
+use std::alloc::{AllocError, Global};
+use toml::Value;
+
+/// Whether some slave has the name.
+fn is_slave_name(name: &str, found: &[SlaveRow]) -> bool
+    ensures { result ≡ is_slave_name name.now found.now }
+{
+    found.iter().any(|row| row.name.as_str() == name)
+}
+
+/// The place of the first type with a name.
+fn type_named(name: &str, types: &[TypeRow]) -> Option<usize>
+    ensures { result ≡ type_named name.now types.now }
+{
+    types.iter().position(|row| row.name.as_str() == name)
+}
+
+fn all_in(numbers: &[u16], known: &[u16]) -> bool
+    ensures { result ≡ all_in numbers.now known.now }
+{
+    numbers.iter().all(|number| is_in(*number, known))
+}
+
+/// Whether some number stands twice in a list, if there is one.
+fn twice_in(numbers: &Option<Listed<u16>>) -> bool
+    ensures { result ≡ has_twice (unwrap_or numbers.now []) }
+{
+    match numbers {
+        None => false,
+        Some(numbers) => has_twice(numbers.as_slice()),
+    }
+}
+
+/// The objects that are written, else all of the type's in order.
+fn written_or_all(
+    alloc: Global,
+    written: Option<Listed<u16>>,
+    pdos: &[Pdo],
+) -> Result<Listed<u16>, AllocError>
+    ensures { IfOk result (λ v. v ≡ unwrap_or written (indices_of pdos.now)) }
+{
+    match written {
+        Some(numbers) => Ok(numbers),
+        None => indices_of(alloc, pdos),
+    }
+}
+
+/// A slave whose assigned objects are its type's, and all of them in order where it has no mailbox.
+#[tactic(auto, unfolding(crate::specs::Reading::assigned_in))]
+fn assigned_in(
+    alloc: Global,
+    place: Place,
+    slave_type: &TypeRow,
+    row: SlaveRow,
+) -> Result<SlaveRow, TableError>
+    ensures { Gives result (assigned_in place slave_type.now row) }
+{
+    let all_outputs = indices_of(alloc, slave_type.process.outputs.as_slice())?;
+    let all_inputs = indices_of(alloc, slave_type.process.inputs.as_slice())?;
+    if !all_in(row.outputs.as_slice(), all_outputs.as_slice())
+        || !all_in(row.inputs.as_slice(), all_inputs.as_slice())
+    {
+        return Err(TableError::Refused(Fault::UnknownName(place)));
+    }
+    if slave_type.mailbox.is_none()
+        && !(row.outputs.as_slice() == all_outputs.as_slice()
+            && row.inputs.as_slice() == all_inputs.as_slice())
+    {
+        return Err(TableError::Refused(Fault::BadValue(place)));
+    }
+    Ok(row)
+}
+
+/// The slave that an element states, after those found.
+#[tactic(auto, unfolding(crate::specs::Reading::slave_at))]
+fn slave_at(
+    alloc: Global,
+    version: Version,
+    types: &[TypeRow],
+    place: Place,
+    members: &toml::Table,
+    found: &[SlaveRow],
+) -> Result<SlaveRow, TableError>
+    ensures { Gives result (slave_at version types.now place (table_view members.now) found.now) }
+{
+    if !keys_are(Shape::Slave, version, members) {
+        return Err(TableError::Refused(Fault::BadKey(place)));
+    }
+    let name = name_in(place, member(members, "name"))?;
+    let type_name = name_in(place, member(members, "type"))?;
+    let outputs = numbers_in(alloc, place, member(members, "out"), 0x1600, 0x17FF)?;
+    let inputs = numbers_in(alloc, place, member(members, "in"), 0x1A00, 0x1BFF)?;
+    let serial = number_or_0(place, member(members, "serial"), u32::MAX)?;
+    let unit = number_or_0(place, member(members, "unit"), 63)?;
+    if is_slave_name(name, found) || (twice_in(&outputs) || twice_in(&inputs)) {
+        return Err(TableError::Refused(Fault::TwiceNamed(place)));
+    }
+    let Some(at) = type_named(type_name, types) else {
+        return Err(TableError::Refused(Fault::UnknownName(place)));
+    };
+    let Some(slave_type) = types.get(at) else {
+        return Err(TableError::Refused(Fault::UnknownName(place)));
+    };
+    let row = SlaveRow {
+        name: Name::new(alloc, name)?,
+        type_place: at,
+        outputs: written_or_all(alloc, outputs, slave_type.process.outputs.as_slice())?,
+        inputs: written_or_all(alloc, inputs, slave_type.process.inputs.as_slice())?,
+        serial,
+        unit: unit as u8,
+    };
+    assigned_in(alloc, place, slave_type, row)
+}
+
+fn slave_element(
+    alloc: Global,
+    version: Version,
+    types: &[TypeRow],
+    element: usize,
+    value: &Value,
+    found: &[SlaveRow],
+) -> Result<SlaveRow, TableError>
+    ensures { Gives result (slave_element version types.now element (view value.now) found.now) }
+{
+    let place = Place {
+        section: Section::Slave,
+        element,
+    };
+    match value.as_table() {
+        Some(members) => slave_at(alloc, version, types, place, members, found),
+        None => Err(TableError::Refused(Fault::BadValue(place))),
+    }
+}
+
+/// The slaves of the section, in order.
+#[tactic(auto, using(crate::proofs::InOrder::rows_all))]
+pub fn slaves_of(
+    alloc: Global,
+    version: Version,
+    types: &[TypeRow],
+    elements: &[Value],
+) -> Result<Listed<SlaveRow>, TableError>
+    ensures { Gives result (rows_after (slave_element version types.now) [] 0 (items_view elements.now)) }
+{
+    let mut found = Listed::new(alloc);
+    for (element, value) in elements.iter().enumerate() {
+        let row = slave_element(alloc, version, types, element, value, found.as_slice())?;
+        found.push(row)?;
+    }
+    Ok(found)
+}

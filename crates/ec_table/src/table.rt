@@ -1,0 +1,183 @@
+ghost use Rattle.std.specs.Prelude.{◌≡◌, ◌<◌, ◌≤◌, length, All, Some, IfOk, slice_get};
+ghost use Rattle.ec_table.specs.Sound.{IsSound, IsType, AreTypes, AreSlaves, IsVariable, AreVariables, IsLink, IsEntry};
+ghost use Rattle.ec_table.specs.Objects.{type_of, variable_of, slave_of, identity_of, entries_of, bits_of};
+
+use crate::objects::assigned_entries;
+use crate::rows::{Direction, LinkRow, SlaveRow, TypeRow, VariableRow, Version};
+use ec_regs::{Entry, Identity, Listed};
+use std::alloc::{AllocError, Global};
+use std::marker::Model;
+
+/// What a text states: a version, and the rows of each section in file order.
+///
+/// Each table is sound: names stand once in their section, what refers to a row refers to one that there is,
+/// assigned objects are the type's, each once, and all values are in their ranges.
+#[derive(Debug, Drop)]
+pub struct Table {
+    version: Version,
+    types: Listed<TypeRow>,
+    slaves: Listed<SlaveRow>,
+    variables: Listed<VariableRow>,
+    links: Listed<LinkRow>,
+}
+
+impl Model for Table {
+    ghost use Rattle.ec_table.specs.Contents.{Contents};
+    ghost use Rattle.ec_table.specs.Sound.{IsSound};
+
+    ghost Value = { Contents };
+
+    ghost view = { λ t. record {
+      version = t.version;
+      types = t.types;
+      slaves = t.slaves;
+      variables = t.variables;
+      links = t.links;
+    } };
+
+    ghost invariant = { λ t. IsSound (record {
+      version = t.version;
+      types = t.types;
+      slaves = t.slaves;
+      variables = t.variables;
+      links = t.links;
+    }) };
+}
+
+impl Table {
+    /// A table of rows that were read.
+    pub(crate) fn new(
+        version: Version,
+        types: Listed<TypeRow>,
+        slaves: Listed<SlaveRow>,
+        variables: Listed<VariableRow>,
+        links: Listed<LinkRow>,
+    ) -> Table
+        requires { IsSound (record {
+          version = version;
+          types = types;
+          slaves = slaves;
+          variables = variables;
+          links = links;
+        }) }
+        ensures { result ≡ record {
+          version = version;
+          types = types;
+          slaves = slaves;
+          variables = variables;
+          links = links;
+        } }
+    {
+        Table {
+            version,
+            types,
+            slaves,
+            variables,
+            links,
+        }
+    }
+
+    /// The version of the format.
+    pub fn version(&self) -> Version
+        ensures value { result ≡ self.now.version }
+        ensures sound { IsSound self.now }
+    {
+        self.version
+    }
+
+    /// The types.
+    pub fn types(&self) -> &[TypeRow]
+        ensures value { result.now ≡ self.now.types }
+        ensures sound { AreTypes self.now.types }
+    {
+        self.types.as_slice()
+    }
+
+    /// The slaves.
+    pub fn slaves(&self) -> &[SlaveRow]
+        ensures value { result.now ≡ self.now.slaves }
+        ensures sound { AreSlaves self.now.version self.now.types self.now.slaves }
+    {
+        self.slaves.as_slice()
+    }
+
+    /// The variables.
+    pub fn variables(&self) -> &[VariableRow]
+        ensures value { result.now ≡ self.now.variables }
+        ensures sound { AreVariables self.now.variables }
+    {
+        self.variables.as_slice()
+    }
+
+    /// The links.
+    pub fn links(&self) -> &[LinkRow]
+        ensures value { result.now ≡ self.now.links }
+        ensures sound { All (IsLink self.now.slaves self.now.variables) self.now.links }
+    {
+        self.links.as_slice()
+    }
+
+    /// The type of the slave at a place.
+    pub fn type_of(&self, slave: usize) -> &TypeRow
+        requires { slave < length self.now.slaves }
+        ensures value { type_of self.now slave ≡ Some result.now }
+        ensures sound { IsType result.now }
+    {
+        let row = &self.slaves.as_slice()[slave];
+        &self.types.as_slice()[row.type_place]
+    }
+
+    /// The variable of the link at a place.
+    pub fn variable_of(&self, link: usize) -> &VariableRow
+        requires { link < length self.now.links }
+        ensures value { variable_of self.now link ≡ Some result.now }
+        ensures sound { IsVariable result.now }
+    {
+        let row = &self.links.as_slice()[link];
+        &self.variables.as_slice()[row.variable]
+    }
+
+    /// The slave of the link at a place.
+    pub fn slave_of(&self, link: usize) -> &SlaveRow
+        requires { link < length self.now.links }
+        ensures { slave_of self.now link ≡ Some result.now }
+    {
+        let row = &self.links.as_slice()[link];
+        &self.slaves.as_slice()[row.slave]
+    }
+
+    /// What the slave at a place shows as its identity: its type's device, and its own serial number.
+    pub fn identity_of(&self, slave: usize) -> Identity
+        requires { slave < length self.now.slaves }
+        ensures { (t : TypeRow) → (s : SlaveRow) → type_of self.now slave ≡ Some t
+            → slice_get self.now.slaves slave ≡ Some s → result ≡ identity_of t s }
+    {
+        let row = &self.slaves.as_slice()[slave];
+        let device = self.types.as_slice()[row.type_place].device;
+        Identity {
+            vendor: device.vendor,
+            product: device.product,
+            revision: device.revision,
+            serial: row.serial,
+        }
+    }
+
+    /// The entries of the objects that the slave at a place assigns in one direction, one after another;
+    /// at most 1024, of at most 65536 bits.
+    pub fn entries_of(
+        &self,
+        alloc: Global,
+        slave: usize,
+        direction: Direction,
+    ) -> Result<Listed<Entry>, AllocError>
+        requires { slave < length self.now.slaves }
+        ensures value { IfOk result (λ es. es ≡ entries_of self.now slave direction) }
+        ensures each { All IsEntry (entries_of self.now slave direction) }
+        ensures few { length (entries_of self.now slave direction) ≤ 1024 }
+        ensures bits { bits_of (entries_of self.now slave direction) ≤ 65536 }
+    {
+        let slave_type = self.type_of(slave);
+        let row = &self.slaves()[slave];
+        assigned_entries(alloc, slave_type.pdos(direction), row.assigned(direction))
+    }
+}

@@ -1,0 +1,137 @@
+ghost use Rattle.std.specs.Prelude.{◌≡◌, ◌||◌, [], IfOk};
+ghost use Rattle.toml.specs.View.{view, table_view, items_view};
+ghost use Rattle.ec_table.specs.InOrder.{Gives, rows_after};
+ghost use Rattle.ec_table.specs.Pdos.{has_twice, indices_of};
+ghost use Rattle.ec_table.specs.Reading.{is_type_name, device_in, process_in, process_twice, type_at, type_element};
+
+use crate::fault::{Fault, Place, Section, TableError};
+use crate::fields::{Shape, keys_are, mailbox_in, member, name_in, number_in, truth_in};
+use crate::pdos::{has_twice, indices_of, pdos_in};
+use crate::rows::{Device, Name, ProcessData, TypeRow, Version};
+use ec_regs::{Listed, Pdo};
+use std::alloc::{AllocError, Global};
+use toml::Value;
+
+/// Whether some type has the name.
+fn is_type_name(name: &str, found: &[TypeRow]) -> bool
+    ensures { result ≡ is_type_name name.now found.now }
+{
+    found.iter().any(|row| row.name.as_str() == name)
+}
+
+/// Vendor, product and revision.
+#[tactic(auto, unfolding(crate::specs::Reading::device_in))]
+fn device_in(place: Place, members: &toml::Table) -> Result<Device, Fault>
+    ensures { result ≡ device_in place (table_view members.now) }
+{
+    let vendor = number_in(place, member(members, "vendor"), 0, u32::MAX)?;
+    let product = number_in(place, member(members, "product"), 0, u32::MAX)?;
+    let revision = number_in(place, member(members, "revision"), 0, u32::MAX)?;
+    Ok(Device {
+        vendor,
+        product,
+        revision,
+    })
+}
+
+/// Where the process data begin, and their objects.
+#[tactic(auto, unfolding(crate::specs::Reading::process_in))]
+fn process_in(alloc: Global, place: Place, members: &toml::Table) -> Result<ProcessData, TableError>
+    ensures { Gives result (process_in place (table_view members.now)) }
+{
+    let out_start = number_in(place, member(members, "out_start"), 0, 65535)?;
+    let in_start = number_in(place, member(members, "in_start"), 0, 65535)?;
+    let outputs = pdos_in(alloc, place, member(members, "rxpdo"), 0x1600, 0x17FF)?;
+    let inputs = pdos_in(alloc, place, member(members, "txpdo"), 0x1A00, 0x1BFF)?;
+    Ok(ProcessData {
+        out_start: out_start as u16,
+        in_start: in_start as u16,
+        outputs,
+        inputs,
+    })
+}
+
+/// Whether some object's index stands twice.
+fn twice_among(alloc: Global, pdos: &[Pdo]) -> Result<bool, AllocError>
+    ensures { IfOk result (λ b. b ≡ has_twice (indices_of pdos.now)) }
+{
+    let indices = indices_of(alloc, pdos)?;
+    Ok(has_twice(indices.as_slice()))
+}
+
+/// Whether some object stands twice in its direction.
+fn process_twice(alloc: Global, process: &ProcessData) -> Result<bool, AllocError>
+    ensures { IfOk result (λ b. b ≡ process_twice process.now) }
+{
+    let outputs = twice_among(alloc, process.outputs.as_slice())?;
+    let inputs = twice_among(alloc, process.inputs.as_slice())?;
+    Ok(outputs || inputs)
+}
+
+/// The type that an element states, after those found.
+#[tactic(auto, unfolding(crate::specs::Reading::type_at))]
+fn type_at(
+    alloc: Global,
+    version: Version,
+    place: Place,
+    members: &toml::Table,
+    found: &[TypeRow],
+) -> Result<TypeRow, TableError>
+    ensures { Gives result (type_at version place (table_view members.now) found.now) }
+{
+    if !keys_are(Shape::Type, version, members) {
+        return Err(TableError::Refused(Fault::BadKey(place)));
+    }
+    let name = name_in(place, member(members, "name"))?;
+    let device = device_in(place, members)?;
+    let mailbox = mailbox_in(place, member(members, "mailbox"))?;
+    let process = process_in(alloc, place, members)?;
+    let lrw = truth_in(place, member(members, "lrw"))?;
+    let object_twice = process_twice(alloc, &process)?;
+    if is_type_name(name, found) || object_twice {
+        return Err(TableError::Refused(Fault::TwiceNamed(place)));
+    }
+    Ok(TypeRow {
+        name: Name::new(alloc, name)?,
+        device,
+        mailbox,
+        process,
+        lrw,
+    })
+}
+
+fn type_element(
+    alloc: Global,
+    version: Version,
+    element: usize,
+    value: &Value,
+    found: &[TypeRow],
+) -> Result<TypeRow, TableError>
+    ensures { Gives result (type_element version element (view value.now) found.now) }
+{
+    let place = Place {
+        section: Section::Type,
+        element,
+    };
+    match value.as_table() {
+        Some(members) => type_at(alloc, version, place, members, found),
+        None => Err(TableError::Refused(Fault::BadValue(place))),
+    }
+}
+
+/// The types of the section, in order.
+#[tactic(auto, using(crate::proofs::InOrder::rows_all))]
+pub fn types_of(
+    alloc: Global,
+    version: Version,
+    elements: &[Value],
+) -> Result<Listed<TypeRow>, TableError>
+    ensures { Gives result (rows_after (type_element version) [] 0 (items_view elements.now)) }
+{
+    let mut found = Listed::new(alloc);
+    for (element, value) in elements.iter().enumerate() {
+        let row = type_element(alloc, version, element, value, found.as_slice())?;
+        found.push(row)?;
+    }
+    Ok(found)
+}
