@@ -1,15 +1,11 @@
 -- What is printed stays printed when a writer hands it on, and how a run of `ecat pass` ends.
-use Rattle.std.proofs.Common.{◌≡◌, ◌<◌, ℕ, List, [], ◌∷◌, ◌++◌, Option, None, Some, Result, Ok, Err, refl, sym, subst, inl, inr, arith, slice_index_or}
+use Rattle.std.proofs.Common.{ℕ, List, [], ◌∷◌, ◌++◌, Option, None, Some, refl, arith}
 use Rattle.std.specs.Io.KnownBytes.{Appends, Keeps}
 use Rattle.std.specs.Prelude.{Contains}
-use Rattle.clap.specs.declared.error.Error.{Error}
 use Rattle.ec_app.specs.declared.refusal.Refusal.{Refusal}
 use Rattle.ec_app.specs.declared.refusal.Refusal.TheVariants.{Memory, Short, BadType, BadLength, BadMore, BadCommand, TooLong, BadHex, Output, Input}
-use Rattle.ec_app.specs.declared.run.Failure.{Failure}
-use Rattle.ec_app.specs.declared.run.Failure.TheVariants.{Words, Refused}
 use Rattle.ec_app.specs.Refusals.{status_of}
-use Rattle.ec_app.specs.Passing.{PrintsAnswer, RefusesPass}
-use Rattle.ec_app.specs.Running.{RunsPass}
+use Rattle.ec_app.specs.Passing.{PrintsAnswer}
 
 pub appends_kept : (old mid new : Option (List ℕ)) (bytes : List ℕ) → Appends old mid bytes → Keeps mid new → Appends old new bytes
 appends_kept None mid new bytes a k = tt

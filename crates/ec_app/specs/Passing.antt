@@ -1,9 +1,8 @@
 -- What `ecat pass` answers (this project's profile).
-use Rattle.std.specs.Prelude.{◌≡◌, ℕ, ◌<◌, ◌≤◌, ◌⊎◌, List, [], ◌∷◌, ◌++◌, length, replicate, Option, Ok, Err}
+use Rattle.std.specs.Prelude.{◌≡◌, ℕ, ◌<◌, ◌≤◌, ◌⊎◌, List, [], ◌∷◌, ◌++◌, length, replicate, Option, Result, Ok, Err}
 use Rattle.std.specs.Io.KnownBytes.{Appends}
 use Rattle.hex.specs.Hex.{decode_of, encode_lower}
 use Rattle.hex.specs.declared.error.FromHexError.{FromHexError}
-use Rattle.ec_regs.specs.declared.slave_type.Identity.{Identity}
 use Rattle.ec_regs.specs.Types.{plain_kind}
 use Rattle.ec_frame.specs.Frame.{Payload, IsFrame, with_datagrams}
 use Rattle.ec_frame.specs.Refusals.{IsRefused}
@@ -11,7 +10,7 @@ use Rattle.ec_frame.specs.declared.error.FrameError.{FrameError}
 use Rattle.ec_frame.specs.declared.error.FrameError.TheVariants as frame
 use Rattle.ec_slave.specs.State.{SlaveState, power_on}
 use Rattle.ec_ring.specs.Rings.{rings}
-use Rattle.ec_app.specs.Refusals.{refusal_of, status_of}
+use Rattle.ec_app.specs.Refusals.{status_of}
 use Rattle.ec_app.specs.declared.refusal.Refusal.{Refusal}
 use Rattle.ec_app.specs.declared.refusal.Refusal.TheVariants.{Memory, Short, BadType, BadLength, BadMore, BadCommand, TooLong, BadHex, Output, Input}
 
@@ -75,6 +74,11 @@ PrintsAnswer slaves text old new = (answer : List ℕ) × IsAnswer slaves text a
 -- the writer took no more, or the text is refused and what the writer holds stays
 abbrev pub RefusesPass : List ℕ → Refusal → Option (List ℕ) → Option (List ℕ) → Type 0
 RefusesPass text refusal old new = (refusal ≡ Output) ⊎ (IsPassRefusal text refusal × (new ≡ old))
+
+-- what comes of printing it
+abbrev pub GivesPass : ℕ → List ℕ → Option (List ℕ) → Option (List ℕ) → Result Unit Refusal → Type 0
+GivesPass slaves text old new (Ok done) = PrintsAnswer slaves text old new
+GivesPass slaves text old new (Err refusal) = RefusesPass text refusal old new
 
 -- how `ecat pass` ends: with status 0 and the answer printed, or with the status of its refusal
 abbrev pub EndsPass : ℕ → List ℕ → ℕ → Option (List ℕ) → Option (List ℕ) → Type 0

@@ -3,7 +3,7 @@ use Rattle.std.specs.Prelude.{ℕ}
 use Rattle.ec_frame.specs.declared.error.FrameError.{FrameError}
 use Rattle.ec_frame.specs.declared.error.FrameError.TheVariants as frame
 use Rattle.ec_app.specs.declared.refusal.Refusal.{Refusal}
-use Rattle.ec_app.specs.declared.refusal.Refusal.TheVariants.{Memory, Short, BadType, BadLength, BadMore, BadCommand, TooLong, BadHex, Output, Input}
+use Rattle.ec_app.specs.declared.refusal.Refusal.TheVariants.{Short, BadType, BadLength, BadMore, BadCommand, TooLong, Output, Input}
 
 -- a fault of a payload, by the same name
 abbrev pub refusal_of : FrameError → Refusal

@@ -49,9 +49,9 @@ fn read_payload(alloc: Global, text: &str) -> Result<Vec<u8>, Refusal>
     Ok(payload)
 }
 
-/// The frame that the text spells in hex digits of either case, as it comes back from a ring of that
-/// many slaves at power-on without objects, in lower-case hex. Refused are, in this order, a text that
-/// is no hex, more than 1472 bytes, and what `ec_frame::check` refuses.
+/// The frame that the text spells in hex digits of either case, as it comes back from a ring of
+/// that many slaves at power-on without objects, in lower-case hex. Refused are, in this order, a
+/// text that isn't hex, more than 1472 bytes, and what `ec_frame::check` refuses.
 pub fn pass_hex(alloc: Global, slaves: usize, text: &str) -> Result<String, Refusal>
     ensures answer { IfOk result (λ answer. IsAnswer slaves text.now (string_bytes answer)) }
     ensures refused { IfErr result (IsPassRefusal text.now) }

@@ -4,7 +4,8 @@ use ec_frame::FrameError;
 use std::alloc::{AllocError, AllocFailed};
 use thiserror::Error;
 
-/// Why a command was refused. It prints as its number and its name, and its values after them.
+/// Why a command was refused. It prints as its number and its name, and its values after them in
+/// decimal, with blanks between.
 #[derive(Clone, Copy, Debug, PartialEq, Eq, Drop, Error)]
 pub enum Refusal {
     /// Memory was refused.
@@ -42,7 +43,7 @@ pub enum Refusal {
 impl Refusal {
     ghost use Rattle.ec_app.specs.Refusals.{status_of};
 
-    /// The exit status that the refusal ends the program with: 4 for a fault of input or output, else 3.
+    /// The exit status that the program ends with: 4 for a fault of input or output, else 3.
     pub fn status(&self) -> u8
         ensures { result ≡ status_of self.now }
     {

@@ -1,10 +1,10 @@
 //! All commands, by their words.
-ghost use Rattle.std.specs.Prelude.{◌≡◌, ℕ, List, [], ◌∷◌, map, Contains, Err, IsErrOf, MatchResult};
+ghost use Rattle.std.specs.Prelude.{◌≡◌, ℕ, List, [], ◌∷◌, map, Contains, Err, IsErrOf};
 ghost use Rattle.std.specs.Io.KnownBytes.{Keeps};
 ghost use Rattle.clap.specs.Values.{kind_of};
 ghost use Rattle.clap.specs.declared.error.Error.{Error};
 ghost use Rattle.ec_words.specs.CommandLine.{ArePassWords, IsPass};
-ghost use Rattle.ec_app.specs.Passing.{EndsPass, PrintsAnswer, RefusesPass};
+ghost use Rattle.ec_app.specs.Passing.{EndsPass, GivesPass};
 ghost use Rattle.ec_app.specs.Running.{RunsPass};
 
 use crate::Refusal;
@@ -30,16 +30,6 @@ enum Failure {
     Refused(Refusal),
 }
 
-impl From<Refusal> for Failure {
-    ghost use Rattle.ec_app.specs.declared.run.Failure.TheVariants.{Refused};
-
-    ghost from_gives = { λ refusal failure. failure ≡ Refused refusal };
-
-    fn from(refusal: Refusal) -> Failure {
-        Failure::Refused(refusal)
-    }
-}
-
 /// Runs one command.
 fn run_asked<H: AllocGlobal + Net, R: Read, W: Write>(
     rt: &H,
@@ -49,8 +39,7 @@ fn run_asked<H: AllocGlobal + Net, R: Read, W: Write>(
     _app: &mut dyn App,
 ) -> Result<(), Refusal>
     ensures pass { (slaves : ℕ) (frame : List ℕ) → IsPass slaves frame asked.entry
-        → MatchResult result (λ _. PrintsAnswer slaves frame (W.contents output.old) (W.contents output.new))
-            (λ refusal. RefusesPass frame refusal (W.contents output.old) (W.contents output.new)) }
+        → GivesPass slaves frame (W.contents output.old) (W.contents output.new) result }
 {
     match asked {
         Asked::Pass { slaves, frame } => print_pass(rt.alloc(), slaves.into(), frame, output),
@@ -117,10 +106,12 @@ fn run_words<H: AllocGlobal + Net, S: AsStr, R: Read, W: Write>(
     }
 }
 
-/// Runs the command that the words ask for, the first word being the program's name, and answers the
-/// exit status: 0 done, also where help was asked for and is on the output; 2 a fault of the words;
-/// 3 refused; 4 a fault of input or output. What failed is told on `faults`, and a fault in writing
-/// it changes nothing.
+/// Runs the command that the words ask for, the first of which is the program's name, and answers
+/// the exit status: 0 done, also where help was asked for and is on the output; 2 a fault of the
+/// words; 3 refused; 4 a fault of input or output. What failed is told on `faults`, and a fault in
+/// writing it changes nothing.
+///
+/// Simulated slaves take their inputs from `app`, and a command that reads a text reads `input`.
 pub fn run_command<H: AllocGlobal + Net, S: AsStr, R: Read, W: Write, F: Write>(
     rt: &H,
     words: &[S],

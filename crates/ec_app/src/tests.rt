@@ -81,7 +81,13 @@ fn prints_the_frame_as_it_comes_back(rt: HostRuntime) -> Result<(), Fail> {
             "0e100d01020000100200000000000300\n",
         ),
     ] {
-        expect_run(&rt, &["ecat", "pass", "--slaves", slaves, hex], 0, printed, "")?;
+        expect_run(
+            &rt,
+            &["ecat", "pass", "--slaves", slaves, hex],
+            0,
+            printed,
+            "",
+        )?;
     }
     Ok(())
 }
@@ -130,15 +136,29 @@ fn expect_usage<H: AllocGlobal + Net + Abort>(rt: &H, words: &[&str], status: u8
     let mut input: &[u8] = b"";
     let answer = run_command(rt, words, &mut input, &mut output, &mut faults, &mut Idle);
     assert_eq!(rt; answer, status, "{words:?}");
-    let (told, kept) = if status == 0 { (output, faults) } else { (faults, output) };
+    let (told, kept) = if status == 0 {
+        (output, faults)
+    } else {
+        (faults, output)
+    };
     assert!(rt; told.starts_with(usage), "{words:?}");
     assert!(rt; kept.is_empty(), "{words:?}");
 }
 
 #[test]
 fn tells_a_fault_of_the_words(rt: HostRuntime) {
-    expect_usage(&rt, &["ecat", "pass", "--slaves", "65", FRAME], 2, b"error: invalid value '65'");
-    expect_usage(&rt, &["ecat", "frob"], 2, b"error: unrecognized subcommand 'frob'");
+    expect_usage(
+        &rt,
+        &["ecat", "pass", "--slaves", "65", FRAME],
+        2,
+        b"error: invalid value '65'",
+    );
+    expect_usage(
+        &rt,
+        &["ecat", "frob"],
+        2,
+        b"error: unrecognized subcommand 'frob'",
+    );
     expect_usage(&rt, &["ecat"], 2, b"error: 'ecat' requires a subcommand");
 }
 
@@ -162,6 +182,13 @@ fn tells_a_full_output(rt: HostRuntime) {
     let mut output: Vec<u8> = Vec::new(rt.alloc());
     let mut faults = Narrow { left: 0 };
     let refused = ["ecat", "pass", "--slaves", "3", "0e1"];
-    let status = run_command(&rt, &refused, &mut input, &mut output, &mut faults, &mut Idle);
+    let status = run_command(
+        &rt,
+        &refused,
+        &mut input,
+        &mut output,
+        &mut faults,
+        &mut Idle,
+    );
     assert_eq!(rt; status, 3);
 }

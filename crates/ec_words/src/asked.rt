@@ -22,7 +22,8 @@ pub enum Asked<'a> {
 /// What the words of the command `name` ask for.
 fn read_command<'a>(name: &str, given: &ArgMatches<'a>) -> Option<Asked<'a>>
     ensures some { IfSome result (Asks (Some (name.now, rows_of (found_of given.now)))) }
-    ensures none { IfNone result (MeetsCommand (Some (name.now, rows_of (found_of given.now))) → ⊥) }
+    ensures none { IfNone result
+        (MeetsCommand (Some (name.now, rows_of (found_of given.now))) → ⊥) }
 {
     match name {
         "pass" => Some(Asked::Pass {
@@ -33,6 +34,7 @@ fn read_command<'a>(name: &str, given: &ArgMatches<'a>) -> Option<Asked<'a>>
     }
 }
 
+/// What the command asks for that `clap` met.
 fn read_asked<'a>(matches: &ArgMatches<'a>) -> Option<Asked<'a>>
     ensures some { IfSome result (Asks (subcommand_rows_of matches.now)) }
     ensures none { IfNone result (MeetsCommand (subcommand_rows_of matches.now) → ⊥) }
@@ -41,6 +43,7 @@ fn read_asked<'a>(matches: &ArgMatches<'a>) -> Option<Asked<'a>>
     read_command(name, given)
 }
 
+/// The error of words in which `clap` found nothing wrong, and no command either.
 fn no_command(command: &mut Command<'_>) -> Error {
     match command.error(ErrorKind::MissingSubcommand, "no command was given") {
         Ok(error) => error,
@@ -48,6 +51,7 @@ fn no_command(command: &mut Command<'_>) -> Error {
     }
 }
 
+/// What the words ask for, in `clap`'s terms.
 fn read_line<'a, S: AsStr>(alloc: Global, words: &'a [S]) -> Result<Asked<'a>, Error>
     ensures asked { IfOk result (Asks (subcommand_of ecat (map S.text words.entry.now))) }
     ensures taken { IfErr result (λ error. takes ecat (map S.text words.entry.now) ≡ true
@@ -62,8 +66,8 @@ fn read_line<'a, S: AsStr>(alloc: Global, words: &'a [S]) -> Result<Asked<'a>, E
     }
 }
 
-/// What the words ask for. The first word is the program's name. The error is a fault of the words, the
-/// help that they ask for, or want of memory, by its kind.
+/// What the words ask for. The first word is the program's name. The error is a fault of the words,
+/// the help that they ask for, or want of memory, by its kind.
 pub fn read_words<'a, S: AsStr>(alloc: Global, words: &'a [S]) -> Result<Asked<'a>, Error>
     // What `clap` finds in the words is what is asked for, and words that it takes are refused for
     // want of memory alone.
@@ -74,7 +78,8 @@ pub fn read_words<'a, S: AsStr>(alloc: Global, words: &'a [S]) -> Result<Asked<'
 
     ensures pass { (slaves : ℕ) (frame : List ℕ)
         → ArePassWords (map S.text words.entry.now) slaves frame
-        → MatchResult result (IsPass slaves frame) (λ error. kind_of error ≡ ErrorKind.OutOfMemory) }
+        → MatchResult result (IsPass slaves frame)
+        (λ error. kind_of error ≡ ErrorKind.OutOfMemory) }
 {
     read_line(alloc, words)
 }

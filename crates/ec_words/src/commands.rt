@@ -1,4 +1,5 @@
-//! The commands that `ecat` has, each in a function of its own: one that builds them all takes minutes to check.
+//! The commands that `ecat` has. Each is built in a function of its own, and so is each argument: one
+//! function that builds them all takes minutes to check.
 ghost use Rattle.std.specs.Prelude.{◌≡◌, false, IfOk};
 ghost use Rattle.clap.specs.Walk.{rule_of};
 ghost use Rattle.clap.specs.Simple.{app_of, shape_of};
@@ -35,6 +36,7 @@ fn frame_argument<'a>(alloc: Global) -> Arg<'a>
         .help("The payload of a frame in hex digits of either case, at most 1472 bytes")
 }
 
+/// `ecat pass --slaves N HEX`.
 fn pass_command<'a>(alloc: Global) -> Result<Command<'a>, AllocError>
     ensures shape { IfOk result (λ command. shape_of command ≡ pass_shape) }
     ensures local { IfOk result (λ command. (fields_of command).has_globals ≡ false) }

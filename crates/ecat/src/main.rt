@@ -1,9 +1,12 @@
-//! The program `ecat`: an EtherCAT master and a segment of simulated slaves. Its commands are those of
-//! `ec_app`, over the words, the streams and the memory of the system.
+//! The program `ecat`: an EtherCAT master and a segment of simulated slaves. Its commands are those
+//! of `ec_app`, over the words, the streams and the memory of the system.
 #![tactic(auto)]
 
-use ec_app::{App, run_command};
+use ec_app::{App, Refusal, run_command};
+use std::env::Env;
+use std::io::ErrorKind;
 use std::process::ExitCode;
+use std::{env, io};
 
 /// An application that shows its outputs as its inputs, and 0 where it has more inputs.
 #[derive(Drop)]
@@ -20,13 +23,24 @@ impl App for Echo {
     }
 }
 
+/// The words of the command line, the first of which is the program's name.
+fn read_args<H: Env + AllocGlobal>(rt: &H) -> io::Result<Vec<String>> {
+    let given = env::args(rt)?;
+    Ok(given.collect(rt.alloc())?)
+}
+
 fn main(rt: HostRuntime) -> ExitCode {
-    // A word that isn't text is a fault of the words.
-    let Ok(given) = std::env::args(&rt) else {
-        return ExitCode::from(2);
-    };
-    let Ok(words): Result<Vec<String>, _> = given.collect(rt.alloc()) else {
-        return ExitCode::from(3);
+    let words = match read_args(&rt) {
+        Ok(words) => words,
+        Err(error) if error.kind() == ErrorKind::OutOfMemory => {
+            let refused = Refusal::Memory;
+            let _ = eprintln!(rt; "ecat: {refused}");
+            return ExitCode::from(refused.status());
+        }
+        Err(_) => {
+            let _ = eprintln!(rt; "error: a word of the command line isn't text");
+            return ExitCode::from(2);
+        }
     };
     let (mut input, mut output, mut faults) = (rt.stdin(), rt.stdout(), rt.stderr());
     let status = run_command(

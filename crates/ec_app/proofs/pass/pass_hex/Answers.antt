@@ -1,4 +1,4 @@
-use Rattle.std.proofs.Common.{◌≡◌, ◌∙◌, List, ◌++◌, length, take, drop, arith, ℕ, Ok, Err, ap, sym, subst}
+use Rattle.std.proofs.Common.{◌≡◌, ◌∙◌, List, ◌++◌, length, take, drop, arith, ℕ, ap, sym, subst}
 use Rattle.std.proofs.Math.Seq.{take-append_seam}
 use Rattle.hex.specs.Hex.{encode_lower}
 use Rattle.ec_frame.specs.Frame.{IsFrame, with_datagrams}

@@ -1,4 +1,4 @@
-use Rattle.std.proofs.Common.{rules, ◌≡◌, [], ◌∷◌, ◌++◌, List, replicate, sym, ◌∙◌, ap, refl}
+use Rattle.std.proofs.Common.{rules}
 use Rattle.std.proofs.lemmas.List.{replicate-append-replicate}
 use Rattle.ec_app.specs.Passing.{plain_slave}
 use Rattle.ec_app.proofs.pass.plain_ring.Goals as goal

@@ -1,4 +1,4 @@
-use Rattle.std.proofs.Common.{◌≡◌, ap, inr, sym, subst}
+use Rattle.std.proofs.Common.{ap, inr, sym, subst}
 use Rattle.ec_app.specs.Running.{RunsPass}
 use Rattle.ec_app.proofs.run.run_line.Goals as goal
 
