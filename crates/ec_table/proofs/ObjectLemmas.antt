@@ -1,5 +1,6 @@
 -- How many entries and bits a slave's objects have.
-use Rattle.std.proofs.Common.{◌≡◌, ℕ, ◌*◌, ◌<◌, ◌≤◌, ◌==◌, List, [], ◌∷◌, length, Option, Some, None, All, Contains, find, slice_get, slice_index_or, subst, length-append, arith, refl, sym, ◌∙◌}
+use Rattle.std.proofs.Common.{◌≡◌, ℕ, ◌*◌, ◌<◌, ◌≤◌, ◌==◌, List, [], ◌∷◌, length, Option, Some, None, All, Contains, find, slice_get, slice_index_or, subst, length-append, flat_map, if◌then◌else◌, arith, refl, sym, ◌∙◌}
+use Rattle.std.proofs.lemmas.List.FromFn.{length-map-range_with_len}
 use Rattle.std.specs.List.{position_or_len}
 use Rattle.std.specs.Option.{option_map_or}
 use Rattle.std.specs.Cmp.{nat_eq_equiv}
@@ -7,7 +8,7 @@ use Rattle.std.proofs.lemmas.Bool.Decides.{Decides-eqb}
 use Rattle.std.proofs.lemmas.List.{length-map}
 use Rattle.std.proofs.lemmas.List.Elements.{All-nil, All-append, All-contains, All-get_or}
 use Rattle.std.proofs.lemmas.List.Folds.{find_at}
-use Rattle.std.proofs.lemmas.List.Sums.{sum_by-le}
+use Rattle.std.proofs.lemmas.List.Sums.{sum_by-le, sum_by-cons}
 use Rattle.std.proofs.lemmas.Map.Made.{length-le_from_is_member, IsDistinct-from_AllPairs}
 use Rattle.std.proofs.lemmas.Map.Views.{Contains-from_any, list_any-from_Contains}
 use Rattle.std.proofs.lemmas.Option.{slice_get_within, get_or_from_slice_get, slice_get_read}
@@ -19,7 +20,7 @@ use Rattle.ec_table.specs.declared.rows.SlaveRow.{SlaveRow}
 use Rattle.ec_table.specs.Contents.{Contents, pdos_toward, assigned_toward}
 use Rattle.ec_table.specs.Pdos.{indices_of}
 use Rattle.ec_table.specs.Sound.{IsOnce, IsEntry, IsPdo, ArePdos, IsType, IsAssignment, IsSlave, AreSlaves}
-use Rattle.ec_table.specs.Objects.{entries_at, assigned_entries, entries_of, bits_of, type_of}
+use Rattle.ec_table.specs.Objects.{entries_at, assigned_entries, entries_of, bits_of, type_of, entry_bits, object_bits}
 
 -- no list without doubles is longer than one that has all its elements
 length_le : (xs ys : List ℕ) → IsOnce xs → All (Contains ys) xs → length xs ≤ length ys
@@ -83,3 +84,12 @@ object_bounds c s d r t slaves is it kind =
     let each : All IsEntry (assigned_entries (pdos_toward d t) (assigned_toward d r)) = all_entries d (pdos_toward d t) (assigned_toward d r) (kind.pdos d) in
     let few : length (assigned_entries (pdos_toward d t) (assigned_toward d r)) ≤ 1024 = few_entries d t r (kind.pdos d) (row.assigned t d at) in
     subst ObjectBounds (sym (entries_are c s d r t is it)) (record { each = each; few = few; bits = few_bits _ each few })
+
+count_bits : (es : List Entry) → length (flat_map entry_bits es) ≡ bits_of es
+count_bits [] = refl
+count_bits (e ∷ es) =
+    let here : length (entry_bits e) ≡ e.bits = length-map-range_with_len (λ k. if e.index == 0 then None else Some (record { index = e.index; subindex = e.subindex; bit = k })) 0 e.bits in
+    length-append (entry_bits e) (flat_map entry_bits es) ∙ rw (here, count_bits es) (sym (sum_by-cons (λ (e : Entry). e.bits) e es))
+
+pub object_bits-length : (c : Contents) (s : ℕ) (d : Direction) → length (object_bits c s d) ≡ bits_of (entries_of c s d)
+object_bits-length c s d = count_bits (entries_of c s d)

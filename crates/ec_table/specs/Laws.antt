@@ -7,6 +7,7 @@ use Rattle.ec_table.specs.declared.rows.Version.{Version}
 use Rattle.ec_table.specs.declared.fault.Place.{Place}
 use Rattle.ec_table.specs.declared.fault.Section.{Section}
 use Rattle.ec_table.specs.declared.fault.Section.TheVariants as section
+use Rattle.ec_table.specs.declared.rows.Direction.{Direction}
 use Rattle.ec_table.specs.declared.rows.TypeRow.{TypeRow}
 use Rattle.ec_table.specs.declared.rows.SlaveRow.{SlaveRow}
 use Rattle.ec_table.specs.declared.rows.VariableRow.{VariableRow}
@@ -16,6 +17,7 @@ use Rattle.ec_table.specs.Sound.{IsSound}
 use Rattle.ec_table.specs.Faults.{fault_place}
 use Rattle.ec_table.specs.Reading.{type_element, slave_element, variable_element, link_element, top, table_of_document, table_of}
 use Rattle.ec_table.specs.Fields.{keys_are, version_in, section_in}
+use Rattle.ec_table.specs.Objects.{object_bits, entries_of, bits_of}
 use Rattle.ec_table.specs.Writing.{document_of}
 use Rattle.ec_table.specs.declared.fields.Shape.TheVariants as shape
 
@@ -76,3 +78,7 @@ pub record FirstFaultIsTold : Type 0 where
 -- Each sound table has a document that states it: its sections written out, with each key.
 abbrev pub WrittenIsRead : Type 0
 WrittenIsRead = (c : Contents) → IsSound c → table_of_document (document_of c) ≡ Ok c
+
+-- A direction of a slave has as many object bits as its entries have bits, gaps with them.
+abbrev pub ObjectBitsAreCounted : Type 0
+ObjectBitsAreCounted = (c : Contents) (s : ℕ) (d : Direction) → length (object_bits c s d) ≡ bits_of (entries_of c s d)

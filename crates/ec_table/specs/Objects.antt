@@ -1,5 +1,5 @@
 -- The objects of a slave: the entries of the process data objects that it assigns, and their bits (ETG.1000.6, "Object dictionary").
-use Rattle.std.specs.Prelude.{ℕ, ◌==◌, if◌then◌else◌, List, [], map, find, sum_by, Option, Some, None, slice_get, option_and_then}
+use Rattle.std.specs.Prelude.{ℕ, ◌==◌, if◌then◌else◌, List, [], map, find, sum_by, Option, Some, None, slice_get, option_map, option_and_then}
 use Rattle.std.specs.List.{flat_map, range_with_len}
 use Rattle.std.specs.Option.{option_map_or}
 use Rattle.ec_regs.specs.declared.slave_type.Entry.{Entry}
@@ -23,9 +23,9 @@ variable_of c l = option_and_then (λ (r : LinkRow). slice_get c.variables r.var
 abbrev pub slave_of : Contents → ℕ → Option SlaveRow
 slave_of c l = option_and_then (λ (r : LinkRow). slice_get c.slaves r.slave) (slice_get c.links l)
 
--- what a slave of a type shows as its identity
-abbrev pub identity_of : TypeRow → SlaveRow → Identity
-identity_of t s = record { vendor = t.device.vendor; product = t.device.product; revision = t.device.revision; serial = s.serial }
+-- what slave s shows as its identity: its type's device, and its own serial number
+abbrev pub identity_of : Contents → ℕ → Option Identity
+identity_of c s = option_and_then (λ (r : SlaveRow). option_map (λ (t : TypeRow). record { vendor = t.device.vendor; product = t.device.product; revision = t.device.revision; serial = r.serial }) (slice_get c.types r.type_place)) (slice_get c.slaves s)
 
 -- the entries of the object with an index
 abbrev pub entries_at : List Pdo → ℕ → List Entry

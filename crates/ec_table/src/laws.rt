@@ -1,6 +1,6 @@
 //! What the definition of a link table's reading keeps, in the format's own words. Nothing runs here.
 
-ghost use Rattle.ec_table.specs.Laws.{AcceptedIsSound, FaultsHaveTheirPlace, AcceptedElementByElement, FirstFaultIsTold, WrittenIsRead};
+ghost use Rattle.ec_table.specs.Laws.{AcceptedIsSound, FaultsHaveTheirPlace, AcceptedElementByElement, FirstFaultIsTold, WrittenIsRead, ObjectBitsAreCounted};
 
 /// What is accepted has unique names, known references, values in range, and assigned objects of its type
 /// without a double.
@@ -26,4 +26,9 @@ pub fn faults_have_their_place()
 /// Each sound table is what some document states: its own, with each key written out.
 pub fn written_is_read()
     ensures { WrittenIsRead }
+{}
+
+/// A direction of a slave has as many object bits as its entries have bits, gaps with them.
+pub fn object_bits_are_counted()
+    ensures { ObjectBitsAreCounted }
 {}

@@ -1,7 +1,7 @@
 ghost use Rattle.std.specs.Prelude.{◌≡◌, IfOk, string_bytes};
 ghost use Rattle.ec_table.specs.Contents.{pdos_toward, assigned_toward};
 
-use ec_regs::{Identity, Listed, Mailbox, Pdo};
+use ec_regs::{Listed, Mailbox, Pdo};
 use std::alloc::{AllocError, Global};
 use std::marker::Model;
 

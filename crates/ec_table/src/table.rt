@@ -149,8 +149,7 @@ impl Table {
     /// What the slave at a place shows as its identity: its type's device, and its own serial number.
     pub fn identity_of(&self, slave: usize) -> Identity
         requires { slave < length self.now.slaves }
-        ensures { (t : TypeRow) → (s : SlaveRow) → type_of self.now slave ≡ Some t
-            → slice_get self.now.slaves slave ≡ Some s → result ≡ identity_of t s }
+        ensures { identity_of self.now slave ≡ Some result }
     {
         let row = &self.slaves.as_slice()[slave];
         let device = self.types.as_slice()[row.type_place].device;
