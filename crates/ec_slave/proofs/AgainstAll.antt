@@ -11,10 +11,10 @@ use Rattle.ec_regs.specs.declared.manager.ManagerSettings.{ManagerSettings}
 use Rattle.ec_regs.specs.Managers.{is_set, is_mailbox, span}
 use Rattle.ec_sync.specs.Manager.{Manager, empty_manager, may_write, may_read, is_enabled, ring_written, ring_read}
 use Rattle.ec_sync.specs.Governing.{governor, governs, covers}
-use Rattle.ec_fmmu.specs.Applied.{Place}
+use Rattle.ec_fmmu.specs.Applied.{Place, touched_by_reading, touched_by_writing}
 use Rattle.ec_slave.specs.Managers.{manager_after}
 use Rattle.ec_slave.specs.Access.{Window, touches, byte_from, retold, retold_from, is_configured, settings_written, value_for, manager_met, managers_met}
-use Rattle.ec_slave.specs.Logical.{touched_by_reading, touched_by_writing, brought, plain_bit, value_brought, only_if, managers_exchanged}
+use Rattle.ec_slave.specs.Logical.{brought, plain_bit, value_brought, only_if, managers_exchanged}
 use Rattle.ec_slave.specs.AgainstAll.{is_governor, each_from, value_among, bits_among, PhysicalAgainstAll, LogicalAgainstAll}
 
 abbrev or_after : Option ℕ → Option ℕ → Option ℕ

@@ -8,10 +8,10 @@ use Rattle.ec_bits.proofs.AnyLaws.{if_none, if_false, if_true, within_below, wit
 use Rattle.ec_frame.specs.Datagram.{Datagram}
 use Rattle.ec_sync.specs.Manager.{no_manager, Manager, may_write, may_read, ring_written, ring_read}
 use Rattle.ec_sync.specs.Governing.{covers}
-use Rattle.ec_fmmu.specs.Applied.{Place}
+use Rattle.ec_fmmu.specs.Applied.{Place, touched_by_reading, touched_by_writing}
 use Rattle.ec_slave.specs.State.{manager_at, SlaveState, fmmus, with_memory}
 use Rattle.ec_slave.specs.Managers.{manager_after}
-use Rattle.ec_slave.specs.Logical.{place_of, touched_by_reading, touched_by_writing, read_bit, plain_bit, value_brought, managers_exchanged, only_if, some_read, some_written, meets_logical}
+use Rattle.ec_slave.specs.Logical.{place_of, read_bit, plain_bit, value_brought, managers_exchanged, only_if, some_read, some_written, meets_logical}
 use Rattle.ec_slave.specs.Exchange.{Area, IsMapped, IsBufferAt, Spans, takes, gives, outputs_from, inputs_into, inputs_of, with_outputs, with_published, exchanged}
 use Rattle.ec_slave.proofs.Governors.{length-managers_exchanged, manager_at-exchanged}
 use Rattle.ec_slave.proofs.Reading.{touches_in_only, read_bit_in, read_bit_out, some_read_is}

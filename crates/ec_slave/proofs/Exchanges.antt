@@ -5,9 +5,9 @@ use Rattle.std.proofs.Math.Seq.{take-append_seam, drop-append_seam}
 use Rattle.ec_regs.specs.declared.fmmu.FmmuSettings.{FmmuSettings}
 use Rattle.ec_sync.specs.Manager.{Manager, may_write}
 use Rattle.ec_sync.specs.Governing.{covers}
-use Rattle.ec_fmmu.specs.Applied.{Place}
+use Rattle.ec_fmmu.specs.Applied.{Place, touched_by_reading, touched_by_writing}
 use Rattle.ec_slave.specs.Managers.{manager_after}
-use Rattle.ec_slave.specs.Logical.{touched_by_reading, touched_by_writing, value_brought, managers_exchanged}
+use Rattle.ec_slave.specs.Logical.{value_brought, managers_exchanged}
 use Rattle.ec_slave.specs.Written.{some_brought, some_manager_written}
 
 -- one of them

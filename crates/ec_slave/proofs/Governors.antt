@@ -8,9 +8,9 @@ use Rattle.ec_regs.specs.declared.fmmu.FmmuSettings.{FmmuSettings}
 use Rattle.ec_sync.specs.Manager.{Manager}
 use Rattle.ec_slave.specs.State.{manager_at}
 use Rattle.ec_sync.specs.Governing.{governor, governs}
-use Rattle.ec_fmmu.specs.Applied.{Place}
+use Rattle.ec_fmmu.specs.Applied.{Place, touched_by_reading, touched_by_writing}
 use Rattle.ec_slave.specs.Managers.{manager_after}
-use Rattle.ec_slave.specs.Logical.{touched_by_reading, touched_by_writing, value_brought, managers_exchanged}
+use Rattle.ec_slave.specs.Logical.{value_brought, managers_exchanged}
 
 position_from-take : (t : Manager → Bool) (k n : ℕ) (ms : List Manager) → position_from t k ms ≡ Some (k + n) → position_from t k (take n ms) ≡ None
 position_from-take t k zero ms e = refl

@@ -6,10 +6,10 @@ use Rattle.ec_bits.specs.Bits.{bytes_of_bits}
 use Rattle.ec_regs.specs.declared.manager.ManagerSettings.{ManagerSettings}
 use Rattle.ec_sync.specs.Manager.{no_manager, Manager, may_read, may_write}
 use Rattle.ec_sync.specs.Governing.{governor, governs, covers, in_front}
-use Rattle.ec_fmmu.specs.Applied.{Place, inside_place}
+use Rattle.ec_fmmu.specs.Applied.{Place, inside_place, leads_into, touched_by_reading, touched_by_writing, data_bit_for}
 use Rattle.ec_slave.specs.State.{manager_at, SlaveState, fmmus, Met, with_memory, with_answer}
 use Rattle.ec_slave.specs.Managers.{reads_under, writes_under, shown_under, manager_after}
-use Rattle.ec_slave.specs.Logical.{place_of, leads_into, touched_by_reading, touched_by_writing, read_bit, readable_bit, data_bit_for, brought, written_bit, plain_bit, value_brought, managers_exchanged, only_if, some_read, some_written, meets_logical}
+use Rattle.ec_slave.specs.Logical.{place_of, read_bit, readable_bit, brought, written_bit, plain_bit, value_brought, managers_exchanged, only_if, some_read, some_written, meets_logical}
 use Rattle.ec_slave.specs.Exchange.{Area, IsMapped, IsBufferAt, with_outputs, with_published}
 
 governor-set : (k : ℕ) (ms : List Manager) (n : ℕ) (v : List ℕ) (a : ℕ) → position_from (λ m. governs m a) k (set ms n (with_published (manager_at ms n) v)) ≡ position_from (λ m. governs m a) k ms

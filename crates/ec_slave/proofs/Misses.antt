@@ -10,10 +10,10 @@ use Rattle.ec_regs.specs.Memory.{ram_end}
 use Rattle.ec_frame.specs.Datagram.{Datagram}
 use Rattle.ec_sync.specs.Manager.{Manager, may_read, may_write}
 use Rattle.ec_sync.specs.Governing.{covers, governor}
-use Rattle.ec_fmmu.specs.Applied.{Place}
+use Rattle.ec_fmmu.specs.Applied.{Place, leads_into, touched_by_reading, touched_by_writing}
 use Rattle.ec_slave.specs.State.{SlaveState, fmmus}
 use Rattle.ec_slave.specs.Managers.{manager_after}
-use Rattle.ec_slave.specs.Logical.{place_of, leads_into, touched_by_reading, touched_by_writing, read_bit, readable_bit, written_bit, plain_bit, brought, value_brought, managers_exchanged, only_if, some_read, some_written, meets_logical}
+use Rattle.ec_slave.specs.Logical.{place_of, read_bit, readable_bit, written_bit, plain_bit, brought, value_brought, managers_exchanged, only_if, some_read, some_written, meets_logical}
 use Rattle.ec_slave.specs.LogicalLaws.{Misses}
 
 no_read_bit : (s : SlaveState) (p : Place) (i : ℕ) → Misses s p → i < p.bits → read_bit s.memory s.managers (fmmus s) p i ≡ None

@@ -9,10 +9,10 @@ use Rattle.ec_regs.specs.Memory.{ram_start, ram_end}
 use Rattle.ec_sync.specs.Manager.{Manager}
 use Rattle.ec_fmmu.specs.Pairs.{unmapped, reaches_physical, is_ram_bit}
 use Rattle.ec_fmmu.specs.Sets.{source, source_after, writers, unless_mapped}
-use Rattle.ec_fmmu.specs.Applied.{Place, inside_place}
+use Rattle.ec_fmmu.specs.Applied.{Place, inside_place, touched_by_reading, touched_by_writing}
 use Rattle.ec_slave.specs.State.{SlaveState, fmmus, fmmus_of, with_memory}
 use Rattle.ec_slave.specs.Managers.{manager_after}
-use Rattle.ec_slave.specs.Logical.{touched_by_reading, touched_by_writing, value_brought, managers_exchanged, plain_bit, only_if, logical_after, some_written}
+use Rattle.ec_slave.specs.Logical.{value_brought, managers_exchanged, plain_bit, only_if, logical_after, some_written}
 use Rattle.ec_slave.specs.Written.{some_plain_written, some_manager_written}
 use Rattle.ec_slave.proofs.SomeWritten.{some_written-is}
 use Rattle.ec_slave.proofs.Decoded.{fmmus_of-alike}

@@ -4,72 +4,30 @@ use Rattle.std.specs.List.{position_from}
 use Rattle.std.proofs.lemmas.Bool.{cases_Bool, and_parts, and_from, and_left, or_left, or_right, both_ways, lt-ltb, ltb-true, leb-true, false≢true}
 use Rattle.std.proofs.lemmas.List.{append-nil}
 use Rattle.ec_bits.specs.Bits.{bit, any_below, within}
-use Rattle.ec_bits.proofs.AnyLaws.{any_below_from, any_below_none, if_true, if_false, within_true, within_parts}
+use Rattle.ec_bits.proofs.AnyLaws.{any_below_from, any_below_none, any_below_some, if_true, if_false, within_true, within_parts}
 use Rattle.ec_regs.specs.declared.fmmu.FmmuSettings.{FmmuSettings}
 use Rattle.ec_regs.specs.declared.manager.ManagerSettings.{ManagerSettings}
 use Rattle.ec_regs.specs.Memory.{ram_start, ram_end}
 use Rattle.ec_regs.specs.Managers.{is_set, is_mailbox, is_buffered, is_ring_written, is_ring_read, span}
 use Rattle.ec_sync.specs.Manager.{Manager, no_manager, may_write, is_enabled}
 use Rattle.ec_sync.specs.Governing.{governor, governs, covers, in_front}
-use Rattle.ec_fmmu.specs.Applied.{Place}
+use Rattle.ec_fmmu.specs.Applied.{Place, touched_by_writing}
+use Rattle.ec_fmmu.proofs.PairLaws.{none_or_some}
 use Rattle.ec_slave.specs.State.{manager_at}
 use Rattle.ec_slave.specs.Managers.{writes_under}
-use Rattle.ec_slave.specs.Logical.{touched_by_writing, brought, written_bit, plain_bit, some_written}
+use Rattle.ec_slave.specs.Logical.{brought, written_bit, plain_bit, some_written}
 use Rattle.ec_slave.specs.Written.{some_brought, some_manager_written, some_plain_written}
 use Rattle.ec_slave.proofs.Governors.{governor-take}
-use Rattle.ec_slave.proofs.AgainstAll.{governs-value, position_from-below}
+use Rattle.ec_slave.proofs.AgainstAll.{governs-value}
+use Rattle.ec_slave.proofs.Sights.{governor-start, governor-below}
 
-pub any_below_some : (n : ℕ) (p : ℕ → Bool) → any_below n p ≡ true → (i : ℕ) × (i < n) × (p i ≡ true)
-unfolding any_below
-any_below_some zero p e = absurd (false≢true e)
-any_below_some (suc n) p e = elim (cases_Bool (p n)) [
-      inl t ↦ (n, omega arith, t)
-    | inr f ↦
-        let r = any_below_some n p (sym (if_false (p n) true (any_below n p) f) ∙ e) in
-        (r.0, omega (arith, r.1), r.2)
-    ]
-
-pub same_truth : (a b : Bool) → (a ≡ true → b ≡ true) → (b ≡ true → a ≡ true) → a ≡ b
+same_truth : (a b : Bool) → (a ≡ true → b ≡ true) → (b ≡ true → a ≡ true) → a ≡ b
 same_truth a b f g = elim (cases_Bool a) [
       inl t ↦ t ∙ sym (f t)
     | inr h ↦ elim (cases_Bool b) as (λ _. a ≡ b) [
           inl t ↦ absurd (both_ways a h (g t))
         | inr k ↦ h ∙ sym k
         ]
-    ]
-
-from-start : (t : Manager → Bool) (k : ℕ) (ms : List Manager) (i : ℕ) → position_from t k ms ≡ Some i → k ≤ i
-from-start t k [] i e = absurd (let f : None ≡ Some i = e in cc)
-from-start t k (x ∷ xs) i e = elim (cases_Bool (t x)) [
-    inl h ↦
-      let f : Some k ≡ Some i = sym (if_true (t x) (Some k) (position_from t (k + 1) xs) h) ∙ e in
-      let g : k ≡ i = cc in
-      omega arith
-  | inr h ↦
-      let g = from-start t (k + 1) xs i (sym (if_false (t x) (Some k) (position_from t (k + 1) xs) h) ∙ e) in
-      omega arith
-  ]
-
--- the governor of a byte has it in its span, and is one of the managers
-position_from-hit : (t : Manager → Bool) (k n : ℕ) (ms : List Manager) → position_from t k ms ≡ Some (k + n) → (n < length ms) × (t (manager_at ms n) ≡ true)
-position_from-hit t k n [] e = absurd (let f : None ≡ Some (k + n) = e in cc)
-position_from-hit t k zero (m ∷ ms) e = elim (cases_Bool (t m)) [
-      inl h ↦ (omega arith, h)
-    | inr h ↦
-        let f : position_from t (k + 1) ms ≡ Some (k + zero) = sym (if_false (t m) (Some k) (position_from t (k + 1) ms) h) ∙ e in
-        let g : k + 1 ≤ k + zero = from-start t (k + 1) ms (k + zero) f in
-        absurd (omega arith)
-    ]
-position_from-hit t k (suc j) (m ∷ ms) e = elim (cases_Bool (t m)) [
-      inl h ↦
-        let f : Some k ≡ Some (k + suc j) = sym (if_true (t m) (Some k) (position_from t (k + 1) ms) h) ∙ e in
-        let g : k ≡ k + suc j = cc in
-        absurd (omega arith)
-    | inr h ↦
-        let s : k + suc j ≡ k + 1 + j = omega arith in
-        let f : position_from t (k + 1) ms ≡ Some (k + 1 + j) = sym (if_false (t m) (Some k) (position_from t (k + 1) ms) h) ∙ (e ∙ ap (λ i. Some i) s) in
-        let r = position_from-hit t (k + 1) j ms f in
-        (omega (arith, r.0), r.1)
     ]
 
 -- a manager that has a byte in its span governs it where no lower one does
@@ -139,14 +97,6 @@ value-end m h =
     | inr f ↦ let s : span m ≡ 3 * m.length = if_false _ _ _ f in omega arith
     ]
 
-is-some : {X : Type 0} (o : Option X) → is_some o ≡ true → (x : X) × (o ≡ Some x)
-is-some None e = absurd (false≢true e)
-is-some (Some x) e = (x, refl)
-
-none-or-some : {X : Type 0} (o : Option X) → (o ≡ None) ⊎ ((x : X) × (o ≡ Some x))
-none-or-some None = inl refl
-none-or-some (Some x) = inr (x, refl)
-
 if-some : {X : Type 0} (b : Bool) (o : Option X) → is_some (if b then o else None) ≡ true → (b ≡ true) × (is_some o ≡ true)
 if-some true o e = (refl, e)
 if-some false o e = absurd (false≢true e)
@@ -156,7 +106,7 @@ written-somewhere : (ms : List Manager) (fs : List FmmuSettings) (p : Place) (by
   → (some_plain_written ms fs p bytes || some_manager_written [] fs p bytes ms) ≡ true
 written-somewhere ms fs p bytes q l e =
     let parts = if-some _ (brought fs p bytes q) e in
-    elim (none-or-some (governor ms (q / 8))) [
+    elim (none_or_some (governor ms (q / 8))) [
       inl none ↦
         let plain : is_some (plain_bit ms fs p bytes q) ≡ true = ap is_some (if_true _ _ _ (ap is_none none)) ∙ parts.1 in
         or_left _ _ (any_below_from (8 * ram_end) (λ i. is_some (plain_bit ms fs p bytes i)) q l plain)
@@ -169,16 +119,14 @@ written-somewhere ms fs p bytes q l e =
         let a = and_parts (in_front m (q / 8)) _ may in
         let b = and_parts (covers (touched_by_writing fs p) m) _ a.1 in
         let front : q / 8 < m.settings.start + m.settings.length = ltb-true _ _ a.0 in
-        let z : n ≡ 0 + n = omega arith in
-        let hit = position_from-hit (λ (x : Manager). governs x (q / 8)) 0 n ms (g ∙ ap (λ i. Some i) z) in
-        let from = (within_parts m.settings.start (span m.settings) (q / 8) (and_parts (is_set m.settings) _ hit.1).1).0 in
+        let from : m.settings.start ≤ q / 8 = governor-start ms (q / 8) n g in
         let k : ℕ = q - 8 * m.settings.start in
         let at : 8 * m.settings.start + k ≡ q = omega arith in
         let here : is_some (plain_bit (take n ms) fs p bytes q) ≡ true
           = ap is_some (if_true _ _ _ (ap is_none (governor-take ms n (q / 8) g))) ∙ parts.1 in
         let there : is_some (plain_bit (take n ms) fs p bytes (8 * m.settings.start + k)) ≡ true
           = ap (λ i. is_some (plain_bit (take n ms) fs p bytes i)) at ∙ here in
-        or_right _ _ (written-there [] ms fs p bytes n hit.0
+        or_right _ _ (written-there [] ms fs p bytes n (governor-below ms (q / 8) n g)
           (b.0, b.1, any_below_from (8 * m.settings.length) (λ i. is_some (plain_bit (take n ms) fs p bytes (8 * m.settings.start + i))) k (omega arith) there))
     ]
 
@@ -187,7 +135,7 @@ plain-written ms fs p bytes e =
     let r = any_below_some (8 * ram_end) (λ i. is_some (plain_bit ms fs p bytes i)) e in
     let q : ℕ = r.0 in
     let parts = if-some (is_none (governor ms (q / 8))) (brought fs p bytes q) r.2 in
-    elim (none-or-some (governor ms (q / 8))) [
+    elim (none_or_some (governor ms (q / 8))) [
       inl none ↦
         let w : is_some (written_bit ms fs p bytes q) ≡ true = ap is_some (if_true _ _ _ (ap (writes_under ms (touched_by_writing fs p) (q / 8)) none)) ∙ parts.1 in
         any_below_from (8 * ram_end) (λ i. is_some (written_bit ms fs p bytes i)) q r.1 w
@@ -207,7 +155,7 @@ manager-written ms fs p bytes e =
     let parts = if-some (is_none (governor (take n ms) (q / 8))) (brought fs p bytes q) r.2 in
     let byte : m.settings.start + k / 8 ≡ q / 8 = omega arith in
     let spans : governs m (q / 8) ≡ true = subst (λ (a : ℕ). governs m a ≡ true) byte (governs-value m (k / 8) at.1 (omega arith)) in
-    let low : governor (take n ms) (q / 8) ≡ None = elim (none-or-some (governor (take n ms) (q / 8))) [
+    let low : governor (take n ms) (q / 8) ≡ None = elim (none_or_some (governor (take n ms) (q / 8))) [
           inl none ↦ none
         | inr some ↦ absurd (false≢true (sym (ap is_none some.1) ∙ parts.0))
         ] in

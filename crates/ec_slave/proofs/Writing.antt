@@ -7,10 +7,10 @@ use Rattle.ec_regs.specs.Memory.{ram_start, ram_end}
 use Rattle.ec_fmmu.specs.Sets.{target, source, readers, writers}
 use Rattle.ec_sync.specs.Manager.{Manager, may_write, shown}
 use Rattle.ec_sync.specs.Governing.{governor, governs, covers, in_front}
-use Rattle.ec_fmmu.specs.Applied.{Place, inside_place}
+use Rattle.ec_fmmu.specs.Applied.{Place, inside_place, leads_into, touched_by_reading, touched_by_writing, data_bit_for}
 use Rattle.ec_slave.specs.State.{manager_at, SlaveState, fmmus, Met, with_memory, with_answer}
 use Rattle.ec_slave.specs.Managers.{reads_under, writes_under, shown_under, manager_after}
-use Rattle.ec_slave.specs.Logical.{place_of, leads_into, touched_by_reading, touched_by_writing, read_bit, readable_bit, data_bit_for, brought, written_bit, plain_bit, value_brought, managers_exchanged, only_if, some_read, some_written, meets_logical}
+use Rattle.ec_slave.specs.Logical.{place_of, read_bit, readable_bit, brought, written_bit, plain_bit, value_brought, managers_exchanged, only_if, some_read, some_written, meets_logical}
 use Rattle.ec_slave.specs.Exchange.{Area, IsMapped, IsBufferAt, Spans, takes, outputs_from}
 use Rattle.ec_bits.proofs.BitLaws.{overlay_alike}
 use Rattle.ec_slave.proofs.Governors.{governor-take}

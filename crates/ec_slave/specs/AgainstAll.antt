@@ -5,10 +5,10 @@ use Rattle.ec_bits.specs.Bits.{overlay, zeros}
 use Rattle.ec_regs.specs.declared.fmmu.FmmuSettings.{FmmuSettings}
 use Rattle.ec_sync.specs.Manager.{Manager, empty_manager}
 use Rattle.ec_sync.specs.Governing.{governor}
-use Rattle.ec_fmmu.specs.Applied.{Place}
+use Rattle.ec_fmmu.specs.Applied.{Place, touched_by_reading, touched_by_writing}
 use Rattle.ec_slave.specs.Managers.{manager_after}
 use Rattle.ec_slave.specs.Access.{Window, touches, byte_from, retold, is_configured, settings_written, managers_met}
-use Rattle.ec_slave.specs.Logical.{touched_by_reading, touched_by_writing, brought, only_if, managers_exchanged}
+use Rattle.ec_slave.specs.Logical.{brought, only_if, managers_exchanged}
 
 abbrev pub is_governor : ℕ → Option ℕ → Bool
 is_governor n None = false

@@ -3,12 +3,12 @@ use Rattle.std.specs.Prelude.{ℕ, ◌+◌, ◌*◌, ◌%◌, ◌<◌, ◌≤◌
 use Rattle.ec_frame.specs.declared.command.Command.TheVariants.{Brd}
 use Rattle.ec_frame.specs.Datagram.{Datagram, adp_of, ado_of}
 use Rattle.ec_fmmu.specs.Sets.{target, readers}
-use Rattle.ec_fmmu.specs.Applied.{Place}
+use Rattle.ec_fmmu.specs.Applied.{Place, data_bit_for}
 use Rattle.ec_regs.specs.Memory.{ram_start}
 use Rattle.ec_slave.specs.State.{SlaveState, fmmus, Met, with_answer}
 use Rattle.ec_slave.specs.Access.{byte_at, retold}
 use Rattle.ec_slave.specs.Meeting.{meets}
-use Rattle.ec_slave.specs.Logical.{place_of, data_bit_for, meets_logical}
+use Rattle.ec_slave.specs.Logical.{place_of, meets_logical}
 use Rattle.ec_slave.specs.Exchange.{Area, IsMapped, Spans, exchanged, with_outputs}
 
 -- no data bit is mapped, either way
