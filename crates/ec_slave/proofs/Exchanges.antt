@@ -28,10 +28,11 @@ exchanged_from-end (a ∷ b ∷ c ∷ []) reading writing fs p bytes e = absurd 
 exchanged_from-end (a ∷ b ∷ c ∷ d ∷ []) reading writing fs p bytes e = refl
 exchanged_from-end (a ∷ b ∷ c ∷ d ∷ x ∷ xs) reading writing fs p bytes e = absurd (omega arith)
 
-take_front : (xs ys : List Manager) (n : ℕ) → length xs ≡ n → take n (xs ++ ys) ≡ xs
+-- the front of what was joined, and what comes after it
+pub take_front : {X : Type 0} (xs ys : List X) (n : ℕ) → length xs ≡ n → take n (xs ++ ys) ≡ xs
 take_front xs ys n e = ap (λ m. take m (xs ++ ys)) (sym e) ∙ take-append_seam xs ys
 
-drop_front : (xs ys : List Manager) (n : ℕ) → length xs ≡ n → drop n (xs ++ ys) ≡ ys
+pub drop_front : {X : Type 0} (xs ys : List X) (n : ℕ) → length xs ≡ n → drop n (xs ++ ys) ≡ ys
 drop_front xs ys n e = ap (λ m. drop m (xs ++ ys)) (sym e) ∙ drop-append_seam xs ys
 
 -- one more, number n

@@ -1,5 +1,5 @@
 -- One slave and one logical datagram, bit by bit (ETG.1000.4, "Fieldbus memory management unit").
-use Rattle.std.specs.Prelude.{ℕ, ◌+◌, ◌-◌, ◌*◌, ◌/◌, ◌==◌, ◌&&◌, not, List, [], ◌∷◌, ◌++◌, length, Bool, true, false, if◌then◌else◌, Option, Some, None, is_some, is_none, option_map, option_and_then}
+use Rattle.std.specs.Prelude.{ℕ, ◌+◌, ◌*◌, ◌/◌, ◌&&◌, List, [], ◌∷◌, ◌++◌, length, Bool, if◌then◌else◌, Option, Some, None, is_some, is_none, option_map, option_and_then}
 use Rattle.std.specs.Int.{from_bool}
 use Rattle.ec_bits.specs.Bits.{bit, overlay, zeros, any_below}
 use Rattle.ec_regs.specs.declared.fmmu.FmmuSettings.{FmmuSettings}
@@ -80,7 +80,7 @@ meets_logical reading writing weight s d =
     record {
       slave = logical_after s reading writing p d.data_bytes;
       datagram = with_answer d d.address
-        (overlay d.data_bytes (λ i. only_if reading (read_bit s.memory s.managers (fmmus s) p i)))
-        (from_bool (reading && some_read s.memory s.managers (fmmus s) p)
+          (overlay d.data_bytes (λ i. only_if reading (read_bit s.memory s.managers (fmmus s) p i)))
+          (from_bool (reading && some_read s.memory s.managers (fmmus s) p)
           + weight * from_bool (writing && some_written s.managers (fmmus s) p d.data_bytes));
     }

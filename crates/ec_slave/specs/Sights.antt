@@ -1,12 +1,8 @@
 -- What a slave looks up on its way through a logical datagram, in place of all of its bits.
-use Rattle.std.specs.Prelude.{ℕ, ◌-◌, ◌*◌, ◌/◌, ◌==◌, ◌&&◌, List, get_or, Bool, false, if◌then◌else◌, Option, Some, None}
-use Rattle.ec_bits.specs.Bits.{bit, within}
-use Rattle.ec_regs.specs.declared.fmmu.FmmuSettings.{FmmuSettings}
+use Rattle.std.specs.Prelude.{ℕ, ◌-◌, ◌*◌, ◌/◌, ◌&&◌, List, get_or, Bool, false, if◌then◌else◌, Option, Some, None}
+use Rattle.ec_bits.specs.Bits.{bit}
 use Rattle.ec_sync.specs.Manager.{Manager, shown}
 use Rattle.ec_sync.specs.Governing.{governor, in_front}
-use Rattle.ec_fmmu.specs.Pairs.{unmapped}
-use Rattle.ec_fmmu.specs.Sets.{target, readers}
-use Rattle.ec_fmmu.specs.Applied.{Place}
 use Rattle.ec_slave.specs.State.{manager_at}
 
 -- what a physical bit shows that the manager governs, where the datagram gets at it or does not

@@ -10,7 +10,9 @@ ghost use Rattle.ec_slave.specs.Logical.{plain_bit};
 ghost use Rattle.ec_slave.specs.Written.{some_brought, some_manager_written as some_written_behind, some_plain_written};
 
 use crate::access::governor;
-use ec_fmmu::{Allowed, Fmmu, apply_write, is_brought, is_touched_by_writing as touches_by_writing};
+use ec_fmmu::{
+    Allowed, Fmmu, apply_write, is_brought, is_touched_by_writing as touches_by_writing,
+};
 use ec_sync::Manager;
 
 /// The bytes that no manager governs.
