@@ -22,5 +22,5 @@ mod writing;
 pub use crate::mapping::Fmmu;
 pub use crate::precedence::{read_target, write_source, write_target};
 pub use crate::reading::{Shown, apply_read};
-pub use crate::touching::{is_touched_by_reading, is_touched_by_writing};
+pub use crate::touching::{is_brought, is_touched_by_reading, is_touched_by_writing};
 pub use crate::writing::{Allowed, apply_write};

@@ -9,10 +9,9 @@ use std::marker::Model;
 
 /// Whether `from ≤ place < from + count`.
 pub(crate) fn within(from: u64, count: u64, place: u64) -> bool
-    requires { from + count < 2 ^ 64 }
     ensures { result ≡ within_of from count place }
 {
-    from <= place && place < from + count
+    from <= place && place - from < count
 }
 
 /// Whether a physical bit lies in the RAM.

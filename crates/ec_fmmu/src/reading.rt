@@ -41,25 +41,25 @@ fn read_range<M: Shown>(
     range: &Fmmu,
     memory: &M,
     from: u64,
-    data: &mut [u8],
+    bytes: &mut [u8],
 ) -> bool
     requires can { M.can_show memory.now }
-    requires fits { from + 8 * length data.old < 2 ^ 64 }
-    ensures any { result ≡ any_below (8 * length data.old)
+    requires fits { from + 8 * length bytes.old < 2 ^ 64 }
+    ensures any { result ≡ any_below (8 * length bytes.old)
         (λ i. is_some (range_read_told range.now fmmus.now (M.shown memory.now) from i)) }
-    ensures bits { data.new
-        ≡ overlay data.old (range_read_told range.now fmmus.now (M.shown memory.now) from) }
+    ensures bits { bytes.new
+        ≡ overlay bytes.old (range_read_told range.now fmmus.now (M.shown memory.now) from) }
 {
     if !range.reads() {
         return false;
     }
     let mut any = false;
-    let bits = 8 * data.len() as u64;
+    let bits = 8 * bytes.len() as u64;
     let first = range.first_logical().max(from) - from;
     let end = (range.first_logical() + range.bit_count()).max(from) - from;
     for place in first..end.min(bits) {
         let told = read_bit(fmmus, memory, from, place as usize);
-        any |= put_told(data, place as usize, told);
+        any |= put_told(bytes, place as usize, told);
     }
     any
 }
@@ -68,16 +68,16 @@ fn read_range<M: Shown>(
 /// each data bit that a read pair leads to a physical bit that shows something becomes that, and
 /// all others stay. Answers whether a bit was read. Only bits in the ranges of FMMUs that read are
 /// looked at.
-pub fn apply_read<M: Shown>(fmmus: &[Fmmu], memory: &M, from: u64, data: &mut [u8]) -> bool
+pub fn apply_read<M: Shown>(fmmus: &[Fmmu], memory: &M, from: u64, bytes: &mut [u8]) -> bool
     requires can { M.can_show memory.now }
-    requires fits { from + 8 * length data.old < 2 ^ 64 }
-    ensures any { result ≡ any_below (8 * length data.old)
+    requires fits { from + 8 * length bytes.old < 2 ^ 64 }
+    ensures any { result ≡ any_below (8 * length bytes.old)
         (λ i. is_some (read_told fmmus.now (M.shown memory.now) from i)) }
-    ensures bits { data.new ≡ overlay data.old (read_told fmmus.now (M.shown memory.now) from) }
+    ensures bits { bytes.new ≡ overlay bytes.old (read_told fmmus.now (M.shown memory.now) from) }
 {
     let mut any = false;
     for range in fmmus {
-        any |= read_range(fmmus, range, memory, from, data);
+        any |= read_range(fmmus, range, memory, from, bytes);
     }
     any
 }

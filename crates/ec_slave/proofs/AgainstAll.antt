@@ -1,20 +1,19 @@
 -- Lower-numbered managers, or all of them: the same values.
-use Rattle.std.proofs.Common.{ℕ, zero, suc, ◌+◌, ◌-◌, ◌*◌, ◌/◌, ◌<◌, ◌≤◌, ◌≡◌, ◌==◌, ◌&&◌, Bool, true, false, Option, Some, None, refl, sym, ◌∙◌, ap, subst, inl, inr, arith, if◌then◌else◌, is_some, is_none, List, [], ◌∷◌, ◌++◌, length, unwrap_or, nat_lt, nat_le, append_assoc, length-append}
+use Rattle.std.proofs.Common.{ℕ, ◌+◌, ◌*◌, ◌/◌, ◌<◌, ◌≤◌, ◌≡◌, ◌==◌, ◌&&◌, Bool, true, false, Option, Some, None, refl, sym, ◌∙◌, ap, subst, inl, inr, arith, if◌then◌else◌, is_none, List, [], ◌∷◌, ◌++◌, length, unwrap_or, append_assoc, length-append}
 use Rattle.std.specs.List.{position_from}
-use Rattle.std.proofs.lemmas.Bool.{cases_Bool, and_parts, and_from, and_left, and_right, eq-eqb, ne_eqb, le-leb, lt-ltb}
-use Rattle.std.proofs.lemmas.List.{append-nil, length-replicate}
-use Rattle.ec_bits.specs.Bits.{bit, overlay, zeros, within}
+use Rattle.std.proofs.lemmas.Bool.{cases_Bool, and_parts, and_from, eq-eqb, ne_eqb}
+use Rattle.std.proofs.lemmas.List.{length-replicate}
+use Rattle.ec_bits.specs.Bits.{bit, zeros}
 use Rattle.ec_bits.proofs.AnyLaws.{if_true, if_false, within_true}
 use Rattle.ec_bits.proofs.BitLaws.{overlay_alike}
 use Rattle.ec_regs.specs.declared.fmmu.FmmuSettings.{FmmuSettings}
-use Rattle.ec_regs.specs.declared.manager.ManagerSettings.{ManagerSettings}
 use Rattle.ec_regs.specs.Managers.{is_set, is_mailbox, span}
-use Rattle.ec_sync.specs.Manager.{Manager, empty_manager, may_write, may_read, is_enabled, ring_written, ring_read}
+use Rattle.ec_sync.specs.Manager.{Manager, empty_manager, may_write, is_enabled, ring_written}
 use Rattle.ec_sync.specs.Governing.{governor, governs, covers}
-use Rattle.ec_fmmu.specs.Applied.{Place}
+use Rattle.ec_fmmu.specs.Applied.{Place, touched_by_reading, touched_by_writing}
 use Rattle.ec_slave.specs.Managers.{manager_after}
-use Rattle.ec_slave.specs.Access.{Window, touches, byte_from, retold, retold_from, is_configured, settings_written, value_for, manager_met, managers_met}
-use Rattle.ec_slave.specs.Logical.{touched_by_reading, touched_by_writing, brought, plain_bit, value_brought, only_if, managers_exchanged}
+use Rattle.ec_slave.specs.Access.{Window, touches, byte_from, retold_from, is_configured, settings_written, value_for, manager_met, managers_met}
+use Rattle.ec_slave.specs.Logical.{brought, value_brought, managers_exchanged}
 use Rattle.ec_slave.specs.AgainstAll.{is_governor, each_from, value_among, bits_among, PhysicalAgainstAll, LogicalAgainstAll}
 
 abbrev or_after : Option ℕ → Option ℕ → Option ℕ
@@ -24,57 +23,57 @@ or_after (Some i) o = Some i
 position_from-append : (t : Manager → Bool) (k : ℕ) (xs ys : List Manager) → position_from t k (xs ++ ys) ≡ or_after (position_from t k xs) (position_from t (k + length xs) ys)
 position_from-append t k [] ys = let e : k + 0 ≡ k = omega arith in rw e refl
 position_from-append t k (x ∷ xs) ys = elim (cases_Bool (t x)) as (λ _. position_from t k (x ∷ xs ++ ys) ≡ or_after (position_from t k (x ∷ xs)) (position_from t (k + length (x ∷ xs)) ys)) [
-      inl h ↦ rw h refl
-    | inr h ↦
-        let e : k + 1 + length xs ≡ k + length (x ∷ xs) = omega arith in
-        rw h (position_from-append t (k + 1) xs ys ∙ ap (λ n. or_after (position_from t (k + 1) xs) (position_from t n ys)) e)
-    ]
+  | inl h ↦ rw h refl
+  | inr h ↦
+      let e : k + 1 + length xs ≡ k + length (x ∷ xs) = omega arith in
+      rw h (position_from-append t (k + 1) xs ys ∙ ap (λ n. or_after (position_from t (k + 1) xs) (position_from t n ys)) e)
+]
 
 pub position_from-below : (t : Manager → Bool) (k : ℕ) (xs : List Manager) (i : ℕ) → position_from t k xs ≡ Some i → i < k + length xs
 position_from-below t k [] i e = absurd (let f : None ≡ Some i = e in cc)
 position_from-below t k (x ∷ xs) i e = elim (cases_Bool (t x)) [
-      inl h ↦
-        let f : Some k ≡ Some i = sym (if_true (t x) (Some k) (position_from t (k + 1) xs) h) ∙ e in
-        let g : k ≡ i = cc in
-        omega arith
-    | inr h ↦
-        let f : position_from t (k + 1) xs ≡ Some i = sym (if_false (t x) (Some k) (position_from t (k + 1) xs) h) ∙ e in
-        let g = position_from-below t (k + 1) xs i f in
-        omega arith
-    ]
+  | inl h ↦
+      let f : Some k ≡ Some i = sym (if_true (t x) (Some k) (position_from t (k + 1) xs) h) ∙ e in
+      let g : k ≡ i = cc in
+      omega arith
+  | inr h ↦
+      let f : position_from t (k + 1) xs ≡ Some i = sym (if_false (t x) (Some k) (position_from t (k + 1) xs) h) ∙ e in
+      let g = position_from-below t (k + 1) xs i f in
+      omega arith
+]
 
 -- what a manager that governs a byte gets of it
 told_among : {X : Type 0} (lower : List Manager) (m : Manager) (ms : List Manager) (a : ℕ) (o : Option X) → governs m a ≡ true
-  → (if is_none (governor lower a) then o else None) ≡ (if is_governor (length lower) (governor (lower ++ m ∷ ms) a) then o else None)
+    → (if is_none (governor lower a) then o else None) ≡ (if is_governor (length lower) (governor (lower ++ m ∷ ms) a) then o else None)
 told_among {X} lower m ms a o g =
     let t = λ (x : Manager). governs x a in
     let whole : governor (lower ++ m ∷ ms) a ≡ or_after (governor lower a) (position_from t (length lower) (m ∷ ms))
-      = let z : 0 + length lower ≡ length lower = omega arith in
-        position_from-append t 0 lower (m ∷ ms) ∙ ap (λ n. or_after (governor lower a) (position_from t n (m ∷ ms))) z in
+    = let z : 0 + length lower ≡ length lower = omega arith in
+    position_from-append t 0 lower (m ∷ ms) ∙ ap (λ n. or_after (governor lower a) (position_from t n (m ∷ ms))) z in
     let here : position_from t (length lower) (m ∷ ms) ≡ Some (length lower) = if_true _ _ _ g in
     by_lower (governor lower a) refl whole here
   where
-  by_lower : (low : Option ℕ) → governor lower a ≡ low
-    → governor (lower ++ m ∷ ms) a ≡ or_after (governor lower a) (position_from (λ (x : Manager). governs x a) (length lower) (m ∷ ms))
-    → position_from (λ (x : Manager). governs x a) (length lower) (m ∷ ms) ≡ Some (length lower)
-    → (if is_none (governor lower a) then o else None) ≡ (if is_governor (length lower) (governor (lower ++ m ∷ ms) a) then o else None)
-  by_lower None e whole here =
-    let all : governor (lower ++ m ∷ ms) a ≡ Some (length lower) = whole ∙ (ap (λ w. or_after w (position_from (λ (x : Manager). governs x a) (length lower) (m ∷ ms))) e ∙ here) in
-    if_true _ _ _ (ap is_none e) ∙ sym (if_true _ _ _ (ap (is_governor (length lower)) all ∙ eq-eqb (length lower) (length lower) refl))
-  by_lower (Some i) e whole here =
-    let all : governor (lower ++ m ∷ ms) a ≡ Some i = whole ∙ ap (λ w. or_after w (position_from (λ (x : Manager). governs x a) (length lower) (m ∷ ms))) e in
-    let below : i < 0 + length lower = position_from-below (λ (x : Manager). governs x a) 0 lower i e in
-    let other : (i == length lower) ≡ false = ne_eqb i (length lower) (λ q. omega arith) in
-    if_false _ _ _ (ap is_none e) ∙ sym (if_false _ _ _ (ap (is_governor (length lower)) all ∙ other))
+    by_lower : (low : Option ℕ) → governor lower a ≡ low
+        → governor (lower ++ m ∷ ms) a ≡ or_after (governor lower a) (position_from (λ (x : Manager). governs x a) (length lower) (m ∷ ms))
+        → position_from (λ (x : Manager). governs x a) (length lower) (m ∷ ms) ≡ Some (length lower)
+        → (if is_none (governor lower a) then o else None) ≡ (if is_governor (length lower) (governor (lower ++ m ∷ ms) a) then o else None)
+    by_lower None e whole here =
+        let all : governor (lower ++ m ∷ ms) a ≡ Some (length lower) = whole ∙ (ap (λ w. or_after w (position_from (λ (x : Manager). governs x a) (length lower) (m ∷ ms))) e ∙ here) in
+        if_true _ _ _ (ap is_none e) ∙ sym (if_true _ _ _ (ap (is_governor (length lower)) all ∙ eq-eqb (length lower) (length lower) refl))
+    by_lower (Some i) e whole here =
+        let all : governor (lower ++ m ∷ ms) a ≡ Some i = whole ∙ ap (λ w. or_after w (position_from (λ (x : Manager). governs x a) (length lower) (m ∷ ms))) e in
+        let below : i < 0 + length lower = position_from-below (λ (x : Manager). governs x a) 0 lower i e in
+        let other : (i == length lower) ≡ false = ne_eqb i (length lower) (λ q. omega arith) in
+        if_false _ _ _ (ap is_none e) ∙ sym (if_false _ _ _ (ap (is_governor (length lower)) all ∙ other))
 
 -- a manager that may be written governs each byte of its value
 pub governs-value : (m : Manager) (k : ℕ) → may_write m ≡ true → k < m.settings.length → governs m (m.settings.start + k) ≡ true
 governs-value m k w l =
     let set : is_set m.settings ≡ true = (and_parts (is_set m.settings) _ (and_parts (is_enabled m) _ w).0).0 in
     let long : m.settings.length ≤ span m.settings = elim (cases_Bool (is_mailbox m.settings)) [
-          inl h ↦ let e : span m.settings ≡ m.settings.length = if_true _ _ _ h in omega arith
-        | inr h ↦ let e : span m.settings ≡ 3 * m.settings.length = if_false _ _ _ h in omega arith
-        ] in
+      | inl h ↦ let e : span m.settings ≡ m.settings.length = if_true _ _ _ h in omega arith
+      | inr h ↦ let e : span m.settings ≡ 3 * m.settings.length = if_false _ _ _ h in omega arith
+    ] in
     and_from _ _ set (within_true m.settings.start (span m.settings) (m.settings.start + k) (omega arith) (omega arith))
 
 pub retold_alike : (k : ℕ) (xs : List ℕ) (f g : ℕ → Option ℕ) → ((i : ℕ) → i < k + length xs → f i ≡ g i) → retold_from k xs f ≡ retold_from k xs g
@@ -85,30 +84,30 @@ retold_alike k (x ∷ xs) f g h =
 
 -- a manager after an access goes by the value that it would get where it may be written, and by no other
 after_alike : (reads writes : Bool) (rt wt : ℕ → Bool) (v u : ℕ → ℕ → List ℕ) (m : Manager)
-  → (may_write m ≡ true → v m.settings.start m.settings.length ≡ u m.settings.start m.settings.length)
-  → manager_after reads writes rt wt v m ≡ manager_after reads writes rt wt u m
+    → (may_write m ≡ true → v m.settings.start m.settings.length ≡ u m.settings.start m.settings.length)
+    → manager_after reads writes rt wt v m ≡ manager_after reads writes rt wt u m
 after_alike reads writes rt wt v u m h = elim (cases_Bool (writes && (covers wt m && may_write m))) [
-      inl t ↦
-        let w : may_write m ≡ true = (and_parts (covers wt m) (may_write m) (and_parts writes _ t).1).1 in
-        if_true _ _ _ t ∙ (ap (ring_written m) (h w) ∙ sym (if_true _ _ _ t))
-    | inr f ↦ if_false _ _ _ f ∙ sym (if_false _ _ _ f)
-    ]
+  | inl t ↦
+      let w : may_write m ≡ true = (and_parts (covers wt m) (may_write m) (and_parts writes _ t).1).1 in
+      if_true _ _ _ t ∙ (ap (ring_written m) (h w) ∙ sym (if_true _ _ _ t))
+  | inr f ↦ if_false _ _ _ f ∙ sym (if_false _ _ _ f)
+]
 
 value_for-among : (lower : List Manager) (m : Manager) (ms : List Manager) (w : Window) → may_write m ≡ true
-  → value_for lower w m.settings.start m.settings.length ≡ value_among (lower ++ m ∷ ms) w (length lower) m.settings.start m.settings.length
+    → value_for lower w m.settings.start m.settings.length ≡ value_among (lower ++ m ∷ ms) w (length lower) m.settings.start m.settings.length
 value_for-among lower m ms w h =
     retold_alike 0 (zeros m.settings.length) _ _ (λ k l.
-      let z : k < m.settings.length = let e = length-replicate {A = ℕ} m.settings.length 0 in omega (arith, e) in
-      told_among lower m ms (m.settings.start + k) (byte_from w (m.settings.start + k)) (governs-value m k h z))
+    let z : k < m.settings.length = let e = length-replicate {A = ℕ} m.settings.length 0 in omega (arith, e) in
+    told_among lower m ms (m.settings.start + k) (byte_from w (m.settings.start + k)) (governs-value m k h z))
 
 value_brought-among : (lower : List Manager) (m : Manager) (ms : List Manager) (fs : List FmmuSettings) (p : Place) (bytes : List ℕ) → may_write m ≡ true
-  → value_brought lower fs p bytes m.settings.start m.settings.length ≡ bits_among (lower ++ m ∷ ms) fs p bytes (length lower) m.settings.start m.settings.length
+    → value_brought lower fs p bytes m.settings.start m.settings.length ≡ bits_among (lower ++ m ∷ ms) fs p bytes (length lower) m.settings.start m.settings.length
 value_brought-among lower m ms fs p bytes h =
     overlay_alike (zeros m.settings.length) _ _ (λ k l. ap (λ o. unwrap_or o (bit (zeros m.settings.length) k))
-      (let z : k < 8 * m.settings.length = let e = length-replicate {A = ℕ} m.settings.length 0 in omega (arith, e) in
-       let at : m.settings.start + k / 8 ≡ (8 * m.settings.start + k) / 8 = omega arith in
-       let g : governs m ((8 * m.settings.start + k) / 8) ≡ true = subst (λ (a : ℕ). governs m a ≡ true) at (governs-value m (k / 8) h (omega arith)) in
-       told_among lower m ms ((8 * m.settings.start + k) / 8) (brought fs p bytes (8 * m.settings.start + k)) g))
+    (let z : k < 8 * m.settings.length = let e = length-replicate {A = ℕ} m.settings.length 0 in omega (arith, e) in
+    let at : m.settings.start + k / 8 ≡ (8 * m.settings.start + k) / 8 = omega arith in
+    let g : governs m ((8 * m.settings.start + k) / 8) ≡ true = subst (λ (a : ℕ). governs m a ≡ true) at (governs-value m (k / 8) h (omega arith)) in
+    told_among lower m ms ((8 * m.settings.start + k) / 8) (brought fs p bytes (8 * m.settings.start + k)) g))
 
 abbrev physical_by : List Manager → Bool → Bool → Window → ℕ → Manager → Manager
 physical_by all reads writes w n m =
@@ -116,20 +115,20 @@ physical_by all reads writes w n m =
     else manager_after reads writes (touches w) (touches w) (value_among all w n) m
 
 physical_from : (lower ms : List Manager) (reads writes : Bool) (w : Window)
-  → managers_met lower reads writes w (length lower) ms ≡ each_from (length lower) (physical_by (lower ++ ms) reads writes w) ms
+    → managers_met lower reads writes w (length lower) ms ≡ each_from (length lower) (physical_by (lower ++ ms) reads writes w) ms
 unfolding manager_met
 physical_from lower [] reads writes w = refl
 physical_from lower (m ∷ ms) reads writes w =
     let one : manager_met lower reads writes w (length lower) m ≡ physical_by (lower ++ m ∷ ms) reads writes w (length lower) m
-      = ap (λ x. if writes && is_configured w (length lower) then empty_manager (settings_written w (length lower) m) m.locked else x)
-          (after_alike reads writes (touches w) (touches w) (value_for lower w) (value_among (lower ++ m ∷ ms) w (length lower)) m (value_for-among lower m ms w)) in
+    = ap (λ x. if writes && is_configured w (length lower) then empty_manager (settings_written w (length lower) m) m.locked else x)
+    (after_alike reads writes (touches w) (touches w) (value_for lower w) (value_among (lower ++ m ∷ ms) w (length lower)) m (value_for-among lower m ms w)) in
     let next : length (lower ++ m ∷ []) ≡ length lower + 1 = length-append lower (m ∷ []) in
     let all : (lower ++ m ∷ []) ++ ms ≡ lower ++ m ∷ ms = append_assoc lower (m ∷ []) ms in
     let rest : managers_met (lower ++ m ∷ []) reads writes w (length lower + 1) ms ≡ each_from (length lower + 1) (physical_by (lower ++ m ∷ ms) reads writes w) ms
-      = ap (λ k. managers_met (lower ++ m ∷ []) reads writes w k ms) (sym next)
-        ∙ (physical_from (lower ++ m ∷ []) ms reads writes w
-        ∙ (ap (λ k. each_from k (physical_by ((lower ++ m ∷ []) ++ ms) reads writes w) ms) next
-        ∙ ap (λ xs. each_from (length lower + 1) (physical_by xs reads writes w) ms) all)) in
+    = ap (λ k. managers_met (lower ++ m ∷ []) reads writes w k ms) (sym next)
+    ∙ (physical_from (lower ++ m ∷ []) ms reads writes w
+    ∙ (ap (λ k. each_from k (physical_by ((lower ++ m ∷ []) ++ ms) reads writes w) ms) next
+    ∙ ap (λ xs. each_from (length lower + 1) (physical_by xs reads writes w) ms) all)) in
     ap (λ x. x ∷ managers_met (lower ++ m ∷ []) reads writes w (length lower + 1) ms) one
     ∙ ap (λ xs. physical_by (lower ++ m ∷ ms) reads writes w (length lower) m ∷ xs) rest
 
@@ -141,17 +140,17 @@ logical_by all reading writing fs p bytes n m =
     manager_after reading writing (touched_by_reading fs p) (touched_by_writing fs p) (bits_among all fs p bytes n) m
 
 logical_from : (lower ms : List Manager) (reading writing : Bool) (fs : List FmmuSettings) (p : Place) (bytes : List ℕ)
-  → managers_exchanged lower reading writing fs p bytes ms ≡ each_from (length lower) (logical_by (lower ++ ms) reading writing fs p bytes) ms
+    → managers_exchanged lower reading writing fs p bytes ms ≡ each_from (length lower) (logical_by (lower ++ ms) reading writing fs p bytes) ms
 logical_from lower [] reading writing fs p bytes = refl
 logical_from lower (m ∷ ms) reading writing fs p bytes =
     let one : manager_after reading writing (touched_by_reading fs p) (touched_by_writing fs p) (value_brought lower fs p bytes) m ≡ logical_by (lower ++ m ∷ ms) reading writing fs p bytes (length lower) m
-      = after_alike reading writing (touched_by_reading fs p) (touched_by_writing fs p) (value_brought lower fs p bytes) (bits_among (lower ++ m ∷ ms) fs p bytes (length lower)) m (value_brought-among lower m ms fs p bytes) in
+    = after_alike reading writing (touched_by_reading fs p) (touched_by_writing fs p) (value_brought lower fs p bytes) (bits_among (lower ++ m ∷ ms) fs p bytes (length lower)) m (value_brought-among lower m ms fs p bytes) in
     let next : length (lower ++ m ∷ []) ≡ length lower + 1 = length-append lower (m ∷ []) in
     let all : (lower ++ m ∷ []) ++ ms ≡ lower ++ m ∷ ms = append_assoc lower (m ∷ []) ms in
     let rest : managers_exchanged (lower ++ m ∷ []) reading writing fs p bytes ms ≡ each_from (length lower + 1) (logical_by (lower ++ m ∷ ms) reading writing fs p bytes) ms
-      = logical_from (lower ++ m ∷ []) ms reading writing fs p bytes
-        ∙ (ap (λ k. each_from k (logical_by ((lower ++ m ∷ []) ++ ms) reading writing fs p bytes) ms) next
-        ∙ ap (λ xs. each_from (length lower + 1) (logical_by xs reading writing fs p bytes) ms) all) in
+    = logical_from (lower ++ m ∷ []) ms reading writing fs p bytes
+    ∙ (ap (λ k. each_from k (logical_by ((lower ++ m ∷ []) ++ ms) reading writing fs p bytes) ms) next
+    ∙ ap (λ xs. each_from (length lower + 1) (logical_by xs reading writing fs p bytes) ms) all) in
     ap (λ x. x ∷ managers_exchanged (lower ++ m ∷ []) reading writing fs p bytes ms) one
     ∙ ap (λ xs. logical_by (lower ++ m ∷ ms) reading writing fs p bytes (length lower) m ∷ xs) rest
 

@@ -1,5 +1,5 @@
 -- The bytes of a datagram that was answered.
-use Rattle.std.proofs.Common.{◌*◌, ℕ, ◌+◌, ◌<◌, arith, ◌/◌, ◌%◌, ◌≡◌, ◌≢◌, ◌⊎◌, inl, inr, Bool, List, ◌++◌, length, refl, sym, ◌∙◌, ap}
+use Rattle.std.proofs.Common.{◌*◌, ℕ, ◌+◌, ◌<◌, arith, ◌/◌, ◌%◌, ◌≡◌, ◌≢◌, Bool, List, ◌++◌, length, refl, sym, ◌∙◌, ap}
 use Rattle.byteorder.specs.Endian.{little_bytes}
 use Rattle.ec_frame.specs.declared.command.Command.{Command}
 use Rattle.ec_frame.specs.declared.command.Command.TheVariants.{Nop, Aprd, Apwr, Aprw, Fprd, Fpwr, Fprw, Brd, Bwr, Brw, Lrd, Lwr, Lrw, Armw, Frmw}
@@ -14,7 +14,7 @@ use Rattle.ec_slave.specs.Meeting.{window_of, meets_physically, meets_by, meets}
 use Rattle.ec_bits.proofs.BitLaws.{length-overlay}
 use Rattle.ec_fmmu.specs.Applied.{Place}
 use Rattle.ec_slave.specs.declared.mapped.Way.{Way}
-use Rattle.ec_slave.specs.State.{Met, fmmus, with_answer}
+use Rattle.ec_slave.specs.State.{fmmus, with_answer}
 use Rattle.ec_slave.specs.Logical.{place_of, only_if, read_bit, meets_logical, logical_after}
 use Rattle.ec_slave.specs.Ways.{data_after, count_after, is_reading, is_writing, meets_way, meets_exchanging}
 use Rattle.ec_slave.specs.declared.mapped.Way.TheVariants.{Read as ReadMapped, Write as WriteMapped}
@@ -110,8 +110,8 @@ moved-good s way p d good =
 
 -- data moved between heading and counter
 pub data_moved : (more : Bool) (d : Datagram) (front bytes back : List ℕ) (s : SlaveState) (way : Way) (p : Place)
-  → front ≡ heading more d → bytes ≡ data_after s way p d.data_bytes → back ≡ little_bytes 2 d.counter
-  → front ++ (bytes ++ back) ≡ spelling more (with_data d (data_after s way p d.data_bytes))
+    → front ≡ heading more d → bytes ≡ data_after s way p d.data_bytes → back ≡ little_bytes 2 d.counter
+    → front ++ (bytes ++ back) ≡ spelling more (with_data d (data_after s way p d.data_bytes))
 data_moved more d front bytes back s way p f b k =
     let same : length (data_after s way p d.data_bytes) ≡ length d.data_bytes = length-overlay d.data_bytes (λ i. only_if (is_reading way) (read_bit s.memory s.managers (fmmus s) p i)) in
     let h : heading more d ≡ heading more (with_data d (data_after s way p d.data_bytes)) = cc in
@@ -120,8 +120,9 @@ data_moved more d front bytes back s way p f b k =
     ∙ ap (λ (t : List ℕ). heading more (with_data d (data_after s way p d.data_bytes)) ++ (data_after s way p d.data_bytes ++ t)) k)
 
 pub meets_way-is : (way : Way) (s : SlaveState) (d : Datagram) → meets_way way s d ≡ record {
-    slave = logical_after s (is_reading way) (is_writing way) (place_of d) d.data_bytes;
-    datagram = with_answer d d.address (data_after s way (place_of d) d.data_bytes) (count_after s way (place_of d) d.data_bytes) }
+  slave = logical_after s (is_reading way) (is_writing way) (place_of d) d.data_bytes;
+  datagram = with_answer d d.address (data_after s way (place_of d) d.data_bytes) (count_after s way (place_of d) d.data_bytes);
+}
 unfolding meets_logical
 meets_way-is way s d = refl
 

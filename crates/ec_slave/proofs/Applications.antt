@@ -1,5 +1,5 @@
 -- What a slave becomes by its application's bytes.
-use Rattle.std.proofs.Common.{zero, suc, [], ◌∷◌, arith, get_or, ℕ, ◌<◌, ◌≡◌, Bool, true, false, Option, Some, None, refl, sym, ◌∙◌, ap, if◌then◌else◌, List, length, slice_set, unwrap_or, option_map}
+use Rattle.std.proofs.Common.{zero, suc, [], ◌∷◌, arith, get_or, ℕ, ◌<◌, ◌≡◌, true, Option, Some, None, refl, sym, ◌∙◌, ap, List, length, unwrap_or, option_map}
 use Rattle.std.proofs.lemmas.List.{set-get_or}
 use Rattle.ec_bits.proofs.AnyLaws.{if_true}
 use Rattle.ec_sync.specs.Buffer.{Got}
@@ -16,7 +16,7 @@ put_by s None = own s 3
 put_by s (Some m) = refl
 
 pub put_after : (s : SlaveState) (i x : ℕ) (m : Manager) → is_running s.al.state ≡ true
-  → m ≡ unwrap_or (app_put (manager_at s.managers 3) i x) (manager_at s.managers 3) → with_manager s 3 m ≡ unwrap_or (input_put s i x) s
+    → m ≡ unwrap_or (app_put (manager_at s.managers 3) i x) (manager_at s.managers 3) → with_manager s 3 m ≡ unwrap_or (input_put s i x) s
 put_after s i x m r e =
     ap (with_manager s 3) e
     ∙ (put_by s (app_put (manager_at s.managers 3) i x)
@@ -27,7 +27,7 @@ got_by s None = own s 2
 got_by s (Some g) = refl
 
 pub got_after : (s : SlaveState) (i : ℕ) (m : Manager) → is_running s.al.state ≡ true
-  → m ≡ after_get (manager_at s.managers 2) (app_got (manager_at s.managers 2) i) → with_manager s 2 m ≡ output_taken s (output_got s i)
+    → m ≡ after_get (manager_at s.managers 2) (app_got (manager_at s.managers 2) i) → with_manager s 2 m ≡ output_taken s (output_got s i)
 got_after s i m r e =
     ap (with_manager s 2) e
     ∙ (got_by s (app_got (manager_at s.managers 2) i)

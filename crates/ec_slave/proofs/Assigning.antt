@@ -58,11 +58,10 @@ written-image p from bytes =
     let q : Sii = addressed p (address_written p.address from bytes) in
     either p.busy p (commanded q (byte_for from bytes command_place)) p.image refl (commanded-image q (byte_for from bytes command_place))
 
-
 -- a slave all of whose parts are as the power comes on
 pub powered : (s : SlaveState) → s.memory ≡ zeros memory_length → s.managers ≡ (no_manager ∷ no_manager ∷ no_manager ∷ no_manager ∷ []) → s.al ≡ al.power_on
-  → s.sii ≡ idle_port (record { identity = s.identity; mailbox = s.kind.mailbox }) → s.out_slots ≡ indices s.kind.outputs → s.out_count ≡ length s.kind.outputs
-  → s.in_slots ≡ indices s.kind.inputs → s.in_count ≡ length s.kind.inputs → s.replies ≡ 0 → s ≡ power_on s.kind s.identity
+    → s.sii ≡ idle_port (record { identity = s.identity; mailbox = s.kind.mailbox }) → s.out_slots ≡ indices s.kind.outputs → s.out_count ≡ length s.kind.outputs
+    → s.in_slots ≡ indices s.kind.inputs → s.in_count ≡ length s.kind.inputs → s.replies ≡ 0 → s ≡ power_on s.kind s.identity
 unfolding power_on
 powered s memory managers al sii outs out_count ins in_count replies =
     ap (λ x. record s { memory = x }) memory

@@ -1,23 +1,18 @@
 -- Physical datagrams that leave a slave as it was.
-use Rattle.std.proofs.Common.{ℕ, zero, suc, ◌+◌, ◌-◌, ◌*◌, ◌/◌, ◌%◌, ◌<◌, ◌≤◌, ◌≡◌, ◌==◌, ◌&&◌, ◌||◌, Bool, true, false, Option, Some, None, refl, sym, ◌∙◌, ap, subst, inl, inr, arith, if◌then◌else◌, List, [], ◌∷◌, ◌++◌, length, slice_index, nat_lt, nat_le}
+use Rattle.std.proofs.Common.{ℕ, ◌+◌, ◌%◌, ◌<◌, ◌≤◌, ◌≡◌, ◌==◌, ◌&&◌, ◌||◌, Bool, true, false, Some, refl, ◌∙◌, ap, inl, inr, arith, List, [], ◌∷◌, ◌++◌, length, slice_index, nat_lt, nat_le}
 use Rattle.std.specs.Prelude.{bit_or}
-use Rattle.std.specs.Int.{from_bool}
 use Rattle.std.proofs.lemmas.Bool.{and_left, and_right, and_parts, cases_Bool, or_left, lt-ltb, leb-true}
-use Rattle.ec_bits.specs.Bits.{any_below, within}
 use Rattle.ec_bits.proofs.AnyLaws.{any_below_from, if_true, if_false, within_above}
 use Rattle.ec_regs.specs.declared.manager.ManagerSettings.{ManagerSettings}
-use Rattle.ec_regs.specs.Memory.{ram_start, ram_end}
-use Rattle.ec_regs.specs.Managers.{is_set, is_mailbox, is_buffered, is_ring_written, is_ring_read, span}
-use Rattle.ec_frame.specs.declared.command.Command.{Command}
-use Rattle.ec_frame.specs.declared.command.Command.TheVariants.{Brd}
-use Rattle.ec_frame.specs.Datagram.{Datagram, adp_of, ado_of}
+use Rattle.ec_regs.specs.Memory.{ram_start}
+use Rattle.ec_regs.specs.Managers.{is_set, is_mailbox, is_buffered, is_ring_written, is_ring_read}
+use Rattle.ec_frame.specs.Datagram.{ado_of}
 use Rattle.ec_sync.specs.Manager.{Manager, may_read}
 use Rattle.ec_sync.specs.Governing.{covers}
-use Rattle.ec_slave.specs.declared.role.Role.TheVariants.{OrRead}
-use Rattle.ec_slave.specs.State.{SlaveState, Met, with_answer}
+use Rattle.ec_slave.specs.State.{SlaveState}
 use Rattle.ec_slave.specs.Managers.{manager_after}
 use Rattle.ec_slave.specs.Access.{Window, touches, byte_at, byte_read, may_read_byte, some_byte_read, retold, value_for, manager_met, managers_met, slave_after, meeting}
-use Rattle.ec_slave.specs.Meeting.{meets, meets_by, meets_physically, window_of}
+use Rattle.ec_slave.specs.Meeting.{meets, window_of}
 use Rattle.ec_slave.specs.LogicalLaws.{BroadcastLaw}
 use Rattle.ec_slave.proofs.AgainstAll.{retold_alike}
 
@@ -34,9 +29,9 @@ set-start m h =
 -- a datagram on registers alone reads no manager
 registers-covered : (w : Window) (m : Manager) → w.from + length w.bytes ≤ ram_start → (covers (touches w) m && may_read m) ≡ false
 registers-covered w m l = elim (cases_Bool (is_set m.settings)) [
-      inl t ↦ and_left _ _ (and_left _ _ (within_above w.from (length w.bytes) m.settings.start (let x = set-start m.settings t in omega arith)))
-    | inr f ↦ and_right (covers (touches w) m) _ (and_left _ _ (and_left _ _ f))
-    ]
+  | inl t ↦ and_left _ _ (and_left _ _ (within_above w.from (length w.bytes) m.settings.start (let x = set-start m.settings t in omega arith)))
+  | inr f ↦ and_right (covers (touches w) m) _ (and_left _ _ (and_left _ _ f))
+]
 
 -- it leaves every manager as it was, if it only reads
 pub managers-read : (lower ms : List Manager) (reads : Bool) (w : Window) (n : ℕ) → w.from + length w.bytes ≤ ram_start → managers_met lower reads false w n ms ≡ ms
@@ -44,13 +39,14 @@ unfolding manager_met
 managers-read lower [] reads w n l = refl
 managers-read lower (m ∷ ms) reads w n l =
     let one : manager_after reads false (touches w) (touches w) (value_for lower w) m ≡ m
-      = if_false _ _ _ (and_right reads _ (registers-covered w m l)) in
+    = if_false _ _ _ (and_right reads _ (registers-covered w m l)) in
     ap (λ x. x ∷ managers_met (lower ++ m ∷ []) reads false w (n + 1) ms) one
     ∙ ap (λ xs. m ∷ xs) (managers-read (lower ++ m ∷ []) ms reads w (n + 1) l)
 
-slave-read : (s : SlaveState) (w : Window) → w.from + length w.bytes ≤ ram_start → slave_after s true false w ≡ s
+-- registers belong to no manager
+pub registers-idle : (s : SlaveState) (w : Window) → w.from + length w.bytes ≤ ram_start → slave_after s true false w ≡ s
 unfolding slave_after
-slave-read s w l = rw (managers-read [] s.managers true w 0 l) refl
+registers-idle s w l = rw (managers-read [] s.managers true w 0 l) refl
 
 -- every register reads
 registers-read : (s : SlaveState) (w : Window) (k : ℕ) → w.from + length w.bytes ≤ ram_start → k < length w.bytes → may_read_byte s.managers (touches w) (w.from + k) ≡ true
@@ -63,5 +59,5 @@ broadcast_read s d c n l =
     let w = window_of d in
     let some : some_byte_read s.managers w ≡ true = any_below_from (length d.data_bytes) (λ k. may_read_byte s.managers (touches w) (ado_of d + k)) 0 n (registers-read s w 0 l n) in
     let bytes : retold d.data_bytes (byte_read s true w) ≡ retold d.data_bytes (λ k. Some (bit_or (slice_index d.data_bytes k) (byte_at s (ado_of d + k))))
-      = retold_alike 0 d.data_bytes _ _ (λ k i. if_true _ _ _ (registers-read s w k l (omega arith))) in
-    rw (c, slave-read s w l, some, bytes) refl
+    = retold_alike 0 d.data_bytes _ _ (λ k i. if_true _ _ _ (registers-read s w k l (omega arith))) in
+    rw (c, registers-idle s w l, some, bytes) refl

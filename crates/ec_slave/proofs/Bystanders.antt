@@ -8,7 +8,7 @@ use Rattle.ec_frame.specs.Fields.{with_adp}
 use Rattle.ec_slave.specs.declared.role.Role.{Role}
 use Rattle.ec_slave.specs.declared.role.Role.TheVariants.{Nothing}
 use Rattle.ec_slave.specs.Roles.{role_of, adp_after}
-use Rattle.ec_slave.specs.State.{SlaveState, Met, station_of, with_answer}
+use Rattle.ec_slave.specs.State.{SlaveState, station_of, with_answer}
 use Rattle.ec_slave.specs.Access.{Window, meeting, slave_after}
 use Rattle.ec_slave.specs.Meeting.{window_of, meets, meets_by, meets_physically, passes, slave_met}
 use Rattle.ec_slave.specs.Keeping.{adp_after-bound, length-meeting}
@@ -126,13 +126,13 @@ unfolding meeting slave_after
 meeting-kept s role w = (refl, refl)
 
 logical-kept : (reading writing : Bool) (weight : ℕ) (s : SlaveState) (d : Datagram)
-  → ((meets_logical reading writing weight s d).slave.kind ≡ s.kind) × ((meets_logical reading writing weight s d).slave.identity ≡ s.identity)
+    → ((meets_logical reading writing weight s d).slave.kind ≡ s.kind) × ((meets_logical reading writing weight s d).slave.identity ≡ s.identity)
 unfolding meets_logical
 logical-kept reading writing weight s d = (refl, refl)
 
 lrw-kept : (b : Bool) (s : SlaveState) (d : Datagram)
-  → ((if b then meets_logical true true 2 s d else record { slave = s; datagram = d }).slave.kind ≡ s.kind)
-  × ((if b then meets_logical true true 2 s d else record { slave = s; datagram = d }).slave.identity ≡ s.identity)
+    → ((if b then meets_logical true true 2 s d else record { slave = s; datagram = d }).slave.kind ≡ s.kind)
+    × ((if b then meets_logical true true 2 s d else record { slave = s; datagram = d }).slave.identity ≡ s.identity)
 lrw-kept true s d = logical-kept true true 2 s d
 lrw-kept false s d = (refl, refl)
 

@@ -1,6 +1,5 @@
 -- Laws of tests.
-use Rattle.std.proofs.Common.{Option, Some, None, is_some, is_none, not, ℕ, zero, suc, ◌+◌, ◌<◌, ◌≤◌, ◌≡◌, ◌&&◌, ◌||◌, Bool, true, false, refl, sym, ◌∙◌, ap, arith, if◌then◌else◌, nat_lt, nat_le}
-use Rattle.std.proofs.lemmas.Bool.{and_left, and_right, and_from, lt-ltb, le-ltb, le-leb, lt-leb}
+use Rattle.std.proofs.Common.{Option, Some, None, is_some, is_none, not, ℕ, suc, ◌+◌, ◌≡◌, ◌||◌, Bool, true, false, refl, sym, ◌∙◌, ap, arith, if◌then◌else◌}
 use Rattle.ec_bits.specs.Bits.{any_below}
 use Rattle.ec_bits.proofs.AnyLaws.{if_true, if_false}
 
@@ -26,14 +25,14 @@ any-miss n p b e h = e ∙ sym (any-at n p ∙ if_false _ _ _ h)
 pub any-or : (n : ℕ) (p : ℕ → Bool) (b r : Bool) → b ≡ any_below n p → r ≡ p n → (b || r) ≡ any_below (n + 1) p
 any-or n p b true e h = any-true b ∙ any-hit n p (sym h)
   where
-  any-true : (b : Bool) → (b || true) ≡ true
-  any-true true = refl
-  any-true false = refl
+    any-true : (b : Bool) → (b || true) ≡ true
+    any-true true = refl
+    any-true false = refl
 any-or n p b false e h = any-false b ∙ any-miss n p b e (sym h)
   where
-  any-false : (b : Bool) → (b || false) ≡ b
-  any-false true = refl
-  any-false false = refl
+    any-false : (b : Bool) → (b || false) ≡ b
+    any-false true = refl
+    any-false false = refl
 
 pub none-from : {X : Type 0} (o : Option X) (r : Bool) → is_some o ≡ not r → r ≡ is_none o
 none-from None true e = refl

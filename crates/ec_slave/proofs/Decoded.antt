@@ -1,6 +1,5 @@
 -- The FMMUs as the registers say them.
-use Rattle.std.proofs.Common.{ℕ, zero, suc, ◌+◌, ◌-◌, ◌*◌, ◌%◌, ◌<◌, ◌≤◌, ◌≡◌, ◌==◌, refl, sym, ◌∙◌, ap, arith, List, [], ◌∷◌, length, get_or, slice_index, take, drop, Option, None, unwrap_or}
-use Rattle.std.specs.Int.{bit_at}
+use Rattle.std.proofs.Common.{ℕ, ◌+◌, ◌*◌, ◌<◌, ◌≤◌, ◌≡◌, refl, sym, ◌∙◌, ap, arith, List, [], ◌∷◌, length, get_or, slice_index, unwrap_or}
 use Rattle.ec_regs.specs.Fmmus.{fmmu_of}
 use Rattle.ec_sync.specs.Manager.{Manager}
 use Rattle.ec_slave.specs.State.{fmmus_of}
@@ -43,8 +42,8 @@ fmmus_of-beyond ms w memory e l = fmmus_of-alike memory (memory_written ms w mem
 
 -- the FMMUs stay as the registers say them, whether they were decoded again or left
 pub decoded-kept : (ms : List Manager) (w : Window) (memory : List ℕ) (fs : List FmmuSettings) → length memory ≡ 12288 → fs ≡ fmmus_of memory
-  → (if nat_lt w.from 1600 then fmmus_of (memory_written ms w memory) else fs) ≡ fmmus_of (memory_written ms w memory)
+    → (if nat_lt w.from 1600 then fmmus_of (memory_written ms w memory) else fs) ≡ fmmus_of (memory_written ms w memory)
 decoded-kept ms w memory fs e d = elim (cases_lt w.from 1600) [
-      inl l ↦ if_true _ _ _ (lt-ltb _ _ l)
-    | inr l ↦ if_false _ _ _ (le-ltb _ _ l) ∙ (d ∙ fmmus_of-beyond ms w memory e l)
-    ]
+  | inl l ↦ if_true _ _ _ (lt-ltb _ _ l)
+  | inr l ↦ if_false _ _ _ (le-ltb _ _ l) ∙ (d ∙ fmmus_of-beyond ms w memory e l)
+]

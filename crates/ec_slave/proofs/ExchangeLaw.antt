@@ -1,18 +1,17 @@
 -- A logical datagram that has a mapped slave's whole area.
-use Rattle.std.proofs.Common.{ℕ, zero, suc, ◌+◌, ◌-◌, ◌*◌, ◌/◌, ◌%◌, ◌<◌, ◌≤◌, ◌≡◌, ◌≢◌, ◌⊎◌, ◌&&◌, not, Bool, true, false, Option, Some, None, refl, sym, ◌∙◌, ap, subst, inl, inr, arith, if◌then◌else◌, is_some, List, [], ◌∷◌, length, get_or, set, take, unwrap_or, nat_lt, nat_le, ext_get_or, length-set, get_or-set_same, get_or-set_other}
-use Rattle.std.specs.Int.{from_bool}
-use Rattle.std.proofs.lemmas.Bool.{and_left, and_right, and_from, and_parts, cases_Bool, cases_lt, cases_eq, lt-ltb, le-ltb, ltb-true, ltb-false, both_ways, false_from_ne_true}
-use Rattle.ec_bits.specs.Bits.{bit, overlay, any_below, within, bytes_of_bits, zeros}
+use Rattle.std.proofs.Common.{ℕ, ◌+◌, ◌-◌, ◌<◌, ◌≤◌, ◌≡◌, ◌≢◌, ◌&&◌, Bool, true, false, Some, None, refl, sym, ◌∙◌, ap, subst, inl, inr, arith, if◌then◌else◌, List, [], length, get_or, set, take, unwrap_or, nat_lt, ext_get_or, length-set, get_or-set_same, get_or-set_other}
+use Rattle.std.proofs.lemmas.Bool.{and_left, and_right, and_from, and_parts, cases_Bool, cases_lt, cases_eq, lt-ltb, le-ltb, ltb-true, both_ways, false_from_ne_true}
+use Rattle.ec_bits.specs.Bits.{bit, overlay, within}
 use Rattle.ec_bits.proofs.BitLaws.{overlay_alike, overlay_own}
 use Rattle.ec_bits.proofs.AnyLaws.{if_none, if_false, if_true, within_below, within_above}
 use Rattle.ec_frame.specs.Datagram.{Datagram}
-use Rattle.ec_sync.specs.Manager.{no_manager, Manager, may_write, may_read, ring_written, ring_read}
+use Rattle.ec_sync.specs.Manager.{no_manager, Manager, may_write, may_read, ring_read}
 use Rattle.ec_sync.specs.Governing.{covers}
-use Rattle.ec_fmmu.specs.Applied.{Place}
+use Rattle.ec_fmmu.specs.Applied.{Place, touched_by_reading, touched_by_writing}
 use Rattle.ec_slave.specs.State.{manager_at, SlaveState, fmmus, with_memory}
 use Rattle.ec_slave.specs.Managers.{manager_after}
-use Rattle.ec_slave.specs.Logical.{place_of, touched_by_reading, touched_by_writing, read_bit, plain_bit, value_brought, managers_exchanged, only_if, some_read, some_written, meets_logical}
-use Rattle.ec_slave.specs.Exchange.{Area, IsMapped, IsBufferAt, Spans, takes, gives, outputs_from, inputs_into, inputs_of, with_outputs, with_published, exchanged}
+use Rattle.ec_slave.specs.Logical.{place_of, read_bit, plain_bit, value_brought, managers_exchanged, only_if, meets_logical}
+use Rattle.ec_slave.specs.Exchange.{Area, IsMapped, Spans, takes, gives, outputs_from, inputs_into, inputs_of, with_outputs, with_published, exchanged}
 use Rattle.ec_slave.proofs.Governors.{length-managers_exchanged, manager_at-exchanged}
 use Rattle.ec_slave.proofs.Reading.{touches_in_only, read_bit_in, read_bit_out, some_read_is}
 use Rattle.ec_slave.proofs.Writing.{touches_out_only, some_written_is, written_or_governed, value_is, covers_out}
@@ -20,28 +19,28 @@ use Rattle.ec_slave.proofs.Writing.{touches_out_only, some_written_is, written_o
 -- a manager that isn't written
 not_written : (s : SlaveState) (a : Area) (p : Place) (n : ℕ) → IsMapped s a → n < 4 → n ≢ 2 → (covers (touched_by_writing (fmmus s) p) (manager_at s.managers n) && may_write (manager_at s.managers n)) ≡ false
 not_written s a p n h l ne = elim (cases_Bool (may_write (manager_at s.managers n))) [
-      inl t ↦ and_left _ _ (and_left _ _ (touches_out_only s a p (manager_at s.managers n).settings.start h (λ k b. h.out_alone n k l ne b t)))
-    | inr f ↦ and_right _ _ f
-    ]
+  | inl t ↦ and_left _ _ (and_left _ _ (touches_out_only s a p (manager_at s.managers n).settings.start h (λ k b. h.out_alone n k l ne b t)))
+  | inr f ↦ and_right _ _ f
+]
 
 -- a manager after a reading: no mailbox is read
 not_emptied : (s : SlaveState) (a : Area) (reading : Bool) (p : Place) (n : ℕ) → IsMapped s a → n < 4 → (if reading && (covers (touched_by_reading (fmmus s) p) (manager_at s.managers n) && may_read (manager_at s.managers n)) then ring_read (manager_at s.managers n) else manager_at s.managers n) ≡ manager_at s.managers n
 not_emptied s a reading p n h l =
     let m = manager_at s.managers n in
     elim (cases_eq n 3) [
-      inl e ↦ elim (cases_lt 0 a.ins) [
-          inl i ↦
+      | inl e ↦ elim (cases_lt 0 a.ins) [
+        | inl i ↦
             let r : ring_read (manager_at s.managers 3) ≡ manager_at s.managers 3 = if_false _ _ _ (h.in_buffer i).no_mailbox in
             rw (e, r) (elim (cases_Bool (reading && (covers (touched_by_reading (fmmus s) p) (manager_at s.managers 3) && may_read (manager_at s.managers 3)))) [
-                  inl t ↦ if_true _ _ _ t
-                | inr f ↦ if_false _ _ _ f
-                ])
+              | inl t ↦ if_true _ _ _ t
+              | inr f ↦ if_false _ _ _ f
+            ])
         | inr z ↦ if_false _ _ _ (and_right reading _ (and_left _ _ (and_left _ _ (touches_in_only s a p m.settings.start h (λ k b. absurd (omega arith))))))
-        ]
-    | inr ne ↦ if_false _ _ _ (and_right reading _ (elim (cases_Bool (may_read m)) as (λ _. (covers (touched_by_reading (fmmus s) p) m && may_read m) ≡ false) [
-          inl t ↦ and_left _ _ (and_left _ _ (touches_in_only s a p m.settings.start h (λ k b. h.in_alone n k l ne b t)))
+      ]
+      | inr ne ↦ if_false _ _ _ (and_right reading _ (elim (cases_Bool (may_read m)) as (λ _. (covers (touched_by_reading (fmmus s) p) m && may_read m) ≡ false) [
+        | inl t ↦ and_left _ _ (and_left _ _ (touches_in_only s a p m.settings.start h (λ k b. h.in_alone n k l ne b t)))
         | inr f ↦ and_right _ _ f
-        ]))
+      ]))
     ]
 
 -- manager 2 where the slave takes no outputs
@@ -49,11 +48,11 @@ not_taken : (s : SlaveState) (a : Area) (writing : Bool) (p : Place) → IsMappe
 not_taken s a writing p h f =
     let m = manager_at s.managers 2 in
     elim (cases_Bool writing) [
-      inl t ↦ and_right writing _ (elim (cases_lt 0 a.outs) as (λ _. (covers (touched_by_writing (fmmus s) p) m && may_write m) ≡ false) [
-          inl o ↦ and_right (covers (touched_by_writing (fmmus s) p) m) (may_write m) (false_from_ne_true (may_write m) (λ w. both_ways (writing && takes s a) f (and_from writing (takes s a) t (and_from (nat_lt 0 a.outs) (may_write m) (lt-ltb 0 a.outs o) w))))
+      | inl t ↦ and_right writing _ (elim (cases_lt 0 a.outs) as (λ _. (covers (touched_by_writing (fmmus s) p) m && may_write m) ≡ false) [
+        | inl o ↦ and_right (covers (touched_by_writing (fmmus s) p) m) (may_write m) (false_from_ne_true (may_write m) (λ w. both_ways (writing && takes s a) f (and_from writing (takes s a) t (and_from (nat_lt 0 a.outs) (may_write m) (lt-ltb 0 a.outs o) w))))
         | inr z ↦ and_left (covers (touched_by_writing (fmmus s) p) m) (may_write m) (and_left (touched_by_writing (fmmus s) p m.settings.start) _ (touches_out_only s a p m.settings.start h (λ k b. absurd (omega arith))))
-        ])
-    | inr g ↦ and_left writing _ g
+      ])
+      | inr g ↦ and_left writing _ g
     ]
 
 managers_kept : (s : SlaveState) (a : Area) (reading writing : Bool) (p : Place) (bytes : List ℕ) → IsMapped s a → (writing && takes s a) ≡ false → managers_exchanged [] reading writing (fmmus s) p bytes s.managers ≡ s.managers
@@ -61,18 +60,18 @@ managers_kept s a reading writing p bytes h f =
     let after = managers_exchanged [] reading writing (fmmus s) p bytes s.managers in
     let same = length-managers_exchanged [] reading writing (fmmus s) p bytes s.managers in
     ext_get_or no_manager after s.managers same (λ n l0.
-      let l1 : n < length s.managers = omega (arith, same) in
-      let l : n < 4 = let e = h.four in omega arith in
-      let test : (writing && (covers (touched_by_writing (fmmus s) p) (manager_at s.managers n) && may_write (manager_at s.managers n))) ≡ false
-        = elim (cases_eq n 2) as (λ _. (writing && (covers (touched_by_writing (fmmus s) p) (manager_at s.managers n) && may_write (manager_at s.managers n))) ≡ false) [
-              inl e ↦ subst (λ (k : ℕ). (writing && (covers (touched_by_writing (fmmus s) p) (manager_at s.managers k) && may_write (manager_at s.managers k))) ≡ false) (sym e) (not_taken s a writing p h f)
-            | inr ne ↦ and_right writing _ (not_written s a p n h l ne)
-            ] in
-      manager_at-exchanged [] reading writing (fmmus s) p bytes s.managers n l1
-      ∙ (if_false _ _ _ test ∙ not_emptied s a reading p n h l))
+    let l1 : n < length s.managers = omega (arith, same) in
+    let l : n < 4 = let e = h.four in omega arith in
+    let test : (writing && (covers (touched_by_writing (fmmus s) p) (manager_at s.managers n) && may_write (manager_at s.managers n))) ≡ false
+    = elim (cases_eq n 2) as (λ _. (writing && (covers (touched_by_writing (fmmus s) p) (manager_at s.managers n) && may_write (manager_at s.managers n))) ≡ false) [
+      | inl e ↦ subst (λ (k : ℕ). (writing && (covers (touched_by_writing (fmmus s) p) (manager_at s.managers k) && may_write (manager_at s.managers k))) ≡ false) (sym e) (not_taken s a writing p h f)
+      | inr ne ↦ and_right writing _ (not_written s a p n h l ne)
+    ] in
+    manager_at-exchanged [] reading writing (fmmus s) p bytes s.managers n l1
+    ∙ (if_false _ _ _ test ∙ not_emptied s a reading p n h l))
 
-taken : (s : SlaveState) (a : Area) (reading writing : Bool) (p : Place) (bytes : List ℕ) → IsMapped s a → Spans p a → (writing && takes s a) ≡ true 
-  → manager_after reading writing (touched_by_reading (fmmus s) p) (touched_by_writing (fmmus s) p) (value_brought (take 2 s.managers) (fmmus s) p bytes) (manager_at s.managers 2) ≡ with_published (manager_at s.managers 2) (outputs_from a p bytes)
+taken : (s : SlaveState) (a : Area) (reading writing : Bool) (p : Place) (bytes : List ℕ) → IsMapped s a → Spans p a → (writing && takes s a) ≡ true
+    → manager_after reading writing (touched_by_reading (fmmus s) p) (touched_by_writing (fmmus s) p) (value_brought (take 2 s.managers) (fmmus s) p bytes) (manager_at s.managers 2) ≡ with_published (manager_at s.managers 2) (outputs_from a p bytes)
 taken s a reading writing p bytes h c t =
     let m = manager_at s.managers 2 in
     let parts = and_parts writing (takes s a) t in
@@ -89,45 +88,45 @@ managers_set s a reading writing p bytes h c t =
     let new = with_published (manager_at s.managers 2) (outputs_from a p bytes) in
     let two : 2 < length s.managers = let e = h.four in omega arith in
     ext_get_or no_manager after (set s.managers 2 new) (same ∙ sym (length-set s.managers 2 new)) (λ n l0.
-      let l1 : n < length s.managers = omega (arith, same) in
-      let l : n < 4 = let e = h.four in omega arith in
-      manager_at-exchanged [] reading writing (fmmus s) p bytes s.managers n l1
-      ∙ elim (cases_eq n 2) as (λ _. F n (manager_at s.managers n) ≡ get_or (set s.managers 2 new) n no_manager) [
-          inl e ↦ subst (λ (k : ℕ). F k (manager_at s.managers k) ≡ get_or (set s.managers 2 new) k no_manager) (sym e) (taken s a reading writing p bytes h c t ∙ sym (get_or-set_same s.managers 2 new no_manager two))
-        | inr ne ↦ if_false _ _ _ (and_right writing _ (not_written s a p n h l ne)) ∙ (not_emptied s a reading p n h l ∙ sym (get_or-set_other s.managers 2 n new no_manager ne))
-        ])
+    let l1 : n < length s.managers = omega (arith, same) in
+    let l : n < 4 = let e = h.four in omega arith in
+    manager_at-exchanged [] reading writing (fmmus s) p bytes s.managers n l1
+    ∙ elim (cases_eq n 2) as (λ _. F n (manager_at s.managers n) ≡ get_or (set s.managers 2 new) n no_manager) [
+      | inl e ↦ subst (λ (k : ℕ). F k (manager_at s.managers k) ≡ get_or (set s.managers 2 new) k no_manager) (sym e) (taken s a reading writing p bytes h c t ∙ sym (get_or-set_same s.managers 2 new no_manager two))
+      | inr ne ↦ if_false _ _ _ (and_right writing _ (not_written s a p n h l ne)) ∙ (not_emptied s a reading p n h l ∙ sym (get_or-set_other s.managers 2 n new no_manager ne))
+    ])
 
 slave_after : (s : SlaveState) (a : Area) (reading writing : Bool) (p : Place) (bytes : List ℕ) → IsMapped s a → Spans p a → with_memory s s.memory (managers_exchanged [] reading writing (fmmus s) p bytes s.managers) ≡ (if writing && takes s a then with_outputs s (outputs_from a p bytes) else s)
 slave_after s a reading writing p bytes h c = elim (cases_Bool (writing && takes s a)) [
-      inl t ↦ ap (with_memory s s.memory) (managers_set s a reading writing p bytes h c t) ∙ sym (if_true _ _ _ t)
-    | inr f ↦ ap (with_memory s s.memory) (managers_kept s a reading writing p bytes h f) ∙ sym (if_false _ _ _ f)
-    ]
+  | inl t ↦ ap (with_memory s s.memory) (managers_set s a reading writing p bytes h c t) ∙ sym (if_true _ _ _ t)
+  | inr f ↦ ap (with_memory s s.memory) (managers_kept s a reading writing p bytes h f) ∙ sym (if_false _ _ _ f)
+]
 
 data_after : (s : SlaveState) (a : Area) (reading : Bool) (p : Place) (bytes : List ℕ) → IsMapped s a → Spans p a → overlay bytes (λ i. only_if reading (read_bit s.memory s.managers (fmmus s) p i)) ≡ (if reading && gives s a then inputs_into a p (inputs_of s) bytes else bytes)
 data_after s a reading p bytes h c = elim (cases_Bool reading) [
-      inl r ↦ elim (cases_Bool (may_read (manager_at s.managers 3))) [
-          inl t ↦ elim (cases_lt 0 a.ins) [
-              inl l ↦ overlay_alike bytes _ _ (λ i k. ap (λ o. unwrap_or o (bit bytes i)) (if_true _ _ _ r ∙ elim (cases_Bool (within a.in_at a.ins (p.from + i))) as (λ _. read_bit s.memory s.managers (fmmus s) p i ≡ (if within a.in_at a.ins (p.from + i) then Some (bit (inputs_of s) (p.from + i - a.in_at)) else None)) [
-                    inl w ↦ read_bit_in s a p i h c w ∙ (if_true _ _ _ t ∙ sym (if_true _ _ _ w))
-                  | inr w ↦ read_bit_out s a p i h w ∙ sym (if_false _ _ _ w)
-                  ]))
-                ∙ sym (if_true _ _ _ (and_from _ _ r (and_from _ _ (lt-ltb 0 a.ins l) t)))
-            | inr z ↦ overlay_own bytes _ (λ i k. ap (λ o. unwrap_or o (bit bytes i)) (if_none reading _ (read_bit_out s a p i h (no_ins a (p.from + i) z))))
-                ∙ sym (if_false _ _ _ (and_right reading _ (and_left _ _ (le-ltb 0 a.ins z))))
-            ]
-        | inr f ↦ overlay_own bytes _ (λ i k. ap (λ o. unwrap_or o (bit bytes i)) (if_none reading _ (elim (cases_Bool (within a.in_at a.ins (p.from + i))) as (λ _. read_bit s.memory s.managers (fmmus s) p i ≡ None) [
-                    inl w ↦ read_bit_in s a p i h c w ∙ if_false _ _ _ f
-                  | inr w ↦ read_bit_out s a p i h w
-                  ])))
-            ∙ sym (if_false _ _ _ (and_right reading _ (and_right _ _ f)))
-        ]
-    | inr r ↦ overlay_own bytes _ (λ i k. ap (λ o. unwrap_or o (bit bytes i)) (if_false _ _ _ r)) ∙ sym (if_false _ _ _ (and_left _ _ r))
+  | inl r ↦ elim (cases_Bool (may_read (manager_at s.managers 3))) [
+    | inl t ↦ elim (cases_lt 0 a.ins) [
+      | inl l ↦ overlay_alike bytes _ _ (λ i k. ap (λ o. unwrap_or o (bit bytes i)) (if_true _ _ _ r ∙ elim (cases_Bool (within a.in_at a.ins (p.from + i))) as (λ _. read_bit s.memory s.managers (fmmus s) p i ≡ (if within a.in_at a.ins (p.from + i) then Some (bit (inputs_of s) (p.from + i - a.in_at)) else None)) [
+        | inl w ↦ read_bit_in s a p i h c w ∙ (if_true _ _ _ t ∙ sym (if_true _ _ _ w))
+        | inr w ↦ read_bit_out s a p i h w ∙ sym (if_false _ _ _ w)
+      ]))
+          ∙ sym (if_true _ _ _ (and_from _ _ r (and_from _ _ (lt-ltb 0 a.ins l) t)))
+      | inr z ↦ overlay_own bytes _ (λ i k. ap (λ o. unwrap_or o (bit bytes i)) (if_none reading _ (read_bit_out s a p i h (no_ins a (p.from + i) z))))
+          ∙ sym (if_false _ _ _ (and_right reading _ (and_left _ _ (le-ltb 0 a.ins z))))
     ]
+    | inr f ↦ overlay_own bytes _ (λ i k. ap (λ o. unwrap_or o (bit bytes i)) (if_none reading _ (elim (cases_Bool (within a.in_at a.ins (p.from + i))) as (λ _. read_bit s.memory s.managers (fmmus s) p i ≡ None) [
+      | inl w ↦ read_bit_in s a p i h c w ∙ if_false _ _ _ f
+      | inr w ↦ read_bit_out s a p i h w
+    ])))
+        ∙ sym (if_false _ _ _ (and_right reading _ (and_right _ _ f)))
+  ]
+  | inr r ↦ overlay_own bytes _ (λ i k. ap (λ o. unwrap_or o (bit bytes i)) (if_false _ _ _ r)) ∙ sym (if_false _ _ _ (and_left _ _ r))
+]
   where
-  no_ins : (a : Area) (l : ℕ) → a.ins ≤ 0 → within a.in_at a.ins l ≡ false
-  no_ins a l z = elim (cases_lt l a.in_at) [
-      inl x ↦ within_below a.in_at a.ins l x
-    | inr x ↦ within_above a.in_at a.ins l (omega arith)
+    no_ins : (a : Area) (l : ℕ) → a.ins ≤ 0 → within a.in_at a.ins l ≡ false
+    no_ins a l z = elim (cases_lt l a.in_at) [
+      | inl x ↦ within_below a.in_at a.ins l x
+      | inr x ↦ within_above a.in_at a.ins l (omega arith)
     ]
 
 -- What a logical datagram does to a mapped slave.
@@ -136,7 +135,7 @@ unfolding meets_logical
 exchange reading writing weight s a d h c =
     let p = place_of d in
     let memory = overlay_own s.memory (λ q. only_if writing (plain_bit s.managers (fmmus s) p d.data_bytes q))
-        (λ q l. ap (λ o. unwrap_or o (bit s.memory q)) (if_none writing _ (written_or_governed s a p d.data_bytes q h))) in
+    (λ q l. ap (λ o. unwrap_or o (bit s.memory q)) (if_none writing _ (written_or_governed s a p d.data_bytes q h))) in
     let bytes = data_after s a reading p d.data_bytes h c in
     let r = some_read_is s a p h c in
     let w = some_written_is s a p d.data_bytes h c in

@@ -5,9 +5,9 @@ use Rattle.std.proofs.Math.Seq.{take-append_seam, drop-append_seam}
 use Rattle.ec_regs.specs.declared.fmmu.FmmuSettings.{FmmuSettings}
 use Rattle.ec_sync.specs.Manager.{Manager, may_write}
 use Rattle.ec_sync.specs.Governing.{covers}
-use Rattle.ec_fmmu.specs.Applied.{Place}
+use Rattle.ec_fmmu.specs.Applied.{Place, touched_by_reading, touched_by_writing}
 use Rattle.ec_slave.specs.Managers.{manager_after}
-use Rattle.ec_slave.specs.Logical.{touched_by_reading, touched_by_writing, value_brought, managers_exchanged}
+use Rattle.ec_slave.specs.Logical.{value_brought, managers_exchanged}
 use Rattle.ec_slave.specs.Written.{some_brought, some_manager_written}
 
 -- one of them
@@ -28,10 +28,11 @@ exchanged_from-end (a ∷ b ∷ c ∷ []) reading writing fs p bytes e = absurd 
 exchanged_from-end (a ∷ b ∷ c ∷ d ∷ []) reading writing fs p bytes e = refl
 exchanged_from-end (a ∷ b ∷ c ∷ d ∷ x ∷ xs) reading writing fs p bytes e = absurd (omega arith)
 
-take_front : (xs ys : List Manager) (n : ℕ) → length xs ≡ n → take n (xs ++ ys) ≡ xs
+-- the front of what was joined, and what comes after it
+pub take_front : {X : Type 0} (xs ys : List X) (n : ℕ) → length xs ≡ n → take n (xs ++ ys) ≡ xs
 take_front xs ys n e = ap (λ m. take m (xs ++ ys)) (sym e) ∙ take-append_seam xs ys
 
-drop_front : (xs ys : List Manager) (n : ℕ) → length xs ≡ n → drop n (xs ++ ys) ≡ ys
+pub drop_front : {X : Type 0} (xs ys : List X) (n : ℕ) → length xs ≡ n → drop n (xs ++ ys) ≡ ys
 drop_front xs ys n e = ap (λ m. drop m (xs ++ ys)) (sym e) ∙ drop-append_seam xs ys
 
 -- one more, number n

@@ -1,14 +1,10 @@
 -- Accesses that leave managers, or the whole slave, as they were.
-use Rattle.std.proofs.Common.{ℕ, ◌+◌, ◌≤◌, ◌≡◌, ◌&&◌, Bool, true, false, refl, sym, ◌∙◌, ap, if◌then◌else◌, List, [], ◌∷◌, ◌++◌, length}
-use Rattle.std.proofs.lemmas.Bool.{and_right, and_left}
+use Rattle.std.proofs.Common.{ℕ, ◌+◌, ◌≡◌, ◌&&◌, true, false, refl, ◌∙◌, ap, if◌then◌else◌, List, [], ◌∷◌, ◌++◌, length}
 use Rattle.ec_bits.specs.Bits.{within}
-use Rattle.ec_bits.proofs.AnyLaws.{if_false}
-use Rattle.ec_regs.specs.Memory.{ram_start}
 use Rattle.ec_sync.specs.Manager.{Manager, may_read, ring_read}
 use Rattle.ec_sync.specs.Governing.{covers}
 use Rattle.ec_slave.specs.State.{SlaveState}
 use Rattle.ec_slave.specs.Access.{Window, manager_met, managers_met, slave_after}
-use Rattle.ec_slave.proofs.Broadcast.{managers-read}
 
 -- a datagram that neither reads nor writes
 managers-idle : (lower ms : List Manager) (w : Window) (n : ℕ) → managers_met lower false false w n ms ≡ ms
@@ -22,7 +18,7 @@ slave_idle s w = rw (managers-idle [] s.managers w 0) refl
 
 -- a read goes by where the bytes lie, and not by what they are
 pub managers-reach : (lower ms : List Manager) (from n : ℕ) (b c : List ℕ) → length b ≡ length c
-  → managers_met lower true false (record { from = from; bytes = b }) n ms ≡ managers_met lower true false (record { from = from; bytes = c }) n ms
+    → managers_met lower true false (record { from = from; bytes = b }) n ms ≡ managers_met lower true false (record { from = from; bytes = c }) n ms
 unfolding manager_met
 managers-reach lower [] from n b c e = refl
 managers-reach lower (m ∷ ms) from n b c e =
@@ -30,11 +26,6 @@ managers-reach lower (m ∷ ms) from n b c e =
     ∙ ap (λ xs. (if covers (within from (length c)) m && may_read m then ring_read m else m) ∷ xs) (managers-reach (lower ++ m ∷ []) ms from (n + 1) b c e)
 
 pub slave_reach : (s : SlaveState) (from : ℕ) (b c : List ℕ) → length b ≡ length c
-  → slave_after s true false (record { from = from; bytes = b }) ≡ slave_after s true false (record { from = from; bytes = c })
+    → slave_after s true false (record { from = from; bytes = b }) ≡ slave_after s true false (record { from = from; bytes = c })
 unfolding slave_after
 slave_reach s from b c e = rw (managers-reach [] s.managers from 0 b c e) refl
-
--- registers belong to no manager
-pub registers-idle : (s : SlaveState) (w : Window) → w.from + length w.bytes ≤ ram_start → slave_after s true false w ≡ s
-unfolding slave_after
-registers-idle s w l = rw (managers-read [] s.managers true w 0 l) refl

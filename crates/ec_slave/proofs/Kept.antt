@@ -1,15 +1,12 @@
 -- A slave that publishes new outputs is mapped as it was.
-use Rattle.std.proofs.Common.{ℕ, zero, suc, ◌+◌, ◌<◌, ◌≤◌, ◌≡◌, ◌≢◌, ◌⊎◌, ◌&&◌, Bool, true, false, Option, Some, None, refl, sym, ◌∙◌, ap, subst, inl, inr, arith, if◌then◌else◌, List, [], ◌∷◌, length, get_or, set, length-set, get_or-set_same, get_or-set_other}
+use Rattle.std.proofs.Common.{ℕ, zero, suc, ◌+◌, ◌<◌, ◌≡◌, ◌≢◌, Some, refl, sym, ◌∙◌, ap, subst, inl, inr, arith, if◌then◌else◌, List, [], ◌∷◌, length, set, length-set, get_or-set_same, get_or-set_other}
 use Rattle.std.specs.List.{position_from}
 use Rattle.std.proofs.lemmas.Bool.{cases_eq}
 use Rattle.ec_bits.specs.Bits.{bytes_of_bits}
 use Rattle.ec_regs.specs.declared.manager.ManagerSettings.{ManagerSettings}
 use Rattle.ec_sync.specs.Manager.{no_manager, Manager, may_read, may_write}
-use Rattle.ec_sync.specs.Governing.{governor, governs, covers, in_front}
-use Rattle.ec_fmmu.specs.Applied.{Place, inside_place}
-use Rattle.ec_slave.specs.State.{manager_at, SlaveState, fmmus, Met, with_memory, with_answer}
-use Rattle.ec_slave.specs.Managers.{reads_under, writes_under, shown_under, manager_after}
-use Rattle.ec_slave.specs.Logical.{place_of, leads_into, touched_by_reading, touched_by_writing, read_bit, readable_bit, data_bit_for, brought, written_bit, plain_bit, value_brought, managers_exchanged, only_if, some_read, some_written, meets_logical}
+use Rattle.ec_sync.specs.Governing.{governs}
+use Rattle.ec_slave.specs.State.{manager_at, SlaveState}
 use Rattle.ec_slave.specs.Exchange.{Area, IsMapped, IsBufferAt, with_outputs, with_published}
 
 governor-set : (k : ℕ) (ms : List Manager) (n : ℕ) (v : List ℕ) (a : ℕ) → position_from (λ m. governs m a) k (set ms n (with_published (manager_at ms n) v)) ≡ position_from (λ m. governs m a) k ms
@@ -20,10 +17,10 @@ governor-set k (m ∷ ms) (suc n) v a = ap (λ o. if governs m a then Some k els
 -- what a manager has beside its value is as it was
 at_set : {X : Type 0} (f : Manager → X) → ((m : Manager) (v : List ℕ) → f (with_published m v) ≡ f m) → (ms : List Manager) (v : List ℕ) (n : ℕ) → 2 < length ms → f (manager_at (set ms 2 (with_published (manager_at ms 2) v)) n) ≡ f (manager_at ms n)
 at_set f same ms v n l = elim (cases_eq n 2) [
-      inl e ↦ subst (λ (k : ℕ). f (manager_at (set ms 2 (with_published (manager_at ms 2) v)) k) ≡ f (manager_at ms k)) (sym e)
-        (ap f (get_or-set_same ms 2 (with_published (manager_at ms 2) v) no_manager l) ∙ same (manager_at ms 2) v)
-    | inr ne ↦ ap f (get_or-set_other ms 2 n (with_published (manager_at ms 2) v) no_manager ne)
-    ]
+  | inl e ↦ subst (λ (k : ℕ). f (manager_at (set ms 2 (with_published (manager_at ms 2) v)) k) ≡ f (manager_at ms k)) (sym e)
+      (ap f (get_or-set_same ms 2 (with_published (manager_at ms 2) v) no_manager l) ∙ same (manager_at ms 2) v)
+  | inr ne ↦ ap f (get_or-set_other ms 2 n (with_published (manager_at ms 2) v) no_manager ne)
+]
 
 -- the other managers are as they were
 pub outputs-other : (s : SlaveState) (v : List ℕ) (n : ℕ) → n ≢ 2 → manager_at (with_outputs s v).managers n ≡ manager_at s.managers n

@@ -19,6 +19,5 @@ mod Sights
 pub mod SomeWritten
 mod Choices
 mod Told
-mod Touching
 mod Windows
 pub mod Writing

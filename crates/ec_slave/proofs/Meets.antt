@@ -1,10 +1,9 @@
 -- The managers meet a datagram from the last to the first.
-use Rattle.std.proofs.Common.{ℕ, zero, suc, ◌+◌, ◌-◌, ◌<◌, ◌≤◌, ◌≡◌, List, [], ◌∷◌, ◌++◌, length, take, drop, get_or, set, Bool, true, false, refl, sym, ◌∙◌, ap, arith}
+use Rattle.std.proofs.Common.{ℕ, ◌+◌, ◌-◌, ◌<◌, ◌≡◌, List, [], ◌∷◌, ◌++◌, length, take, drop, get_or, set, Bool, refl, sym, ◌∙◌, ap, arith}
 use Rattle.std.proofs.lemmas.List.{take_more, drop_more, length-take-le, append_assoc}
-use Rattle.std.proofs.Math.Seq.{take-append_seam, drop-append_seam}
 use Rattle.ec_sync.specs.Manager.{Manager}
-use Rattle.ec_slave.specs.Access.{Window}
-use Rattle.ec_slave.specs.Access.{manager_met, managers_met}
+use Rattle.ec_slave.specs.Access.{Window, manager_met, managers_met}
+use Rattle.ec_slave.proofs.Exchanges.{take_front, drop_front}
 
 -- those from number p on have met it
 abbrev pub met_from : List Manager → Bool → Bool → Window → ℕ → List Manager
@@ -21,18 +20,12 @@ met_from-end (a ∷ b ∷ c ∷ d ∷ x ∷ xs) reads writes w e = absurd (omega
 pub met_from-start : (ms : List Manager) (reads writes : Bool) (w : Window) → met_from ms reads writes w 0 ≡ managers_met [] reads writes w 0 ms
 met_from-start ms reads writes w = refl
 
-take_front : (xs ys : List Manager) (n : ℕ) → length xs ≡ n → take n (xs ++ ys) ≡ xs
-take_front xs ys n e = ap (λ m. take m (xs ++ ys)) (sym e) ∙ take-append_seam xs ys
-
-drop_front : (xs ys : List Manager) (n : ℕ) → length xs ≡ n → drop n (xs ++ ys) ≡ ys
-drop_front xs ys n e = ap (λ m. drop m (xs ++ ys)) (sym e) ∙ drop-append_seam xs ys
-
 -- one more, number p
 pub met_from-step : (ms before after : List Manager) (reads writes : Bool) (w : Window) (p : ℕ) (d : Manager) (x : Manager)
-  → p < length ms → before ≡ met_from ms reads writes w (p + 1)
-  → x ≡ manager_met (take p before) reads writes w p (get_or (drop p before) 0 d)
-  → after ≡ take p before ++ set (drop p before) 0 x
-  → after ≡ met_from ms reads writes w p
+    → p < length ms → before ≡ met_from ms reads writes w (p + 1)
+    → x ≡ manager_met (take p before) reads writes w p (get_or (drop p before) 0 d)
+    → after ≡ take p before ++ set (drop p before) 0 x
+    → after ≡ met_from ms reads writes w p
 met_from-step ms before after reads writes w p d x l b n a =
     let A : List Manager = take p ms in
     let m : Manager = get_or ms p d in
@@ -46,7 +39,3 @@ met_from-step ms before after reads writes w p d x l b n a =
     let nx : x ≡ manager_met A reads writes w p m = n ∙ (ap (λ t. manager_met t reads writes w p (get_or (drop p before) 0 d)) tB ∙ ap (λ t. manager_met A reads writes w p (get_or t 0 d)) dB) in
     a ∙ (ap (λ t. t ++ set (drop p before) 0 x) tB ∙ (ap (λ t. A ++ set t 0 x) dB ∙ (ap (λ y. A ++ y ∷ R) nx
     ∙ ap (λ t. A ++ managers_met A reads writes w p t) (sym eD))))
-
--- the front of what was joined
-pub front-taken : {X : Type 0} (xs ys : List X) (n : ℕ) → length xs ≡ n → take n (xs ++ ys) ≡ xs
-front-taken xs ys n e = ap (λ m. take m (xs ++ ys)) (sym e) ∙ take-append_seam xs ys

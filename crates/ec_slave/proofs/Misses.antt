@@ -1,19 +1,18 @@
 -- A logical datagram whose bits no FMMU maps leaves the slave as it was, and goes on as it came.
-use Rattle.std.proofs.Common.{ℕ, ◌+◌, ◌*◌, ◌/◌, ◌%◌, ◌<◌, ◌≡◌, ◌&&◌, not, Bool, true, false, Option, Some, None, refl, ◌∙◌, ap, arith, if◌then◌else◌, is_some, List, [], ◌∷◌, ◌++◌, length, option_map, option_and_then, unwrap_or, mod-eq_of_lt}
+use Rattle.std.proofs.Common.{ℕ, ◌+◌, ◌*◌, ◌%◌, ◌<◌, ◌≡◌, ◌&&◌, Bool, false, None, refl, ◌∙◌, ap, arith, is_some, List, [], ◌∷◌, ◌++◌, option_map, option_and_then, unwrap_or, mod-eq_of_lt}
 use Rattle.std.specs.Int.{from_bool}
 use Rattle.std.proofs.lemmas.Bool.{and_left, and_right}
 use Rattle.ec_bits.specs.Bits.{bit}
 use Rattle.ec_bits.proofs.BitLaws.{overlay_own}
 use Rattle.ec_bits.proofs.AnyLaws.{any_below_none, if_none, if_false}
-use Rattle.ec_regs.specs.declared.fmmu.FmmuSettings.{FmmuSettings}
 use Rattle.ec_regs.specs.Memory.{ram_end}
 use Rattle.ec_frame.specs.Datagram.{Datagram}
 use Rattle.ec_sync.specs.Manager.{Manager, may_read, may_write}
-use Rattle.ec_sync.specs.Governing.{covers, governor}
-use Rattle.ec_fmmu.specs.Applied.{Place}
+use Rattle.ec_sync.specs.Governing.{covers}
+use Rattle.ec_fmmu.specs.Applied.{Place, leads_into, touched_by_reading, touched_by_writing}
 use Rattle.ec_slave.specs.State.{SlaveState, fmmus}
 use Rattle.ec_slave.specs.Managers.{manager_after}
-use Rattle.ec_slave.specs.Logical.{place_of, leads_into, touched_by_reading, touched_by_writing, read_bit, readable_bit, written_bit, plain_bit, brought, value_brought, managers_exchanged, only_if, some_read, some_written, meets_logical}
+use Rattle.ec_slave.specs.Logical.{place_of, read_bit, readable_bit, written_bit, plain_bit, brought, value_brought, managers_exchanged, only_if, some_read, some_written, meets_logical}
 use Rattle.ec_slave.specs.LogicalLaws.{Misses}
 
 no_read_bit : (s : SlaveState) (p : Place) (i : ℕ) → Misses s p → i < p.bits → read_bit s.memory s.managers (fmmus s) p i ≡ None
@@ -35,30 +34,30 @@ no_touch_reading : (s : SlaveState) (p : Place) (a : ℕ) → Misses s p → tou
 no_touch_reading s p a h = any_below_none p.bits _ (λ i l. ap (λ o. leads_into o a) (h.reads i l))
 
 manager_kept : (s : SlaveState) (reading writing : Bool) (p : Place) (value : ℕ → ℕ → List ℕ) (m : Manager) → Misses s p
-  → manager_after reading writing (touched_by_reading (fmmus s) p) (touched_by_writing (fmmus s) p) value m ≡ m
+    → manager_after reading writing (touched_by_reading (fmmus s) p) (touched_by_writing (fmmus s) p) value m ≡ m
 manager_kept s reading writing p value m h =
     if_false _ _ _ (and_right writing _ (and_left (covers (touched_by_writing (fmmus s) p) m) (may_write m) (and_left _ _ (no_touch_writing s p m.settings.start h))))
     ∙ if_false _ _ _ (and_right reading _ (and_left (covers (touched_by_reading (fmmus s) p) m) (may_read m) (and_left _ _ (no_touch_reading s p m.settings.start h))))
 
 managers_kept : (s : SlaveState) (lower ms : List Manager) (reading writing : Bool) (p : Place) (bytes : List ℕ) → Misses s p
-  → managers_exchanged lower reading writing (fmmus s) p bytes ms ≡ ms
+    → managers_exchanged lower reading writing (fmmus s) p bytes ms ≡ ms
 managers_kept s lower [] reading writing p bytes h = refl
 managers_kept s lower (m ∷ ms) reading writing p bytes h =
     ap (λ x. x ∷ managers_exchanged (lower ++ m ∷ []) reading writing (fmmus s) p bytes ms) (manager_kept s reading writing p (value_brought lower (fmmus s) p bytes) m h)
     ∙ ap (λ xs. m ∷ xs) (managers_kept s (lower ++ m ∷ []) ms reading writing p bytes h)
 
 pub misses : (reading writing : Bool) (weight : ℕ) (s : SlaveState) (d : Datagram) → Misses s (place_of d) → d.counter < 65536
-  → meets_logical reading writing weight s d ≡ record { slave = s; datagram = d }
+    → meets_logical reading writing weight s d ≡ record { slave = s; datagram = d }
 unfolding meets_logical
 misses reading writing weight s d h c =
     let p = place_of d in
     let memory = overlay_own s.memory (λ q. only_if writing (plain_bit s.managers (fmmus s) p d.data_bytes q))
-        (λ q l. ap (λ o. unwrap_or o (bit s.memory q)) (if_none writing _ (no_plain_bit s p d.data_bytes q h))) in
+    (λ q l. ap (λ o. unwrap_or o (bit s.memory q)) (if_none writing _ (no_plain_bit s p d.data_bytes q h))) in
     let managers = managers_kept s [] s.managers reading writing p d.data_bytes h in
     let bytes = overlay_own d.data_bytes (λ i. only_if reading (read_bit s.memory s.managers (fmmus s) p i))
-        (λ i l. ap (λ o. unwrap_or o (bit d.data_bytes i)) (if_none reading _ (no_read_bit s p i h l))) in
+    (λ i l. ap (λ o. unwrap_or o (bit d.data_bytes i)) (if_none reading _ (no_read_bit s p i h l))) in
     let r : (reading && some_read s.memory s.managers (fmmus s) p) ≡ false = and_right reading _ (any_below_none p.bits _ (λ i l. ap is_some (no_read_bit s p i h l))) in
     let w : (writing && some_written s.managers (fmmus s) p d.data_bytes) ≡ false = and_right writing _ (any_below_none (8 * ram_end) _ (λ q l. ap is_some (no_written_bit s p d.data_bytes q h))) in
     let n : (d.counter + (from_bool (reading && some_read s.memory s.managers (fmmus s) p) + weight * from_bool (writing && some_written s.managers (fmmus s) p d.data_bytes))) % 65536 ≡ d.counter
-      = rw (r, w) (let z : d.counter + (0 + weight * 0) ≡ d.counter = omega arith in rw z (mod-eq_of_lt c)) in
+    = rw (r, w) (let z : d.counter + (0 + weight * 0) ≡ d.counter = omega arith in rw z (mod-eq_of_lt c)) in
     rw (memory, managers, bytes, n) refl

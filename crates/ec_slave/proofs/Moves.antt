@@ -1,51 +1,51 @@
 -- What a slave becomes by a logical datagram, as its code finds it.
-use Rattle.std.proofs.Common.{ℕ, zero, suc, ◌+◌, ◌-◌, ◌*◌, ◌/◌, ◌<◌, ◌≤◌, ◌≡◌, ◌≢◌, ◌&&◌, ◌||◌, Bool, true, false, Option, Some, None, refl, sym, ◌∙◌, ap, arith, if◌then◌else◌, is_none, List, [], ◌∷◌, ◌++◌, length, get_or, slice_index, option_map, get_or-set_other}
+use Rattle.std.proofs.Common.{ℕ, zero, suc, ◌-◌, ◌*◌, ◌/◌, ◌<◌, ◌≡◌, ◌≢◌, ◌||◌, Bool, true, false, Option, Some, None, refl, sym, ◌∙◌, ap, arith, List, [], ◌∷◌, ◌++◌, length, get_or, slice_index, option_map, get_or-set_other}
 use Rattle.std.proofs.lemmas.Bool.{and_right}
-use Rattle.ec_bits.specs.Bits.{bit, overlay, overlay_below, put, put_told, within}
+use Rattle.ec_bits.specs.Bits.{bit, overlay, overlay_below, put, put_told}
 use Rattle.ec_bits.proofs.AnyLaws.{if_false, if_none, within_below}
 use Rattle.ec_bits.proofs.BitLaws.{overlay_own}
 use Rattle.ec_regs.specs.declared.fmmu.FmmuSettings.{FmmuSettings}
 use Rattle.ec_regs.specs.Memory.{ram_start, ram_end}
 use Rattle.ec_sync.specs.Manager.{Manager}
 use Rattle.ec_fmmu.specs.Pairs.{unmapped, reaches_physical, is_ram_bit}
-use Rattle.ec_fmmu.specs.Sets.{source, source_after, writers, unless_mapped}
-use Rattle.ec_fmmu.specs.Applied.{Place, inside_place}
+use Rattle.ec_fmmu.specs.Sets.{source_after, writers}
+use Rattle.ec_fmmu.specs.Applied.{Place, inside_place, touched_by_reading, touched_by_writing}
 use Rattle.ec_slave.specs.State.{SlaveState, fmmus, fmmus_of, with_memory}
 use Rattle.ec_slave.specs.Managers.{manager_after}
-use Rattle.ec_slave.specs.Logical.{touched_by_reading, touched_by_writing, value_brought, managers_exchanged, plain_bit, only_if, logical_after, some_written}
+use Rattle.ec_slave.specs.Logical.{value_brought, managers_exchanged, plain_bit, only_if, logical_after, some_written}
 use Rattle.ec_slave.specs.Written.{some_plain_written, some_manager_written}
 use Rattle.ec_slave.proofs.SomeWritten.{some_written-is}
 use Rattle.ec_slave.proofs.Decoded.{fmmus_of-alike}
 
 -- a read goes by where the bits lie, and not by what they are
 managers-unwritten : (lower ms : List Manager) (fs : List FmmuSettings) (p : Place) (b c : List ℕ)
-  → managers_exchanged lower true false fs p b ms ≡ managers_exchanged lower true false fs p c ms
+    → managers_exchanged lower true false fs p b ms ≡ managers_exchanged lower true false fs p c ms
 managers-unwritten lower [] fs p b c = refl
 managers-unwritten lower (m ∷ ms) fs p b c =
     ap (λ (xs : List Manager). manager_after true false (touched_by_reading fs p) (touched_by_writing fs p) (value_brought lower fs p b) m ∷ xs)
-      (managers-unwritten (lower ++ m ∷ []) ms fs p b c)
+    (managers-unwritten (lower ++ m ∷ []) ms fs p b c)
 
 pub slave_read : (s : SlaveState) (memory : List ℕ) (managers : List Manager) (fs : List FmmuSettings) (p q : Place) (b c : List ℕ)
-  → memory ≡ s.memory → fs ≡ fmmus s → q ≡ p → managers ≡ managers_exchanged [] true false fs q c s.managers
-  → with_memory s memory managers ≡ logical_after s true false p b
+    → memory ≡ s.memory → fs ≡ fmmus s → q ≡ p → managers ≡ managers_exchanged [] true false fs q c s.managers
+    → with_memory s memory managers ≡ logical_after s true false p b
 slave_read s memory managers fs p q b c m f e x =
     let own : memory ≡ overlay s.memory (λ i. only_if false (plain_bit s.managers (fmmus s) p b i))
-      = m ∙ sym (overlay_own s.memory (λ i. only_if false (plain_bit s.managers (fmmus s) p b i)) (λ i l. refl)) in
+    = m ∙ sym (overlay_own s.memory (λ i. only_if false (plain_bit s.managers (fmmus s) p b i)) (λ i l. refl)) in
     let met : managers ≡ managers_exchanged [] true false (fmmus s) p b s.managers
-      = x ∙ (ap (λ (g : List FmmuSettings). managers_exchanged [] true false g q c s.managers) f
-        ∙ (ap (λ (r : Place). managers_exchanged [] true false (fmmus s) r c s.managers) e
-        ∙ managers-unwritten [] s.managers (fmmus s) p c b)) in
+    = x ∙ (ap (λ (g : List FmmuSettings). managers_exchanged [] true false g q c s.managers) f
+    ∙ (ap (λ (r : Place). managers_exchanged [] true false (fmmus s) r c s.managers) e
+    ∙ managers-unwritten [] s.managers (fmmus s) p c b)) in
     ap (λ (y : List ℕ). with_memory s y managers) own
     ∙ ap (λ (y : List Manager). with_memory s (overlay s.memory (λ i. only_if false (plain_bit s.managers (fmmus s) p b i))) y) met
 
 pub slave_written : (s : SlaveState) (reading : Bool) (memory : List ℕ) (managers : List Manager) (fs : List FmmuSettings) (p : Place) (b : List ℕ)
-  → memory ≡ overlay s.memory (plain_bit s.managers fs p b) → fs ≡ fmmus s → managers ≡ managers_exchanged [] reading true fs p b s.managers
-  → with_memory s memory managers ≡ logical_after s reading true p b
+    → memory ≡ overlay s.memory (plain_bit s.managers fs p b) → fs ≡ fmmus s → managers ≡ managers_exchanged [] reading true fs p b s.managers
+    → with_memory s memory managers ≡ logical_after s reading true p b
 slave_written s reading memory managers fs p b m f x =
     let own : memory ≡ overlay s.memory (plain_bit s.managers (fmmus s) p b)
-      = m ∙ ap (λ (g : List FmmuSettings). overlay s.memory (plain_bit s.managers g p b)) f in
+    = m ∙ ap (λ (g : List FmmuSettings). overlay s.memory (plain_bit s.managers g p b)) f in
     let met : managers ≡ managers_exchanged [] reading true (fmmus s) p b s.managers
-      = x ∙ ap (λ (g : List FmmuSettings). managers_exchanged [] reading true g p b s.managers) f in
+    = x ∙ ap (λ (g : List FmmuSettings). managers_exchanged [] reading true g p b s.managers) f in
     ap (λ (y : List ℕ). with_memory s y managers) own
     ∙ ap (λ (y : List Manager). with_memory s (overlay s.memory (plain_bit s.managers (fmmus s) p b)) y) met
 
@@ -84,11 +84,11 @@ decoded-mapped ms fs p b memory = fmmus_of-alike memory (overlay memory (plain_b
 
 -- a bit was written in the memory itself, or in a manager's value
 pub some_found : (ms a b : List Manager) (fs gs : List FmmuSettings) (p : Place) (bytes : List ℕ) (x y : Bool)
-  → x ≡ some_plain_written a fs p bytes → a ≡ ms → y ≡ some_manager_written [] fs p bytes b → b ≡ ms → fs ≡ gs
-  → (x || y) ≡ some_written ms gs p bytes
+    → x ≡ some_plain_written a fs p bytes → a ≡ ms → y ≡ some_manager_written [] fs p bytes b → b ≡ ms → fs ≡ gs
+    → (x || y) ≡ some_written ms gs p bytes
 some_found ms a b fs gs p bytes x y hx ha hy hb hf =
     let hx_2 : x ≡ some_plain_written ms gs p bytes
-      = hx ∙ (ap (λ (k : List Manager). some_plain_written k fs p bytes) ha ∙ ap (λ (g : List FmmuSettings). some_plain_written ms g p bytes) hf) in
+    = hx ∙ (ap (λ (k : List Manager). some_plain_written k fs p bytes) ha ∙ ap (λ (g : List FmmuSettings). some_plain_written ms g p bytes) hf) in
     let hy_2 : y ≡ some_manager_written [] gs p bytes ms
-      = hy ∙ (ap (λ (k : List Manager). some_manager_written [] fs p bytes k) hb ∙ ap (λ (g : List FmmuSettings). some_manager_written [] g p bytes ms) hf) in
+    = hy ∙ (ap (λ (k : List Manager). some_manager_written [] fs p bytes k) hb ∙ ap (λ (g : List FmmuSettings). some_manager_written [] g p bytes ms) hf) in
     ap (λ (z : Bool). z || y) hx_2 ∙ (ap (λ (z : Bool). some_plain_written ms gs p bytes || z) hy_2 ∙ sym (some_written-is ms gs p bytes))

@@ -1,16 +1,16 @@
 -- The reading half of a logical datagram at a mapped slave.
-use Rattle.std.proofs.Common.{ℕ, zero, suc, ◌+◌, ◌-◌, ◌*◌, ◌/◌, ◌%◌, ◌<◌, ◌≤◌, ◌≡◌, ◌≢◌, ◌⊎◌, ◌&&◌, not, Bool, true, false, Option, Some, None, refl, sym, ◌∙◌, ap, subst, inl, inr, arith, if◌then◌else◌, is_some, List, [], ◌∷◌, length, option_map, option_and_then, unwrap_or, nat_lt, nat_le}
-use Rattle.std.proofs.lemmas.Bool.{and_left, and_right, and_from, and_parts, cases_Bool, cases_lt, cases_eq, lt-ltb, le-ltb, ltb-true, ltb-false, eq-eqb, ne_eqb, both_ways}
-use Rattle.ec_bits.specs.Bits.{bit, overlay, any_below, within, bytes_of_bits}
-use Rattle.ec_fmmu.specs.Sets.{target, source, readers, writers}
-use Rattle.ec_sync.specs.Manager.{Manager, may_read, shown}
-use Rattle.ec_sync.specs.Governing.{governor, governs, covers, in_front}
-use Rattle.ec_fmmu.specs.Applied.{Place, inside_place}
-use Rattle.ec_slave.specs.State.{manager_at, SlaveState, fmmus, Met, with_memory, with_answer}
-use Rattle.ec_slave.specs.Managers.{reads_under, writes_under, shown_under, manager_after}
-use Rattle.ec_slave.specs.Logical.{place_of, leads_into, touched_by_reading, touched_by_writing, read_bit, readable_bit, data_bit_for, brought, written_bit, plain_bit, value_brought, managers_exchanged, only_if, some_read, some_written, meets_logical}
-use Rattle.ec_slave.specs.Exchange.{Area, IsMapped, IsBufferAt, Spans, gives, inputs_of}
-use Rattle.ec_bits.proofs.AnyLaws.{any_below_from, any_below_none, if_none, if_false, if_true, within_true, within_below, within_above, within_parts}
+use Rattle.std.proofs.Common.{ℕ, ◌+◌, ◌-◌, ◌*◌, ◌/◌, ◌<◌, ◌≤◌, ◌≡◌, ◌≢◌, true, false, Some, None, refl, sym, ◌∙◌, ap, inl, inr, arith, if◌then◌else◌, is_some, option_and_then, nat_lt}
+use Rattle.std.proofs.lemmas.Bool.{and_left, and_right, and_from, cases_Bool, cases_lt, lt-ltb, le-ltb, eq-eqb, ne_eqb}
+use Rattle.ec_bits.specs.Bits.{bit, within, bytes_of_bits}
+use Rattle.ec_fmmu.specs.Sets.{target, readers}
+use Rattle.ec_sync.specs.Manager.{may_read}
+use Rattle.ec_sync.specs.Governing.{governor, covers, in_front}
+use Rattle.ec_fmmu.specs.Applied.{Place, leads_into, touched_by_reading}
+use Rattle.ec_slave.specs.State.{manager_at, SlaveState, fmmus}
+use Rattle.ec_slave.specs.Managers.{reads_under, shown_under}
+use Rattle.ec_slave.specs.Logical.{read_bit, readable_bit, some_read}
+use Rattle.ec_slave.specs.Exchange.{Area, IsMapped, Spans, gives, inputs_of}
+use Rattle.ec_bits.proofs.AnyLaws.{any_below_from, any_below_none, if_false, if_true, within_true, within_below, within_above, within_parts}
 
 read_target : (s : SlaveState) (a : Area) (l : ℕ) → IsMapped s a → a.in_at ≤ l → l < a.in_at + a.ins → target (readers (fmmus s)) l ≡ Some (8 * a.in_start + (l - a.in_at))
 read_target s a l h x y = h.reads l ∙ if_true _ _ _ (within_true a.in_at a.ins l x y)
@@ -26,13 +26,13 @@ touches_in s a p k h c l =
 
 pub touches_in_only : (s : SlaveState) (a : Area) (p : Place) (b : ℕ) → IsMapped s a → ((k : ℕ) → k < bytes_of_bits a.ins → b ≢ a.in_start + k) → touched_by_reading (fmmus s) p b ≡ false
 touches_in_only s a p b h elsewhere = any_below_none p.bits _ (λ i l. elim (cases_Bool (within a.in_at a.ins (p.from + i))) [
-      inl t ↦
-        let w = within_parts a.in_at a.ins (p.from + i) t in
-        let j = p.from + i - a.in_at in
-        let f : (8 * a.in_start + j) / 8 ≢ b = λ e. elsewhere (j / 8) (let u = w.0 in let v = w.1 in omega arith) (omega arith) in
-        ap (λ o. leads_into o b) (read_target s a (p.from + i) h w.0 w.1) ∙ ne_eqb _ _ f
-    | inr f ↦ ap (λ o. leads_into o b) (h.reads (p.from + i) ∙ if_false _ _ _ f)
-    ])
+  | inl t ↦
+      let w = within_parts a.in_at a.ins (p.from + i) t in
+      let j = p.from + i - a.in_at in
+      let f : (8 * a.in_start + j) / 8 ≢ b = λ e. elsewhere (j / 8) (let u = w.0 in let v = w.1 in omega arith) (omega arith) in
+      ap (λ o. leads_into o b) (read_target s a (p.from + i) h w.0 w.1) ∙ ne_eqb _ _ f
+  | inr f ↦ ap (λ o. leads_into o b) (h.reads (p.from + i) ∙ if_false _ _ _ f)
+])
 
 covers_in : (s : SlaveState) (a : Area) (p : Place) → IsMapped s a → Spans p a → 0 < a.ins → covers (touched_by_reading (fmmus s) p) (manager_at s.managers 3) ≡ true
 covers_in s a p h c l =
@@ -41,7 +41,7 @@ covers_in s a p h c l =
     let e0 : m.start ≡ a.in_start + 0 = let x = b.start_is in omega arith in
     let e1 : m.start + m.length - 1 ≡ a.in_start + (bytes_of_bits a.ins - 1) = let x = b.start_is in let y = b.length_is in omega arith in
     and_from _ _ (ap (touched_by_reading (fmmus s) p) e0 ∙ touches_in s a p 0 h c (omega arith))
-        (ap (touched_by_reading (fmmus s) p) e1 ∙ touches_in s a p (bytes_of_bits a.ins - 1) h c (omega arith))
+    (ap (touched_by_reading (fmmus s) p) e1 ∙ touches_in s a p (bytes_of_bits a.ins - 1) h c (omega arith))
 
 -- what the ring reads at bit j of the inputs
 pub read_in : (s : SlaveState) (a : Area) (p : Place) (j : ℕ) → IsMapped s a → Spans p a → j < a.ins → readable_bit s.memory s.managers (fmmus s) p (8 * a.in_start + j) ≡ (if may_read (manager_at s.managers 3) then Some (bit (inputs_of s) j) else None)
@@ -53,9 +53,9 @@ read_in s a p j h c l =
     let front : in_front m ((8 * a.in_start + j) / 8) ≡ true = lt-ltb _ _ (let x = b.start_is in let y = b.length_is in omega arith) in
     let place : 8 * a.in_start + j - 8 * m.settings.start ≡ j = let x = b.start_is in omega arith in
     let value : shown_under s.memory s.managers (8 * a.in_start + j) (Some 3) ≡ bit (inputs_of s) j
-      = ap (λ xs. bit xs (8 * a.in_start + j - 8 * m.settings.start)) (if_false _ _ _ b.no_mailbox) ∙ ap (bit (inputs_of s)) place in
+    = ap (λ xs. bit xs (8 * a.in_start + j - 8 * m.settings.start)) (if_false _ _ _ b.no_mailbox) ∙ ap (bit (inputs_of s)) place in
     let may : reads_under s.managers (touched_by_reading (fmmus s) p) ((8 * a.in_start + j) / 8) (Some 3) ≡ may_read m
-      = rw (front, covers_in s a p h c (omega arith)) refl in
+    = rw (front, covers_in s a p h c (omega arith)) refl in
     rw (g, may, value) refl
 
 -- data bit i after a reading
@@ -71,24 +71,24 @@ read_bit_out s a p i h f = ap (option_and_then (readable_bit s.memory s.managers
 -- a bit was read exactly where the slave gives its inputs
 pub some_read_is : (s : SlaveState) (a : Area) (p : Place) → IsMapped s a → Spans p a → some_read s.memory s.managers (fmmus s) p ≡ gives s a
 some_read_is s a p h c = elim (cases_lt 0 a.ins) [
-      inl l ↦ elim (cases_Bool (may_read (manager_at s.managers 3))) [
-          inl t ↦
-            let i = a.in_at - p.from in
-            let e : p.from + i ≡ a.in_at = let f = c.in_from in omega arith in
-            let w : within a.in_at a.ins (p.from + i) ≡ true = within_true a.in_at a.ins (p.from + i) (omega arith) (omega arith) in
-            any_below_from p.bits _ i (let f = c.in_to in let g = c.in_from in omega arith) (ap is_some (read_bit_in s a p i h c w ∙ if_true _ _ _ t))
-            ∙ sym (and_from _ _ (lt-ltb 0 a.ins l) t)
-        | inr f ↦
-            any_below_none p.bits _ (λ i k. ap is_some (elim (cases_Bool (within a.in_at a.ins (p.from + i))) as (λ _. read_bit s.memory s.managers (fmmus s) p i ≡ None) [
-                  inl t ↦ read_bit_in s a p i h c t ∙ if_false _ _ _ f
-                | inr g ↦ read_bit_out s a p i h g
-                ]))
-            ∙ sym (and_right (nat_lt 0 a.ins) _ f)
-        ]
-    | inr l ↦
-        any_below_none p.bits _ (λ i k. ap is_some (read_bit_out s a p i h (elim (cases_lt (p.from + i) a.in_at) [
-              inl x ↦ within_below a.in_at a.ins (p.from + i) x
-            | inr x ↦ within_above a.in_at a.ins (p.from + i) (omega arith)
-            ])))
-        ∙ sym (and_left (nat_lt 0 a.ins) _ (le-ltb 0 a.ins l))
-    ]
+  | inl l ↦ elim (cases_Bool (may_read (manager_at s.managers 3))) [
+    | inl t ↦
+        let i = a.in_at - p.from in
+        let e : p.from + i ≡ a.in_at = let f = c.in_from in omega arith in
+        let w : within a.in_at a.ins (p.from + i) ≡ true = within_true a.in_at a.ins (p.from + i) (omega arith) (omega arith) in
+        any_below_from p.bits _ i (let f = c.in_to in let g = c.in_from in omega arith) (ap is_some (read_bit_in s a p i h c w ∙ if_true _ _ _ t))
+        ∙ sym (and_from _ _ (lt-ltb 0 a.ins l) t)
+    | inr f ↦
+        any_below_none p.bits _ (λ i k. ap is_some (elim (cases_Bool (within a.in_at a.ins (p.from + i))) as (λ _. read_bit s.memory s.managers (fmmus s) p i ≡ None) [
+          | inl t ↦ read_bit_in s a p i h c t ∙ if_false _ _ _ f
+          | inr g ↦ read_bit_out s a p i h g
+        ]))
+        ∙ sym (and_right (nat_lt 0 a.ins) _ f)
+  ]
+  | inr l ↦
+      any_below_none p.bits _ (λ i k. ap is_some (read_bit_out s a p i h (elim (cases_lt (p.from + i) a.in_at) [
+        | inl x ↦ within_below a.in_at a.ins (p.from + i) x
+        | inr x ↦ within_above a.in_at a.ins (p.from + i) (omega arith)
+      ])))
+      ∙ sym (and_left (nat_lt 0 a.ins) _ (le-ltb 0 a.ins l))
+]

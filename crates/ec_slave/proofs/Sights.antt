@@ -11,11 +11,11 @@ use Rattle.ec_regs.specs.Managers.{is_set, span}
 use Rattle.ec_sync.specs.Manager.{Manager, may_read}
 use Rattle.ec_sync.specs.Governing.{governor, governs, covers}
 use Rattle.ec_fmmu.specs.Sets.{target, readers}
-use Rattle.ec_fmmu.specs.Applied.{Place, read_told}
+use Rattle.ec_fmmu.specs.Applied.{Place, read_told, touched_by_reading}
 use Rattle.ec_fmmu.proofs.PairLaws.{none_or_some}
 use Rattle.ec_slave.specs.State.{manager_at}
 use Rattle.ec_slave.specs.Managers.{reads_under, shown_under}
-use Rattle.ec_slave.specs.Logical.{touched_by_reading, readable_bit, read_bit, some_read}
+use Rattle.ec_slave.specs.Logical.{readable_bit, read_bit, some_read}
 use Rattle.ec_slave.specs.Sights.{seen_behind, seen_under, seen_bit}
 use Rattle.ec_slave.proofs.AgainstAll.{position_from-below}
 

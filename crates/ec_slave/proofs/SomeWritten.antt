@@ -1,76 +1,33 @@
 -- A bit is written exactly where one is in the memory itself or in some manager's value.
-use Rattle.std.proofs.Common.{ℕ, zero, suc, ◌+◌, ◌-◌, ◌*◌, ◌/◌, ◌%◌, ◌<◌, ◌≤◌, ◌≡◌, ◌==◌, ◌&&◌, ◌||◌, Bool, true, false, Option, Some, None, refl, sym, ◌∙◌, ap, subst, inl, inr, ◌⊎◌, arith, if◌then◌else◌, is_some, is_none, List, [], ◌∷◌, ◌++◌, length, take, get_or, nat_lt, nat_le, append_assoc, option_map}
+use Rattle.std.proofs.Common.{ℕ, zero, suc, ◌+◌, ◌-◌, ◌*◌, ◌/◌, ◌%◌, ◌<◌, ◌≤◌, ◌≡◌, ◌==◌, ◌&&◌, ◌||◌, Bool, true, false, Option, Some, None, refl, sym, ◌∙◌, ap, subst, inl, inr, ◌⊎◌, arith, if◌then◌else◌, is_some, is_none, List, [], ◌∷◌, ◌++◌, length, take, nat_lt, nat_le, append_assoc}
 use Rattle.std.specs.List.{position_from}
-use Rattle.std.proofs.lemmas.Bool.{cases_Bool, and_parts, and_from, and_left, or_left, or_right, both_ways, lt-ltb, ltb-true, leb-true, false≢true}
+use Rattle.std.proofs.lemmas.Bool.{cases_Bool, and_parts, and_from, or_left, or_right, both_ways, lt-ltb, ltb-true, leb-true, false≢true}
 use Rattle.std.proofs.lemmas.List.{append-nil}
-use Rattle.ec_bits.specs.Bits.{bit, any_below, within}
-use Rattle.ec_bits.proofs.AnyLaws.{any_below_from, any_below_none, if_true, if_false, within_true, within_parts}
+use Rattle.ec_bits.proofs.AnyLaws.{any_below_from, any_below_some, if_true, if_false}
 use Rattle.ec_regs.specs.declared.fmmu.FmmuSettings.{FmmuSettings}
 use Rattle.ec_regs.specs.declared.manager.ManagerSettings.{ManagerSettings}
 use Rattle.ec_regs.specs.Memory.{ram_start, ram_end}
 use Rattle.ec_regs.specs.Managers.{is_set, is_mailbox, is_buffered, is_ring_written, is_ring_read, span}
-use Rattle.ec_sync.specs.Manager.{Manager, no_manager, may_write, is_enabled}
+use Rattle.ec_sync.specs.Manager.{Manager, may_write, is_enabled}
 use Rattle.ec_sync.specs.Governing.{governor, governs, covers, in_front}
-use Rattle.ec_fmmu.specs.Applied.{Place}
+use Rattle.ec_fmmu.specs.Applied.{Place, touched_by_writing}
+use Rattle.ec_fmmu.proofs.PairLaws.{none_or_some}
 use Rattle.ec_slave.specs.State.{manager_at}
 use Rattle.ec_slave.specs.Managers.{writes_under}
-use Rattle.ec_slave.specs.Logical.{touched_by_writing, brought, written_bit, plain_bit, some_written}
+use Rattle.ec_slave.specs.Logical.{brought, written_bit, plain_bit, some_written}
 use Rattle.ec_slave.specs.Written.{some_brought, some_manager_written, some_plain_written}
 use Rattle.ec_slave.proofs.Governors.{governor-take}
-use Rattle.ec_slave.proofs.AgainstAll.{governs-value, position_from-below}
+use Rattle.ec_slave.proofs.AgainstAll.{governs-value}
+use Rattle.ec_slave.proofs.Sights.{governor-start, governor-below}
 
-pub any_below_some : (n : ℕ) (p : ℕ → Bool) → any_below n p ≡ true → (i : ℕ) × (i < n) × (p i ≡ true)
-unfolding any_below
-any_below_some zero p e = absurd (false≢true e)
-any_below_some (suc n) p e = elim (cases_Bool (p n)) [
-      inl t ↦ (n, omega arith, t)
-    | inr f ↦
-        let r = any_below_some n p (sym (if_false (p n) true (any_below n p) f) ∙ e) in
-        (r.0, omega (arith, r.1), r.2)
-    ]
-
-pub same_truth : (a b : Bool) → (a ≡ true → b ≡ true) → (b ≡ true → a ≡ true) → a ≡ b
+same_truth : (a b : Bool) → (a ≡ true → b ≡ true) → (b ≡ true → a ≡ true) → a ≡ b
 same_truth a b f g = elim (cases_Bool a) [
-      inl t ↦ t ∙ sym (f t)
-    | inr h ↦ elim (cases_Bool b) as (λ _. a ≡ b) [
-          inl t ↦ absurd (both_ways a h (g t))
-        | inr k ↦ h ∙ sym k
-        ]
-    ]
-
-from-start : (t : Manager → Bool) (k : ℕ) (ms : List Manager) (i : ℕ) → position_from t k ms ≡ Some i → k ≤ i
-from-start t k [] i e = absurd (let f : None ≡ Some i = e in cc)
-from-start t k (x ∷ xs) i e = elim (cases_Bool (t x)) [
-    inl h ↦
-      let f : Some k ≡ Some i = sym (if_true (t x) (Some k) (position_from t (k + 1) xs) h) ∙ e in
-      let g : k ≡ i = cc in
-      omega arith
-  | inr h ↦
-      let g = from-start t (k + 1) xs i (sym (if_false (t x) (Some k) (position_from t (k + 1) xs) h) ∙ e) in
-      omega arith
+  | inl t ↦ t ∙ sym (f t)
+  | inr h ↦ elim (cases_Bool b) as (λ _. a ≡ b) [
+    | inl t ↦ absurd (both_ways a h (g t))
+    | inr k ↦ h ∙ sym k
   ]
-
--- the governor of a byte has it in its span, and is one of the managers
-position_from-hit : (t : Manager → Bool) (k n : ℕ) (ms : List Manager) → position_from t k ms ≡ Some (k + n) → (n < length ms) × (t (manager_at ms n) ≡ true)
-position_from-hit t k n [] e = absurd (let f : None ≡ Some (k + n) = e in cc)
-position_from-hit t k zero (m ∷ ms) e = elim (cases_Bool (t m)) [
-      inl h ↦ (omega arith, h)
-    | inr h ↦
-        let f : position_from t (k + 1) ms ≡ Some (k + zero) = sym (if_false (t m) (Some k) (position_from t (k + 1) ms) h) ∙ e in
-        let g : k + 1 ≤ k + zero = from-start t (k + 1) ms (k + zero) f in
-        absurd (omega arith)
-    ]
-position_from-hit t k (suc j) (m ∷ ms) e = elim (cases_Bool (t m)) [
-      inl h ↦
-        let f : Some k ≡ Some (k + suc j) = sym (if_true (t m) (Some k) (position_from t (k + 1) ms) h) ∙ e in
-        let g : k ≡ k + suc j = cc in
-        absurd (omega arith)
-    | inr h ↦
-        let s : k + suc j ≡ k + 1 + j = omega arith in
-        let f : position_from t (k + 1) ms ≡ Some (k + 1 + j) = sym (if_false (t m) (Some k) (position_from t (k + 1) ms) h) ∙ (e ∙ ap (λ i. Some i) s) in
-        let r = position_from-hit t (k + 1) j ms f in
-        (omega (arith, r.0), r.1)
-    ]
+]
 
 -- a manager that has a byte in its span governs it where no lower one does
 position_from-first : (t : Manager → Bool) (k n : ℕ) (ms : List Manager) → n < length ms → position_from t k (take n ms) ≡ None → t (manager_at ms n) ≡ true → position_from t k ms ≡ Some (k + n)
@@ -79,27 +36,27 @@ position_from-first t k zero (m ∷ ms) l none h =
     let z : k ≡ k + zero = omega arith in
     if_true _ _ _ h ∙ ap (λ i. Some i) z
 position_from-first t k (suc n) (m ∷ ms) l none h = elim (cases_Bool (t m)) [
-      inl y ↦ absurd (let f : Some k ≡ None = sym (if_true (t m) (Some k) (position_from t (k + 1) (take n ms)) y) ∙ none in cc)
-    | inr y ↦
-        let rest : position_from t (k + 1) (take n ms) ≡ None = sym (if_false (t m) (Some k) (position_from t (k + 1) (take n ms)) y) ∙ none in
-        let s : k + 1 + n ≡ k + suc n = omega arith in
-        if_false _ _ _ y ∙ (position_from-first t (k + 1) n ms (omega arith) rest h ∙ ap (λ i. Some i) s)
-    ]
+  | inl y ↦ absurd (let f : Some k ≡ None = sym (if_true (t m) (Some k) (position_from t (k + 1) (take n ms)) y) ∙ none in cc)
+  | inr y ↦
+      let rest : position_from t (k + 1) (take n ms) ≡ None = sym (if_false (t m) (Some k) (position_from t (k + 1) (take n ms)) y) ∙ none in
+      let s : k + 1 + n ≡ k + suc n = omega arith in
+      if_false _ _ _ y ∙ (position_from-first t (k + 1) n ms (omega arith) rest h ∙ ap (λ i. Some i) s)
+]
 
 -- what some_manager_written says of one manager
 abbrev IsWrittenAt : List Manager → List FmmuSettings → Place → List ℕ → Manager → Type 0
 IsWrittenAt lower fs p bytes m = (covers (touched_by_writing fs p) m ≡ true) × (may_write m ≡ true) × (some_brought lower fs p bytes m.settings.start m.settings.length ≡ true)
 
 written-there : (lower ms : List Manager) (fs : List FmmuSettings) (p : Place) (bytes : List ℕ) (n : ℕ) → n < length ms
-  → IsWrittenAt (lower ++ take n ms) fs p bytes (manager_at ms n) → some_manager_written lower fs p bytes ms ≡ true
+    → IsWrittenAt (lower ++ take n ms) fs p bytes (manager_at ms n) → some_manager_written lower fs p bytes ms ≡ true
 written-there lower [] fs p bytes n l h = absurd (omega arith)
 written-there lower (m ∷ ms) fs p bytes zero l h =
     let b : some_brought lower fs p bytes m.settings.start m.settings.length ≡ true
-      = ap (λ xs. some_brought xs fs p bytes m.settings.start m.settings.length) (sym (append-nil lower)) ∙ h.2 in
+    = ap (λ xs. some_brought xs fs p bytes m.settings.start m.settings.length) (sym (append-nil lower)) ∙ h.2 in
     or_left _ _ (and_from _ _ h.0 (and_from _ _ h.1 b))
 written-there lower (m ∷ ms) fs p bytes (suc n) l h =
     let b : some_brought ((lower ++ m ∷ []) ++ take n ms) fs p bytes (manager_at ms n).settings.start (manager_at ms n).settings.length ≡ true
-      = ap (λ xs. some_brought xs fs p bytes (manager_at ms n).settings.start (manager_at ms n).settings.length) (append_assoc lower (m ∷ []) (take n ms)) ∙ h.2 in
+    = ap (λ xs. some_brought xs fs p bytes (manager_at ms n).settings.start (manager_at ms n).settings.length) (append_assoc lower (m ∷ []) (take n ms)) ∙ h.2 in
     or_right _ _ (written-there (lower ++ m ∷ []) ms fs p bytes n (omega arith) (h.0, h.1, b))
 
 abbrev WrittenSomewhere : List Manager → List FmmuSettings → Place → List ℕ → List Manager → Type 0
@@ -112,18 +69,18 @@ or-cases false b e = inr e
 where-written : (lower ms : List Manager) (fs : List FmmuSettings) (p : Place) (bytes : List ℕ) → some_manager_written lower fs p bytes ms ≡ true → WrittenSomewhere lower fs p bytes ms
 where-written lower [] fs p bytes e = absurd (false≢true e)
 where-written lower (m ∷ ms) fs p bytes e = elim (or-cases _ _ e) [
-      inl t ↦
-        let a = and_parts (covers (touched_by_writing fs p) m) _ t in
-        let b = and_parts (may_write m) _ a.1 in
-        let s : some_brought (lower ++ []) fs p bytes m.settings.start m.settings.length ≡ true
-          = ap (λ xs. some_brought xs fs p bytes m.settings.start m.settings.length) (append-nil lower) ∙ b.1 in
-        (0, omega arith, (a.0, b.0, s))
-    | inr t ↦
-        let r = where-written (lower ++ m ∷ []) ms fs p bytes t in
-        let s : some_brought (lower ++ m ∷ take r.0 ms) fs p bytes (manager_at ms r.0).settings.start (manager_at ms r.0).settings.length ≡ true
-          = ap (λ xs. some_brought xs fs p bytes (manager_at ms r.0).settings.start (manager_at ms r.0).settings.length) (sym (append_assoc lower (m ∷ []) (take r.0 ms))) ∙ r.2.2 in
-        (suc r.0, omega (arith, r.1), (r.2.0, r.2.1, s))
-    ]
+  | inl t ↦
+      let a = and_parts (covers (touched_by_writing fs p) m) _ t in
+      let b = and_parts (may_write m) _ a.1 in
+      let s : some_brought (lower ++ []) fs p bytes m.settings.start m.settings.length ≡ true
+      = ap (λ xs. some_brought xs fs p bytes m.settings.start m.settings.length) (append-nil lower) ∙ b.1 in
+      (0, omega arith, (a.0, b.0, s))
+  | inr t ↦
+      let r = where-written (lower ++ m ∷ []) ms fs p bytes t in
+      let s : some_brought (lower ++ m ∷ take r.0 ms) fs p bytes (manager_at ms r.0).settings.start (manager_at ms r.0).settings.length ≡ true
+      = ap (λ xs. some_brought xs fs p bytes (manager_at ms r.0).settings.start (manager_at ms r.0).settings.length) (sym (append_assoc lower (m ∷ []) (take r.0 ms))) ∙ r.2.2 in
+      (suc r.0, omega (arith, r.1), (r.2.0, r.2.1, s))
+]
 
 -- a set manager's value lies in the RAM
 value-end : (m : ManagerSettings) → is_set m ≡ true → m.start + m.length ≤ ram_end
@@ -135,17 +92,9 @@ value-end m h =
     let d = (and_parts (nat_lt 0 m.length) _ c).1 in
     let e = leb-true (m.start + span m) ram_end (and_parts (nat_le ram_start m.start) _ d).1 in
     elim (cases_Bool (is_mailbox m)) [
-      inl t ↦ let s : span m ≡ m.length = if_true _ _ _ t in omega arith
-    | inr f ↦ let s : span m ≡ 3 * m.length = if_false _ _ _ f in omega arith
+      | inl t ↦ let s : span m ≡ m.length = if_true _ _ _ t in omega arith
+      | inr f ↦ let s : span m ≡ 3 * m.length = if_false _ _ _ f in omega arith
     ]
-
-is-some : {X : Type 0} (o : Option X) → is_some o ≡ true → (x : X) × (o ≡ Some x)
-is-some None e = absurd (false≢true e)
-is-some (Some x) e = (x, refl)
-
-none-or-some : {X : Type 0} (o : Option X) → (o ≡ None) ⊎ ((x : X) × (o ≡ Some x))
-none-or-some None = inl refl
-none-or-some (Some x) = inr (x, refl)
 
 if-some : {X : Type 0} (b : Bool) (o : Option X) → is_some (if b then o else None) ≡ true → (b ≡ true) × (is_some o ≡ true)
 if-some true o e = (refl, e)
@@ -153,32 +102,30 @@ if-some false o e = absurd (false≢true e)
 
 -- a written bit is plain, or in a manager's value
 written-somewhere : (ms : List Manager) (fs : List FmmuSettings) (p : Place) (bytes : List ℕ) (q : ℕ) → q < 8 * ram_end → is_some (written_bit ms fs p bytes q) ≡ true
-  → (some_plain_written ms fs p bytes || some_manager_written [] fs p bytes ms) ≡ true
+    → (some_plain_written ms fs p bytes || some_manager_written [] fs p bytes ms) ≡ true
 written-somewhere ms fs p bytes q l e =
     let parts = if-some _ (brought fs p bytes q) e in
-    elim (none-or-some (governor ms (q / 8))) [
-      inl none ↦
-        let plain : is_some (plain_bit ms fs p bytes q) ≡ true = ap is_some (if_true _ _ _ (ap is_none none)) ∙ parts.1 in
-        or_left _ _ (any_below_from (8 * ram_end) (λ i. is_some (plain_bit ms fs p bytes i)) q l plain)
-    | inr some ↦
-        let n : ℕ = some.0 in
-        let m : Manager = manager_at ms n in
-        let g : governor ms (q / 8) ≡ Some n = some.1 in
-        let may : (in_front m (q / 8) && (covers (touched_by_writing fs p) m && may_write m)) ≡ true
+    elim (none_or_some (governor ms (q / 8))) [
+      | inl none ↦
+          let plain : is_some (plain_bit ms fs p bytes q) ≡ true = ap is_some (if_true _ _ _ (ap is_none none)) ∙ parts.1 in
+          or_left _ _ (any_below_from (8 * ram_end) (λ i. is_some (plain_bit ms fs p bytes i)) q l plain)
+      | inr some ↦
+          let n : ℕ = some.0 in
+          let m : Manager = manager_at ms n in
+          let g : governor ms (q / 8) ≡ Some n = some.1 in
+          let may : (in_front m (q / 8) && (covers (touched_by_writing fs p) m && may_write m)) ≡ true
           = ap (writes_under ms (touched_by_writing fs p) (q / 8)) (sym g) ∙ parts.0 in
-        let a = and_parts (in_front m (q / 8)) _ may in
-        let b = and_parts (covers (touched_by_writing fs p) m) _ a.1 in
-        let front : q / 8 < m.settings.start + m.settings.length = ltb-true _ _ a.0 in
-        let z : n ≡ 0 + n = omega arith in
-        let hit = position_from-hit (λ (x : Manager). governs x (q / 8)) 0 n ms (g ∙ ap (λ i. Some i) z) in
-        let from = (within_parts m.settings.start (span m.settings) (q / 8) (and_parts (is_set m.settings) _ hit.1).1).0 in
-        let k : ℕ = q - 8 * m.settings.start in
-        let at : 8 * m.settings.start + k ≡ q = omega arith in
-        let here : is_some (plain_bit (take n ms) fs p bytes q) ≡ true
+          let a = and_parts (in_front m (q / 8)) _ may in
+          let b = and_parts (covers (touched_by_writing fs p) m) _ a.1 in
+          let front : q / 8 < m.settings.start + m.settings.length = ltb-true _ _ a.0 in
+          let from : m.settings.start ≤ q / 8 = governor-start ms (q / 8) n g in
+          let k : ℕ = q - 8 * m.settings.start in
+          let at : 8 * m.settings.start + k ≡ q = omega arith in
+          let here : is_some (plain_bit (take n ms) fs p bytes q) ≡ true
           = ap is_some (if_true _ _ _ (ap is_none (governor-take ms n (q / 8) g))) ∙ parts.1 in
-        let there : is_some (plain_bit (take n ms) fs p bytes (8 * m.settings.start + k)) ≡ true
+          let there : is_some (plain_bit (take n ms) fs p bytes (8 * m.settings.start + k)) ≡ true
           = ap (λ i. is_some (plain_bit (take n ms) fs p bytes i)) at ∙ here in
-        or_right _ _ (written-there [] ms fs p bytes n hit.0
+          or_right _ _ (written-there [] ms fs p bytes n (governor-below ms (q / 8) n g)
           (b.0, b.1, any_below_from (8 * m.settings.length) (λ i. is_some (plain_bit (take n ms) fs p bytes (8 * m.settings.start + i))) k (omega arith) there))
     ]
 
@@ -187,11 +134,11 @@ plain-written ms fs p bytes e =
     let r = any_below_some (8 * ram_end) (λ i. is_some (plain_bit ms fs p bytes i)) e in
     let q : ℕ = r.0 in
     let parts = if-some (is_none (governor ms (q / 8))) (brought fs p bytes q) r.2 in
-    elim (none-or-some (governor ms (q / 8))) [
-      inl none ↦
-        let w : is_some (written_bit ms fs p bytes q) ≡ true = ap is_some (if_true _ _ _ (ap (writes_under ms (touched_by_writing fs p) (q / 8)) none)) ∙ parts.1 in
-        any_below_from (8 * ram_end) (λ i. is_some (written_bit ms fs p bytes i)) q r.1 w
-    | inr some ↦ absurd (false≢true (sym (ap is_none some.1) ∙ parts.0))
+    elim (none_or_some (governor ms (q / 8))) [
+      | inl none ↦
+          let w : is_some (written_bit ms fs p bytes q) ≡ true = ap is_some (if_true _ _ _ (ap (writes_under ms (touched_by_writing fs p) (q / 8)) none)) ∙ parts.1 in
+          any_below_from (8 * ram_end) (λ i. is_some (written_bit ms fs p bytes i)) q r.1 w
+      | inr some ↦ absurd (false≢true (sym (ap is_none some.1) ∙ parts.0))
     ]
 
 manager-written : (ms : List Manager) (fs : List FmmuSettings) (p : Place) (bytes : List ℕ) → some_manager_written [] fs p bytes ms ≡ true → some_written ms fs p bytes ≡ true
@@ -207,21 +154,21 @@ manager-written ms fs p bytes e =
     let parts = if-some (is_none (governor (take n ms) (q / 8))) (brought fs p bytes q) r.2 in
     let byte : m.settings.start + k / 8 ≡ q / 8 = omega arith in
     let spans : governs m (q / 8) ≡ true = subst (λ (a : ℕ). governs m a ≡ true) byte (governs-value m (k / 8) at.1 (omega arith)) in
-    let low : governor (take n ms) (q / 8) ≡ None = elim (none-or-some (governor (take n ms) (q / 8))) [
-          inl none ↦ none
-        | inr some ↦ absurd (false≢true (sym (ap is_none some.1) ∙ parts.0))
-        ] in
+    let low : governor (take n ms) (q / 8) ≡ None = elim (none_or_some (governor (take n ms) (q / 8))) [
+      | inl none ↦ none
+      | inr some ↦ absurd (false≢true (sym (ap is_none some.1) ∙ parts.0))
+    ] in
     let z : 0 + n ≡ n = omega arith in
     let g : governor ms (q / 8) ≡ Some n = position_from-first (λ (x : Manager). governs x (q / 8)) 0 n ms w.1 low spans ∙ ap (λ i. Some i) z in
     let set : is_set m.settings ≡ true = (and_parts (is_set m.settings) _ (and_parts (is_enabled m) _ at.1).0).0 in
     let end : m.settings.start + m.settings.length ≤ ram_end = value-end m.settings set in
     let front : in_front m (q / 8) ≡ true = lt-ltb _ _ (omega arith) in
     let may : writes_under ms (touched_by_writing fs p) (q / 8) (governor ms (q / 8)) ≡ true
-      = ap (writes_under ms (touched_by_writing fs p) (q / 8)) g ∙ and_from _ _ front (and_from _ _ at.0 at.1) in
+    = ap (writes_under ms (touched_by_writing fs p) (q / 8)) g ∙ and_from _ _ front (and_from _ _ at.0 at.1) in
     any_below_from (8 * ram_end) (λ i. is_some (written_bit ms fs p bytes i)) q (omega arith) (ap is_some (if_true _ _ _ may) ∙ parts.1)
 
 pub some_written-is : (ms : List Manager) (fs : List FmmuSettings) (p : Place) (bytes : List ℕ)
-  → some_written ms fs p bytes ≡ (some_plain_written ms fs p bytes || some_manager_written [] fs p bytes ms)
+    → some_written ms fs p bytes ≡ (some_plain_written ms fs p bytes || some_manager_written [] fs p bytes ms)
 some_written-is ms fs p bytes = same_truth _ _
     (λ e. let r = any_below_some (8 * ram_end) (λ i. is_some (written_bit ms fs p bytes i)) e in written-somewhere ms fs p bytes r.0 r.1 r.2)
     (λ e. elim (or-cases _ _ e) [ inl t ↦ plain-written ms fs p bytes t | inr t ↦ manager-written ms fs p bytes t ])

@@ -1,8 +1,8 @@
 -- Numbers of a list told one by one, as a loop tells them.
-use Rattle.std.proofs.Common.{ℕ, zero, suc, ◌+◌, ◌-◌, ◌<◌, ◌≤◌, ◌≡◌, ◌≢◌, ◌⊎◌, List, [], ◌∷◌, length, get_or, slice_set, Option, Some, None, unwrap_or, refl, sym, ◌∙◌, ap, inl, inr, arith, length-set, get_or-set_same, get_or-set_other}
+use Rattle.std.proofs.Common.{ℕ, zero, suc, ◌+◌, ◌<◌, ◌≤◌, ◌≡◌, ◌≢◌, ◌⊎◌, List, [], ◌∷◌, length, get_or, Option, Some, None, unwrap_or, refl, sym, ◌∙◌, ap, inl, inr, arith, length-set, get_or-set_same, get_or-set_other}
 use Rattle.std.proofs.lemmas.Bool.{cases_eq, cases_lt}
 use Rattle.std.proofs.lemmas.Grind.{same_number_lists}
-use Rattle.ec_slave.specs.Access.{retold_from, retold}
+use Rattle.ec_slave.specs.Access.{retold_from}
 use Rattle.ec_slave.specs.Telling.{set_told}
 use Rattle.ec_slave.specs.Keeping.{length-retold}
 
@@ -54,9 +54,9 @@ get-told_inside zero from xs f i a b l = absurd (omega arith)
 get-told_inside (suc n) from xs f i a b l =
     let e = length-told_along n from xs f in
     elim (cases_eq i (from + n)) [
-      inl q ↦ rw q (get-set_told_same (told_along n from xs f) (from + n) (f (from + n)) (omega (arith, e, q))
-            ∙ ap (unwrap_or (f (from + n))) (get-told_outside n from xs f (from + n) (inr (omega arith))))
-    | inr ne ↦ get-set_told_other (told_along n from xs f) (from + n) i (f (from + n)) ne ∙ get-told_inside n from xs f i a (omega arith) l
+      | inl q ↦ rw q (get-set_told_same (told_along n from xs f) (from + n) (f (from + n)) (omega (arith, e, q))
+          ∙ ap (unwrap_or (f (from + n))) (get-told_outside n from xs f (from + n) (inr (omega arith))))
+      | inr ne ↦ get-set_told_other (told_along n from xs f) (from + n) i (f (from + n)) ne ∙ get-told_inside n from xs f i a (omega arith) l
     ]
 
 -- THE BRIDGE: where f tells nothing outside a window, the pointwise form is the window's
@@ -64,16 +64,16 @@ pub retold-along : (n from : ℕ) (xs : List ℕ) (f : ℕ → Option ℕ) → (
 retold-along n from xs f none =
     let e = length-told_along n from xs f in
     let outside : (i : ℕ) → i < length xs → (i < from) ⊎ (from + n ≤ i) → get_or (told_along n from xs f) i 0 ≡ get_or (retold_from 0 xs f) i 0 =
-        λ i l h. get-told_outside n from xs f i h ∙ (ap (λ o. unwrap_or o (get_or xs i 0)) (sym (none i h)) ∙ sym (get-retold0 xs f i l)) in
+    λ i l h. get-told_outside n from xs f i h ∙ (ap (λ o. unwrap_or o (get_or xs i 0)) (sym (none i h)) ∙ sym (get-retold0 xs f i l)) in
     same_number_lists _ _ (e ∙ sym (length-retold 0 xs f)) (λ i l.
-        let l2 : i < length xs = omega (arith, e) in
-        elim (cases_lt i from) [
-          inl a ↦ outside i l2 (inl a)
-        | inr a ↦ elim (cases_lt i (from + n)) [
-              inl b ↦ get-told_inside n from xs f i (omega arith) b l2 ∙ sym (get-retold0 xs f i l2)
-            | inr b ↦ outside i l2 (inr (omega arith))
-            ]
-        ])
+    let l2 : i < length xs = omega (arith, e) in
+    elim (cases_lt i from) [
+      | inl a ↦ outside i l2 (inl a)
+      | inr a ↦ elim (cases_lt i (from + n)) [
+        | inl b ↦ get-told_inside n from xs f i (omega arith) b l2 ∙ sym (get-retold0 xs f i l2)
+        | inr b ↦ outside i l2 (inr (omega arith))
+      ]
+    ])
 
 pub told-none : (from : ℕ) (xs : List ℕ) (f : ℕ → Option ℕ) → xs ≡ told_along 0 from xs f
 unfolding told_along
@@ -85,7 +85,7 @@ told-suc n from xs f = refl
 
 -- the step of a loop: number from + n is told next
 pub told-step : (n from : ℕ) (xs : List ℕ) (f : ℕ → Option ℕ) (before after : List ℕ) (o : Option ℕ)
-  → before ≡ told_along n from xs f → f (from + n) ≡ o → after ≡ set_told before (from + n) o → after ≡ told_along (n + 1) from xs f
+    → before ≡ told_along n from xs f → f (from + n) ≡ o → after ≡ set_told before (from + n) o → after ≡ told_along (n + 1) from xs f
 told-step n from xs f before after o a b c =
     let e : suc n ≡ n + 1 = omega arith in
     c ∙ (ap (λ p. set_told before (from + n) p) (sym b) ∙ (ap (λ ys. set_told ys (from + n) (f (from + n))) a ∙ (told-suc n from xs f ∙ ap (λ m. told_along m from xs f) e)))
@@ -95,12 +95,12 @@ pub retold-whole : (xs : List ℕ) (f : ℕ → Option ℕ) → told_along (leng
 retold-whole xs f =
     let e = length-told_along (length xs) 0 xs f in
     same_number_lists _ _ (e ∙ sym (length-retold 0 xs f)) (λ i l.
-        let l2 : i < length xs = omega (arith, e) in
-        get-told_inside (length xs) 0 xs f i (omega arith) (omega arith) l2 ∙ sym (get-retold0 xs f i l2))
+    let l2 : i < length xs = omega (arith, e) in
+    get-told_inside (length xs) 0 xs f i (omega arith) (omega arith) l2 ∙ sym (get-retold0 xs f i l2))
 
 -- the step of a loop from 0
 pub told-step0 : (n : ℕ) (xs : List ℕ) (f : ℕ → Option ℕ) (before after : List ℕ) (o : Option ℕ)
-  → before ≡ told_along n 0 xs f → f n ≡ o → after ≡ set_told before n o → after ≡ told_along (n + 1) 0 xs f
+    → before ≡ told_along n 0 xs f → f n ≡ o → after ≡ set_told before n o → after ≡ told_along (n + 1) 0 xs f
 told-step0 n xs f before after o a b c =
     let e : 0 + n ≡ n = omega arith in
     told-step n 0 xs f before after o a (ap f e ∙ b) (c ∙ ap (λ m. set_told before m o) (sym e))

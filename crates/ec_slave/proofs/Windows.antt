@@ -1,5 +1,5 @@
 -- What one byte of a window gives.
-use Rattle.std.proofs.Common.{ℕ, ◌+◌, ◌-◌, ◌<◌, ◌≤◌, ◌≡◌, ◌⊎◌, List, length, Bool, true, false, slice_index, get_or, Option, Some, None, bit_or, refl, sym, ◌∙◌, ap, inl, inr, arith, if◌then◌else◌}
+use Rattle.std.proofs.Common.{ℕ, ◌+◌, ◌-◌, ◌<◌, ◌≤◌, ◌≡◌, ◌⊎◌, List, length, Bool, true, false, slice_index, get_or, Option, Some, None, bit_or, sym, ◌∙◌, ap, inl, inr, arith, if◌then◌else◌}
 use Rattle.ec_bits.specs.Bits.{within}
 use Rattle.ec_bits.proofs.AnyLaws.{if_true, if_false, if_none, within_true, within_below, within_above}
 use Rattle.ec_sync.specs.Manager.{Manager}
@@ -22,7 +22,7 @@ abbrev pub kept_byte : List Manager → Window → ℕ → Option ℕ
 kept_byte ms w a = if is_kept ms a then byte_from w a else None
 
 pub kept-inside : (ms : List Manager) (w : Window) (i : ℕ) → i < length w.bytes
-  → kept_byte ms w (w.from + i) ≡ (if is_kept ms (w.from + i) then Some (slice_index w.bytes i) else None)
+    → kept_byte ms w (w.from + i) ≡ (if is_kept ms (w.from + i) then Some (slice_index w.bytes i) else None)
 kept-inside ms w i h = ap (λ o. if is_kept ms (w.from + i) then o else None) (from-inside w i h)
 
 pub kept-outside : (ms : List Manager) (w : Window) (a : ℕ) → (a < w.from) ⊎ (w.from + length w.bytes ≤ a) → kept_byte ms w a ≡ None
@@ -36,7 +36,7 @@ pub read-denied : (s : SlaveState) (joining : Bool) (w : Window) (i : ℕ) → m
 read-denied s joining w i h = if_false _ _ _ h
 
 pub read-given : (s : SlaveState) (joining : Bool) (w : Window) (i : ℕ) (now : List ℕ) (y r : ℕ) → may_read_byte s.managers (touches w) (w.from + i) ≡ true
-  → now ≡ told_along i 0 w.bytes (byte_read s joining w) → y ≡ byte_at s (w.from + i) → r ≡ over joining (slice_index now i) y → byte_read s joining w i ≡ Some r
+    → now ≡ told_along i 0 w.bytes (byte_read s joining w) → y ≡ byte_at s (w.from + i) → r ≡ over joining (slice_index now i) y → byte_read s joining w i ≡ Some r
 read-given s joining w i now y r h inv e g =
     let own : get_or now i 0 ≡ get_or w.bytes i 0 = ap (λ xs. get_or xs i 0) inv ∙ get-told_outside i 0 w.bytes (byte_read s joining w) i (inr (omega arith)) in
     if_true _ _ _ h ∙ ap Some (sym (g ∙ (ap (λ x. over joining x y) own ∙ ap (over joining (slice_index w.bytes i)) e)))

@@ -1,6 +1,6 @@
 -- What a datagram reads and writes in the memory of a slave, byte by byte (ETG.1000.4, "Physical memory", "Register
 -- description", "Sync manager").
-use Rattle.std.specs.Prelude.{ℕ, ◌+◌, ◌-◌, ◌*◌, ◌/◌, ◌%◌, ◌==◌, ◌&&◌, ◌||◌, not, List, [], ◌∷◌, ◌++◌, length, Bool, true, false, if◌then◌else◌, nat_lt, slice_index, Option, Some, None, is_some, is_none, unwrap_or, bit_or}
+use Rattle.std.specs.Prelude.{ℕ, ◌+◌, ◌-◌, ◌*◌, ◌/◌, ◌%◌, ◌==◌, ◌&&◌, ◌||◌, not, List, [], ◌∷◌, ◌++◌, length, Bool, if◌then◌else◌, nat_lt, slice_index, Option, Some, None, is_some, is_none, unwrap_or, bit_or}
 use Rattle.std.specs.Int.{from_bool, to_le_bytes, w16}
 use Rattle.ec_bits.specs.Bits.{any_below, within, zeros}
 use Rattle.ec_regs.specs.declared.manager.ManagerSettings.{ManagerSettings}
@@ -121,7 +121,7 @@ slave_after s reads writes w = record s {
   memory = if writes then memory_written s.managers w s.memory else s.memory;
   managers = managers_met [] reads writes w 0 s.managers;
   al = if writes && touches w 288 then requesting s.al else s.al;
-  sii = if writes then written s.sii w.from w.bytes else s.sii
+  sii = if writes then written s.sii w.from w.bytes else s.sii;
 }
 
 -- ---- the meeting
@@ -146,5 +146,5 @@ meeting s role w = record {
   slave = slave_after s (is_reading role) (is_writing role) w;
   bytes = if is_reading role then retold w.bytes (byte_read s (is_joining role) w) else w.bytes;
   added = from_bool (is_reading role && some_byte_read s.managers w)
-    + (if is_reading role then 2 else 1) * from_bool (is_writing role && some_byte_written s.managers s.sii.busy w);
+      + (if is_reading role then 2 else 1) * from_bool (is_writing role && some_byte_written s.managers s.sii.busy w);
 }

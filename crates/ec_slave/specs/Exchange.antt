@@ -1,6 +1,6 @@
 -- What a logical datagram does to a slave whose FMMUs map its outputs and its inputs, bit after bit.
 -- Nothing here names an FMMU's fields, so a plan's layout is seen through `IsMapped` alone.
-use Rattle.std.specs.Prelude.{ℕ, ◌+◌, ◌-◌, ◌*◌, ◌<◌, ◌≤◌, ◌≡◌, ◌≢◌, ◌&&◌, List, length, set, Bool, true, false, if◌then◌else◌, nat_lt, Option, Some, None}
+use Rattle.std.specs.Prelude.{ℕ, ◌+◌, ◌-◌, ◌*◌, ◌<◌, ◌≤◌, ◌≡◌, ◌≢◌, ◌&&◌, List, length, set, Bool, true, false, if◌then◌else◌, nat_lt, Some, None}
 use Rattle.std.specs.Int.{from_bool}
 use Rattle.ec_bits.specs.Bits.{bit, overlay, zeros, within, bytes_of_bits}
 use Rattle.ec_regs.specs.declared.manager.ManagerSettings.{ManagerSettings}
@@ -80,6 +80,6 @@ abbrev pub exchanged : Bool → Bool → ℕ → SlaveState → Area → Datagra
 exchanged reading writing weight s a d = record {
   slave = if writing && takes s a then with_outputs s (outputs_from a (place_of d) d.data_bytes) else s;
   datagram = with_answer d d.address
-    (if reading && gives s a then inputs_into a (place_of d) (inputs_of s) d.data_bytes else d.data_bytes)
-    (from_bool (reading && gives s a) + weight * from_bool (writing && takes s a));
+      (if reading && gives s a then inputs_into a (place_of d) (inputs_of s) d.data_bytes else d.data_bytes)
+      (from_bool (reading && gives s a) + weight * from_bool (writing && takes s a));
 }

@@ -1,5 +1,5 @@
 -- A datagram that met a slave is one, as long as it was.
-use Rattle.std.specs.Prelude.{ℕ, ◌+◌, ◌*◌, ◌/◌, ◌%◌, ◌^◌, ◌<◌, List, [], ◌∷◌, length, ◌≡◌, Bool, true, false, if◌then◌else◌, Option, refl, suc}
+use Rattle.std.specs.Prelude.{ℕ, ◌+◌, ◌*◌, ◌/◌, ◌^◌, ◌<◌, List, [], ◌∷◌, length, ◌≡◌, Bool, true, false, if◌then◌else◌, Option, refl, suc}
 use Rattle.std.proofs.Common.{ap, arith}
 use Rattle.ec_frame.specs.declared.command.Command.{Command}
 use Rattle.ec_frame.specs.declared.command.Command.TheVariants.{Nop, Aprd, Apwr, Aprw, Fprd, Fpwr, Fprw, Brd, Bwr, Brw, Lrd, Lwr, Lrw, Armw, Frmw}
@@ -10,7 +10,6 @@ use Rattle.ec_slave.specs.declared.role.Role.TheVariants.{Nothing, Read, Write, 
 use Rattle.ec_slave.specs.Roles.{role_of, adp_after}
 use Rattle.ec_slave.specs.State.{SlaveState, station_of}
 use Rattle.ec_slave.specs.Access.{retold_from, Window, meeting}
-use Rattle.ec_bits.specs.Bits.{overlay}
 use Rattle.ec_bits.proofs.BitLaws.{length-overlay}
 use Rattle.ec_slave.specs.Logical.{meets_logical}
 use Rattle.ec_slave.specs.Meeting.{window_of, meets, meets_physically, meets_by, datagram_met}
@@ -52,15 +51,17 @@ pub physically-keeps : (s : SlaveState) (d : Datagram) → IsDatagram d → IsDa
 physically-keeps s d h =
     let role : Role = role_of d.command (adp_of d) (station_of s) in
     let e : length (meeting s role (window_of d)).bytes ≡ length d.data_bytes = length-meeting s role (window_of d) in
-    let a : adp_after d.command (adp_of d) < 65536 = adp_after-bound d.command (adp_of d) (omega arith) in
-    (record {
-      index = h.index;
-      address = address-bound d.address (adp_after d.command (adp_of d)) h.address a;
-      reserved = h.reserved;
-      irq = h.irq;
-      data_bytes = omega (arith, e, h.data_bytes);
-      counter = omega arith;
-    }, e)
+    let a : adp_after d.command (adp_of d) < 65536 = adp_after-bound d.command (adp_of d) (omega arith) in (
+      record {
+        index = h.index;
+        address = address-bound d.address (adp_after d.command (adp_of d)) h.address a;
+        reserved = h.reserved;
+        irq = h.irq;
+        data_bytes = omega (arith, e, h.data_bytes);
+        counter = omega arith;
+      },
+      e,
+    )
 
 pub logically-keeps : (reading writing : Bool) (weight : ℕ) (s : SlaveState) (d : Datagram) → IsDatagram d → IsDatagram (meets_logical reading writing weight s d).datagram × (length (meets_logical reading writing weight s d).datagram.data_bytes ≡ length d.data_bytes)
 unfolding meets_logical
@@ -69,7 +70,7 @@ logically-keeps reading writing weight s d h =
     (record { index = h.index; address = h.address; reserved = h.reserved; irq = h.irq; data_bytes = omega (arith, e, h.data_bytes); counter = omega arith }, e)
 
 lrw-keeps : (b : Bool) (s : SlaveState) (d : Datagram) → IsDatagram d
-  → IsDatagram (if b then meets_logical true true 2 s d else record { slave = s; datagram = d }).datagram × (length (if b then meets_logical true true 2 s d else record { slave = s; datagram = d }).datagram.data_bytes ≡ length d.data_bytes)
+    → IsDatagram (if b then meets_logical true true 2 s d else record { slave = s; datagram = d }).datagram × (length (if b then meets_logical true true 2 s d else record { slave = s; datagram = d }).datagram.data_bytes ≡ length d.data_bytes)
 lrw-keeps true s d h = logically-keeps true true 2 s d h
 lrw-keeps false s d h = (h, refl)
 

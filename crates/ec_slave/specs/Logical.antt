@@ -1,5 +1,5 @@
 -- One slave and one logical datagram, bit by bit (ETG.1000.4, "Fieldbus memory management unit").
-use Rattle.std.specs.Prelude.{ℕ, ◌+◌, ◌-◌, ◌*◌, ◌/◌, ◌==◌, ◌&&◌, not, List, [], ◌∷◌, ◌++◌, length, Bool, true, false, if◌then◌else◌, Option, Some, None, is_some, is_none, option_map, option_and_then}
+use Rattle.std.specs.Prelude.{ℕ, ◌+◌, ◌*◌, ◌/◌, ◌&&◌, List, [], ◌∷◌, ◌++◌, length, Bool, if◌then◌else◌, Option, Some, None, is_some, is_none, option_map, option_and_then}
 use Rattle.std.specs.Int.{from_bool}
 use Rattle.ec_bits.specs.Bits.{bit, overlay, zeros, any_below}
 use Rattle.ec_regs.specs.declared.fmmu.FmmuSettings.{FmmuSettings}
@@ -7,8 +7,8 @@ use Rattle.ec_regs.specs.Memory.{ram_end}
 use Rattle.ec_frame.specs.Datagram.{Datagram}
 use Rattle.ec_sync.specs.Manager.{Manager}
 use Rattle.ec_sync.specs.Governing.{governor}
-use Rattle.ec_fmmu.specs.Sets.{target, source, readers, writers}
-use Rattle.ec_fmmu.specs.Applied.{Place, inside_place}
+use Rattle.ec_fmmu.specs.Sets.{target, readers}
+use Rattle.ec_fmmu.specs.Applied.{Place, touched_by_reading, touched_by_writing, data_bit_for}
 use Rattle.ec_slave.specs.State.{SlaveState, fmmus, Met, with_memory, with_answer}
 use Rattle.ec_slave.specs.Managers.{reads_under, writes_under, shown_under, manager_after}
 
@@ -16,14 +16,6 @@ abbrev pub place_of : Datagram → Place
 place_of d = record { from = 8 * d.address; bits = 8 * length d.data_bytes }
 
 -- ---- reading
-
-abbrev pub leads_into : Option ℕ → ℕ → Bool
-leads_into None a = false
-leads_into (Some q) a = q / 8 == a
-
--- the bytes that the datagram touches by reading: the read set leads one of its bits there
-abbrev pub touched_by_reading : List FmmuSettings → Place → ℕ → Bool
-touched_by_reading fs p a = any_below p.bits (λ i. leads_into (target (readers fs) (p.from + i)) a)
 
 -- what the ring reads at a physical bit, if it may
 abbrev pub readable_bit : List ℕ → List Manager → List FmmuSettings → Place → ℕ → Option Bool
@@ -37,14 +29,6 @@ abbrev pub read_bit : List ℕ → List Manager → List FmmuSettings → Place 
 read_bit memory ms fs p i = option_and_then (readable_bit memory ms fs p) (target (readers fs) (p.from + i))
 
 -- ---- writing
-
--- the data bit that the write set brings to a physical bit
-abbrev pub data_bit_for : List FmmuSettings → Place → ℕ → Option ℕ
-data_bit_for fs p q = inside_place p (source (writers fs) q)
-
--- the bytes that the datagram touches by writing
-abbrev pub touched_by_writing : List FmmuSettings → Place → ℕ → Bool
-touched_by_writing fs p a = any_below 8 (λ j. is_some (data_bit_for fs p (8 * a + j)))
 
 -- what the write set brings to a physical bit, whether it may be written or not
 abbrev pub brought : List FmmuSettings → Place → List ℕ → ℕ → Option Bool
@@ -96,7 +80,7 @@ meets_logical reading writing weight s d =
     record {
       slave = logical_after s reading writing p d.data_bytes;
       datagram = with_answer d d.address
-        (overlay d.data_bytes (λ i. only_if reading (read_bit s.memory s.managers (fmmus s) p i)))
-        (from_bool (reading && some_read s.memory s.managers (fmmus s) p)
+          (overlay d.data_bytes (λ i. only_if reading (read_bit s.memory s.managers (fmmus s) p i)))
+          (from_bool (reading && some_read s.memory s.managers (fmmus s) p)
           + weight * from_bool (writing && some_written s.managers (fmmus s) p d.data_bytes));
     }

@@ -1,14 +1,14 @@
 -- Laws of one slave, as statements.
-use Rattle.std.specs.Prelude.{ℕ, ◌+◌, ◌*◌, ◌%◌, ◌<◌, ◌≤◌, ◌≡◌, Bool, List, length, slice_index, Option, Some, None, bit_or}
+use Rattle.std.specs.Prelude.{ℕ, ◌+◌, ◌*◌, ◌%◌, ◌<◌, ◌≤◌, ◌≡◌, Bool, List, length, slice_index, Some, None, bit_or}
 use Rattle.ec_frame.specs.declared.command.Command.TheVariants.{Brd}
 use Rattle.ec_frame.specs.Datagram.{Datagram, adp_of, ado_of}
 use Rattle.ec_fmmu.specs.Sets.{target, readers}
-use Rattle.ec_fmmu.specs.Applied.{Place}
+use Rattle.ec_fmmu.specs.Applied.{Place, data_bit_for}
 use Rattle.ec_regs.specs.Memory.{ram_start}
-use Rattle.ec_slave.specs.State.{SlaveState, fmmus, Met, with_answer}
+use Rattle.ec_slave.specs.State.{SlaveState, fmmus, with_answer}
 use Rattle.ec_slave.specs.Access.{byte_at, retold}
 use Rattle.ec_slave.specs.Meeting.{meets}
-use Rattle.ec_slave.specs.Logical.{place_of, data_bit_for, meets_logical}
+use Rattle.ec_slave.specs.Logical.{place_of, meets_logical}
 use Rattle.ec_slave.specs.Exchange.{Area, IsMapped, Spans, exchanged, with_outputs}
 
 -- no data bit is mapped, either way
@@ -37,7 +37,7 @@ abbrev pub BroadcastLaw : Type 0
 BroadcastLaw =
     (s : SlaveState) (d : Datagram) → d.command ≡ Brd → 0 < length d.data_bytes → ado_of d + length d.data_bytes ≤ ram_start
     → meets s d ≡ record {
-        slave = s;
-        datagram = with_answer d ((adp_of d + 1) % 65536 + 65536 * ado_of d)
-          (retold d.data_bytes (λ k. Some (bit_or (slice_index d.data_bytes k) (byte_at s (ado_of d + k))))) 1
-      }
+      slave = s;
+      datagram = with_answer d ((adp_of d + 1) % 65536 + 65536 * ado_of d)
+          (retold d.data_bytes (λ k. Some (bit_or (slice_index d.data_bytes k) (byte_at s (ado_of d + k))))) 1;
+    }

@@ -1,9 +1,9 @@
 -- What a datagram, physical or logical, does to the sync managers, and what it finds behind them.
-use Rattle.std.specs.Prelude.{ℕ, ◌+◌, ◌-◌, ◌*◌, ◌/◌, ◌&&◌, List, Bool, true, false, if◌then◌else◌, Option, Some, None}
+use Rattle.std.specs.Prelude.{ℕ, ◌-◌, ◌*◌, ◌&&◌, List, Bool, true, if◌then◌else◌, Option, Some, None}
 use Rattle.ec_bits.specs.Bits.{bit}
 use Rattle.ec_sync.specs.Manager.{Manager, may_read, may_write, shown, ring_written, ring_read}
 use Rattle.ec_slave.specs.State.{manager_at}
-use Rattle.ec_sync.specs.Governing.{governor, covers, in_front}
+use Rattle.ec_sync.specs.Governing.{covers, in_front}
 
 -- whether a byte under this governor, or under none, is read by an access that touches these bytes
 abbrev pub reads_under : List Manager → (ℕ → Bool) → ℕ → Option ℕ → Bool

@@ -6,7 +6,7 @@ use Rattle.ec_frame.specs.Datagram.{Datagram, adp_of, ado_of}
 use Rattle.ec_frame.specs.Frame.{Payload, IsFrame, with_datagrams}
 use Rattle.ec_slave.specs.Roles.{role_of, adp_after}
 use Rattle.ec_slave.specs.State.{SlaveState, Met, station_of, with_answer}
-use Rattle.ec_slave.specs.Access.{Window, Meeting, meeting}
+use Rattle.ec_slave.specs.Access.{Window, meeting}
 use Rattle.ec_slave.specs.Logical.{meets_logical}
 
 abbrev pub window_of : Datagram → Window

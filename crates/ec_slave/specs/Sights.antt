@@ -1,26 +1,9 @@
 -- What a slave looks up on its way through a logical datagram, in place of all of its bits.
-use Rattle.std.specs.Prelude.{ℕ, ◌-◌, ◌*◌, ◌/◌, ◌==◌, ◌&&◌, List, get_or, Bool, false, if◌then◌else◌, Option, Some, None}
-use Rattle.ec_bits.specs.Bits.{bit, within}
-use Rattle.ec_regs.specs.declared.fmmu.FmmuSettings.{FmmuSettings}
+use Rattle.std.specs.Prelude.{ℕ, ◌-◌, ◌*◌, ◌/◌, ◌&&◌, List, get_or, Bool, false, if◌then◌else◌, Option, Some, None}
+use Rattle.ec_bits.specs.Bits.{bit}
 use Rattle.ec_sync.specs.Manager.{Manager, shown}
 use Rattle.ec_sync.specs.Governing.{governor, in_front}
-use Rattle.ec_fmmu.specs.Pairs.{unmapped}
-use Rattle.ec_fmmu.specs.Sets.{target, readers}
-use Rattle.ec_fmmu.specs.Applied.{Place}
 use Rattle.ec_slave.specs.State.{manager_at}
-
-abbrev pub is_bit : Option ℕ → ℕ → Bool
-is_bit None q = false
-is_bit (Some r) q = r == q
-
--- the logical bit lies in the datagram, and the read set leads it to the physical bit
-abbrev pub is_led : List FmmuSettings → Place → ℕ → Option ℕ → Bool
-is_led fs p q None = false
-is_led fs p q (Some l) = is_bit (target (readers fs) l) q && within p.from p.bits l
-
--- the FMMU reads, and by its pair for the physical bit a bit of the datagram is read from there
-abbrev pub reads_from : List FmmuSettings → Place → ℕ → FmmuSettings → Bool
-reads_from fs p q f = f.reads && is_led fs p q (unmapped f q)
 
 -- what a physical bit shows that the manager governs, where the datagram gets at it or does not
 abbrev pub seen_behind : Manager → Bool → ℕ → Option Bool

@@ -5,8 +5,8 @@ use Rattle.ec_regs.specs.declared.fmmu.FmmuSettings.{FmmuSettings}
 use Rattle.ec_regs.specs.Memory.{ram_end}
 use Rattle.ec_sync.specs.Manager.{Manager, may_write}
 use Rattle.ec_sync.specs.Governing.{covers}
-use Rattle.ec_fmmu.specs.Applied.{Place}
-use Rattle.ec_slave.specs.Logical.{touched_by_writing, plain_bit}
+use Rattle.ec_fmmu.specs.Applied.{Place, touched_by_writing}
+use Rattle.ec_slave.specs.Logical.{plain_bit}
 
 -- a bit is brought to a value of this start and length, outside the bytes that `lower` govern
 abbrev pub some_brought : List Manager → List FmmuSettings → Place → List ℕ → ℕ → ℕ → Bool

@@ -16,9 +16,7 @@ pub(crate) fn governor(managers: &[Manager], address: usize) -> Option<usize>
     ensures value { result ≡ governor_of managers.now address }
     ensures within { IfSome result (λ n. n < length managers.now) }
 {
-    managers
-        .iter()
-        .position(|manager| manager.governs(address))
+    managers.iter().position(|manager| manager.governs(address))
 }
 
 /// Whether a datagram over `len` bytes from `from` on reads the byte at an address that it touches.

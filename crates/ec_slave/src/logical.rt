@@ -6,7 +6,6 @@
 
 mod exchanging;
 mod reading;
-mod touching;
 mod writing;
 
 pub(crate) use crate::logical::exchanging::exchange_managers;

@@ -9,8 +9,9 @@ use crate::fmmus::read_fmmus;
 use ec_al::Al;
 use ec_fmmu::Fmmu;
 use ec_regs::registers::{
-    AL_CONTROL, AL_STATUS, AL_STATUS_CODE, FMMU_COUNT, FMMUS, MANAGER_COUNT, NUMBER_OF_FMMUS, NUMBER_OF_SYNC_MANAGERS,
-    RAM_END, RAM_KIB, RAM_SIZE, RAM_START, SII_CONTROL, STATION_ADDRESS, SYNC_MANAGERS,
+    AL_CONTROL, AL_STATUS, AL_STATUS_CODE, FMMU_COUNT, FMMUS, MANAGER_COUNT, NUMBER_OF_FMMUS,
+    NUMBER_OF_SYNC_MANAGERS, RAM_END, RAM_KIB, RAM_SIZE, RAM_START, SII_CONTROL, STATION_ADDRESS,
+    SYNC_MANAGERS,
 };
 use ec_regs::{Identity, Pdo, SlaveType};
 use ec_sii::{Image, Port};
@@ -43,17 +44,17 @@ impl Model for Slave {
     ghost Value = { SlaveState };
 
     ghost view = { λ s. record {
-        kind = s.kind;
-        identity = s.identity;
-        memory = s.memory.items;
-        managers = s.managers.items;
-        al = s.al;
-        sii = s.port;
-        out_slots = s.out_slots.items;
-        out_count = s.out_count;
-        in_slots = s.in_slots.items;
-        in_count = s.in_count;
-        replies = s.replies
+      kind = s.kind;
+      identity = s.identity;
+      memory = s.memory.items;
+      managers = s.managers.items;
+      al = s.al;
+      sii = s.port;
+      out_slots = s.out_slots.items;
+      out_count = s.out_count;
+      in_slots = s.in_slots.items;
+      in_count = s.in_count;
+      replies = s.replies;
     } };
 
     ghost invariant = { λ s. IsHeld s.kind s.identity s.memory.items s.managers.items s.fmmus s.port s.out_slots.items s.in_slots.items };

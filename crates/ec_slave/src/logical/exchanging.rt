@@ -1,13 +1,12 @@
 //! What a logical datagram does to the sync managers.
 
 ghost use Rattle.std.specs.Prelude.{◌≡◌, ◌<◌, ◌+◌, ◌*◌, ◌^◌, length, []};
-ghost use Rattle.ec_fmmu.specs.Applied.{Place};
+ghost use Rattle.ec_fmmu.specs.Applied.{Place, touched_by_reading, touched_by_writing};
 ghost use Rattle.ec_slave.specs.Managers.{manager_after};
-ghost use Rattle.ec_slave.specs.Logical.{managers_exchanged, touched_by_reading, touched_by_writing, value_brought};
+ghost use Rattle.ec_slave.specs.Logical.{managers_exchanged, value_brought};
 
-use crate::logical::touching::{touches_by_reading, touches_by_writing};
 use crate::logical::writing::Ungoverned;
-use ec_fmmu::{Fmmu, apply_write};
+use ec_fmmu::{Fmmu, apply_write, is_touched_by_reading, is_touched_by_writing};
 use ec_sync::{Manager, Touching, Writing};
 
 /// The bits of a logical datagram, as they are read.
@@ -19,14 +18,13 @@ struct ReadBits<'a> {
 }
 
 impl Touching for ReadBits<'_> {
-    ghost use Rattle.ec_fmmu.specs.Applied.{Place};
-    ghost use Rattle.ec_slave.specs.Logical.{touched_by_reading};
+    ghost use Rattle.ec_fmmu.specs.Applied.{Place, touched_by_reading};
 
     ghost touched = { λ r a. touched_by_reading r.fmmus.now
         (record { from = r.from; bits = r.bits }) a };
 
     fn touches(&self, address: usize) -> bool {
-        touches_by_reading(self.fmmus, self.from, self.bits, address)
+        is_touched_by_reading(self.fmmus, self.from, self.bits, address as u16)
     }
 }
 
@@ -42,14 +40,14 @@ struct LogicalBits<'a> {
 
 impl Touching for LogicalBits<'_> {
     ghost use Rattle.std.specs.Prelude.{◌*◌, length};
-    ghost use Rattle.ec_fmmu.specs.Applied.{Place};
-    ghost use Rattle.ec_slave.specs.Logical.{touched_by_writing};
+    ghost use Rattle.ec_fmmu.specs.Applied.{Place, touched_by_writing};
 
     ghost touched = { λ w a. touched_by_writing w.fmmus.now
         (record { from = w.from; bits = 8 * length w.bytes.now }) a };
 
     fn touches(&self, address: usize) -> bool {
-        touches_by_writing(self.fmmus, self.from, 8 * self.bytes.len() as u64, address)
+        let bits = 8 * self.bytes.len() as u64;
+        is_touched_by_writing(self.fmmus, self.from, bits, address as u16)
     }
 }
 

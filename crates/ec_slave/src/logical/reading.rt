@@ -5,14 +5,13 @@ ghost use Rattle.ec_bits.specs.Bits.{overlay};
 ghost use Rattle.ec_regs.specs.Memory.{ram_end};
 ghost use Rattle.ec_sync.specs.Manager.{may_read};
 ghost use Rattle.ec_sync.specs.Governing.{covers};
-ghost use Rattle.ec_fmmu.specs.Applied.{Place};
-ghost use Rattle.ec_slave.specs.Logical.{read_bit, some_read, touched_by_reading};
+ghost use Rattle.ec_fmmu.specs.Applied.{Place, touched_by_reading};
+ghost use Rattle.ec_slave.specs.Logical.{read_bit, some_read};
 ghost use Rattle.ec_slave.specs.Sights.{seen_behind as behind_it, seen_bit as bit_seen};
 
 use crate::access::governor;
-use crate::logical::touching::touches_by_reading;
 use ec_bits::get;
-use ec_fmmu::{Fmmu, Shown, apply_read};
+use ec_fmmu::{Fmmu, Shown, apply_read, is_touched_by_reading as touches_by_reading};
 use ec_sync::Manager;
 
 /// Whether a datagram that reads gets at a manager: it touches its first and its last byte, and it
@@ -24,8 +23,8 @@ fn is_readable(manager: &Manager, fmmus: &[Fmmu], from: u64, bits: u64) -> bool
     if !manager.may_read() {
         return false;
     }
-    let first = manager.settings().start as usize;
-    let last = first + manager.settings().length as usize - 1;
+    let first = manager.settings().start;
+    let last = first + manager.settings().length - 1;
     touches_by_reading(fmmus, from, bits, first) && touches_by_reading(fmmus, from, bits, last)
 }
 

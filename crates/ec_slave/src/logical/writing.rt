@@ -5,13 +5,14 @@ ghost use Rattle.ec_bits.specs.Bits.{overlay};
 ghost use Rattle.ec_regs.specs.Memory.{ram_end};
 ghost use Rattle.ec_sync.specs.Manager.{may_write};
 ghost use Rattle.ec_sync.specs.Governing.{covers, governor as governor_of};
-ghost use Rattle.ec_fmmu.specs.Applied.{Place};
-ghost use Rattle.ec_slave.specs.Logical.{data_bit_for, plain_bit, touched_by_writing};
+ghost use Rattle.ec_fmmu.specs.Applied.{Place, data_bit_for, touched_by_writing};
+ghost use Rattle.ec_slave.specs.Logical.{plain_bit};
 ghost use Rattle.ec_slave.specs.Written.{some_brought, some_manager_written as some_written_behind, some_plain_written};
 
 use crate::access::governor;
-use crate::logical::touching::{is_brought, touches_by_writing};
-use ec_fmmu::{Allowed, Fmmu, apply_write};
+use ec_fmmu::{
+    Allowed, Fmmu, apply_write, is_brought, is_touched_by_writing as touches_by_writing,
+};
 use ec_sync::Manager;
 
 /// The bytes that no manager governs.
@@ -71,8 +72,8 @@ fn is_value_brought(
     fmmus: &[Fmmu],
     from: u64,
     bytes: &[u8],
-    start: usize,
-    len: usize,
+    start: u16,
+    len: u16,
 ) -> bool
     requires inside { start + len ≤ ram_end }
     requires fits { from + 8 * length bytes.now < 2 ^ 64 }
@@ -80,8 +81,8 @@ fn is_value_brought(
         result ≡ some_brought lower.now fmmus.now place bytes.now start len }
 {
     let bits = 8 * bytes.len() as u64;
-    for k in 0..8 * len {
-        if is_plain(lower, fmmus, from, bits, (8 * start + k) as u32) {
+    for k in 0..8 * len as u32 {
+        if is_plain(lower, fmmus, from, bits, 8 * start as u32 + k) {
             return true;
         }
     }
@@ -100,8 +101,8 @@ fn is_written(lower: &[Manager], manager: &Manager, fmmus: &[Fmmu], from: u64, b
         return false;
     }
     let bits = 8 * bytes.len() as u64;
-    let first = manager.settings().start as usize;
-    let len = manager.settings().length as usize;
+    let first = manager.settings().start;
+    let len = manager.settings().length;
     touches_by_writing(fmmus, from, bits, first)
         && touches_by_writing(fmmus, from, bits, first + len - 1)
         && is_value_brought(lower, fmmus, from, bytes, first, len)

@@ -23,7 +23,7 @@ loop-range-preserved g c =
     let from = c.args.from in
     let n = c.loop-range.range-index in
     let f = read_told fs (g.M.Shown.shown c.args.memory.now) from in
-    let bits = 8 * length c.args.data.now in
+    let bits = 8 * length c.args.bytes.now in
     let item : c.range-item.result ≡ get_or fs n no_fmmu = c.range-item.is ∙ get_or_default fs n (c.range-item.result) no_fmmu (omega arith) in
     let p = λ (i : ℕ). reads_to c.range-item.result (from + i) in
     let before = λ (i : ℕ). passed n fs (λ f. reads_to f (from + i)) ≡ true in
@@ -33,13 +33,13 @@ loop-range-preserved g c =
       | inl h ↦ inl (subst (λ (m : FmmuSettings). reads_to m (from + i) ≡ true) (sym item) h)
       | inr h ↦ inr h
     ] in
-    let same : length c.loop-range.data ≡ length c.args.data.now = c.loop-range.auto.«data» in
+    let same : length c.loop-range.bytes ≡ length c.args.bytes.now = c.loop-range.auto.bytes in
     let any : c.read_range-any.result ≡ any_below bits (λ i. is_some (if p i then f i else None))
     = c.read_range-any.ensures.any ∙ ap (λ (n : ℕ). any_below (8 * n) (λ i. is_some (if p i then f i else None))) same in
     record {
-      bits = subst (λ (xs : List ℕ). Telling c.args.data.now f after xs) (sym c.read_range-any.ensures.bits)
-          (telling_fewer c.args.data.now f (λ i. (p i ≡ true) ⊎ before i) after _
-          (telling_overlay c.args.data.now f before c.loop-range.data p c.loop-range.invariant.bits)
+      bits = subst (λ (xs : List ℕ). Telling c.args.bytes.now f after xs) (sym c.read_range-any.ensures.bits)
+          (telling_fewer c.args.bytes.now f (λ i. (p i ≡ true) ⊎ before i) after _
+          (telling_overlay c.args.bytes.now f before c.loop-range.bytes p c.loop-range.invariant.bits)
           (λ i l d. more i d));
       any = counted_fewer f bits (λ i. (p i ≡ true) ⊎ before i) after (c.loop-range.any || c.read_range-any.result)
           (counted_part f bits before p (c.loop-range.any) (c.read_range-any.result) c.loop-range.invariant.any any) more;
@@ -51,7 +51,7 @@ returns-clause-bits g c =
     let from = c.args.from in
     let n = c.loop-range.range-index in
     let shown = g.M.Shown.shown c.args.memory.now in
-    telling_end c.args.data.now (read_told fs shown from) (λ i. passed n fs (λ f. reads_to f (from + i)) ≡ true) c.loop-range.data c.loop-range.invariant.bits
+    telling_end c.args.bytes.now (read_told fs shown from) (λ i. passed n fs (λ f. reads_to f (from + i)) ≡ true) c.loop-range.bytes c.loop-range.invariant.bits
     (λ i l. elim (cases_Bool (passed n fs (λ f. reads_to f (from + i)))) [
       | inl t ↦ inr t
       | inr f ↦ inl (nothing_read fs shown from i n (omega arith) f)
@@ -63,7 +63,7 @@ returns-clause-any g c =
     let from = c.args.from in
     let n = c.loop-range.range-index in
     let shown = g.M.Shown.shown c.args.memory.now in
-    counted_end (read_told fs shown from) (8 * length c.args.data.now) (λ i. passed n fs (λ f. reads_to f (from + i)) ≡ true) (c.loop-range.any) c.loop-range.invariant.any
+    counted_end (read_told fs shown from) (8 * length c.args.bytes.now) (λ i. passed n fs (λ f. reads_to f (from + i)) ≡ true) (c.loop-range.any) c.loop-range.invariant.any
     (λ i l. elim (cases_Bool (passed n fs (λ f. reads_to f (from + i)))) [
       | inl t ↦ inr t
       | inr f ↦ inl (nothing_read fs shown from i n (omega arith) f)

@@ -9,6 +9,6 @@ abbrev pub invariant-loop-range : goal.invariant-loop-range
 invariant-loop-range g l =
     let told = read_told l.fmmus (g.M.Shown.shown l.memory) l.from in
     record {
-      bits : Telling l.fn.data told (λ i. passed l.range-index l.fmmus (λ f. reads_to f (l.from + i)) ≡ true) l.data;
-      any : Counted told (8 * length l.fn.data) (λ i. passed l.range-index l.fmmus (λ f. reads_to f (l.from + i)) ≡ true) l.any;
+      bits : Telling l.fn.bytes told (λ i. passed l.range-index l.fmmus (λ f. reads_to f (l.from + i)) ≡ true) l.bytes;
+      any : Counted told (8 * length l.fn.bytes) (λ i. passed l.range-index l.fmmus (λ f. reads_to f (l.from + i)) ≡ true) l.any;
     }

@@ -1,5 +1,5 @@
-use Rattle.std.proofs.Common.{◌≡◌, ◌+◌, length, ℕ, Bool, List, Option, ◌∙◌, sym, ap, arith}
-use Rattle.ec_bits.specs.Bits.{any_below, within}
+use Rattle.std.proofs.Common.{◌≡◌, ◌+◌, length, ℕ, Bool, List, ◌∙◌, ap, arith}
+use Rattle.ec_bits.specs.Bits.{within}
 use Rattle.ec_sync.specs.Manager.{Manager}
 use Rattle.ec_slave.specs.Access.{Window, may_write_byte}
 use Rattle.ec_slave.proofs.Choices.{any-none, any-or}

@@ -1,4 +1,4 @@
-use Rattle.std.proofs.Common.{◌≡◌, ℕ, Bool, is_some, ◌∙◌, ap}
+use Rattle.std.proofs.Common.{ℕ, Bool, is_some, ◌∙◌, ap}
 use Rattle.ec_slave.specs.Access.{Window, setting_for}
 use Rattle.ec_slave.proofs.Choices.{any-none, any-or}
 use Rattle.ec_slave.proofs.managers.is_configured.Goals as goal

@@ -3,9 +3,8 @@ use Rattle.std.proofs.lemmas.List.{get_or_default}
 use Rattle.ec_regs.specs.declared.fmmu.FmmuSettings.{FmmuSettings}
 use Rattle.ec_sync.specs.Manager.{Manager, no_manager, may_read}
 use Rattle.ec_sync.specs.Governing.{covers}
-use Rattle.ec_fmmu.specs.Applied.{Place}
+use Rattle.ec_fmmu.specs.Applied.{Place, touched_by_reading}
 use Rattle.ec_slave.specs.State.{manager_at}
-use Rattle.ec_slave.specs.Logical.{touched_by_reading}
 use Rattle.ec_slave.proofs.Sights.{Readable, four, overlay-read, any-read}
 use Rattle.ec_slave.proofs.logical.reading.read_logical.Goals as goal
 

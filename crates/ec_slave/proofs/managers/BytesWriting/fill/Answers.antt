@@ -1,6 +1,5 @@
-use Rattle.std.proofs.Common.{◌≡◌, ◌+◌, ◌-◌, ◌≤◌, ◌<◌, length, ℕ, Bool, true, false, List, Option, Some, None, is_some, is_none, ◌∙◌, sym, ap, arith, if◌then◌else◌}
+use Rattle.std.proofs.Common.{◌≡◌, ◌+◌, ◌-◌, ◌≤◌, ◌<◌, length, ℕ, List, Option, None, is_some, is_none, ◌∙◌, sym, ap, arith, if◌then◌else◌}
 use Rattle.std.proofs.lemmas.List.{set-get_or}
-use Rattle.ec_bits.specs.Bits.{zeros}
 use Rattle.ec_bits.proofs.AnyLaws.{if_true, if_false, within_parts}
 use Rattle.ec_sync.specs.Manager.{Manager}
 use Rattle.ec_sync.specs.Governing.{governor}
@@ -27,11 +26,11 @@ loop-k-preserved c =
     let inside : c.loop-k.k < length c.args.value.now = omega arith in
     let low : w.from ≤ c.args.start + c.loop-k.k = let x = first.0 in omega arith in
     let high : c.args.start + c.loop-k.k < w.from + length w.bytes = let x = last.1 in omega arith in
-    let is : c.is_none.result ≡ is_none (governor c.args.self.now.lower.now (c.args.start + c.loop-k.k)) 
-      = none-from (governor c.args.self.now.lower.now (c.args.start + c.loop-k.k)) c.is_none.result (ap is_some (sym c.governor.ensures.value) ∙ c.is_none.ensures) in
+    let is : c.is_none.result ≡ is_none (governor c.args.self.now.lower.now (c.args.start + c.loop-k.k))
+    = none-from (governor c.args.self.now.lower.now (c.args.start + c.loop-k.k)) c.is_none.result (ap is_some (sym c.governor.ensures.value) ∙ c.is_none.ensures) in
     elim c.if-is_none.branch [
-      then-is_none v ↦ told-step0 c.loop-k.k _ f c.loop-k.value _ _ c.loop-k.invariant (if_true _ _ _ (sym is ∙ v.if-is_none.true) ∙ from-at w (c.args.start + c.loop-k.k) low high) v.value-is
-    | else-is_none v ↦ told-step0 c.loop-k.k _ f c.loop-k.value _ _ c.loop-k.invariant (if_false _ _ _ (sym is ∙ v.if-is_none.false)) (v.value-is ∙ set-get_or _ _ 0)
+      | then-is_none v ↦ told-step0 c.loop-k.k _ f c.loop-k.value _ _ c.loop-k.invariant (if_true _ _ _ (sym is ∙ v.if-is_none.true) ∙ from-at w (c.args.start + c.loop-k.k) low high) v.value-is
+      | else-is_none v ↦ told-step0 c.loop-k.k _ f c.loop-k.value _ _ c.loop-k.invariant (if_false _ _ _ (sym is ∙ v.if-is_none.false)) (v.value-is ∙ set-get_or _ _ 0)
     ]
 
 pub returns : goal.returns

@@ -1,5 +1,5 @@
-use Rattle.std.proofs.Common.{◌≡◌, ◌∙◌, ap, sym, List}
-use Rattle.ec_frame.specs.Datagram.{Datagram, spelling}
+use Rattle.std.proofs.Common.{◌∙◌, ap, sym}
+use Rattle.ec_frame.specs.Datagram.{spelling}
 use Rattle.ec_frame.specs.declared.header.Header.{Header}
 use Rattle.ec_slave.specs.State.{Met}
 use Rattle.ec_slave.proofs.Answered.{passed_over, is_answered, is_read, is_written, is_exchanged}
@@ -16,9 +16,9 @@ returns-in-Nop-clause-state c = λ more d good e.
 pub returns-in_default : goal.returns-in_default
 returns-in_default c = record {
   datagram = λ more d good e.
-    c.answer.ensures.datagram more d good e ∙ ap (λ (m : Met). spelling more m.datagram) (sym (is_answered c.args.self.now d c.read-header.result.command (ap (λ (h : Header). h.command) (c.read-header.ensures more d good e)) c.in_default.not-Nop c.in_default.not-Lrd c.in_default.not-Lwr c.in_default.not-Lrw));
+      c.answer.ensures.datagram more d good e ∙ ap (λ (m : Met). spelling more m.datagram) (sym (is_answered c.args.self.now d c.read-header.result.command (ap (λ (h : Header). h.command) (c.read-header.ensures more d good e)) c.in_default.not-Nop c.in_default.not-Lrd c.in_default.not-Lwr c.in_default.not-Lrw));
   state = λ more d good e.
-    c.answer.ensures.state more d good e ∙ ap (λ (m : Met). m.slave) (sym (is_answered c.args.self.now d c.read-header.result.command (ap (λ (h : Header). h.command) (c.read-header.ensures more d good e)) c.in_default.not-Nop c.in_default.not-Lrd c.in_default.not-Lwr c.in_default.not-Lrw));
+      c.answer.ensures.state more d good e ∙ ap (λ (m : Met). m.slave) (sym (is_answered c.args.self.now d c.read-header.result.command (ap (λ (h : Header). h.command) (c.read-header.ensures more d good e)) c.in_default.not-Nop c.in_default.not-Lrd c.in_default.not-Lwr c.in_default.not-Lrw));
 }
 
 pub returns-in-Lrd-clause-datagram : goal.returns-in-Lrd-clause-datagram

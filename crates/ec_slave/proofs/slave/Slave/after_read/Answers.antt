@@ -1,6 +1,6 @@
-use Rattle.std.proofs.Common.{◌≡◌, ◌≤◌, ◌+◌, length, sym, arith}
+use Rattle.std.proofs.Common.{◌≤◌, ◌+◌, length, sym, arith}
 use Rattle.ec_slave.specs.Access.{Window}
-use Rattle.ec_slave.proofs.Idle.{registers-idle}
+use Rattle.ec_slave.proofs.Broadcast.{registers-idle}
 use Rattle.ec_slave.proofs.slave.Slave.after_read.Goals as goal
 
 pub returns-else-from-bytes : goal.returns-else-from-bytes

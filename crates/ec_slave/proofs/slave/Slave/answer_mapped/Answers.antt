@@ -1,18 +1,21 @@
-use Rattle.std.proofs.Common.{◌≡◌, ◌∙◌, ◌+◌, ◌*◌, ◌%◌, ap, sym, length, ℕ, List}
-use Rattle.ec_frame.specs.Datagram.{IsDatagram, spelling}
-use Rattle.ec_frame.specs.Fields.{header_of, with_data, with_counter}
+use Rattle.std.proofs.Common.{◌≡◌, ◌∙◌, ◌+◌, ◌*◌, ◌%◌, ap, sym, length, ℕ}
+use Rattle.ec_frame.specs.Datagram.{spelling}
+use Rattle.ec_frame.specs.Fields.{with_data, with_counter}
 use Rattle.ec_fmmu.specs.Applied.{Place}
 use Rattle.ec_slave.specs.State.{Met, SlaveState}
 use Rattle.ec_slave.specs.Logical.{place_of, logical_after}
-use Rattle.ec_slave.specs.Ways.{data_after, count_after, is_reading, is_writing, meets_way}
+use Rattle.ec_slave.specs.Ways.{data_after, count_after, is_reading, is_writing}
 use Rattle.ec_slave.proofs.Answered.{moved-good, meets_way-is, place-is}
 use Rattle.ec_slave.proofs.slave.Slave.answer_mapped.Goals as goal
 
 pub write_counter-requires : goal.write_counter-requires
 write_counter-requires c =
-    let r = c.requires.spelt in
-    (r.0, with_data r.1 _, moved-good c.args.self.now c.args.way (record { from = 8 * c.args.header.address; bits = 8 * length r.1.data_bytes }) r.1 r.2,
-      c.move_data-added.ensures.content r.0 r.1 r.2 r.3)
+    let r = c.requires.spelt in (
+      r.0,
+      with_data r.1 _,
+      moved-good c.args.self.now c.args.way (record { from = 8 * c.args.header.address; bits = 8 * length r.1.data_bytes }) r.1 r.2,
+      c.move_data-added.ensures.content r.0 r.1 r.2 r.3,
+    )
 
 pub returns-clause-datagram : goal.returns-clause-datagram
 returns-clause-datagram c = λ more d good e.
@@ -21,9 +24,9 @@ returns-clause-datagram c = λ more d good e.
     let place : q ≡ place_of d = place-is c.args.header more d (c.requires.read more d good e) in
     let k : c.read_counter-counter.result ≡ d.counter = c.read_counter-counter.ensures more d good e in
     let added : c.move_data-added.result ≡ count_after s c.args.way (place_of d) d.data_bytes
-      = c.move_data-added.ensures.added more d good e ∙ ap (λ (p : Place). count_after s c.args.way p d.data_bytes) place in
+    = c.move_data-added.ensures.added more d good e ∙ ap (λ (p : Place). count_after s c.args.way p d.data_bytes) place in
     let counted : (c.read_counter-counter.result + c.move_data-added.result) % 65536 ≡ (d.counter + count_after s c.args.way (place_of d) d.data_bytes) % 65536
-      = ap (λ (n : ℕ). (n + c.move_data-added.result) % 65536) k ∙ ap (λ (n : ℕ). (d.counter + n) % 65536) added in
+    = ap (λ (n : ℕ). (n + c.move_data-added.result) % 65536) k ∙ ap (λ (n : ℕ). (d.counter + n) % 65536) added in
     c.write_counter.ensures.written more (with_data d (data_after s c.args.way q d.data_bytes)) (moved-good s c.args.way q d good) (c.move_data-added.ensures.content more d good e)
     ∙ (ap (λ (n : ℕ). spelling more (with_counter (with_data d (data_after s c.args.way q d.data_bytes)) n)) counted
     ∙ (ap (λ (p : Place). spelling more (with_counter (with_data d (data_after s c.args.way p d.data_bytes)) ((d.counter + count_after s c.args.way (place_of d) d.data_bytes) % 65536))) place

@@ -14,5 +14,5 @@ returns-clause-after c =
     let here : c.index_mut.result.now ≡ manager_at s.managers 2 = indexed _ s.managers 2 _ four c.index_mut.ensures.value managers in
     ap (λ (x : SlaveState). with_manager x 2 c.app_get.new.self) c.self.view_is
     ∙ got_after s c.args.place c.app_get.new.self
-        (sym (ap is_running al) ∙ (sym (c.is_running.ensures ∙ ap is_running c.state.ensures) ∙ c.if-not-is_running.false))
-        (c.app_get.ensures.after ∙ ap (λ (m : Manager). after_get m (app_got m c.args.place)) here)
+    (sym (ap is_running al) ∙ (sym (c.is_running.ensures ∙ ap is_running c.state.ensures) ∙ c.if-not-is_running.false))
+    (c.app_get.ensures.after ∙ ap (λ (m : Manager). after_get m (app_got m c.args.place)) here)

@@ -1,5 +1,4 @@
 use Rattle.std.proofs.Common.{◌≡◌, ◌<◌, ◌∙◌, ap, sym, arith, length, unwrap_or}
-use Rattle.ec_al.specs.Al.{Al}
 use Rattle.ec_sync.specs.Manager.{Manager, app_put}
 use Rattle.ec_slave.specs.State.{SlaveState, manager_at}
 use Rattle.ec_slave.specs.Application.{is_running, with_manager}
@@ -15,5 +14,5 @@ returns-clause-after c =
     let here : c.index_mut.result.now ≡ manager_at s.managers 3 = indexed _ s.managers 3 _ four c.index_mut.ensures.value managers in
     ap (λ (x : SlaveState). with_manager x 3 c.app_put.new.self) c.self.view_is
     ∙ put_after s c.args.place c.args.byte c.app_put.new.self
-        (sym (ap is_running al) ∙ (sym (c.is_running.ensures ∙ ap is_running c.state.ensures) ∙ c.if-not-is_running.false))
-        (c.app_put.ensures.after ∙ ap (λ (m : Manager). unwrap_or (app_put m c.args.place c.args.byte) m) here)
+    (sym (ap is_running al) ∙ (sym (c.is_running.ensures ∙ ap is_running c.state.ensures) ∙ c.if-not-is_running.false))
+    (c.app_put.ensures.after ∙ ap (λ (m : Manager). unwrap_or (app_put m c.args.place c.args.byte) m) here)

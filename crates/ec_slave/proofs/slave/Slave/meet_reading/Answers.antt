@@ -1,4 +1,4 @@
-use Rattle.std.proofs.Common.{◌≡◌, ◌∙◌, length, arith, ap}
+use Rattle.std.proofs.Common.{◌∙◌, length, ap}
 use Rattle.ec_slave.proofs.Idle.{slave_reach}
 use Rattle.ec_slave.specs.Keeping.{length-retold}
 use Rattle.ec_slave.proofs.slave.Slave.meet_reading.Goals as goal

@@ -1,4 +1,4 @@
-use Rattle.std.proofs.Common.{◌≡◌, ◌*◌, length, sym, refl, ◌∙◌, ap}
+use Rattle.std.proofs.Common.{◌*◌, length, sym, refl, ◌∙◌, ap}
 use Rattle.ec_bits.proofs.BitLaws.{overlay_own}
 use Rattle.ec_fmmu.specs.Applied.{Place}
 use Rattle.ec_slave.specs.Ways.{data_after}

@@ -1,4 +1,4 @@
-use Rattle.std.proofs.Common.{◌≡◌, ◌+◌, length, ℕ, Bool, List, Option, ◌∙◌, sym, ap, arith}
+use Rattle.std.proofs.Common.{◌≡◌, ◌+◌, length, ℕ, Bool, Option, ◌∙◌, sym, ap, arith}
 use Rattle.std.proofs.lemmas.List.{set-get_or}
 use Rattle.ec_bits.specs.Bits.{any_below}
 use Rattle.ec_slave.specs.State.{SlaveState}
@@ -21,14 +21,14 @@ loop-i-preserved c =
     let f : ℕ → Option ℕ = byte_read s c.args.joining w in
     let is : c.reads.result ≡ may_read_byte s.managers (touches w) (c.args.from + i) = c.reads.ensures.value in
     elim c.if-reads.branch [
-      then-reads v ↦ record {
+      | then-reads v ↦ record {
         bytes = told-step0 i _ f c.loop-i.bytes _ _ c.loop-i.invariant.bytes
-          (read-given s c.args.joining w i c.loop-i.bytes _ _ (sym is ∙ v.if-reads.true) c.loop-i.invariant.bytes v.byte_at-shown.ensures v.read_over.ensures) v.bytes-is;
+            (read-given s c.args.joining w i c.loop-i.bytes _ _ (sym is ∙ v.if-reads.true) c.loop-i.invariant.bytes v.byte_at-shown.ensures v.read_over.ensures) v.bytes-is;
         some = v.is_some-is ∙ any-hit i p (sym is ∙ v.if-reads.true);
       }
-    | else-reads v ↦ record {
+      | else-reads v ↦ record {
         bytes = told-step0 i _ f c.loop-i.bytes _ _ c.loop-i.invariant.bytes
-          (read-denied s c.args.joining w i (sym is ∙ v.if-reads.false)) (v.bytes-is ∙ set-get_or _ _ 0);
+            (read-denied s c.args.joining w i (sym is ∙ v.if-reads.false)) (v.bytes-is ∙ set-get_or _ _ 0);
         some = v.is_some-is ∙ any-miss i p _ c.loop-i.invariant.some (sym is ∙ v.if-reads.false);
       }
     ]

@@ -4,11 +4,10 @@ use Rattle.ec_regs.specs.declared.fmmu.FmmuSettings.{FmmuSettings}
 use Rattle.ec_sync.specs.Manager.{Manager}
 use Rattle.ec_slave.specs.State.{fmmus_of}
 use Rattle.ec_slave.specs.Access.{Window, memory_written}
-use Rattle.ec_slave.specs.Keeping.{length-retold}
 use Rattle.ec_slave.proofs.Decoded.{decoded-kept}
 use Rattle.ec_sii.specs.Port.{Sii}
 use Rattle.ec_slave.proofs.Assigning.{written-image}
-use Rattle.ec_slave.proofs.Meets.{front-taken}
+use Rattle.ec_slave.proofs.Exchanges.{take_front}
 use Rattle.ec_slave.proofs.slave.Slave.write.Goals as goal
 
 pub invariant_of-self : goal.invariant_of-self
@@ -23,16 +22,16 @@ invariant_of-self c =
     let long = c.write_memory-is_some.auto.memory in
     let room : length old ≡ 12288 = ap length own ∙ c.self.invariant.room in
     let front : take c.self.inside.memory.len (new ++ drop (length new) c.self.inside.memory.items) ≡ new
-      = front-taken new _ c.self.inside.memory.len (omega (arith, ap length own, ok, long)) in
+    = take_front new _ c.self.inside.memory.len (omega (arith, ap length own, ok, long)) in
     let written : new ≡ memory_written ms w old = c.write_memory-is_some.ensures.memory in
     let now : c.deref-2.result.now ≡ memory_written ms w old = c.deref-2.ensures.value ∙ (front ∙ written) in
     record {
       room = ap length front ∙ (long ∙ room);
       four = grind (arith, common_steps);
       decoded = c.renew_fmmus.ensures
-        ∙ (ap (λ (xs : List ℕ). if nat_lt w.from 1600 then fmmus_of xs else fs) now
-        ∙ (decoded-kept ms w old fs room (c.self.invariant.decoded ∙ ap fmmus_of (sym own))
-        ∙ ap fmmus_of (sym (front ∙ written))));
+          ∙ (ap (λ (xs : List ℕ). if nat_lt w.from 1600 then fmmus_of xs else fs) now
+          ∙ (decoded-kept ms w old fs room (c.self.invariant.decoded ∙ ap fmmus_of (sym own))
+          ∙ ap fmmus_of (sym (front ∙ written))));
       image = ap (λ (p : Sii). p.image) c.write.ensures ∙ (written-image c.self.inside.port c.args.from c.args.bytes.now ∙ c.self.invariant.image);
       outs = c.self.invariant.outs;
       ins = c.self.invariant.ins;
