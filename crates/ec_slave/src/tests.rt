@@ -43,6 +43,14 @@ fn assert_passed<const N: usize>(rt: &impl Abort, slave: &mut Slave, sent: [u8; 
     assert!(rt; frame == back);
 }
 
+/// Passes a frame of one datagram, of which the counter alone changes, from 0.
+fn assert_counted<const N: usize>(rt: &impl Abort, slave: &mut Slave, sent: [u8; N], counter: u8) {
+    assert!(rt; N >= 2);
+    let mut back = sent;
+    back[N - 2] = counter;
+    assert_passed(rt, slave, sent, back);
+}
+
 /// Passes a datagram, and compares its data and its counter as they come back.
 fn assert_met(
     rt: &impl Abort,
@@ -129,8 +137,8 @@ fn read_write_of_a_fixed_register(rt: HostRuntime) -> Result<(), Fail> {
     Ok(())
 }
 
-// The last byte alone doesn't write, a third one reaches the second buffer, the ring can't read what it writes, and
-// settings that are written again empty the manager.
+// The first byte alone doesn't write, a third one reaches the second buffer, the ring can't read what
+// it writes, and settings that are written again empty the manager.
 #[test]
 fn sync_manager_row_by_row(rt: HostRuntime) -> Result<(), Fail> {
     let mut slave = plain_slave(rt.alloc())?;
@@ -138,36 +146,30 @@ fn sync_manager_row_by_row(rt: HostRuntime) -> Result<(), Fail> {
         0x14, 0x10, 0x05, 0x01, 0x00, 0x00, 0x10, 0x08, 0x08, 0x00, 0x00, 0x00, 0x00, 0x11, 0x02,
         0x00, 0x24, 0x00, 0x01, 0x00, 0x00, 0x00,
     ];
-    let mut counted = settings;
-    counted[20] = 1;
-    assert_passed(&rt, &mut slave, settings, counted);
-    let two = [
+    assert_counted(&rt, &mut slave, settings, 1);
+    let both = [
         0x0E, 0x10, 0x05, 0x01, 0x00, 0x00, 0x00, 0x11, 0x02, 0x00, 0x00, 0x00, 0x23, 0x12, 0x00,
         0x00,
     ];
-    let mut two_counted = two;
-    two_counted[14] = 1;
-    assert_passed(&rt, &mut slave, two, two_counted);
+    assert_counted(&rt, &mut slave, both, 1);
     assert_eq!(rt; slave.outputs(), [0x23, 0x12].as_slice());
-    let one = [
+    let first = [
         0x0D, 0x10, 0x05, 0x01, 0x00, 0x00, 0x00, 0x11, 0x01, 0x00, 0x00, 0x00, 0x99, 0x00, 0x00,
     ];
-    assert_passed(&rt, &mut slave, one, one);
+    assert_counted(&rt, &mut slave, first, 0);
     assert_eq!(rt; slave.outputs(), [0x23, 0x12].as_slice());
     let three = [
         0x0F, 0x10, 0x05, 0x01, 0x00, 0x00, 0x00, 0x11, 0x03, 0x00, 0x00, 0x00, 0xAA, 0xBB, 0xCC,
         0x00, 0x00,
     ];
-    let mut three_counted = three;
-    three_counted[15] = 1;
-    assert_passed(&rt, &mut slave, three, three_counted);
+    assert_counted(&rt, &mut slave, three, 1);
     assert_eq!(rt; slave.outputs(), [0xAA, 0xBB].as_slice());
     let read = [
         0x0E, 0x10, 0x04, 0x01, 0x00, 0x00, 0x00, 0x11, 0x02, 0x00, 0x00, 0x00, 0x00, 0x00, 0x00,
         0x00,
     ];
-    assert_passed(&rt, &mut slave, read, read);
-    assert_passed(&rt, &mut slave, settings, counted);
+    assert_counted(&rt, &mut slave, read, 0);
+    assert_counted(&rt, &mut slave, settings, 1);
     assert_eq!(rt; slave.outputs(), [0, 0].as_slice());
     Ok(())
 }
@@ -181,9 +183,7 @@ fn four_bits_through_an_fmmu(rt: HostRuntime) -> Result<(), Fail> {
     let sent = [
         0x0D, 0x10, 0x0B, 0x01, 0x00, 0x00, 0x01, 0x00, 0x01, 0x00, 0x00, 0x00, 0x0B, 0x00, 0x00,
     ];
-    let mut back = sent;
-    back[13] = 1;
-    assert_passed(&rt, &mut slave, sent, back);
+    assert_counted(&rt, &mut slave, sent, 1);
     assert_eq!(rt; slave.byte(0x1800), Some(0xEF));
     write(&rt, &mut slave, 0x0600, &[0, 0, 1, 0, 1, 0, 4, 7, 0, 0x18, 2, 1, 1, 0, 0, 0])?;
     let sent = [
@@ -214,6 +214,18 @@ fn process_data_in_one_exchange(rt: HostRuntime) -> Result<(), Fail> {
     assert_met(&rt, &mut slave, Command::Lwr, 0x0001_0001, &[4, 5], &[4, 5], 1)?;
     assert_eq!(rt; slave.outputs(), [4, 5].as_slice());
     assert_met(&rt, &mut slave, Command::Lrd, 0x0001_0001, &[6, 7], &[0, 0], 1)
+}
+
+// One FMMU both ways: the datagram gets what was there, and the memory what was sent.
+#[test]
+fn exchange_through_one_fmmu(rt: HostRuntime) -> Result<(), Fail> {
+    let mut slave = plain_slave(rt.alloc())?;
+    write(&rt, &mut slave, 0x0630, &[7, 0, 0, 0, 1, 0, 0, 7, 0, 0x18, 0, 3, 1, 0, 0, 0])?;
+    write(&rt, &mut slave, 0x1800, &[0xEF, 0x11])?;
+    assert_met(&rt, &mut slave, Command::Lrw, 6, &[1, 0x5A, 3], &[1, 0xEF, 3], 3)?;
+    assert_eq!(rt; slave.byte(0x1800), Some(0x5A));
+    assert_eq!(rt; slave.byte(0x1801), Some(0x11));
+    Ok(())
 }
 
 // A type may take no part in LRW; LWR and LRD still reach it.
@@ -250,7 +262,8 @@ fn fmmu_at_the_last_logical_address(rt: HostRuntime) -> Result<(), Fail> {
     assert_met(&rt, &mut slave, Command::Lrd, 0, &[0], &[0x78], 1)
 }
 
-// Three buffers of one byte don't fit at the last address, nor do those of 65535 bytes: all that is plain memory.
+// Three buffers of one byte don't fit at the last address, nor do those of 65535 bytes anywhere: all
+// that is plain memory.
 #[test]
 fn span_past_the_memory(rt: HostRuntime) -> Result<(), Fail> {
     let mut slave = plain_slave(rt.alloc())?;
