@@ -109,6 +109,7 @@ fn refuses_what_is_no_frame(rt: HostRuntime) -> Result<(), Fail> {
     }
     for (hex, told) in [
         ("0d100701000030010200000000000000", "ecat: 4 BadLength\n"),
+        ("0e10070100003001ff07000000000000", "ecat: 4 BadLength\n"),
         ("0e100701000030010280000000000000", "ecat: 5 BadMore\n"),
         ("0e100f01000030010200000000000000", "ecat: 6 BadCommand\n"),
         ("0e200701000030010200000000000000", "ecat: 3 BadType\n"),

@@ -14,3 +14,6 @@ mod role;
 mod slave;
 
 pub use crate::slave::Slave;
+
+#[cfg(test)]
+mod tests;

@@ -1,0 +1,370 @@
+//! Frames past one slave. Nothing steps its firmware here, so it stays in INIT.
+use crate::Slave;
+use ec_frame::{Builder, Command, check};
+use ec_regs::{Identity, Listed, SlaveType};
+use std::alloc::{AllocError, Global};
+use std::process::Abort;
+use std::test::Fail;
+
+/// What tells the slave from others.
+const IDENTITY: Identity = Identity {
+    vendor: 0xABCD,
+    product: 3,
+    revision: 1,
+    serial: 4,
+};
+
+/// Manager 2: two bytes of outputs at 0x1100.
+const OUTPUTS: [u8; 8] = [0x00, 0x11, 0x02, 0x00, 0x24, 0x00, 0x01, 0x00];
+
+/// Manager 3: two bytes of inputs at 0x1400.
+const INPUTS: [u8; 8] = [0x00, 0x14, 0x02, 0x00, 0x20, 0x00, 0x01, 0x00];
+
+/// Two whole bytes from logical address 0x00010001 on, written from 0x1100 on.
+const WRITES_OUTPUTS: [u8; 16] = [
+    0x01, 0x00, 0x01, 0x00, 0x02, 0x00, 0x00, 0x07, 0x00, 0x11, 0x00, 0x02, 0x01, 0x00, 0x00, 0x00,
+];
+
+/// Two whole bytes from logical address 0x00010001 on, read from 0x1400 on.
+const READS_INPUTS: [u8; 16] = [
+    0x01, 0x00, 0x01, 0x00, 0x02, 0x00, 0x00, 0x07, 0x00, 0x14, 0x00, 0x01, 0x01, 0x00, 0x00, 0x00,
+];
+
+/// A slave without objects.
+fn plain_slave(alloc: Global) -> Result<Slave, AllocError> {
+    Slave::new(alloc, SlaveType::plain(alloc), IDENTITY)
+}
+
+/// Passes a frame, and compares what comes back.
+fn assert_passed<const N: usize>(rt: &impl Abort, slave: &mut Slave, sent: [u8; N], back: [u8; N]) {
+    let mut frame = sent;
+    assert!(rt; check(&frame).is_ok());
+    slave.pass(&mut frame);
+    assert!(rt; frame == back);
+}
+
+/// Passes a frame of one datagram, of which the counter alone changes, from 0.
+fn assert_counted<const N: usize>(rt: &impl Abort, slave: &mut Slave, sent: [u8; N], counter: u8) {
+    assert!(rt; N >= 2);
+    let mut back = sent;
+    back[N - 2] = counter;
+    assert_passed(rt, slave, sent, back);
+}
+
+/// Passes a datagram, and compares its data and its counter as they come back.
+fn assert_met(
+    rt: &impl Abort,
+    slave: &mut Slave,
+    command: Command,
+    address: u32,
+    sent: &[u8],
+    back: &[u8],
+    counter: u8,
+) -> Result<(), Fail> {
+    let mut builder = Builder::new();
+    builder.add(command, 0, address, sent)?;
+    let mut frame = builder.finish();
+    slave.pass(frame.as_mut_slice());
+    let met = frame.as_slice();
+    assert_eq!(rt; met.get(12..12 + back.len()), Some(back), "at {address}");
+    assert_eq!(rt; met.get(12 + back.len()..), Some([counter, 0].as_slice()), "at {address}");
+    Ok(())
+}
+
+/// Writes bytes from a physical address on, at least one of which counts.
+fn write(rt: &impl Abort, slave: &mut Slave, ado: u16, bytes: &[u8]) -> Result<(), Fail> {
+    assert_met(rt, slave, Command::Apwr, 65536 * ado as u32, bytes, bytes, 1)
+}
+
+/// Writes bytes from a physical address on, none of which is taken.
+fn write_in_vain(rt: &impl Abort, slave: &mut Slave, ado: u16, bytes: &[u8]) -> Result<(), Fail> {
+    assert_met(rt, slave, Command::Apwr, 65536 * ado as u32, bytes, bytes, 0)
+}
+
+// Four FMMUs, four sync managers and 8 KiB of RAM, in INIT; the rest is 0.
+#[test]
+fn power_on_reads(rt: HostRuntime) -> Result<(), Fail> {
+    let slave = plain_slave(rt.alloc())?;
+    let bytes = [
+        (0x0004, Some(4)),
+        (0x0005, Some(4)),
+        (0x0006, Some(8)),
+        (0x0010, Some(0)),
+        (0x0130, Some(1)),
+        (0x0131, Some(0)),
+        (0x0FFF, Some(0)),
+        (0x1000, Some(0)),
+        (0x2FFF, Some(0)),
+        (0x3000, None),
+        (0xFFFF, None),
+    ];
+    for (address, byte) in bytes {
+        assert_eq!(rt; slave.byte(address), byte, "at {address}");
+    }
+    assert_eq!(rt; slave.station_address(), 0);
+    Ok(())
+}
+
+// Two datagrams of one frame: the first gives a station address, the second already asks for it.
+#[test]
+fn station_address_counts_from_the_next_datagram(rt: HostRuntime) -> Result<(), Fail> {
+    let mut slave = plain_slave(rt.alloc())?;
+    let sent = [
+        0x1C, 0x10, 0x02, 0x07, 0x00, 0x00, 0x10, 0x00, 0x02, 0x80, 0x00, 0x00, 0x01, 0x10, 0x00,
+        0x00, 0x04, 0x08, 0x01, 0x10, 0x30, 0x01, 0x02, 0x00, 0x00, 0x00, 0xFF, 0xFF, 0x00, 0x00,
+    ];
+    let back = [
+        0x1C, 0x10, 0x02, 0x07, 0x01, 0x00, 0x10, 0x00, 0x02, 0x80, 0x00, 0x00, 0x01, 0x10, 0x01,
+        0x00, 0x04, 0x08, 0x01, 0x10, 0x30, 0x01, 0x02, 0x00, 0x00, 0x00, 0x01, 0x00, 0x01, 0x00,
+    ];
+    assert_passed(&rt, &mut slave, sent, back);
+    assert_eq!(rt; slave.station_address(), 0x1001);
+    Ok(())
+}
+
+// A register that can only be read gives its byte and takes none: a read and write counts 1.
+#[test]
+fn read_write_of_a_fixed_register(rt: HostRuntime) -> Result<(), Fail> {
+    let mut slave = plain_slave(rt.alloc())?;
+    let sent = [
+        0x0D, 0x10, 0x03, 0x00, 0x00, 0x00, 0x06, 0x00, 0x01, 0x00, 0x00, 0x00, 0x55, 0x00, 0x00,
+    ];
+    let back = [
+        0x0D, 0x10, 0x03, 0x00, 0x01, 0x00, 0x06, 0x00, 0x01, 0x00, 0x00, 0x00, 0x08, 0x01, 0x00,
+    ];
+    assert_passed(&rt, &mut slave, sent, back);
+    assert_eq!(rt; slave.byte(0x0006), Some(8));
+    Ok(())
+}
+
+// The first byte alone doesn't write, a third one reaches the second buffer, the ring can't read what
+// it writes, and settings that are written again empty the manager.
+#[test]
+fn sync_manager_row_by_row(rt: HostRuntime) -> Result<(), Fail> {
+    let mut slave = plain_slave(rt.alloc())?;
+    let settings = [
+        0x14, 0x10, 0x05, 0x01, 0x00, 0x00, 0x10, 0x08, 0x08, 0x00, 0x00, 0x00, 0x00, 0x11, 0x02,
+        0x00, 0x24, 0x00, 0x01, 0x00, 0x00, 0x00,
+    ];
+    assert_counted(&rt, &mut slave, settings, 1);
+    let both = [
+        0x0E, 0x10, 0x05, 0x01, 0x00, 0x00, 0x00, 0x11, 0x02, 0x00, 0x00, 0x00, 0x23, 0x12, 0x00,
+        0x00,
+    ];
+    assert_counted(&rt, &mut slave, both, 1);
+    assert_eq!(rt; slave.outputs(), [0x23, 0x12].as_slice());
+    let first = [
+        0x0D, 0x10, 0x05, 0x01, 0x00, 0x00, 0x00, 0x11, 0x01, 0x00, 0x00, 0x00, 0x99, 0x00, 0x00,
+    ];
+    assert_counted(&rt, &mut slave, first, 0);
+    assert_eq!(rt; slave.outputs(), [0x23, 0x12].as_slice());
+    let three = [
+        0x0F, 0x10, 0x05, 0x01, 0x00, 0x00, 0x00, 0x11, 0x03, 0x00, 0x00, 0x00, 0xAA, 0xBB, 0xCC,
+        0x00, 0x00,
+    ];
+    assert_counted(&rt, &mut slave, three, 1);
+    assert_eq!(rt; slave.outputs(), [0xAA, 0xBB].as_slice());
+    let read = [
+        0x0E, 0x10, 0x04, 0x01, 0x00, 0x00, 0x00, 0x11, 0x02, 0x00, 0x00, 0x00, 0x00, 0x00, 0x00,
+        0x00,
+    ];
+    assert_counted(&rt, &mut slave, read, 0);
+    assert_counted(&rt, &mut slave, settings, 1);
+    assert_eq!(rt; slave.outputs(), [0, 0].as_slice());
+    Ok(())
+}
+
+// Four bits written to bit 2 on, and four bits read from there into the upper half of a byte.
+#[test]
+fn four_bits_through_an_fmmu(rt: HostRuntime) -> Result<(), Fail> {
+    let mut slave = plain_slave(rt.alloc())?;
+    write(&rt, &mut slave, 0x0600, &[0, 0, 1, 0, 1, 0, 0, 3, 0, 0x18, 2, 2, 1, 0, 0, 0])?;
+    write(&rt, &mut slave, 0x1800, &[0xFF])?;
+    let sent = [
+        0x0D, 0x10, 0x0B, 0x01, 0x00, 0x00, 0x01, 0x00, 0x01, 0x00, 0x00, 0x00, 0x0B, 0x00, 0x00,
+    ];
+    assert_counted(&rt, &mut slave, sent, 1);
+    assert_eq!(rt; slave.byte(0x1800), Some(0xEF));
+    write(&rt, &mut slave, 0x0600, &[0, 0, 1, 0, 1, 0, 4, 7, 0, 0x18, 2, 1, 1, 0, 0, 0])?;
+    let sent = [
+        0x0D, 0x10, 0x0A, 0x01, 0x00, 0x00, 0x01, 0x00, 0x01, 0x00, 0x00, 0x00, 0x0F, 0x00, 0x00,
+    ];
+    let back = [
+        0x0D, 0x10, 0x0A, 0x01, 0x00, 0x00, 0x01, 0x00, 0x01, 0x00, 0x00, 0x00, 0xBF, 0x01, 0x00,
+    ];
+    assert_passed(&rt, &mut slave, sent, back);
+    assert_eq!(rt; slave.byte(0x1800), Some(0xEF));
+    Ok(())
+}
+
+// Outputs and inputs lie on the same logical bytes: LRW counts 2 for the write and 1 for the read.
+#[test]
+fn process_data_in_one_exchange(rt: HostRuntime) -> Result<(), Fail> {
+    let mut slave = plain_slave(rt.alloc())?;
+    write(&rt, &mut slave, 0x0810, &OUTPUTS)?;
+    write(&rt, &mut slave, 0x0818, &INPUTS)?;
+    write(&rt, &mut slave, 0x0600, &WRITES_OUTPUTS)?;
+    write(&rt, &mut slave, 0x0610, &READS_INPUTS)?;
+    let data = [0x0A, 0x23, 0x01];
+    assert_met(&rt, &mut slave, Command::Lrw, 0x0001_0000, &data, &[0x0A, 0, 0], 3)?;
+    assert_eq!(rt; slave.outputs(), [0x23, 0x01].as_slice());
+    assert_met(&rt, &mut slave, Command::Lwr, 0x0001_0000, &[0x0A, 0x77], &[0x0A, 0x77], 0)?;
+    assert_met(&rt, &mut slave, Command::Lrd, 0x0001_0002, &[0x5A], &[0x5A], 0)?;
+    assert_eq!(rt; slave.outputs(), [0x23, 0x01].as_slice());
+    assert_met(&rt, &mut slave, Command::Lwr, 0x0001_0001, &[4, 5], &[4, 5], 1)?;
+    assert_eq!(rt; slave.outputs(), [4, 5].as_slice());
+    assert_met(&rt, &mut slave, Command::Lrd, 0x0001_0001, &[6, 7], &[0, 0], 1)
+}
+
+// One FMMU both ways: the datagram gets what was there, and the memory what was sent.
+#[test]
+fn exchange_through_one_fmmu(rt: HostRuntime) -> Result<(), Fail> {
+    let mut slave = plain_slave(rt.alloc())?;
+    write(&rt, &mut slave, 0x0630, &[7, 0, 0, 0, 1, 0, 0, 7, 0, 0x18, 0, 3, 1, 0, 0, 0])?;
+    write(&rt, &mut slave, 0x1800, &[0xEF, 0x11])?;
+    assert_met(&rt, &mut slave, Command::Lrw, 6, &[1, 0x5A, 3], &[1, 0xEF, 3], 3)?;
+    assert_eq!(rt; slave.byte(0x1800), Some(0x5A));
+    assert_eq!(rt; slave.byte(0x1801), Some(0x11));
+    Ok(())
+}
+
+// A type may take no part in LRW; LWR and LRD still reach it.
+#[test]
+fn slave_without_lrw(rt: HostRuntime) -> Result<(), Fail> {
+    let none = Listed::new(rt.alloc());
+    let kind = SlaveType::new(IDENTITY, None, 0, 0, none, Listed::new(rt.alloc()), false);
+    let mut slave = Slave::new(rt.alloc(), kind, IDENTITY)?;
+    write(&rt, &mut slave, 0x0810, &OUTPUTS)?;
+    write(&rt, &mut slave, 0x0600, &WRITES_OUTPUTS)?;
+    assert_met(&rt, &mut slave, Command::Lrw, 0x0001_0001, &[4, 5], &[4, 5], 0)?;
+    assert_eq!(rt; slave.outputs(), [0, 0].as_slice());
+    assert_met(&rt, &mut slave, Command::Lwr, 0x0001_0001, &[4, 5], &[4, 5], 1)?;
+    assert_eq!(rt; slave.outputs(), [4, 5].as_slice());
+    Ok(())
+}
+
+// Logical addresses don't wrap: the byte after the last one is no FMMU's at 0.
+#[test]
+fn fmmu_at_the_last_logical_address(rt: HostRuntime) -> Result<(), Fail> {
+    let mut slave = plain_slave(rt.alloc())?;
+    write(&rt, &mut slave, 0x0600, &[0, 0, 0, 0, 1, 0, 0, 7, 3, 0x18, 0, 1, 1, 0, 0, 0])?;
+    write(&rt, &mut slave, 0x0610, &[255, 255, 255, 255, 2, 0, 0, 7, 0, 0x18, 0, 1, 1, 0, 0, 0])?;
+    write(&rt, &mut slave, 0x1800, &[0x12, 0x34, 0x56, 0x78])?;
+    let sent = [
+        0x0E, 0x10, 0x0A, 0x01, 0xFF, 0xFF, 0xFF, 0xFF, 0x02, 0x00, 0x00, 0x00, 0x00, 0x00, 0x00,
+        0x00,
+    ];
+    let back = [
+        0x0E, 0x10, 0x0A, 0x01, 0xFF, 0xFF, 0xFF, 0xFF, 0x02, 0x00, 0x00, 0x00, 0x12, 0x34, 0x01,
+        0x00,
+    ];
+    assert_passed(&rt, &mut slave, sent, back);
+    assert_met(&rt, &mut slave, Command::Lrd, 0, &[0], &[0x78], 1)
+}
+
+// Three buffers of one byte don't fit at the last address, nor do those of 65535 bytes anywhere: all
+// that is plain memory.
+#[test]
+fn span_past_the_memory(rt: HostRuntime) -> Result<(), Fail> {
+    let mut slave = plain_slave(rt.alloc())?;
+    write(&rt, &mut slave, 0x0800, &[0xFF, 0x2F, 1, 0, 0x24, 0, 1, 0])?;
+    write(&rt, &mut slave, 0x0808, &[0, 0x10, 0xFF, 0xFF, 0x24, 0, 1, 0])?;
+    let last = 0x2FFF_0000;
+    assert_met(&rt, &mut slave, Command::Aprw, last, &[0xAA, 0xBB], &[0x00, 0xBB], 3)?;
+    assert_met(&rt, &mut slave, Command::Aprw, 0x1000_0000, &[0xCC], &[0], 3)?;
+    assert_eq!(rt; slave.byte(0x2FFF), Some(0xAA));
+    assert_eq!(rt; slave.byte(0x1000), Some(0xCC));
+    Ok(())
+}
+
+// A mailbox of the last byte: a second message doesn't fit, and it is the slave that reads.
+#[test]
+fn mailbox_of_one_byte(rt: HostRuntime) -> Result<(), Fail> {
+    let mut slave = plain_slave(rt.alloc())?;
+    write(&rt, &mut slave, 0x2FFF, &[0x77])?;
+    write(&rt, &mut slave, 0x0800, &[0xFF, 0x2F, 1, 0, 0x26, 0, 1, 0])?;
+    write(&rt, &mut slave, 0x2FFF, &[8])?;
+    write_in_vain(&rt, &mut slave, 0x2FFF, &[9])?;
+    assert_met(&rt, &mut slave, Command::Aprd, 0x2FFF_0000, &[5], &[5], 0)?;
+    assert_eq!(rt; slave.byte(0x0805), Some(8));
+    write(&rt, &mut slave, 0x0806, &[0])?;
+    assert_eq!(rt; slave.byte(0x0805), Some(0));
+    assert_eq!(rt; slave.byte(0x2FFF), Some(0x77));
+    Ok(())
+}
+
+// The longest datagram: 1458 bytes of data.
+#[test]
+fn longest_datagram(rt: HostRuntime) -> Result<(), Fail> {
+    let mut slave = plain_slave(rt.alloc())?;
+    assert_met(&rt, &mut slave, Command::Aprw, 0x1000_0000, &[0x5A; 1458], &[0; 1458], 3)?;
+    assert_met(&rt, &mut slave, Command::Aprd, 0x15B1_0000, &[1, 1], &[0x5A, 0], 1)
+}
+
+#[test]
+fn frame_of_nops_passes_unchanged(rt: HostRuntime) -> Result<(), Fail> {
+    let mut slave = plain_slave(rt.alloc())?;
+    let mut sent = [0; 1466];
+    sent[..2].copy_from_slice(&[0xB8, 0x15]);
+    for place in 0..121usize {
+        sent[2 + 12 * place + 7] = 0x80;
+    }
+    assert_eq!(rt; check(&sent), Ok(122));
+    assert_passed(&rt, &mut slave, sent, sent);
+    Ok(())
+}
+
+// The word at address 8 is asked for: the port is busy, and takes no writes, until the firmware steps.
+#[test]
+fn sii_read_is_given(rt: HostRuntime) -> Result<(), Fail> {
+    let mut slave = plain_slave(rt.alloc())?;
+    write(&rt, &mut slave, 0x0502, &[0, 1, 8, 0, 0, 0])?;
+    let shown = [0, 0x81, 8, 0, 0, 0, 0, 0, 0, 0];
+    assert_met(&rt, &mut slave, Command::Aprd, 0x0502_0000, &[9; 10], &shown, 1)?;
+    write_in_vain(&rt, &mut slave, 0x0502, &[0, 1, 9, 0, 0, 0])?;
+    assert_met(&rt, &mut slave, Command::Aprd, 0x0502_0000, &[9; 10], &shown, 1)
+}
+
+// A state that is asked for waits for the firmware; the control word reads what was written last.
+#[test]
+fn state_request_waits(rt: HostRuntime) -> Result<(), Fail> {
+    let mut slave = plain_slave(rt.alloc())?;
+    write(&rt, &mut slave, 0x0120, &[2, 0])?;
+    write(&rt, &mut slave, 0x0120, &[4, 0])?;
+    assert_met(&rt, &mut slave, Command::Brd, 0x0120_0000, &[0, 0], &[4, 0], 1)?;
+    assert_met(&rt, &mut slave, Command::Brd, 0x0130_0000, &[0; 6], &[1, 0, 0, 0, 0, 0], 1)
+}
+
+// In INIT the application has no process data, though both managers are enabled.
+#[test]
+fn application_is_denied_in_init(rt: HostRuntime) -> Result<(), Fail> {
+    let mut slave = plain_slave(rt.alloc())?;
+    write(&rt, &mut slave, 0x0810, &OUTPUTS)?;
+    write(&rt, &mut slave, 0x0818, &INPUTS)?;
+    write(&rt, &mut slave, 0x1100, &[0x23, 0x12])?;
+    assert_eq!(rt; slave.app_sizes(), (0, 0));
+    assert_eq!(rt; slave.app_get(0), None);
+    assert!(rt; !slave.app_put(0, 7));
+    assert_eq!(rt; slave.outputs(), [0x23, 0x12].as_slice());
+    Ok(())
+}
+
+#[test]
+fn reset_is_power_on(rt: HostRuntime) -> Result<(), Fail> {
+    let mut slave = plain_slave(rt.alloc())?;
+    write(&rt, &mut slave, 0x0010, &[1, 0x10])?;
+    write(&rt, &mut slave, 0x0120, &[2, 0])?;
+    write(&rt, &mut slave, 0x0502, &[0, 1, 8, 0, 0, 0])?;
+    write(&rt, &mut slave, 0x0600, &WRITES_OUTPUTS)?;
+    write(&rt, &mut slave, 0x0810, &OUTPUTS)?;
+    write(&rt, &mut slave, 0x1100, &[0x23, 0x12])?;
+    write(&rt, &mut slave, 0x2000, &[0x77])?;
+    slave.reset();
+    assert_eq!(rt; slave.station_address(), 0);
+    assert_eq!(rt; slave.outputs(), [0u8; 0].as_slice());
+    for address in [0x0120, 0x0503, 0x0504, 0x0602, 0x0811, 0x0814, 0x1100, 0x2000] {
+        assert_eq!(rt; slave.byte(address), Some(0), "at {address}");
+    }
+    assert_eq!(rt; slave.byte(0x0130), Some(1));
+    assert_met(&rt, &mut slave, Command::Lwr, 0x0001_0001, &[4, 5], &[4, 5], 0)
+}
