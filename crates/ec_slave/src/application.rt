@@ -40,8 +40,16 @@ impl Slave {
         let outputs = &self.managers[2];
         let inputs = &self.managers[3];
         (
-            if is_running && outputs.may_app_get() { outputs.settings().length as usize } else { 0 },
-            if is_running && inputs.may_app_put() { inputs.settings().length as usize } else { 0 },
+            if is_running && outputs.may_app_get() {
+                outputs.settings().length as usize
+            } else {
+                0
+            },
+            if is_running && inputs.may_app_put() {
+                inputs.settings().length as usize
+            } else {
+                0
+            },
         )
     }
 

@@ -78,7 +78,10 @@ impl Slave {
     {
         let is_busy = self.port.is_busy();
         let is_some = write_memory(&mut self.memory, &self.managers, is_busy, from, bytes);
-        request_if(&mut self.al, is_touched(from, bytes.len(), AL_CONTROL as usize));
+        request_if(
+            &mut self.al,
+            is_touched(from, bytes.len(), AL_CONTROL as usize),
+        );
         self.port.write(from, bytes);
         meet_managers(&mut self.managers, reads, true, from, bytes);
         renew_fmmus(&mut self.fmmus, &self.memory, from);
@@ -117,7 +120,13 @@ impl Slave {
     }
 
     /// A datagram that reads and writes, of which `received` is a copy of the bytes.
-    fn read_and_write(&mut self, joining: bool, from: usize, received: &[u8], bytes: &mut [u8]) -> u16
+    fn read_and_write(
+        &mut self,
+        joining: bool,
+        from: usize,
+        received: &[u8],
+        bytes: &mut [u8],
+    ) -> u16
         requires small { from + length bytes.old < 2 ^ 32 }
         requires same { received.now ≡ bytes.old }
         ensures slave { self.new ≡ slave_after self.old true true (record { from = from; bytes = bytes.old }) }

@@ -11,7 +11,7 @@ ghost use Rattle.ec_slave.specs.Sights.{seen_behind as behind_it, seen_bit as bi
 
 use crate::access::governor;
 use ec_bits::get;
-use ec_fmmu::{Fmmu, Shown, apply_read, is_touched_by_reading as touches_by_reading};
+use ec_fmmu::{Fmmu, Shown, apply_read, is_touched_by_reading};
 use ec_sync::Manager;
 
 /// Whether a datagram that reads gets at a manager: it touches its first and its last byte, and it
@@ -25,7 +25,8 @@ fn is_readable(manager: &Manager, fmmus: &[Fmmu], from: u64, bits: u64) -> bool
     }
     let first = manager.settings().start;
     let last = first + manager.settings().length - 1;
-    touches_by_reading(fmmus, from, bits, first) && touches_by_reading(fmmus, from, bits, last)
+    is_touched_by_reading(fmmus, from, bits, first)
+        && is_touched_by_reading(fmmus, from, bits, last)
 }
 
 /// What a physical bit shows that a manager governs.

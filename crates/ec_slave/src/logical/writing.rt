@@ -10,9 +10,7 @@ ghost use Rattle.ec_slave.specs.Logical.{plain_bit};
 ghost use Rattle.ec_slave.specs.Written.{some_brought, some_manager_written as some_written_behind, some_plain_written};
 
 use crate::access::governor;
-use ec_fmmu::{
-    Allowed, Fmmu, apply_write, is_brought, is_touched_by_writing as touches_by_writing,
-};
+use ec_fmmu::{Allowed, Fmmu, apply_write, is_brought, is_touched_by_writing};
 use ec_sync::Manager;
 
 /// The bytes that no manager governs.
@@ -103,8 +101,8 @@ fn is_written(lower: &[Manager], manager: &Manager, fmmus: &[Fmmu], from: u64, b
     let bits = 8 * bytes.len() as u64;
     let first = manager.settings().start;
     let len = manager.settings().length;
-    touches_by_writing(fmmus, from, bits, first)
-        && touches_by_writing(fmmus, from, bits, first + len - 1)
+    is_touched_by_writing(fmmus, from, bits, first)
+        && is_touched_by_writing(fmmus, from, bits, first + len - 1)
         && is_value_brought(lower, fmmus, from, bytes, first, len)
 }
 
