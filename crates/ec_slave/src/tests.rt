@@ -1,5 +1,6 @@
 //! Frames past one slave. Nothing steps its firmware here, so it stays in INIT.
 use crate::Slave;
+use ec_frame::Command::{Aprd, Aprw, Apwr, Brd, Lrd, Lrw, Lwr};
 use ec_frame::{Builder, Command, check};
 use ec_regs::{Identity, Listed, SlaveType};
 use std::alloc::{AllocError, Global};
@@ -77,28 +78,14 @@ fn assert_met(
 
 /// Writes bytes from a physical address on, at least one of which counts.
 fn write(rt: &impl Abort, slave: &mut Slave, ado: u16, bytes: &[u8]) -> Result<(), Fail> {
-    assert_met(
-        rt,
-        slave,
-        Command::Apwr,
-        65536 * ado as u32,
-        bytes,
-        bytes,
-        1,
-    )
+    let address = 65536 * ado as u32;
+    assert_met(rt, slave, Apwr, address, bytes, bytes, 1)
 }
 
 /// Writes bytes from a physical address on, none of which is taken.
 fn write_in_vain(rt: &impl Abort, slave: &mut Slave, ado: u16, bytes: &[u8]) -> Result<(), Fail> {
-    assert_met(
-        rt,
-        slave,
-        Command::Apwr,
-        65536 * ado as u32,
-        bytes,
-        bytes,
-        0,
-    )
+    let address = 65536 * ado as u32;
+    assert_met(rt, slave, Apwr, address, bytes, bytes, 0)
 }
 
 // Four FMMUs, four sync managers and 8 KiB of RAM, in INIT; the rest is 0.
@@ -198,24 +185,16 @@ fn sync_manager_row_by_row(rt: HostRuntime) -> Result<(), Fail> {
 #[test]
 fn four_bits_through_an_fmmu(rt: HostRuntime) -> Result<(), Fail> {
     let mut slave = plain_slave(rt.alloc())?;
-    write(
-        &rt,
-        &mut slave,
-        0x0600,
-        &[0, 0, 1, 0, 1, 0, 0, 3, 0, 0x18, 2, 2, 1, 0, 0, 0],
-    )?;
+    let fmmu = [0, 0, 1, 0, 1, 0, 0, 3, 0, 0x18, 2, 2, 1, 0, 0, 0];
+    write(&rt, &mut slave, 0x0600, &fmmu)?;
     write(&rt, &mut slave, 0x1800, &[0xFF])?;
     let sent = [
         0x0D, 0x10, 0x0B, 0x01, 0x00, 0x00, 0x01, 0x00, 0x01, 0x00, 0x00, 0x00, 0x0B, 0x00, 0x00,
     ];
     assert_counted(&rt, &mut slave, sent, 1);
     assert_eq!(rt; slave.byte(0x1800), Some(0xEF));
-    write(
-        &rt,
-        &mut slave,
-        0x0600,
-        &[0, 0, 1, 0, 1, 0, 4, 7, 0, 0x18, 2, 1, 1, 0, 0, 0],
-    )?;
+    let fmmu = [0, 0, 1, 0, 1, 0, 4, 7, 0, 0x18, 2, 1, 1, 0, 0, 0];
+    write(&rt, &mut slave, 0x0600, &fmmu)?;
     let sent = [
         0x0D, 0x10, 0x0A, 0x01, 0x00, 0x00, 0x01, 0x00, 0x01, 0x00, 0x00, 0x00, 0x0F, 0x00, 0x00,
     ];
@@ -243,18 +222,10 @@ fn process_data_in_one_exchange(rt: HostRuntime) -> Result<(), Fail> {
     let mut slave = mapped_slave(&rt)?;
     let sent = [0x0A, 0x23, 0x01];
     let back = [0x0A, 0x00, 0x00];
-    assert_met(&rt, &mut slave, Command::Lrw, 0x0001_0000, &sent, &back, 3)?;
+    assert_met(&rt, &mut slave, Lrw, 0x0001_0000, &sent, &back, 3)?;
     assert_eq!(rt; slave.outputs(), [0x23, 0x01].as_slice());
     let first = [0x0A, 0x77];
-    assert_met(
-        &rt,
-        &mut slave,
-        Command::Lrw,
-        0x0001_0000,
-        &first,
-        &first,
-        0,
-    )?;
+    assert_met(&rt, &mut slave, Lrw, 0x0001_0000, &first, &first, 0)?;
     assert_eq!(rt; slave.outputs(), [0x23, 0x01].as_slice());
     Ok(())
 }
@@ -264,18 +235,10 @@ fn process_data_in_one_exchange(rt: HostRuntime) -> Result<(), Fail> {
 fn process_data_one_way(rt: HostRuntime) -> Result<(), Fail> {
     let mut slave = mapped_slave(&rt)?;
     let sent = [4, 5];
-    assert_met(&rt, &mut slave, Command::Lwr, 0x0001_0001, &sent, &sent, 1)?;
-    assert_met(
-        &rt,
-        &mut slave,
-        Command::Lrd,
-        0x0001_0001,
-        &sent,
-        &[0, 0],
-        1,
-    )?;
-    assert_met(&rt, &mut slave, Command::Lwr, 0x0001_0002, &sent, &sent, 0)?;
-    assert_met(&rt, &mut slave, Command::Lrd, 0x0001_0002, &sent, &sent, 0)?;
+    assert_met(&rt, &mut slave, Lwr, 0x0001_0001, &sent, &sent, 1)?;
+    assert_met(&rt, &mut slave, Lrd, 0x0001_0001, &sent, &[0, 0], 1)?;
+    assert_met(&rt, &mut slave, Lwr, 0x0001_0002, &sent, &sent, 0)?;
+    assert_met(&rt, &mut slave, Lrd, 0x0001_0002, &sent, &sent, 0)?;
     assert_eq!(rt; slave.outputs(), [4, 5].as_slice());
     Ok(())
 }
@@ -284,22 +247,10 @@ fn process_data_one_way(rt: HostRuntime) -> Result<(), Fail> {
 #[test]
 fn exchange_through_one_fmmu(rt: HostRuntime) -> Result<(), Fail> {
     let mut slave = plain_slave(rt.alloc())?;
-    write(
-        &rt,
-        &mut slave,
-        0x0630,
-        &[7, 0, 0, 0, 1, 0, 0, 7, 0, 0x18, 0, 3, 1, 0, 0, 0],
-    )?;
+    let fmmu = [7, 0, 0, 0, 1, 0, 0, 7, 0, 0x18, 0, 3, 1, 0, 0, 0];
+    write(&rt, &mut slave, 0x0630, &fmmu)?;
     write(&rt, &mut slave, 0x1800, &[0xEF, 0x11])?;
-    assert_met(
-        &rt,
-        &mut slave,
-        Command::Lrw,
-        6,
-        &[1, 0x5A, 3],
-        &[1, 0xEF, 3],
-        3,
-    )?;
+    assert_met(&rt, &mut slave, Lrw, 6, &[1, 0x5A, 3], &[1, 0xEF, 3], 3)?;
     assert_eq!(rt; slave.byte(0x1800), Some(0x5A));
     assert_eq!(rt; slave.byte(0x1801), Some(0x11));
     Ok(())
@@ -313,25 +264,9 @@ fn slave_without_lrw(rt: HostRuntime) -> Result<(), Fail> {
     let mut slave = Slave::new(rt.alloc(), kind, IDENTITY)?;
     write(&rt, &mut slave, 0x0810, &OUTPUTS)?;
     write(&rt, &mut slave, 0x0600, &WRITES_OUTPUTS)?;
-    assert_met(
-        &rt,
-        &mut slave,
-        Command::Lrw,
-        0x0001_0001,
-        &[4, 5],
-        &[4, 5],
-        0,
-    )?;
+    assert_met(&rt, &mut slave, Lrw, 0x0001_0001, &[4, 5], &[4, 5], 0)?;
     assert_eq!(rt; slave.outputs(), [0, 0].as_slice());
-    assert_met(
-        &rt,
-        &mut slave,
-        Command::Lwr,
-        0x0001_0001,
-        &[4, 5],
-        &[4, 5],
-        1,
-    )?;
+    assert_met(&rt, &mut slave, Lwr, 0x0001_0001, &[4, 5], &[4, 5], 1)?;
     assert_eq!(rt; slave.outputs(), [4, 5].as_slice());
     Ok(())
 }
@@ -340,18 +275,10 @@ fn slave_without_lrw(rt: HostRuntime) -> Result<(), Fail> {
 #[test]
 fn fmmu_at_the_last_logical_address(rt: HostRuntime) -> Result<(), Fail> {
     let mut slave = plain_slave(rt.alloc())?;
-    write(
-        &rt,
-        &mut slave,
-        0x0600,
-        &[0, 0, 0, 0, 1, 0, 0, 7, 3, 0x18, 0, 1, 1, 0, 0, 0],
-    )?;
-    write(
-        &rt,
-        &mut slave,
-        0x0610,
-        &[255, 255, 255, 255, 2, 0, 0, 7, 0, 0x18, 0, 1, 1, 0, 0, 0],
-    )?;
+    let fmmu = [0, 0, 0, 0, 1, 0, 0, 7, 3, 0x18, 0, 1, 1, 0, 0, 0];
+    write(&rt, &mut slave, 0x0600, &fmmu)?;
+    let fmmu = [255, 255, 255, 255, 2, 0, 0, 7, 0, 0x18, 0, 1, 1, 0, 0, 0];
+    write(&rt, &mut slave, 0x0610, &fmmu)?;
     write(&rt, &mut slave, 0x1800, &[0x12, 0x34, 0x56, 0x78])?;
     let sent = [
         0x0E, 0x10, 0x0A, 0x01, 0xFF, 0xFF, 0xFF, 0xFF, 0x02, 0x00, 0x00, 0x00, 0x00, 0x00, 0x00,
@@ -362,7 +289,7 @@ fn fmmu_at_the_last_logical_address(rt: HostRuntime) -> Result<(), Fail> {
         0x00,
     ];
     assert_passed(&rt, &mut slave, sent, back);
-    assert_met(&rt, &mut slave, Command::Lrd, 0, &[0], &[0x78], 1)
+    assert_met(&rt, &mut slave, Lrd, 0, &[0], &[0x78], 1)
 }
 
 // Three buffers of one byte don't fit at the last address, nor do those of 65535 bytes anywhere: all
@@ -371,31 +298,11 @@ fn fmmu_at_the_last_logical_address(rt: HostRuntime) -> Result<(), Fail> {
 fn span_past_the_memory(rt: HostRuntime) -> Result<(), Fail> {
     let mut slave = plain_slave(rt.alloc())?;
     write(&rt, &mut slave, 0x0800, &[0xFF, 0x2F, 1, 0, 0x24, 0, 1, 0])?;
-    write(
-        &rt,
-        &mut slave,
-        0x0808,
-        &[0, 0x10, 0xFF, 0xFF, 0x24, 0, 1, 0],
-    )?;
+    let long = [0, 0x10, 0xFF, 0xFF, 0x24, 0, 1, 0];
+    write(&rt, &mut slave, 0x0808, &long)?;
     let last = 0x2FFF_0000;
-    assert_met(
-        &rt,
-        &mut slave,
-        Command::Aprw,
-        last,
-        &[0xAA, 0xBB],
-        &[0x00, 0xBB],
-        3,
-    )?;
-    assert_met(
-        &rt,
-        &mut slave,
-        Command::Aprw,
-        0x1000_0000,
-        &[0xCC],
-        &[0],
-        3,
-    )?;
+    assert_met(&rt, &mut slave, Aprw, last, &[0xAA, 0xBB], &[0x00, 0xBB], 3)?;
+    assert_met(&rt, &mut slave, Aprw, 0x1000_0000, &[0xCC], &[0], 3)?;
     assert_eq!(rt; slave.byte(0x2FFF), Some(0xAA));
     assert_eq!(rt; slave.byte(0x1000), Some(0xCC));
     Ok(())
@@ -409,7 +316,7 @@ fn mailbox_of_one_byte(rt: HostRuntime) -> Result<(), Fail> {
     write(&rt, &mut slave, 0x0800, &[0xFF, 0x2F, 1, 0, 0x26, 0, 1, 0])?;
     write(&rt, &mut slave, 0x2FFF, &[8])?;
     write_in_vain(&rt, &mut slave, 0x2FFF, &[9])?;
-    assert_met(&rt, &mut slave, Command::Aprd, 0x2FFF_0000, &[5], &[5], 0)?;
+    assert_met(&rt, &mut slave, Aprd, 0x2FFF_0000, &[5], &[5], 0)?;
     assert_eq!(rt; slave.byte(0x0805), Some(8));
     write(&rt, &mut slave, 0x0806, &[0])?;
     assert_eq!(rt; slave.byte(0x0805), Some(0));
@@ -424,21 +331,13 @@ fn longest_datagram(rt: HostRuntime) -> Result<(), Fail> {
     assert_met(
         &rt,
         &mut slave,
-        Command::Aprw,
+        Aprw,
         0x1000_0000,
         &[0x5A; 1458],
         &[0; 1458],
         3,
     )?;
-    assert_met(
-        &rt,
-        &mut slave,
-        Command::Aprd,
-        0x15B1_0000,
-        &[1, 1],
-        &[0x5A, 0],
-        1,
-    )
+    assert_met(&rt, &mut slave, Aprd, 0x15B1_0000, &[1, 1], &[0x5A, 0], 1)
 }
 
 #[test]
@@ -460,25 +359,9 @@ fn sii_read_is_given(rt: HostRuntime) -> Result<(), Fail> {
     let mut slave = plain_slave(rt.alloc())?;
     write(&rt, &mut slave, 0x0502, &[0, 1, 8, 0, 0, 0])?;
     let shown = [0, 0x81, 8, 0, 0, 0, 0, 0, 0, 0];
-    assert_met(
-        &rt,
-        &mut slave,
-        Command::Aprd,
-        0x0502_0000,
-        &[9; 10],
-        &shown,
-        1,
-    )?;
+    assert_met(&rt, &mut slave, Aprd, 0x0502_0000, &[9; 10], &shown, 1)?;
     write_in_vain(&rt, &mut slave, 0x0502, &[0, 1, 9, 0, 0, 0])?;
-    assert_met(
-        &rt,
-        &mut slave,
-        Command::Aprd,
-        0x0502_0000,
-        &[9; 10],
-        &shown,
-        1,
-    )
+    assert_met(&rt, &mut slave, Aprd, 0x0502_0000, &[9; 10], &shown, 1)
 }
 
 // A state that is asked for waits for the firmware; the control word reads what was written last.
@@ -487,19 +370,11 @@ fn state_request_waits(rt: HostRuntime) -> Result<(), Fail> {
     let mut slave = plain_slave(rt.alloc())?;
     write(&rt, &mut slave, 0x0120, &[2, 0])?;
     write(&rt, &mut slave, 0x0120, &[4, 0])?;
+    assert_met(&rt, &mut slave, Brd, 0x0120_0000, &[0, 0], &[4, 0], 1)?;
     assert_met(
         &rt,
         &mut slave,
-        Command::Brd,
-        0x0120_0000,
-        &[0, 0],
-        &[4, 0],
-        1,
-    )?;
-    assert_met(
-        &rt,
-        &mut slave,
-        Command::Brd,
+        Brd,
         0x0130_0000,
         &[0; 6],
         &[1, 0, 0, 0, 0, 0],
@@ -540,13 +415,5 @@ fn reset_is_power_on(rt: HostRuntime) -> Result<(), Fail> {
         assert_eq!(rt; slave.byte(address), Some(0), "at {address}");
     }
     assert_eq!(rt; slave.byte(0x0130), Some(1));
-    assert_met(
-        &rt,
-        &mut slave,
-        Command::Lwr,
-        0x0001_0001,
-        &[4, 5],
-        &[4, 5],
-        0,
-    )
+    assert_met(&rt, &mut slave, Lwr, 0x0001_0001, &[4, 5], &[4, 5], 0)
 }
