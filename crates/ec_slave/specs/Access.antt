@@ -41,13 +41,13 @@ retold xs f = retold_from 0 xs f
 -- and its code; the SII port; the sync managers. Every other register reads 0.
 unfoldable pub register_byte : SlaveState → ℕ → ℕ
 register_byte s a =
-    if (a == 4) || (a == 5) then 4
-    else (if a == 6 then 8
-    else (if within 16 2 a || (within 288 2 a || within 1536 64 a) then slice_index s.memory a
-    else (if within 304 2 a then slice_index (to_le_bytes w16 (status_word s.al)) (a - 304)
-    else (if within 308 2 a then slice_index (to_le_bytes w16 s.al.code) (a - 308)
-    else (if within 1282 10 a then sii_byte s.sii a
-    else (if within 2048 32 a then manager_byte (manager_at s.managers ((a - 2048) / 8)) (a % 8)
+    if (a == 0x0004) || (a == 0x0005) then 4
+    else (if a == 0x0006 then 8
+    else (if within 0x0010 2 a || (within 0x0120 2 a || within 0x0600 64 a) then slice_index s.memory a
+    else (if within 0x0130 2 a then slice_index (to_le_bytes w16 (status_word s.al)) (a - 0x0130)
+    else (if within 0x0134 2 a then slice_index (to_le_bytes w16 s.al.code) (a - 0x0134)
+    else (if within 0x0502 10 a then sii_byte s.sii a
+    else (if within 0x0800 32 a then manager_byte (manager_at s.managers ((a - 0x0800) / 8)) (a % 8)
     else 0))))))
 
 -- a byte of the RAM: what its governor shows there, or as it lies in the memory
@@ -81,14 +81,14 @@ byte_read s joining w k =
 -- a byte that is kept in the memory itself: a stored register, the managers' aside, or a byte of the RAM under no manager
 unfoldable pub is_kept : List Manager → ℕ → Bool
 is_kept ms a =
-    if nat_lt a ram_start then is_stored a && not (within 2048 32 a) else nat_lt a ram_end && is_none (governor ms a)
+    if nat_lt a ram_start then is_stored a && not (within 0x0800 32 a) else nat_lt a ram_end && is_none (governor ms a)
 
 abbrev pub memory_written : List Manager → Window → List ℕ → List ℕ
 memory_written ms w memory = retold memory (λ a. if is_kept ms a then byte_from w a else None)
 
 -- what a datagram stores in byte k of manager n's eight
 abbrev pub setting_for : Window → ℕ → ℕ → Option ℕ
-setting_for w n k = if is_stored (2048 + 8 * n + k) then byte_from w (2048 + 8 * n + k) else None
+setting_for w n k = if is_stored (0x0800 + 8 * n + k) then byte_from w (0x0800 + 8 * n + k) else None
 
 -- it writes one of the bytes 0..4 or 6
 abbrev pub is_configured : Window → ℕ → Bool
@@ -120,7 +120,7 @@ unfoldable pub slave_after : SlaveState → Bool → Bool → Window → SlaveSt
 slave_after s reads writes w = record s {
   memory = if writes then memory_written s.managers w s.memory else s.memory;
   managers = managers_met [] reads writes w 0 s.managers;
-  al = if writes && touches w 288 then requesting s.al else s.al;
+  al = if writes && touches w 0x0120 then requesting s.al else s.al;
   sii = if writes then written s.sii w.from w.bytes else s.sii;
 }
 

@@ -39,21 +39,21 @@ with_memory s memory managers = record s { memory = memory; managers = managers 
 
 -- the station address, registers 0x0010 and 0x0011 (ETG.1000.4, "Station address")
 abbrev pub station_of : SlaveState → ℕ
-station_of s = slice_index s.memory 16 + 256 * slice_index s.memory 17
+station_of s = slice_index s.memory 0x0010 + 256 * slice_index s.memory 0x0011
 
 abbrev pub manager_at : List Manager → ℕ → Manager
 manager_at ms n = get_or ms n no_manager
 
 -- the four FMMUs, as their registers say
 abbrev pub fmmus_of : List ℕ → List FmmuSettings
-fmmus_of memory = map (λ n. fmmu_of (λ k. slice_index memory (1536 + 16 * n + k))) (0 ∷ 1 ∷ 2 ∷ 3 ∷ [])
+fmmus_of memory = map (λ n. fmmu_of (λ k. slice_index memory (0x0600 + 16 * n + k))) (0 ∷ 1 ∷ 2 ∷ 3 ∷ [])
 
 abbrev pub fmmus : SlaveState → List FmmuSettings
 fmmus s = fmmus_of s.memory
 
 -- how many addresses there are: the RAM ends there
 unfoldable pub memory_length : ℕ
-memory_length = 12288
+memory_length = 0x3000
 
 abbrev pub indices : List Pdo → List ℕ
 indices ps = map (λ p. p.index) ps

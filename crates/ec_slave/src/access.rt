@@ -23,7 +23,7 @@ pub(crate) fn governor(managers: &[Manager], address: usize) -> Option<usize>
 #[tactic(auto, unfolding(crate::specs::Access::may_read_byte))]
 pub(crate) fn reads_byte(managers: &[Manager], from: usize, len: usize, address: usize) -> bool
     ensures value { result ≡ may_read_byte managers.now (within from len) address }
-    ensures inside { OnTrue result (address < 12288) }
+    ensures inside { OnTrue result (address < 0x3000) }
 {
     if address < RAM_START as usize {
         return true;
@@ -71,7 +71,7 @@ pub(crate) fn writes_byte(
 #[tactic(auto, unfolding(crate::specs::Access::is_kept))]
 fn is_kept(managers: &[Manager], address: usize) -> bool
     ensures value { result ≡ is_kept managers.now address }
-    ensures inside { OnTrue result (address < 12288) }
+    ensures inside { OnTrue result (address < 0x3000) }
 {
     if address < RAM_START as usize {
         let first = SYNC_MANAGERS as usize;
@@ -82,7 +82,7 @@ fn is_kept(managers: &[Manager], address: usize) -> bool
 
 /// Stores a byte where the memory itself keeps it.
 fn store_byte(memory: &mut [u8], managers: &[Manager], address: usize, byte: u8)
-    requires { length memory.old ≡ 12288 }
+    requires { length memory.old ≡ 0x3000 }
     ensures { memory.new ≡ set_told memory.old address (if is_kept managers.now address then Some byte else None) }
 {
     if is_kept(managers, address) {
@@ -98,7 +98,7 @@ pub(crate) fn write_memory(
     from: usize,
     bytes: &[u8],
 ) -> bool
-    requires room { length memory.old ≡ 12288 }
+    requires room { length memory.old ≡ 0x3000 }
     requires small { from + length bytes.now < 2 ^ 32 }
     ensures memory { memory.new ≡ memory_written managers.now (record { from = from; bytes = bytes.now }) memory.old }
     ensures some { result ≡ some_byte_written managers.now is_busy (record { from = from; bytes = bytes.now }) }

@@ -10,7 +10,7 @@ use ec_regs::registers::{FMMUS, SYNC_MANAGERS};
 
 /// FMMU `number` as its sixteen registers stand.
 fn fmmu_at(memory: &[u8], number: usize) -> Fmmu
-    requires room { length memory.now ≡ 12288 }
+    requires room { length memory.now ≡ 0x3000 }
     requires four { number < 4 }
     ensures { result ≡ fmmu_of (λ k. slice_index memory.now (1536 + 16 * number + k)) }
 {
@@ -22,7 +22,7 @@ fn fmmu_at(memory: &[u8], number: usize) -> Fmmu
 
 /// The four FMMUs as their registers stand.
 pub(crate) fn read_fmmus(memory: &[u8]) -> [Fmmu; 4]
-    requires { length memory.now ≡ 12288 }
+    requires { length memory.now ≡ 0x3000 }
     ensures { result ≡ fmmus_of memory.now }
 {
     [

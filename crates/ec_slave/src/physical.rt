@@ -42,7 +42,7 @@ fn request_if(al: &mut Al, is_written: bool)
 
 /// Decodes the FMMUs again after a write from an address on that their registers don't all lie below.
 fn renew_fmmus(fmmus: &mut [Fmmu; 4], memory: &[u8], from: usize)
-    requires { length memory.now ≡ 12288 }
+    requires { length memory.now ≡ 0x3000 }
     ensures { fmmus.new ≡ (if nat_lt from 1600 then fmmus_of memory.now else fmmus.old) }
 {
     if from < FMMUS as usize + 16 * FMMU_COUNT as usize {
@@ -91,7 +91,7 @@ impl Slave {
     /// Whether a datagram over `len` bytes from `from` on reads the byte at an address that it touches.
     fn reads(&self, from: usize, len: usize, address: usize) -> bool
         ensures value { result ≡ may_read_byte self.now.managers (within from len) address }
-        ensures inside { OnTrue result (address < 12288) }
+        ensures inside { OnTrue result (address < 0x3000) }
     {
         reads_byte(&self.managers, from, len, address)
     }

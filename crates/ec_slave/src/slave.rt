@@ -64,7 +64,7 @@ impl Model for Slave {
 #[tactic(auto, unfolding(crate::specs::State::memory_length))]
 fn memory_len() -> usize
     ensures value { result ≡ memory_length }
-    ensures is { result ≡ 12288 }
+    ensures is { result ≡ 0x3000 }
 {
     RAM_END as usize
 }
@@ -131,7 +131,7 @@ impl Slave {
     /// What an address reads now, as a datagram would find it; none past the RAM's end.
     #[tactic(auto, unfolding(crate::specs::Access::byte_at))]
     pub fn byte(&self, address: u16) -> Option<u8>
-        ensures { result ≡ (if nat_lt address 12288 then Some (byte_at self.now address) else None) }
+        ensures { result ≡ (if nat_lt address 0x3000 then Some (byte_at self.now address) else None) }
     {
         let address = address as usize;
         if address < RAM_END as usize {
@@ -144,7 +144,7 @@ impl Slave {
     /// What an address reads.
     #[tactic(auto, unfolding(crate::specs::Access::byte_at))]
     pub(crate) fn byte_at(&self, address: usize) -> u8
-        requires { address < 12288 }
+        requires { address < 0x3000 }
         ensures { result ≡ byte_at self.now address }
     {
         if address < RAM_START as usize {
@@ -159,7 +159,7 @@ impl Slave {
     /// What a register reads.
     #[tactic(auto, unfolding(crate::specs::Access::register_byte))]
     fn register(&self, address: usize) -> u8
-        requires { address < 4096 }
+        requires { address < 0x1000 }
         ensures { result ≡ register_byte self.now address }
     {
         match address {

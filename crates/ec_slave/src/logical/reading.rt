@@ -46,7 +46,7 @@ fn seen_behind(manager: &Manager, is_readable: bool, physical: u32) -> Option<bo
 /// What a physical bit shows, where `readable` says of each manager whether the datagram gets at
 /// it.
 fn seen_bit(memory: &[u8], managers: &[Manager], readable: &[bool], physical: u32) -> Option<bool>
-    requires room { length memory.now ≡ 12288 }
+    requires room { length memory.now ≡ 0x3000 }
     requires four { length managers.now ≡ length readable.now }
     requires inside { physical < 8 * ram_end }
     ensures { result ≡ bit_seen memory.now managers.now readable.now physical }
@@ -70,7 +70,7 @@ impl Shown for Sight<'_> {
     ghost use Rattle.std.specs.Prelude.{◌≡◌, length};
     ghost use Rattle.ec_slave.specs.Sights.{seen_bit as bit_seen};
 
-    ghost can_show = { λ s. (length s.memory.now ≡ 12288)
+    ghost can_show = { λ s. (length s.memory.now ≡ 0x3000)
         × (length s.managers.now ≡ length s.readable.now) };
 
     ghost shown = { λ s q. bit_seen s.memory.now s.managers.now s.readable.now q };
@@ -90,7 +90,7 @@ pub(crate) fn read_logical(
     from: u64,
     bytes: &mut [u8],
 ) -> bool
-    requires room { length memory.now ≡ 12288 }
+    requires room { length memory.now ≡ 0x3000 }
     requires four { length managers.now ≡ 4 }
     requires fits { from + 8 * length bytes.old < 2 ^ 64 }
     ensures bits { let place : Place = record { from = from; bits = 8 * length bytes.old } in

@@ -42,7 +42,7 @@ pub(crate) fn write_logical(
     from: u64,
     bytes: &[u8],
 ) -> bool
-    requires room { length memory.old ≡ 12288 }
+    requires room { length memory.old ≡ 0x3000 }
     requires fits { from + 8 * length bytes.now < 2 ^ 64 }
     ensures memory { let place : Place = record { from = from; bits = 8 * length bytes.now } in
         memory.new ≡ overlay memory.old (plain_bit managers.now fmmus.now place bytes.now) }
