@@ -29,6 +29,7 @@ impl Name {
         })
     }
 
+    /// The name as text.
     pub fn as_str(&self) -> &str
         ensures { result.now ≡ self.now }
     {
