@@ -48,8 +48,9 @@ fn push_slaves(alloc: Global, text: &mut String, plan: &Plan) -> Result<(), Allo
         let (part, unit) = (plan.part_of(slave), plan.unit_of(slave));
         let share = plan.settings(slave).share;
         let (outs, ins) = (share.outs, share.ins);
-        let line =
-            format!(in alloc; "slave {slave} part {part} unit {unit} out {outs} in {ins}\n")?;
+        let line = format!(in alloc;
+            "slave {slave} part {part} unit {unit} out {outs} in {ins}\n"
+        )?;
         text.push_str(line.as_str())?;
         push_settings(alloc, text, plan, slave)?;
     }
@@ -189,9 +190,15 @@ fn plans_three_slaves(rt: HostRuntime) -> Result<(), Fail> {
     assert_eq!(rt; plan_of(alloc, "")?.as_str(), EMPTY_PLAN);
     assert_eq!(rt; plan_of(alloc, THREE_SLAVES)?.as_str(), THREE_SLAVES_PLAN);
     let two_units = with_two_units(alloc)?;
-    assert_eq!(rt; plan_of(alloc, two_units.as_str())?.as_str(), TWO_UNITS_PLAN);
+    assert_eq!(rt;
+        plan_of(alloc, two_units.as_str())?.as_str(),
+        TWO_UNITS_PLAN
+    );
     let split = format!(in alloc; "{two_units}{SPLIT_VARIABLE}")?;
-    assert_eq!(rt; plan_of(alloc, split.as_str())?.as_str(), "44 SplitVariable 4");
+    assert_eq!(rt;
+        plan_of(alloc, split.as_str())?.as_str(),
+        "44 SplitVariable 4"
+    );
     Ok(())
 }
 
@@ -262,10 +269,22 @@ fn fills_parts(rt: HostRuntime) -> Result<(), Fail> {
     let both = (2048, 2048, true);
     let five = [full, full, full, full, full];
     let rows: [(&[Terminal], &[Terminal], &str); 6] = [
-        (&five, &[(1136, 0, true), (1, 0, true)], "65536 1422 12 0, 66958 1 2 0"),
-        (&five, &[(1137, 0, true), (1, 0, true)], "65536 1280 10 0, 66816 143 4 0"),
+        (
+            &five,
+            &[(1136, 0, true), (1, 0, true)],
+            "65536 1422 12 0, 66958 1 2 0",
+        ),
+        (
+            &five,
+            &[(1137, 0, true), (1, 0, true)],
+            "65536 1280 10 0, 66816 143 4 0",
+        ),
         (&[slow, slow], &[(1544, 0, false)], "65536 705 3/0 0"),
-        (&[slow, slow], &[(1545, 0, false)], "65536 512 2/0 0, 66048 194 1/0 0"),
+        (
+            &[slow, slow],
+            &[(1545, 0, false)],
+            "65536 512 2/0 0, 66048 194 1/0 0",
+        ),
         (&[full], &[(1, 2049, true)], "21 TooManyBits 1"),
         (
             &[both; 64],
@@ -292,9 +311,15 @@ fn counts_slaves_and_parts(rt: HostRuntime) -> Result<(), Fail> {
     let alloc = rt.alloc();
     let few = (4, 0, true);
     let text = machine(alloc, &[few; 65], true)?;
-    assert_eq!(rt; parts_of(alloc, text.as_str())?.as_str(), "22 TooManySlaves 65");
+    assert_eq!(rt;
+        parts_of(alloc, text.as_str())?.as_str(),
+        "22 TooManySlaves 65"
+    );
     let text = machine(alloc, &[few; 33], false)?;
-    assert_eq!(rt; parts_of(alloc, text.as_str())?.as_str(), "23 TooManyParts 33");
+    assert_eq!(rt;
+        parts_of(alloc, text.as_str())?.as_str(),
+        "23 TooManyParts 33"
+    );
     Ok(())
 }
 
@@ -307,12 +332,18 @@ fn says_what_is_wrong(rt: HostRuntime) -> Result<(), Fail> {
             refused(LinkFault::WrongDirection(7)),
             "link 7: the slave assigns the entry in the other direction",
         ),
-        (refused(LinkFault::NoEntry(7)), "link 7: the slave assigns no such entry"),
+        (
+            refused(LinkFault::NoEntry(7)),
+            "link 7: the slave assigns no such entry",
+        ),
         (
             refused(LinkFault::OutsideEntry(7)),
             "link 7: bits past the entry or the variable",
         ),
-        (refused(LinkFault::LinkedTwice(7)), "link 7: a bit is linked twice"),
+        (
+            refused(LinkFault::LinkedTwice(7)),
+            "link 7: a bit is linked twice",
+        ),
         (
             refused(LinkFault::EntryTwice(7)),
             "slave 7: an entry is assigned twice",
@@ -325,9 +356,18 @@ fn says_what_is_wrong(rt: HostRuntime) -> Result<(), Fail> {
             refused(LinkFault::TooManySlaves(65)),
             "65 slaves, and 64 are the most",
         ),
-        (refused(LinkFault::TooManyParts(33)), "33 parts, and 32 are the most"),
-        (refused(LinkFault::AreasOverlap(7)), "slave 7: two areas overlap"),
-        (refused(LinkFault::OutsideRam(7)), "slave 7: an area leaves the RAM"),
+        (
+            refused(LinkFault::TooManyParts(33)),
+            "33 parts, and 32 are the most",
+        ),
+        (
+            refused(LinkFault::AreasOverlap(7)),
+            "slave 7: two areas overlap",
+        ),
+        (
+            refused(LinkFault::OutsideRam(7)),
+            "slave 7: an area leaves the RAM",
+        ),
         (
             refused(LinkFault::SplitVariable(7)),
             "variable 7: links from two sync units",

@@ -2,8 +2,7 @@
 // the place of its first OLD; with no OLD, NEW is appended. `|` is the end of a line.
 
 /// The table of `examples/three_slaves.toml`, without its comments; keep both equal.
-pub const THREE_SLAVES: &str =
-    r#"[[type]]
+pub const THREE_SLAVES: &str = r#"[[type]]
 name = "do4"
 vendor = 0xABCD
 product = 1
@@ -78,8 +77,7 @@ sub = 1
 
 /// The plan of the table of three slaves: a line for each slave, its managers and FMMUs that are set, as bytes in hex, the
 /// parts, the variables and the links.
-pub const THREE_SLAVES_PLAN: &str =
-    "slave 0 part 0 unit 0 out 4 in 0
+pub const THREE_SLAVES_PLAN: &str = "slave 0 part 0 unit 0 out 4 in 0
 sm 2 0011010024000100
 fmmu 0 00000100010000030011000201000000
 slave 1 part 0 unit 0 out 0 in 4
@@ -106,8 +104,7 @@ in image 4 slave 2 object 0 count 16
 ";
 
 /// The same with the second slave in a sync unit of its own.
-pub const TWO_UNITS_PLAN: &str =
-    "slave 0 part 0 unit 0 out 4 in 0
+pub const TWO_UNITS_PLAN: &str = "slave 0 part 0 unit 0 out 4 in 0
 sm 2 0011010024000100
 fmmu 0 00000100010000030011000201000000
 slave 1 part 1 unit 1 out 0 in 4
@@ -136,15 +133,13 @@ in image 4 slave 2 object 0 count 16
 ";
 
 /// The plan of a table without slaves.
-pub const EMPTY_PLAN: &str =
-    "part 0 address 65536 bytes 0 counter 0 unit 0
+pub const EMPTY_PLAN: &str = "part 0 address 65536 bytes 0 counter 0 unit 0
 unit 0
 image out 0 in 0
 ";
 
 /// Changes to the table of three slaves. Of the parts, a plan tells address, bytes, counter and unit.
-pub const CHANGES: &str =
-    r#"65536 3 2/2 0: in_start = 0| => in_start = 0|lrw = false|
+pub const CHANGES: &str = r#"65536 3 2/2 0: in_start = 0| => in_start = 0|lrw = false|
 16 WrongDirection 0: slave = "s0"|index = 0x7000 => slave = "s1"|index = 0x6000
 16 WrongDirection 3: slave = "s2"|index = 0x6010 => slave = "s2"|index = 0x7010
 17 NoEntry 0: index = 0x7000 => index = 0x7001
@@ -173,8 +168,7 @@ pub const CHANGES: &str =
 
 /// A variable of 8 bits with a half from each of two sync units, behind the table of three slaves with its second slave in
 /// a unit of its own.
-pub const SPLIT_VARIABLE: &str =
-    r#"[[variable]]
+pub const SPLIT_VARIABLE: &str = r#"[[variable]]
 name = "e"
 dir = "in"
 bits = 8
