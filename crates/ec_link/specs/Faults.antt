@@ -75,11 +75,6 @@ abbrev pub differ : List ℕ → Bool
 differ [] = false
 differ (x ∷ xs) = list_any (λ y. not (y == x)) xs
 
--- all slaves are of one unit
-pub record IsOneUnit (rs : List SlaveRow) : Type 0 where
-  pub unit : ℕ
-  pub each : All (λ (r : SlaveRow). r.unit ≡ unit) rs
-
 -- an input variable with links from two units
 abbrev pub units_of_variable : Contents → ℕ → List LinkRow → List ℕ
 units_of_variable t v ls = map (unit_of_link t) (filter (λ (l : LinkRow). l.variable == v) ls)

@@ -13,6 +13,7 @@ mod objects;
 mod plan;
 mod settings;
 mod sizes;
+mod split;
 #[cfg(test)]
 mod tests;
 mod wires;
