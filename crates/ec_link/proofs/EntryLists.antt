@@ -8,11 +8,12 @@ use Rattle.std.proofs.lemmas.Bool.{cases_Bool, cases_eq, false≢true}
 use Rattle.std.proofs.lemmas.Bool.Decides.{nat_tests}
 use Rattle.std.proofs.lemmas.List.Sums.{sum_by-cons}
 use Rattle.ec_regs.specs.declared.slave_type.Entry.{Entry}
-use Rattle.ec_table.specs.Objects.{bits_of}
+use Rattle.ec_regs.specs.Objects.{bits_of}
 use Rattle.ec_link.specs.declared.entries.Run.{Run}
 use Rattle.ec_link.specs.Entries.{is_named, behind, entry_run, names_twice}
 use Rattle.ec_link.specs.Objects.{entry_key, HasRuns}
 use Rattle.ec_link.specs.Faults.{◌orelse◌}
+use Rattle.ec_link.proofs.Basics.{or_false}
 
 -- the bits of an entry behind others, if it has the name
 abbrev last_run : List Entry → Entry → ℕ → ℕ → Option Run
@@ -96,7 +97,7 @@ pub twice_more : (es : List Entry) (e : Entry) → names_twice (es ++ e ∷ []) 
 twice_more [] e = elim (cases_Bool (eqb e.index 0)) [ inl y ↦ rw y refl | inr n ↦ rw n refl ]
 twice_more (x ∷ xs) e =
     rw (any_more xs e x.index x.subindex, twice_more xs e)
-      (regrouped (not (eqb x.index 0)) (not (eqb e.index 0)) (is_named x.index x.subindex e) (is_named e.index e.subindex x) (list_any (is_named x.index x.subindex) xs) (list_any (is_named e.index e.subindex) xs) (names_twice xs) (named_turned x e))
+    (regrouped (not (eqb x.index 0)) (not (eqb e.index 0)) (is_named x.index x.subindex e) (is_named e.index e.subindex x) (list_any (is_named x.index x.subindex) xs) (list_any (is_named e.index e.subindex) xs) (names_twice xs) (named_turned x e))
 
 -- ---- the map
 
@@ -149,7 +150,7 @@ runs_grow m n es e r h small new is u = record {
   each = λ index subindex low. elim (cases_eq (entry_key e.index e.subindex) (entry_key index subindex)) [
     | inr ne ↦
         u.2 (entry_key index subindex) (apart (entry_key e.index e.subindex) (entry_key index subindex) ne) ∙ h.each index subindex low
-          ∙ sym (run_more es e index subindex ∙ rw (not_named e index subindex low small ne) (orelse_none (entry_run es index subindex)))
+        ∙ sym (run_more es e index subindex ∙ rw (not_named e index subindex low small ne) (orelse_none (entry_run es index subindex)))
     | inl same ↦
         let names = same_key index subindex e.index e.subindex low small same in
         let here : entry_run es index subindex ≡ None = sym (h.each index subindex low) ∙ ap (get nat_cmp m) (sym same) ∙ none_of (get nat_cmp m (entry_key e.index e.subindex)) new in
@@ -170,10 +171,6 @@ and_true false = refl
 and_false : (a : Bool) → (a && false) ≡ false
 and_false true = refl
 and_false false = refl
-
-or_false : (a : Bool) → (a || false) ≡ a
-or_false true = refl
-or_false false = refl
 
 pub twice_known : (m : BTreeMap ℕ Run) (es : List Entry) (e : Entry) (before : Bool) → HasRuns m es → e.subindex ≤ 255 → is_some (get nat_cmp m (entry_key e.index e.subindex)) ≡ true → before ≡ names_twice es
     → (before || not (eqb e.index 0)) ≡ names_twice (es ++ e ∷ [])

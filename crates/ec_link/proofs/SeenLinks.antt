@@ -11,10 +11,7 @@ use Rattle.ec_table.specs.Contents.{Contents}
 use Rattle.ec_link.specs.declared.split.Seen.{Seen}
 use Rattle.ec_link.specs.Faults.{unit_of_link, differ, units_of_variable}
 use Rattle.ec_link.specs.Seen.{nothing_seen, seen_more, seen_of, AreSeen}
-
-or_false : (a : Bool) → (a || false) ≡ a
-or_false true = refl
-or_false false = refl
+use Rattle.ec_link.proofs.Basics.{or_false}
 
 more_seen : (us : List ℕ) (u : ℕ) → seen_more (seen_of us) u ≡ seen_of (us ++ u ∷ [])
 more_seen [] u = refl
@@ -42,13 +39,13 @@ seen_more_at t ls l old new d h there is many = record {
   each = λ v e lt. elim (cases_eq l.variable v) [
     | inl same ↦
         ap (λ xs. get_or xs v e) is ∙ ap (λ (k : ℕ). get_or (slice_set old l.variable (seen_more (get_or old l.variable d) (unit_of_link t l))) k e) (sym same)
-          ∙ get_or-set_same old l.variable (seen_more (get_or old l.variable d) (unit_of_link t l)) e (omega (arith, h.as_many))
-          ∙ here_or_not t ls l v (units_of_variable t v ls) refl (get_or old l.variable d) (h.each l.variable d there ∙ ap (λ (k : ℕ). seen_of (units_of_variable t k ls)) same) same
+        ∙ get_or-set_same old l.variable (seen_more (get_or old l.variable d) (unit_of_link t l)) e (omega (arith, h.as_many))
+        ∙ here_or_not t ls l v (units_of_variable t v ls) refl (get_or old l.variable d) (h.each l.variable d there ∙ ap (λ (k : ℕ). seen_of (units_of_variable t k ls)) same) same
     | inr other ↦
         let n : eqb l.variable v ≡ false = grind (arith, nat_tests, other) in
         let none : units_of_variable t v (l ∷ []) ≡ [] = rw n refl in
         ap (λ xs. get_or xs v e) is ∙ get_or-set_other old l.variable v (seen_more (get_or old l.variable d) (unit_of_link t l)) e (λ q. other (sym q)) ∙ h.each v e lt
-          ∙ ap seen_of (sym (units_append t v ls l ∙ ap (λ xs. units_of_variable t v ls ++ xs) none ∙ append_nothing (units_of_variable t v ls)))
+        ∙ ap seen_of (sym (units_append t v ls l ∙ ap (λ xs. units_of_variable t v ls ++ xs) none ∙ append_nothing (units_of_variable t v ls)))
   ];
 }
 

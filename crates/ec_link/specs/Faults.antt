@@ -1,4 +1,5 @@
--- The first fault of a table that no plan is made of, by the order of tests.
+-- What keeps a table from having a plan, each fault by itself, and the first one in the order of their numbers; the last,
+-- 44, came to the project late. The limits of 64 slaves, 32 parts and 2048 bits are this project's own.
 use Rattle.std.specs.Prelude.{ℕ, ◌+◌, ◌==◌, ◌≡◌, ◌&&◌, ◌||◌, not, Bool, true, false, nat_lt, if◌then◌else◌, List, [], ◌∷◌, length, map, filter, All, codes, slice_get, Option, Some, None, is_some, is_none, option_map, Result, Ok, Err}
 use Rattle.std.specs.Option.{option_map_or}
 use Rattle.std.specs.List.{list_any}
@@ -9,7 +10,8 @@ use Rattle.ec_table.specs.declared.rows.SlaveRow.{SlaveRow}
 use Rattle.ec_table.specs.declared.rows.VariableRow.{VariableRow}
 use Rattle.ec_table.specs.declared.rows.LinkRow.{LinkRow}
 use Rattle.ec_table.specs.Contents.{Contents}
-use Rattle.ec_table.specs.Objects.{type_of, entries_of, bits_of}
+use Rattle.ec_regs.specs.Objects.{bits_of}
+use Rattle.ec_table.specs.Objects.{type_of, entries_of}
 use Rattle.ec_regs.specs.declared.manager.ManagerSettings.{ManagerSettings}
 use Rattle.ec_link.specs.declared.fault.LinkFault.{LinkFault}
 use Rattle.ec_link.specs.declared.fault.LinkFault.TheVariants.{WrongDirection, NoEntry, OutsideEntry, LinkedTwice, EntryTwice, TooManyBits, TooManySlaves, TooManyParts, AreasOverlap, OutsideRam, SplitVariable}
@@ -181,11 +183,3 @@ error_value (Refused f) = Some (fault_value f)
 abbrev pub Fails : LinkError → Option LinkFault → Type 0
 Fails Memory f = Unit {0}
 Fails (Refused g) f = f ≡ Some g
-
-abbrev pub IsMemory : LinkError → Type 0
-IsMemory e = e ≡ Memory
-
--- what a test answers: done, or the fault
-abbrev pub Tested : {X : Type 0} → Result X LinkFault → Option LinkFault → Type 0
-Tested (Ok x) f = f ≡ None
-Tested (Err g) f = f ≡ Some g

@@ -19,12 +19,7 @@ mod tests;
 mod wires;
 
 pub use crate::compiling::compile;
-pub use crate::entries::Run;
 pub use crate::fault::{LinkError, LinkFault};
-pub use crate::image::{Image, Variable};
-pub use crate::layout::{Layout, Part, Seat};
-pub use crate::objects::Objects;
+pub use crate::image::Variable;
 pub use crate::plan::{Link, PartPlan, Plan, Predicted};
 pub use crate::settings::{Settings, Share};
-pub use crate::sizes::Size;
-pub use crate::wires::{Wire, Wires};

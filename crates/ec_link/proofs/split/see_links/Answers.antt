@@ -17,4 +17,4 @@ loop-link-preserved c =
     let there : l.variable < length c.args.table.now.variables = subst (λ (k : LinkRow). k.variable < length c.args.table.now.variables) (sym is) (c.links-link-items.ensures.sound c.loop-link.link-index l lt).variable in
     let value : c.seen_more.result ≡ seen_more (get_or c.loop-link.seen l.variable nothing_seen) _ = c.seen_more.ensures ∙ ap (seen_more (get_or c.loop-link.seen l.variable nothing_seen)) c.unit_of_link-unit.ensures in
     seen_step c.args.table.now c.loop-link.link-index l c.loop-link.seen (slice_set c.loop-link.seen l.variable c.seen_more.result) nothing_seen c.loop-link.invariant lt is there
-      (ap (slice_set c.loop-link.seen l.variable) value) (length-set c.loop-link.seen l.variable c.seen_more.result)
+    (ap (slice_set c.loop-link.seen l.variable) value) (length-set c.loop-link.seen l.variable c.seen_more.result)
