@@ -4,3 +4,4 @@ pub mod Fmmus
 pub mod Types
 pub mod Objects
 pub mod Words
+pub mod Constants
