@@ -1,5 +1,5 @@
 -- The control and status word of the port, by its bytes.
-use Rattle.std.proofs.Common.{◌≡◌, ℕ, ◌+◌, ◌*◌, ◌/◌, ◌%◌, ◌<◌, Bool, true, false, refl, ap, arith}
+use Rattle.std.proofs.Common.{◌≡◌, ◌+◌, ◌*◌, ◌/◌, ◌%◌, Bool, true, false, refl, ap, arith}
 use Rattle.std.specs.Int.{from_bool}
 use Rattle.ec_regs.specs.Words.{sii_word}
 use Rattle.ec_sii.specs.Port.{sii_byte}

@@ -1,5 +1,5 @@
 -- A mailbox gives each message once: what each operation does to the message that is there, and then whole runs.
-use Rattle.std.proofs.Common.{ℕ, ◌+◌, ◌/◌, ◌%◌, ◌==◌, ◌&&◌, ◌≡◌, ◌⊎◌, inl, inr, List, [], ◌∷◌, ◌++◌, length, Bool, true, false, if◌then◌else◌, nat_le, Option, Some, None, is_some, is_none, unwrap_or, option_map, refl, sym, ◌∙◌, ap}
+use Rattle.std.proofs.Common.{ℕ, ◌+◌, ◌&&◌, ◌≡◌, ◌⊎◌, inl, inr, List, [], ◌∷◌, ◌++◌, length, Bool, true, false, if◌then◌else◌, nat_le, Option, Some, None, is_some, is_none, unwrap_or, option_map, refl, sym, ap, subst}
 use Rattle.ec_regs.specs.Managers.{is_mailbox, is_ring_written, is_ring_read}
 use Rattle.ec_sync.specs.Buffer.{Buffer, Got, app_written, publishing}
 use Rattle.ec_sync.specs.Manager.{Manager, no_manager, may_app_put, app_got, after_get, is_enabled, padded}
@@ -88,10 +88,10 @@ moves m (MessagePut message) = moves-message m (padded m message) (is_enabled m)
 -- ---- whole runs
 
 goes-added : (old new : Option (List ℕ)) (e : Option MailEvent) (es : List MailEvent) → Moves old e new → Goes new es → Goes old (added e es)
-goes-added old new None es m g = rw (sym m) g
-goes-added old new (Some (Put x)) es m g = (m.0, rw (sym m.1) g)
-goes-added old new (Some (Taken x)) es m g = (m.0, rw (sym m.1) g)
-goes-added old new (Some Cleared) es m g = rw (sym m) g
+goes-added old new None es m g = subst (λ (o : Option (List ℕ)). Goes o es) m g
+goes-added old new (Some (Put x)) es m g = (m.0, subst (λ (o : Option (List ℕ)). Goes o es) m.1 g)
+goes-added old new (Some (Taken x)) es m g = (m.0, subst (λ (o : Option (List ℕ)). Goes o es) m.1 g)
+goes-added old new (Some Cleared) es m g = subst (λ (o : Option (List ℕ)). Goes o es) m g
 
 goes : (m : Manager) (ops : List Operation) → Goes m.mail (mail_events m ops)
 goes m [] = tt
@@ -133,6 +133,6 @@ not_twice mail (Cleared ∷ bs) after x y g = not_twice None bs after x y g
 
 pub messages_law : MessagesAreGivenOnce
 messages_law = record {
-  taken = λ ops before after x is. from_none before x (taken_from None before after x (rw is at (goes no_manager ops)));
-  put = λ ops before after x y is. not_twice None before after x y (rw is at (goes no_manager ops));
+  taken = λ ops before after x is. from_none before x (taken_from None before after x (subst (λ (es : List MailEvent). Goes None es) is (goes no_manager ops)));
+  put = λ ops before after x y is. not_twice None before after x y (subst (λ (es : List MailEvent). Goes None es) is (goes no_manager ops));
 }
