@@ -1,2 +1,2 @@
 mod PassLemmas
-mod RunLemmas
+mod PrintLemmas

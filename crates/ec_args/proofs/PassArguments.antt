@@ -1,4 +1,4 @@
--- What `clap` makes of the plain words of a command.
+-- What `clap` makes of the arguments of `ecat pass`, spelled out.
 use Rattle.std.proofs.Common.{◌≡◌, ◌≢◌, ℕ, ◌<◌, ◌≤◌, ◌==◌, ◌&&◌, zero, suc, Bool, not, is_some, [], ◌∷◌, Option, Some, None, true, false, codes, pos, refl, ap, inl, inr, arith, slice_index, eqb-true, ne_eqb}
 use Rattle.std.proofs.lemmas.Bool.{cases_lt, not-true}
 use Rattle.std.specs.Fmt.{decimal}
@@ -10,20 +10,21 @@ use Rattle.clap.specs.Values.{IsUnsignedIn}
 use Rattle.std.specs.Char.{encode_utf8}
 use Rattle.std.specs.Str.{chars, bytes_eq}
 use Rattle.clap.specs.Lexer.{strip_byte, without_minus}
-use Rattle.clap.specs.Takes.{takes, flags_pass, walk_passes, level_passes, turn_passes}
+use Rattle.clap.specs.Faults.{defaults_fault, fault_of, flags_fault, is_simple_and_free, level_fault, turn_fault, walk_fault}
+use Rattle.clap.proofs.OnLiterals.{clap_on_literals}
 use Rattle.clap.specs.Walk.{Text, Row, Walk, idle, option, bundle_met, walked, walk, walk_from, nothing_held, rows_after}
-use Rattle.clap.specs.Simple.{Shape, built_leaf, subcommand_of}
+use Rattle.clap.specs.Simple.{Shape, built_leaf, is_simple, subcommand_of}
 use Rattle.clap.specs.ValueTests.{accepts}
 use Rattle.clap.specs.declared.builder.value_parser.ValueParser.TheVariants.{Signed, Unsigned}
 use Rattle.clap.specs.declared.builder.value_parser.Reading.TheVariants.{AsWritten, WithoutMinus}
 use Rattle.clap.specs.declared.parser.matches.ValueSource.TheVariants.{CommandLine}
-use Rattle.ec_words.specs.CommandLine.{ecat, pass_shape}
+use Rattle.ec_args.specs.CommandLine.{ecat, pass_shape}
 
 -- `pass` as clap builds it
 abbrev pub pass_built : Shape
 pass_built = built_leaf pass_shape
 
--- a word that is no flag
+-- an argument that is no flag
 pub record IsValue (word : Text) : Type 0 where
   pub plain : strip_byte 45 word ≡ None
   pub other : bytes_eq word (45 ∷ 45 ∷ []) ≡ false
@@ -34,7 +35,7 @@ slaves_row d = record { id = codes "slaves"; values = d ∷ []; count = None; so
 abbrev pub frame_row : Text → Row
 frame_row f = record { id = codes "frame"; values = f ∷ []; count = None; source = Some CommandLine; reading = AsWritten }
 
--- the walk after each word of `pass`
+-- the walk after each argument of `pass`
 abbrev pub after_flag : Walk
 after_flag = record { held = record { rows = []; pending = Some (codes "slaves", []); skip = 0 }; waiting = option (codes "slaves"); position = 1; is_trailing = false; stopped = None }
 
@@ -67,42 +68,52 @@ pub subcommand-words : (name d f : Text) → IsValue d → IsValue f
 unfolding walked bundle_met chars encode_utf8
 subcommand-words name d f is_d is_f = ap (λ rows. Some (codes "pass", rows)) (rows-words d f is_d is_f)
 
--- each word passes
-pub flag-turn : turn_passes pass_built [] (walk_from nothing_held) (codes "--slaves") ≡ true
-unfolding walked bundle_met chars encode_utf8 flags_pass
+-- `clap` finds no fault in them
+pub flag-turn : turn_fault pass_built [] (walk_from nothing_held) (codes "--slaves") ≡ []
+unfolding walked bundle_met chars encode_utf8 flags_fault
 flag-turn = refl
 
-pub number-turn : (d : Text) → IsValue d → turn_passes pass_built [] after_flag d ≡ true
-unfolding walked bundle_met chars encode_utf8 flags_pass
+pub number-turn : (d : Text) → IsValue d → turn_fault pass_built [] after_flag d ≡ []
+unfolding walked bundle_met chars encode_utf8 flags_fault
 number-turn d is = rw (is.other, is.plain, is.plain) refl
 
-pub frame-turn : (d f : Text) → accepts false (Signed (pos 0) (pos 64)) d ≡ true → IsValue f → turn_passes pass_built [] (after_number d) f ≡ true
-unfolding walked bundle_met chars encode_utf8 flags_pass
+pub frame-turn : (d f : Text) → accepts false (Signed (pos 0) (pos 64)) d ≡ true → IsValue f → turn_fault pass_built [] (after_number d) f ≡ []
+unfolding walked bundle_met chars encode_utf8 flags_fault
 frame-turn d f few is = rw (is.other, is.plain, is.plain, few) refl
 
-pub passes-words : (d f : Text) → IsValue d → accepts false (Signed (pos 0) (pos 64)) d ≡ true → IsValue f
-    → walk_passes pass_built [] (walk_from nothing_held) (codes "--slaves" ∷ d ∷ f ∷ []) ≡ true
-unfolding walk_passes
-passes-words d f is_d few is_f = rw (flag-turn, flag-word, number-turn d is_d, number-word d is_d, frame-turn d f few is_f) refl
+pub walk-fault : (d f : Text) → IsValue d → accepts false (Signed (pos 0) (pos 64)) d ≡ true → IsValue f
+    → walk_fault pass_built [] (walk_from nothing_held) (codes "--slaves" ∷ d ∷ f ∷ []) ≡ []
+unfolding walk_fault
+walk-fault d f is_d few is_f = rw (flag-turn, flag-word, number-turn d is_d, number-word d is_d, frame-turn d f few is_f) refl
 
-pub level-words : (d f : Text) → IsValue d → accepts false (Signed (pos 0) (pos 64)) d ≡ true → IsValue f
-    → level_passes pass_built [] nothing_held (codes "--slaves" ∷ d ∷ f ∷ []) false ≡ true
-level-words d f is_d few is_f = rw (passes-words d f is_d few is_f, walk-words d f is_d is_f) refl
+pub level-fault : (d f : Text) → IsValue d → accepts false (Signed (pos 0) (pos 64)) d ≡ true → IsValue f
+    → level_fault pass_built [] nothing_held (codes "--slaves" ∷ d ∷ f ∷ []) false [] ≡ []
+unfolding defaults_fault
+level-fault d f is_d few is_f = rw (walk-fault d f is_d few is_f, walk-words d f is_d is_f) refl
 
-pub takes-words : (name d f : Text) → IsValue d → accepts false (Signed (pos 0) (pos 64)) d ≡ true → IsValue f
-    → takes ecat (name ∷ codes "pass" ∷ codes "--slaves" ∷ d ∷ f ∷ []) ≡ true
-unfolding walked bundle_met chars encode_utf8 flags_pass walk_passes
-takes-words name d f is_d few is_f = rw (level-words d f is_d few is_f) refl
+pub no-fault : (name d f : Text) → IsValue d → accepts false (Signed (pos 0) (pos 64)) d ≡ true → IsValue f
+    → fault_of ecat (name ∷ codes "pass" ∷ codes "--slaves" ∷ d ∷ f ∷ []) ≡ []
+unfolding walked bundle_met chars encode_utf8 flags_fault walk_fault defaults_fault
+no-fault name d f is_d few is_f = rw (level-fault d f is_d few is_f) refl
 
--- a number from 0 to 64 in decimal, as the words of the command line have it
-pub record IsNumberWord (n : ℕ) (word : Text) : Type 0 where
+-- what `clap` says of errors, it says of this command line
+pub ecat-simple : is_simple_and_free ecat ≡ true
+unfolding clap_on_literals
+ecat-simple = refl
+
+pub ecat-is_simple : is_simple ecat ≡ true
+unfolding clap_on_literals
+ecat-is_simple = refl
+
+-- a number from 0 to 64 in decimal, as the command line has it
+pub record IsNumberArgument (n : ℕ) (word : Text) : Type 0 where
   pub value : IsValue word
   pub few : accepts false (Signed (pos 0) (pos 64)) word ≡ true
   pub numeral : IsUnsignedIn 0 64 (without_minus word)
   pub reads : digits_value 10 (without_leading_plus (without_minus word)) ≡ n
 
-abbrev pub is_number_word : ℕ → Text → Bool
-is_number_word n word = not (is_some (strip_byte 45 word)) && (not (bytes_eq word (45 ∷ 45 ∷ [])) && (accepts false (Signed (pos 0) (pos 64)) word
+abbrev pub is_number_argument : ℕ → Text → Bool
+is_number_argument n word = not (is_some (strip_byte 45 word)) && (not (bytes_eq word (45 ∷ 45 ∷ [])) && (accepts false (Signed (pos 0) (pos 64)) word
     && (accepts false (Unsigned 0 64) (without_minus word) && digits_value 10 (without_leading_plus (without_minus word)) == n)))
 
 abbrev pub all_below : (ℕ → Bool) → ℕ → Bool
@@ -124,12 +135,12 @@ below_passes p (suc k) n h lt = elim (cases_lt n k) [
   | inr over ↦ let same : n ≡ k = omega arith in rw same (both _ _ h).0
 ]
 
-number_words_pass : all_below (λ n. is_number_word n (count_text n)) 65 ≡ true
+numbers_pass : all_below (λ n. is_number_argument n (count_text n)) 65 ≡ true
 unfolding chars
-number_words_pass = refl
+numbers_pass = refl
 
-number_word_facts : (n : ℕ) (word : Text) → is_number_word n word ≡ true → IsNumberWord n word
-number_word_facts n word h =
+number_argument_facts : (n : ℕ) (word : Text) → is_number_argument n word ≡ true → IsNumberArgument n word
+number_argument_facts n word h =
     let one = both _ _ h in
     let two = both _ _ one.1 in
     let three = both _ _ two.1 in
@@ -141,15 +152,15 @@ number_word_facts n word h =
       reads = eqb-true _ _ four.1;
     }
 
-pub number_word : (n : ℕ) → n ≤ 64 → IsNumberWord n (decimal n)
-number_word n few =
+pub number_argument : (n : ℕ) → n ≤ 64 → IsNumberArgument n (decimal n)
+number_argument n few =
     let lt : n < 65 = omega arith in
     let small : n < 1000 = omega arith in
-    rw (decimal-count_text n small) (number_word_facts n (count_text n) (below_passes (λ n. is_number_word n (count_text n)) 65 n number_words_pass lt))
+    rw (decimal-count_text n small) (number_argument_facts n (count_text n) (below_passes (λ n. is_number_argument n (count_text n)) 65 n numbers_pass lt))
 
--- a word that begins with no hyphen
-pub value_word : (word : Text) → slice_index word 0 ≢ 45 → IsValue word
-value_word [] h = record { plain = refl; other = refl }
-value_word (x ∷ xs) h =
+-- an argument that begins with no hyphen
+pub value_argument : (word : Text) → slice_index word 0 ≢ 45 → IsValue word
+value_argument [] h = record { plain = refl; other = refl }
+value_argument (x ∷ xs) h =
     let no : (x == 45) ≡ false = ne_eqb x 45 h in
     record { plain = rw no refl; other = rw no refl }

@@ -2,8 +2,8 @@ use Rattle.std.proofs.Common.{◌<◌, ◌∙◌, sym, ap, subst, Some, codes}
 use Rattle.clap.proofs.WalkLemmas.{first_value-rows, one_text-rows}
 use Rattle.clap.specs.Matches.{found_of, one_text}
 use Rattle.clap.specs.Walk.{rows_of}
-use Rattle.ec_words.proofs.AskedLemmas.{any_none, byte_read, meets_no_frame, meets_no_slaves}
-use Rattle.ec_words.proofs.asked.read_command.Goals as goal
+use Rattle.ec_args.proofs.RequestLemmas.{any_none, byte_read, meets_no_frame, meets_no_slaves}
+use Rattle.ec_args.proofs.request.read_command.Goals as goal
 
 pub returns-in_ok-get_str-in-pass-clause-some : goal.returns-in_ok-get_str-in-pass-clause-some
 returns-in_ok-get_str-in-pass-clause-some c =
