@@ -5,11 +5,7 @@ ghost use Rattle.ec_app.specs.Printing.{AppendsPart};
 ghost use Rattle.ec_app.specs.Refusals.{line_of};
 
 use crate::Refusal;
-use arrayvec::ArrayString;
 use std::io::{ErrorKind, Write};
-
-/// More than the longest line of a refusal has.
-const LINE_SIZE: usize = 160;
 
 /// Writes all of a text; a refused write leaves some first part of it.
 fn write_text<W: Write>(text: &[u8], output: &mut W) -> Result<(), Refusal>
@@ -53,9 +49,8 @@ pub fn tell<F: Write>(refusal: &Refusal, faults: &mut F) -> Result<(), Refusal>
     ensures part { OnErr result
         (AppendsPart (F.contents faults.old) (F.contents faults.new) (line_of refusal.now)) }
 {
-    let mut line = ArrayString::<LINE_SIZE>::new();
-    if writeln!(line, "ecat: {refusal}").is_err() {
-        return Err(Refusal::Output);
+    match refusal.line() {
+        Ok(line) => print_text(line.as_bytes(), faults),
+        Err(_) => Err(Refusal::Output),
     }
-    print_text(line.as_bytes(), faults)
 }

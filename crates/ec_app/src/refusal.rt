@@ -1,8 +1,12 @@
-use arrayvec::ArrayVec;
+use arrayvec::{ArrayString, ArrayVec};
 use ec_frame::FrameError;
 use std::alloc::{AllocError, AllocFailed};
 use std::error::Error;
 use std::fmt;
+use std::fmt::Write as _;
+
+/// More bytes than a refusal's line has: its number, its name and four values have 110 at most.
+const LINE_SIZE: usize = 160;
 
 /// Why a command was refused. It prints as its number and its name, and behind them its values in
 /// decimal, with blanks between.
@@ -71,6 +75,20 @@ impl Refusal {
             37 | 41 | 42 | 43 => 4,
             _ => 3,
         }
+    }
+}
+
+impl Refusal {
+    ghost use Rattle.std.specs.Prelude.{◌≡◌, IfOk};
+    ghost use Rattle.ec_app.specs.Refusals.{line_of};
+
+    /// The line that tells the refusal. It takes no memory.
+    pub fn line(&self) -> Result<ArrayString<LINE_SIZE>, fmt::Error>
+        ensures { IfOk result (λ line. line.bytes ≡ line_of self.now) }
+    {
+        let mut line = ArrayString::new();
+        writeln!(line, "ecat: {self}")?;
+        Ok(line)
     }
 }
 

@@ -192,12 +192,30 @@ fn refuses_what_is_no_frame(rt: HostRuntime) -> Result<(), Fail> {
         expect_refusal(&rt, cut, "ecat: 2 Short\n")?;
     }
     for (row, told) in [
-        ("0d10 0701 0000 3001 0200 0000 0000 0000", "ecat: 4 BadLength\n"),
-        ("0e10 0701 0000 3001 ff07 0000 0000 0000", "ecat: 4 BadLength\n"),
-        ("0e10 0701 0000 3001 0280 0000 0000 0000", "ecat: 5 BadMore\n"),
-        ("0e10 0f01 0000 3001 0200 0000 0000 0000", "ecat: 6 BadCommand\n"),
-        ("0e20 0701 0000 3001 0200 0000 0000 0000", "ecat: 3 BadType\n"),
-        ("bf15 0701 0000 3001 0200 0000 0000 0000", "ecat: 7 TooLong\n"),
+        (
+            "0d10 0701 0000 3001 0200 0000 0000 0000",
+            "ecat: 4 BadLength\n",
+        ),
+        (
+            "0e10 0701 0000 3001 ff07 0000 0000 0000",
+            "ecat: 4 BadLength\n",
+        ),
+        (
+            "0e10 0701 0000 3001 0280 0000 0000 0000",
+            "ecat: 5 BadMore\n",
+        ),
+        (
+            "0e10 0f01 0000 3001 0200 0000 0000 0000",
+            "ecat: 6 BadCommand\n",
+        ),
+        (
+            "0e20 0701 0000 3001 0200 0000 0000 0000",
+            "ecat: 3 BadType\n",
+        ),
+        (
+            "bf15 0701 0000 3001 0200 0000 0000 0000",
+            "ecat: 7 TooLong\n",
+        ),
         ("0e1", "ecat: 40 BadHex\n"),
         ("0e10 zz", "ecat: 40 BadHex\n"),
     ] {
@@ -259,8 +277,14 @@ fn prints_the_help_that_is_asked_for(rt: HostRuntime) {
     expect_usage(&rt, &["ecat", "help", "pass"], 0, b"Passes a frame");
     expect_usage(&rt, &["ecat", "--version"], 0, b"ecat 0.1.0\n");
     for (args, line) in [
-        (["ecat", "--help"].as_slice(), "3  refused: standard error has a line"),
-        (["ecat", "pass", "--help"].as_slice(), "40 BadHex      HEX isn't pairs of hex digits"),
+        (
+            ["ecat", "--help"].as_slice(),
+            "3  refused: standard error has a line",
+        ),
+        (
+            ["ecat", "pass", "--help"].as_slice(),
+            "40 BadHex      HEX isn't pairs of hex digits",
+        ),
     ] {
         let (mut output, mut faults) = (Vec::new(rt.alloc()), Vec::new(rt.alloc()));
         let mut input: &[u8] = b"";
@@ -283,14 +307,20 @@ fn tells_a_full_output(rt: HostRuntime) {
 #[test]
 fn hands_on_what_it_prints(rt: HostRuntime) {
     let mut input: &[u8] = b"";
-    for args in [["ecat", "pass", "--slaves=3", FRAME].as_slice(), &["ecat", "--help"]] {
+    for args in [
+        ["ecat", "pass", "--slaves=3", FRAME].as_slice(),
+        &["ecat", "--help"],
+    ] {
         let mut faults: Vec<u8> = Vec::new(rt.alloc());
         let mut output = Stuck { flushes: 0 };
         let status = run_command(&rt, args, &mut input, &mut output, &mut faults, &mut Idle);
         assert_eq!(rt; (status, output.flushes), (4, 1), "{args:?}");
         assert_eq!(rt; faults.as_slice(), b"ecat: 41 Output\n".as_slice());
     }
-    for (args, ends) in [(["ecat", "pass", "--slaves=3", "0e1"].as_slice(), 3), (&["ecat"], 2)] {
+    for (args, ends) in [
+        (["ecat", "pass", "--slaves=3", "0e1"].as_slice(), 3),
+        (&["ecat"], 2),
+    ] {
         let mut output: Vec<u8> = Vec::new(rt.alloc());
         let mut faults = Stuck { flushes: 0 };
         let status = run_command(&rt, args, &mut input, &mut output, &mut faults, &mut Idle);
