@@ -1,4 +1,5 @@
 pub mod Lookups
+pub mod Naming
 pub mod InOrder
 pub mod Meets
 pub mod SoundReads

@@ -25,7 +25,8 @@ use Rattle.ec_table.specs.Contents.{pdos_toward}
 use Rattle.ec_table.specs.Fields.{◌>>=◌, must, keys_are, mailbox_of, mailbox_in, direction_in, truth_in}
 use Rattle.ec_table.specs.InOrder.{members_in, rows_after}
 use Rattle.ec_table.specs.Pdos.{entry_of, entry_row, array_of, array_in, pdo_of, pdo_row, pdos_in, indices_of, has_twice}
-use Rattle.ec_table.specs.Reading.{is_type_name, device_in, process_in, process_twice, type_at, type_element, is_variable_name, variable_at, variable_element}
+use Rattle.ec_table.specs.Reading.{device_in, process_in, process_twice, type_at, type_element, variable_at, variable_element}
+use Rattle.ec_table.specs.Names.{is_named, place_named}
 use Rattle.ec_table.specs.Sound.{IsOnce, IsDevice, IsMailbox, IsEntry, IsPdo, ArePdos, IsType, AreTypes, IsVariable, AreVariables, first_index, last_index}
 use Rattle.ec_table.proofs.Meets.{Meets, meets_ok, meets_then, any_met, must_met, number_met, name_met, rows_met}
 
@@ -154,8 +155,8 @@ type_met v p ms found =
     meets_then _ (NewType found) _ _ (mailbox_met p (get_member (codes "mailbox") ms)) (λ mailbox hmailbox.
     meets_then _ (NewType found) _ _ (process_met p ms) (λ process hprocess.
     meets_then _ (NewType found) _ _ (any_met (truth_in p (get_member (codes "lrw") ms))) (λ lrw _.
-    meets_then _ (NewType found) _ _ (must_met (not (is_type_name name found || process_twice process)) (TwiceNamed p)) (λ w hw.
-    let parts : (is_type_name name found ≡ false) × (process_twice process ≡ false) = or_parts (is_type_name name found) (process_twice process) (not_true _ hw) in
+    meets_then _ (NewType found) _ _ (must_met (not (is_named (λ (t : TypeRow). t.name) name found || process_twice process)) (TwiceNamed p)) (λ w hw.
+    let parts : (is_named (λ (t : TypeRow). t.name) name found ≡ false) × (process_twice process ≡ false) = or_parts (is_named (λ (t : TypeRow). t.name) name found) (process_twice process) (not_true _ hw) in
     meets_ok (NewType found) (record { name = name; device = device; mailbox = mailbox; process = process; lrw = lrw }) (record {
       sound = record {
         name = hname;
@@ -187,7 +188,7 @@ variable_met v p ms found =
     meets_then _ (NewVariable found) _ _ (name_met p (get_member (codes "name") ms)) (λ name hname.
     meets_then _ (NewVariable found) _ _ (any_met (direction_in p (get_member (codes "dir") ms))) (λ direction _.
     meets_then _ (NewVariable found) _ _ (number_met p 1 64 (get_member (codes "bits") ms)) (λ bits hbits.
-    meets_then _ (NewVariable found) _ _ (must_met (not (is_variable_name name found)) (TwiceNamed p)) (λ w hw.
+    meets_then _ (NewVariable found) _ _ (must_met (not (is_named (λ (w : VariableRow). w.name) name found)) (TwiceNamed p)) (λ w hw.
     meets_ok (NewVariable found) (record { name = name; direction = direction; bits = bits }) (record {
       sound = record { name = hname; least = hbits.0; most = hbits.1 };
       fresh = fresh (λ (x : VariableRow). x.name) name found (not_true _ hw);

@@ -23,7 +23,8 @@ use Rattle.ec_table.specs.declared.rows.LinkBits.{LinkBits}
 use Rattle.ec_table.specs.Fields.{number_in, name_in, mailbox_of, mailbox_in, direction_in, link_bits_of, link_bits_in}
 use Rattle.ec_table.specs.InOrder.{rows_after}
 use Rattle.ec_table.specs.Pdos.{entry_of, entry_row, array_of, array_in, pdo_of, pdo_row, pdos_in, number_row, number_list, numbers_in}
-use Rattle.ec_table.specs.Reading.{is_variable_name, variable_at}
+use Rattle.ec_table.specs.Reading.{variable_at}
+use Rattle.ec_table.specs.Names.{is_named, place_named}
 use Rattle.ec_table.specs.Sound.{IsName, IsMailbox, IsEntry, IsPdo, ArePdos, IsVariable, IsBits, first_index, last_index}
 use Rattle.ec_table.proofs.SoundRows.{false_from}
 use Rattle.ec_table.specs.Writing.{number, array_of_all, entry_data, pdo_data, mailbox_data, direction_text, variable_members, bits_data}
@@ -117,6 +118,6 @@ not_before name_of before x after xs e h =
 
 -- ---- variables
 
-pub variable_reads : (v : Version) (p : Place) (w : VariableRow) (found : List VariableRow) → IsVariable w → is_variable_name w.name found ≡ false → variable_at v p (variable_members w) found ≡ Ok w
+pub variable_reads : (v : Version) (p : Place) (w : VariableRow) (found : List VariableRow) → IsVariable w → is_named (λ (w : VariableRow). w.name) w.name found ≡ false → variable_at v p (variable_members w) found ≡ Ok w
 unfolding variable_at
 variable_reads v p w found h fresh = rw (name_reads p w.name h.name, direction_reads p w.direction, number_reads p 1 64 w.bits h.least h.most, fresh) refl

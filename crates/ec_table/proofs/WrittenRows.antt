@@ -17,7 +17,8 @@ use Rattle.ec_table.specs.declared.rows.VariableRow.{VariableRow}
 use Rattle.ec_table.specs.Fields.{mailbox_in}
 use Rattle.ec_table.specs.InOrder.{rows_after}
 use Rattle.ec_table.specs.Pdos.{indices_of, has_twice}
-use Rattle.ec_table.specs.Reading.{is_type_name, device_in, process_in, process_twice, type_at, type_element, variable_element}
+use Rattle.ec_table.specs.Reading.{device_in, process_in, process_twice, type_at, type_element, variable_element}
+use Rattle.ec_table.specs.Names.{is_named, place_named}
 use Rattle.ec_table.specs.Sound.{IsOnce, IsDevice, IsType, AreTypes, IsVariable, AreVariables}
 use Rattle.ec_table.specs.Writing.{type_members, variable_members}
 use Rattle.ec_table.proofs.Written.{number_reads, name_reads, mailbox_reads, rows_written, middle, pdos_read, not_before, variable_reads}
@@ -59,7 +60,7 @@ process_reads p name device (Some m) process lrw h = rw (number_reads p 0 65535 
 no_process_twice : (name : List ℕ) (device : Device) (o : Option Mailbox) (process : ProcessData) (lrw : Bool) → IsType (row name device o process lrw) → process_twice process ≡ false
 no_process_twice name device o process lrw h = or_from _ _ (test_from_once (indices_of process.outputs) (h.pdos Out).once) (test_from_once (indices_of process.inputs) (h.pdos In).once)
 
-fields_read : (v : Version) (p : Place) (name : List ℕ) (device : Device) (o : Option Mailbox) (process : ProcessData) (lrw : Bool) (found : List TypeRow) → IsType (row name device o process lrw) → is_type_name name found ≡ false → type_at v p (type_members (row name device o process lrw)) found ≡ Ok (row name device o process lrw)
+fields_read : (v : Version) (p : Place) (name : List ℕ) (device : Device) (o : Option Mailbox) (process : ProcessData) (lrw : Bool) (found : List TypeRow) → IsType (row name device o process lrw) → is_named (λ (t : TypeRow). t.name) name found ≡ false → type_at v p (type_members (row name device o process lrw)) found ≡ Ok (row name device o process lrw)
 unfolding type_at mailbox_in
 fields_read v p name device None process lrw found h fresh =
     let r = row name device None process lrw in
@@ -67,7 +68,7 @@ fields_read v p name device None process lrw found h fresh =
 fields_read v p name device (Some m) process lrw found h fresh =
     rw (name_reads p name h.name, device_reads p name device (Some m) process lrw h.device, mailbox_reads p m (h.mailbox m refl), process_reads p name device (Some m) process lrw h, fresh, no_process_twice name device (Some m) process lrw h) refl
 
-pub type_reads : (v : Version) (p : Place) (t : TypeRow) (found : List TypeRow) → IsType t → is_type_name t.name found ≡ false → type_at v p (type_members t) found ≡ Ok t
+pub type_reads : (v : Version) (p : Place) (t : TypeRow) (found : List TypeRow) → IsType t → is_named (λ (t : TypeRow). t.name) t.name found ≡ false → type_at v p (type_members t) found ≡ Ok t
 type_reads v p t found h fresh = fields_read v p t.name t.device t.mailbox t.process t.lrw found h fresh
 
 pub types_read : (v : Version) (ts : List TypeRow) → AreTypes ts → rows_after (type_element v) [] 0 (items_of (map (λ t. table (type_members t)) ts)) ≡ Ok ts

@@ -26,7 +26,8 @@ use Rattle.ec_table.specs.Contents.{Contents, pdos_toward, assigned_toward}
 use Rattle.ec_table.specs.Fields.{number_in, section_in, are_tables, version_in}
 use Rattle.ec_table.specs.InOrder.{rows_after}
 use Rattle.ec_table.specs.Pdos.{indices_of, has_twice}
-use Rattle.ec_table.specs.Reading.{is_slave_name, all_in, same_list, assigned_in, slave_at, slave_element, slave_named, variable_named, link_at, link_element, table_of_document, top}
+use Rattle.ec_table.specs.Reading.{all_in, same_list, assigned_in, slave_at, slave_element, link_at, link_element, table_of_document, top}
+use Rattle.ec_table.specs.Names.{is_named, place_named}
 use Rattle.ec_table.specs.Sound.{IsName, IsPdo, IsType, AreTypes, IsAssignment, IsSlave, AreSlaves, IsVariable, AreVariables, IsLink, IsSound, first_index, last_index}
 use Rattle.ec_table.specs.Writing.{number, array_of_all, type_members, slave_members, variable_members, link_members, version_number, document_of}
 use Rattle.ec_table.proofs.Written.{number_reads, name_reads, bits_read, rows_written, middle, numbers_read, differ, not_before}
@@ -97,10 +98,10 @@ assignment_fits p t s h =
     λ none. both (same_list s.outputs (indices_of t.process.outputs)) (same_list s.inputs (indices_of t.process.inputs)) ((bytes_eq-Decides s.outputs (indices_of t.process.outputs)).1 ((h Out).fixed none)) ((bytes_eq-Decides s.inputs (indices_of t.process.inputs)).1 ((h In).fixed none)) in
     rw (all_in_from s.outputs (indices_of t.process.outputs) (h Out).known, all_in_from s.inputs (indices_of t.process.inputs) (h In).known, fixed_or_mailbox t.mailbox (same_list s.outputs (indices_of t.process.outputs) && same_list s.inputs (indices_of t.process.inputs)) same) refl
 
-no_double : (s : SlaveRow) (t : TypeRow) (found : List SlaveRow) → ((d : Direction) → IsAssignment t.mailbox (pdos_toward d t) (assigned_toward d s)) → is_slave_name s.name found ≡ false → (is_slave_name s.name found || (has_twice s.outputs || has_twice s.inputs)) ≡ false
-no_double s t found h fresh = or_from (is_slave_name s.name found) (has_twice s.outputs || has_twice s.inputs) fresh (or_from (has_twice s.outputs) (has_twice s.inputs) (test_from_once s.outputs (h Out).once) (test_from_once s.inputs (h In).once))
+no_double : (s : SlaveRow) (t : TypeRow) (found : List SlaveRow) → ((d : Direction) → IsAssignment t.mailbox (pdos_toward d t) (assigned_toward d s)) → is_named (λ (s : SlaveRow). s.name) s.name found ≡ false → (is_named (λ (s : SlaveRow). s.name) s.name found || (has_twice s.outputs || has_twice s.inputs)) ≡ false
+no_double s t found h fresh = or_from (is_named (λ (s : SlaveRow). s.name) s.name found) (has_twice s.outputs || has_twice s.inputs) fresh (or_from (has_twice s.outputs) (has_twice s.inputs) (test_from_once s.outputs (h Out).once) (test_from_once s.inputs (h In).once))
 
-pub slave_reads : (v : Version) (ts : List TypeRow) (p : Place) (s : SlaveRow) (found : List SlaveRow) (t : TypeRow) → AreTypes ts → IsSlave v ts s → slice_get ts s.type_place ≡ Some t → is_slave_name s.name found ≡ false → slave_at v ts p (slave_members v ts s) found ≡ Ok s
+pub slave_reads : (v : Version) (ts : List TypeRow) (p : Place) (s : SlaveRow) (found : List SlaveRow) (t : TypeRow) → AreTypes ts → IsSlave v ts s → slice_get ts s.type_place ≡ Some t → is_named (λ (s : SlaveRow). s.name) s.name found ≡ false → slave_at v ts p (slave_members v ts s) found ≡ Ok s
 unfolding slave_at
 slave_reads One ts p s found t types h is fresh =
     let kind : IsType t = type_at_place ts s.type_place t types is in

@@ -1,6 +1,7 @@
 pub mod Faults
 pub mod Contents
 pub mod Fields
+pub mod Names
 pub mod InOrder
 pub mod Pdos
 pub mod Reading
