@@ -2,6 +2,7 @@ pub mod Lookups
 pub mod Naming
 pub mod InOrder
 pub mod Meets
+pub mod Ranges
 pub mod SoundReads
 pub mod SoundRows
 pub mod ObjectLemmas

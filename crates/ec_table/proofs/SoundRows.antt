@@ -37,6 +37,7 @@ use Rattle.ec_table.specs.Pdos.{indices_of, has_twice, numbers_in}
 use Rattle.ec_table.specs.Reading.{all_in, same_list, assigned_in, slave_at, slave_element, all_bits, link_at, link_element, type_element, variable_element, top, table_of_document, table_of}
 use Rattle.ec_table.specs.Names.{is_named, place_named}
 use Rattle.ec_table.specs.Sound.{IsOnce, IsType, AreTypes, IsAssignment, IsSlave, AreSlaves, IsVariable, AreVariables, IsBits, IsLink, IsSound, IsName}
+use Rattle.ec_table.proofs.Ranges.{pdos_toward_read}
 use Rattle.ec_table.proofs.Meets.{Meets, meets_ok, meets_then, any_met, must_met, ok_or_met, number_met, name_met, rows_met}
 use Rattle.ec_table.proofs.SoundReads.{once_from_test, not_true, fresh, members_met, types_met, variables_met}
 
@@ -159,8 +160,8 @@ slave_met v ts p ms found types =
           subst (NewSlave v ts found) fits.same (record {
             sound = slave_sound v ts place t row types is refl (record { same = refl; known = fits.known; fixed = fits.fixed })
                 (λ d. elim d as (λ d. IsOnce (assigned_toward d row)) [
-                  | Out ↦ once_or_all outputs (indices_of t.process.outputs) lists.0 (kind.pdos Out).once
-                  | In ↦ once_or_all inputs (indices_of t.process.inputs) lists.1 (kind.pdos In).once
+                  | Out ↦ once_or_all outputs (indices_of t.process.outputs) lists.0 (pdos_toward_read t kind Out).once
+                  | In ↦ once_or_all inputs (indices_of t.process.inputs) lists.1 (pdos_toward_read t kind In).once
                 ])
                 hname hserial.0 hunit.0 (λ one. hunit.1 (no_unit v ms keys one));
             fresh = fresh (λ (s : SlaveRow). s.name) name found twice.0;

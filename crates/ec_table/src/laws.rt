@@ -9,6 +9,7 @@ pub fn accepted_is_sound()
 {}
 
 /// A document whose every element passes its own tests is accepted.
+#[tactic(auto, using(crate::proofs::ElementByElement::accepted))]
 pub fn accepted_element_by_element()
     ensures { AcceptedElementByElement }
 {}
@@ -24,6 +25,7 @@ pub fn faults_have_their_place()
 {}
 
 /// Each sound table is what some document states: its own, with each key written out.
+#[tactic(auto, using(crate::proofs::WrittenWhole::document_reads))]
 pub fn written_is_read()
     ensures { WrittenIsRead }
 {}

@@ -4,7 +4,7 @@ ghost use Rattle.ec_table.specs.InOrder.{Gives, rows_after};
 ghost use Rattle.ec_table.specs.Reading.{all_bits, link_at, link_element};
 
 use crate::fault::{Fault, Place, Section, TableError};
-use crate::fields::{Shape, keys_are, link_bits_in, member, name_in, number_in};
+use crate::fields::{MAX_U8, MAX_U16, Shape, keys_are, link_bits_in, member, name_in, number_in};
 use crate::named::NamedRows;
 use crate::rows::{LinkBits, LinkRow, SlaveRow, VariableRow, Version};
 use ec_regs::Listed;
@@ -41,8 +41,8 @@ fn link_at(
     }
     let variable_name = name_in(place, member(members, "var"))?;
     let slave_name = name_in(place, member(members, "slave"))?;
-    let index = number_in(place, member(members, "index"), 1, 65535)?;
-    let subindex = number_in(place, member(members, "sub"), 0, 255)?;
+    let index = number_in(place, member(members, "index"), 1, MAX_U16)?;
+    let subindex = number_in(place, member(members, "sub"), 0, MAX_U8)?;
     let bits = link_bits_in(place, member(members, "bits"))?;
     let Some(at) = variables.place_of(variable_name) else {
         return Err(Fault::UnknownName(place));

@@ -7,9 +7,9 @@ ghost use Rattle.ec_table.specs.Reading.{all_in, assigned_in, slave_at, slave_el
 use crate::fault::{Fault, Place, Section, TableError};
 use crate::fields::{Shape, keys_are, member, name_in, number_or_0};
 use crate::named::{Named, NamedRows};
-use crate::pdos::{has_twice, indices_of, is_in, numbers_in};
+use crate::pdos::{LAST_INPUT_INDEX, LAST_OUTPUT_INDEX, has_twice, indices_of, is_in, numbers_in};
 use crate::rows::{Name, SlaveRow, TypeRow, Version};
-use ec_regs::{Listed, Pdo};
+use ec_regs::{FIRST_INPUT_INDEX, FIRST_OUTPUT_INDEX, Listed, Pdo};
 use std::alloc::{AllocError, Global};
 use toml::Value;
 
@@ -92,8 +92,20 @@ fn with_slave<'a>(
     }
     let name = name_in(place, member(members, "name"))?;
     let type_name = name_in(place, member(members, "type"))?;
-    let outputs = numbers_in(alloc, place, member(members, "out"), 0x1600, 0x17FF)?;
-    let inputs = numbers_in(alloc, place, member(members, "in"), 0x1A00, 0x1BFF)?;
+    let outputs = numbers_in(
+        alloc,
+        place,
+        member(members, "out"),
+        FIRST_OUTPUT_INDEX,
+        LAST_OUTPUT_INDEX,
+    )?;
+    let inputs = numbers_in(
+        alloc,
+        place,
+        member(members, "in"),
+        FIRST_INPUT_INDEX,
+        LAST_INPUT_INDEX,
+    )?;
     let serial = number_or_0(place, member(members, "serial"), u32::MAX)?;
     let unit = number_or_0(place, member(members, "unit"), 63)?;
     if found.has(name) || (twice_in(&outputs) || twice_in(&inputs)) {

@@ -5,11 +5,11 @@ ghost use Rattle.ec_table.specs.Pdos.{has_twice, indices_of};
 ghost use Rattle.ec_table.specs.Reading.{device_in, process_in, process_twice, type_at, type_element};
 
 use crate::fault::{Fault, Place, Section, TableError};
-use crate::fields::{Shape, keys_are, mailbox_in, member, name_in, number_in, truth_in};
+use crate::fields::{MAX_U16, Shape, keys_are, mailbox_in, member, name_in, number_in, truth_in};
 use crate::named::{Named, NamedRows};
-use crate::pdos::{has_twice, indices_of, pdos_in};
-use crate::rows::{Device, Name, ProcessData, TypeRow, Version};
-use ec_regs::Pdo;
+use crate::pdos::{LAST_INPUT_INDEX, LAST_OUTPUT_INDEX, has_twice, indices_of, pdos_in};
+use crate::rows::{Name, ProcessData, TypeRow, Version};
+use ec_regs::{Device, FIRST_INPUT_INDEX, FIRST_OUTPUT_INDEX, Pdo};
 use std::alloc::{AllocError, Global};
 use toml::Value;
 
@@ -37,10 +37,22 @@ fn device_in(place: Place, members: &toml::Table) -> Result<Device, Fault>
 fn process_in(alloc: Global, place: Place, members: &toml::Table) -> Result<ProcessData, TableError>
     ensures { Gives result (process_in place (table_view members.now)) }
 {
-    let out_start = number_in(place, member(members, "out_start"), 0, 65535)?;
-    let in_start = number_in(place, member(members, "in_start"), 0, 65535)?;
-    let outputs = pdos_in(alloc, place, member(members, "rxpdo"), 0x1600, 0x17FF)?;
-    let inputs = pdos_in(alloc, place, member(members, "txpdo"), 0x1A00, 0x1BFF)?;
+    let out_start = number_in(place, member(members, "out_start"), 0, MAX_U16)?;
+    let in_start = number_in(place, member(members, "in_start"), 0, MAX_U16)?;
+    let outputs = pdos_in(
+        alloc,
+        place,
+        member(members, "rxpdo"),
+        FIRST_OUTPUT_INDEX,
+        LAST_OUTPUT_INDEX,
+    )?;
+    let inputs = pdos_in(
+        alloc,
+        place,
+        member(members, "txpdo"),
+        FIRST_INPUT_INDEX,
+        LAST_INPUT_INDEX,
+    )?;
     Ok(ProcessData {
         out_start: out_start as u16,
         in_start: in_start as u16,
