@@ -11,3 +11,5 @@ pub mod Written
 pub mod WrittenRows
 pub mod WrittenWhole
 pub mod ElementByElement
+pub mod DocumentFaults
+pub mod Defaults

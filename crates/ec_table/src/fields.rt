@@ -137,13 +137,6 @@ pub fn keys_are(shape: Shape, version: Version, members: &toml::Table) -> bool
 fn each_key(shape: Shape, version: Version, members: &toml::Table) -> bool
     ensures { result ≡ each_key (is_key shape version) (table_view members.now) }
 {
-    each_entry_key(shape, version, members)
-}
-
-fn each_entry_key(shape: Shape, version: Version, members: &toml::Table) -> bool
-    ensures { result
-        ≡ list_all (λ k. is_key shape version (string_bytes k)) (keys_of members.now.entries) }
-{
     members
         .keys()
         .all(|key| is_key(shape, version, key.as_str()))
@@ -305,7 +298,7 @@ pub fn truth_in(place: Place, value: Option<&Value>) -> Result<bool, Fault>
     }
 }
 
-fn is_table_value(value: &Value) -> bool
+fn is_table(value: &Value) -> bool
     ensures { result ≡ is_table (view value.now) }
 {
     value.as_table().is_some()
@@ -315,13 +308,7 @@ fn is_table_value(value: &Value) -> bool
 fn are_tables(elements: &[Value]) -> bool
     ensures { result ≡ are_tables (items_view elements.now) }
 {
-    each_is_table(elements)
-}
-
-fn each_is_table(elements: &[Value]) -> bool
-    ensures { result ≡ list_all (λ v. is_table (view v)) elements.now }
-{
-    elements.iter().all(|value| is_table_value(value))
+    elements.iter().all(|value| is_table(value))
 }
 
 /// The elements of a section, none where it is left out.
