@@ -137,6 +137,14 @@ pub fn keys_are(shape: Shape, version: Version, members: &toml::Table) -> bool
 fn each_key(shape: Shape, version: Version, members: &toml::Table) -> bool
     ensures { result ≡ each_key (is_key shape version) (table_view members.now) }
 {
+    each_map_key(shape, version, members)
+}
+
+/// The same, said of the keys of the map that a table is.
+fn each_map_key(shape: Shape, version: Version, members: &toml::Table) -> bool
+    ensures { result
+        ≡ list_all (λ k. is_key shape version (string_bytes k)) (keys_of members.now.entries) }
+{
     members
         .keys()
         .all(|key| is_key(shape, version, key.as_str()))
@@ -307,6 +315,13 @@ fn is_table(value: &Value) -> bool
 #[tactic(auto, using(crate::proofs::Lookups::are_tables_of))]
 fn are_tables(elements: &[Value]) -> bool
     ensures { result ≡ are_tables (items_view elements.now) }
+{
+    each_is_table(elements)
+}
+
+/// The same, said of the values of the array.
+fn each_is_table(elements: &[Value]) -> bool
+    ensures { result ≡ list_all (λ v. is_table (view v)) elements.now }
 {
     elements.iter().all(|value| is_table(value))
 }
