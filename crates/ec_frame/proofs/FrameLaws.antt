@@ -1,5 +1,5 @@
 -- A frame's datagrams are read back from its bytes, and its data are bytes; a payload is a frame or is refused.
-use Rattle.std.proofs.Common.{◌≡◌, ◌≢◌, ℕ, zero, suc, ◌+◌, ◌<◌, ◌≤◌, Bool, true, false, if◌then◌else◌, ltb, eqb, leb, List, [], ◌∷◌, ◌++◌, ◌⊎◌, length, get_or, drop, refl, sym, ap, subst, ◌∙◌, arith, inl, inr, Result, Ok, Err}
+use Rattle.std.proofs.Common.{◌≡◌, ◌≢◌, ℕ, zero, suc, ◌+◌, ◌<◌, ◌≤◌, Bool, true, false, if◌then◌else◌, eqb, leb, List, [], ◌∷◌, ◌++◌, ◌⊎◌, length, get_or, drop, refl, ap, subst, ◌∙◌, arith, inl, inr, Result, Ok, Err}
 use Rattle.std.specs.List.{AllByRecursion}
 use Rattle.std.proofs.Math.Bool.{not, beq}
 use Rattle.std.proofs.lemmas.Bool.{cases_lt}
@@ -9,11 +9,11 @@ use Rattle.ec_frame.specs.declared.checking.Shape.{Shape}
 use Rattle.ec_frame.specs.declared.error.FrameError.{FrameError}
 use Rattle.ec_frame.specs.declared.error.FrameError.TheVariants.{Short, BadType, TooLong, BadLength, BadCommand, BadMore}
 use Rattle.ec_frame.specs.Datagram.{Datagram, IsDatagram, data_length, heading, is_followed, joined, spelling}
-use Rattle.ec_frame.specs.Decoded.{after_data, datagrams_in, datagrams_of, decoded}
+use Rattle.ec_frame.specs.Decoded.{after_data, datagrams_in, decoded}
 use Rattle.ec_frame.specs.Frame.{IsByte, IsFrame, Payload, area, length_field, type_field}
 use Rattle.ec_frame.specs.Laws.{DataAreBytes, FramesAreDecoded, IsFrameOrRefused}
 use Rattle.ec_frame.specs.Reading.{GivesCount, GivesVerdict, HasShape}
-use Rattle.ec_frame.specs.Refusals.{FaultAt, FirstFault, HasArea, HasHeader, IsRefused}
+use Rattle.ec_frame.specs.Refusals.{FaultAt, HasArea, HasHeader, IsRefused}
 use Rattle.ec_frame.proofs.Numbers.{IsBytes, IsBytes-drop, IsBytes-take, all_left, all_right, bytes_of_all}
 use Rattle.ec_frame.proofs.Decoding.{after_again, decoded_again}
 use Rattle.ec_frame.proofs.Shapes.{shape_found, bad_command, bad_more}

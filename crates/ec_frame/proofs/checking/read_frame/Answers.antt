@@ -1,4 +1,4 @@
-use Rattle.std.proofs.Common.{◌≡◌, ℕ, ◌+◌, ◌-◌, ◌/◌, ◌%◌, take, drop, sym, ap, subst, ◌∙◌, arith}
+use Rattle.std.proofs.Common.{◌≡◌, ℕ, ◌+◌, ◌-◌, ◌/◌, take, drop, sym, ap, subst, ◌∙◌, arith}
 use Rattle.ec_frame.specs.Reading.{GivesCount}
 use Rattle.ec_frame.specs.Frame.{length_field}
 use Rattle.ec_frame.proofs.Verdict.{verdict_of}
