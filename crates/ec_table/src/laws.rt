@@ -4,6 +4,7 @@ ghost use Rattle.ec_table.specs.Laws.{AcceptedIsSound, FaultsHaveTheirPlace, Acc
 
 /// What is accepted has unique names, known references, values in range, and assigned objects of its type
 /// without a double.
+#[tactic(auto, using(crate::proofs::SoundRows::accepted_sound))]
 pub fn accepted_is_sound()
     ensures { AcceptedIsSound }
 {}
@@ -27,11 +28,13 @@ pub fn left_out_is_default()
 {}
 
 /// The first element in order that fails a test is told.
+#[tactic(auto, using(crate::proofs::ElementByElement::first_told))]
 pub fn first_fault_is_told()
     ensures { FirstFaultIsTold }
 {}
 
 /// A fault of an element carries its section and its place.
+#[tactic(auto, using(crate::proofs::Placed::placed))]
 pub fn faults_have_their_place()
     ensures { FaultsHaveTheirPlace }
 {}
@@ -43,6 +46,7 @@ pub fn written_is_read()
 {}
 
 /// A direction of a slave has as many object bits as its entries have bits, gaps with them.
+#[tactic(auto, using(crate::proofs::ObjectLemmas::object_bits_counted))]
 pub fn object_bits_are_counted()
     ensures { ObjectBitsAreCounted }
 {}
