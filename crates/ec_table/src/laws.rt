@@ -4,7 +4,6 @@ ghost use Rattle.ec_table.specs.Laws.{AcceptedIsSound, FaultsHaveTheirPlace, Acc
 
 /// What is accepted has unique names, known references, values in range, and assigned objects of its type
 /// without a double.
-#[tactic(auto, using(crate::proofs::SoundRows::accepted_sound))]
 pub fn accepted_is_sound()
     ensures { AcceptedIsSound }
 {}
