@@ -7,8 +7,8 @@ use Rattle.ec_slave.specs.Access.{Window, byte_from, retold}
 use Rattle.ec_slave.proofs.Choices.{none-from}
 use Rattle.ec_slave.proofs.Told.{told_along, told-none, told-step0, retold-whole}
 use Rattle.ec_slave.proofs.Windows.{from-at}
-use Rattle.ec_slave.proofs.managers.BytesWriting.fill.Goals as goal
-use Rattle.ec_slave.proofs.managers.BytesWriting.fill.Goals.{then-is_none, else-is_none}
+use Rattle.ec_slave.proofs.managers.Bytes.fill_zeros.Goals as goal
+use Rattle.ec_slave.proofs.managers.Bytes.fill_zeros.Goals.{then-is_none, else-is_none}
 
 -- byte k of a value that begins at `start`
 abbrev byte_under : List Manager → Window → ℕ → ℕ → Option ℕ
