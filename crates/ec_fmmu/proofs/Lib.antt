@@ -4,3 +4,4 @@ pub mod AppliedLaws
 pub mod RunLaws
 pub mod RangeLaws
 pub mod TouchLaws
+pub mod RunSettings

@@ -1,7 +1,7 @@
 -- Laws over the definitions of frames alone.
-use Rattle.std.specs.Prelude.{◌≡◌, ◌≤◌, Bool, ℕ, List, ◌++◌, length}
+use Rattle.std.specs.Prelude.{◌≡◌, ◌+◌, ◌*◌, ◌<◌, ◌≤◌, Bool, ℕ, List, ◌++◌, length}
 use Rattle.std.specs.List.{AllByRecursion}
-use Rattle.ec_frame.specs.Datagram.{Datagram, IsDatagram, spelling}
+use Rattle.ec_frame.specs.Datagram.{Datagram, IsDatagram, adp_of, ado_of, spelling}
 use Rattle.ec_frame.specs.Decoded.{datagrams_in}
 use Rattle.ec_frame.specs.Frame.{Payload, IsFrame}
 use Rattle.ec_frame.specs.Refusals.{opened}
@@ -20,3 +20,8 @@ NoSpellingBeginsAnother =
 abbrev pub SpellingsAreReadBack : Type 0
 SpellingsAreReadBack =
     (n : ℕ) (ds : List Datagram) → AllByRecursion IsDatagram ds → length ds ≤ n → datagrams_in n (opened ds) ≡ ds
+
+-- ADP and ADO are read back from the address that they make
+abbrev pub PhysicalAddressIsReadBack : Type 0
+PhysicalAddressIsReadBack =
+    (d : Datagram) (adp ado : ℕ) → adp < 65536 → d.address ≡ adp + 65536 * ado → (adp_of d ≡ adp) × (ado_of d ≡ ado)

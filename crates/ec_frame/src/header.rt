@@ -1,4 +1,4 @@
-ghost use Rattle.std.specs.Prelude.{◌≡◌, ◌/◌, ◌%◌, Bool};
+ghost use Rattle.std.specs.Prelude.{◌≡◌, ◌+◌, ◌*◌, ◌/◌, ◌%◌, Bool};
 ghost use Rattle.ec_frame.specs.Datagram.{Datagram, IsDatagram, IsSpelling, spelling};
 ghost use Rattle.ec_frame.specs.Fields.{header_of};
 
@@ -59,4 +59,12 @@ impl Header {
     {
         (self.address / 65536) as u16
     }
+}
+
+/// The address of a physical datagram: ADP, the position or station address of the slave that is
+/// meant, the low half, and ADO, the address in its memory, the high half.
+pub fn physical(adp: u16, ado: u16) -> u32
+    ensures { result ≡ adp + 65536 * ado }
+{
+    u32::from(adp) + 65536 * u32::from(ado)
 }

@@ -19,7 +19,7 @@ pub use crate::builder::{Builder, Frame, Full};
 pub use crate::command::Command;
 pub use crate::error::FrameError;
 pub use crate::fields::{read_counter, read_data, write_address, write_adp, write_counter};
-pub use crate::header::Header;
+pub use crate::header::{Header, physical};
 pub use crate::parts::{cut_counter, cut_heading};
 pub use crate::passing::{Handler, pass};
 pub use crate::places::{Places, Span};

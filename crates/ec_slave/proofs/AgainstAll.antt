@@ -1,20 +1,20 @@
 -- Lower-numbered managers, or all of them: the same values.
 use Rattle.std.proofs.Common.{ℕ, ◌+◌, ◌*◌, ◌/◌, ◌<◌, ◌≤◌, ◌≡◌, ◌==◌, ◌&&◌, Bool, true, false, Option, Some, None, refl, sym, ◌∙◌, ap, subst, inl, inr, arith, if◌then◌else◌, is_none, List, [], ◌∷◌, ◌++◌, length, unwrap_or, append_assoc, length-append}
 use Rattle.std.specs.List.{position_from}
-use Rattle.std.proofs.lemmas.Bool.{cases_Bool, and_parts, and_from, eq-eqb, ne_eqb}
+use Rattle.std.proofs.lemmas.Bool.{cases_Bool, and_left, and_right, and_parts, and_from, eq-eqb, ne_eqb}
 use Rattle.std.proofs.lemmas.List.{length-replicate}
 use Rattle.ec_bits.specs.Bits.{bit, zeros}
-use Rattle.ec_bits.proofs.AnyLaws.{if_true, if_false, within_true}
+use Rattle.ec_bits.proofs.AnyLaws.{any_below-alike, if_true, if_false, within_true}
 use Rattle.ec_bits.proofs.BitLaws.{overlay_alike}
 use Rattle.ec_regs.specs.declared.fmmu.FmmuSettings.{FmmuSettings}
 use Rattle.ec_regs.specs.Managers.{is_set, is_mailbox, span}
-use Rattle.ec_sync.specs.Manager.{Manager, empty_manager, may_write, is_enabled, ring_written}
+use Rattle.ec_sync.specs.Manager.{Manager, empty_manager, may_read, may_write, is_enabled, ring_read, ring_written}
 use Rattle.ec_sync.specs.Governing.{governor, governs, covers}
 use Rattle.ec_fmmu.specs.Applied.{Place, touched_by_reading, touched_by_writing}
-use Rattle.ec_slave.specs.Managers.{manager_after}
+use Rattle.ec_slave.specs.Managers.{gets_at, is_read_by, is_ungoverned, is_written_by, manager_after}
 use Rattle.ec_slave.specs.Access.{Window, touches, byte_from, retold_from, is_configured, settings_written, value_for, manager_met, managers_met}
 use Rattle.ec_slave.specs.Logical.{brought, value_brought, managers_exchanged}
-use Rattle.ec_slave.specs.AgainstAll.{is_governor, each_from, value_among, bits_among, PhysicalAgainstAll, LogicalAgainstAll}
+use Rattle.ec_slave.specs.AgainstAll.{is_governor, governs_among, each_from, value_among, bits_among, PhysicalAgainstAll, LogicalAgainstAll}
 
 abbrev or_after : Option ℕ → Option ℕ → Option ℕ
 or_after None o = o
@@ -42,10 +42,10 @@ position_from-below t k (x ∷ xs) i e = elim (cases_Bool (t x)) [
       omega arith
 ]
 
--- what a manager that governs a byte gets of it
-told_among : {X : Type 0} (lower : List Manager) (m : Manager) (ms : List Manager) (a : ℕ) (o : Option X) → governs m a ≡ true
-    → (if is_none (governor lower a) then o else None) ≡ (if is_governor (length lower) (governor (lower ++ m ∷ ms) a) then o else None)
-told_among {X} lower m ms a o g =
+-- a manager that has a byte in its span governs it among all where no lower one does
+own_among : (lower : List Manager) (m : Manager) (ms : List Manager) (a : ℕ) → governs m a ≡ true
+    → is_ungoverned lower a ≡ governs_among (lower ++ m ∷ ms) (length lower) a
+own_among lower m ms a g =
     let t = λ (x : Manager). governs x a in
     let whole : governor (lower ++ m ∷ ms) a ≡ or_after (governor lower a) (position_from t (length lower) (m ∷ ms))
     = let z : 0 + length lower ≡ length lower = omega arith in
@@ -56,25 +56,36 @@ told_among {X} lower m ms a o g =
     by_lower : (low : Option ℕ) → governor lower a ≡ low
         → governor (lower ++ m ∷ ms) a ≡ or_after (governor lower a) (position_from (λ (x : Manager). governs x a) (length lower) (m ∷ ms))
         → position_from (λ (x : Manager). governs x a) (length lower) (m ∷ ms) ≡ Some (length lower)
-        → (if is_none (governor lower a) then o else None) ≡ (if is_governor (length lower) (governor (lower ++ m ∷ ms) a) then o else None)
+        → is_ungoverned lower a ≡ governs_among (lower ++ m ∷ ms) (length lower) a
     by_lower None e whole here =
         let all : governor (lower ++ m ∷ ms) a ≡ Some (length lower) = whole ∙ (ap (λ w. or_after w (position_from (λ (x : Manager). governs x a) (length lower) (m ∷ ms))) e ∙ here) in
-        if_true _ _ _ (ap is_none e) ∙ sym (if_true _ _ _ (ap (is_governor (length lower)) all ∙ eq-eqb (length lower) (length lower) refl))
+        ap is_none e ∙ sym (ap (is_governor (length lower)) all ∙ eq-eqb (length lower) (length lower) refl)
     by_lower (Some i) e whole here =
         let all : governor (lower ++ m ∷ ms) a ≡ Some i = whole ∙ ap (λ w. or_after w (position_from (λ (x : Manager). governs x a) (length lower) (m ∷ ms))) e in
         let below : i < 0 + length lower = position_from-below (λ (x : Manager). governs x a) 0 lower i e in
         let other : (i == length lower) ≡ false = ne_eqb i (length lower) (λ q. omega arith) in
-        if_false _ _ _ (ap is_none e) ∙ sym (if_false _ _ _ (ap (is_governor (length lower)) all ∙ other))
+        ap is_none e ∙ sym (ap (is_governor (length lower)) all ∙ other)
 
--- a manager that may be written governs each byte of its value
-pub governs-value : (m : Manager) (k : ℕ) → may_write m ≡ true → k < m.settings.length → governs m (m.settings.start + k) ≡ true
-governs-value m k w l =
-    let set : is_set m.settings ≡ true = (and_parts (is_set m.settings) _ (and_parts (is_enabled m) _ w).0).0 in
+-- what a manager that governs a byte gets of it
+told_among : {X : Type 0} (lower : List Manager) (m : Manager) (ms : List Manager) (a : ℕ) (o : Option X) → governs m a ≡ true
+    → (if is_ungoverned lower a then o else None) ≡ (if governs_among (lower ++ m ∷ ms) (length lower) a then o else None)
+told_among lower m ms a o g = ap (λ (b : Bool). if b then o else None) (own_among lower m ms a g)
+
+-- a set manager governs each byte of its value
+pub governs-value : (m : Manager) (k : ℕ) → is_set m.settings ≡ true → k < m.settings.length → governs m (m.settings.start + k) ≡ true
+governs-value m k set l =
     let long : m.settings.length ≤ span m.settings = elim (cases_Bool (is_mailbox m.settings)) [
       | inl h ↦ let e : span m.settings ≡ m.settings.length = if_true _ _ _ h in omega arith
       | inr h ↦ let e : span m.settings ≡ 3 * m.settings.length = if_false _ _ _ h in omega arith
     ] in
     and_from _ _ set (within_true m.settings.start (span m.settings) (m.settings.start + k) (omega arith) (omega arith))
+
+-- one that may be written, or read, is set
+pub writable-set : (m : Manager) → may_write m ≡ true → is_set m.settings ≡ true
+writable-set m w = (and_parts (is_set m.settings) _ (and_parts (is_enabled m) _ w).0).0
+
+pub readable-set : (m : Manager) → may_read m ≡ true → is_set m.settings ≡ true
+readable-set m r = (and_parts (is_set m.settings) _ (and_parts (is_enabled m) _ r).0).0
 
 pub retold_alike : (k : ℕ) (xs : List ℕ) (f g : ℕ → Option ℕ) → ((i : ℕ) → i < k + length xs → f i ≡ g i) → retold_from k xs f ≡ retold_from k xs g
 retold_alike k [] f g h = refl
@@ -82,25 +93,45 @@ retold_alike k (x ∷ xs) f g h =
     ap (λ o. unwrap_or o x ∷ retold_from (k + 1) xs f) (h k (omega arith))
     ∙ ap (λ ys. unwrap_or (g k) x ∷ ys) (retold_alike (k + 1) xs f g (λ i l. h i (omega arith)))
 
--- a manager after an access goes by the value that it would get where it may be written, and by no other
-after_alike : (reads writes : Bool) (rt wt : ℕ → Bool) (v u : ℕ → ℕ → List ℕ) (m : Manager)
-    → (may_write m ≡ true → v m.settings.start m.settings.length ≡ u m.settings.start m.settings.length)
-    → manager_after reads writes rt wt v m ≡ manager_after reads writes rt wt u m
-after_alike reads writes rt wt v u m h = elim (cases_Bool (writes && (covers wt m && may_write m))) [
-  | inl t ↦
-      let w : may_write m ≡ true = (and_parts (covers wt m) (may_write m) (and_parts writes _ t).1).1 in
-      if_true _ _ _ t ∙ (ap (ring_written m) (h w) ∙ sym (if_true _ _ _ t))
-  | inr f ↦ if_false _ _ _ f ∙ sym (if_false _ _ _ f)
-]
+-- an access gets at a manager by the bytes of its value that are its own, and by no other
+gets_at-alike : (t own their : ℕ → Bool) (m : Manager) → ((k : ℕ) → k < m.settings.length → own (m.settings.start + k) ≡ their (m.settings.start + k))
+    → gets_at t own m ≡ gets_at t their m
+gets_at-alike t own their m h =
+    ap (λ (b : Bool). covers t m && b)
+    (any_below-alike m.settings.length _ _ (λ k l. ap (λ (b : Bool). t (m.settings.start + k) && b) (h k l)))
 
-value_for-among : (lower : List Manager) (m : Manager) (ms : List Manager) (w : Window) → may_write m ≡ true
+-- a manager after an access goes by what is said of it where it is set
+after_alike : (reads writes : Bool) (rt wt own their : ℕ → Bool) (v u : ℕ → ℕ → List ℕ) (m : Manager)
+    → (is_set m.settings ≡ true → (k : ℕ) → k < m.settings.length → own (m.settings.start + k) ≡ their (m.settings.start + k))
+    → (is_set m.settings ≡ true → v m.settings.start m.settings.length ≡ u m.settings.start m.settings.length)
+    → manager_after reads writes rt wt own v m ≡ manager_after reads writes rt wt their u m
+after_alike reads writes rt wt own their v u m h e = elim (cases_Bool (is_set m.settings)) [
+  | inl s ↦
+      let w = gets_at-alike wt own their m (h s) in
+      let r = gets_at-alike rt own their m (h s) in
+      ap (λ (b : Bool). if writes && (may_write m && b) then ring_written m (v m.settings.start m.settings.length) else (if reads && is_read_by rt own m then ring_read m else m)) w
+      ∙ (ap (λ (b : Bool). if writes && is_written_by wt their m then ring_written m (v m.settings.start m.settings.length) else (if reads && (may_read m && b) then ring_read m else m)) r
+      ∙ ap (λ (x : List ℕ). if writes && is_written_by wt their m then ring_written m x else (if reads && is_read_by rt their m then ring_read m else m)) (e s))
+  | inr f ↦ unset_stays own v f ∙ sym (unset_stays their u f)
+]
+  where
+    unset_stays : (mine : ℕ → Bool) (x : ℕ → ℕ → List ℕ) → is_set m.settings ≡ false → manager_after reads writes rt wt mine x m ≡ m
+    unset_stays mine x f =
+        if_false _ _ _ (and_right writes _ (and_left _ _ (and_left _ _ (and_left _ _ f))))
+        ∙ if_false _ _ _ (and_right reads _ (and_left _ _ (and_left _ _ (and_left _ _ f))))
+
+owned-among : (lower : List Manager) (m : Manager) (ms : List Manager) → is_set m.settings ≡ true → (k : ℕ) → k < m.settings.length
+    → is_ungoverned lower (m.settings.start + k) ≡ governs_among (lower ++ m ∷ ms) (length lower) (m.settings.start + k)
+owned-among lower m ms s k l = own_among lower m ms (m.settings.start + k) (governs-value m k s l)
+
+value_for-among : (lower : List Manager) (m : Manager) (ms : List Manager) (w : Window) → is_set m.settings ≡ true
     → value_for lower w m.settings.start m.settings.length ≡ value_among (lower ++ m ∷ ms) w (length lower) m.settings.start m.settings.length
 value_for-among lower m ms w h =
     retold_alike 0 (zeros m.settings.length) _ _ (λ k l.
     let z : k < m.settings.length = let e = length-replicate {A = ℕ} m.settings.length 0 in omega (arith, e) in
     told_among lower m ms (m.settings.start + k) (byte_from w (m.settings.start + k)) (governs-value m k h z))
 
-value_brought-among : (lower : List Manager) (m : Manager) (ms : List Manager) (fs : List FmmuSettings) (p : Place) (bytes : List ℕ) → may_write m ≡ true
+value_brought-among : (lower : List Manager) (m : Manager) (ms : List Manager) (fs : List FmmuSettings) (p : Place) (bytes : List ℕ) → is_set m.settings ≡ true
     → value_brought lower fs p bytes m.settings.start m.settings.length ≡ bits_among (lower ++ m ∷ ms) fs p bytes (length lower) m.settings.start m.settings.length
 value_brought-among lower m ms fs p bytes h =
     overlay_alike (zeros m.settings.length) _ _ (λ k l. ap (λ o. unwrap_or o (bit (zeros m.settings.length) k))
@@ -112,7 +143,7 @@ value_brought-among lower m ms fs p bytes h =
 abbrev physical_by : List Manager → Bool → Bool → Window → ℕ → Manager → Manager
 physical_by all reads writes w n m =
     if writes && is_configured w n then empty_manager (settings_written w n m) m.locked
-    else manager_after reads writes (touches w) (touches w) (value_among all w n) m
+    else manager_after reads writes (touches w) (touches w) (governs_among all n) (value_among all w n) m
 
 physical_from : (lower ms : List Manager) (reads writes : Bool) (w : Window)
     → managers_met lower reads writes w (length lower) ms ≡ each_from (length lower) (physical_by (lower ++ ms) reads writes w) ms
@@ -121,7 +152,7 @@ physical_from lower [] reads writes w = refl
 physical_from lower (m ∷ ms) reads writes w =
     let one : manager_met lower reads writes w (length lower) m ≡ physical_by (lower ++ m ∷ ms) reads writes w (length lower) m
     = ap (λ x. if writes && is_configured w (length lower) then empty_manager (settings_written w (length lower) m) m.locked else x)
-    (after_alike reads writes (touches w) (touches w) (value_for lower w) (value_among (lower ++ m ∷ ms) w (length lower)) m (value_for-among lower m ms w)) in
+    (after_alike reads writes (touches w) (touches w) (is_ungoverned lower) (governs_among (lower ++ m ∷ ms) (length lower)) (value_for lower w) (value_among (lower ++ m ∷ ms) w (length lower)) m (owned-among lower m ms) (value_for-among lower m ms w)) in
     let next : length (lower ++ m ∷ []) ≡ length lower + 1 = length-append lower (m ∷ []) in
     let all : (lower ++ m ∷ []) ++ ms ≡ lower ++ m ∷ ms = append_assoc lower (m ∷ []) ms in
     let rest : managers_met (lower ++ m ∷ []) reads writes w (length lower + 1) ms ≡ each_from (length lower + 1) (physical_by (lower ++ m ∷ ms) reads writes w) ms
@@ -137,14 +168,14 @@ physical_against_all reads writes w ms = physical_from [] ms reads writes w
 
 abbrev logical_by : List Manager → Bool → Bool → List FmmuSettings → Place → List ℕ → ℕ → Manager → Manager
 logical_by all reading writing fs p bytes n m =
-    manager_after reading writing (touched_by_reading fs p) (touched_by_writing fs p) (bits_among all fs p bytes n) m
+    manager_after reading writing (touched_by_reading fs p) (touched_by_writing fs p) (governs_among all n) (bits_among all fs p bytes n) m
 
 logical_from : (lower ms : List Manager) (reading writing : Bool) (fs : List FmmuSettings) (p : Place) (bytes : List ℕ)
     → managers_exchanged lower reading writing fs p bytes ms ≡ each_from (length lower) (logical_by (lower ++ ms) reading writing fs p bytes) ms
 logical_from lower [] reading writing fs p bytes = refl
 logical_from lower (m ∷ ms) reading writing fs p bytes =
-    let one : manager_after reading writing (touched_by_reading fs p) (touched_by_writing fs p) (value_brought lower fs p bytes) m ≡ logical_by (lower ++ m ∷ ms) reading writing fs p bytes (length lower) m
-    = after_alike reading writing (touched_by_reading fs p) (touched_by_writing fs p) (value_brought lower fs p bytes) (bits_among (lower ++ m ∷ ms) fs p bytes (length lower)) m (value_brought-among lower m ms fs p bytes) in
+    let one : manager_after reading writing (touched_by_reading fs p) (touched_by_writing fs p) (is_ungoverned lower) (value_brought lower fs p bytes) m ≡ logical_by (lower ++ m ∷ ms) reading writing fs p bytes (length lower) m
+    = after_alike reading writing (touched_by_reading fs p) (touched_by_writing fs p) (is_ungoverned lower) (governs_among (lower ++ m ∷ ms) (length lower)) (value_brought lower fs p bytes) (bits_among (lower ++ m ∷ ms) fs p bytes (length lower)) m (owned-among lower m ms) (value_brought-among lower m ms fs p bytes) in
     let next : length (lower ++ m ∷ []) ≡ length lower + 1 = length-append lower (m ∷ []) in
     let all : (lower ++ m ∷ []) ++ ms ≡ lower ++ m ∷ ms = append_assoc lower (m ∷ []) ms in
     let rest : managers_exchanged (lower ++ m ∷ []) reading writing fs p bytes ms ≡ each_from (length lower + 1) (logical_by (lower ++ m ∷ ms) reading writing fs p bytes) ms

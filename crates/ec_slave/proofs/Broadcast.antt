@@ -8,9 +8,8 @@ use Rattle.ec_regs.specs.Memory.{ram_start}
 use Rattle.ec_regs.specs.Managers.{is_set, is_mailbox, is_buffered, is_ring_written, is_ring_read}
 use Rattle.ec_frame.specs.Datagram.{ado_of}
 use Rattle.ec_sync.specs.Manager.{Manager, may_read}
-use Rattle.ec_sync.specs.Governing.{covers}
 use Rattle.ec_slave.specs.State.{SlaveState}
-use Rattle.ec_slave.specs.Managers.{manager_after}
+use Rattle.ec_slave.specs.Managers.{is_read_by, is_ungoverned, manager_after}
 use Rattle.ec_slave.specs.Access.{Window, touches, byte_at, byte_read, may_read_byte, some_byte_read, retold, value_for, manager_met, managers_met, slave_after, meeting}
 use Rattle.ec_slave.specs.Meeting.{meets, window_of}
 use Rattle.ec_slave.specs.LogicalLaws.{BroadcastLaw}
@@ -27,10 +26,10 @@ set-start m h =
     leb-true ram_start m.start (and_parts (nat_le ram_start m.start) _ d).0
 
 -- a datagram on registers alone reads no manager
-registers-covered : (w : Window) (m : Manager) → w.from + length w.bytes ≤ ram_start → (covers (touches w) m && may_read m) ≡ false
-registers-covered w m l = elim (cases_Bool (is_set m.settings)) [
-  | inl t ↦ and_left _ _ (and_left _ _ (within_above w.from (length w.bytes) m.settings.start (let x = set-start m.settings t in omega arith)))
-  | inr f ↦ and_right (covers (touches w) m) _ (and_left _ _ (and_left _ _ f))
+registers-covered : (w : Window) (own : ℕ → Bool) (m : Manager) → w.from + length w.bytes ≤ ram_start → is_read_by (touches w) own m ≡ false
+registers-covered w own m l = elim (cases_Bool (is_set m.settings)) [
+  | inl t ↦ and_right (may_read m) _ (and_left _ _ (and_left _ _ (within_above w.from (length w.bytes) m.settings.start (let x = set-start m.settings t in omega arith))))
+  | inr f ↦ and_left (may_read m) _ (and_left _ _ (and_left _ _ f))
 ]
 
 -- it leaves every manager as it was, if it only reads
@@ -38,8 +37,8 @@ pub managers-read : (lower ms : List Manager) (reads : Bool) (w : Window) (n : �
 unfolding manager_met
 managers-read lower [] reads w n l = refl
 managers-read lower (m ∷ ms) reads w n l =
-    let one : manager_after reads false (touches w) (touches w) (value_for lower w) m ≡ m
-    = if_false _ _ _ (and_right reads _ (registers-covered w m l)) in
+    let one : manager_after reads false (touches w) (touches w) (is_ungoverned lower) (value_for lower w) m ≡ m
+    = if_false _ _ _ (and_right reads _ (registers-covered w (is_ungoverned lower) m l)) in
     ap (λ x. x ∷ managers_met (lower ++ m ∷ []) reads false w (n + 1) ms) one
     ∙ ap (λ xs. m ∷ xs) (managers-read (lower ++ m ∷ []) ms reads w (n + 1) l)
 

@@ -6,14 +6,14 @@ use Rattle.ec_regs.specs.declared.fmmu.FmmuSettings.{FmmuSettings}
 use Rattle.ec_sync.specs.Manager.{Manager, may_write}
 use Rattle.ec_sync.specs.Governing.{covers}
 use Rattle.ec_fmmu.specs.Applied.{Place, touched_by_reading, touched_by_writing}
-use Rattle.ec_slave.specs.Managers.{manager_after}
+use Rattle.ec_slave.specs.Managers.{is_ungoverned, manager_after}
 use Rattle.ec_slave.specs.Logical.{value_brought, managers_exchanged}
 use Rattle.ec_slave.specs.Written.{some_brought, some_manager_written}
 
 -- one of them
 abbrev pub one_exchanged : List Manager → Bool → Bool → List FmmuSettings → Place → List ℕ → Manager → Manager
 one_exchanged lower reading writing fs p bytes m =
-    manager_after reading writing (touched_by_reading fs p) (touched_by_writing fs p) (value_brought lower fs p bytes) m
+    manager_after reading writing (touched_by_reading fs p) (touched_by_writing fs p) (is_ungoverned lower) (value_brought lower fs p bytes) m
 
 -- those from number n on have met it
 abbrev pub exchanged_from : List Manager → Bool → Bool → List FmmuSettings → Place → List ℕ → ℕ → List Manager

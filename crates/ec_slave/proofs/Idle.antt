@@ -1,8 +1,8 @@
 -- Accesses that leave managers, or the whole slave, as they were.
-use Rattle.std.proofs.Common.{ℕ, ◌+◌, ◌≡◌, ◌&&◌, true, false, refl, ◌∙◌, ap, if◌then◌else◌, List, [], ◌∷◌, ◌++◌, length}
+use Rattle.std.proofs.Common.{ℕ, ◌+◌, ◌≡◌, true, false, refl, ◌∙◌, ap, if◌then◌else◌, List, [], ◌∷◌, ◌++◌, length}
 use Rattle.ec_bits.specs.Bits.{within}
-use Rattle.ec_sync.specs.Manager.{Manager, may_read, ring_read}
-use Rattle.ec_sync.specs.Governing.{covers}
+use Rattle.ec_sync.specs.Manager.{Manager, ring_read}
+use Rattle.ec_slave.specs.Managers.{is_read_by, is_ungoverned}
 use Rattle.ec_slave.specs.State.{SlaveState}
 use Rattle.ec_slave.specs.Access.{Window, manager_met, managers_met, slave_after}
 
@@ -22,8 +22,8 @@ pub managers-reach : (lower ms : List Manager) (from n : ℕ) (b c : List ℕ) �
 unfolding manager_met
 managers-reach lower [] from n b c e = refl
 managers-reach lower (m ∷ ms) from n b c e =
-    ap (λ k. (if covers (within from k) m && may_read m then ring_read m else m) ∷ managers_met (lower ++ m ∷ []) true false (record { from = from; bytes = b }) (n + 1) ms) e
-    ∙ ap (λ xs. (if covers (within from (length c)) m && may_read m then ring_read m else m) ∷ xs) (managers-reach (lower ++ m ∷ []) ms from (n + 1) b c e)
+    ap (λ k. (if is_read_by (within from k) (is_ungoverned lower) m then ring_read m else m) ∷ managers_met (lower ++ m ∷ []) true false (record { from = from; bytes = b }) (n + 1) ms) e
+    ∙ ap (λ xs. (if is_read_by (within from (length c)) (is_ungoverned lower) m then ring_read m else m) ∷ xs) (managers-reach (lower ++ m ∷ []) ms from (n + 1) b c e)
 
 pub slave_reach : (s : SlaveState) (from : ℕ) (b c : List ℕ) → length b ≡ length c
     → slave_after s true false (record { from = from; bytes = b }) ≡ slave_after s true false (record { from = from; bytes = c })

@@ -8,10 +8,9 @@ use Rattle.ec_bits.proofs.AnyLaws.{any_below_none, if_none, if_false}
 use Rattle.ec_regs.specs.Memory.{ram_end}
 use Rattle.ec_frame.specs.Datagram.{Datagram}
 use Rattle.ec_sync.specs.Manager.{Manager, may_read, may_write}
-use Rattle.ec_sync.specs.Governing.{covers}
 use Rattle.ec_fmmu.specs.Applied.{Place, leads_into, touched_by_reading, touched_by_writing}
 use Rattle.ec_slave.specs.State.{SlaveState, fmmus}
-use Rattle.ec_slave.specs.Managers.{manager_after}
+use Rattle.ec_slave.specs.Managers.{is_ungoverned, manager_after}
 use Rattle.ec_slave.specs.Logical.{place_of, read_bit, readable_bit, written_bit, plain_bit, brought, value_brought, managers_exchanged, only_if, some_read, some_written, meets_logical}
 use Rattle.ec_slave.specs.LogicalLaws.{Misses}
 
@@ -33,17 +32,17 @@ no_touch_writing s p a h = any_below_none 8 _ (λ j l. ap is_some (h.writes (8 *
 no_touch_reading : (s : SlaveState) (p : Place) (a : ℕ) → Misses s p → touched_by_reading (fmmus s) p a ≡ false
 no_touch_reading s p a h = any_below_none p.bits _ (λ i l. ap (λ o. leads_into o a) (h.reads i l))
 
-manager_kept : (s : SlaveState) (reading writing : Bool) (p : Place) (value : ℕ → ℕ → List ℕ) (m : Manager) → Misses s p
-    → manager_after reading writing (touched_by_reading (fmmus s) p) (touched_by_writing (fmmus s) p) value m ≡ m
-manager_kept s reading writing p value m h =
-    if_false _ _ _ (and_right writing _ (and_left (covers (touched_by_writing (fmmus s) p) m) (may_write m) (and_left _ _ (no_touch_writing s p m.settings.start h))))
-    ∙ if_false _ _ _ (and_right reading _ (and_left (covers (touched_by_reading (fmmus s) p) m) (may_read m) (and_left _ _ (no_touch_reading s p m.settings.start h))))
+manager_kept : (s : SlaveState) (reading writing : Bool) (p : Place) (own : ℕ → Bool) (value : ℕ → ℕ → List ℕ) (m : Manager) → Misses s p
+    → manager_after reading writing (touched_by_reading (fmmus s) p) (touched_by_writing (fmmus s) p) own value m ≡ m
+manager_kept s reading writing p own value m h =
+    if_false _ _ _ (and_right writing _ (and_right (may_write m) _ (and_left _ _ (and_left _ _ (no_touch_writing s p m.settings.start h)))))
+    ∙ if_false _ _ _ (and_right reading _ (and_right (may_read m) _ (and_left _ _ (and_left _ _ (no_touch_reading s p m.settings.start h)))))
 
 managers_kept : (s : SlaveState) (lower ms : List Manager) (reading writing : Bool) (p : Place) (bytes : List ℕ) → Misses s p
     → managers_exchanged lower reading writing (fmmus s) p bytes ms ≡ ms
 managers_kept s lower [] reading writing p bytes h = refl
 managers_kept s lower (m ∷ ms) reading writing p bytes h =
-    ap (λ x. x ∷ managers_exchanged (lower ++ m ∷ []) reading writing (fmmus s) p bytes ms) (manager_kept s reading writing p (value_brought lower (fmmus s) p bytes) m h)
+    ap (λ x. x ∷ managers_exchanged (lower ++ m ∷ []) reading writing (fmmus s) p bytes ms) (manager_kept s reading writing p (is_ungoverned lower) (value_brought lower (fmmus s) p bytes) m h)
     ∙ ap (λ xs. m ∷ xs) (managers_kept s (lower ++ m ∷ []) ms reading writing p bytes h)
 
 pub misses : (reading writing : Bool) (weight : ℕ) (s : SlaveState) (d : Datagram) → Misses s (place_of d) → d.counter < 65536

@@ -11,7 +11,7 @@ use Rattle.ec_fmmu.specs.Pairs.{unmapped, reaches_physical, is_ram_bit}
 use Rattle.ec_fmmu.specs.Sets.{source_after, writers}
 use Rattle.ec_fmmu.specs.Applied.{Place, inside_place, touched_by_reading, touched_by_writing}
 use Rattle.ec_slave.specs.State.{SlaveState, fmmus, fmmus_of, with_memory}
-use Rattle.ec_slave.specs.Managers.{manager_after}
+use Rattle.ec_slave.specs.Managers.{is_ungoverned, manager_after}
 use Rattle.ec_slave.specs.Logical.{value_brought, managers_exchanged, plain_bit, only_if, logical_after, some_written}
 use Rattle.ec_slave.specs.Written.{some_plain_written, some_manager_written}
 use Rattle.ec_slave.proofs.SomeWritten.{some_written-is}
@@ -22,7 +22,7 @@ managers-unwritten : (lower ms : List Manager) (fs : List FmmuSettings) (p : Pla
     → managers_exchanged lower true false fs p b ms ≡ managers_exchanged lower true false fs p c ms
 managers-unwritten lower [] fs p b c = refl
 managers-unwritten lower (m ∷ ms) fs p b c =
-    ap (λ (xs : List Manager). manager_after true false (touched_by_reading fs p) (touched_by_writing fs p) (value_brought lower fs p b) m ∷ xs)
+    ap (λ (xs : List Manager). manager_after true false (touched_by_reading fs p) (touched_by_writing fs p) (is_ungoverned lower) (value_brought lower fs p b) m ∷ xs)
     (managers-unwritten (lower ++ m ∷ []) ms fs p b c)
 
 pub slave_read : (s : SlaveState) (memory : List ℕ) (managers : List Manager) (fs : List FmmuSettings) (p q : Place) (b c : List ℕ)

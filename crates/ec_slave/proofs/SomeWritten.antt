@@ -16,8 +16,8 @@ use Rattle.ec_slave.specs.State.{manager_at}
 use Rattle.ec_slave.specs.Managers.{writes_under}
 use Rattle.ec_slave.specs.Logical.{brought, written_bit, plain_bit, some_written}
 use Rattle.ec_slave.specs.Written.{some_brought, some_manager_written, some_plain_written}
-use Rattle.ec_slave.proofs.Governors.{governor-take}
-use Rattle.ec_slave.proofs.AgainstAll.{governs-value}
+use Rattle.ec_slave.proofs.Governors.{governor-take, position_from-first}
+use Rattle.ec_slave.proofs.AgainstAll.{governs-value, writable-set}
 use Rattle.ec_slave.proofs.Sights.{governor-start, governor-below}
 
 same_truth : (a b : Bool) → (a ≡ true → b ≡ true) → (b ≡ true → a ≡ true) → a ≡ b
@@ -27,20 +27,6 @@ same_truth a b f g = elim (cases_Bool a) [
     | inl t ↦ absurd (both_ways a h (g t))
     | inr k ↦ h ∙ sym k
   ]
-]
-
--- a manager that has a byte in its span governs it where no lower one does
-position_from-first : (t : Manager → Bool) (k n : ℕ) (ms : List Manager) → n < length ms → position_from t k (take n ms) ≡ None → t (manager_at ms n) ≡ true → position_from t k ms ≡ Some (k + n)
-position_from-first t k n [] l none h = absurd (omega arith)
-position_from-first t k zero (m ∷ ms) l none h =
-    let z : k ≡ k + zero = omega arith in
-    if_true _ _ _ h ∙ ap (λ i. Some i) z
-position_from-first t k (suc n) (m ∷ ms) l none h = elim (cases_Bool (t m)) [
-  | inl y ↦ absurd (let f : Some k ≡ None = sym (if_true (t m) (Some k) (position_from t (k + 1) (take n ms)) y) ∙ none in cc)
-  | inr y ↦
-      let rest : position_from t (k + 1) (take n ms) ≡ None = sym (if_false (t m) (Some k) (position_from t (k + 1) (take n ms)) y) ∙ none in
-      let s : k + 1 + n ≡ k + suc n = omega arith in
-      if_false _ _ _ y ∙ (position_from-first t (k + 1) n ms (omega arith) rest h ∙ ap (λ i. Some i) s)
 ]
 
 -- what some_manager_written says of one manager
@@ -153,15 +139,14 @@ manager-written ms fs p bytes e =
     let inside : k < 8 * m.settings.length = r.1 in
     let parts = if-some (is_none (governor (take n ms) (q / 8))) (brought fs p bytes q) r.2 in
     let byte : m.settings.start + k / 8 ≡ q / 8 = omega arith in
-    let spans : governs m (q / 8) ≡ true = subst (λ (a : ℕ). governs m a ≡ true) byte (governs-value m (k / 8) at.1 (omega arith)) in
+    let spans : governs m (q / 8) ≡ true = subst (λ (a : ℕ). governs m a ≡ true) byte (governs-value m (k / 8) (writable-set m at.1) (omega arith)) in
     let low : governor (take n ms) (q / 8) ≡ None = elim (none_or_some (governor (take n ms) (q / 8))) [
       | inl none ↦ none
       | inr some ↦ absurd (false≢true (sym (ap is_none some.1) ∙ parts.0))
     ] in
     let z : 0 + n ≡ n = omega arith in
     let g : governor ms (q / 8) ≡ Some n = position_from-first (λ (x : Manager). governs x (q / 8)) 0 n ms w.1 low spans ∙ ap (λ i. Some i) z in
-    let set : is_set m.settings ≡ true = (and_parts (is_set m.settings) _ (and_parts (is_enabled m) _ at.1).0).0 in
-    let end : m.settings.start + m.settings.length ≤ ram_end = value-end m.settings set in
+    let end : m.settings.start + m.settings.length ≤ ram_end = value-end m.settings (writable-set m at.1) in
     let front : in_front m (q / 8) ≡ true = lt-ltb _ _ (omega arith) in
     let may : writes_under ms (touched_by_writing fs p) (q / 8) (governor ms (q / 8)) ≡ true
     = ap (writes_under ms (touched_by_writing fs p) (q / 8)) g ∙ and_from _ _ front (and_from _ _ at.0 at.1) in

@@ -13,7 +13,7 @@ use Rattle.ec_sii.specs.Port.{sii_byte, written}
 use Rattle.ec_slave.specs.declared.role.Role.{Role}
 use Rattle.ec_slave.specs.Roles.{is_reading, is_writing, is_joining}
 use Rattle.ec_slave.specs.State.{SlaveState, manager_at}
-use Rattle.ec_slave.specs.Managers.{reads_under, writes_under, manager_after}
+use Rattle.ec_slave.specs.Managers.{reads_under, writes_under, is_ungoverned, manager_after}
 
 -- the bytes of a datagram, and the address of the first; byte k belongs to address from + k, and addresses don't wrap
 pub record Window : Type 0 where
@@ -100,13 +100,13 @@ settings_written w n m = settings_of (λ k. unwrap_or (setting_for w n k) (manag
 -- The value that a written manager gets, of its start and length: 0 in all bytes that the datagram doesn't touch, and in
 -- those that a lower-numbered manager governs.
 abbrev pub value_for : List Manager → Window → ℕ → ℕ → List ℕ
-value_for lower w start len = retold (zeros len) (λ k. if is_none (governor lower (start + k)) then byte_from w (start + k) else None)
+value_for lower w start len = retold (zeros len) (λ k. if is_ungoverned lower (start + k) then byte_from w (start + k) else None)
 
 -- manager n after the datagram, `lower` being the lower-numbered ones: new settings empty it
 unfoldable pub manager_met : List Manager → Bool → Bool → Window → ℕ → Manager → Manager
 manager_met lower reads writes w n m =
     if writes && is_configured w n then empty_manager (settings_written w n m) m.locked
-    else manager_after reads writes (touches w) (touches w) (value_for lower w) m
+    else manager_after reads writes (touches w) (touches w) (is_ungoverned lower) (value_for lower w) m
 
 -- each manager after it, the first being number n
 abbrev pub managers_met : List Manager → Bool → Bool → Window → ℕ → List Manager → List Manager

@@ -1,5 +1,6 @@
 -- The rule of the lowest manager said of all managers at once: a manager's value gets what a datagram brings to the bytes
--- that this manager governs among all, and no manager is judged by what another has become.
+-- that this manager governs among all, only a datagram that gets at such a byte writes or reads it, and no manager is
+-- judged by what another has become.
 use Rattle.std.specs.Prelude.{ℕ, ◌+◌, ◌*◌, ◌/◌, ◌≡◌, ◌==◌, ◌&&◌, List, [], ◌∷◌, Bool, false, if◌then◌else◌, Option, Some, None}
 use Rattle.ec_bits.specs.Bits.{overlay, zeros}
 use Rattle.ec_regs.specs.declared.fmmu.FmmuSettings.{FmmuSettings}
@@ -19,14 +20,18 @@ abbrev pub each_from : ℕ → (ℕ → Manager → Manager) → List Manager �
 each_from n f [] = []
 each_from n f (m ∷ ms) = f n m ∷ each_from (n + 1) f ms
 
+-- the bytes that manager n governs among all
+abbrev pub governs_among : List Manager → ℕ → ℕ → Bool
+governs_among all n a = is_governor n (governor all a)
+
 -- the value of manager n, of its start and length: the bytes that it governs among all, 0 elsewhere
 abbrev pub value_among : List Manager → Window → ℕ → ℕ → ℕ → List ℕ
-value_among all w n start len = retold (zeros len) (λ k. if is_governor n (governor all (start + k)) then byte_from w (start + k) else None)
+value_among all w n start len = retold (zeros len) (λ k. if governs_among all n (start + k) then byte_from w (start + k) else None)
 
 -- the same bit by bit
 abbrev pub bits_among : List Manager → List FmmuSettings → Place → List ℕ → ℕ → ℕ → ℕ → List ℕ
 bits_among all fs p bytes n start len =
-    overlay (zeros len) (λ k. only_if (is_governor n (governor all ((8 * start + k) / 8))) (brought fs p bytes (8 * start + k)))
+    overlay (zeros len) (λ k. only_if (governs_among all n ((8 * start + k) / 8)) (brought fs p bytes (8 * start + k)))
 
 -- a physical datagram: every manager against all as they were
 abbrev pub PhysicalAgainstAll : Type 0
@@ -34,11 +39,11 @@ PhysicalAgainstAll =
     (reads writes : Bool) (w : Window) (ms : List Manager)
     → managers_met [] reads writes w 0 ms
     ≡ each_from 0 (λ n m. if writes && is_configured w n then empty_manager (settings_written w n m) m.locked
-    else manager_after reads writes (touches w) (touches w) (value_among ms w n) m) ms
+    else manager_after reads writes (touches w) (touches w) (governs_among ms n) (value_among ms w n) m) ms
 
 -- a logical datagram: every manager against all as they were
 abbrev pub LogicalAgainstAll : Type 0
 LogicalAgainstAll =
     (reading writing : Bool) (fs : List FmmuSettings) (p : Place) (bytes : List ℕ) (ms : List Manager)
     → managers_exchanged [] reading writing fs p bytes ms
-    ≡ each_from 0 (λ n m. manager_after reading writing (touched_by_reading fs p) (touched_by_writing fs p) (bits_among ms fs p bytes n) m) ms
+    ≡ each_from 0 (λ n m. manager_after reading writing (touched_by_reading fs p) (touched_by_writing fs p) (governs_among ms n) (bits_among ms fs p bytes n) m) ms

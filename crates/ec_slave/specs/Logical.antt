@@ -1,5 +1,5 @@
 -- One slave and one logical datagram, bit by bit (ETG.1000.4, "Fieldbus memory management unit").
-use Rattle.std.specs.Prelude.{ℕ, ◌+◌, ◌*◌, ◌/◌, ◌&&◌, List, [], ◌∷◌, ◌++◌, length, Bool, if◌then◌else◌, Option, Some, None, is_some, is_none, option_map, option_and_then}
+use Rattle.std.specs.Prelude.{ℕ, ◌+◌, ◌*◌, ◌/◌, ◌&&◌, List, [], ◌∷◌, ◌++◌, length, Bool, if◌then◌else◌, Option, Some, None, is_some, option_map, option_and_then}
 use Rattle.std.specs.Int.{from_bool}
 use Rattle.ec_bits.specs.Bits.{bit, overlay, zeros, any_below}
 use Rattle.ec_regs.specs.declared.fmmu.FmmuSettings.{FmmuSettings}
@@ -10,7 +10,7 @@ use Rattle.ec_sync.specs.Governing.{governor}
 use Rattle.ec_fmmu.specs.Sets.{target, readers}
 use Rattle.ec_fmmu.specs.Applied.{Place, touched_by_reading, touched_by_writing, data_bit_for}
 use Rattle.ec_slave.specs.State.{SlaveState, fmmus, Met, with_memory, with_answer}
-use Rattle.ec_slave.specs.Managers.{reads_under, writes_under, shown_under, manager_after}
+use Rattle.ec_slave.specs.Managers.{reads_under, writes_under, shown_under, is_ungoverned, manager_after}
 
 abbrev pub place_of : Datagram → Place
 place_of d = record { from = 8 * d.address; bits = 8 * length d.data_bytes }
@@ -41,7 +41,7 @@ written_bit ms fs p bytes q =
 
 -- what a memory bit becomes, if it is kept in the memory itself
 abbrev pub plain_bit : List Manager → List FmmuSettings → Place → List ℕ → ℕ → Option Bool
-plain_bit ms fs p bytes q = if is_none (governor ms (q / 8)) then brought fs p bytes q else None
+plain_bit ms fs p bytes q = if is_ungoverned ms (q / 8) then brought fs p bytes q else None
 
 -- The value that a written manager gets, of its start and length: 0 in all untouched bits, and in the bytes that a
 -- lower-numbered manager governs.
@@ -52,7 +52,7 @@ value_brought lower fs p bytes start len = overlay (zeros len) (λ k. plain_bit 
 abbrev pub managers_exchanged : List Manager → Bool → Bool → List FmmuSettings → Place → List ℕ → List Manager → List Manager
 managers_exchanged lower reading writing fs p bytes [] = []
 managers_exchanged lower reading writing fs p bytes (m ∷ ms) =
-    manager_after reading writing (touched_by_reading fs p) (touched_by_writing fs p) (value_brought lower fs p bytes) m
+    manager_after reading writing (touched_by_reading fs p) (touched_by_writing fs p) (is_ungoverned lower) (value_brought lower fs p bytes) m
     ∷ managers_exchanged (lower ++ m ∷ []) reading writing fs p bytes ms
 
 -- ---- both

@@ -10,6 +10,7 @@ mod managers;
 mod mapped;
 mod passing;
 mod physical;
+mod reach;
 mod role;
 mod slave;
 

@@ -2,10 +2,11 @@
 
 ghost use Rattle.std.specs.Prelude.{◌≡◌, ◌+◌, ◌<◌, ◌≤◌, ◌^◌, ◌*◌, length, [], unwrap_or};
 ghost use Rattle.ec_sync.specs.Governing.{manager_byte};
-ghost use Rattle.ec_slave.specs.Managers.{manager_after};
+ghost use Rattle.ec_slave.specs.Managers.{is_ungoverned, manager_after};
 ghost use Rattle.ec_slave.specs.Access.{Window, is_configured as is_configured_at, manager_met, managers_met, setting_for, settings_written, touches, value_for};
 
 use crate::access::{byte_for, governor};
+use crate::reach::{read_manager, write_manager};
 use ec_regs::registers::SYNC_MANAGERS;
 use ec_regs::{ManagerSettings, decode_manager, is_stored};
 use ec_sync::{Manager, Reach, Touching, Writing};
@@ -127,14 +128,14 @@ fn take_access(
     bytes: &[u8],
 )
     ensures { manager.new ≡ manager_after reads writes (touches (record { from = from; bytes = bytes.now }))
-        (touches (record { from = from; bytes = bytes.now })) (value_for lower.now (record { from = from; bytes = bytes.now })) manager.old }
+        (touches (record { from = from; bytes = bytes.now })) (is_ungoverned lower.now) (value_for lower.now (record { from = from; bytes = bytes.now })) manager.old }
 {
-    if writes && manager.ring_write(&Bytes { lower, from, bytes }) {
+    if writes && write_manager(lower, manager, &Bytes { lower, from, bytes }) {
         return;
     }
     if reads {
         let len = bytes.len();
-        let _ = manager.ring_read(&Reach { from, len });
+        read_manager(lower, manager, &Reach { from, len });
     }
 }
 

@@ -88,6 +88,27 @@ fn write_in_vain(rt: &impl Abort, slave: &mut Slave, ado: u16, bytes: &[u8]) -> 
     assert_met(rt, slave, Apwr, address, bytes, bytes, 0)
 }
 
+/// The bytes of a row of hexadecimal digits.
+fn bytes_of(rt: &(impl AllocGlobal + Abort), row: &str) -> Result<Vec<u8>, Fail> {
+    let mut bytes = Vec::new(rt.alloc());
+    for word in row.split_whitespace() {
+        bytes.extend_from_slice(&hex::decode(rt.alloc(), word)?)?;
+    }
+    Ok(bytes)
+}
+
+/// Passes each frame by a slave that was just switched on, and compares what comes back.
+fn assert_frames(rt: &(impl AllocGlobal + Abort), rows: &[(&str, &str)]) -> Result<(), Fail> {
+    for (sent, back) in rows {
+        let mut slave = plain_slave(rt.alloc())?;
+        let mut frame = bytes_of(rt, sent)?;
+        assert!(rt; check(&frame).is_ok());
+        slave.pass(&mut frame);
+        assert_eq!(rt; frame.as_slice(), bytes_of(rt, back)?.as_slice(), "{sent}");
+    }
+    Ok(())
+}
+
 // Four FMMUs, four sync managers and 8 KiB of RAM, in INIT; the rest is 0.
 #[test]
 fn power_on_reads(rt: HostRuntime) -> Result<(), Fail> {
@@ -416,4 +437,76 @@ fn reset_is_power_on(rt: HostRuntime) -> Result<(), Fail> {
     }
     assert_eq!(rt; slave.byte(0x0130), Some(1));
     assert_met(&rt, &mut slave, Lwr, 0x0001_0001, &[4, 5], &[4, 5], 0)
+}
+
+// Where lower-numbered managers govern each byte that a datagram touches of a manager, the manager stays as it is: two
+// managers over the same sixteen bytes, or one in the spare buffers of the other. Byte 0x080D tells whether manager 1 is a
+// full mailbox.
+#[test]
+fn manager_under_others_stays(rt: HostRuntime) -> Result<(), Fail> {
+    assert_frames(
+        &rt,
+        &[
+            (
+                "5110 \
+                 0200 0000 0008 0880 0000 0011100026000100 0000 \
+                 0200 0000 0808 0880 0000 0011100026000100 0000 \
+                 0200 0000 0011 1080 0000 0102030405060708 090a0b0c0d0e0f10 0000 \
+                 0100 0000 0d08 0100 0000 00 0000",
+                "5110 \
+                 0200 0100 0008 0880 0000 0011100026000100 0100 \
+                 0200 0100 0808 0880 0000 0011100026000100 0100 \
+                 0200 0100 0011 1080 0000 0102030405060708 090a0b0c0d0e0f10 0100 \
+                 0100 0100 0d08 0100 0000 00 0100",
+            ),
+            (
+                "5110 \
+                 0200 0000 0008 0880 0000 0011100024000100 0000 \
+                 0200 0000 0808 0880 0000 0011100026000100 0000 \
+                 0200 0000 0011 1080 0000 0102030405060708 090a0b0c0d0e0f10 0000 \
+                 0100 0000 0d08 0100 0000 00 0000",
+                "5110 \
+                 0200 0100 0008 0880 0000 0011100024000100 0100 \
+                 0200 0100 0808 0880 0000 0011100026000100 0100 \
+                 0200 0100 0011 1080 0000 0102030405060708 090a0b0c0d0e0f10 0100 \
+                 0100 0100 0d08 0100 0000 00 0100",
+            ),
+            (
+                "5110 \
+                 0200 0000 0008 0880 0000 0011100020000100 0000 \
+                 0200 0000 0808 0880 0000 0011100026000100 0000 \
+                 0200 0000 0011 1080 0000 0102030405060708 090a0b0c0d0e0f10 0000 \
+                 0100 0000 0d08 0100 0000 00 0000",
+                "5110 \
+                 0200 0100 0008 0880 0000 0011100020000100 0100 \
+                 0200 0100 0808 0880 0000 0011100026000100 0100 \
+                 0200 0100 0011 1080 0000 0102030405060708 090a0b0c0d0e0f10 0000 \
+                 0100 0100 0d08 0100 0000 00 0100",
+            ),
+            (
+                "6d10 \
+                 0200 0000 0008 0880 0000 0011100020000100 0000 \
+                 0200 0000 0808 0880 0000 0011100026000100 0000 \
+                 0200 0000 0006 1080 0000 0000010010000007 0011000201000000 0000 \
+                 0b00 00000100 1080 0000 0102030405060708 090a0b0c0d0e0f10 0000 \
+                 0100 0000 0d08 0100 0000 00 0000",
+                "6d10 \
+                 0200 0100 0008 0880 0000 0011100020000100 0100 \
+                 0200 0100 0808 0880 0000 0011100026000100 0100 \
+                 0200 0100 0006 1080 0000 0000010010000007 0011000201000000 0100 \
+                 0b00 00000100 1080 0000 0102030405060708 090a0b0c0d0e0f10 0000 \
+                 0100 0100 0d08 0100 0000 00 0100",
+            ),
+            (
+                "4610 \
+                 0501 0000 0008 1080 0000 0010010024000100 0110020026000100 0000 \
+                 0501 0000 0110 0280 0000 aabb 0000 \
+                 0401 0000 0008 1000 0000 0000000000000000 0000000000000000 0000",
+                "4610 \
+                 0501 0000 0008 1080 0000 0010010024000100 0110020026000100 0100 \
+                 0501 0000 0110 0280 0000 aabb 0000 \
+                 0401 0000 0008 1000 0000 0010010024000100 0110020026000100 0100",
+            ),
+        ],
+    )
 }

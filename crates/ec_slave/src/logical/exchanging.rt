@@ -2,10 +2,11 @@
 
 ghost use Rattle.std.specs.Prelude.{◌≡◌, ◌<◌, ◌+◌, ◌*◌, ◌^◌, length, []};
 ghost use Rattle.ec_fmmu.specs.Applied.{Place, touched_by_reading, touched_by_writing};
-ghost use Rattle.ec_slave.specs.Managers.{manager_after};
+ghost use Rattle.ec_slave.specs.Managers.{is_ungoverned, manager_after};
 ghost use Rattle.ec_slave.specs.Logical.{managers_exchanged, value_brought};
 
 use crate::logical::writing::Ungoverned;
+use crate::reach::{read_manager, write_manager};
 use ec_fmmu::{Fmmu, apply_write, is_touched_by_reading, is_touched_by_writing};
 use ec_sync::{Manager, Touching, Writing};
 
@@ -82,7 +83,7 @@ fn exchange_manager(
     ensures { let place : Place = record { from = from; bits = 8 * length bytes.now } in
         manager.new ≡ manager_after reading writing
         (touched_by_reading fmmus.now place) (touched_by_writing fmmus.now place)
-        (value_brought lower.now fmmus.now place bytes.now) manager.old }
+        (is_ungoverned lower.now) (value_brought lower.now fmmus.now place bytes.now) manager.old }
 {
     let access = LogicalBits {
         lower,
@@ -90,12 +91,12 @@ fn exchange_manager(
         from,
         bytes,
     };
-    if writing && manager.ring_write(&access) {
+    if writing && write_manager(lower, manager, &access) {
         return;
     }
     if reading {
         let bits = 8 * bytes.len() as u64;
-        let _ = manager.ring_read(&ReadBits { fmmus, from, bits });
+        read_manager(lower, manager, &ReadBits { fmmus, from, bits });
     }
 }
 

@@ -1,0 +1,69 @@
+//! What an access of the ring, physical or logical, does to one manager, where lower-numbered ones may govern bytes of its
+//! value.
+
+ghost use Rattle.std.specs.Prelude.{◌≡◌, ◌+◌, ◌<◌, ◌≤◌, ◌&&◌, if◌then◌else◌};
+ghost use Rattle.ec_bits.specs.Bits.{any_below};
+ghost use Rattle.ec_regs.specs.Memory.{ram_end};
+ghost use Rattle.ec_sync.specs.Manager.{LiesInRam, ring_read, ring_written};
+ghost use Rattle.ec_slave.specs.Managers.{gets_at, is_read_by, is_ungoverned, is_written_by};
+
+use crate::access::governor;
+use ec_sync::{Manager, Touching, Writing};
+
+/// Whether an access touches a byte that no manager in `lower` governs.
+fn is_own<T: Touching>(access: &T, lower: &[Manager], address: usize) -> bool
+    requires { address < ram_end }
+    ensures { result ≡ (T.touched access.now address && is_ungoverned lower.now address) }
+{
+    access.touches(address) && governor(lower, address).is_none()
+}
+
+/// Whether it touches such a byte among the `len` from `start` on. Where it touches the first one, and no manager in
+/// `lower` is set, that one decides.
+fn some_is_own<T: Touching>(access: &T, lower: &[Manager], start: usize, len: usize) -> bool
+    requires { start + len ≤ ram_end }
+    ensures { result ≡ any_below len (λ k. T.touched access.now (start + k) && is_ungoverned lower.now (start + k)) }
+{
+    for k in 0..len {
+        if is_own(access, lower, start + k) {
+            return true;
+        }
+    }
+    false
+}
+
+/// Whether an access gets at a manager: at its first and its last byte, and at a byte that no manager in `lower` governs.
+fn reaches<T: Touching>(access: &T, lower: &[Manager], manager: &Manager) -> bool
+    requires { LiesInRam manager.now.settings }
+    ensures { result ≡ gets_at (T.touched access.now) (is_ungoverned lower.now) manager.now }
+{
+    let start = manager.settings().start as usize;
+    let len = manager.settings().length as usize;
+    access.touches(start)
+        && access.touches(start + len - 1)
+        && some_is_own(access, lower, start, len)
+}
+
+/// An access that writes: a manager that it gets at takes its value, if it is let. Answers whether.
+pub(crate) fn write_manager<W: Writing>(
+    lower: &[Manager],
+    manager: &mut Manager,
+    access: &W,
+) -> bool
+    ensures written { result ≡ is_written_by (W.touched access.now) (is_ungoverned lower.now) manager.old }
+    ensures after { let m = manager.old in
+        manager.new ≡ (if is_written_by (W.touched access.now) (is_ungoverned lower.now) m
+        then ring_written m (W.written access.now m.settings.start m.settings.length) else m) }
+{
+    manager.may_write() && reaches(access, lower, manager) && manager.ring_write(access)
+}
+
+/// An access that reads: it empties a mailbox that it gets at, if it is let.
+pub(crate) fn read_manager<T: Touching>(lower: &[Manager], manager: &mut Manager, access: &T)
+    ensures { let m = manager.old in
+        manager.new ≡ (if is_read_by (T.touched access.now) (is_ungoverned lower.now) m then ring_read m else m) }
+{
+    if manager.may_read() && reaches(access, lower, manager) {
+        let _ = manager.ring_read(access);
+    }
+}
