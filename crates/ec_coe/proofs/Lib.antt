@@ -4,3 +4,4 @@ pub mod Finding
 pub mod Distinct
 pub mod Assigning
 pub mod Written
+pub mod Replying

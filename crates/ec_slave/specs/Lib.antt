@@ -9,6 +9,9 @@ pub mod Sights
 pub mod Meeting
 pub mod Ways
 pub mod Application
+pub mod Checking
+pub mod Serving
+pub mod Faulting
 pub mod Telling
 pub mod Keeping
 pub mod Exchange
