@@ -4,4 +4,5 @@ pub mod Finding
 pub mod Distinct
 pub mod Assigning
 pub mod Written
-pub mod Replying
+pub mod Effects
+pub mod Keeping

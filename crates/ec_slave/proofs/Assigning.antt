@@ -1,7 +1,7 @@
 -- What an SII keeps, and a slave as the power comes on.
-use Rattle.std.proofs.Common.{ℕ, zero, suc, ◌+◌, ◌%◌, ◌==◌, ◌<◌, ◌≡◌, List, [], ◌∷◌, length, get_or, slice_set, Bool, true, false, if◌then◌else◌, Option, Some, None, refl, sym, ◌∙◌, ap, arith, length-set}
+use Rattle.std.proofs.Common.{ℕ, zero, suc, ◌+◌, ◌%◌, ◌==◌, ◌<◌, ◌≡◌, List, [], ◌∷◌, length, get_or, slice_set, Bool, true, false, if◌then◌else◌, nat_le, Option, Some, None, refl, sym, ◌∙◌, ap, arith, length-set}
 use Rattle.ec_sii.specs.declared.image.Image.{Image}
-use Rattle.ec_sii.specs.Port.{Sii, idle_port, addressed, address_written, byte_for, commanded, command_place, written}
+use Rattle.ec_sii.specs.Port.{Sii, idle_port, addressed, address_written, byte_for, commanded, command_place, written, stepped, two_words, last_address}
 use Rattle.ec_bits.specs.Bits.{zeros}
 use Rattle.ec_al.specs.Al as al
 use Rattle.ec_al.specs.Al.{Al}
@@ -30,6 +30,14 @@ unfolding written
 written-image p from bytes =
     let q : Sii = addressed p (address_written p.address from bytes) in
     either p.busy p (commanded q (byte_for from bytes command_place)) p.image refl (commanded-image q (byte_for from bytes command_place))
+
+-- no firmware step changes what the SII holds
+pub stepped-image : (p : Sii) → (stepped p).image ≡ p.image
+unfolding stepped
+stepped-image p =
+    let done : Sii = record { image = p.image; address = p.address; busy = false; error = p.error; found = two_words p.image p.address } in
+    let fault : Sii = record { image = p.image; address = p.address; busy = false; error = true; found = p.found } in
+    either p.busy (if nat_le p.address last_address then done else fault) p p.image (either (nat_le p.address last_address) done fault p.image refl refl) refl
 
 -- a slave of these parts
 abbrev pub state_of : Dictionary → List ℕ → List Manager → Al → Sii → ℕ → SlaveState

@@ -18,3 +18,4 @@ pub mod Exchange
 pub mod AgainstAll
 pub mod Laws
 pub mod LogicalLaws
+pub mod FirmwareLaws

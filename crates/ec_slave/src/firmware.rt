@@ -4,7 +4,7 @@ ghost use Rattle.std.specs.Prelude.{◌≡◌, ◌<◌, ◌^◌, ◌↔◌, leng
 ghost use Rattle.ec_al.specs.declared.state.State.TheVariants.{Op};
 ghost use Rattle.ec_slave.specs.State.{manager_at};
 ghost use Rattle.ec_slave.specs.Checking.{checks_of, control_word as control_word_of, is_manager as is_manager_of, mailbox_check, process_check, mailbox_out, mailbox_in, outputs_mode, inputs_mode};
-ghost use Rattle.ec_slave.specs.Serving.{managers_entered, read_finished, request_decided, served, unlocked_empty};
+ghost use Rattle.ec_slave.specs.Serving.{managers_entered, replies_entered, read_finished, request_decided, served, unlocked_empty};
 ghost use Rattle.ec_slave.specs.Faulting.{faulted, locked_empty};
 
 use crate::slave::Slave;
@@ -104,6 +104,16 @@ fn enter_state(managers: &mut [Manager], old: State, new: State)
     }
 }
 
+/// The counter of the last reply after a state was entered: PREOP entered from INIT begins anew.
+fn replies_in(old: State, new: State, replies: u8) -> u8
+    ensures { result ≡ replies_entered old new replies }
+{
+    match (old, new) {
+        (State::Init, State::PreOp) => 0,
+        _ => replies,
+    }
+}
+
 impl Slave {
     /// A step of the slave's firmware. In this order: an AL request that waits is decided, by the checks of the managers
     /// against the type and the PDOs that are assigned; a read of the SII is finished; and one mailbox message is taken
@@ -154,9 +164,7 @@ impl Slave {
         self.al.step(control, checks);
         let new = self.al.state();
         enter_state(&mut self.managers, old, new);
-        if old == State::Init && new == State::PreOp {
-            self.replies = 0;
-        }
+        self.replies = replies_in(old, new, self.replies);
     }
 
     /// Finishes the read of the SII that is under way, if one is.

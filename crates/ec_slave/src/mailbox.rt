@@ -1,19 +1,23 @@
 //! The mailbox of a slave: one message is taken and answered.
 
-ghost use Rattle.std.specs.Prelude.{◌≡◌, ◌<◌, IfSome};
+ghost use Rattle.std.specs.Prelude.{◌≡◌, is_some};
+ghost use Rattle.ec_sync.specs.Manager.{message_in, message_taken};
 ghost use Rattle.ec_slave.specs.State.{manager_at};
-ghost use Rattle.ec_slave.specs.Serving.{has_mailbox as has_mailbox_in, takes_reply as takes_reply_of, message_served, replied, request_in};
+ghost use Rattle.ec_slave.specs.Application.{with_manager};
+ghost use Rattle.ec_slave.specs.Serving.{has_mailbox as has_mailbox_in, takes_reply, is_preop as is_preop_state, is_served as is_served_now, message_served, replied, request_in};
 
 use crate::slave::Slave;
 use ec_al::State;
 use ec_coe::{MESSAGE_LENGTH, Message, Service, read_message};
-use ec_sync::Manager;
 
-/// Whether a reply can lie in a manager: an enabled, empty mailbox that the ring reads.
-fn takes_reply(manager: &Manager) -> bool
-    ensures { result ≡ takes_reply_of manager.now }
+/// Whether the state is PREOP.
+fn is_preop(state: State) -> bool
+    ensures { result ≡ is_preop_state state }
 {
-    manager.may_put_message(0)
+    match state {
+        State::PreOp => true,
+        State::Init | State::SafeOp | State::Op => false,
+    }
 }
 
 impl Slave {
@@ -39,25 +43,50 @@ impl Slave {
         ensures { self.new ≡ replied self.old request.now }
     {
         let counter = self.replies % 7 + 1;
-        let in_preop = self.al.state() == State::PreOp;
+        let in_preop = is_preop(self.al.state());
         let reply = self.dictionary.answer(in_preop, request, counter);
         self.managers[1].mailbox_put(&reply.bytes());
         self.replies = counter;
     }
 
-    /// Takes a message and answers it, or drops it, where one lies in manager 0 and the reply can lie in manager 1.
+    /// Whether the reply can lie in manager 1: an enabled, empty mailbox that the ring reads.
+    fn can_reply(&self) -> bool
+        ensures { result ≡ takes_reply (manager_at self.now.managers 1) }
+    {
+        self.managers[1].may_put_message(0)
+    }
+
+    /// Whether a message lies in manager 0, an enabled mailbox that the ring writes.
+    fn has_message(&self) -> bool
+        ensures { result ≡ is_some (message_in (manager_at self.now.managers 0)) }
+    {
+        self.managers[0].message().is_some()
+    }
+
+    /// Whether a message is taken now.
+    fn is_served(&self) -> bool
+        ensures { result ≡ is_served_now self.now }
+    {
+        self.has_mailbox() && self.can_reply() && self.has_message()
+    }
+
+    /// Takes the message out of manager 0.
+    fn take_message(&mut self)
+        ensures { self.new ≡ with_manager self.old 0 (message_taken (manager_at self.old.managers 0)) }
+    {
+        self.managers[0].mailbox_take();
+    }
+
+    /// Takes a message, where one lies in manager 0 and the reply can lie in manager 1, and answers it, or drops it.
     #[tactic(auto, unfolding(crate::specs::Serving::message_served))]
     pub(crate) fn serve_message(&mut self)
         ensures { self.new ≡ message_served self.old }
     {
-        if !self.has_mailbox()
-            || !takes_reply(&self.managers[1])
-            || self.managers[0].message().is_none()
-        {
+        if !self.is_served() {
             return;
         }
         let request = self.request();
-        self.managers[0].mailbox_take();
+        self.take_message();
         if let Some(request) = request {
             self.reply(&request);
         }

@@ -1,4 +1,6 @@
-//! Frames past one slave. Nothing steps its firmware here, so it stays in INIT.
+//! Frames past one slave. Nothing steps its firmware here, so it stays in INIT; `firmware` does.
+mod firmware;
+
 use crate::Slave;
 use ec_frame::Command::{Aprd, Aprw, Apwr, Brd, Lrd, Lrw, Lwr};
 use ec_frame::{Builder, Command, check};
@@ -281,7 +283,15 @@ fn exchange_through_one_fmmu(rt: HostRuntime) -> Result<(), Fail> {
 #[test]
 fn slave_without_lrw(rt: HostRuntime) -> Result<(), Fail> {
     let none = Listed::new(rt.alloc());
-    let kind = SlaveType::new(IDENTITY.device(), None, 0, 0, none, Listed::new(rt.alloc()), false);
+    let kind = SlaveType::new(
+        IDENTITY.device(),
+        None,
+        0,
+        0,
+        none,
+        Listed::new(rt.alloc()),
+        false,
+    );
     let mut slave = Slave::new(rt.alloc(), kind, IDENTITY)?;
     write(&rt, &mut slave, 0x0810, &OUTPUTS)?;
     write(&rt, &mut slave, 0x0600, &WRITES_OUTPUTS)?;
