@@ -1,5 +1,5 @@
 -- What holds of what a slave keeps.
-use Rattle.std.specs.Prelude.{ℕ, ◌≡◌, List, length}
+use Rattle.std.specs.Prelude.{ℕ, ◌≡◌, ◌≤◌, List, length}
 use Rattle.ec_regs.specs.declared.fmmu.FmmuSettings.{FmmuSettings}
 use Rattle.ec_regs.specs.declared.slave_type.Identity.{Identity}
 use Rattle.ec_regs.specs.Types.{SlaveKind}
@@ -9,10 +9,12 @@ use Rattle.ec_slave.specs.State.{fmmus_of}
 
 -- The memory has all its addresses, there are four managers, the FMMUs are decoded as the registers stand, and the SII shows
 -- the slave's identity and its type's mailbox, and there are as many slots for PDOs as the type has PDOs.
-pub record IsHeld (kind : SlaveKind) (identity : Identity) (memory : List ℕ) (managers : List Manager) (fmmus : List FmmuSettings) (sii : Sii) (out_slots in_slots : List ℕ) : Type 0 where
+pub record IsHeld (kind : SlaveKind) (identity : Identity) (memory : List ℕ) (managers : List Manager) (fmmus : List FmmuSettings) (sii : Sii) (out_slots in_slots : List ℕ) (out_count in_count : ℕ) : Type 0 where
   pub room : length memory ≡ 0x3000
   pub four : length managers ≡ 4
   pub decoded : fmmus ≡ fmmus_of memory
   pub image : sii.image ≡ record { identity = identity; mailbox = kind.mailbox }
   pub outs : length out_slots ≡ length kind.outputs
   pub ins : length in_slots ≡ length kind.inputs
+  pub some_outs : out_count ≤ length out_slots
+  pub some_ins : in_count ≤ length in_slots

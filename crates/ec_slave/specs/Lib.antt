@@ -7,6 +7,7 @@ pub mod Logical
 pub mod Written
 pub mod Sights
 pub mod Meeting
+pub mod Sound
 pub mod Ways
 pub mod Application
 pub mod Telling

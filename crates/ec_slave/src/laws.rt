@@ -2,7 +2,8 @@
 
 ghost use Rattle.ec_slave.specs.Laws.{OtherStationPasses};
 ghost use Rattle.ec_slave.specs.Laws.{OtherPositionPasses};
-ghost use Rattle.ec_slave.specs.Laws.{HeadingStays, WritesByByte, ReadsByByte, CountsByRole};
+ghost use Rattle.ec_slave.specs.Sound.{MetIsSlave, PowerOnIsSlave};
+ghost use Rattle.ec_slave.specs.Laws.{CountsWhatItChanges, HeadingStays, WritesByByte, ReadsByByte, CountsByRole};
 ghost use Rattle.ec_slave.specs.AgainstAll.{LogicalAgainstAll, PhysicalAgainstAll};
 ghost use Rattle.ec_slave.specs.LogicalLaws.{BroadcastLaw, ExchangeLaw, MappedLaw, MissesLaw};
 
@@ -19,6 +20,19 @@ pub fn other_position_passes()
 /// Of a datagram only ADP, the bytes of its data and its working counter ever change.
 pub fn heading_stays()
     ensures { HeadingStays }
+{}
+
+/// What adds nothing to the working counter changes nothing of the slave, and nothing of the data.
+#[tactic(auto, using(crate::proofs::Counted::counts_what_it_changes))]
+pub fn counts_what_it_changes()
+    ensures { CountsWhatItChanges }
+{}
+
+/// What holds of every slave holds of one that was just switched on, and of one that a datagram met.
+#[tactic(auto, using(crate::proofs::Lasting::power_on_is_slave, crate::proofs::Lasting::met_is_slave))]
+pub fn slaves_stay_slaves()
+    ensures power_on { PowerOnIsSlave }
+    ensures met { MetIsSlave }
 {}
 
 /// A write changes the bytes that it touches and that take writes, and no other.

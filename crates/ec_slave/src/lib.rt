@@ -13,6 +13,7 @@ mod physical;
 mod reach;
 mod role;
 mod slave;
+mod sound;
 
 pub use crate::slave::Slave;
 

@@ -57,7 +57,7 @@ impl Model for Slave {
       replies = s.replies;
     } };
 
-    ghost invariant = { λ s. IsHeld s.kind s.identity s.memory.items s.managers.items s.fmmus s.port s.out_slots.items s.in_slots.items };
+    ghost invariant = { λ s. IsHeld s.kind s.identity s.memory.items s.managers.items s.fmmus s.port s.out_slots.items s.in_slots.items s.out_count s.in_count };
 }
 
 /// The number of addresses, which contracts see under its name.

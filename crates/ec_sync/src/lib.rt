@@ -11,6 +11,7 @@ mod mail;
 mod mailbox;
 mod manager;
 mod ring;
+mod sound;
 mod touching;
 
 pub use crate::manager::Manager;

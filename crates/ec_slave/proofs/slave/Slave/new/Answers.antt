@@ -12,11 +12,15 @@ invariant_of-result c =
     let with_mailbox : Option Mailbox → Image = λ m. record { identity = c.args.identity; mailbox = m } in
     let outputs : List Pdo = c.outputs.result.now in
     let inputs : List Pdo = c.inputs.result.now in
+    let outs = ap length c.in_ok-out_slots.ensures ∙ length-map outputs (λ (p : Pdo). p.index) in
+    let ins = ap length c.in_ok-in_slots.ensures ∙ length-map inputs (λ (p : Pdo). p.index) in
     record {
       room = omega (arith, c.in_ok-memory.memory.ok, c.in_ok-memory.ensures.len, c.memory_len.ensures.is);
       four = ap length c.in_ok-managers.ensures;
       decoded = c.read_fmmus-fmmus.ensures ∙ ap fmmus_of c.deref.ensures.value;
       image = ap (λ (p : Sii). p.image) c.new-port.ensures ∙ (c.new.ensures ∙ ap with_mailbox c.mailbox.ensures.value);
-      outs = ap length c.in_ok-out_slots.ensures ∙ (length-map outputs (λ (p : Pdo). p.index) ∙ ap length c.outputs.ensures.value);
-      ins = ap length c.in_ok-in_slots.ensures ∙ (length-map inputs (λ (p : Pdo). p.index) ∙ ap length c.inputs.ensures.value);
+      outs = outs ∙ ap length c.outputs.ensures.value;
+      ins = ins ∙ ap length c.inputs.ensures.value;
+      some_outs = omega (arith, outs, ap length c.outputs.ensures.value, ap length c.outputs-2.ensures.value);
+      some_ins = omega (arith, ins, ap length c.inputs.ensures.value, ap length c.inputs-2.ensures.value);
     }

@@ -35,4 +35,6 @@ invariant_of-self c =
       image = ap (λ (p : Sii). p.image) c.write.ensures ∙ (written-image c.self.inside.port c.args.from c.args.bytes.now ∙ c.self.invariant.image);
       outs = c.self.invariant.outs;
       ins = c.self.invariant.ins;
+      some_outs = c.self.invariant.some_outs;
+      some_ins = c.self.invariant.some_ins;
     }

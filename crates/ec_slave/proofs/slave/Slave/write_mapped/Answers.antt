@@ -29,6 +29,8 @@ invariant_of-self c =
       image = c.self.invariant.image;
       outs = c.self.invariant.outs;
       ins = c.self.invariant.ins;
+      some_outs = c.self.invariant.some_outs;
+      some_ins = c.self.invariant.some_ins;
     }
 
 pub returns-clause-slave : goal.returns-clause-slave
