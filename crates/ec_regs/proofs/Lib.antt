@@ -1,3 +1,5 @@
 pub mod Limits
 pub mod Flagged
 pub mod Table
+pub mod Areas
+pub mod Objects

@@ -123,5 +123,8 @@ cases : (b : Bool) → (b ≡ true) ⊎ (b ≡ false)
 cases true = inl refl
 cases false = inr refl
 
+by_place : (a : ℕ) (busy : Bool) → (is_stored a ≡ is_stored_access (access_of a)) × (takes_writes busy a ≡ takes_effect busy (access_of a))
+by_place a busy = elim (cases (within 2048 32 a)) [ inl h ↦ in_manager a busy h | inr h ↦ in_registers a busy h ]
+
 pub access_law : AccessIsTheTable
-access_law a busy = elim (cases (within 2048 32 a)) [ inl h ↦ in_manager a busy h | inr h ↦ in_registers a busy h ]
+access_law = record { stored = λ a. (by_place a false).0; taken = λ a busy. (by_place a busy).1 }

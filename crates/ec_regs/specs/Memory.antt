@@ -61,5 +61,6 @@ takes_effect busy Fixed = false
 takes_effect busy SiiPort = not busy
 
 -- the tests say what the table says
-abbrev pub AccessIsTheTable : Type 0
-AccessIsTheTable = (a : ℕ) (busy : Bool) → (is_stored a ≡ is_stored_access (access_of a)) × (takes_writes busy a ≡ takes_effect busy (access_of a))
+pub record AccessIsTheTable : Type 0 where
+  pub stored : (a : ℕ) → is_stored a ≡ is_stored_access (access_of a)
+  pub taken : (a : ℕ) (busy : Bool) → takes_writes busy a ≡ takes_effect busy (access_of a)

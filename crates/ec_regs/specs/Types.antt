@@ -4,11 +4,12 @@ use Rattle.std.specs.Option.{ForSome}
 use Rattle.ec_regs.specs.declared.slave_type.Entry.{Entry}
 use Rattle.ec_regs.specs.declared.slave_type.Pdo.{Pdo}
 use Rattle.ec_regs.specs.declared.slave_type.Mailbox.{Mailbox}
+use Rattle.ec_regs.specs.declared.slave_type.Device.{Device}
 use Rattle.ec_regs.specs.declared.slave_type.Identity.{Identity}
 
 -- the value of a `SlaveType`
 pub record SlaveKind : Type 0 where
-  pub identity : Identity
+  pub device : Device
   pub mailbox : Option Mailbox
   pub out_start : ℕ
   pub in_start : ℕ
@@ -16,6 +17,14 @@ pub record SlaveKind : Type 0 where
   pub inputs : List Pdo
   -- whether it takes part in LRW datagrams
   pub lrw : Bool
+
+-- what a slave of the device shows, which has a serial number of its own
+abbrev pub device_identity : Device → ℕ → Identity
+device_identity d serial = record { vendor = d.vendor; product = d.product; revision = d.revision; serial = serial }
+
+-- the device of a slave that shows this
+abbrev pub device_of : Identity → Device
+device_of i = record { vendor = i.vendor; product = i.product; revision = i.revision }
 
 -- how many bits a PDO has, gaps with them
 abbrev pub pdo_bits : Pdo → ℕ
@@ -66,10 +75,10 @@ pub record IsWithinLimits (m : Option Mailbox) (outs ins : List Pdo) : Type 0 wh
   pub outputs : ArePdos first_output_index outs
   pub inputs : ArePdos first_input_index ins
 
--- a type without objects and without a mailbox, which takes part in LRW
+-- a type without PDOs and without a mailbox, which takes part in LRW
 abbrev pub plain_kind : SlaveKind
 plain_kind = record {
-  identity = record { vendor = 0; product = 0; revision = 0; serial = 0 };
+  device = record { vendor = 0; product = 0; revision = 0 };
   mailbox = None;
   out_start = 0;
   in_start = 0;

@@ -1,5 +1,5 @@
 ghost use Rattle.std.specs.Prelude.{◌≡◌, slice_index};
-ghost use Rattle.ec_regs.specs.Fmmus.{fmmu_of, fmmu_bytes};
+ghost use Rattle.ec_regs.specs.Fmmus.{no_fmmu, fmmu_of, fmmu_bytes};
 
 use byteorder::{ByteOrder, LittleEndian};
 
@@ -24,6 +24,25 @@ pub struct FmmuSettings {
     pub writes: bool,
     /// It is activated.
     pub active: bool,
+}
+
+impl FmmuSettings {
+    /// Those of an FMMU that maps nothing: all 0.
+    pub fn none() -> Self
+        ensures { result ≡ no_fmmu }
+    {
+        FmmuSettings {
+            logical_start: 0,
+            length: 0,
+            start_bit: 0,
+            stop_bit: 0,
+            physical_start: 0,
+            physical_bit: 0,
+            reads: false,
+            writes: false,
+            active: false,
+        }
+    }
 }
 
 /// The settings in an FMMU's sixteen bytes. Of the bit numbers the low three bits count; bits 2 to 7

@@ -1,11 +1,13 @@
 //! Laws of the definitions: each is the contract of a function that does nothing.
 
 ghost use Rattle.ec_regs.specs.Memory.{AccessIsTheTable};
-ghost use Rattle.ec_regs.specs.Managers.{ManagerIsReadBack};
+ghost use Rattle.ec_regs.specs.Managers.{ManagerIsReadBack, UsualAreasAreSet};
 ghost use Rattle.ec_regs.specs.Fmmus.{FmmuIsReadBack};
+ghost use Rattle.ec_regs.specs.Objects.{BitsAssignedAreOfEntries};
 ghost use Rattle.ec_regs.specs.Words.{AlIsReadBack, SiiIsReadBack};
 
 /// Which register bytes take writes, as a table.
+#[tactic(auto, using(crate::proofs::Table::access_law))]
 pub fn access_is_the_table()
     ensures { AccessIsTheTable }
 {}
@@ -28,4 +30,16 @@ pub fn al_is_read_back()
 /// Command and flags are read back from their word.
 pub fn sii_is_read_back()
     ensures { SiiIsReadBack }
+{}
+
+/// An area in the RAM with a usual control byte makes the manager that the byte is named for.
+#[tactic(auto, using(crate::proofs::Areas::usual_areas))]
+pub fn usual_areas_are_set()
+    ensures { UsualAreasAreSet }
+{}
+
+/// PDOs have as many bits as their entries.
+#[tactic(auto, using(crate::proofs::Objects::bits_assigned_law))]
+pub fn bits_assigned_are_of_entries()
+    ensures { BitsAssignedAreOfEntries }
 {}

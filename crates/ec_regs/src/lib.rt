@@ -13,11 +13,14 @@ mod words;
 pub use crate::access::{Access, is_stored, takes_writes};
 pub use crate::fmmu::{FmmuSettings, decode_fmmu, encode_fmmu};
 pub use crate::listed::Listed;
-pub use crate::manager::{ManagerSettings, decode_manager, encode_manager};
+pub use crate::manager::{
+    CONTROL_INPUTS, CONTROL_MAILBOX_IN, CONTROL_MAILBOX_OUT, CONTROL_OUTPUTS, ManagerSettings,
+    decode_manager, encode_manager,
+};
 pub use crate::slave_type::{
-    Entry, FIRST_INPUT_INDEX, FIRST_OUTPUT_INDEX, Identity, MAX_ENTRIES, MAX_ENTRY_BITS,
+    Device, Entry, FIRST_INPUT_INDEX, FIRST_OUTPUT_INDEX, Identity, MAX_ENTRIES, MAX_ENTRY_BITS,
     MAX_MAILBOX_SIZE, MAX_PDOS, MIN_MAILBOX_SIZE, Mailbox, PDO_INDICES, Pdo, SlaveType,
-    are_within_limits, have_own_indices,
+    are_within_limits, copied_pdos, have_own_indices,
 };
 pub use crate::words::{AlWord, SiiControl};
 

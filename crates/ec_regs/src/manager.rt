@@ -1,8 +1,17 @@
 ghost use Rattle.std.specs.Prelude.{◌≡◌, slice_index};
-ghost use Rattle.ec_regs.specs.Managers.{settings_of, manager_bytes, is_mailbox, is_buffered, is_ring_written, is_ring_read, span, is_set};
+ghost use Rattle.ec_regs.specs.Managers.{no_settings, area_settings, settings_of, manager_bytes, is_mailbox, is_buffered, is_ring_written, is_ring_read, span, is_set};
 
 use crate::registers::{RAM_END, RAM_START};
 use byteorder::{ByteOrder, LittleEndian};
+
+/// The control byte of a mailbox that the ring writes.
+pub const CONTROL_MAILBOX_OUT: u8 = 0x26;
+/// The control byte of a mailbox that the ring reads.
+pub const CONTROL_MAILBOX_IN: u8 = 0x22;
+/// The control byte of a buffered manager that the ring writes.
+pub const CONTROL_OUTPUTS: u8 = 0x24;
+/// The control byte of a buffered manager that the ring reads.
+pub const CONTROL_INPUTS: u8 = 0x20;
 
 /// The bytes of a sync manager that the ring writes: 0 to 4 and 6 of its eight.
 #[derive(Clone, Copy, Debug, PartialEq, Eq)]
@@ -18,6 +27,31 @@ pub struct ManagerSettings {
 }
 
 impl ManagerSettings {
+    /// Those of a manager that isn't there: all 0.
+    pub fn none() -> Self
+        ensures { result ≡ no_settings }
+    {
+        ManagerSettings {
+            start: 0,
+            length: 0,
+            control: 0,
+            activate: 0,
+        }
+    }
+
+    /// Those of an activated manager whose value has `length` bytes from `start` on; the control
+    /// byte is one of the four above.
+    pub fn of_area(start: u16, length: u16, control: u8) -> Self
+        ensures { result ≡ area_settings start length control }
+    {
+        ManagerSettings {
+            start,
+            length,
+            control,
+            activate: 1,
+        }
+    }
+
     /// Whether the mode is mailbox: 10 in bits 0 and 1 of the control byte.
     pub fn is_mailbox(&self) -> bool
         ensures { result ≡ is_mailbox self.now }

@@ -1,5 +1,5 @@
 ghost use Rattle.std.specs.Prelude.{◌≡◌, ◌≤◌, ◌↔◌, length, All, AllPairs, ◌≢◌, IsTrue, IfSome, IfOk};
-ghost use Rattle.ec_regs.specs.Types.{IsEntry, IsPdo, ArePdos, IsMailbox, IsWithinLimits, pdo_bits, pdos_bits, plain_kind, first_output_index, first_input_index};
+ghost use Rattle.ec_regs.specs.Types.{IsEntry, IsPdo, ArePdos, IsMailbox, IsWithinLimits, device_identity, device_of, pdo_bits, pdos_bits, plain_kind, first_output_index, first_input_index};
 
 use crate::listed::Listed;
 use std::alloc::{AllocError, Global};
@@ -22,7 +22,17 @@ pub const MIN_MAILBOX_SIZE: u16 = 16;
 /// The most bytes of a mailbox.
 pub const MAX_MAILBOX_SIZE: u16 = 1024;
 
-/// What tells one device from another, as its SII and its object 0x1018 show it.
+/// What tells the devices of one type from those of another: the first three numbers of object
+/// 0x1018 (ETG.1000.6, "Identity object").
+#[derive(Clone, Copy, Debug, PartialEq, Eq)]
+pub struct Device {
+    pub vendor: u32,
+    pub product: u32,
+    pub revision: u32,
+}
+
+/// What tells one slave from every other: its device and its serial number, as its SII and its
+/// object 0x1018 show them (ETG.1000.6, "Identity object").
 #[derive(Clone, Copy, Debug, PartialEq, Eq)]
 pub struct Identity {
     pub vendor: u32,
@@ -55,11 +65,11 @@ pub struct Pdo {
     pub entries: Listed<Entry>,
 }
 
-/// What a slave of one type is: its identity, where its mailboxes and its process data lie, and its
+/// What a slave of one type is: its device, where its mailboxes and its process data lie, and its
 /// process data objects, all within the limits of this profile.
 #[derive(Debug, Drop)]
 pub struct SlaveType {
-    identity: Identity,
+    device: Device,
     mailbox: Option<Mailbox>,
     out_start: u16,
     in_start: u16,
@@ -74,7 +84,7 @@ impl Model for SlaveType {
     ghost Value = { SlaveKind };
 
     ghost view = { λ t. record {
-      identity = t.identity;
+      device = t.device;
       mailbox = t.mailbox;
       out_start = t.out_start;
       in_start = t.in_start;
@@ -84,6 +94,33 @@ impl Model for SlaveType {
     } };
 
     ghost invariant = { λ t. IsWithinLimits t.mailbox t.outputs t.inputs };
+}
+
+impl Device {
+    /// What its slave with this serial number shows.
+    pub fn identity(self, serial: u32) -> Identity
+        ensures { result ≡ device_identity self serial }
+    {
+        Identity {
+            vendor: self.vendor,
+            product: self.product,
+            revision: self.revision,
+            serial,
+        }
+    }
+}
+
+impl Identity {
+    /// The device, without the serial number.
+    pub fn device(self) -> Device
+        ensures { result ≡ device_of self }
+    {
+        Device {
+            vendor: self.vendor,
+            product: self.product,
+            revision: self.revision,
+        }
+    }
 }
 
 impl Mailbox {
@@ -171,24 +208,13 @@ pub fn are_within_limits(pdos: &[Pdo], first: u16) -> bool
         && have_own_indices(pdos)
 }
 
-/// A copy of a PDO's entries.
-fn copied_entries(alloc: Global, entries: &[Entry]) -> Result<Listed<Entry>, AllocError>
-    ensures { IfOk result (λ es. es ≡ entries.now) }
-{
-    let mut copied = Listed::new(alloc);
-    for entry in entries {
-        copied.push(*entry)?;
-    }
-    Ok(copied)
-}
-
-/// A copy of the PDOs of a direction.
-fn copied_pdos(alloc: Global, pdos: &[Pdo]) -> Result<Listed<Pdo>, AllocError>
+/// A copy of PDOs. The error says that memory was refused.
+pub fn copied_pdos(alloc: Global, pdos: &[Pdo]) -> Result<Listed<Pdo>, AllocError>
     ensures { IfOk result (λ ps. ps ≡ pdos.now) }
 {
     let mut copied = Listed::new(alloc);
     for pdo in pdos {
-        let entries = copied_entries(alloc, pdo.entries.as_slice())?;
+        let entries = Listed::copied(alloc, pdo.entries.as_slice())?;
         copied.push(Pdo {
             index: pdo.index,
             entries,
@@ -228,7 +254,7 @@ impl SlaveType {
     /// The type of these parts, which `is_within_limits` accepts. `out_start` and `in_start` are
     /// the addresses of the output and the input sync manager.
     pub fn new(
-        identity: Identity,
+        device: Device,
         mailbox: Option<Mailbox>,
         out_start: u16,
         in_start: u16,
@@ -238,7 +264,7 @@ impl SlaveType {
     ) -> Self
         requires { IsWithinLimits mailbox outputs inputs }
         ensures { result ≡ record {
-          identity = identity;
+          device = device;
           mailbox = mailbox;
           out_start = out_start;
           in_start = in_start;
@@ -248,7 +274,7 @@ impl SlaveType {
         } }
     {
         SlaveType {
-            identity,
+            device,
             mailbox,
             out_start,
             in_start,
@@ -258,18 +284,17 @@ impl SlaveType {
         }
     }
 
-    /// The type without objects and without a mailbox, with identity 0, which takes part in LRW.
+    /// The type without PDOs and without a mailbox, of a device of zeros, which takes part in LRW.
     pub fn plain(alloc: Global) -> Self
         ensures { result ≡ plain_kind }
     {
-        let identity = Identity {
+        let device = Device {
             vendor: 0,
             product: 0,
             revision: 0,
-            serial: 0,
         };
         SlaveType {
-            identity,
+            device,
             mailbox: None,
             out_start: 0,
             in_start: 0,
@@ -284,7 +309,7 @@ impl SlaveType {
         ensures { IfOk result (λ t. t ≡ self.now) }
     {
         let SlaveType {
-            identity,
+            device,
             mailbox,
             out_start,
             in_start,
@@ -293,7 +318,7 @@ impl SlaveType {
             lrw: has_lrw,
         } = self;
         Ok(SlaveType {
-            identity: *identity,
+            device: *device,
             mailbox: *mailbox,
             out_start: *out_start,
             in_start: *in_start,
@@ -303,11 +328,11 @@ impl SlaveType {
         })
     }
 
-    /// What the type's slaves show as their identity.
-    pub fn identity(&self) -> Identity
-        ensures { result ≡ self.now.identity }
+    /// The device that the type's slaves are; the serial number is each slave's own.
+    pub fn device(&self) -> Device
+        ensures { result ≡ self.now.device }
     {
-        self.identity
+        self.device
     }
 
     /// Where the mailboxes lie, if the type has any.

@@ -3,8 +3,9 @@ use crate::registers::{
     fmmu_address, manager_address,
 };
 use crate::{
-    AlWord, Entry, FmmuSettings, Identity, Listed, Mailbox, ManagerSettings, Pdo, SiiControl,
-    SlaveType, decode_fmmu, decode_manager, encode_fmmu, encode_manager, is_stored, takes_writes,
+    AlWord, CONTROL_OUTPUTS, Device, Entry, FmmuSettings, Listed, Mailbox, ManagerSettings, Pdo,
+    SiiControl, SlaveType, decode_fmmu, decode_manager, encode_fmmu, encode_manager, is_stored,
+    takes_writes,
 };
 use std::alloc::Global;
 use std::test::Fail;
@@ -14,13 +15,10 @@ use std::test::Fail;
 fn output_manager(rt: HostRuntime) {
     let bytes = [0x00, 0x11, 0x02, 0x00, 0x24, 0x00, 0x01, 0x00];
     let settings = decode_manager(&bytes);
-    let fields = ManagerSettings {
-        start: 0x1100,
-        length: 2,
-        control: 0x24,
-        activate: 1,
-    };
-    assert_eq!(rt; settings, fields);
+    assert_eq!(rt;
+        settings,
+        ManagerSettings::of_area(0x1100, 2, CONTROL_OUTPUTS)
+    );
     assert!(rt; settings.is_set());
     assert!(rt; settings.is_buffered());
     assert!(rt; settings.is_ring_written());
@@ -161,15 +159,16 @@ fn a_type_with_objects(rt: HostRuntime) -> Result<(), Fail> {
         send_start: 0x1080,
         send_size: 128,
     });
-    let identity = Identity {
+    let device = Device {
         vendor: 0xABCD,
         product: 3,
         revision: 1,
-        serial: 0,
     };
     assert!(rt; SlaveType::is_within_limits(mailbox, outputs.as_slice(), inputs.as_slice()));
-    let kind = SlaveType::new(identity, mailbox, 0x1100, 0x1400, outputs, inputs, true);
-    assert_eq!(rt; kind.identity(), identity);
+    let kind = SlaveType::new(device, mailbox, 0x1100, 0x1400, outputs, inputs, true);
+    assert_eq!(rt; kind.device(), device);
+    assert_eq!(rt; kind.device().identity(7).serial, 7);
+    assert_eq!(rt; kind.device().identity(7).device(), device);
     assert_eq!(rt; kind.mailbox(), mailbox);
     assert_eq!(rt; kind.out_start(), 0x1100);
     assert_eq!(rt; kind.in_start(), 0x1400);
@@ -179,7 +178,7 @@ fn a_type_with_objects(rt: HostRuntime) -> Result<(), Fail> {
     assert_eq!(rt; kind.input_bits(), 16);
     assert!(rt; kind.lrw());
     let copy = kind.copied(rt.alloc())?;
-    assert_eq!(rt; copy.identity(), identity);
+    assert_eq!(rt; copy.device(), device);
     assert_eq!(rt; copy.output_bits(), 16);
     Ok(())
 }

@@ -20,7 +20,8 @@ use Rattle.ec_table.specs.declared.rows.SlaveRow.{SlaveRow}
 use Rattle.ec_table.specs.Contents.{Contents, pdos_toward, assigned_toward}
 use Rattle.ec_table.specs.Pdos.{indices_of}
 use Rattle.ec_table.specs.Sound.{IsOnce, IsEntry, IsPdo, ArePdos, IsType, IsAssignment, IsSlave, AreSlaves}
-use Rattle.ec_table.specs.Objects.{entries_at, assigned_entries, entries_of, bits_of, type_of, entry_bits, object_bits}
+use Rattle.ec_regs.specs.Objects.{entries_at, assigned_entries, bits_of, entry_bits}
+use Rattle.ec_table.specs.Objects.{entries_of, type_of, object_bits}
 
 -- no list without doubles is longer than one that has all its elements
 length_le : (xs ys : List ℕ) → IsOnce xs → All (Contains ys) xs → length xs ≤ length ys

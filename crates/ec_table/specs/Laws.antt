@@ -17,7 +17,8 @@ use Rattle.ec_table.specs.Sound.{IsSound}
 use Rattle.ec_table.specs.Faults.{fault_place}
 use Rattle.ec_table.specs.Reading.{type_element, slave_element, variable_element, link_element, top, table_of_document, table_of}
 use Rattle.ec_table.specs.Fields.{keys_are, version_in, section_in}
-use Rattle.ec_table.specs.Objects.{object_bits, entries_of, bits_of}
+use Rattle.ec_regs.specs.Objects.{bits_of}
+use Rattle.ec_table.specs.Objects.{object_bits, entries_of}
 use Rattle.ec_table.specs.Writing.{document_of}
 use Rattle.ec_table.specs.declared.fields.Shape.TheVariants as shape
 

@@ -1,10 +1,11 @@
--- The objects of a slave: the entries of the process data objects that it assigns, and their bits (ETG.1000.6, "Object dictionary").
-use Rattle.std.specs.Prelude.{ℕ, ◌==◌, if◌then◌else◌, List, [], map, find, sum_by, Option, Some, None, slice_get, option_map, option_and_then}
-use Rattle.std.specs.List.{flat_map, range_with_len}
+-- The objects of a slave of a table: the entries of the PDOs that it assigns, and their bits (ETG.1000.6, "Object dictionary").
+use Rattle.std.specs.Prelude.{ℕ, List, [], Option, slice_get, option_map, option_and_then}
+use Rattle.std.specs.List.{flat_map}
 use Rattle.std.specs.Option.{option_map_or}
 use Rattle.ec_regs.specs.declared.slave_type.Entry.{Entry}
-use Rattle.ec_regs.specs.declared.slave_type.Pdo.{Pdo}
 use Rattle.ec_regs.specs.declared.slave_type.Identity.{Identity}
+use Rattle.ec_regs.specs.Types.{device_identity}
+use Rattle.ec_regs.specs.Objects.{ObjectBit, assigned_entries, entry_bits}
 use Rattle.ec_table.specs.declared.rows.Direction.{Direction}
 use Rattle.ec_table.specs.declared.rows.TypeRow.{TypeRow}
 use Rattle.ec_table.specs.declared.rows.SlaveRow.{SlaveRow}
@@ -25,33 +26,11 @@ slave_of c l = option_and_then (λ (r : LinkRow). slice_get c.slaves r.slave) (s
 
 -- what slave s shows as its identity: its type's device, and its own serial number
 abbrev pub identity_of : Contents → ℕ → Option Identity
-identity_of c s = option_and_then (λ (r : SlaveRow). option_map (λ (t : TypeRow). record { vendor = t.device.vendor; product = t.device.product; revision = t.device.revision; serial = r.serial }) (slice_get c.types r.type_place)) (slice_get c.slaves s)
-
--- the entries of the object with an index
-abbrev pub entries_at : List Pdo → ℕ → List Entry
-entries_at pdos index = option_map_or (λ (q : Pdo). q.entries) (find (λ (q : Pdo). q.index == index) pdos) []
-
--- the entries of objects, one after another
-abbrev pub assigned_entries : List Pdo → List ℕ → List Entry
-assigned_entries pdos indices = flat_map (entries_at pdos) indices
+identity_of c s = option_and_then (λ (r : SlaveRow). option_map (λ (t : TypeRow). device_identity t.device r.serial) (slice_get c.types r.type_place)) (slice_get c.slaves s)
 
 -- the entries of slave s in a direction
 unfoldable pub entries_of : Contents → ℕ → Direction → List Entry
 entries_of c s d = option_map_or (λ (r : SlaveRow). option_map_or (λ (t : TypeRow). assigned_entries (pdos_toward d t) (assigned_toward d r)) (slice_get c.types r.type_place) []) (slice_get c.slaves s) []
-
--- how many bits they have, gaps with them
-abbrev pub bits_of : List Entry → ℕ
-bits_of es = sum_by (λ (e : Entry). e.bits) es
-
--- one bit of an object
-pub record ObjectBit : Type 0 where
-  pub index : ℕ
-  pub subindex : ℕ
-  pub bit : ℕ
-
--- the bits of an entry, without a name in a gap
-abbrev pub entry_bits : Entry → List (Option ObjectBit)
-entry_bits e = map (λ k. if e.index == 0 then None else Some (record { index = e.index; subindex = e.subindex; bit = k })) (range_with_len 0 e.bits)
 
 -- the object bits of slave s in a direction, in order, gaps with them
 abbrev pub object_bits : Contents → ℕ → Direction → List (Option ObjectBit)

@@ -19,7 +19,6 @@ mod variables;
 pub use crate::fault::{Fault, Place, Section, TableError};
 pub use crate::read::read_table;
 pub use crate::rows::{
-    Device, Direction, LinkBits, LinkRow, Name, ProcessData, SlaveRow, TypeRow, VariableRow,
-    Version,
+    Direction, LinkBits, LinkRow, Name, ProcessData, SlaveRow, TypeRow, VariableRow, Version,
 };
 pub use crate::table::Table;

@@ -1,7 +1,7 @@
 ghost use Rattle.std.specs.Prelude.{◌≡◌, ◌==◌, ◌++◌, find, IfOk, OnOk};
 ghost use Rattle.std.specs.Option.{option_copied};
 ghost use Rattle.ec_regs.specs.declared.slave_type.Pdo.{Pdo};
-ghost use Rattle.ec_table.specs.Objects.{entries_at, assigned_entries};
+ghost use Rattle.ec_regs.specs.Objects.{entries_at, assigned_entries};
 
 use ec_regs::{Entry, Listed, Pdo};
 use std::alloc::{AllocError, Global};

@@ -1,7 +1,7 @@
 ghost use Rattle.std.specs.Prelude.{◌≡◌, IfOk, string_bytes};
 ghost use Rattle.ec_table.specs.Contents.{pdos_toward, assigned_toward};
 
-use ec_regs::{Listed, Mailbox, Pdo};
+use ec_regs::{Device, Listed, Mailbox, Pdo};
 use std::alloc::{AllocError, Global};
 use std::marker::Model;
 
@@ -51,14 +51,6 @@ pub enum Version {
 pub enum Direction {
     Out,
     In,
-}
-
-/// What tells the devices of one type from those of another (ETG.1000.6, object 0x1018).
-#[derive(Clone, Copy, Debug, PartialEq, Eq)]
-pub struct Device {
-    pub vendor: u32,
-    pub product: u32,
-    pub revision: u32,
 }
 
 /// A type's process data: where they begin in a slave's memory, in bytes, and their objects.

@@ -1,6 +1,7 @@
 ghost use Rattle.std.specs.Prelude.{◌≡◌, ◌<◌, ◌≤◌, length, All, Some, IfOk, slice_get};
 ghost use Rattle.ec_table.specs.Sound.{IsSound, IsType, AreTypes, AreSlaves, IsVariable, AreVariables, IsLink, IsEntry};
-ghost use Rattle.ec_table.specs.Objects.{type_of, variable_of, slave_of, identity_of, entries_of, bits_of};
+ghost use Rattle.ec_regs.specs.Objects.{bits_of};
+ghost use Rattle.ec_table.specs.Objects.{type_of, variable_of, slave_of, identity_of, entries_of};
 
 use crate::objects::assigned_entries;
 use crate::rows::{Direction, LinkRow, SlaveRow, TypeRow, VariableRow, Version};

@@ -7,8 +7,8 @@ ghost use Rattle.ec_table.specs.Reading.{is_type_name, device_in, process_in, pr
 use crate::fault::{Fault, Place, Section, TableError};
 use crate::fields::{Shape, keys_are, mailbox_in, member, name_in, number_in, truth_in};
 use crate::pdos::{has_twice, indices_of, pdos_in};
-use crate::rows::{Device, Name, ProcessData, TypeRow, Version};
-use ec_regs::{Listed, Pdo};
+use crate::rows::{Name, ProcessData, TypeRow, Version};
+use ec_regs::{Device, Listed, Pdo};
 use std::alloc::{AllocError, Global};
 use toml::Value;
 
