@@ -157,6 +157,11 @@ each-idle n f (m ∷ ms) h =
     let e : n + suc k ≡ n + 1 + k = omega arith in
     subst (λ (i : ℕ). f i (manager_at ms k) ≡ manager_at ms k) e (h (suc k) (omega arith))))
 
+each-idle-first : (f : ℕ → Manager → Manager) (ms : List Manager) → ((k : ℕ) → k < length ms → f k (manager_at ms k) ≡ manager_at ms k) → each_from 0 f ms ≡ ms
+each-idle-first f ms h = each-idle 0 f ms (λ k l.
+    let z : k ≡ 0 + k = omega arith in
+    subst (λ (i : ℕ). f i (manager_at ms k) ≡ manager_at ms k) z (h k l))
+
 -- ---- a physical datagram
 
 memory-idle : (ms : List Manager) (busy : Bool) (w : Window) (memory : List ℕ) → some_byte_written ms busy w ≡ false → memory_written ms w memory ≡ memory
@@ -199,7 +204,7 @@ managers-idle : (ms : List Manager) (busy reads writes : Bool) (w : Window) → 
     → managers_met [] reads writes w 0 ms ≡ ms
 managers-idle ms busy reads writes w fr fw =
     physical_against_all reads writes w ms
-    ∙ each-idle 0 _ ms (λ k l.
+    ∙ each-idle-first _ ms (λ k l.
     if_false _ _ _ (both-false writes _ _ fw (configured-counts ms busy w k))
     ∙ (if_false _ _ _ (both-false writes _ _ fw (written-counts ms busy w k))
     ∙ if_false _ _ _ (both-false reads _ _ fr (read-counts ms w k))))
@@ -225,6 +230,10 @@ port-idle p from bytes l idle none =
     ∙ (ap (commanded (addressed p (address_written p.address from bytes))) command
     ∙ ap (addressed p) address)
 
+port-busy : (p : Sii) (from : ℕ) (bytes : List ℕ) → p.busy ≡ true → written p from bytes ≡ p
+unfolding written
+port-busy p from bytes t = if_true _ _ _ t
+
 port-kept : (ms : List Manager) (p : Sii) (w : Window) → p.address < 2 ^ 32 → some_byte_written ms p.busy w ≡ false → written p w.from w.bytes ≡ p
 port-kept ms p w l f = elim (cases_Bool p.busy) [
   | inl t ↦ port-busy p w.from w.bytes t
@@ -232,10 +241,6 @@ port-kept ms p w l f = elim (cases_Bool p.busy) [
       some-written ms p.busy w place t (register-writes ms p.busy (touches w) place (omega arith)
       (or_right (is_stored place) _ (and_from _ _ (within_true 0x0502 6 place (omega arith) (omega arith)) (ap not idle))))))
 ]
-  where
-    port-busy : (q : Sii) (from : ℕ) (bytes : List ℕ) → q.busy ≡ true → written q from bytes ≡ q
-    unfolding written
-    port-busy q from bytes t = if_true _ _ _ t
 
 slave-idle : (s : SlaveState) (reads writes : Bool) (w : Window) → s.sii.address < 2 ^ 32
     → (reads && some_byte_read s.managers w) ≡ false → (writes && some_byte_written s.managers s.sii.busy w) ≡ false → slave_after s reads writes w ≡ s
@@ -320,7 +325,7 @@ mapped-managers-idle : (memory : List ℕ) (ms : List Manager) (reading writing 
     → (reading && some_read memory ms fs p) ≡ false → (writing && some_written ms fs p bytes) ≡ false → managers_exchanged [] reading writing fs p bytes ms ≡ ms
 mapped-managers-idle memory ms reading writing fs p bytes fr fw =
     logical_against_all reading writing fs p bytes ms
-    ∙ each-idle 0 _ ms (λ k l.
+    ∙ each-idle-first _ ms (λ k l.
     if_false _ _ _ (both-false writing _ _ fw (mapped-write-counts ms fs p bytes k))
     ∙ if_false _ _ _ (both-false reading _ _ fr (mapped-read-counts memory ms fs p k)))
 

@@ -1,8 +1,8 @@
 -- What holds of every slave stays, whatever datagrams do.
-use Rattle.std.proofs.Common.{ℕ, zero, suc, ◌+◌, ◌-◌, ◌*◌, ◌<◌, ◌≤◌, ◌≡◌, ◌^◌, ◌&&◌, ◌==◌, ◌%◌, ⊥, Bool, true, false, Option, Some, None, refl, sym, ◌∙◌, ap, subst, inl, inr, arith, if◌then◌else◌, List, [], ◌∷◌, ◌++◌, length, get_or, slice_index, map, unwrap_or}
+use Rattle.std.proofs.Common.{ℕ, zero, suc, ◌+◌, ◌-◌, ◌*◌, ◌<◌, ◌≤◌, ◌≡◌, ◌^◌, ◌&&◌, ◌==◌, ◌%◌, Bool, true, false, Option, Some, None, refl, sym, ◌∙◌, ap, subst, inl, inr, arith, if◌then◌else◌, List, [], ◌∷◌, ◌++◌, length, get_or, slice_index, map, unwrap_or}
 use Rattle.std.specs.Int.{from_le_bytes, to_le_bytes, w32}
 use Rattle.std.proofs.lemmas.Bool.{cases_Bool, and_parts}
-use Rattle.std.proofs.lemmas.List.{get_or_past, length-replicate, length-map}
+use Rattle.std.proofs.lemmas.List.{length-replicate, length-map}
 use Rattle.ec_bits.specs.Bits.{overlay, within, zeros}
 use Rattle.ec_bits.proofs.BitLaws.{length-overlay}
 use Rattle.ec_bits.proofs.AnyLaws.{if_true, if_false}
@@ -103,30 +103,38 @@ length-managers_met lower reads writes w n (m ∷ ms) = ap suc (length-managers_
 
 -- the managers of four, one by one
 pub four-sound : (ms : List Manager) → length ms ≡ 4 → (a b c d : Manager)
-    → a ≡ get_or ms 0 no_manager → b ≡ get_or ms 1 no_manager → c ≡ get_or ms 2 no_manager → d ≡ get_or ms 3 no_manager
+    → a ≡ get_or ms 0 a → b ≡ get_or ms 1 b → c ≡ get_or ms 2 c → d ≡ get_or ms 3 d
     → IsManager a → IsManager b → IsManager c → IsManager d → AreSound ms
-four-sound ms l a b c d ea eb ec ed ha hb hc hd zero = subst IsManager ea ha
-four-sound ms l a b c d ea eb ec ed ha hb hc hd (suc zero) = subst IsManager eb hb
-four-sound ms l a b c d ea eb ec ed ha hb hc hd (suc (suc zero)) = subst IsManager ec hc
-four-sound ms l a b c d ea eb ec ed ha hb hc hd (suc (suc (suc zero))) = subst IsManager ed hd
-four-sound ms l a b c d ea eb ec ed ha hb hc hd (suc (suc (suc (suc n)))) =
-    subst IsManager (sym (get_or_past ms (suc (suc (suc (suc n)))) no_manager (omega arith))) no-manager-sound
+four-sound [] l a b c d ea eb ec ed ha hb hc hd = absurd (omega arith)
+four-sound (x ∷ []) l a b c d ea eb ec ed ha hb hc hd = absurd (omega arith)
+four-sound (x ∷ y ∷ []) l a b c d ea eb ec ed ha hb hc hd = absurd (omega arith)
+four-sound (x ∷ y ∷ z ∷ []) l a b c d ea eb ec ed ha hb hc hd = absurd (omega arith)
+four-sound (x ∷ y ∷ z ∷ u ∷ []) l a b c d ea eb ec ed ha hb hc hd = each
+  where
+    each : (n : ℕ) → IsManager (manager_at (x ∷ y ∷ z ∷ u ∷ []) n)
+    each zero = subst IsManager ea ha
+    each (suc zero) = subst IsManager eb hb
+    each (suc (suc zero)) = subst IsManager ec hc
+    each (suc (suc (suc zero))) = subst IsManager ed hd
+    each (suc (suc (suc (suc n)))) = no-manager-sound
+four-sound (x ∷ y ∷ z ∷ u ∷ v ∷ vs) l a b c d ea eb ec ed ha hb hc hd = absurd (omega arith)
 
 -- ---- the SII port
 
+abbrev after_command : Sii → Bool → Bool → Sii
+after_command p a b =
+    if a then record { image = p.image; address = p.address; busy = p.busy; error = false; found = p.found }
+    else (if b then record { image = p.image; address = p.address; busy = true; error = false; found = p.found }
+    else record { image = p.image; address = p.address; busy = p.busy; error = true; found = p.found })
+
+after_command-keeps : (p : Sii) (a b : Bool) → ((after_command p a b).image ≡ p.image) × ((after_command p a b).address ≡ p.address)
+after_command-keeps p true b = (refl, refl)
+after_command-keeps p false true = (refl, refl)
+after_command-keeps p false false = (refl, refl)
+
 commanded-keeps : (p : Sii) (o : Option ℕ) → ((commanded p o).image ≡ p.image) × ((commanded p o).address ≡ p.address)
 commanded-keeps p None = (refl, refl)
-commanded-keeps p (Some control) = by (control % 8 == 0) (control % 8 == 1)
-  where
-    abbrev after : Bool → Bool → Sii
-    after a b =
-        if a then record { image = p.image; address = p.address; busy = p.busy; error = false; found = p.found }
-        else (if b then record { image = p.image; address = p.address; busy = true; error = false; found = p.found }
-        else record { image = p.image; address = p.address; busy = p.busy; error = true; found = p.found })
-    by : (a b : Bool) → ((after a b).image ≡ p.image) × ((after a b).address ≡ p.address)
-    by true b = (refl, refl)
-    by false true = (refl, refl)
-    by false false = (refl, refl)
+commanded-keeps p (Some control) = after_command-keeps p (control % 8 == 0) (control % 8 == 1)
 
 word-fits : (a b c d : ℕ) → a < 256 → b < 256 → c < 256 → d < 256 → from_le_bytes w32 (a ∷ b ∷ c ∷ d ∷ []) < 2 ^ 32
 word-fits a b c d ha hb hc hd = omega (arith, ha, hb, hc, hd)
