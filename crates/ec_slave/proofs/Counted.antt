@@ -13,7 +13,7 @@ use Rattle.ec_frame.specs.declared.command.Command.TheVariants.{Nop, Aprd, Apwr,
 use Rattle.ec_frame.specs.Datagram.{Datagram, adp_of}
 use Rattle.ec_regs.specs.Managers.{is_set}
 use Rattle.ec_sync.specs.Manager.{Manager, may_read, may_write}
-use Rattle.ec_sync.specs.Governing.{covers, governor, in_front}
+use Rattle.ec_sync.specs.Governing.{covers, governor, in_first_buffer}
 use Rattle.ec_sync.proofs.Lengths.{set_lies_in_ram}
 use Rattle.ec_al.specs.Al.{requesting}
 use Rattle.ec_sii.specs.Port.{Sii, address_byte, address_place, address_written, addressed, byte_for, command_place, commanded, written}
@@ -118,7 +118,7 @@ pub record OwnByte (ms : List Manager) (t : ℕ → Bool) (n : ℕ) : Type 0 whe
   pub at : ℕ
   pub touched : t at ≡ true
   pub governed : governor ms at ≡ Some n
-  pub front : in_front (manager_at ms n) at ≡ true
+  pub front : in_first_buffer (manager_at ms n) at ≡ true
   pub from_ram : 0x1000 ≤ at
   pub to_ram : at < 0x3000
   pub covered : covers t (manager_at ms n) ≡ true

@@ -19,4 +19,5 @@ pub mod Ways
 pub mod Sights
 pub mod Written
 pub mod Telling
+pub mod Untouched
 pub mod Keeping

@@ -1,9 +1,12 @@
 -- How long values are.
-use Rattle.std.proofs.Common.{ℕ, ◌≡◌, ◌≤◌, Bool, true, false, Option, Some, None, List, length, take, sym, ◌∙◌, ap, arith, if◌then◌else◌}
+use Rattle.std.proofs.Common.{◌≡◌, ◌≤◌, ◌+◌, ◌&&◌, ℕ, Bool, true, false, Option, Some, None, List, length, take, nat_le, nat_lt, refl, sym, ◌∙◌, ap, arith, if◌then◌else◌}
 use Rattle.std.proofs.lemmas.List.{length-take-le}
+use Rattle.std.proofs.lemmas.Bool.Decides.{nat_tests}
+use Rattle.ec_bits.specs.Bits.{within}
+use Rattle.ec_sync.specs.Bounds.{span_end_of}
 use Rattle.std.proofs.lemmas.Grind.{common_steps}
 use Rattle.ec_regs.specs.declared.manager.ManagerSettings.{ManagerSettings}
-use Rattle.ec_regs.specs.Managers.{is_set, is_mailbox}
+use Rattle.ec_regs.specs.Managers.{is_set, is_mailbox, span}
 use Rattle.ec_sync.specs.Manager.{buffer_length, LiesInRam}
 
 -- what is set and no mailbox is buffered
@@ -23,3 +26,11 @@ front-length n true xs ys d l k e =
     let same : take n xs ≡ d = cc in
     ap length (sym same) ∙ (length-take-le n xs l ∙ sym (length-take-le n ys k))
 front-length n false xs ys d l k e = absurd cc
+
+-- a byte lies in the span that is kept decoded exactly where the manager governs it
+ends_at : (b : Bool) (s n a : ℕ) → (nat_le s a && nat_lt a (if b then s + n else 0)) ≡ (b && (nat_le s a && nat_lt a (s + n)))
+ends_at true s n a = refl
+ends_at false s n a = grind (arith, nat_tests)
+
+pub span_has : (m : ManagerSettings) (a : ℕ) → (nat_le m.start a && nat_lt a (span_end_of m)) ≡ (is_set m && within m.start (span m) a)
+span_has m a = ends_at (is_set m) m.start (span m) a

@@ -4,6 +4,7 @@
 #![tactic(auto)]
 
 mod application;
+mod bounds;
 mod buffer;
 mod configuring;
 pub mod laws;
@@ -14,6 +15,7 @@ mod ring;
 mod sound;
 mod touching;
 
+pub use crate::bounds::Bounds;
 pub use crate::manager::Manager;
 pub use crate::touching::{Range, Reach, Touching, Writing};
 
