@@ -7,7 +7,7 @@ use Rattle.ec_bits.specs.Bits.{bit, overlay, within}
 use Rattle.ec_bits.proofs.AnyLaws.{any_below_from, any_below_some, if_true, if_false, if_none, within_true, within_parts}
 use Rattle.ec_bits.proofs.BitLaws.{overlay_own}
 use Rattle.ec_regs.specs.declared.fmmu.FmmuSettings.{FmmuSettings}
-use Rattle.ec_regs.specs.Memory.{ram_start, ram_end, is_stored}
+use Rattle.ec_regs.specs.Memory.{ram_start, ram_end, is_stored, sii_address}
 use Rattle.ec_frame.specs.declared.command.Command.{Command}
 use Rattle.ec_frame.specs.declared.command.Command.TheVariants.{Nop, Aprd, Apwr, Aprw, Fprd, Fpwr, Fprw, Brd, Bwr, Brw, Lrd, Lwr, Lrw, Armw, Frmw}
 use Rattle.ec_frame.specs.Datagram.{Datagram, adp_of}
@@ -16,7 +16,7 @@ use Rattle.ec_sync.specs.Manager.{Manager, may_read, may_write}
 use Rattle.ec_sync.specs.Governing.{covers, governor, in_first_buffer}
 use Rattle.ec_sync.proofs.Lengths.{set_lies_in_ram}
 use Rattle.ec_al.specs.Al.{requesting}
-use Rattle.ec_sii.specs.Port.{Sii, address_byte, address_place, address_written, addressed, byte_for, command_place, commanded, written}
+use Rattle.ec_sii.specs.Port.{Sii, address_byte, address_written, addressed, byte_for, command_place, commanded, written}
 use Rattle.ec_fmmu.specs.Sets.{target, readers}
 use Rattle.ec_fmmu.specs.Applied.{Place, data_bit_for, leads_into, touched_by_reading, touched_by_writing}
 use Rattle.ec_slave.specs.declared.role.Role.{Role}
@@ -217,7 +217,7 @@ port-idle p from bytes l idle none =
     let old : ℕ → ℕ = λ k. slice_index (to_le_bytes w32 p.address) k in
     let now : ℕ → ℕ = λ k. address_byte p.address from bytes k in
     let byte : (k : ℕ) → k < 4 → now k ≡ old k
-    = λ k h. ap (λ o. unwrap_or o (slice_index (to_le_bytes w32 p.address) k)) (if_false (within from (length bytes) (address_place + k)) (Some (slice_index bytes (address_place + k - from))) None (none (address_place + k) (omega arith) (omega arith))) in
+    = λ k h. ap (λ o. unwrap_or o (slice_index (to_le_bytes w32 p.address) k)) (if_false (within from (length bytes) (sii_address + k)) (Some (slice_index bytes (sii_address + k - from))) None (none (sii_address + k) (omega arith) (omega arith))) in
     let address : address_written p.address from bytes ≡ p.address
     = ap (λ x. from_le_bytes w32 (x ∷ now 1 ∷ now 2 ∷ now 3 ∷ [])) (byte 0 (omega arith))
     ∙ (ap (λ x. from_le_bytes w32 (old 0 ∷ x ∷ now 2 ∷ now 3 ∷ [])) (byte 1 (omega arith))

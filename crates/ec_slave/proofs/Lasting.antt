@@ -12,6 +12,7 @@ use Rattle.ec_regs.specs.declared.slave_type.Identity.{Identity}
 use Rattle.ec_regs.specs.declared.slave_type.Pdo.{Pdo}
 use Rattle.ec_regs.specs.Types.{SlaveKind}
 use Rattle.ec_regs.specs.Managers.{is_set, is_mailbox}
+use Rattle.ec_regs.specs.Memory.{sii_address}
 use Rattle.ec_frame.specs.declared.command.Command.{Command}
 use Rattle.ec_frame.specs.declared.command.Command.TheVariants.{Nop, Aprd, Apwr, Aprw, Fprd, Fpwr, Fprw, Brd, Bwr, Brw, Lrd, Lwr, Lrw, Armw, Frmw}
 use Rattle.ec_frame.specs.Datagram.{Datagram, adp_of}
@@ -19,7 +20,7 @@ use Rattle.ec_sync.specs.Buffer.{publishing}
 use Rattle.ec_sync.specs.Manager.{Manager, no_manager, empty_manager, buffer_length, may_write, ring_written, ring_read}
 use Rattle.ec_sync.specs.Sound.{IsManager}
 use Rattle.ec_sync.proofs.Lengths.{buffer_length_set}
-use Rattle.ec_sii.specs.Port.{Sii, address_byte, address_place, address_written, addressed, byte_for, command_place, commanded, written}
+use Rattle.ec_sii.specs.Port.{Sii, address_byte, address_written, addressed, byte_for, command_place, commanded, written}
 use Rattle.ec_fmmu.specs.Applied.{Place, touched_by_reading, touched_by_writing}
 use Rattle.ec_slave.specs.State.{SlaveState, Met, manager_at, power_on, memory_length, station_of}
 use Rattle.ec_slave.specs.Sound.{IsSlave, AreBytes, PowerOnIsSlave, MetIsSlave}
@@ -147,10 +148,10 @@ old-byte old (suc (suc (suc zero))) = omega arith
 old-byte old (suc (suc (suc (suc k)))) = omega arith
 
 address_byte-fits : (old from : ℕ) (bytes : List ℕ) (k : ℕ) → AreBytes bytes → address_byte old from bytes k < 256
-address_byte-fits old from bytes k h = by (within from (length bytes) (address_place + k))
+address_byte-fits old from bytes k h = by (within from (length bytes) (sii_address + k))
   where
-    by : (b : Bool) → unwrap_or (if b then Some (slice_index bytes (address_place + k - from)) else None) (slice_index (to_le_bytes w32 old) k) < 256
-    by true = h (address_place + k - from)
+    by : (b : Bool) → unwrap_or (if b then Some (slice_index bytes (sii_address + k - from)) else None) (slice_index (to_le_bytes w32 old) k) < 256
+    by true = h (sii_address + k - from)
     by false = old-byte old k
 
 address_written-fits : (old from : ℕ) (bytes : List ℕ) → AreBytes bytes → address_written old from bytes < 2 ^ 32

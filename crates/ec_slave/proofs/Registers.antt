@@ -86,21 +86,29 @@ kept-stored ms a l =
     with_not true false e = refl
     with_not false y e = refl
 
+below-memory : (a : ℕ) → a < 0x0010 → in_memory a ≡ false
+below-memory a l =
+    ap (λ (b : Bool). b || (within 0x0120 2 a || within 0x0600 64 a)) (within_below 0x0010 2 a l)
+    ∙ (ap (λ (b : Bool). b || within 0x0600 64 a) (within_below 0x0120 2 a (omega arith)) ∙ within_below 0x0600 64 a (omega arith))
+
+memory-no-count : (a : ℕ) → in_memory a ≡ true → ((a == 0x0004) || (a == 0x0005)) ≡ false
+memory-no-count a m = false_from_ne_true ((a == 0x0004) || (a == 0x0005)) (λ t.
+    let few : a < 0x0010 = elim (or-cases (a == 0x0004) (a == 0x0005) t) [
+      | inl x ↦ let e = eqb-true a 0x0004 x in omega arith
+      | inr x ↦ let e = eqb-true a 0x0005 x in omega arith
+    ] in
+    both_ways (in_memory a) (below-memory a few) m)
+
+memory-no-size : (a : ℕ) → in_memory a ≡ true → (a == 0x0006) ≡ false
+memory-no-size a m = false_from_ne_true (a == 0x0006) (λ t.
+    let few : a < 0x0010 = let e = eqb-true a 0x0006 t in omega arith in
+    both_ways (in_memory a) (below-memory a few) m)
+
 -- a register that is stored reads what the memory has, where it is no manager's
 stored-reads : (s : SlaveState) (a : ℕ) → a < 0x0800 → in_memory a ≡ true → byte_at s a ≡ slice_index s.memory a
 unfolding byte_at register_byte
 stored-reads s a l m =
-    let apart = memory-apart a m in
-    if_true _ _ _ (lt-ltb a ram_start (omega arith)) ∙ (if_false _ _ _ apart.0 ∙ (if_false _ _ _ apart.1 ∙ if_true _ _ _ m))
-  where
-    memory-apart : (a : ℕ) → in_memory a ≡ true → (((a == 0x0004) || (a == 0x0005)) ≡ false) × ((a == 0x0006) ≡ false)
-    memory-apart a m = (false_from_ne_true _ (λ t. both_ways _ (below a (elim (or-cases (a == 0x0004) (a == 0x0005) t) [
-      | inl x ↦ let e = eqb-true a 0x0004 x in omega arith
-      | inr x ↦ let e = eqb-true a 0x0005 x in omega arith
-    ])) m), false_from_ne_true _ (λ t. both_ways _ (below a (let e = eqb-true a 0x0006 t in omega arith)) m))
-    below : (a : ℕ) → a < 0x0010 → in_memory a ≡ false
-    below a l = ap (λ (b : Bool). b || (within 0x0120 2 a || within 0x0600 64 a)) (within_below 0x0010 2 a l)
-        ∙ (ap (λ (b : Bool). b || within 0x0600 64 a) (within_below 0x0120 2 a (omega arith)) ∙ within_below 0x0600 64 a (omega arith))
+    if_true _ _ _ (lt-ltb a ram_start (omega arith)) ∙ (if_false _ _ _ (memory-no-count a m) ∙ (if_false _ _ _ (memory-no-size a m) ∙ if_true _ _ _ m))
 
 -- any other reads by what it reads apart from the memory
 other-reads : (s t : SlaveState) (a : ℕ) → a < 0x0800 → in_memory a ≡ false → status_word t.al ≡ status_word s.al → t.al.code ≡ s.al.code

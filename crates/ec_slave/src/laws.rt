@@ -30,7 +30,6 @@ pub fn counts_what_it_changes()
 {}
 
 /// What holds of every slave holds of one that was just switched on, and of one that a datagram met.
-#[tactic(auto, using(crate::proofs::Lasting::power_on_is_slave, crate::proofs::Lasting::met_is_slave))]
 pub fn slaves_stay_slaves()
     ensures power_on { PowerOnIsSlave }
     ensures met { MetIsSlave }
