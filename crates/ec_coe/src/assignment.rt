@@ -102,6 +102,7 @@ impl Assignment {
     pub fn is_sound(&self)
         ensures { self.now.count ≤ length self.now.slots }
     {
+        let _ = &self.slots;
     }
 
     /// The indices of the PDOs that are assigned, in order.
