@@ -102,6 +102,7 @@ impl Assignment {
     pub fn is_sound(&self)
         ensures { self.now.count ≤ length self.now.slots }
     {
+        let _count = self.count;
     }
 
     /// The indices of the PDOs that are assigned, in order.
