@@ -1,2 +1,3 @@
 mod PassLemmas
+mod PrintLemmas
 mod RunLemmas

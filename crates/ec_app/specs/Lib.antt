@@ -1,3 +1,6 @@
-pub mod Passing
+-- To be believed by reading, in this order: the refusals by number, name and values; what `ecat pass` answers; what is
+-- left on the output; and how a run ends.
 pub mod Refusals
+pub mod Passing
+pub mod Printing
 pub mod Running

@@ -1,20 +1,19 @@
 -- What `ecat pass` answers (this project's profile).
 use Rattle.std.specs.Prelude.{◌≡◌, ℕ, ◌<◌, ◌≤◌, ◌⊎◌, List, [], ◌∷◌, ◌++◌, length, replicate, Option, Result, Ok, Err}
-use Rattle.std.specs.Io.KnownBytes.{Appends}
 use Rattle.hex.specs.Hex.{decode_of, encode_lower}
 use Rattle.hex.specs.declared.error.FromHexError.{FromHexError}
 use Rattle.ec_regs.specs.Types.{plain_kind}
 use Rattle.ec_frame.specs.Frame.{Payload, IsFrame, with_datagrams}
 use Rattle.ec_frame.specs.Refusals.{IsRefused}
 use Rattle.ec_frame.specs.declared.error.FrameError.{FrameError}
-use Rattle.ec_frame.specs.declared.error.FrameError.TheVariants as frame
+use Rattle.ec_frame.specs.declared.error.FrameError.TheVariants.{TooLong}
 use Rattle.ec_slave.specs.State.{SlaveState, power_on}
-use Rattle.ec_ring.specs.Rings.{rings}
-use Rattle.ec_app.specs.Refusals.{status_of}
+use Rattle.ec_ring.specs.Rings.{passes_ring}
+use Rattle.ec_app.specs.Printing.{Prints}
 use Rattle.ec_app.specs.declared.refusal.Refusal.{Refusal}
-use Rattle.ec_app.specs.declared.refusal.Refusal.TheVariants.{Memory, Short, BadType, BadLength, BadMore, BadCommand, TooLong, BadHex, Output, Input}
+use Rattle.ec_app.specs.declared.refusal.Refusal.TheVariants.{Memory, Frame, BadHex}
 
--- a slave at power-on without objects, with identity 0
+-- a slave at power-on without PDOs, with identity 0
 abbrev pub plain_slave : SlaveState
 plain_slave = power_on plain_kind (record { vendor = 0; product = 0; revision = 0; serial = 0 })
 
@@ -22,7 +21,7 @@ plain_slave = power_on plain_kind (record { vendor = 0; product = 0; revision = 
 pub record ComesBack (slaves : ℕ) (sent back : List ℕ) : Type 0 where
   pub payload : Payload
   pub is_sent : IsFrame sent payload
-  pub is_back : IsFrame back (with_datagrams payload (rings (replicate slaves plain_slave) payload.datagrams).datagrams)
+  pub is_back : IsFrame back (with_datagrams payload (passes_ring (replicate slaves plain_slave) payload.datagrams).datagrams)
 
 -- the text spells these bytes in hex digits of either case, no more than a UDP payload of EtherCAT has
 pub record SpellsPayload (text payload : List ℕ) : Type 0 where
@@ -58,30 +57,13 @@ pub record IsNoHex (text : List ℕ) : Type 0 where
 abbrev pub IsPassRefusal : List ℕ → Refusal → Type 0
 IsPassRefusal text Memory = Unit {0}
 IsPassRefusal text BadHex = IsNoHex text
-IsPassRefusal text TooLong = IsOverlong text ⊎ SpellsNoFrame text frame.TooLong
-IsPassRefusal text Short = SpellsNoFrame text frame.Short
-IsPassRefusal text BadType = SpellsNoFrame text frame.BadType
-IsPassRefusal text BadLength = SpellsNoFrame text frame.BadLength
-IsPassRefusal text BadMore = SpellsNoFrame text frame.BadMore
-IsPassRefusal text BadCommand = SpellsNoFrame text frame.BadCommand
-IsPassRefusal text Output = ⊥
-IsPassRefusal text Input = ⊥
+IsPassRefusal text (Frame fault) = SpellsNoFrame text fault ⊎ ((fault ≡ TooLong) × IsOverlong text)
+IsPassRefusal text _ = ⊥
 
--- what a writer holds grows by the line of the answer
-abbrev pub PrintsAnswer : ℕ → List ℕ → Option (List ℕ) → Option (List ℕ) → Type 0
-PrintsAnswer slaves text old new = (answer : List ℕ) × IsAnswer slaves text answer × Appends old new (answer ++ 10 ∷ [])
+-- what `ecat pass` prints: the answer as a line
+abbrev pub AnswersPass : ℕ → List ℕ → List ℕ → Type 0
+AnswersPass slaves text printed = (answer : List ℕ) × IsAnswer slaves text answer × (printed ≡ answer ++ 10 ∷ [])
 
--- the writer took no more, or the text is refused and what the writer holds stays
-abbrev pub RefusesPass : List ℕ → Refusal → Option (List ℕ) → Option (List ℕ) → Type 0
-RefusesPass text refusal old new = (refusal ≡ Output) ⊎ (IsPassRefusal text refusal × (new ≡ old))
-
--- what comes of printing it
-abbrev pub GivesPass : ℕ → List ℕ → Option (List ℕ) → Option (List ℕ) → Result Unit Refusal → Type 0
-GivesPass slaves text old new (Ok done) = PrintsAnswer slaves text old new
-GivesPass slaves text old new (Err refusal) = RefusesPass text refusal old new
-
--- how `ecat pass` ends: with status 0 and the answer printed, or with the status of its refusal
-abbrev pub EndsPass : ℕ → List ℕ → ℕ → Option (List ℕ) → Option (List ℕ) → Type 0
-EndsPass slaves text status old new =
-    ((status ≡ 0) × PrintsAnswer slaves text old new)
-    ⊎ ((refusal : Refusal) × (status ≡ status_of refusal) × RefusesPass text refusal old new)
+-- how it ends, by what the writer holds before and after
+abbrev pub RunsPass : ℕ → List ℕ → Option (List ℕ) → Option (List ℕ) → Result Unit Refusal → Type 0
+RunsPass slaves text = Prints (AnswersPass slaves text) (IsPassRefusal text)

@@ -1,21 +1,50 @@
--- What a refusal is named and how it ends the program (this project's profile).
-use Rattle.std.specs.Prelude.{ℕ}
+-- The refusals of the program by number, name and values, what is told of them and how they end it (this project's
+-- profile).
+use Rattle.std.specs.Prelude.{ℕ, ◌==◌, ◌||◌, List, [], ◌∷◌, ◌++◌, if◌then◌else◌, codes}
+use Rattle.std.specs.Fmt.{decimal}
+use Rattle.std.specs.List.{flat_map}
+use Rattle.ec_frame.specs.Refusals.{refusal_number}
 use Rattle.ec_frame.specs.declared.error.FrameError.{FrameError}
 use Rattle.ec_frame.specs.declared.error.FrameError.TheVariants as frame
 use Rattle.ec_app.specs.declared.refusal.Refusal.{Refusal}
-use Rattle.ec_app.specs.declared.refusal.Refusal.TheVariants.{Short, BadType, BadLength, BadMore, BadCommand, TooLong, Output, Input}
+use Rattle.ec_app.specs.declared.refusal.Refusal.TheVariants.{Memory, Frame, BadHex, Output, Input}
 
--- a fault of a payload, by the same name
-abbrev pub refusal_of : FrameError → Refusal
-refusal_of frame.Short = Short
-refusal_of frame.BadType = BadType
-refusal_of frame.BadLength = BadLength
-refusal_of frame.BadMore = BadMore
-refusal_of frame.BadCommand = BadCommand
-refusal_of frame.TooLong = TooLong
+abbrev pub frame_name : FrameError → List ℕ
+frame_name frame.Short = codes "Short"
+frame_name frame.BadType = codes "BadType"
+frame_name frame.BadLength = codes "BadLength"
+frame_name frame.BadMore = codes "BadMore"
+frame_name frame.BadCommand = codes "BadCommand"
+frame_name frame.TooLong = codes "TooLong"
 
--- the exit status: 4 for a fault of input or output, 3 for all else
+abbrev pub number_of : Refusal → ℕ
+number_of Memory = 1
+number_of (Frame error) = refusal_number error
+number_of BadHex = 40
+number_of Output = 41
+number_of Input = 42
+
+abbrev pub name_of : Refusal → List ℕ
+name_of Memory = codes "Memory"
+name_of (Frame error) = frame_name error
+name_of BadHex = codes "BadHex"
+name_of Output = codes "Output"
+name_of Input = codes "Input"
+
+abbrev pub values_of : Refusal → List ℕ
+values_of refusal = []
+
+-- the number, the name and the values, with blanks between
+abbrev pub text_of : Refusal → List ℕ
+text_of refusal = decimal (number_of refusal) ++ 32 ∷ name_of refusal ++ flat_map (λ value. 32 ∷ decimal value) (values_of refusal)
+
+-- what is told of a refusal
+abbrev pub line_of : Refusal → List ℕ
+line_of refusal = codes "ecat: " ++ text_of refusal ++ 10 ∷ []
+
+-- the exit status: 4 for a fault of a wire, the output, the input or a socket, else 3
+abbrev pub status_of_number : ℕ → ℕ
+status_of_number n = if n == 37 || (n == 41 || (n == 42 || n == 43)) then 4 else 3
+
 abbrev pub status_of : Refusal → ℕ
-status_of Output = 4
-status_of Input = 4
-status_of _ = 3
+status_of refusal = status_of_number (number_of refusal)

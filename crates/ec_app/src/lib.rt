@@ -1,12 +1,15 @@
-//! The commands of `ecat`, over any reader and writers.
+//! The commands of `ecat`, over any reader and writers. The trait `App` is the application of a simulated
+//! slave; this crate is the program.
 #![tactic(auto)]
 
 mod pass;
+mod printing;
 mod refusal;
 mod run;
 #[cfg(test)]
 mod tests;
 
 pub use crate::pass::{pass_hex, print_pass};
+pub use crate::printing::{print_text, tell};
 pub use crate::refusal::Refusal;
 pub use crate::run::{App, run_command};

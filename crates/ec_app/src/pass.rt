@@ -1,9 +1,11 @@
 //! `ecat pass`: a frame in hex, through a ring of slaves at power-on.
-ghost use Rattle.std.specs.Prelude.{◌≡◌, ◌⊎◌, IfOk, IfErr, OnOk, replicate};
+ghost use Rattle.std.specs.Prelude.{◌≡◌, IfOk, IfErr, replicate};
 ghost use Rattle.std.specs.String.{string_bytes};
-ghost use Rattle.ec_app.specs.Passing.{IsAnswer, IsPassRefusal, PrintsAnswer, SpellsPayload, plain_slave};
+ghost use Rattle.ec_app.specs.Passing.{IsAnswer, IsPassRefusal, RunsPass, SpellsPayload, plain_slave};
 
 use crate::Refusal;
+use crate::printing::print_text;
+use ec_frame::FrameError;
 use ec_regs::{Identity, SlaveType};
 use ec_ring::Ring;
 use ec_slave::Slave;
@@ -11,7 +13,7 @@ use hex::FromHexError;
 use std::alloc::{AllocError, Global};
 use std::io::Write;
 
-/// The most bytes that the payload of an EtherCAT frame has.
+/// The most bytes of a UDP datagram's payload on Ethernet: 1500, less 20 of IPv4 and 8 of UDP.
 const MAX_PAYLOAD: usize = 1472;
 
 /// The identity of slaves that stand for none in particular.
@@ -22,7 +24,7 @@ const NO_IDENTITY: Identity = Identity {
     serial: 0,
 };
 
-/// A ring of that many slaves at power-on, without objects.
+/// A ring of that many slaves at power-on, without PDOs.
 fn plain_ring(alloc: Global, slaves: usize) -> Result<Ring, AllocError>
     ensures { IfOk result (λ ring. ring ≡ replicate slaves plain_slave) }
 {
@@ -44,14 +46,15 @@ fn read_payload(alloc: Global, text: &str) -> Result<Vec<u8>, Refusal>
         Err(_) => return Err(Refusal::BadHex),
     };
     if payload.len() > MAX_PAYLOAD {
-        return Err(Refusal::TooLong);
+        return Err(Refusal::Frame(FrameError::TooLong));
     }
     Ok(payload)
 }
 
 /// The frame that the text spells in hex digits of either case, as it comes back from a ring of
-/// that many slaves at power-on without objects, in lower-case hex. Refused are, in this order, a
-/// text that isn't hex, more than 1472 bytes, and what `ec_frame::check` refuses.
+/// that many slaves at power-on without PDOs, in lower-case hex. The text is the payload of a UDP
+/// datagram to port 34980 (0x88A4). Refused are, in this order, a text that isn't hex, more than
+/// 1472 bytes, and what `ec_frame::check` refuses.
 pub fn pass_hex(alloc: Global, slaves: usize, text: &str) -> Result<String, Refusal>
     ensures answer { IfOk result (λ answer. IsAnswer slaves text.now (string_bytes answer)) }
     ensures refused { IfErr result (IsPassRefusal text.now) }
@@ -70,11 +73,9 @@ pub fn print_pass<W: Write>(
     text: &str,
     output: &mut W,
 ) -> Result<(), Refusal>
-    ensures printed { OnOk result (PrintsAnswer slaves text.now (W.contents output.old)
-        (W.contents output.new)) }
-    ensures refused { IfErr result (λ refusal. (refusal ≡ Refusal.Output)
-        ⊎ (IsPassRefusal text.now refusal × (output.new ≡ output.old))) }
+    ensures { RunsPass slaves text.now (W.contents output.old) (W.contents output.new) result }
 {
-    let answer = pass_hex(alloc, slaves, text)?;
-    writeln!(output, "{answer}").map_err(|_| Refusal::Output)
+    let mut answer = pass_hex(alloc, slaves, text)?;
+    answer.push('\n')?;
+    print_text(answer.as_bytes(), output)
 }

@@ -1,77 +1,128 @@
-ghost use Rattle.std.specs.Prelude.{◌≡◌};
-
+use arrayvec::{ArrayString, ArrayVec};
 use ec_frame::FrameError;
 use std::alloc::{AllocError, AllocFailed};
-use thiserror::Error;
+use std::error::Error;
+use std::fmt;
+use std::fmt::Write as _;
 
-/// Why a command was refused. It prints as its number and its name, and its values after them in
+/// More bytes than a refusal's line has: its number, its name and four values have 110 at most.
+const LINE_SIZE: usize = 160;
+
+/// Why a command was refused. It prints as its number and its name, and behind them its values in
 /// decimal, with blanks between.
-#[derive(Clone, Copy, Debug, PartialEq, Eq, Drop, Error)]
+#[derive(Clone, Copy, Debug, PartialEq, Eq, Drop)]
 pub enum Refusal {
-    /// Memory was refused.
-    #[error("1 Memory")]
+    /// Memory was refused; what was asked for may be good or bad.
     Memory,
-    /// A payload has fewer bytes than its header, or than its header says.
-    #[error("2 Short")]
-    Short,
-    /// A payload's type isn't 1.
-    #[error("3 BadType")]
-    BadType,
-    /// No datagram fits where one ought to begin.
-    #[error("4 BadLength")]
-    BadLength,
-    /// More datagrams follow than are there, or fewer.
-    #[error("5 BadMore")]
-    BadMore,
-    /// A command over 14.
-    #[error("6 BadCommand")]
-    BadCommand,
-    /// A payload of over 1472 bytes, or of over 1470 bytes of datagrams.
-    #[error("7 TooLong")]
-    TooLong,
+    /// A payload that is no frame. Over 1472 bytes are `TooLong` too.
+    Frame(FrameError),
     /// A text that isn't pairs of hex digits.
-    #[error("40 BadHex")]
     BadHex,
     /// The output took no more.
-    #[error("41 Output")]
     Output,
-    /// The input couldn't be read.
-    #[error("42 Input")]
+    /// The input couldn't be read, isn't text, or doesn't end.
     Input,
 }
 
 impl Refusal {
-    ghost use Rattle.ec_app.specs.Refusals.{status_of};
+    ghost use Rattle.std.specs.Prelude.{◌≡◌};
+    ghost use Rattle.ec_app.specs.Refusals.{name_of, number_of, status_of, values_of};
 
-    /// The exit status that the program ends with: 4 for a fault of input or output, else 3.
+    /// The number of the refusal.
+    pub fn number(&self) -> u8
+        ensures { result ≡ number_of self.now }
+    {
+        match self {
+            Refusal::Memory => 1,
+            Refusal::Frame(error) => error.number(),
+            Refusal::BadHex => 40,
+            Refusal::Output => 41,
+            Refusal::Input => 42,
+        }
+    }
+
+    /// The name of the refusal, one word.
+    pub fn name(&self) -> &'static str
+        ensures { result.now ≡ name_of self.now }
+    {
+        match self {
+            Refusal::Memory => "Memory",
+            Refusal::Frame(FrameError::Short) => "Short",
+            Refusal::Frame(FrameError::BadType) => "BadType",
+            Refusal::Frame(FrameError::BadLength) => "BadLength",
+            Refusal::Frame(FrameError::BadMore) => "BadMore",
+            Refusal::Frame(FrameError::BadCommand) => "BadCommand",
+            Refusal::Frame(FrameError::TooLong) => "TooLong",
+            Refusal::BadHex => "BadHex",
+            Refusal::Output => "Output",
+            Refusal::Input => "Input",
+        }
+    }
+
+    /// The values that stand behind the name.
+    pub fn values(&self) -> ArrayVec<u64, 4>
+        ensures { result.items ≡ values_of self.now }
+    {
+        ArrayVec::new()
+    }
+
+    /// The exit status that the program ends with: 4 for a fault of a wire, the output, the input or
+    /// a socket, else 3.
     pub fn status(&self) -> u8
         ensures { result ≡ status_of self.now }
     {
-        match self {
-            Refusal::Output | Refusal::Input => 4,
+        match self.number() {
+            37 | 41 | 42 | 43 => 4,
             _ => 3,
         }
     }
 }
 
-impl From<FrameError> for Refusal {
-    ghost use Rattle.ec_app.specs.Refusals.{refusal_of};
+impl Refusal {
+    ghost use Rattle.std.specs.Prelude.{◌≡◌, IfOk};
+    ghost use Rattle.ec_app.specs.Refusals.{line_of};
 
-    ghost from_gives = { λ fault refusal. refusal ≡ refusal_of fault };
+    /// The line that tells the refusal. It takes no memory.
+    pub fn line(&self) -> Result<ArrayString<LINE_SIZE>, fmt::Error>
+        ensures { IfOk result (λ line. line.bytes ≡ line_of self.now) }
+    {
+        let mut line = ArrayString::new();
+        writeln!(line, "ecat: {self}")?;
+        Ok(line)
+    }
+}
 
-    fn from(fault: FrameError) -> Refusal {
-        match fault {
-            FrameError::Short => Refusal::Short,
-            FrameError::BadType => Refusal::BadType,
-            FrameError::TooLong => Refusal::TooLong,
-            FrameError::BadLength => Refusal::BadLength,
-            FrameError::BadCommand => Refusal::BadCommand,
-            FrameError::BadMore => Refusal::BadMore,
+impl fmt::Display for Refusal {
+    ghost use Rattle.std.specs.Prelude.{Some};
+    ghost use Rattle.ec_app.specs.Refusals.{text_of};
+
+    ghost output = { λ refusal. Some (text_of refusal) };
+
+    fn fmt<W: fmt::Write>(&self, f: &mut fmt::Formatter<W>) -> fmt::Result {
+        let (number, name, values) = (self.number(), self.name(), self.values());
+        write!(f, "{number} {name}")?;
+        for value in values.as_slice() {
+            write!(f, " {value}")?;
         }
+        Ok(())
+    }
+}
+
+impl Error for Refusal {}
+
+impl From<FrameError> for Refusal {
+    ghost use Rattle.std.specs.Prelude.{◌≡◌};
+    ghost use Rattle.ec_app.specs.declared.refusal.Refusal.TheVariants.{Frame};
+
+    ghost from_gives = { λ error refusal. refusal ≡ Frame error };
+
+    fn from(error: FrameError) -> Refusal {
+        Self::Frame(error)
     }
 }
 
 impl From<AllocError> for Refusal {
+    ghost use Rattle.std.specs.Prelude.{◌≡◌};
     ghost use Rattle.ec_app.specs.declared.refusal.Refusal.TheVariants.{Memory};
 
     ghost from_gives = { λ _ refusal. refusal ≡ Memory };
@@ -82,6 +133,7 @@ impl From<AllocError> for Refusal {
 }
 
 impl<T: Drop> From<AllocFailed<T>> for Refusal {
+    ghost use Rattle.std.specs.Prelude.{◌≡◌};
     ghost use Rattle.ec_app.specs.declared.refusal.Refusal.TheVariants.{Memory};
 
     ghost from_gives = { λ _ refusal. refusal ≡ Memory };

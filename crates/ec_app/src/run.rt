@@ -1,17 +1,14 @@
-//! All commands, by their words.
-ghost use Rattle.std.specs.Prelude.{◌≡◌, ℕ, List, [], ◌∷◌, map, Contains, Err, IsErrOf};
-ghost use Rattle.std.specs.Io.KnownBytes.{Keeps};
-ghost use Rattle.clap.specs.Values.{kind_of};
-ghost use Rattle.clap.specs.declared.error.Error.{Error};
-ghost use Rattle.ec_words.specs.CommandLine.{ArePassWords, IsPass};
-ghost use Rattle.ec_app.specs.Passing.{EndsPass, GivesPass};
-ghost use Rattle.ec_app.specs.Running.{RunsPass};
+//! All commands, by their arguments.
+ghost use Rattle.std.specs.Prelude.{◌≡◌, ◌∷◌, [], map, Contains, Result};
+ghost use Rattle.ec_args.specs.CommandLine.{Reads, command_of};
+ghost use Rattle.ec_args.specs.declared.request.Notice.{Notice as NoticeValue};
+ghost use Rattle.ec_args.specs.declared.request.Request.{Request as RequestValue};
+ghost use Rattle.ec_app.specs.Running.{Ends, EndsAlone, LeavesAlone, Runs, Tells};
 
 use crate::Refusal;
 use crate::pass::print_pass;
-use clap::Error;
-use clap::error::ErrorKind;
-use ec_words::{Asked, read_words};
+use crate::printing::{print_text, tell};
+use ec_args::{Notice, Request, read_args};
 use std::convert::AsStr;
 use std::io::{Read, Write};
 use std::net::Net;
@@ -22,124 +19,89 @@ pub trait App {
     fn step(&mut self, outputs: &[u8], inputs: &mut [u8]);
 }
 
-/// Why a command ends without being done.
-enum Failure {
-    /// The words ask for no command.
-    Words(Error),
-    /// The command was refused.
-    Refused(Refusal),
-}
-
-/// Runs one command.
-fn run_asked<H: AllocGlobal + Net, R: Read, W: Write>(
+/// Runs one command. Input, application and sockets are for the commands that read a text, simulate
+/// slaves or serve them.
+fn run_request<H: AllocGlobal + Net, R: Read, W: Write>(
     rt: &H,
-    asked: Asked<'_>,
+    request: Request<'_>,
     _input: &mut R,
     output: &mut W,
     _app: &mut dyn App,
 ) -> Result<(), Refusal>
-    ensures pass { (slaves : ℕ) (frame : List ℕ) → IsPass slaves frame asked.entry
-        → GivesPass slaves frame (W.contents output.old) (W.contents output.new) result }
+    ensures runs { Runs (command_of request.entry)
+        (record { old = W.contents output.old; new = W.contents output.new }) result }
+    ensures alone { LeavesAlone (command_of request.entry) _input.old _input.new _app.old _app.new }
 {
-    match asked {
-        Asked::Pass { slaves, frame } => print_pass(rt.alloc(), slaves.into(), frame, output),
+    match request {
+        Request::Pass { slaves, frame } => print_pass(rt.alloc(), slaves.into(), frame, output),
     }
 }
 
-/// Prints the help that the words ask for. What else `clap` has to say of them is a failure.
-fn print_help<W: Write>(error: Error, output: &mut W) -> Result<(), Failure>
-    ensures memory { kind_of error ≡ ErrorKind.OutOfMemory
-        → (result ≡ Err (Failure.Refused Refusal.Memory)) × (output.new ≡ output.old) }
-    ensures unprinted { (fault : Error) → IsErrOf result (Failure.Words fault)
-        → output.new ≡ output.old }
+/// The exit status of a run. A refusal is told; a fault in telling it changes nothing.
+fn exit_status<F: Write>(ended: Result<(), Refusal>, faults: &mut F) -> u8
+    ensures { Tells (record { old = F.contents faults.old; new = F.contents faults.new })
+        result ended }
 {
-    if error.kind() == ErrorKind::OutOfMemory {
-        return Err(Failure::Refused(Refusal::Memory));
+    match ended {
+        Ok(()) => 0,
+        Err(refusal) => {
+            let _ = tell(&refusal, faults);
+            refusal.status()
+        }
     }
-    if error.use_stderr() {
-        return Err(Failure::Words(error));
-    }
-    write!(output, "{error}").map_err(|_| Failure::Refused(Refusal::Output))
 }
 
-/// Runs the command that the words ask for, or prints the help that they ask for.
-fn run_line<H: AllocGlobal + Net, S: AsStr, R: Read, W: Write>(
+/// Ends a run whose arguments were read: runs the command, or tells what there is to tell in its
+/// place, and answers the exit status.
+fn end_run<H: AllocGlobal + Net, R: Read, W: Write, F: Write>(
     rt: &H,
-    words: &[S],
-    input: &mut R,
-    output: &mut W,
-    app: &mut dyn App,
-) -> Result<(), Failure>
-    ensures unprinted { (error : Error) → IsErrOf result (Failure.Words error)
-        → output.new ≡ output.old }
-    ensures pass { (slaves : ℕ) (frame : List ℕ)
-        → ArePassWords (map S.text words.now) slaves frame
-        → RunsPass slaves frame (W.contents output.old) (W.contents output.new) result }
-{
-    match read_words(rt.alloc(), words) {
-        Ok(asked) => match run_asked(rt, asked, input, output, app) {
-            Ok(()) => Ok(()),
-            Err(refusal) => Err(Failure::Refused(refusal)),
-        },
-        Err(error) => print_help(error, output),
-    }
-}
-
-/// The same, with all that was printed handed on.
-fn run_words<H: AllocGlobal + Net, S: AsStr, R: Read, W: Write>(
-    rt: &H,
-    words: &[S],
-    input: &mut R,
-    output: &mut W,
-    app: &mut dyn App,
-) -> Result<(), Failure>
-    ensures unprinted { (error : Error) → IsErrOf result (Failure.Words error)
-        → output.new ≡ output.old }
-    ensures pass { (slaves : ℕ) (frame : List ℕ)
-        → ArePassWords (map S.text words.now) slaves frame
-        → RunsPass slaves frame (W.contents output.old) (W.contents output.new) result }
-{
-    run_line(rt, words, input, output, app)?;
-    match output.flush() {
-        Ok(()) => Ok(()),
-        Err(_) => Err(Failure::Refused(Refusal::Output)),
-    }
-}
-
-/// Runs the command that the words ask for, the first of which is the program's name, and answers
-/// the exit status: 0 done, also where help was asked for and is on the output; 2 a fault of the
-/// words; 3 refused; 4 a fault of input or output. What failed is told on `faults`, and a fault in
-/// writing it changes nothing.
-///
-/// Simulated slaves take their inputs from `app`, and a command that reads a text reads `input`.
-pub fn run_command<H: AllocGlobal + Net, S: AsStr, R: Read, W: Write, F: Write>(
-    rt: &H,
-    words: &[S],
+    read: Result<Request<'_>, Notice>,
     input: &mut R,
     output: &mut W,
     faults: &mut F,
     app: &mut dyn App,
 ) -> u8
+    ensures ends { Ends read.entry
+        (record { old = W.contents output.old; new = W.contents output.new })
+        (record { old = F.contents faults.old; new = F.contents faults.new }) result }
+    ensures alone { EndsAlone read.entry input.old input.new app.old app.new }
     ensures status { Contains (0 ∷ 2 ∷ 3 ∷ 4 ∷ []) result }
-    ensures quiet { result ≡ 0 → Keeps (F.contents faults.old) (F.contents faults.new) }
     ensures unprinted { result ≡ 2 → output.new ≡ output.old }
-
-    // `ecat pass --slaves N HEX` prints the frame that HEX spells as it comes back from N slaves.
-    ensures pass { (slaves : ℕ) (frame : List ℕ)
-        → ArePassWords (map S.text words.now) slaves frame
-        → EndsPass slaves frame result (W.contents output.old) (W.contents output.new) }
 {
-    match run_words(rt, words, input, output, app) {
-        Ok(()) => 0,
-        Err(Failure::Words(error)) => {
-            let _ = write!(faults, "{error}");
-            let _ = faults.flush();
+    match read {
+        Ok(request) => exit_status(run_request(rt, request, input, output, app), faults),
+        Err(Notice::Memory) => exit_status(Err(Refusal::Memory), faults),
+        Err(Notice::Help(text)) => exit_status(print_text(text.as_bytes(), output), faults),
+        Err(Notice::Usage(text)) => {
+            let _ = print_text(text.as_bytes(), faults);
             2
         }
-        Err(Failure::Refused(refusal)) => {
-            let _ = writeln!(faults, "ecat: {refusal}");
-            let _ = faults.flush();
-            refusal.status()
-        }
     }
+}
+
+/// Runs the command that the arguments ask for, the first of which is the program's name, and
+/// answers the exit status: 0 done, also where help was asked for and is on the output; 2 the
+/// arguments ask for no command; 3 refused; 4 a fault of input or output. What failed is told on
+/// `faults`, and a fault in writing it changes nothing.
+///
+/// Simulated slaves take their inputs from `app`, and a command that reads a text reads `input`.
+pub fn run_command<H: AllocGlobal + Net, S: AsStr, R: Read, W: Write, F: Write>(
+    rt: &H,
+    args: &[S],
+    input: &mut R,
+    output: &mut W,
+    faults: &mut F,
+    app: &mut dyn App,
+) -> u8
+    // What `clap`'s specification finds in the arguments decides how the run ends, and what it
+    // leaves alone.
+    ensures ends { (read : Result RequestValue NoticeValue) × Reads (map S.text args.now) read
+        × Ends read
+        (record { old = W.contents output.old; new = W.contents output.new })
+        (record { old = F.contents faults.old; new = F.contents faults.new }) result
+        × EndsAlone read input.old input.new app.old app.new }
+    ensures status { Contains (0 ∷ 2 ∷ 3 ∷ 4 ∷ []) result }
+    ensures unprinted { result ≡ 2 → output.new ≡ output.old }
+{
+    end_run(rt, read_args(rt.alloc(), args), input, output, faults, app)
 }

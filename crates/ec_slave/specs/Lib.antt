@@ -13,6 +13,7 @@ pub mod Checking
 pub mod Serving
 pub mod Faulting
 pub mod Telling
+pub mod Untouched
 pub mod Keeping
 pub mod Exchange
 pub mod AgainstAll

@@ -1,8 +1,8 @@
 //! The program `ecat`: an EtherCAT master and a segment of simulated slaves. Its commands are those
-//! of `ec_app`, over the words, the streams and the memory of the system.
+//! of `ec_app`, over the arguments, the streams and the memory of the system.
 #![tactic(auto)]
 
-use ec_app::{App, Refusal, run_command};
+use ec_app::{App, Refusal, run_command, tell};
 use std::env::Env;
 use std::io::ErrorKind;
 use std::process::ExitCode;
@@ -23,29 +23,28 @@ impl App for Echo {
     }
 }
 
-/// The words of the command line, the first of which is the program's name.
-fn read_args<H: Env + AllocGlobal>(rt: &H) -> io::Result<Vec<String>> {
+/// The arguments of the command line, the first of which is the program's name.
+fn given_args<H: Env + AllocGlobal>(rt: &H) -> io::Result<Vec<String>> {
     let given = env::args(rt)?;
     Ok(given.collect(rt.alloc())?)
 }
 
 fn main(rt: HostRuntime) -> ExitCode {
-    let words = match read_args(&rt) {
-        Ok(words) => words,
+    let args = match given_args(&rt) {
+        Ok(args) => args,
         Err(error) if error.kind() == ErrorKind::OutOfMemory => {
-            let refused = Refusal::Memory;
-            let _ = eprintln!(rt; "ecat: {refused}");
-            return ExitCode::from(refused.status());
+            let _ = tell(&Refusal::Memory, &mut rt.stderr());
+            return ExitCode::from(Refusal::Memory.status());
         }
         Err(_) => {
-            let _ = eprintln!(rt; "error: a word of the command line isn't text");
+            let _ = eprintln!(rt; "error: an argument of the command line isn't text");
             return ExitCode::from(2);
         }
     };
     let (mut input, mut output, mut faults) = (rt.stdin(), rt.stdout(), rt.stderr());
     let status = run_command(
         &rt,
-        words.as_slice(),
+        args.as_slice(),
         &mut input,
         &mut output,
         &mut faults,

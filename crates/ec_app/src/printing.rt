@@ -1,0 +1,56 @@
+//! Texts on the output and on the fault stream.
+ghost use Rattle.std.specs.Prelude.{◌≡◌, IfErr, OnErr, OnOk};
+ghost use Rattle.std.specs.Io.KnownBytes.{Appends};
+ghost use Rattle.ec_app.specs.Printing.{AppendsPart};
+ghost use Rattle.ec_app.specs.Refusals.{line_of};
+
+use crate::Refusal;
+use std::io::{ErrorKind, Write};
+
+/// Writes all of a text; a refused write leaves some first part of it.
+fn write_text<W: Write>(text: &[u8], output: &mut W) -> Result<(), Refusal>
+    ensures all { OnOk result (Appends (W.contents output.old) (W.contents output.new) text.now) }
+    ensures part { OnErr result
+        (AppendsPart (W.contents output.old) (W.contents output.new) text.now) }
+    ensures fault { IfErr result (λ refusal. refusal ≡ Refusal.Output) }
+{
+    let mut written = 0;
+    for _ in 0..u64::MAX {
+        if written == text.len() {
+            return Ok(());
+        }
+        match output.write(&text[written..]) {
+            Ok(0) => return Err(Refusal::Output),
+            Ok(count) => written += count,
+            Err(error) if error.kind() == ErrorKind::Interrupted => {}
+            Err(_) => return Err(Refusal::Output),
+        }
+    }
+    Err(Refusal::Output)
+}
+
+/// Writes a text and hands on what is written. `Refusal::Output` is the only error: a write or the
+/// flush was refused, and what is written by then is a first part of the text.
+pub fn print_text<W: Write>(text: &[u8], output: &mut W) -> Result<(), Refusal>
+    ensures all { OnOk result (Appends (W.contents output.old) (W.contents output.new) text.now) }
+    ensures part { OnErr result
+        (AppendsPart (W.contents output.old) (W.contents output.new) text.now) }
+    ensures fault { IfErr result (λ refusal. refusal ≡ Refusal.Output) }
+{
+    write_text(text, output)?;
+    output.flush().map_err(|_| Refusal::Output)
+}
+
+/// Tells a refusal as the line `ecat: NUMBER NAME VALUES`. It takes no memory. Where a write is
+/// refused, a first part of the line is told.
+pub fn tell<F: Write>(refusal: &Refusal, faults: &mut F) -> Result<(), Refusal>
+    ensures all { OnOk result
+        (Appends (F.contents faults.old) (F.contents faults.new) (line_of refusal.now)) }
+    ensures part { OnErr result
+        (AppendsPart (F.contents faults.old) (F.contents faults.new) (line_of refusal.now)) }
+{
+    match refusal.line() {
+        Ok(line) => print_text(line.as_bytes(), faults),
+        Err(_) => Err(Refusal::Output),
+    }
+}

@@ -1,0 +1,2 @@
+mod PassArguments
+mod RequestLemmas

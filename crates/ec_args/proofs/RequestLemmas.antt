@@ -1,0 +1,153 @@
+-- What a number that `get_one` read says of the text that it read, and what it says that it read none.
+use Rattle.std.proofs.Common.{◌≡◌, ◌<◌, ◌⊎◌, ℕ, List, [], ◌∷◌, Option, None, Some, inl, inr, Result, Ok, Err, MatchResult, IfNone, codes, unwrap_or, true, false, refl, sym, ap, subst, ◌∙◌, arith}
+use Rattle.std.specs.Str.Parse.{ExplainsUnsignedError, HasUnsignedDigitsIfOk, IsNumeral, ParsesUnsigned, digits_value, without_leading_plus}
+use Rattle.std.specs.declared.num.ParseIntError.{ParseIntError}
+use Rattle.std.specs.Fmt.{decimal}
+use Rattle.clap.specs.Lexer.{without_minus}
+use Rattle.clap.specs.Matches.{ReadsOne, first_value, one_text}
+use Rattle.clap.specs.Walk.{Row, Text, first_of, one_of, rows_of}
+use Rattle.clap.specs.Simple.{App, HasMatchesOf, subcommand_of, subcommand_rows_of}
+use Rattle.clap.specs.Faults.{fault_of, is_simple_and_free}
+use Rattle.clap.specs.Kinds.{HasKind, IsAmong}
+use Rattle.clap.specs.Values.{kind_of}
+use Rattle.clap.specs.declared.error.Error.{Error}
+use Rattle.clap.specs.declared.parser.matches.ArgMatches.{ArgMatches}
+use Rattle.clap.specs.declared.error.kind.ErrorKind.{ErrorKind}
+use Rattle.clap.specs.declared.error.kind.ErrorKind.TheVariants.{MissingSubcommand, OutOfMemory}
+use Rattle.clap.specs.declared.parser.matches.Found.{Found}
+use Rattle.clap.proofs.WalkLemmas.{first_value-rows, one_text-rows}
+use Rattle.ec_args.specs.declared.request.Notice.{Notice}
+use Rattle.ec_args.specs.declared.request.Notice.TheVariants.{Memory, Help, Usage}
+use Rattle.ec_args.specs.declared.request.Request.{Request}
+use Rattle.ec_args.specs.declared.request.Request.TheVariants.{Pass}
+use Rattle.ec_args.specs.CommandLine.{ArePassArguments, Command, IsFault, IsNotice, MeetsCommand, MeetsPass, PassIsRead, PassOf, ecat, is_answer}
+use Rattle.ec_args.proofs.PassArguments.{ecat-is_simple, ecat-simple, frame_row, no-fault, number_argument, slaves_row, subcommand-words, value_argument}
+
+-- what `parse` gives at `u8`
+abbrev pub ByteGives : List ℕ → Result ℕ ParseIntError → Type 0
+ByteGives bs r = ParsesUnsigned 8 10 bs r × ExplainsUnsignedError 10 bs r × HasUnsignedDigitsIfOk bs r
+
+-- the text is the numeral of this byte
+pub record IsByte (t : List ℕ) (n : ℕ) : Type 0 where
+  pub numeral : IsNumeral 10 (without_leading_plus t)
+  pub value : digits_value 10 (without_leading_plus t) ≡ n
+  pub byte : digits_value 10 (without_leading_plus t) < 256
+
+pub byte_read : (o : Option (List ℕ)) (r : Option ℕ) (n : ℕ)
+    → (o ≡ None → r ≡ None) → ((t : List ℕ) → o ≡ Some t → ReadsOne ByteGives t r) → r ≡ Some n
+    → (t : List ℕ) × (o ≡ Some t) × IsByte t n
+byte_read None r n none value is = let bad : Some n ≡ None = sym is ∙ none refl in cc
+byte_read (Some t) r n none value is =
+    let given : ByteGives t (Ok n) = rw is at (value t refl) in
+    (t, refl, record { numeral = given.0.0.0; value = sym given.0.1; byte = given.0.0.1 })
+
+pub no_byte_read : (o : Option (List ℕ)) (r : Option ℕ) (t : List ℕ) (n : ℕ)
+    → ((t : List ℕ) → o ≡ Some t → ReadsOne ByteGives t r) → r ≡ None → o ≡ Some t → IsByte t n → ⊥
+no_byte_read o r t n value is some byte =
+    let given = rw is at (value t some) in
+    given.1.0 (byte.numeral, byte.byte)
+
+pub any_none : {X : Type 0} {P : Type 0} (o : Option X) → P → IfNone o P
+any_none None p = p
+any_none (Some x) p = tt
+
+-- the rows of what `clap` met
+abbrev pub rows_in : Option (Text × List Row) → List Row
+rows_in None = []
+rows_in (Some met) = met.1
+
+pub same_text : (a b : Text) → Some a ≡ Some b → a ≡ b
+same_text a b h = ap (λ o. unwrap_or o a) h
+
+-- what `clap` met tells the number and the text
+pub meets_rows : (met : Option (Text × List Row)) (rows : List Row) (n : ℕ) (f : Text) → MeetsPass met n f → met ≡ Some (codes "pass", rows)
+    → (first_of (codes "frame") rows ≡ Some f) × ((t : Text) → one_of (codes "slaves") rows ≡ Some t → n ≡ digits_value 10 (without_leading_plus t))
+meets_rows met rows n f h is =
+    let same : h.rows ≡ rows = ap rows_in (sym h.command ∙ is) in (
+      ap (first_of (codes "frame")) (sym same) ∙ h.text,
+      λ t found. sym h.value ∙ ap (λ d. digits_value 10 (without_leading_plus d)) (same_text h.digits t (sym h.number ∙ (ap (one_of (codes "slaves")) same ∙ found))),
+    )
+
+-- where `get_one` read no number, or `get_str` no text, `clap` met no command with all that it needs
+pub meets_no_slaves : (name : Text) (found : Found) (r : Option ℕ) → ((t : List ℕ) → one_text found (codes "slaves") ≡ Some t → ReadsOne ByteGives t r)
+    → r ≡ None → MeetsCommand (Some (name, rows_of found)) → ⊥
+meets_no_slaves name found r value is (PassOf n f, h) =
+    let rows : rows_of found ≡ h.rows = ap rows_in h.command in
+    let text : one_text found (codes "slaves") ≡ Some h.digits = one_text-rows found (codes "slaves") ∙ (ap (one_of (codes "slaves")) rows ∙ h.number) in
+    let byte : digits_value 10 (without_leading_plus h.digits) < 256 = subst (λ k. k < 256) (sym h.value) h.byte in
+    no_byte_read (one_text found (codes "slaves")) r h.digits n value is text (record { numeral = h.numeral; value = h.value; byte = byte })
+
+pub meets_no_frame : (name : Text) (found : Found) → first_value found (codes "frame") ≡ None → MeetsCommand (Some (name, rows_of found)) → ⊥
+meets_no_frame name found none (PassOf n f, h) =
+    let rows : rows_of found ≡ h.rows = ap rows_in h.command in
+    let text : first_value found (codes "frame") ≡ Some f = first_value-rows found (codes "frame") ∙ (ap (first_of (codes "frame")) rows ∙ h.text) in
+    let bad : Some f ≡ None = sym text ∙ none in
+    cc
+
+-- what `clap` makes of the arguments of `pass`
+pub no_fault-pass : (args : List Text) (slaves : ℕ) (frame : Text) → ArePassArguments args slaves frame → fault_of ecat args ≡ []
+no_fault-pass args slaves frame w =
+    let number = number_argument slaves w.few in
+    subst (λ (given : List Text). fault_of ecat given ≡ []) (sym w.spelled)
+    (no-fault w.name (decimal slaves) frame number.value number.few (value_argument frame w.no_flag))
+
+pub subcommand_of-pass : (args : List Text) (slaves : ℕ) (frame : Text) → ArePassArguments args slaves frame
+    → subcommand_of ecat args ≡ Some (codes "pass", slaves_row (decimal slaves) ∷ frame_row frame ∷ [])
+subcommand_of-pass args slaves frame w =
+    let number = number_argument slaves w.few in
+    subst (λ (given : List Text). subcommand_of ecat given ≡ Some (codes "pass", slaves_row (decimal slaves) ∷ frame_row frame ∷ [])) (sym w.spelled)
+    (subcommand-words w.name (decimal slaves) frame number.value (value_argument frame w.no_flag))
+
+pub meets-pass : (args : List Text) (slaves : ℕ) (frame : Text) → ArePassArguments args slaves frame → MeetsPass (subcommand_of ecat args) slaves frame
+meets-pass args slaves frame w =
+    let number = number_argument slaves w.few in
+    record {
+      rows = slaves_row (decimal slaves) ∷ frame_row frame ∷ [];
+      digits = without_minus (decimal slaves);
+      command = subcommand_of-pass args slaves frame w;
+      text = refl;
+      number = refl;
+      numeral = number.numeral.0;
+      value = number.reads;
+      byte = omega (arith, w.few);
+    }
+
+-- and nothing else is met
+pub meets-same : (args : List Text) (slaves : ℕ) (frame : Text) → ArePassArguments args slaves frame → (n : ℕ) (f : Text)
+    → MeetsPass (subcommand_of ecat args) n f → (n ≡ slaves) × (f ≡ frame)
+meets-same args slaves frame w n f h =
+    let number = number_argument slaves w.few in
+    let told = meets_rows (subcommand_of ecat args) (slaves_row (decimal slaves) ∷ frame_row frame ∷ []) n f h (subcommand_of-pass args slaves frame w) in
+    (told.1 (without_minus (decimal slaves)) refl ∙ number.reads, sym (same_text frame f told.0))
+
+-- what `clap` answers is a fault of these arguments
+pub refused_fault : (line : App) (args : List Text) (error : Error) → line ≡ ecat → (is_simple_and_free line ≡ true → HasKind (fault_of line args) error)
+    → IsFault args (kind_of error)
+refused_fault line args error is kinds =
+    let known : HasKind (fault_of ecat args) error = subst (λ (l : App). is_simple_and_free l ≡ true → HasKind (fault_of l args) error) is kinds ecat-simple in
+    elim known [ inl memory ↦ inl memory | inr among ↦ inr (inl among) ]
+
+-- and so is what is answered where it met no command
+pub missing_fault : (line : App) (args : List Text) (m : ArgMatches) (kind : ErrorKind) → line ≡ ecat → HasMatchesOf line args m
+    → (MeetsCommand (subcommand_rows_of m) → ⊥) → (kind ≡ OutOfMemory) ⊎ (kind ≡ MissingSubcommand) → IsFault args kind
+missing_fault line args m kind is matches none told =
+    let same : subcommand_rows_of m ≡ subcommand_of ecat args = (subst (λ (l : App). HasMatchesOf l args m) is matches ecat-is_simple).1 in
+    elim told [ inl memory ↦ inl memory | inr missing ↦ inr (inr (missing, subst (λ (met : Option (Text × List Row)). MeetsCommand met → ⊥) same none)) ]
+
+-- where `clap` finds no fault and a command, an error is want of memory
+pub no_other_fault : (args : List Text) (kind : ErrorKind) → fault_of ecat args ≡ [] → MeetsCommand (subcommand_of ecat args) → IsFault args kind → kind ≡ OutOfMemory
+no_other_fault args kind none met (inl memory) = memory
+no_other_fault args kind none met (inr (inl among)) = absurd (subst (IsAmong kind) none among)
+no_other_fault args kind none met (inr (inr missing)) = absurd (missing.1 met)
+
+pub memory_notice : (kind : ErrorKind) (notice : Notice) → kind ≡ OutOfMemory → IsNotice kind notice → notice ≡ Memory
+memory_notice kind Memory is told = refl
+memory_notice kind (Help text) is told = let bad : false ≡ true = sym (ap is_answer is) ∙ told in cc
+memory_notice kind (Usage text) is told = absurd (told.1 is)
+
+pub pass_is_read : PassIsRead
+pass_is_read args slaves frame (Ok (Pass n f)) w asks =
+    let same = meets-same args slaves frame w n f.now asks in
+    (λ i. PassOf (same.0 i) (same.1 i))
+pass_is_read args slaves frame (Err notice) w (kind, fault, told) =
+    memory_notice kind notice (no_other_fault args kind (no_fault-pass args slaves frame w) (PassOf slaves frame, meets-pass args slaves frame w) fault) told

@@ -1,0 +1,29 @@
+use Rattle.std.proofs.Common.{◌<◌, ◌∙◌, sym, ap, subst, Some, codes}
+use Rattle.clap.proofs.WalkLemmas.{first_value-rows, one_text-rows}
+use Rattle.clap.specs.Matches.{found_of, one_text}
+use Rattle.clap.specs.Walk.{rows_of}
+use Rattle.ec_args.proofs.RequestLemmas.{any_none, byte_read, meets_no_frame, meets_no_slaves}
+use Rattle.ec_args.proofs.request.read_command.Goals as goal
+
+pub returns-in_ok-get_str-in-pass-clause-some : goal.returns-in_ok-get_str-in-pass-clause-some
+returns-in_ok-get_str-in-pass-clause-some c =
+    let found = found_of c.args.given.now in
+    let read = byte_read (one_text found (codes "slaves")) c.get_one.result c.in_ok-get_one-in-pass.field-0 c.get_one.ensures.none c.get_one.ensures.value c.in_ok-get_one-in-pass.was in
+    record {
+      rows = rows_of found;
+      digits = read.0;
+      command = ap (λ n. Some (n, rows_of found)) c.in-pass.is;
+      text = sym (first_value-rows found (codes "frame")) ∙ sym c.in_ok-get_str-in-pass.ensures;
+      number = sym (one_text-rows found (codes "slaves")) ∙ read.1;
+      numeral = read.2.numeral;
+      value = read.2.value;
+      byte = subst (λ k. k < 256) read.2.value read.2.byte;
+    }
+
+pub returns-in_err-get_one-in-pass-clause-none : goal.returns-in_err-get_one-in-pass-clause-none
+returns-in_err-get_one-in-pass-clause-none c =
+    any_none _ (meets_no_slaves c.args.name.now (found_of c.args.given.now) c.get_one.result c.get_one.ensures.value c.in_err-get_one-in-pass.was)
+
+pub returns-in_err-get_str-in-pass-clause-none : goal.returns-in_err-get_str-in-pass-clause-none
+returns-in_err-get_str-in-pass-clause-none c =
+    any_none _ (meets_no_frame c.args.name.now (found_of c.args.given.now) (sym c.in_err-get_str-in-pass.ensures))

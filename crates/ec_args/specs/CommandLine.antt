@@ -1,0 +1,110 @@
+-- The command line of `ecat` in the terms of `clap`, and what its arguments ask for (this project's profile).
+use Rattle.std.specs.Prelude.{◌≡◌, ◌≢◌, ◌⊎◌, ℕ, ◌<◌, ◌≤◌, Bool, true, false, pos, List, [], ◌∷◌, slice_index, Option, Some, Result, Ok, Err, MatchResult, codes}
+use Rattle.std.specs.Fmt.{decimal}
+use Rattle.std.specs.Str.Parse.{IsNumeral, digits_value, without_leading_plus}
+use Rattle.clap.specs.Walk.{Rule, Row, Text, first_of, one_of}
+use Rattle.clap.specs.Simple.{App, Shape, new_app, new_rule, on_top, subcommand_of, with_rule, with_subcommand}
+use Rattle.clap.specs.Faults.{fault_of}
+use Rattle.clap.specs.Kinds.{IsAmong}
+use Rattle.clap.specs.declared.builder.action.ArgAction.TheVariants.{Set}
+use Rattle.clap.specs.declared.builder.value_parser.ValueParser.TheVariants.{Signed}
+use Rattle.clap.specs.declared.error.kind.ErrorKind.{ErrorKind}
+use Rattle.clap.specs.declared.error.kind.ErrorKind.TheVariants.{DisplayHelp, DisplayVersion, MissingSubcommand, OutOfMemory}
+use Rattle.ec_args.specs.declared.request.Notice.{Notice}
+use Rattle.ec_args.specs.declared.request.Notice.TheVariants.{Memory, Help, Usage}
+use Rattle.ec_args.specs.declared.request.Request.{Request}
+use Rattle.ec_args.specs.declared.request.Request.TheVariants.{Pass}
+
+-- a command, and what it is given
+pub data Command : Type 0 where
+  -- `ecat pass`: the number of slaves, and the text of a frame
+  PassOf : ℕ → Text → Command
+
+-- ---- the arguments that each command takes
+
+-- `--slaves N`, where N is 0 to 64
+abbrev pub slaves_rule : Rule
+slaves_rule = record (new_rule (codes "slaves")) {
+  long = Some (codes "slaves");
+  required = true;
+  action = Some Set;
+  value_names = 1;
+  parser = Some (Signed (pos 0) (pos 64));
+}
+
+-- `HEX`, any text
+abbrev pub frame_rule : Rule
+frame_rule = record (new_rule (codes "frame")) { required = true; action = Some Set; value_names = 1 }
+
+abbrev pub pass_shape : Shape
+pass_shape = (with_rule (with_rule (new_app (codes "pass")) slaves_rule) frame_rule).top
+
+-- `ecat` and its commands, of which one is wanted; it also has a version
+abbrev pub ecat : App
+ecat = with_subcommand (on_top (λ s. record s { has_version = true; subcommand_required = true }) (new_app (codes "ecat"))) pass_shape
+
+-- ---- what is read of them
+
+-- `clap` met `pass` and found a number and a text for its arguments
+pub record MeetsPass (met : Option (Text × List Row)) (slaves : ℕ) (frame : Text) : Type 0 where
+  pub rows : List Row
+  pub digits : Text
+  pub command : met ≡ Some (codes "pass", rows)
+  pub text : first_of (codes "frame") rows ≡ Some frame
+  pub number : one_of (codes "slaves") rows ≡ Some digits
+  pub numeral : IsNumeral 10 (without_leading_plus digits)
+  pub value : digits_value 10 (without_leading_plus digits) ≡ slaves
+  pub byte : slaves < 256
+
+-- `clap` met this command, and found what it is given
+abbrev pub MeetsAs : Option (Text × List Row) → Command → Type 0
+MeetsAs met (PassOf slaves frame) = MeetsPass met slaves frame
+
+-- `clap` met a command and found all that it needs
+abbrev pub MeetsCommand : Option (Text × List Row) → Type 0
+MeetsCommand met = (command : Command) × MeetsAs met command
+
+-- the command that is asked for
+abbrev pub command_of : Request → Command
+command_of (Pass slaves frame) = PassOf slaves frame.now
+
+abbrev pub Asks : Option (Text × List Row) → Request → Type 0
+Asks met request = MeetsAs met (command_of request)
+
+-- the kinds of `clap`'s errors that are answers: help and the version
+abbrev pub is_answer : ErrorKind → Bool
+is_answer DisplayHelp = true
+is_answer DisplayVersion = true
+is_answer _ = false
+
+-- the error that the arguments meet first, by `clap`'s specification; without one, no command was found; memory may
+-- run out at any time
+abbrev pub IsFault : List Text → ErrorKind → Type 0
+IsFault args kind = (kind ≡ OutOfMemory) ⊎ (IsAmong kind (fault_of ecat args)
+    ⊎ ((kind ≡ MissingSubcommand) × (MeetsCommand (subcommand_of ecat args) → ⊥)))
+
+-- what is told of an error of this kind
+abbrev pub IsNotice : ErrorKind → Notice → Type 0
+IsNotice kind Memory = Unit {0}
+IsNotice kind (Help text) = is_answer kind ≡ true
+IsNotice kind (Usage text) = (is_answer kind ≡ false) × (kind ≢ OutOfMemory)
+
+-- what is read of the arguments: the command that `clap` finds, or a notice of the error that they meet
+abbrev pub Reads : List Text → Result Request Notice → Type 0
+Reads args (Ok request) = Asks (subcommand_of ecat args) request
+Reads args (Err notice) = (kind : ErrorKind) × IsFault args kind × IsNotice kind notice
+
+-- ---- one spelling, spelled out
+
+-- the arguments `NAME pass --slaves N HEX`: N in decimal, 0 to 64, and HEX a text that doesn't begin with a hyphen
+pub record ArePassArguments (args : List Text) (slaves : ℕ) (frame : Text) : Type 0 where
+  pub name : Text
+  pub spelled : args ≡ name ∷ codes "pass" ∷ codes "--slaves" ∷ decimal slaves ∷ frame ∷ []
+  pub few : slaves ≤ 64
+  pub no_flag : slice_index frame 0 ≢ 45
+
+-- they are read as that pass; in its place there is only want of memory
+abbrev pub PassIsRead : Type 0
+PassIsRead = (args : List Text) (slaves : ℕ) (frame : Text) (read : Result Request Notice)
+    → ArePassArguments args slaves frame → Reads args read
+    → MatchResult read (λ request. command_of request ≡ PassOf slaves frame) (λ notice. notice ≡ Memory)

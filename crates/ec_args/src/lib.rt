@@ -1,0 +1,9 @@
+//! The arguments of `ecat`'s command line, read by `clap`.
+#![tactic(auto)]
+
+mod commands;
+mod laws;
+mod request;
+
+pub use crate::laws::pass_is_read_as_pass;
+pub use crate::request::{Notice, Request, read_args};

@@ -1,0 +1,100 @@
+ghost use Rattle.std.specs.Prelude.{◌≡◌, ◌⊎◌, map, IfOk, IfErr, IfSome, IfNone};
+ghost use Rattle.clap.specs.Matches.{found_of};
+ghost use Rattle.clap.specs.Simple.{subcommand_of, subcommand_rows_of};
+ghost use Rattle.clap.specs.Values.{kind_of};
+ghost use Rattle.clap.specs.Walk.{rows_of};
+ghost use Rattle.ec_args.specs.CommandLine.{Asks, IsFault, IsNotice, MeetsCommand, Reads, ecat};
+
+use crate::commands::command;
+use clap::error::ErrorKind;
+use clap::{ArgMatches, Command, Error};
+use std::alloc::Global;
+use std::convert::AsStr;
+
+/// What the arguments of a command line ask for.
+#[derive(Clone, Copy, Debug, PartialEq, Eq, Drop)]
+pub enum Request<'a> {
+    /// Pass the frame that the text spells in hex through this many slaves at power-on.
+    Pass { slaves: u8, frame: &'a str },
+}
+
+/// What stands in place of a request.
+#[derive(Debug, Drop)]
+pub enum Notice {
+    /// Memory ran out; the arguments may be good or bad.
+    Memory,
+    /// The help or the version was asked for: its text.
+    Help(String),
+    /// The arguments ask for no command: the text says why, and how they are used.
+    Usage(String),
+}
+
+/// What the arguments of the command `name` ask for.
+fn read_command<'a>(name: &str, given: &ArgMatches<'a>) -> Option<Request<'a>>
+    ensures some { IfSome result (Asks (Some (name.now, rows_of (found_of given.now)))) }
+    ensures none { IfNone result
+        (MeetsCommand (Some (name.now, rows_of (found_of given.now))) → ⊥) }
+{
+    match name {
+        "pass" => Some(Request::Pass {
+            slaves: given.get_one::<u8>("slaves")?,
+            frame: given.get_str("frame")?,
+        }),
+        _ => None,
+    }
+}
+
+/// What the command asks for that `clap` met.
+fn read_matches<'a>(matches: &ArgMatches<'a>) -> Option<Request<'a>>
+    ensures some { IfSome result (Asks (subcommand_rows_of matches.now)) }
+    ensures none { IfNone result (MeetsCommand (subcommand_rows_of matches.now) → ⊥) }
+{
+    let (name, given) = matches.subcommand()?;
+    read_command(name, given)
+}
+
+/// The error of arguments in which `clap` found nothing wrong, and no command either.
+fn no_command(command: &mut Command<'_>) -> Error
+    ensures { (kind_of result ≡ ErrorKind.OutOfMemory)
+        ⊎ (kind_of result ≡ ErrorKind.MissingSubcommand) }
+{
+    match command.error(ErrorKind::MissingSubcommand, "no command was given") {
+        Ok(error) => error,
+        Err(error) => error.into(),
+    }
+}
+
+/// What the arguments ask for, or `clap`'s error.
+fn read_request<'a, S: AsStr>(alloc: Global, args: &'a [S]) -> Result<Request<'a>, Error>
+    ensures found { IfOk result (Asks (subcommand_of ecat (map S.text args.entry.now))) }
+    ensures fault { IfErr result (λ error. IsFault (map S.text args.entry.now) (kind_of error)) }
+{
+    let mut command = command(alloc)?;
+    let matches = command.try_get_matches_from_mut(args)?;
+    match read_matches(&matches) {
+        Some(request) => Ok(request),
+        None => Err(no_command(&mut command)),
+    }
+}
+
+/// What an error of `clap` has to say, as a text of its own.
+fn notice_of(alloc: Global, error: &Error) -> Notice
+    ensures { IsNotice (kind_of error.now) result }
+{
+    if error.kind() == ErrorKind::OutOfMemory {
+        return Notice::Memory;
+    }
+    match (error.to_string(alloc), error.kind()) {
+        (Err(_), _) => Notice::Memory,
+        (Ok(text), ErrorKind::DisplayHelp | ErrorKind::DisplayVersion) => Notice::Help(text),
+        (Ok(text), _) => Notice::Usage(text),
+    }
+}
+
+/// What the arguments ask for, the first of which is the program's name. It is what `clap`'s own
+/// specification finds in them; where it finds no command, the notice says what to tell the user.
+pub fn read_args<'a, S: AsStr>(alloc: Global, args: &'a [S]) -> Result<Request<'a>, Notice>
+    ensures { Reads (map S.text args.entry.now) result }
+{
+    read_request(alloc, args).map_err(|error| notice_of(alloc, &error))
+}
