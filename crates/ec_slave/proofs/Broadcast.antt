@@ -16,7 +16,7 @@ use Rattle.ec_slave.specs.LogicalLaws.{BroadcastLaw}
 use Rattle.ec_slave.proofs.AgainstAll.{retold_alike}
 
 -- a set manager begins in the RAM
-set-start : (m : ManagerSettings) → is_set m ≡ true → ram_start ≤ m.start
+pub set-start : (m : ManagerSettings) → is_set m ≡ true → ram_start ≤ m.start
 unfolding is_set
 set-start m h =
     let a = (and_parts (m.activate % 2 == 1) _ h).1 in

@@ -48,7 +48,7 @@ written-there lower (m ∷ ms) fs p bytes (suc n) l h =
 abbrev WrittenSomewhere : List Manager → List FmmuSettings → Place → List ℕ → List Manager → Type 0
 WrittenSomewhere lower fs p bytes ms = (n : ℕ) × (n < length ms) × IsWrittenAt (lower ++ take n ms) fs p bytes (manager_at ms n)
 
-or-cases : (a b : Bool) → (a || b) ≡ true → (a ≡ true) ⊎ (b ≡ true)
+pub or-cases : (a b : Bool) → (a || b) ≡ true → (a ≡ true) ⊎ (b ≡ true)
 or-cases true b e = inl refl
 or-cases false b e = inr e
 
@@ -82,7 +82,7 @@ value-end m h =
       | inr f ↦ let s : span m ≡ 3 * m.length = if_false _ _ _ f in omega arith
     ]
 
-if-some : {X : Type 0} (b : Bool) (o : Option X) → is_some (if b then o else None) ≡ true → (b ≡ true) × (is_some o ≡ true)
+pub if-some : {X : Type 0} (b : Bool) (o : Option X) → is_some (if b then o else None) ≡ true → (b ≡ true) × (is_some o ≡ true)
 if-some true o e = (refl, e)
 if-some false o e = absurd (false≢true e)
 
