@@ -97,9 +97,8 @@ impl Assignment {
         })
     }
 
-    /// Does nothing. Its contract says what holds of every assignment: no more slots count than there
-    /// are.
-    pub fn is_sound(&self)
+    /// Does nothing. Its contract says what holds of every assignment: no more slots count than there are.
+    pub(crate) fn is_sound(&self)
         ensures { self.now.count ≤ length self.now.slots }
     {
         let _ = &self.slots;

@@ -105,8 +105,8 @@ impl Dictionary {
         })
     }
 
-    /// Does nothing. Its contract says what holds of every dictionary: as many slots in a direction as
-    /// the type has PDOs of it, of which no more count than there are.
+    /// Does nothing. Its contract says what holds of every dictionary, whatever was done to it: there are as many slots as
+    /// the type has PDOs, and no more of them count than there are.
     pub fn is_sound(&self)
         ensures slots { HasSlots self.now.kind self.now.outs self.now.ins }
         ensures outputs { self.now.outs.count ≤ length self.now.outs.slots }

@@ -1,5 +1,5 @@
 -- Physical datagrams that leave a slave as it was.
-use Rattle.std.proofs.Common.{ℕ, ◌+◌, ◌%◌, ◌<◌, ◌≤◌, ◌≡◌, ◌==◌, ◌&&◌, ◌||◌, Bool, true, false, Some, refl, ◌∙◌, ap, inl, inr, arith, List, [], ◌∷◌, ◌++◌, length, slice_index, nat_lt, nat_le}
+use Rattle.std.proofs.Common.{ℕ, ◌+◌, ◌%◌, ◌<◌, ◌≤◌, ◌≡◌, ◌==◌, ◌||◌, Bool, true, false, Some, refl, ◌∙◌, ap, inl, inr, arith, List, [], ◌∷◌, ◌++◌, length, slice_index, nat_lt, nat_le}
 use Rattle.std.specs.Prelude.{bit_or}
 use Rattle.std.proofs.lemmas.Bool.{and_left, and_right, and_parts, cases_Bool, or_left, lt-ltb, leb-true}
 use Rattle.ec_bits.proofs.AnyLaws.{any_below_from, if_true, if_false, within_above}

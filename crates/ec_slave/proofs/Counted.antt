@@ -1,7 +1,7 @@
 -- What adds nothing to a working counter changes nothing of a slave.
-use Rattle.std.proofs.Common.{ℕ, zero, suc, ◌+◌, ◌-◌, ◌*◌, ◌/◌, ◌%◌, ◌<◌, ◌≤◌, ◌≡◌, ◌^◌, ◌==◌, ◌&&◌, ◌||◌, Bool, true, false, Option, Some, None, refl, sym, ◌∙◌, ap, subst, inl, inr, arith, if◌then◌else◌, is_some, is_none, List, [], ◌∷◌, length, slice_index, not, unwrap_or, option_map, option_and_then, nat_lt}
+use Rattle.std.proofs.Common.{ℕ, suc, ◌+◌, ◌-◌, ◌*◌, ◌/◌, ◌%◌, ◌<◌, ◌≤◌, ◌≡◌, ◌^◌, ◌&&◌, ◌||◌, Bool, true, false, Option, Some, None, refl, sym, ◌∙◌, ap, subst, inl, inr, arith, if◌then◌else◌, is_some, is_none, List, [], ◌∷◌, length, slice_index, not, unwrap_or, option_map, option_and_then, nat_lt}
 use Rattle.std.specs.Int.{from_bool, from_le_bytes, to_le_bytes, w32}
-use Rattle.std.proofs.lemmas.Bool.{and_left, and_right, and_parts, and_from, or_left, or_right, cases_Bool, cases_lt, both_ways, false_from_ne_true, false≢true, lt-ltb, le-ltb, ltb-true, eqb-true}
+use Rattle.std.proofs.lemmas.Bool.{and_parts, and_from, or_left, or_right, cases_Bool, cases_lt, both_ways, false_from_ne_true, false≢true, lt-ltb, le-ltb, ltb-true, eqb-true}
 use Rattle.std.proofs.lemmas.Nat.{from_le_bytes-to_le_bytes_4}
 use Rattle.ec_bits.specs.Bits.{bit, overlay, within}
 use Rattle.ec_bits.proofs.AnyLaws.{any_below_from, any_below_some, if_true, if_false, if_none, within_true, within_parts}
@@ -26,8 +26,8 @@ use Rattle.ec_slave.specs.Sound.{IsSlave}
 use Rattle.ec_slave.specs.Managers.{gets_at, is_read_by, is_written_by, reads_under, writes_under}
 use Rattle.ec_slave.specs.Access.{Window, touches, byte_from, byte_read, retold, retold_from, is_kept, may_read_byte, may_write_byte, memory_written, is_configured, setting_for, managers_met, slave_after, some_byte_read, some_byte_written, meeting}
 use Rattle.ec_slave.specs.AgainstAll.{each_from, governs_among, is_governor}
-use Rattle.ec_slave.specs.Logical.{place_of, brought, readable_bit, read_bit, written_bit, plain_bit, managers_exchanged, only_if, some_read, some_written, meets_logical}
-use Rattle.ec_slave.specs.Written.{some_plain_written, some_manager_written}
+use Rattle.ec_slave.specs.Logical.{place_of, readable_bit, read_bit, written_bit, plain_bit, managers_exchanged, only_if, some_read, some_written, meets_logical}
+use Rattle.ec_slave.specs.Written.{some_plain_written}
 use Rattle.ec_slave.specs.Meeting.{window_of, meets, meets_by, meets_physically}
 use Rattle.ec_slave.specs.Laws.{CountsWhatItChanges}
 use Rattle.ec_slave.proofs.AgainstAll.{retold_alike, physical_against_all, logical_against_all, writable-set, readable-set}

@@ -1,16 +1,14 @@
 -- What holds of every slave stays, whatever datagrams do.
-use Rattle.std.proofs.Common.{ℕ, zero, suc, ◌+◌, ◌-◌, ◌*◌, ◌<◌, ◌≤◌, ◌≡◌, ◌^◌, ◌&&◌, ◌==◌, ◌%◌, Bool, true, false, Option, Some, None, refl, sym, ◌∙◌, ap, subst, inl, inr, arith, if◌then◌else◌, List, [], ◌∷◌, ◌++◌, length, get_or, slice_index, map, unwrap_or}
+use Rattle.std.proofs.Common.{ℕ, zero, suc, ◌+◌, ◌-◌, ◌<◌, ◌≤◌, ◌≡◌, ◌^◌, ◌&&◌, ◌==◌, ◌%◌, Bool, true, false, Option, Some, None, refl, sym, ◌∙◌, ap, subst, inl, inr, arith, if◌then◌else◌, List, [], ◌∷◌, ◌++◌, length, get_or, slice_index, map, unwrap_or}
 use Rattle.std.specs.Int.{from_le_bytes, to_le_bytes, w32}
 use Rattle.std.proofs.lemmas.Bool.{cases_Bool, and_parts}
 use Rattle.std.proofs.lemmas.List.{length-replicate, length-map}
-use Rattle.ec_bits.specs.Bits.{overlay, within, zeros}
+use Rattle.ec_bits.specs.Bits.{within, zeros}
 use Rattle.ec_bits.proofs.BitLaws.{length-overlay}
 use Rattle.ec_bits.proofs.AnyLaws.{if_true, if_false}
 use Rattle.ec_regs.specs.declared.fmmu.FmmuSettings.{FmmuSettings}
 use Rattle.ec_regs.specs.declared.manager.ManagerSettings.{ManagerSettings}
-use Rattle.ec_regs.specs.declared.slave_type.Identity.{Identity}
 use Rattle.ec_regs.specs.declared.slave_type.Pdo.{Pdo}
-use Rattle.ec_regs.specs.Types.{SlaveKind}
 use Rattle.ec_regs.specs.Managers.{is_set, is_mailbox}
 use Rattle.ec_regs.specs.Memory.{sii_address}
 use Rattle.ec_frame.specs.declared.command.Command.{Command}
@@ -29,7 +27,7 @@ use Rattle.ec_slave.specs.Managers.{is_read_by, is_ungoverned, is_written_by, ma
 use Rattle.ec_slave.specs.Access.{Window, touches, is_configured, settings_written, value_for, manager_met, managers_met, memory_written, slave_after, meeting}
 use Rattle.ec_slave.specs.Logical.{value_brought, managers_exchanged, meets_logical}
 use Rattle.ec_slave.specs.Keeping.{length-retold}
-use Rattle.ec_slave.specs.Meeting.{window_of, meets, meets_by, meets_physically, slave_met}
+use Rattle.ec_slave.specs.Meeting.{window_of, meets, meets_by, meets_physically}
 use Rattle.ec_slave.proofs.AgainstAll.{writable-set}
 use Rattle.ec_slave.proofs.Governors.{length-managers_exchanged}
 

@@ -1,30 +1,26 @@
 -- What a slave's registers, managers and bits are after a datagram.
-use Rattle.std.proofs.Common.{ℕ, zero, suc, ◌+◌, ◌-◌, ◌*◌, ◌/◌, ◌%◌, ◌<◌, ◌≤◌, ◌≡◌, ◌==◌, ◌&&◌, ◌||◌, not, Bool, true, false, Option, Some, None, refl, sym, ◌∙◌, ap, subst, inl, inr, arith, if◌then◌else◌, List, [], ◌∷◌, length, slice_index, get_or, unwrap_or, nat_lt}
-use Rattle.std.proofs.lemmas.Bool.{and_left, and_right, and_parts, and_from, or_left, or_right, cases_Bool, both_ways, false_from_ne_true, false≢true, eqb-true, lt-leb, lt-ltb}
+use Rattle.std.proofs.Common.{ℕ, zero, suc, ◌+◌, ◌-◌, ◌*◌, ◌%◌, ◌<◌, ◌≤◌, ◌≡◌, ◌==◌, ◌&&◌, ◌||◌, not, Bool, true, false, Option, Some, None, refl, sym, ◌∙◌, ap, inl, inr, arith, if◌then◌else◌, List, [], ◌∷◌, length, slice_index, unwrap_or, nat_lt}
+use Rattle.std.proofs.lemmas.Bool.{and_left, and_right, and_from, cases_Bool, both_ways, false_from_ne_true, false≢true, eqb-true, lt-leb, lt-ltb}
 use Rattle.std.proofs.lemmas.List.{length-replicate}
 use Rattle.ec_bits.specs.Bits.{bit, within, zeros}
 use Rattle.ec_bits.proofs.AnyLaws.{if_true, if_false, within_above, within_below, within_parts, within_true}
 use Rattle.ec_bits.proofs.BitLaws.{bit-overlay, bit-zeros}
-use Rattle.ec_regs.specs.declared.fmmu.FmmuSettings.{FmmuSettings}
 use Rattle.ec_regs.specs.Memory.{ram_start, is_stored}
 use Rattle.ec_regs.specs.Managers.{is_set}
 use Rattle.ec_frame.specs.declared.command.Command.{Command}
 use Rattle.ec_frame.specs.declared.command.Command.TheVariants.{Nop, Aprd, Apwr, Aprw, Fprd, Fpwr, Fprw, Brd, Bwr, Brw, Lrd, Lwr, Lrw, Armw, Frmw}
-use Rattle.ec_frame.specs.Datagram.{Datagram, adp_of, ado_of}
+use Rattle.ec_frame.specs.Datagram.{Datagram, adp_of}
 use Rattle.ec_al.specs.Al.{Al, requesting, status_word}
 use Rattle.ec_sii.specs.Port.{Sii, address_written, addressed, byte_for, command_place, commanded, sii_byte, written}
 use Rattle.ec_sync.specs.Manager.{Manager, empty_manager, may_read, may_write}
-use Rattle.ec_fmmu.specs.Applied.{Place}
-use Rattle.ec_slave.specs.declared.role.Role.{Role}
 use Rattle.ec_slave.specs.Roles.{role_of, is_reading, is_writing}
-use Rattle.ec_slave.specs.State.{SlaveState, Met, manager_at, station_of, fmmus}
+use Rattle.ec_slave.specs.State.{SlaveState, Met, manager_at, station_of}
 use Rattle.ec_slave.specs.Sound.{IsSlave}
-use Rattle.ec_slave.specs.Managers.{is_read_by, is_written_by, manager_after}
+use Rattle.ec_slave.specs.Managers.{manager_after}
 use Rattle.ec_slave.specs.AgainstAll.{each_from, governs_among, value_among}
-use Rattle.ec_slave.specs.Access.{Window, byte_at, byte_from, is_configured, is_kept, managers_met, meeting, memory_written, register_byte, settings_written, slave_after, touches}
-use Rattle.ec_slave.specs.Logical.{place_of, value_brought, plain_bit, meets_logical}
+use Rattle.ec_slave.specs.Access.{Window, byte_at, is_configured, is_kept, managers_met, meeting, memory_written, register_byte, settings_written, slave_after, touches}
+use Rattle.ec_slave.specs.Logical.{plain_bit, meets_logical}
 use Rattle.ec_slave.specs.Meeting.{window_of, meets, meets_by, meets_physically, slave_met}
-use Rattle.ec_slave.specs.Laws.{IsWrittenAt}
 use Rattle.ec_slave.specs.MeetingLaws.{writes_at, RegistersAfterWrite, ManagersAfterWrite, MovesBits, LogicalBitByBit, ValueBitByBit}
 use Rattle.ec_slave.proofs.AgainstAll.{physical_against_all}
 use Rattle.ec_slave.proofs.Broadcast.{set-start}

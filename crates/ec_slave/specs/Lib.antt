@@ -6,7 +6,7 @@ pub mod Access
 pub mod Logical
 pub mod Meeting
 pub mod Application
--- the firmware: what it checks, what a step of it does, and what a fault leaves
+-- A firmware step: the checks before a state, the step, and a fault.
 pub mod Checking
 pub mod Serving
 pub mod Faulting

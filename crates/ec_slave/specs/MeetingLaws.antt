@@ -1,5 +1,5 @@
 -- Laws of a whole meeting: what a slave's registers, managers and bits are after a datagram.
-use Rattle.std.specs.Prelude.{ℕ, ◌+◌, ◌-◌, ◌*◌, ◌<◌, ◌≤◌, ◌≡◌, ◌&&◌, ◌⊎◌, List, length, Bool, true, false, if◌then◌else◌, slice_index, unwrap_or}
+use Rattle.std.specs.Prelude.{ℕ, ◌+◌, ◌-◌, ◌*◌, ◌<◌, ◌≤◌, ◌≡◌, ◌&&◌, List, length, Bool, true, false, if◌then◌else◌, slice_index, unwrap_or}
 use Rattle.ec_bits.specs.Bits.{bit, within}
 use Rattle.ec_regs.specs.declared.fmmu.FmmuSettings.{FmmuSettings}
 use Rattle.ec_regs.specs.Memory.{ram_start, is_stored}

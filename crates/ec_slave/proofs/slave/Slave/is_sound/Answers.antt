@@ -1,4 +1,4 @@
-use Rattle.std.proofs.Common.{ℕ, length, subst, ap, sym, ◌∙◌}
+use Rattle.std.proofs.Common.{subst}
 use Rattle.ec_slave.specs.Sound.{IsSlave}
 use Rattle.ec_slave.proofs.Lasting.{four-sound}
 use Rattle.ec_slave.proofs.slave.Slave.is_sound.Goals as goal
