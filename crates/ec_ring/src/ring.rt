@@ -1,7 +1,8 @@
-ghost use Rattle.std.specs.Prelude.{◌≡◌, ◌==◌, ◌<◌, ◌↔◌, List, length, slice_get, Some};
+ghost use Rattle.std.specs.Prelude.{◌≡◌, ◌==◌, ◌<◌, ◌↔◌, ℕ, List, length, slice_get, Some};
 ghost use Rattle.std.specs.Prelude.{IsErr, OnErr};
 ghost use Rattle.std.specs.Borrow.{sem};
 ghost use Rattle.ec_frame.specs.Frame.{Payload, IsFrame};
+ghost use Rattle.ec_slave.specs.Sound.{IsSlave};
 ghost use Rattle.ec_slave.specs.State.{SlaveState};
 ghost use Rattle.ec_ring.specs.Lending.{LendsSlave};
 ghost use Rattle.ec_ring.specs.Rings.{IsNoFrame, IsPassedAt, HasPassedRing};
@@ -65,6 +66,13 @@ impl Ring {
         &mut self.slaves[place]
     }
 
+    /// Does nothing. Its contract says what holds of every slave of a ring, whatever passed it.
+    pub fn is_sound(&self)
+        ensures { (place : ℕ) (s : SlaveState) → slice_get self.now place ≡ Some s → IsSlave s }
+    {
+        show_slaves(&self.slaves)
+    }
+
     /// A frame passes the slave at a place, and no other. What `check` refuses is `NotAFrame`, and
     /// leaves payload and slaves as they are.
     pub fn pass_one(&mut self, frame: &mut [u8], place: usize) -> Result<(), NotAFrame>
@@ -97,6 +105,15 @@ impl Ring {
         }
         pass_slaves(&mut self.slaves, frame);
         Ok(())
+    }
+}
+
+/// Shows what holds of each slave.
+fn show_slaves(slaves: &[Slave])
+    ensures { (place : ℕ) (s : SlaveState) → slice_get slaves.now place ≡ Some s → IsSlave s }
+{
+    for k in 0..slaves.len() {
+        slaves[k].is_sound();
     }
 }
 
