@@ -4,7 +4,7 @@ ghost use Rattle.std.specs.Prelude.{◌≡◌, ◌+◌, ◌-◌, ◌<◌, ◌≤
 ghost use Rattle.std.specs.Bool.{OnTrue};
 ghost use Rattle.ec_bits.specs.Bits.{within};
 ghost use Rattle.ec_regs.specs.Managers.{is_set as is_set_of};
-ghost use Rattle.ec_sync.specs.Manager.{buffer_length as buffer_length_of, no_manager, LiesInRam, is_enabled as is_enabled_of, may_read as may_be_read, may_write as may_be_written};
+ghost use Rattle.ec_sync.specs.Manager.{buffer_length as buffer_length_of, no_manager, LiesInRam, is_enabled as is_enabled_of, may_read as may_be_read, may_write as may_be_written, shown as value_shown};
 ghost use Rattle.ec_sync.specs.Governing.{governs as governs_byte, covers, in_front as lies_in_front, manager_byte, shown_byte as byte_shown};
 
 use crate::buffer::Buffer;
@@ -154,17 +154,23 @@ impl Manager {
         self.buffer.published()
     }
 
+    /// The value that a datagram reads: the last one that was published, or the message.
+    pub fn shown(&self) -> &[u8]
+        ensures { result.now ≡ value_shown self.now }
+    {
+        if self.settings.is_mailbox() {
+            self.mail.message()
+        } else {
+            self.buffer.published()
+        }
+    }
+
     /// The byte that a datagram reads at an address in its value.
     pub fn shown_byte(&self, address: usize) -> u8
         ensures { result ≡ byte_shown self.now address }
     {
-        let bytes = if self.settings.is_mailbox() {
-            self.mail.message()
-        } else {
-            self.buffer.published()
-        };
         let place = address.saturating_sub(self.settings.start as usize);
-        match bytes.get(place) {
+        match self.shown().get(place) {
             Some(byte) => *byte,
             None => 0,
         }
