@@ -21,7 +21,7 @@ fn is_ram_bit(physical: u64) -> bool
     ensures { result ≡ is_ram_bit_of physical }
 {
     let address = physical / 8;
-    u64::from(RAM_START) <= address && address < u64::from(RAM_END)
+    RAM_START as u64 <= address && address < RAM_END as u64
 }
 
 /// Logical bits and, one by one, the physical bits that they stand for.

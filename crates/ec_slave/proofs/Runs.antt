@@ -7,7 +7,7 @@ use Rattle.ec_bits.proofs.AnyLaws.{any_below_from, any_below_none, if_true, if_f
 use Rattle.ec_bits.proofs.BitLaws.{overlay_alike, overlay_own}
 use Rattle.ec_regs.specs.Managers.{is_set, span}
 use Rattle.ec_sync.specs.Manager.{Manager, shown}
-use Rattle.ec_sync.specs.Governing.{governor, governs, in_front}
+use Rattle.ec_sync.specs.Governing.{governor, governs, in_first_buffer}
 use Rattle.ec_fmmu.specs.Alone.{run_shown}
 use Rattle.ec_slave.specs.State.{manager_at}
 use Rattle.ec_slave.specs.Sights.{seen_bit, seen_under}
@@ -81,15 +81,15 @@ pub unreadable : (memory : List ℕ) (ms : List Manager) (readable : List Bool) 
     → seen_bit memory ms readable q ≡ None
 unreadable memory ms readable n q r g =
     ap (seen_under memory ms readable q) g
-    ∙ if_false (in_front (manager_at ms n) (q / 8) && get_or readable n false) _ None (and_right (in_front (manager_at ms n) (q / 8)) (get_or readable n false) r)
+    ∙ if_false (in_first_buffer (manager_at ms n) (q / 8) && get_or readable n false) _ None (and_right (in_first_buffer (manager_at ms n) (q / 8)) (get_or readable n false) r)
 
 pub readable_value : (memory : List ℕ) (ms : List Manager) (readable : List Bool) (n q last : ℕ) → get_or readable n false ≡ true → governor ms (q / 8) ≡ Some n
-    → in_front (manager_at ms n) last ≡ true → q / 8 ≤ last
+    → in_first_buffer (manager_at ms n) last ≡ true → q / 8 ≤ last
     → seen_bit memory ms readable q ≡ Some (bit (shown (manager_at ms n)) (q - 8 * (manager_at ms n).settings.start))
 readable_value memory ms readable n q last r g front below =
     let m = manager_at ms n in
     let end = m.settings.start + m.settings.length in
     let l : last < end = ltb-true last end front in
-    let here : in_front m (q / 8) ≡ true = lt-ltb (q / 8) end (omega arith) in
+    let here : in_first_buffer m (q / 8) ≡ true = lt-ltb (q / 8) end (omega arith) in
     ap (seen_under memory ms readable q) g
-    ∙ if_true (in_front m (q / 8) && get_or readable n false) (Some (bit (shown m) (q - 8 * m.settings.start))) None (and_from (in_front m (q / 8)) (get_or readable n false) here r)
+    ∙ if_true (in_first_buffer m (q / 8) && get_or readable n false) (Some (bit (shown m) (q - 8 * m.settings.start))) None (and_from (in_first_buffer m (q / 8)) (get_or readable n false) here r)

@@ -9,9 +9,14 @@ pub mod Sights
 pub mod Meeting
 pub mod Ways
 pub mod Application
+pub mod Checking
+pub mod Serving
+pub mod Faulting
 pub mod Telling
+pub mod Untouched
 pub mod Keeping
 pub mod Exchange
 pub mod AgainstAll
 pub mod Laws
 pub mod LogicalLaws
+pub mod FirmwareLaws

@@ -1,13 +1,7 @@
-use Rattle.std.proofs.Common.{rules, ℕ, ◌≡◌, ◌<◌, ◌≤◌, ◌+◌, ◌-◌, ◌*◌, ◌/◌, ◌∙◌, Bool, true, false, Option, Some, None, is_some, get_or, length, sym, ap, subst, refl, arith}
-use Rattle.std.proofs.lemmas.List.{get_or_default}
-use Rattle.std.proofs.lemmas.Bool.{and_from}
+use Rattle.std.proofs.Common.{ℕ, ◌≡◌, ◌<◌, ◌≤◌, ◌+◌, ◌-◌, ◌*◌, ◌/◌, ◌∙◌, true, Option, Some, is_some, length, sym, ap, arith}
 use Rattle.ec_bits.specs.Bits.{bit}
-use Rattle.ec_bits.proofs.AnyLaws.{if_true}
-use Rattle.ec_sync.specs.Manager.{Manager, no_manager, shown}
-use Rattle.ec_sync.specs.Governing.{governor, in_front}
-use Rattle.ec_slave.specs.State.{manager_at}
-use Rattle.ec_slave.specs.Sights.{seen_bit, seen_behind, seen_under}
-use Rattle.ec_slave.proofs.Runs.{run_copied, run_counts, run_nothing}
+use Rattle.ec_slave.specs.Sights.{seen_bit, seen_under}
+use Rattle.ec_slave.proofs.Runs.{run_copied, run_counts}
 use Rattle.ec_slave.proofs.logical.reading.show_plain.Goals as goal
 
 pub returns-clause-bits : goal.returns-clause-bits
