@@ -145,8 +145,8 @@ impl Fmmu {
         ensures inside { (8 * ram_start ≤ result.physical) × (result.physical + result.count ≤ 8 * ram_end) }
         ensures small { result.logical + result.count < 2 ^ 42 }
     {
-        let low = 8 * u64::from(RAM_START);
-        let high = 8 * u64::from(RAM_END);
+        let low = 8 * RAM_START as u64;
+        let high = 8 * RAM_END as u64;
         let physical = self.first_physical();
         let count = self.bit_count();
         let first = physical.max(low);
