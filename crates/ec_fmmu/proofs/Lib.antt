@@ -5,3 +5,6 @@ pub mod RunLaws
 pub mod RangeLaws
 pub mod TouchLaws
 pub mod RunSettings
+pub mod AloneLaws
+pub mod AloneWriting
+pub mod Missing

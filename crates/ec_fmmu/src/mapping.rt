@@ -1,7 +1,9 @@
-ghost use Rattle.std.specs.Prelude.{◌≡◌, ◌<◌, ◌≤◌, ◌+◌, ◌*◌, ◌^◌, IfSome, OnSome};
+ghost use Rattle.std.specs.Prelude.{ℕ, true, ◌≡◌, ◌<◌, ◌≤◌, ◌+◌, ◌*◌, ◌^◌, IfSome, OnSome};
+ghost use Rattle.std.specs.Bool.{OnTrue};
 ghost use Rattle.ec_bits.specs.Bits.{within as within_of};
-ghost use Rattle.ec_regs.specs.Memory.{ram_end};
-ghost use Rattle.ec_fmmu.specs.Pairs.{first_logical as first_logical_of, first_physical as first_physical_of, bit_count as bit_count_of, mapped, unmapped, is_ram_bit as is_ram_bit_of};
+ghost use Rattle.ec_regs.specs.Memory.{ram_start, ram_end};
+ghost use Rattle.ec_fmmu.specs.Alone.{run_mapped, run_unmapped};
+ghost use Rattle.ec_fmmu.specs.Pairs.{first_logical as first_logical_of, first_physical as first_physical_of, bit_count as bit_count_of, mapped, unmapped, reaches, reaches_physical, is_ram_bit as is_ram_bit_of};
 
 use ec_regs::FmmuSettings;
 use ec_regs::registers::{RAM_END, RAM_START};
@@ -20,6 +22,14 @@ fn is_ram_bit(physical: u64) -> bool
 {
     let address = physical / 8;
     RAM_START as u64 <= address && address < RAM_END as u64
+}
+
+/// Logical bits and, one by one, the physical bits that they stand for.
+#[derive(Clone, Copy, Debug)]
+pub(crate) struct Run {
+    pub(crate) logical: u64,
+    pub(crate) physical: u64,
+    pub(crate) count: u64,
 }
 
 /// One FMMU (fieldbus memory management unit): a set of pairs of a logical and a physical bit.
@@ -98,6 +108,61 @@ impl Fmmu {
         let behind = u64::from(settings.logical_start) + u64::from(settings.length);
         let end = (8 * behind + u64::from(settings.stop_bit)).saturating_sub(7);
         end.saturating_sub(self.first_logical())
+    }
+
+    /// Whether none of the `bits` logical bits from `from` on lies in its range.
+    pub(crate) fn is_outside(&self, from: u64, bits: u64) -> bool
+        requires { from + bits < 2 ^ 64 }
+        ensures { OnTrue result ((l : ℕ) → reaches self.now l ≡ true → within_of from bits l ≡ true → ⊥) }
+    {
+        let first = self.first_logical();
+        first + self.bit_count() <= from || from + bits <= first
+    }
+
+    /// Whether no logical bit lies in the ranges of both.
+    pub(crate) fn is_apart_from(&self, other: &Fmmu) -> bool
+        ensures { OnTrue result ((l : ℕ) → reaches self.now l ≡ true → reaches other.now l ≡ true → ⊥) }
+    {
+        let first = self.first_logical();
+        let other_first = other.first_logical();
+        first + self.bit_count() <= other_first || other_first + other.bit_count() <= first
+    }
+
+    /// Whether no physical bit lies in the ranges of both.
+    pub(crate) fn is_physically_apart_from(&self, other: &Fmmu) -> bool
+        ensures { OnTrue result ((q : ℕ) → reaches_physical self.now q ≡ true → reaches_physical other.now q ≡ true → ⊥) }
+    {
+        let first = self.first_physical();
+        let other_first = other.first_physical();
+        first + self.bit_count() <= other_first || other_first + other.bit_count() <= first
+    }
+
+    /// Its pairs, as one run.
+    #[tactic(auto, unfolding(crate::specs::Pairs::mapped, crate::specs::Pairs::unmapped))]
+    pub(crate) fn run(&self) -> Run
+        ensures value { (l : ℕ) → mapped self.now l ≡ run_mapped result.logical result.physical result.count l }
+        ensures back { (q : ℕ) → unmapped self.now q ≡ run_unmapped result.logical result.physical result.count q }
+        ensures inside { (8 * ram_start ≤ result.physical) × (result.physical + result.count ≤ 8 * ram_end) }
+        ensures small { result.logical + result.count < 2 ^ 42 }
+    {
+        let low = 8 * RAM_START as u64;
+        let high = 8 * RAM_END as u64;
+        let physical = self.first_physical();
+        let count = self.bit_count();
+        let first = physical.max(low);
+        let end = (physical + count).min(high);
+        if end <= first {
+            return Run {
+                logical: 0,
+                physical: low,
+                count: 0,
+            };
+        }
+        Run {
+            logical: self.first_logical() + (first - physical),
+            physical: first,
+            count: end - first,
+        }
     }
 
     /// The physical bit of the pair that a logical bit is in, if it is in one.

@@ -1,6 +1,9 @@
-ghost use Rattle.std.specs.Prelude.{◌≡◌, ◌<◌, ◌+◌, ◌*◌, ◌^◌, length, ℕ, Option, Bool, is_some};
+ghost use Rattle.std.specs.Prelude.{◌≡◌, ◌<◌, ◌+◌, ◌*◌, ◌^◌, ◌≤◌, length, ℕ, Option, Bool, true, is_some, get_or};
+ghost use Rattle.std.specs.Bool.{OnTrue};
 ghost use Rattle.ec_bits.specs.Bits.{overlay, any_below};
-ghost use Rattle.ec_regs.specs.Memory.{ram_end};
+ghost use Rattle.ec_regs.specs.Memory.{ram_start, ram_end};
+ghost use Rattle.ec_regs.specs.Fmmus.{no_fmmu};
+ghost use Rattle.ec_fmmu.specs.Alone.{IsAlone, run_shown};
 ghost use Rattle.ec_fmmu.specs.Applied.{read_told};
 ghost use Rattle.ec_fmmu.specs.Ranges.{range_read_told};
 
@@ -9,7 +12,7 @@ use crate::precedence::read_target;
 use ec_bits::put_told;
 
 /// What lies behind the FMMUs: what each physical bit shows to a reader, if it may be read.
-pub trait Shown {
+pub trait ReadableBits {
     /// What holds of a value that may be asked.
     ghost can_show: { Self → Type 0 };
 
@@ -23,8 +26,50 @@ pub trait Shown {
         ensures { result ≡ shown self.now physical };
 }
 
+/// What lies behind the FMMUs, shown by runs of bits too.
+pub trait ReadableRuns: ReadableBits {
+    /// Brings what the `count` bits from a physical bit on show to the bits of `bytes` from `to`
+    /// on: each that may be read, and no other. Answers whether one may.
+    fn show_run(&self, physical: u32, count: usize, bytes: &mut [u8], to: usize) -> bool
+        requires can { Self.can_show self.now }
+        requires from_ram { 8 * ram_start ≤ physical }
+        requires to_ram { physical + count ≤ 8 * ram_end }
+        requires there { to + count ≤ 8 * length bytes.old }
+        requires fits { to + count < 2 ^ 64 }
+        ensures any { result ≡ any_below (8 * length bytes.old)
+            (λ i. is_some (run_shown (Self.shown self.now) physical to count i)) }
+        ensures bits { bytes.new
+            ≡ overlay bytes.old (run_shown (Self.shown self.now) physical to count) };
+}
+
+/// Brings what a run of bits shows to the data, bit by bit: a body for
+/// [`ReadableRuns::show_run`].
+pub fn show_by_bits<M: ReadableBits>(
+    memory: &M,
+    physical: u32,
+    count: usize,
+    bytes: &mut [u8],
+    to: usize,
+) -> bool
+    requires can { M.can_show memory.now }
+    requires to_ram { physical + count ≤ 8 * ram_end }
+    requires there { to + count ≤ 8 * length bytes.old }
+    requires fits { to + count < 2 ^ 64 }
+    ensures any { result ≡ any_below (8 * length bytes.old)
+        (λ i. is_some (run_shown (M.shown memory.now) physical to count i)) }
+    ensures bits { bytes.new
+        ≡ overlay bytes.old (run_shown (M.shown memory.now) physical to count) }
+{
+    let mut any = false;
+    for k in 0..count {
+        let told = memory.shown_bit(physical + k as u32);
+        any |= put_told(bytes, to + k, told);
+    }
+    any
+}
+
 /// What the data bit at a place becomes, if it is read.
-fn read_bit<M: Shown>(fmmus: &[Fmmu], memory: &M, from: u64, place: usize) -> Option<bool>
+fn read_bit<M: ReadableBits>(fmmus: &[Fmmu], memory: &M, from: u64, place: usize) -> Option<bool>
     requires can { M.can_show memory.now }
     requires fits { from + place < 2 ^ 64 }
     ensures { result ≡ read_told fmmus.now (M.shown memory.now) from place }
@@ -35,8 +80,79 @@ fn read_bit<M: Shown>(fmmus: &[Fmmu], memory: &M, from: u64, place: usize) -> Op
     }
 }
 
+/// Whether no other FMMU reads to a bit of the range of the one at a place.
+fn is_alone(fmmus: &[Fmmu], place: usize) -> bool
+    requires { place < length fmmus.now }
+    ensures { OnTrue result (IsAlone fmmus.now place) }
+{
+    for k in 0..fmmus.len() {
+        if k != place && fmmus[k].reads() && !fmmus[k].is_apart_from(&fmmus[place]) {
+            return false;
+        }
+    }
+    true
+}
+
+/// Reads the data bits that lie in the range of an FMMU that reads and that no other one's range meets, as one run.
+fn read_alone<M: ReadableRuns>(
+    fmmus: &[Fmmu],
+    place: usize,
+    memory: &M,
+    from: u64,
+    bytes: &mut [u8],
+) -> bool
+    requires can { M.can_show memory.now }
+    requires fits { from + 8 * length bytes.old < 2 ^ 64 }
+    requires there { place < length fmmus.now }
+    requires goes { (get_or fmmus.now place no_fmmu).reads ≡ true }
+    requires alone { IsAlone fmmus.now place }
+    ensures any { result ≡ any_below (8 * length bytes.old)
+        (λ i. is_some (range_read_told (get_or fmmus.now place no_fmmu) fmmus.now (M.shown memory.now) from i)) }
+    ensures bits { bytes.new
+        ≡ overlay bytes.old (range_read_told (get_or fmmus.now place no_fmmu) fmmus.now (M.shown memory.now) from) }
+{
+    let run = fmmus[place].run();
+    let bits = 8 * bytes.len() as u64;
+    let first = run.logical.max(from) - from;
+    let end = ((run.logical + run.count).max(from) - from).min(bits);
+    if end <= first {
+        return false;
+    }
+    let physical = run.physical + (from + first - run.logical);
+    memory.show_run(
+        physical as u32,
+        (end - first) as usize,
+        bytes,
+        first as usize,
+    )
+}
+
+/// Reads the data bits that lie in the range of the FMMU at a place, if it reads: as one run where no other range meets
+/// it, and else bit by bit.
+fn read_fmmu<M: ReadableRuns>(
+    fmmus: &[Fmmu],
+    place: usize,
+    memory: &M,
+    from: u64,
+    bytes: &mut [u8],
+) -> bool
+    requires can { M.can_show memory.now }
+    requires fits { from + 8 * length bytes.old < 2 ^ 64 }
+    requires there { place < length fmmus.now }
+    ensures any { result ≡ any_below (8 * length bytes.old)
+        (λ i. is_some (range_read_told (get_or fmmus.now place no_fmmu) fmmus.now (M.shown memory.now) from i)) }
+    ensures bits { bytes.new
+        ≡ overlay bytes.old (range_read_told (get_or fmmus.now place no_fmmu) fmmus.now (M.shown memory.now) from) }
+{
+    if fmmus[place].reads() && is_alone(fmmus, place) {
+        read_alone(fmmus, place, memory, from, bytes)
+    } else {
+        read_range(fmmus, &fmmus[place], memory, from, bytes)
+    }
+}
+
 /// Reads the data bits that lie in the range of one FMMU, if it reads.
-fn read_range<M: Shown>(
+fn read_range<M: ReadableBits>(
     fmmus: &[Fmmu],
     range: &Fmmu,
     memory: &M,
@@ -68,7 +184,7 @@ fn read_range<M: Shown>(
 /// each data bit that a read pair leads to a physical bit that shows something becomes that, and
 /// all others stay. Answers whether a bit was read. Only bits in the ranges of FMMUs that read are
 /// looked at.
-pub fn apply_read<M: Shown>(fmmus: &[Fmmu], memory: &M, from: u64, bytes: &mut [u8]) -> bool
+pub fn apply_read<M: ReadableRuns>(fmmus: &[Fmmu], memory: &M, from: u64, bytes: &mut [u8]) -> bool
     requires can { M.can_show memory.now }
     requires fits { from + 8 * length bytes.old < 2 ^ 64 }
     ensures any { result ≡ any_below (8 * length bytes.old)
@@ -76,8 +192,8 @@ pub fn apply_read<M: Shown>(fmmus: &[Fmmu], memory: &M, from: u64, bytes: &mut [
     ensures bits { bytes.new ≡ overlay bytes.old (read_told fmmus.now (M.shown memory.now) from) }
 {
     let mut any = false;
-    for range in fmmus {
-        any |= read_range(fmmus, range, memory, from, bytes);
+    for place in 0..fmmus.len() {
+        any |= read_fmmu(fmmus, place, memory, from, bytes);
     }
     any
 }

@@ -1,25 +1,7 @@
 ghost use Rattle.std.specs.Prelude.{◌≡◌, ◌<◌, ◌≤◌, ◌+◌, ◌*◌, ◌%◌, ◌^◌};
-ghost use Rattle.ec_regs.specs.Fmmus.{no_fmmu};
 ghost use Rattle.ec_fmmu.specs.Runs.{run_settings};
 
 use ec_regs::FmmuSettings;
-
-/// The settings of an FMMU that isn't used.
-fn no_fmmu() -> FmmuSettings
-    ensures { result ≡ no_fmmu }
-{
-    FmmuSettings {
-        logical_start: 0,
-        length: 0,
-        start_bit: 0,
-        stop_bit: 0,
-        physical_start: 0,
-        physical_bit: 0,
-        reads: false,
-        writes: false,
-        active: false,
-    }
-}
 
 /// The settings of an FMMU that maps the `bits` logical bits from bit `from` on, which lie in at
 /// most 65535 logical bytes, to the physical bytes from `start` on, beginning with bit 0; all zero,
@@ -32,7 +14,7 @@ pub fn run_settings(reads: bool, writes: bool, from: usize, bits: usize, start: 
     ensures { result ≡ run_settings reads writes from bits start }
 {
     if bits == 0 {
-        return no_fmmu();
+        return FmmuSettings::none();
     }
     let end = from % 8 + bits + 7;
     FmmuSettings {

@@ -1,5 +1,5 @@
 -- A logical datagram whose bits no FMMU maps leaves the slave as it was, and goes on as it came.
-use Rattle.std.proofs.Common.{ℕ, ◌+◌, ◌*◌, ◌%◌, ◌<◌, ◌≡◌, ◌&&◌, Bool, false, None, refl, ◌∙◌, ap, arith, is_some, List, [], ◌∷◌, ◌++◌, option_map, option_and_then, unwrap_or, mod-eq_of_lt}
+use Rattle.std.proofs.Common.{ℕ, ◌+◌, ◌*◌, ◌%◌, ◌<◌, ◌≡◌, ◌&&◌, Bool, false, None, refl, ◌∙◌, ap, arith, is_some, List, [], ◌∷◌, ◌++◌, length, sym, option_map, option_and_then, unwrap_or, mod-eq_of_lt}
 use Rattle.std.specs.Int.{from_bool}
 use Rattle.std.proofs.lemmas.Bool.{and_left, and_right}
 use Rattle.ec_bits.specs.Bits.{bit}
@@ -11,8 +11,10 @@ use Rattle.ec_sync.specs.Manager.{Manager, may_read, may_write}
 use Rattle.ec_fmmu.specs.Applied.{Place, leads_into, touched_by_reading, touched_by_writing}
 use Rattle.ec_slave.specs.State.{SlaveState, fmmus}
 use Rattle.ec_slave.specs.Managers.{is_ungoverned, manager_after}
-use Rattle.ec_slave.specs.Logical.{place_of, read_bit, readable_bit, written_bit, plain_bit, brought, value_brought, managers_exchanged, only_if, some_read, some_written, meets_logical}
+use Rattle.ec_slave.specs.Logical.{place_of, read_bit, readable_bit, written_bit, plain_bit, brought, value_brought, managers_exchanged, only_if, some_read, some_written, logical_after, meets_logical}
 use Rattle.ec_slave.specs.LogicalLaws.{Misses}
+use Rattle.ec_slave.specs.Ways.{data_after, count_after, is_reading, is_writing, weight}
+use Rattle.ec_slave.specs.declared.mapped.Way.{Way}
 
 no_read_bit : (s : SlaveState) (p : Place) (i : ℕ) → Misses s p → i < p.bits → read_bit s.memory s.managers (fmmus s) p i ≡ None
 no_read_bit s p i h l = ap (option_and_then (readable_bit s.memory s.managers (fmmus s) p)) (h.reads i l)
@@ -60,3 +62,24 @@ misses reading writing weight s d h c =
     let n : (d.counter + (from_bool (reading && some_read s.memory s.managers (fmmus s) p) + weight * from_bool (writing && some_written s.managers (fmmus s) p d.data_bytes))) % 65536 ≡ d.counter
     = rw (r, w) (let z : d.counter + (0 + weight * 0) ≡ d.counter = omega arith in rw z (mod-eq_of_lt c)) in
     rw (memory, managers, bytes, n) refl
+
+-- ---- the same of its parts, for the code
+
+pub missed_slave : (reading writing : Bool) (s : SlaveState) (p : Place) (bytes : List ℕ) → Misses s p → s ≡ logical_after s reading writing p bytes
+missed_slave reading writing s p bytes h =
+    let memory = overlay_own s.memory (λ q. only_if writing (plain_bit s.managers (fmmus s) p bytes q))
+    (λ q l. ap (λ o. unwrap_or o (bit s.memory q)) (if_none writing _ (no_plain_bit s p bytes q h))) in
+    let managers = managers_kept s [] s.managers reading writing p bytes h in
+    rw (memory, managers) refl
+
+pub missed_data : (way : Way) (s : SlaveState) (p : Place) (bytes : List ℕ) → Misses s p → p.bits ≡ 8 * length bytes → bytes ≡ data_after s way p bytes
+missed_data way s p bytes h e =
+    sym (overlay_own bytes (λ i. only_if (is_reading way) (read_bit s.memory s.managers (fmmus s) p i))
+    (λ i l. ap (λ o. unwrap_or o (bit bytes i)) (if_none (is_reading way) _ (no_read_bit s p i h (omega (arith, e))))))
+
+pub missed_count : (way : Way) (s : SlaveState) (p : Place) (bytes : List ℕ) → Misses s p → 0 ≡ count_after s way p bytes
+missed_count way s p bytes h =
+    let r : (is_reading way && some_read s.memory s.managers (fmmus s) p) ≡ false = and_right (is_reading way) _ (any_below_none p.bits _ (λ i l. ap is_some (no_read_bit s p i h l))) in
+    let w : (is_writing way && some_written s.managers (fmmus s) p bytes) ≡ false = and_right (is_writing way) _ (any_below_none (8 * ram_end) _ (λ q l. ap is_some (no_written_bit s p bytes q h))) in
+    let z : 0 ≡ 0 + weight way * 0 = omega arith in
+    rw (r, w) z

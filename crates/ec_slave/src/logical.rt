@@ -6,6 +6,7 @@
 
 mod exchanging;
 mod reading;
+mod runs;
 mod writing;
 
 pub(crate) use crate::logical::exchanging::exchange_managers;

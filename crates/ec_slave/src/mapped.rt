@@ -1,17 +1,20 @@
 //! Logical datagrams at a slave.
 
 ghost use Rattle.std.specs.Prelude.{◌≡◌, ◌+◌, ◌*◌, ◌<◌, ◌^◌, ◌&&◌, Bool, true, false, length};
+ghost use Rattle.std.specs.Bool.{OnTrue};
 ghost use Rattle.std.specs.Int.{from_bool};
 ghost use Rattle.ec_bits.specs.Bits.{overlay};
 ghost use Rattle.ec_frame.specs.Datagram.{Datagram, IsDatagram, IsSpelling, spelling};
 ghost use Rattle.ec_frame.specs.Fields.{header_of, with_data};
 ghost use Rattle.ec_fmmu.specs.Applied.{Place};
 ghost use Rattle.ec_slave.specs.State.{fmmus};
+ghost use Rattle.ec_slave.specs.LogicalLaws.{Misses};
 ghost use Rattle.ec_slave.specs.Logical.{logical_after, read_bit, some_read, some_written};
 ghost use Rattle.ec_slave.specs.Ways.{data_after, count_after, is_reading, is_writing, meets_exchanging, meets_way};
 
 use crate::logical::{exchange_managers, read_logical, some_manager_written, write_logical};
 use crate::slave::Slave;
+use ec_fmmu::is_missed;
 use ec_frame::{Header, cut_counter, cut_heading, read_counter, write_counter};
 
 /// The data of a datagram have at most so many bytes.
@@ -82,6 +85,15 @@ impl Slave {
         self.exchange_mapped(from, received, bytes)
     }
 
+    /// Whether no FMMU has one of so many logical bits in its range, so that a datagram over them
+    /// passes at the price of a few compares. False says nothing.
+    fn misses(&self, from: u64, bits: u64) -> bool
+        requires { from + bits < 2 ^ 64 }
+        ensures { OnTrue result (Misses self.now (record { from = from; bits = bits })) }
+    {
+        is_missed(&self.fmmus, from, bits)
+    }
+
     /// Moves bits one way or both, and answers what the working counter grows by.
     fn move_bits(&mut self, way: Way, from: u64, bytes: &mut [u8]) -> u16
         requires small { from + 8 * length bytes.old < 2 ^ 64 }
@@ -90,6 +102,9 @@ impl Slave {
         ensures bytes { bytes.new ≡ data_after self.old way (record { from = from; bits = 8 * length bytes.old }) bytes.old }
         ensures added { result ≡ count_after self.old way (record { from = from; bits = 8 * length bytes.old }) bytes.old }
     {
+        if self.misses(from, 8 * bytes.len() as u64) {
+            return 0;
+        }
         match way {
             Way::Read => self.read_mapped(from, bytes) as u16,
             Way::Write => self.write_mapped(false, from, bytes) as u16,

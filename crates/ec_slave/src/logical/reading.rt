@@ -1,17 +1,19 @@
 //! What a logical datagram reads.
 
-ghost use Rattle.std.specs.Prelude.{◌≡◌, ◌<◌, ◌≤◌, ◌+◌, ◌*◌, ◌/◌, ◌^◌, ◌&&◌, length};
-ghost use Rattle.ec_bits.specs.Bits.{overlay};
+ghost use Rattle.std.specs.Prelude.{◌≡◌, ◌<◌, ◌≤◌, ◌+◌, ◌-◌, ◌*◌, ◌/◌, ◌^◌, ◌&&◌, ℕ, None, length, is_some};
+ghost use Rattle.ec_bits.specs.Bits.{any_below, overlay};
 ghost use Rattle.ec_regs.specs.Memory.{ram_end};
 ghost use Rattle.ec_sync.specs.Manager.{may_read};
-ghost use Rattle.ec_sync.specs.Governing.{covers};
+ghost use Rattle.ec_sync.specs.Governing.{covers, governor as governor_of};
+ghost use Rattle.ec_fmmu.specs.Alone.{run_shown};
 ghost use Rattle.ec_fmmu.specs.Applied.{Place, touched_by_reading};
 ghost use Rattle.ec_slave.specs.Logical.{read_bit, some_read};
 ghost use Rattle.ec_slave.specs.Sights.{seen_behind as behind_it, seen_bit as bit_seen};
 
 use crate::access::governor;
-use ec_bits::get;
-use ec_fmmu::{Fmmu, Shown, apply_read, is_touched_by_reading};
+use crate::logical::runs::governor_of_run;
+use ec_bits::{copy_by_words, get};
+use ec_fmmu::{Fmmu, ReadableBits, ReadableRuns, apply_read, is_touched_by_reading, show_by_bits};
 use ec_sync::Manager;
 
 /// Whether a datagram that reads gets at a manager: it touches its first and its last byte, and it
@@ -66,7 +68,7 @@ struct Sight<'a> {
     readable: &'a [bool],
 }
 
-impl Shown for Sight<'_> {
+impl ReadableBits for Sight<'_> {
     ghost use Rattle.std.specs.Prelude.{◌≡◌, length};
     ghost use Rattle.ec_slave.specs.Sights.{seen_bit as bit_seen};
 
@@ -77,6 +79,39 @@ impl Shown for Sight<'_> {
 
     fn shown_bit(&self, physical: u32) -> Option<bool> {
         seen_bit(self.memory, self.managers, self.readable, physical)
+    }
+}
+
+/// Brings a run of bits that no manager governs to the data.
+fn show_plain(sight: &Sight<'_>, physical: u32, count: usize, bytes: &mut [u8], to: usize) -> bool
+    requires some { 0 < count }
+    requires room { length sight.now.memory.now ≡ 0x3000 }
+    requires plain { (a : ℕ) → physical / 8 ≤ a
+        → a < physical / 8 + ((physical + count - 1) / 8 - physical / 8 + 1)
+        → governor_of sight.now.managers.now a ≡ None }
+    requires to_ram { physical + count ≤ 8 * ram_end }
+    requires inside { to + count ≤ 8 * length bytes.old }
+    requires fits { to + count < 2 ^ 64 }
+    ensures any { let shown = bit_seen sight.now.memory.now sight.now.managers.now sight.now.readable.now in
+        result ≡ any_below (8 * length bytes.old) (λ i. is_some (run_shown shown physical to count i)) }
+    ensures bits { let shown = bit_seen sight.now.memory.now sight.now.managers.now sight.now.readable.now in
+        bytes.new ≡ overlay bytes.old (run_shown shown physical to count) }
+{
+    copy_by_words(bytes, to, sight.memory, physical as usize, count);
+    true
+}
+
+impl ReadableRuns for Sight<'_> {
+    fn show_run(&self, physical: u32, count: usize, bytes: &mut [u8], to: usize) -> bool {
+        if count == 0 {
+            return false;
+        }
+        let start = physical as usize / 8;
+        let len = (physical as usize + count - 1) / 8 - start + 1;
+        match governor_of_run(self.managers, start, len) {
+            Some(None) => show_plain(self, physical, count, bytes, to),
+            _ => show_by_bits(self, physical, count, bytes, to),
+        }
     }
 }
 

@@ -10,7 +10,8 @@ ghost use Rattle.ec_slave.specs.Logical.{plain_bit};
 ghost use Rattle.ec_slave.specs.Written.{some_brought, some_manager_written as some_written_behind, some_plain_written};
 
 use crate::access::governor;
-use ec_fmmu::{Allowed, Fmmu, apply_write, is_brought, is_touched_by_writing};
+use crate::logical::runs::governor_of_run;
+use ec_fmmu::{Fmmu, WritableBytes, apply_write, is_brought, is_touched_by_writing};
 use ec_sync::Manager;
 
 /// The bytes that no manager governs.
@@ -19,7 +20,7 @@ pub(super) struct Ungoverned<'a> {
     pub(super) managers: &'a [Manager],
 }
 
-impl Allowed for Ungoverned<'_> {
+impl WritableBytes for Ungoverned<'_> {
     ghost use Rattle.std.specs.Prelude.{is_none};
     ghost use Rattle.ec_sync.specs.Governing.{governor};
 
@@ -29,6 +30,13 @@ impl Allowed for Ungoverned<'_> {
 
     fn is_allowed(&self, address: u16) -> bool {
         governor(self.managers, address as usize).is_none()
+    }
+
+    fn all_allowed(&self, start: u16, len: usize) -> Option<bool> {
+        match governor_of_run(self.managers, start as usize, len) {
+            Some(owner) => Some(owner.is_none()),
+            None => None,
+        }
     }
 }
 

@@ -10,48 +10,47 @@ use Rattle.ec_fmmu.specs.Ranges.{reads_to}
 use Rattle.ec_fmmu.proofs.RangeLaws.{passed, none_passed, one_more_passed, nothing_read}
 use Rattle.ec_fmmu.proofs.reading.apply_read.Goals as goal
 
-pub loop-range-init : goal.loop-range-init
-loop-range-init g c =
+pub loop-place-init : goal.loop-place-init
+loop-place-init g c =
     record {
       bits = telling_none _ _ _ (λ i d. absurd (none_passed c.args.fmmus.now (λ f. reads_to f (c.args.from + i)) d));
       any = counted_none _ _ _ (λ i d. absurd (none_passed c.args.fmmus.now (λ f. reads_to f (c.args.from + i)) d));
     }
 
-pub loop-range-preserved : goal.loop-range-preserved
-loop-range-preserved g c =
+pub loop-place-preserved : goal.loop-place-preserved
+loop-place-preserved g c =
     let fs = c.args.fmmus.now in
     let from = c.args.from in
-    let n = c.loop-range.range-index in
-    let f = read_told fs (g.M.Shown.shown c.args.memory.now) from in
+    let n = c.loop-place.place in
+    let f = read_told fs (g.M.ReadableBits.shown c.args.memory.now) from in
     let bits = 8 * length c.args.bytes.now in
-    let item : c.range-item.result ≡ get_or fs n no_fmmu = c.range-item.is ∙ get_or_default fs n (c.range-item.result) no_fmmu (omega arith) in
-    let p = λ (i : ℕ). reads_to c.range-item.result (from + i) in
+    let p = λ (i : ℕ). reads_to (get_or fs n no_fmmu) (from + i) in
     let before = λ (i : ℕ). passed n fs (λ f. reads_to f (from + i)) ≡ true in
     let after = λ (i : ℕ). passed (n + 1) fs (λ f. reads_to f (from + i)) ≡ true in
     let more : (i : ℕ) → after i → (p i ≡ true) ⊎ before i
     = λ i d. elim (one_more_passed n fs (λ f. reads_to f (from + i)) d) [
-      | inl h ↦ inl (subst (λ (m : FmmuSettings). reads_to m (from + i) ≡ true) (sym item) h)
+      | inl h ↦ inl h
       | inr h ↦ inr h
     ] in
-    let same : length c.loop-range.bytes ≡ length c.args.bytes.now = c.loop-range.auto.bytes in
-    let any : c.read_range-any.result ≡ any_below bits (λ i. is_some (if p i then f i else None))
-    = c.read_range-any.ensures.any ∙ ap (λ (n : ℕ). any_below (8 * n) (λ i. is_some (if p i then f i else None))) same in
+    let same : length c.loop-place.bytes ≡ length c.args.bytes.now = c.loop-place.auto.bytes in
+    let any : c.read_fmmu-any.result ≡ any_below bits (λ i. is_some (if p i then f i else None))
+    = c.read_fmmu-any.ensures.any ∙ ap (λ (n : ℕ). any_below (8 * n) (λ i. is_some (if p i then f i else None))) same in
     record {
-      bits = subst (λ (xs : List ℕ). Telling c.args.bytes.now f after xs) (sym c.read_range-any.ensures.bits)
+      bits = subst (λ (xs : List ℕ). Telling c.args.bytes.now f after xs) (sym c.read_fmmu-any.ensures.bits)
           (telling_fewer c.args.bytes.now f (λ i. (p i ≡ true) ⊎ before i) after _
-          (telling_overlay c.args.bytes.now f before c.loop-range.bytes p c.loop-range.invariant.bits)
+          (telling_overlay c.args.bytes.now f before c.loop-place.bytes p c.loop-place.invariant.bits)
           (λ i l d. more i d));
-      any = counted_fewer f bits (λ i. (p i ≡ true) ⊎ before i) after (c.loop-range.any || c.read_range-any.result)
-          (counted_part f bits before p (c.loop-range.any) (c.read_range-any.result) c.loop-range.invariant.any any) more;
+      any = counted_fewer f bits (λ i. (p i ≡ true) ⊎ before i) after (c.loop-place.any || c.read_fmmu-any.result)
+          (counted_part f bits before p (c.loop-place.any) (c.read_fmmu-any.result) c.loop-place.invariant.any any) more;
     }
 
 pub returns-clause-bits : goal.returns-clause-bits
 returns-clause-bits g c =
     let fs = c.args.fmmus.now in
     let from = c.args.from in
-    let n = c.loop-range.range-index in
-    let shown = g.M.Shown.shown c.args.memory.now in
-    telling_end c.args.bytes.now (read_told fs shown from) (λ i. passed n fs (λ f. reads_to f (from + i)) ≡ true) c.loop-range.bytes c.loop-range.invariant.bits
+    let n = c.loop-place.place in
+    let shown = g.M.ReadableBits.shown c.args.memory.now in
+    telling_end c.args.bytes.now (read_told fs shown from) (λ i. passed n fs (λ f. reads_to f (from + i)) ≡ true) c.loop-place.bytes c.loop-place.invariant.bits
     (λ i l. elim (cases_Bool (passed n fs (λ f. reads_to f (from + i)))) [
       | inl t ↦ inr t
       | inr f ↦ inl (nothing_read fs shown from i n (omega arith) f)
@@ -61,9 +60,9 @@ pub returns-clause-any : goal.returns-clause-any
 returns-clause-any g c =
     let fs = c.args.fmmus.now in
     let from = c.args.from in
-    let n = c.loop-range.range-index in
-    let shown = g.M.Shown.shown c.args.memory.now in
-    counted_end (read_told fs shown from) (8 * length c.args.bytes.now) (λ i. passed n fs (λ f. reads_to f (from + i)) ≡ true) (c.loop-range.any) c.loop-range.invariant.any
+    let n = c.loop-place.place in
+    let shown = g.M.ReadableBits.shown c.args.memory.now in
+    counted_end (read_told fs shown from) (8 * length c.args.bytes.now) (λ i. passed n fs (λ f. reads_to f (from + i)) ≡ true) (c.loop-place.any) c.loop-place.invariant.any
     (λ i l. elim (cases_Bool (passed n fs (λ f. reads_to f (from + i)))) [
       | inl t ↦ inr t
       | inr f ↦ inl (nothing_read fs shown from i n (omega arith) f)

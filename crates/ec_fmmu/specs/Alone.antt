@@ -1,0 +1,36 @@
+-- An FMMU whose range no other one's meets, and runs of bits.
+use Rattle.std.specs.Prelude.{ℕ, ◌+◌, ◌-◌, ◌*◌, ◌/◌, ◌<◌, ◌≡◌, ◌≢◌, List, length, get_or, Bool, true, if◌then◌else◌, Option, Some, None}
+use Rattle.ec_bits.specs.Bits.{bit, within}
+use Rattle.ec_regs.specs.declared.fmmu.FmmuSettings.{FmmuSettings}
+use Rattle.ec_regs.specs.Fmmus.{no_fmmu}
+use Rattle.ec_fmmu.specs.Pairs.{reaches, reaches_physical}
+
+-- no other FMMU that reads has a logical bit of the range of FMMU k
+abbrev pub IsAlone : List FmmuSettings → ℕ → Type 0
+IsAlone fs k = (j : ℕ) → j < length fs → j ≢ k → (get_or fs j no_fmmu).reads ≡ true
+    → (l : ℕ) → reaches (get_or fs j no_fmmu) l ≡ true → reaches (get_or fs k no_fmmu) l ≡ true → ⊥
+
+-- no other FMMU that writes has a logical bit, or a physical bit, of the range of FMMU k
+abbrev pub IsAloneWriting : List FmmuSettings → ℕ → Type 0
+IsAloneWriting fs k = (j : ℕ) → j < length fs → j ≢ k → (get_or fs j no_fmmu).writes ≡ true
+    → ((l : ℕ) → reaches (get_or fs j no_fmmu) l ≡ true → reaches (get_or fs k no_fmmu) l ≡ true → ⊥)
+    × ((q : ℕ) → reaches_physical (get_or fs j no_fmmu) q ≡ true → reaches_physical (get_or fs k no_fmmu) q ≡ true → ⊥)
+
+-- the physical bit of a logical bit in a run
+abbrev pub run_mapped : ℕ → ℕ → ℕ → ℕ → Option ℕ
+run_mapped logical physical n l = if within logical n l then Some (physical + (l - logical)) else None
+
+-- what n bits from a physical bit on show, told as the bits from `to` on
+abbrev pub run_shown : (ℕ → Option Bool) → ℕ → ℕ → ℕ → ℕ → Option Bool
+run_shown shown physical to n i = if within to n i then shown (physical + (i - to)) else None
+
+-- the logical bit of a physical bit in a run
+abbrev pub run_unmapped : ℕ → ℕ → ℕ → ℕ → Option ℕ
+run_unmapped logical physical n q = if within physical n q then Some (logical + (q - physical)) else None
+
+-- what n bits from a physical bit on become by data bits from `at` on, told as the bits from `to` on of a window
+abbrev pub run_written : (ℕ → Bool) → ℕ → List ℕ → ℕ → ℕ → ℕ → ℕ → Option Bool
+run_written allowed physical bytes at to n k =
+    if within to n k
+    then (if allowed ((physical + (k - to)) / 8) then Some (bit bytes (at + (k - to))) else None)
+    else None
