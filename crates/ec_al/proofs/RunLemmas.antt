@@ -1,14 +1,14 @@
 -- One event, and then by induction the runs of them.
-use Rattle.std.proofs.Common.{ℕ, suc, ◌+◌, ◌≡◌, ◌≢◌, ◌<◌, ◌≤◌, ◌⊎◌, inl, inr, true, List, [], ◌∷◌, ◌++◌, take, Result, Ok, Err, refl, ap, arith, rules}
+use Rattle.std.proofs.Common.{ℕ, suc, ◌+◌, ◌≡◌, ◌≢◌, ◌≤◌, ◌⊎◌, inl, inr, true, List, [], ◌∷◌, Result, Ok, Err, refl, ap, arith, rules}
 use Rattle.std.specs.Prelude.{All}
 use Rattle.std.proofs.lemmas.List.Elements.{All-head, All-tail}
 use native.Mathlib.Decide.{dec_le}
 use mathlib.Core.Logic.{dite}
 use Rattle.ec_al.specs.States.{state_number}
 use Rattle.ec_al.specs.Transitions.{requested_number, requested_by, acknowledges, answer}
-use Rattle.ec_al.specs.Al.{Al, stepped, answered, faulted, IsSound}
+use Rattle.ec_al.specs.Al.{Al, power_on, stepped, answered, faulted, IsSound}
 use Rattle.ec_al.specs.Runs.{Event, Request, Step, Fault, Reset, after, after_all}
-use Rattle.ec_al.specs.Laws.{rung, Unacknowledging, GrantsOp}
+use Rattle.ec_al.specs.Laws.{height, ClimbsOneStateAtATime, KeepsErrors, ReachesOpByRequest, CodeTellsErrors, Unacknowledging, GrantsOp}
 use Rattle.ec_al.specs.declared.state.State.{State}
 use Rattle.ec_al.specs.declared.state.State.TheVariants.{Init, PreOp, SafeOp, Op}
 use Rattle.ec_al.specs.declared.status_code.StatusCode.{StatusCode}
@@ -16,82 +16,88 @@ use Rattle.ec_al.specs.declared.transition.Requested.{Requested}
 use Rattle.ec_al.specs.declared.transition.Requested.TheVariants.{To, Bootstrap, Unknown}
 use Rattle.ec_al.specs.declared.transition.Checks.{Checks}
 
--- ---- up by one rung at most
+-- ---- up by one state at most
 
-pub rung-answer : (state : State) (wanted : Requested) (checks : Checks) (al : Al) → al.state ≡ state → rung (answered al (answer state wanted checks)).state ≤ rung state + 1
-rung-answer Init (To Init) checks al e = grind arith
-rung-answer Init (To PreOp) checks al e = grind arith
-rung-answer Init (To SafeOp) checks al e = grind arith
-rung-answer Init (To Op) checks al e = grind arith
-rung-answer PreOp (To Init) checks al e = grind arith
-rung-answer PreOp (To PreOp) checks al e = grind arith
-rung-answer PreOp (To SafeOp) checks al e = grind arith
-rung-answer PreOp (To Op) checks al e = grind arith
-rung-answer SafeOp (To Init) checks al e = grind arith
-rung-answer SafeOp (To PreOp) checks al e = grind arith
-rung-answer SafeOp (To SafeOp) checks al e = grind arith
-rung-answer SafeOp (To Op) checks al e = grind arith
-rung-answer Op (To Init) checks al e = grind arith
-rung-answer Op (To PreOp) checks al e = grind arith
-rung-answer Op (To SafeOp) checks al e = grind arith
-rung-answer Op (To Op) checks al e = grind arith
-rung-answer Init Bootstrap checks al e = grind arith
-rung-answer state Bootstrap checks al e = grind arith
-rung-answer state Unknown checks al e = grind arith
+height-answer : (state : State) (wanted : Requested) (checks : Checks) (al : Al) → al.state ≡ state → height (answered al (answer state wanted checks)).state ≤ height state + 1
+height-answer Init (To Init) checks al e = grind arith
+height-answer Init (To PreOp) checks al e = grind arith
+height-answer Init (To SafeOp) checks al e = grind arith
+height-answer Init (To Op) checks al e = grind arith
+height-answer PreOp (To Init) checks al e = grind arith
+height-answer PreOp (To PreOp) checks al e = grind arith
+height-answer PreOp (To SafeOp) checks al e = grind arith
+height-answer PreOp (To Op) checks al e = grind arith
+height-answer SafeOp (To Init) checks al e = grind arith
+height-answer SafeOp (To PreOp) checks al e = grind arith
+height-answer SafeOp (To SafeOp) checks al e = grind arith
+height-answer SafeOp (To Op) checks al e = grind arith
+height-answer Op (To Init) checks al e = grind arith
+height-answer Op (To PreOp) checks al e = grind arith
+height-answer Op (To SafeOp) checks al e = grind arith
+height-answer Op (To Op) checks al e = grind arith
+height-answer Init Bootstrap checks al e = grind arith
+height-answer state Bootstrap checks al e = grind arith
+height-answer state Unknown checks al e = grind arith
 
-pub rung-after : (al : Al) (event : Event) → rung (after al event).state ≤ rung al.state + 1
-rung-after al Request = omega arith
-rung-after al (Step control checks) = grind (arith, rung-answer al.state (requested_by control) checks al refl)
-rung-after al Fault = grind arith
-rung-after al Reset = omega arith
+height-after : (al : Al) (event : Event) → height (after al event).state ≤ height al.state + 1
+height-after al Request = omega arith
+height-after al (Step control checks) = grind (arith, height-answer al.state (requested_by control) checks al refl)
+height-after al Fault = grind arith
+height-after al Reset = omega arith
 
-pub climbs : (al : Al) (events : List Event) (r : ℕ) → rung al.state < r → r ≤ rung (after_all al events).state → (n : ℕ) × (rung (after_all al (take n events)).state ≡ r)
+pub climbs : ClimbsOneStateAtATime
 climbs al [] r below reached = absurd (omega arith)
 climbs al (event ∷ events) r below reached =
-    let one : rung (after al event).state ≤ rung al.state + 1 = rung-after al event in
-    dite (dec_le r (rung (after al event).state))
+    let one : height (after al event).state ≤ height al.state + 1 = height-after al event in
+    dite (dec_le r (height (after al event).state))
     (λ there. (1, omega arith))
     (λ further. let rest = climbs (after al event) events r (omega arith) reached in (suc rest.0, rest.1))
 
 -- ---- the code tells the error
 
-pub sound-after : (al : Al) (event : Event) → IsSound al → IsSound (after al event)
+sound-after : (al : Al) (event : Event) → IsSound al → IsSound (after al event)
 sound-after al Request h = h
 sound-after al (Step control checks) h = grind arith
 sound-after al Fault h = grind arith
 sound-after al Reset h = search rules
 
-pub sound-after_all : (al : Al) (events : List Event) → IsSound al → IsSound (after_all al events)
+sound-after_all : (al : Al) (events : List Event) → IsSound al → IsSound (after_all al events)
 sound-after_all al [] h = h
 sound-after_all al (event ∷ events) h = sound-after_all (after al event) events (sound-after al event h)
+
+pub code_tells : CodeTellsErrors
+code_tells events = sound-after_all power_on events (search rules)
 
 -- ---- an error stays
 
 -- an error that one event leaves, and the state and the code with it outside OP
-pub error-after : (al : Al) (event : Event) → al.error ≡ true → Unacknowledging event → (after al event).error ≡ true
+error-after : (al : Al) (event : Event) → al.error ≡ true → Unacknowledging event → (after al event).error ≡ true
 error-after al Request h quiet = h
 error-after al (Step control checks) h quiet = grind arith
 error-after al Fault h quiet = grind arith
 error-after al Reset h quiet = absurd quiet
 
-pub held-after : (al : Al) (event : Event) → al.error ≡ true → Unacknowledging event → al.state ≢ Op → ((after al event).state ≡ al.state) × ((after al event).code ≡ al.code)
+held-after : (al : Al) (event : Event) → al.error ≡ true → Unacknowledging event → al.state ≢ Op → ((after al event).state ≡ al.state) × ((after al event).code ≡ al.code)
 held-after al Request h quiet below = (refl, refl)
 held-after al (Step control checks) h quiet below = grind arith
 held-after al Fault h quiet below = grind arith
 held-after al Reset h quiet below = absurd quiet
 
-pub error-after_all : (al : Al) (events : List Event) → al.error ≡ true → All Unacknowledging events → (after_all al events).error ≡ true
+error-after_all : (al : Al) (events : List Event) → al.error ≡ true → All Unacknowledging events → (after_all al events).error ≡ true
 error-after_all al [] h quiet = h
 error-after_all al (event ∷ events) h quiet =
     error-after_all (after al event) events (error-after al event h (All-head Unacknowledging event events quiet)) (All-tail Unacknowledging event events quiet)
 
-pub held-after_all : (al : Al) (events : List Event) → al.error ≡ true → All Unacknowledging events → al.state ≢ Op → ((after_all al events).state ≡ al.state) × ((after_all al events).code ≡ al.code)
+held-after_all : (al : Al) (events : List Event) → al.error ≡ true → All Unacknowledging events → al.state ≢ Op → ((after_all al events).state ≡ al.state) × ((after_all al events).code ≡ al.code)
 held-after_all al [] h quiet below = (refl, refl)
 held-after_all al (event ∷ events) h quiet below =
     let first = held-after al event h (All-head Unacknowledging event events quiet) below in
     let error = error-after al event h (All-head Unacknowledging event events quiet) in
     let rest = held-after_all (after al event) events error (All-tail Unacknowledging event events quiet) (λ op. below (cc)) in
     (cc, cc)
+
+pub keeps_errors : KeepsErrors
+keeps_errors al events h quiet = (error-after_all al events h quiet, held-after_all al events h quiet)
 
 -- ---- into OP
 
@@ -143,7 +149,7 @@ step-acknowledged al control checks below there e = grind arith
 faulted-op : (al : Al) → al.state ≢ Op → (faulted al).state ≢ Op
 faulted-op al below there = grind arith
 
-pub entered-op : (al : Al) (event : Event) → al.state ≢ Op → (after al event).state ≡ Op → (control : ℕ) × ((checks : Checks) × ((event ≡ Step control checks) × GrantsOp al control checks))
+entered-op : (al : Al) (event : Event) → al.state ≢ Op → (after al event).state ≡ Op → (control : ℕ) × ((checks : Checks) × ((event ≡ Step control checks) × GrantsOp al control checks))
 entered-op al Request below there = absurd (below there)
 entered-op al (Step control checks) below there =
     let step = step-op al control checks below there in
@@ -152,9 +158,7 @@ entered-op al (Step control checks) below there =
 entered-op al Fault below there = absurd (faulted-op al below there)
 entered-op al Reset below there = cc
 
-pub reaches : (al : Al) (events : List Event) → al.state ≢ Op → (after_all al events).state ≡ Op →
-    (earlier : List Event) × ((later : List Event) × ((control : ℕ) × ((checks : Checks) ×
-    ((events ≡ earlier ++ Step control checks ∷ later) × GrantsOp (after_all al earlier) control checks))))
+pub reaches : ReachesOpByRequest
 reaches al [] below there = absurd (below there)
 reaches al (event ∷ events) below there = elim (op_or_not (after al event).state) [
   | inl now ↦ (let found = entered-op al event below now in
@@ -162,3 +166,11 @@ reaches al (event ∷ events) below there = elim (op_or_not (after al event).sta
   | inr not_yet ↦ (let rest = reaches (after al event) events not_yet there in
       (event ∷ rest.0, (rest.1.0, (rest.1.1.0, (rest.1.1.1.0, (ap (λ es. event ∷ es) rest.1.1.1.1.0, rest.1.1.1.1.1))))))
 ]
+
+-- ---- numbers of states
+
+pub small_number : (s : State) → state_number s ≤ 8
+small_number Init = omega arith
+small_number PreOp = omega arith
+small_number SafeOp = omega arith
+small_number Op = omega arith

@@ -1,6 +1,6 @@
 -- The AL state machine of a slave (ETG.1000.6, "EtherCAT state machine").
-use Rattle.std.specs.Prelude.{ℕ, ◌+◌, ◌*◌, ◌&&◌, ◌↔◌, ◌≡◌, Bool, true, false, not, if◌then◌else◌, Option, Some, None, Result, Ok, Err}
-use Rattle.std.specs.Int.{from_bool}
+use Rattle.std.specs.Prelude.{ℕ, ◌&&◌, ◌↔◌, ◌≡◌, Bool, true, false, not, if◌then◌else◌, Option, Some, None, Result, Ok, Err}
+use Rattle.ec_regs.specs.Words.{al_word}
 use Rattle.ec_al.specs.States.{state_number, code_number}
 use Rattle.ec_al.specs.Transitions.{requested_by, acknowledges, answer}
 use Rattle.ec_al.specs.declared.state.State.{State}
@@ -22,9 +22,9 @@ pub record Al : Type 0 where
 abbrev pub power_on : Al
 power_on = record { state = Init; error = false; code = 0; requested = false }
 
--- the status word: bits 0..3 the state, bit 4 the error
+-- the AL status word that shows it
 abbrev pub status_word : Al → ℕ
-status_word al = state_number al.state + 16 * from_bool al.error
+status_word al = al_word (state_number al.state) al.error
 
 -- the control word is written
 abbrev pub requesting : Al → Al

@@ -1,5 +1,6 @@
 -- What ETG.1000.6 says of the EtherCAT state machine, of the definitions of this crate.
-use Rattle.std.specs.Prelude.{ℕ, ◌+◌, ◌%◌, ◌≡◌, ◌≢◌, ◌<◌, ◌≤◌, ◌↔◌, ◌⊎◌, true, false, List, [], ◌∷◌, ◌++◌, take, IsOk, IfOk, All}
+use Rattle.std.specs.Prelude.{ℕ, ◌+◌, ◌≡◌, ◌≢◌, ◌<◌, ◌≤◌, ◌↔◌, ◌⊎◌, true, false, List, [], ◌∷◌, ◌++◌, take, IsOk, IfOk, All}
+use Rattle.ec_regs.specs.Words.{al_state}
 use Rattle.ec_al.specs.States.{state_number, bootstrap_number}
 use Rattle.ec_al.specs.Transitions.{requested_number, requested_by, acknowledges, answer}
 use Rattle.ec_al.specs.Al.{Al, power_on, status_word, requesting, stepped, IsSound}
@@ -9,12 +10,12 @@ use Rattle.ec_al.specs.declared.state.State.TheVariants.{Init, PreOp, SafeOp, Op
 use Rattle.ec_al.specs.declared.transition.Requested.TheVariants.{To}
 use Rattle.ec_al.specs.declared.transition.Checks.{Checks}
 
--- how far up a state stands
-abbrev pub rung : State → ℕ
-rung Init = 0
-rung PreOp = 1
-rung SafeOp = 2
-rung Op = 3
+-- how far up a state stands: how many steps up from INIT
+abbrev pub height : State → ℕ
+height Init = 0
+height PreOp = 1
+height SafeOp = 2
+height Op = 3
 
 -- A control word asks for a state exactly by that state's number.
 abbrev pub AsksByNumber : Type 0
@@ -31,19 +32,19 @@ PassesChecks checks Op = Unit {0}
 
 -- A request for a state is granted exactly for the same state, for a lower one, and for the next one up where its
 -- checks pass; what is granted is the state that was asked for.
-abbrev pub GrantsByRungs : Type 0
-GrantsByRungs =
+abbrev pub GrantsUpToTheNextState : Type 0
+GrantsUpToTheNextState =
     (state wanted : State) (checks : Checks) →
     (IsOk (answer state (To wanted) checks)
-    ↔ ((rung wanted ≤ rung state) ⊎ ((rung wanted ≡ rung state + 1) × PassesChecks checks wanted)))
+    ↔ ((height wanted ≤ height state) ⊎ ((height wanted ≡ height state + 1) × PassesChecks checks wanted)))
     × IfOk (answer state (To wanted) checks) (λ entered. entered ≡ wanted)
 
 -- No transition skips a state upwards: a run that comes up to a state passes each one between.
-abbrev pub ClimbsByRungs : Type 0
-ClimbsByRungs =
+abbrev pub ClimbsOneStateAtATime : Type 0
+ClimbsOneStateAtATime =
     (al : Al) (events : List Event) (r : ℕ) →
-    rung al.state < r → r ≤ rung (after_all al events).state →
-    (n : ℕ) × (rung (after_all al (take n events)).state ≡ r)
+    height al.state < r → r ≤ height (after_all al events).state →
+    (n : ℕ) × (height (after_all al (take n events)).state ≡ r)
 
 -- neither a reset nor an acknowledgement of an error
 abbrev pub Unacknowledging : Event → Type 0
@@ -83,7 +84,7 @@ CodeTellsErrors = (events : List Event) → IsSound (after_all power_on events)
 -- BOOT is never entered: no status word ever shows it, and no request for it changes the state.
 abbrev pub NeverEntersBootstrap : Type 0
 NeverEntersBootstrap =
-    ((al : Al) → status_word al % 16 ≢ bootstrap_number)
+    ((al : Al) → al_state (status_word al) ≢ bootstrap_number)
     × ((al : Al) (control : ℕ) (checks : Checks) →
     requested_number control ≡ bootstrap_number → (stepped al control checks).state ≡ al.state)
 

@@ -5,7 +5,7 @@ use Rattle.ec_al.specs.declared.state.State.TheVariants.{Init, PreOp, SafeOp, Op
 use Rattle.ec_al.specs.declared.status_code.StatusCode.{StatusCode}
 use Rattle.ec_al.specs.declared.status_code.StatusCode.TheVariants.{Unspecified, InvalidStateChange, UnknownState, BootstrapNotSupported, InvalidMailboxConfiguration, InvalidOutputConfiguration, InvalidInputConfiguration}
 
--- a state's number in bits 0..3 of the control and the status word
+-- a state's number in the control and the status word
 abbrev pub state_number : State → ℕ
 state_number Init = 1
 state_number PreOp = 2

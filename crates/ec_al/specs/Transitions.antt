@@ -1,6 +1,6 @@
 -- The answer to a requested state (ETG.1000.6, "EtherCAT state machine", the table of its transitions).
-use Rattle.std.specs.Prelude.{ℕ, ◌%◌, ◌==◌, Bool, nat_le, if◌then◌else◌, Result, Ok, Err}
-use Rattle.std.specs.Int.{bit_at}
+use Rattle.std.specs.Prelude.{ℕ, ◌==◌, Bool, nat_le, if◌then◌else◌, Result, Ok, Err}
+use Rattle.ec_regs.specs.Words.{al_state, al_flag}
 use Rattle.ec_al.specs.States.{state_number, bootstrap_number}
 use Rattle.ec_al.specs.declared.state.State.{State}
 use Rattle.ec_al.specs.declared.state.State.TheVariants.{Init, PreOp, SafeOp, Op}
@@ -10,9 +10,9 @@ use Rattle.ec_al.specs.declared.transition.Requested.{Requested}
 use Rattle.ec_al.specs.declared.transition.Requested.TheVariants.{To, Bootstrap, Unknown}
 use Rattle.ec_al.specs.declared.transition.Checks.{Checks}
 
--- the number of the state that a control word asks for: its bits 0..3
+-- the number of the state that a control word asks for
 abbrev pub requested_number : ℕ → ℕ
-requested_number control = control % 16
+requested_number control = al_state control
 
 -- what that number stands for
 abbrev pub requested_by : ℕ → Requested
@@ -25,9 +25,9 @@ requested_by control =
     else (if number == state_number Op then To Op
     else Unknown))))
 
--- whether it acknowledges an error: its bit 4
+-- whether it acknowledges an error
 abbrev pub acknowledges : ℕ → Bool
-acknowledges control = bit_at control 4 == 1
+acknowledges control = al_flag control
 
 -- The state that is entered, or why none is; the first line that fits decides.
 abbrev pub answer : State → Requested → Checks → Result State StatusCode

@@ -1,7 +1,7 @@
 //! What the standard says of the EtherCAT state machine, proved of the definitions that the contracts of this
 //! crate cite. Each function does nothing; its contract is the law, which `specs/Laws.antt` spells out.
 
-ghost use Rattle.ec_al.specs.Laws.{AsksByNumber, GrantsByRungs, ClimbsByRungs, KeepsErrors, ReachesOpByRequest, CodeTellsErrors, NeverEntersBootstrap, DecidesOnce, ReturnsToInit, ComesUpToOp};
+ghost use Rattle.ec_al.specs.Laws.{AsksByNumber, GrantsUpToTheNextState, ClimbsOneStateAtATime, KeepsErrors, ReachesOpByRequest, CodeTellsErrors, NeverEntersBootstrap, DecidesOnce, ReturnsToInit, ComesUpToOp};
 
 /// A control word asks for a state exactly by that state's number.
 pub fn asks_by_number()
@@ -10,26 +10,30 @@ pub fn asks_by_number()
 
 /// A request for a state is granted exactly for the same state, for a lower one, and for the next one up where
 /// its checks pass.
-pub fn grants_by_rungs()
-    ensures { GrantsByRungs }
+pub fn grants_up_to_the_next_state()
+    ensures { GrantsUpToTheNextState }
 {}
 
 /// No transition skips a state upwards.
-pub fn climbs_by_rungs()
-    ensures { ClimbsByRungs }
+#[tactic(auto, using(crate::proofs::RunLemmas::climbs))]
+pub fn climbs_one_state_at_a_time()
+    ensures { ClimbsOneStateAtATime }
 {}
 
 /// An error stays until it is acknowledged, and so does the state, whatever is requested.
+#[tactic(auto, using(crate::proofs::RunLemmas::keeps_errors))]
 pub fn keeps_errors()
     ensures { KeepsErrors }
 {}
 
 /// OP is reached only from SAFEOP, by a granted request for it.
+#[tactic(auto, using(crate::proofs::RunLemmas::reaches))]
 pub fn reaches_op_by_request()
     ensures { ReachesOpByRequest }
 {}
 
 /// The AL status code is 0 exactly without an error.
+#[tactic(auto, using(crate::proofs::RunLemmas::code_tells))]
 pub fn code_tells_errors()
     ensures { CodeTellsErrors }
 {}

@@ -4,7 +4,8 @@ ghost use Rattle.ec_al.specs.declared.state.State.TheVariants.{Op};
 
 use crate::state::State;
 use crate::status_code::StatusCode;
-use crate::transition::{Checks, Requested, is_acknowledge};
+use crate::transition::{Checks, Requested};
+use ec_regs::AlWord;
 use std::marker::Model;
 
 /// The AL state machine of one slave: its state, its error, and whether a request waits for the firmware.
@@ -58,7 +59,7 @@ impl Al {
             return;
         }
         self.is_requested = false;
-        if self.error.is_some() && !is_acknowledge(control) {
+        if self.error.is_some() && !AlWord(control).acknowledges() {
             return;
         }
         match self.state.answer(Requested::of(control), checks) {
@@ -121,10 +122,11 @@ impl Al {
         self.is_requested
     }
 
-    /// The AL status word: bits 0 to 3 the state, bit 4 the error.
+    /// The AL status word (ETG.1000.6, "AL status"): the state's number and the error.
+    #[tactic(auto, using(crate::proofs::RunLemmas::small_number))]
     pub fn status_word(&self) -> u16
         ensures { result ≡ status_word self.now }
     {
-        self.state.number() + 16 * self.error.is_some() as u16
+        AlWord::new(self.state.number() as u8, self.error.is_some()).0
     }
 }

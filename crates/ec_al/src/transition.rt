@@ -1,8 +1,9 @@
 ghost use Rattle.std.specs.Prelude.{◌≡◌};
-ghost use Rattle.ec_al.specs.Transitions.{requested_by, acknowledges, answer};
+ghost use Rattle.ec_al.specs.Transitions.{requested_by, answer};
 
 use crate::state::State;
 use crate::status_code::StatusCode;
+use ec_regs::AlWord;
 
 /// What bits 0 to 3 of an AL control word ask for.
 #[derive(Clone, Copy, Debug, PartialEq, Eq)]
@@ -20,7 +21,7 @@ impl Requested {
     pub fn of(control: u16) -> Self
         ensures { result ≡ requested_by control }
     {
-        match control % 16 {
+        match AlWord(control).state() {
             1 => Requested::To(State::Init),
             2 => Requested::To(State::PreOp),
             3 => Requested::Bootstrap,
@@ -40,13 +41,6 @@ pub struct Checks {
     pub outputs: bool,
     /// The input sync manager, 3, which SAFEOP needs.
     pub inputs: bool,
-}
-
-/// Whether a control word acknowledges an error: its bit 4.
-pub(crate) fn is_acknowledge(control: u16) -> bool
-    ensures { result ≡ acknowledges control }
-{
-    control >> 4 & 1 == 1
 }
 
 impl State {

@@ -4,3 +4,8 @@ pub mod BitLaws
 pub mod Bytes
 pub mod Numbers
 pub mod Overlays
+pub mod Shifts
+pub mod Copies
+pub mod Numerals
+pub mod Words
+pub mod Slices

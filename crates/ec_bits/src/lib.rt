@@ -1,16 +1,31 @@
 //! Bits of byte slices: bit `8 * k + j` is bit `j` of byte `k`, the lowest first.
 //!
 //! Each call changes the bits that it names and no other. A range inside its slice is the
-//! caller's condition. The definitions that the contracts cite stand in `specs/Bits.antt`, and
-//! the module [`laws`] says what follows from them.
+//! caller's condition, and so is that its end, counted in bits, fits a `usize`; a slice of less
+//! than `2^61` bytes has no other. The definitions that the contracts cite stand in
+//! `specs/Bits.antt`, and the module [`laws`] says what follows from them.
 #![tactic(auto)]
 
+mod by_words;
+mod copying;
+mod fields;
 pub mod laws;
 #[cfg(test)]
 mod tests;
 
-ghost use Rattle.std.specs.Prelude.{◌≡◌, ◌<◌, ◌≤◌, ◌+◌, ◌*◌, ◌^◌, length, is_some};
-ghost use Rattle.ec_bits.specs.Bits.{bit, put as with_put, put_told as with_put_told, bits_number, with_number, copied};
+ghost use Rattle.std.specs.Prelude.{◌≡◌, ◌<◌, ◌*◌, length, is_some};
+ghost use Rattle.ec_bits.specs.Bits.{bit, put as with_put, put_told as with_put_told, within as is_within};
+
+pub use crate::by_words::{copy_by_words, copy_slice};
+pub use crate::copying::copy_bits;
+pub use crate::fields::{read_bits, write_bits};
+
+/// Whether `at` is one of the `count` numbers from `from` on.
+pub fn within(from: usize, count: usize, at: usize) -> bool
+    ensures { result ≡ is_within from count at }
+{
+    from <= at && at - from < count
+}
 
 /// The bit at a place.
 pub fn get(bytes: &[u8], place: usize) -> bool
@@ -45,44 +60,5 @@ pub fn put_told(bytes: &mut [u8], place: usize, value: Option<bool>) -> bool
             true
         }
         None => false,
-    }
-}
-
-/// The number of the `count` bits from `from` on, at most 64: bit `from + i` counts `2^i`.
-pub fn read_bits(bytes: &[u8], from: usize, count: usize) -> u64
-    requires at_most_64 { count ≤ 64 }
-    requires inside { from + count ≤ 8 * length bytes.now }
-    requires fits { from + count < 2 ^ 64 }
-    ensures { result ≡ bits_number bytes.now from count }
-{
-    let mut number = 0;
-    for k in 0..count {
-        number |= u64::from(get(bytes, from + k)) << k;
-    }
-    number
-}
-
-/// Sets the `count` bits from `from` on, at most 64, to the low bits of `number`.
-pub fn write_bits(bytes: &mut [u8], from: usize, count: usize, number: u64)
-    requires at_most_64 { count ≤ 64 }
-    requires inside { from + count ≤ 8 * length bytes.old }
-    requires fits { from + count < 2 ^ 64 }
-    ensures { bytes.new ≡ with_number bytes.old from count number }
-{
-    for k in 0..count {
-        put(bytes, from + k, (number >> k) & 1 == 1);
-    }
-}
-
-/// Copies the `count` bits of `src` from `from` on to the place `to` of `dst`.
-pub fn copy_bits(dst: &mut [u8], to: usize, src: &[u8], from: usize, count: usize)
-    requires inside { to + count ≤ 8 * length dst.old }
-    requires there { from + count ≤ 8 * length src.now }
-    requires to_fits { to + count < 2 ^ 64 }
-    requires from_fits { from + count < 2 ^ 64 }
-    ensures { dst.new ≡ copied dst.old to src.now from count }
-{
-    for k in 0..count {
-        put(dst, to + k, get(src, from + k));
     }
 }

@@ -19,7 +19,7 @@ fn is_ram_bit(physical: u64) -> bool
     ensures { result ≡ is_ram_bit_of physical }
 {
     let address = physical / 8;
-    u64::from(RAM_START) <= address && address < u64::from(RAM_END)
+    RAM_START as u64 <= address && address < RAM_END as u64
 }
 
 /// One FMMU (fieldbus memory management unit): a set of pairs of a logical and a physical bit.

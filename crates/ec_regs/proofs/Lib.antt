@@ -3,3 +3,4 @@ pub mod Flagged
 pub mod Table
 pub mod Areas
 pub mod Objects
+pub mod Constants

@@ -1,12 +1,11 @@
 -- Bits of PDOs, and of their entries.
-use Rattle.std.proofs.Common.{◌≡◌, ℕ, ◌+◌, List, [], ◌∷◌, ◌++◌, Option, Some, None, find, flat_map, ◌==◌, refl, sym, ◌∙◌, ap}
-use Rattle.std.specs.Prelude.{sum_by}
+use Rattle.std.proofs.Common.{◌≡◌, [], ◌∷◌, Option, Some, None, find, ◌==◌, refl, sym, ◌∙◌}
 use Rattle.std.specs.Option.{option_map_or}
 use Rattle.std.proofs.lemmas.List.Sums.{sum_by-cons, sum_by-append}
 use Rattle.ec_regs.specs.declared.slave_type.Entry.{Entry}
 use Rattle.ec_regs.specs.declared.slave_type.Pdo.{Pdo}
 use Rattle.ec_regs.specs.Types.{pdo_bits}
-use Rattle.ec_regs.specs.Objects.{entries_at, assigned_entries, bits_of, bits_at, bits_assigned, BitsAssignedAreOfEntries}
+use Rattle.ec_regs.specs.Objects.{entries_at, assigned_entries, bits_of, bits_at, BitsAssignedAreOfEntries}
 
 bits_found : (o : Option Pdo) → option_map_or pdo_bits o 0 ≡ bits_of (option_map_or (λ (q : Pdo). q.entries) o [])
 bits_found None = refl

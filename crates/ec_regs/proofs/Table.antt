@@ -4,9 +4,7 @@ use Rattle.std.specs.Prelude.{not, if◌then◌else◌}
 use Rattle.std.specs.List.{list_any}
 use Rattle.std.proofs.lemmas.Bool.Decides.{nat_tests}
 use Rattle.ec_bits.specs.Bits.{within}
-use Rattle.ec_regs.specs.declared.access.Access.{Access}
-use Rattle.ec_regs.specs.declared.access.Access.TheVariants.{Fixed}
-use Rattle.ec_regs.specs.Memory.{Row, access_in, access_of, manager_rows, register_rows, is_stored, takes_writes, is_stored_access, takes_effect, AccessIsTheTable}
+use Rattle.ec_regs.specs.Memory.{Access, Fixed, Row, access_in, access_of, manager_rows, register_rows, is_stored, takes_writes, is_stored_access, takes_effect, AccessIsTheTable}
 
 -- the rows stand by address, from `low` on, and don't overlap
 abbrev Rises : ℕ → List Row → Type 0

@@ -1,26 +1,15 @@
-ghost use Rattle.std.specs.Prelude.{◌≡◌, ◌+◌, ◌<◌, ◌^◌, ◌%◌, ◌==◌, ◌||◌, nat_lt};
+ghost use Rattle.std.specs.Prelude.{◌≡◌, ◌+◌, ◌<◌, ◌^◌, ◌==◌, ◌||◌, nat_lt};
 ghost use Rattle.ec_bits.specs.Bits.{within};
 ghost use Rattle.ec_regs.specs.Memory.{is_stored as is_stored_at, takes_writes as takes_writes_at};
 
 use crate::registers::{AL_CONTROL, FMMUS, SII_CONTROL, STATION_ADDRESS, SYNC_MANAGERS};
 
-/// How a datagram's write meets a register byte.
-#[derive(Clone, Copy, Debug, PartialEq, Eq)]
-pub enum Access {
-    /// It has no effect.
-    Fixed,
-    /// The byte becomes what the datagram says.
-    Stored,
-    /// It is a byte of the SII port, which takes writes only while it isn't busy.
-    SiiPort,
-}
-
 /// Whether the byte is one of the `length` from `first` on.
-fn is_in(address: usize, first: u16, length: usize) -> bool
-    requires { length < 2 ^ 16 }
+fn is_in(address: usize, first: usize, length: usize) -> bool
+    requires low { first < 2 ^ 16 }
+    requires few { length < 2 ^ 16 }
     ensures { result ≡ within first length address }
 {
-    let first = first as usize;
     first <= address && address < first + length
 }
 

@@ -1,6 +1,7 @@
 //! Laws of the definitions: each is the contract of a function that does nothing.
 
 ghost use Rattle.ec_regs.specs.Memory.{AccessIsTheTable};
+ghost use Rattle.ec_regs.specs.Constants.{ConstantsAreTheRegisters, ConstantsAreTheControls, ConstantsAreTheLimits};
 ghost use Rattle.ec_regs.specs.Managers.{ManagerIsReadBack, UsualAreasAreSet};
 ghost use Rattle.ec_regs.specs.Fmmus.{FmmuIsReadBack};
 ghost use Rattle.ec_regs.specs.Objects.{BitsAssignedAreOfEntries};
@@ -10,6 +11,24 @@ ghost use Rattle.ec_regs.specs.Words.{AlIsReadBack, SiiIsReadBack};
 #[tactic(auto, using(crate::proofs::Table::access_law))]
 pub fn access_is_the_table()
     ensures { AccessIsTheTable }
+{}
+
+/// The register constants are the standard's addresses.
+#[tactic(auto, using(crate::proofs::Constants::registers))]
+pub fn constants_are_the_registers()
+    ensures { ConstantsAreTheRegisters }
+{}
+
+/// The control constants are the control bytes of the usual managers.
+#[tactic(auto, using(crate::proofs::Constants::controls))]
+pub fn constants_are_the_controls()
+    ensures { ConstantsAreTheControls }
+{}
+
+/// The limit constants are the limits of a type.
+#[tactic(auto, using(crate::proofs::Constants::limits))]
+pub fn constants_are_the_limits()
+    ensures { ConstantsAreTheLimits }
 {}
 
 /// The settings of a sync manager are read back from their bytes.

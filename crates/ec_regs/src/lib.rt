@@ -10,7 +10,7 @@ pub mod registers;
 mod slave_type;
 mod words;
 
-pub use crate::access::{Access, is_stored, takes_writes};
+pub use crate::access::{is_stored, takes_writes};
 pub use crate::fmmu::{FmmuSettings, decode_fmmu, encode_fmmu};
 pub use crate::listed::Listed;
 pub use crate::manager::{

@@ -101,8 +101,8 @@ impl ManagerSettings {
             && (self.is_mailbox() || self.is_buffered())
             && (self.is_ring_written() || self.is_ring_read())
             && self.length > 0
-            && self.start >= RAM_START
-            && self.start as usize + self.span() <= RAM_END as usize
+            && self.start as usize >= RAM_START
+            && self.start as usize + self.span() <= RAM_END
     }
 }
 

@@ -66,28 +66,28 @@ fn spans_at_the_end_of_the_ram(rt: HostRuntime) {
 
 #[test]
 fn bytes_that_are_stored(rt: HostRuntime) {
-    let station = STATION_ADDRESS as usize;
+    let station = STATION_ADDRESS;
     assert!(rt; !is_stored(station - 1));
     assert!(rt; is_stored(station));
     assert!(rt; is_stored(station + 1));
     assert!(rt; !is_stored(station + 2));
-    let control = AL_CONTROL as usize;
+    let control = AL_CONTROL;
     assert!(rt; !is_stored(control - 1));
     assert!(rt; is_stored(control));
     assert!(rt; is_stored(control + 1));
     assert!(rt; !is_stored(control + 2));
-    assert!(rt; !is_stored(AL_STATUS as usize));
-    assert!(rt; !is_stored(AL_STATUS_CODE as usize));
-    assert!(rt; !is_stored(fmmu_address(0) as usize - 1));
-    assert!(rt; is_stored(fmmu_address(0) as usize));
-    assert!(rt; is_stored(fmmu_address(3) as usize + 15));
-    assert!(rt; !is_stored(fmmu_address(3) as usize + 16));
+    assert!(rt; !is_stored(AL_STATUS));
+    assert!(rt; !is_stored(AL_STATUS_CODE));
+    assert!(rt; !is_stored(fmmu_address(0) - 1));
+    assert!(rt; is_stored(fmmu_address(0)));
+    assert!(rt; is_stored(fmmu_address(3) + 15));
+    assert!(rt; !is_stored(fmmu_address(3) + 16));
 }
 
 #[test]
 fn bytes_of_a_manager_that_are_stored(rt: HostRuntime) {
-    let last = manager_address(3) as usize;
-    assert!(rt; !is_stored(manager_address(0) as usize - 1));
+    let last = manager_address(3);
+    assert!(rt; !is_stored(manager_address(0) - 1));
     assert!(rt; is_stored(last));
     assert!(rt; is_stored(last + 4));
     assert!(rt; !is_stored(last + 5));
@@ -98,14 +98,14 @@ fn bytes_of_a_manager_that_are_stored(rt: HostRuntime) {
 
 #[test]
 fn bytes_of_the_sii_port(rt: HostRuntime) {
-    let control = SII_CONTROL as usize;
+    let control = SII_CONTROL;
     assert!(rt; !is_stored(control));
     assert!(rt; !takes_writes(control - 1, false));
     assert!(rt; takes_writes(control, false));
     assert!(rt; !takes_writes(control, true));
-    assert!(rt; takes_writes(SII_ADDRESS as usize + 3, false));
-    assert!(rt; !takes_writes(SII_DATA as usize, false));
-    assert!(rt; takes_writes(AL_CONTROL as usize, true));
+    assert!(rt; takes_writes(SII_ADDRESS + 3, false));
+    assert!(rt; !takes_writes(SII_DATA, false));
+    assert!(rt; takes_writes(AL_CONTROL, true));
 }
 
 // The words that a slave in PREOP shows: after a refused request, and with an SII read under way.

@@ -5,13 +5,13 @@ ghost use Rattle.ec_regs.specs.Words.{al_state, al_flag, al_word, sii_command, s
 
 use bitflags::{Flag, Flags, bitflag_items};
 
-/// The word of AL control or AL status: a state's number and a flag.
+/// The word of AL control or AL status (ETG.1000.4, "AL control", "AL status"): in bits 0 to 3 a
+/// state's number, and a flag in bit 4.
 #[derive(Clone, Copy, PartialEq, Eq, Debug)]
 pub struct AlWord(pub u16);
 
 bitflag_items! {
     impl AlWord: u16 {
-        const STATE = 0x000F;
         const ERROR = 0x0010;
     }
 }
@@ -21,7 +21,7 @@ impl Flags for AlWord {
 
     ghost exact = { ⊤ };
 
-    ghost table = { (codes "STATE", 15) ∷ (codes "ERROR", 16) ∷ [] };
+    ghost table = { (codes "ERROR", 16) ∷ [] };
 
     ghost set_of = { λ w. w.0 };
 
@@ -70,13 +70,13 @@ impl AlWord {
     }
 }
 
-/// The word of SII control and status: a command, and whether it failed or is being worked on.
+/// The word of SII control and status (ETG.1000.4, "SII control/status"): in bits 8 to 10 a command,
+/// in bit 13 whether it failed, in bit 15 whether it is being worked on.
 #[derive(Clone, Copy, PartialEq, Eq, Debug)]
 pub struct SiiControl(pub u16);
 
 bitflag_items! {
     impl SiiControl: u16 {
-        const COMMAND = 0x0700;
         const ERROR = 0x2000;
         const BUSY = 0x8000;
     }
@@ -87,7 +87,7 @@ impl Flags for SiiControl {
 
     ghost exact = { ⊤ };
 
-    ghost table = { (codes "COMMAND", 0x0700) ∷ (codes "ERROR", 0x2000) ∷ (codes "BUSY", 0x8000) ∷ [] };
+    ghost table = { (codes "ERROR", 0x2000) ∷ (codes "BUSY", 0x8000) ∷ [] };
 
     ghost set_of = { λ w. w.0 };
 

@@ -1,23 +1,16 @@
 -- The registers by which datagrams read the slave information interface (ETG.1000.4, "Slave information interface"):
--- 0x0502 control and status, 0x0504 the word address, 0x0508 the data that were read last.
-use Rattle.std.specs.Prelude.{ℕ, ◌+◌, ◌-◌, ◌*◌, ◌%◌, ◌==◌, List, [], ◌∷◌, length, Bool, true, false, if◌then◌else◌, nat_le, slice_index, Option, Some, None, unwrap_or}
+-- control and status, the word address, and the data that were read last.
+use Rattle.std.specs.Prelude.{ℕ, ◌+◌, ◌-◌, ◌*◌, ◌/◌, ◌%◌, ◌==◌, List, [], ◌∷◌, length, Bool, true, false, if◌then◌else◌, nat_le, slice_index, Option, Some, None, unwrap_or}
 use Rattle.std.specs.Int.{from_bool, to_le_bytes, from_le_bytes, w32}
 use Rattle.ec_bits.specs.Bits.{within}
+use Rattle.ec_regs.specs.Memory.{sii_control, sii_address, sii_data}
+use Rattle.ec_regs.specs.Words.{sii_word}
 use Rattle.ec_sii.specs.Image.{word_at}
 use Rattle.ec_sii.specs.declared.image.Image.{Image}
 
-abbrev pub control_place : ℕ
-control_place = 0x0502
-
 -- the high byte of the control and status word, which has the command
 abbrev pub command_place : ℕ
-command_place = 0x0503
-
-abbrev pub address_place : ℕ
-address_place = 0x0504
-
-abbrev pub data_place : ℕ
-data_place = 0x0508
+command_place = sii_control + 1
 
 pub record Sii : Type 0 where
   pub image : Image
@@ -35,16 +28,20 @@ idle_port image = record { image = image; address = 0; busy = false; error = fal
 
 -- ---- what datagrams read
 
--- bits 8..10 of the control and status word are the command under way (1 a read), bit 13 is the error, bit 15 busy
+-- the control and status word: the command under way (1, a read, or none), the error, busy
+abbrev pub status_word : Sii → ℕ
+status_word p = sii_word (from_bool p.busy) p.error p.busy
+
+-- its high byte; the low one is 0
 abbrev pub status_byte : Sii → ℕ
-status_byte p = from_bool p.busy + 32 * from_bool p.error + 128 * from_bool p.busy
+status_byte p = status_word p / 256
 
 -- the byte that an address of the port reads
 unfoldable pub sii_byte : Sii → ℕ → ℕ
 sii_byte p address =
     if address == command_place then status_byte p
-    else (if within address_place 4 address then slice_index (to_le_bytes w32 p.address) (address - address_place)
-    else (if within data_place 4 address then slice_index (to_le_bytes w32 p.found) (address - data_place) else 0))
+    else (if within sii_address 4 address then slice_index (to_le_bytes w32 p.address) (address - sii_address)
+    else (if within sii_data 4 address then slice_index (to_le_bytes w32 p.found) (address - sii_data) else 0))
 
 -- ---- what datagrams write
 
@@ -54,13 +51,13 @@ byte_for from bytes address = if within from (length bytes) address then Some (s
 
 -- byte k of the word address, after the datagram
 abbrev pub address_byte : ℕ → ℕ → List ℕ → ℕ → ℕ
-address_byte old from bytes k = unwrap_or (byte_for from bytes (address_place + k)) (slice_index (to_le_bytes w32 old) k)
+address_byte old from bytes k = unwrap_or (byte_for from bytes (sii_address + k)) (slice_index (to_le_bytes w32 old) k)
 
 abbrev pub address_written : ℕ → ℕ → List ℕ → ℕ
 address_written old from bytes =
     from_le_bytes w32 (address_byte old from bytes 0 ∷ address_byte old from bytes 1 ∷ address_byte old from bytes 2 ∷ address_byte old from bytes 3 ∷ [])
 
--- What the byte for 0x0503 commands by its bits 0..2: 0 clears the error, 1 begins a read, and any other is an
+-- What the byte for the high byte of the control word commands by its bits 0..2, which are the word's command bits: 0 clears the error, 1 begins a read, and any other is an
 -- error (this project's profile). Its other bits are ignored.
 abbrev pub commanded : Sii → Option ℕ → Sii
 commanded p None = p

@@ -2,19 +2,15 @@ ghost use Rattle.std.specs.Prelude.{◌≡◌};
 ghost use Rattle.ec_sii.specs.Port.{idle_port, sii_byte, status_byte, byte_for, address_written, written, stepped};
 
 use crate::image::Image;
+use ec_regs::SiiControl;
+use ec_regs::registers::{SII_ADDRESS, SII_CONTROL, SII_DATA};
 use std::marker::Model;
 
-/// Where the command stands: the high byte of the control and status word at 0x0502, whose low byte reads 0.
-const COMMAND: usize = 0x0503;
+/// Where the command stands: the high byte of the control and status word, whose low byte reads 0.
+const COMMAND: usize = SII_CONTROL + 1;
 
-/// Where the word address of a read stands, four bytes.
-const WORD_ADDRESS: usize = 0x0504;
-
-/// Where the data of the last read stand, four bytes.
-const DATA: usize = 0x0508;
-
-/// The first address after the port.
-const END: usize = 0x050C;
+/// The first address after the four bytes of the data.
+const END: usize = SII_DATA + 4;
 
 /// The last word address at which two words stand in the image.
 const LAST_ADDRESS: u32 = 62;
@@ -72,18 +68,18 @@ impl Port {
     {
         match address {
             COMMAND => self.status(),
-            WORD_ADDRESS..DATA => self.address.to_le_bytes()[address - WORD_ADDRESS],
-            DATA..END => self.found.to_le_bytes()[address - DATA],
+            SII_ADDRESS..SII_DATA => self.address.to_le_bytes()[address - SII_ADDRESS],
+            SII_DATA..END => self.found.to_le_bytes()[address - SII_DATA],
             _ => 0,
         }
     }
 
-    /// The high byte of the control and status word: bits 0 to 2 the command under way, 1 for a read; bit 5 the
-    /// error; bit 7 busy.
+    /// The high byte of the control and status word, which shows the command under way (1, a read), the error, and
+    /// busy.
     fn status(&self) -> u8
         ensures { result ≡ status_byte self.now }
     {
-        self.is_busy as u8 | (self.is_error as u8) << 5 | (self.is_busy as u8) << 7
+        (SiiControl::new(self.is_busy as u8, self.is_error, self.is_busy).0 / 256) as u8
     }
 
     /// A datagram writes bytes to the addresses from `from` on; those outside 0x0502 to 0x0507 are left alone. While
@@ -145,9 +141,9 @@ fn address_written(old: u32, from: usize, bytes: &[u8]) -> u32
 {
     let [byte_0, byte_1, byte_2, byte_3] = old.to_le_bytes();
     u32::from_le_bytes([
-        byte_for(from, bytes, WORD_ADDRESS).unwrap_or(byte_0),
-        byte_for(from, bytes, WORD_ADDRESS + 1).unwrap_or(byte_1),
-        byte_for(from, bytes, WORD_ADDRESS + 2).unwrap_or(byte_2),
-        byte_for(from, bytes, WORD_ADDRESS + 3).unwrap_or(byte_3),
+        byte_for(from, bytes, SII_ADDRESS).unwrap_or(byte_0),
+        byte_for(from, bytes, SII_ADDRESS + 1).unwrap_or(byte_1),
+        byte_for(from, bytes, SII_ADDRESS + 2).unwrap_or(byte_2),
+        byte_for(from, bytes, SII_ADDRESS + 3).unwrap_or(byte_3),
     ])
 }

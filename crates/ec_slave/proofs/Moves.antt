@@ -11,6 +11,7 @@ use Rattle.ec_fmmu.specs.Pairs.{unmapped, reaches_physical, is_ram_bit}
 use Rattle.ec_fmmu.specs.Sets.{source_after, writers}
 use Rattle.ec_fmmu.specs.Applied.{Place, inside_place, touched_by_reading, touched_by_writing}
 use Rattle.ec_slave.specs.State.{SlaveState, fmmus, fmmus_of, with_memory}
+use Rattle.ec_slave.specs.Untouched.{byte-overlay}
 use Rattle.ec_slave.specs.Managers.{is_ungoverned, manager_after}
 use Rattle.ec_slave.specs.Logical.{value_brought, managers_exchanged, plain_bit, only_if, logical_after, some_written}
 use Rattle.ec_slave.specs.Written.{some_plain_written, some_manager_written}
@@ -50,22 +51,6 @@ slave_written s reading memory managers fs p b m f x =
     ∙ ap (λ (y : List Manager). with_memory s (overlay s.memory (plain_bit s.managers (fmmus s) p b)) y) met
 
 -- ---- FMMUs lead into the RAM alone, so that what they write leaves the registers
-
-set-told : (ys : List ℕ) (n a : ℕ) (o : Option Bool) → ((b : Bool) → o ≡ Some b → a ≢ n / 8) → get_or (put_told ys n o) a 0 ≡ get_or ys a 0
-unfolding put
-set-told ys n a None h = refl
-set-told ys n a (Some b) h = get_or-set_other ys (n / 8) a _ 0 (h b refl)
-
-byte-below : (n : ℕ) (xs : List ℕ) (f : ℕ → Option Bool) (a : ℕ) → ((i : ℕ) → i / 8 ≡ a → f i ≡ None) → get_or (overlay_below n xs f) a 0 ≡ get_or xs a 0
-unfolding overlay_below
-byte-below zero xs f a h = refl
-byte-below (suc n) xs f a h =
-    set-told (overlay_below n xs f) n a (f n) (λ b e q. let z : None ≡ Some b = sym (h n (sym q)) ∙ e in cc) ∙ byte-below n xs f a h
-
--- a byte of which no bit is told
-byte-overlay : (xs : List ℕ) (f : ℕ → Option Bool) (a : ℕ) → ((i : ℕ) → i / 8 ≡ a → f i ≡ None) → slice_index (overlay xs f) a ≡ slice_index xs a
-unfolding overlay
-byte-overlay xs f a h = byte-below (8 * length xs) xs f a h
 
 unmapped-outside : (f : FmmuSettings) (q : ℕ) → q < 32768 → unmapped f q ≡ None
 unfolding unmapped

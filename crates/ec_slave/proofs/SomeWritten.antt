@@ -9,7 +9,7 @@ use Rattle.ec_regs.specs.declared.manager.ManagerSettings.{ManagerSettings}
 use Rattle.ec_regs.specs.Memory.{ram_start, ram_end}
 use Rattle.ec_regs.specs.Managers.{is_set, is_mailbox, is_buffered, is_ring_written, is_ring_read, span}
 use Rattle.ec_sync.specs.Manager.{Manager, may_write, is_enabled}
-use Rattle.ec_sync.specs.Governing.{governor, governs, covers, in_front}
+use Rattle.ec_sync.specs.Governing.{governor, governs, covers, in_first_buffer}
 use Rattle.ec_fmmu.specs.Applied.{Place, touched_by_writing}
 use Rattle.ec_fmmu.proofs.PairLaws.{none_or_some}
 use Rattle.ec_slave.specs.State.{manager_at}
@@ -99,9 +99,9 @@ written-somewhere ms fs p bytes q l e =
           let n : ℕ = some.0 in
           let m : Manager = manager_at ms n in
           let g : governor ms (q / 8) ≡ Some n = some.1 in
-          let may : (in_front m (q / 8) && (covers (touched_by_writing fs p) m && may_write m)) ≡ true
+          let may : (in_first_buffer m (q / 8) && (covers (touched_by_writing fs p) m && may_write m)) ≡ true
           = ap (writes_under ms (touched_by_writing fs p) (q / 8)) (sym g) ∙ parts.0 in
-          let a = and_parts (in_front m (q / 8)) _ may in
+          let a = and_parts (in_first_buffer m (q / 8)) _ may in
           let b = and_parts (covers (touched_by_writing fs p) m) _ a.1 in
           let front : q / 8 < m.settings.start + m.settings.length = ltb-true _ _ a.0 in
           let from : m.settings.start ≤ q / 8 = governor-start ms (q / 8) n g in
@@ -147,7 +147,7 @@ manager-written ms fs p bytes e =
     let z : 0 + n ≡ n = omega arith in
     let g : governor ms (q / 8) ≡ Some n = position_from-first (λ (x : Manager). governs x (q / 8)) 0 n ms w.1 low spans ∙ ap (λ i. Some i) z in
     let end : m.settings.start + m.settings.length ≤ ram_end = value-end m.settings (writable-set m at.1) in
-    let front : in_front m (q / 8) ≡ true = lt-ltb _ _ (omega arith) in
+    let front : in_first_buffer m (q / 8) ≡ true = lt-ltb _ _ (omega arith) in
     let may : writes_under ms (touched_by_writing fs p) (q / 8) (governor ms (q / 8)) ≡ true
     = ap (writes_under ms (touched_by_writing fs p) (q / 8)) g ∙ and_from _ _ front (and_from _ _ at.0 at.1) in
     any_below_from (8 * ram_end) (λ i. is_some (written_bit ms fs p bytes i)) q (omega arith) (ap is_some (if_true _ _ _ may) ∙ parts.1)

@@ -10,6 +10,7 @@ pub mod Meeting
 pub mod Ways
 pub mod Application
 pub mod Telling
+pub mod Untouched
 pub mod Keeping
 pub mod Exchange
 pub mod AgainstAll

@@ -3,17 +3,17 @@ use Rattle.std.specs.Prelude.{ℕ, ◌+◌, ◌-◌, ◌*◌, ◌&&◌, List, Bo
 use Rattle.ec_bits.specs.Bits.{bit, any_below}
 use Rattle.ec_sync.specs.Manager.{Manager, may_read, may_write, shown, ring_written, ring_read}
 use Rattle.ec_slave.specs.State.{manager_at}
-use Rattle.ec_sync.specs.Governing.{covers, governor, in_front}
+use Rattle.ec_sync.specs.Governing.{covers, governor, in_first_buffer}
 
 -- whether a byte under this governor, or under none, is read by an access that touches these bytes
 abbrev pub reads_under : List Manager → (ℕ → Bool) → ℕ → Option ℕ → Bool
 reads_under ms touched a None = true
-reads_under ms touched a (Some n) = in_front (manager_at ms n) a && (covers touched (manager_at ms n) && may_read (manager_at ms n))
+reads_under ms touched a (Some n) = in_first_buffer (manager_at ms n) a && (covers touched (manager_at ms n) && may_read (manager_at ms n))
 
 -- the same for a write
 abbrev pub writes_under : List Manager → (ℕ → Bool) → ℕ → Option ℕ → Bool
 writes_under ms touched a None = true
-writes_under ms touched a (Some n) = in_front (manager_at ms n) a && (covers touched (manager_at ms n) && may_write (manager_at ms n))
+writes_under ms touched a (Some n) = in_first_buffer (manager_at ms n) a && (covers touched (manager_at ms n) && may_write (manager_at ms n))
 
 -- what a physical bit shows under this governor, or as it lies in the memory
 abbrev pub shown_under : List ℕ → List Manager → ℕ → Option ℕ → Bool

@@ -2,13 +2,13 @@
 use Rattle.std.specs.Prelude.{ℕ, ◌-◌, ◌*◌, ◌/◌, ◌&&◌, List, get_or, Bool, false, if◌then◌else◌, Option, Some, None}
 use Rattle.ec_bits.specs.Bits.{bit}
 use Rattle.ec_sync.specs.Manager.{Manager, shown}
-use Rattle.ec_sync.specs.Governing.{governor, in_front}
+use Rattle.ec_sync.specs.Governing.{governor, in_first_buffer}
 use Rattle.ec_slave.specs.State.{manager_at}
 
 -- what a physical bit shows that the manager governs, where the datagram gets at it or does not
 abbrev pub seen_behind : Manager → Bool → ℕ → Option Bool
 seen_behind m readable q =
-    if in_front m (q / 8) && readable then Some (bit (shown m) (q - 8 * m.settings.start)) else None
+    if in_first_buffer m (q / 8) && readable then Some (bit (shown m) (q - 8 * m.settings.start)) else None
 
 abbrev pub seen_under : List ℕ → List Manager → List Bool → ℕ → Option ℕ → Option Bool
 seen_under memory ms readable q None = Some (bit memory q)

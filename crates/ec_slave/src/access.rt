@@ -35,7 +35,7 @@ pub(crate) fn reads_byte(managers: &[Manager], from: usize, len: usize, address:
         None => true,
         Some(place) => {
             let manager = &managers[place];
-            manager.in_front(address) && manager.is_covered(from, len) && manager.may_read()
+            manager.in_first_buffer(address) && manager.is_covered(from, len) && manager.may_read()
         }
     }
 }
@@ -61,7 +61,7 @@ pub(crate) fn writes_byte(
         None => true,
         Some(place) => {
             let manager = &managers[place];
-            manager.in_front(address) && manager.is_covered(from, len) && manager.may_write()
+            manager.in_first_buffer(address) && manager.is_covered(from, len) && manager.may_write()
         }
     }
 }

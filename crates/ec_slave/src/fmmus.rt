@@ -6,7 +6,7 @@ ghost use Rattle.ec_slave.specs.State.{fmmus_of};
 
 use ec_fmmu::Fmmu;
 use ec_regs::decode_fmmu;
-use ec_regs::registers::{FMMUS, SYNC_MANAGERS};
+use ec_regs::registers::fmmu_address;
 
 /// FMMU `number` as its sixteen registers stand.
 fn fmmu_at(memory: &[u8], number: usize) -> Fmmu
@@ -14,7 +14,7 @@ fn fmmu_at(memory: &[u8], number: usize) -> Fmmu
     requires four { number < 4 }
     ensures { result ≡ fmmu_of (λ k. slice_index memory.now (1536 + 16 * number + k)) }
 {
-    let at = FMMUS as usize + 16 * number;
+    let at = fmmu_address(number);
     let mut record = [0; 16];
     record.copy_from_slice(&memory[at..at + 16]);
     Fmmu::new(decode_fmmu(&record))

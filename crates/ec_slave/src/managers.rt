@@ -1,13 +1,15 @@
 //! What a physical datagram does to the sync managers.
 
-ghost use Rattle.std.specs.Prelude.{◌≡◌, ◌+◌, ◌<◌, ◌≤◌, ◌^◌, ◌*◌, length, [], unwrap_or};
+ghost use Rattle.std.specs.Prelude.{◌≡◌, ◌+◌, ◌-◌, ◌<◌, ◌≤◌, ◌^◌, ◌*◌, length, [], unwrap_or, true};
+ghost use Rattle.ec_bits.specs.Bits.{within, zeros};
+ghost use Rattle.ec_regs.specs.Memory.{ram_end};
 ghost use Rattle.ec_sync.specs.Governing.{manager_byte};
 ghost use Rattle.ec_slave.specs.Managers.{is_ungoverned, manager_after};
 ghost use Rattle.ec_slave.specs.Access.{Window, is_configured as is_configured_at, manager_met, managers_met, setting_for, settings_written, touches, value_for};
 
 use crate::access::{byte_for, governor};
 use crate::reach::{read_manager, write_manager};
-use ec_regs::registers::SYNC_MANAGERS;
+use ec_regs::registers::manager_address;
 use ec_regs::{ManagerSettings, decode_manager, is_stored};
 use ec_sync::{Manager, Reach, Touching, Writing};
 
@@ -31,11 +33,32 @@ impl Touching for Bytes<'_> {
 }
 
 impl Writing for Bytes<'_> {
+    ghost use Rattle.std.specs.Prelude.{length};
+    ghost use Rattle.ec_sync.specs.Touching.{all_touched};
     ghost use Rattle.ec_slave.specs.Access.{Window, value_for};
 
     ghost written = { λ w start len. value_for w.lower.now (record { from = w.from; bytes = w.bytes.now }) start len };
 
+    ghost zero_untouched = { λ w start len k first last inside untouched.
+        absurd (all_touched w.from (length w.bytes.now) start len k first last inside untouched) };
+
     fn fill(&self, start: usize, value: &mut [u8]) {
+        value.fill(0);
+        self.fill_zeros(start, value);
+    }
+}
+
+impl Bytes<'_> {
+    /// Fills a value of zeros that begins at `start`: the bytes under a lower-numbered manager stay 0.
+    fn fill_zeros(&self, start: usize, value: &mut [u8])
+        requires some { 0 < length value.old }
+        requires inside { start + length value.old ≤ ram_end }
+        requires zeroed { value.old ≡ zeros (length value.old) }
+        requires first { within self.now.from (length self.now.bytes.now) start ≡ true }
+        requires last { within self.now.from (length self.now.bytes.now) (start + length value.old - 1) ≡ true }
+        ensures { value.new ≡ value_for self.now.lower.now
+            (record { from = self.now.from; bytes = self.now.bytes.now }) start (length value.old) }
+    {
         for (k, byte) in value.iter_mut().enumerate() {
             if governor(self.lower, start + k).is_none() {
                 *byte = self.bytes[start + k - self.from];
@@ -50,7 +73,7 @@ fn setting_for(from: usize, bytes: &[u8], number: usize, k: usize) -> Option<u8>
     requires byte { k < 8 }
     ensures { result ≡ setting_for (record { from = from; bytes = bytes.now }) number k }
 {
-    let address = SYNC_MANAGERS as usize + 8 * number + k;
+    let address = manager_address(number) + k;
     if is_stored(address) {
         byte_for(from, bytes, address)
     } else {

@@ -281,7 +281,15 @@ fn exchange_through_one_fmmu(rt: HostRuntime) -> Result<(), Fail> {
 #[test]
 fn slave_without_lrw(rt: HostRuntime) -> Result<(), Fail> {
     let none = Listed::new(rt.alloc());
-    let kind = SlaveType::new(IDENTITY, None, 0, 0, none, Listed::new(rt.alloc()), false);
+    let kind = SlaveType::new(
+        IDENTITY.device(),
+        None,
+        0,
+        0,
+        none,
+        Listed::new(rt.alloc()),
+        false,
+    );
     let mut slave = Slave::new(rt.alloc(), kind, IDENTITY)?;
     write(&rt, &mut slave, 0x0810, &OUTPUTS)?;
     write(&rt, &mut slave, 0x0600, &WRITES_OUTPUTS)?;

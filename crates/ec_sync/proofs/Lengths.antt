@@ -1,8 +1,12 @@
 -- How long values are.
-use Rattle.std.proofs.Common.{◌≡◌, true, false, arith}
+use Rattle.std.proofs.Common.{◌≡◌, ◌+◌, ◌&&◌, ℕ, Bool, true, false, nat_le, nat_lt, refl, arith}
+use Rattle.std.specs.Prelude.{if◌then◌else◌}
+use Rattle.std.proofs.lemmas.Bool.Decides.{nat_tests}
+use Rattle.ec_bits.specs.Bits.{within}
+use Rattle.ec_sync.specs.Bounds.{span_end_of}
 use Rattle.std.proofs.lemmas.Grind.{common_steps}
 use Rattle.ec_regs.specs.declared.manager.ManagerSettings.{ManagerSettings}
-use Rattle.ec_regs.specs.Managers.{is_set, is_mailbox}
+use Rattle.ec_regs.specs.Managers.{is_set, is_mailbox, span}
 use Rattle.ec_sync.specs.Manager.{buffer_length, LiesInRam}
 
 -- what is set and no mailbox is buffered
@@ -14,3 +18,11 @@ buffer_length_set m s b = grind (arith, common_steps, s, b)
 pub set_lies_in_ram : (m : ManagerSettings) → is_set m ≡ true → LiesInRam m
 unfolding is_set
 set_lies_in_ram m s = record { some = grind (arith, common_steps, s); from = grind (arith, common_steps, s); to = grind (arith, common_steps, s) }
+
+-- a byte lies in the span that is kept decoded exactly where the manager governs it
+ends_at : (b : Bool) (s n a : ℕ) → (nat_le s a && nat_lt a (if b then s + n else 0)) ≡ (b && (nat_le s a && nat_lt a (s + n)))
+ends_at true s n a = refl
+ends_at false s n a = grind (arith, nat_tests)
+
+pub span_has : (m : ManagerSettings) (a : ℕ) → (nat_le m.start a && nat_lt a (span_end_of m)) ≡ (is_set m && within m.start (span m) a)
+span_has m a = ends_at (is_set m) m.start (span m) a

@@ -2,3 +2,5 @@ pub mod Lengths
 pub mod WholeValues
 pub mod Openings
 pub mod Newest
+pub mod Messages
+pub mod Registers

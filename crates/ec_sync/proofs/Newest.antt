@@ -1,11 +1,10 @@
 -- A buffered manager shows what was published last.
-use Rattle.std.proofs.Common.{ℕ, ◌+◌, ◌/◌, ◌%◌, ◌==◌, ◌&&◌, ◌≡◌, List, [], ◌∷◌, ◌++◌, length, Bool, true, false, if◌then◌else◌, nat_lt, nat_le, slice_set, Option, Some, None, is_some, is_none, unwrap_or, option_map, refl, sym, ◌∙◌, ap}
-use Rattle.std.specs.List.{All}
+use Rattle.std.proofs.Common.{ℕ, ◌+◌, ◌/◌, ◌%◌, ◌==◌, ◌&&◌, ◌≡◌, List, [], ◌∷◌, ◌++◌, length, Bool, true, false, if◌then◌else◌, nat_lt, nat_le, Option, Some, None, is_some, is_none, unwrap_or, refl, ◌∙◌, ap}
 use Rattle.std.proofs.lemmas.List.Elements.{All-head, All-tail}
 use Rattle.ec_regs.specs.Managers.{is_mailbox}
-use Rattle.ec_sync.specs.Buffer.{Buffer, app_written, app_read, publishing}
-use Rattle.ec_sync.specs.Manager.{Manager, is_enabled, may_write, may_read, may_app_put, may_app_get, after_get, message_in, may_put_message, padded}
-use Rattle.ec_sync.specs.Runs.{Operation, Configure, Lock, Empty, PublishZeros, RingWrite, RingRead, AppPut, AppGet, MessageTake, MessagePut, step, run, draft_for, only, publications, history, newest, StaysBuffered, ShowsTheNewest}
+use Rattle.ec_sync.specs.Buffer.{app_written, app_read, publishing}
+use Rattle.ec_sync.specs.Manager.{Manager, is_enabled, may_write, may_read, may_app_put, may_app_get, after_get, message_in, padded}
+use Rattle.ec_sync.specs.Runs.{Operation, Configure, Lock, Empty, PublishZeros, RingWrite, RingRead, AppPut, AppGet, MessageTake, MessagePut, step, draft_for, only, publications, history, newest, StaysBuffered, ShowsTheNewest}
 use Rattle.ec_sync.proofs.WholeValues.{put_if, got_if, closed_if}
 
 newest-append : (v : List ℕ) (xs ys : List (List ℕ)) → newest v (xs ++ ys) ≡ newest (newest v xs) ys

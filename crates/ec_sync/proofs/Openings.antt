@@ -1,12 +1,12 @@
 -- A view and a draft, once opened, stay what they are until they are closed.
-use Rattle.std.proofs.Common.{ℕ, zero, suc, ◌+◌, ◌/◌, ◌%◌, ◌==◌, ◌&&◌, ◌⊎◌, ◌≡◌, List, [], ◌∷◌, length, Bool, true, false, if◌then◌else◌, nat_lt, slice_set, Option, Some, None, is_some, unwrap_or, option_map, refl, sym, subst, ◌∙◌, inl, inr, arith}
+use Rattle.std.proofs.Common.{ℕ, suc, ◌+◌, ◌%◌, ◌==◌, ◌&&◌, ◌⊎◌, ◌≡◌, List, [], ◌∷◌, length, Bool, true, false, if◌then◌else◌, nat_lt, slice_set, Option, Some, None, is_some, unwrap_or, option_map, refl, sym, subst, ◌∙◌, inl, inr, arith}
 use Rattle.std.proofs.lemmas.Bool.{eqb-true, cases_Bool}
 use Rattle.std.specs.List.{All}
 use Rattle.std.proofs.lemmas.List.Elements.{All-head, All-tail}
 use Rattle.ec_bits.specs.Bits.{zeros}
-use Rattle.ec_sync.specs.Buffer.{Buffer, app_written, app_read, publishing}
+use Rattle.ec_sync.specs.Buffer.{app_written, app_read, publishing}
 use Rattle.ec_sync.specs.Manager.{Manager, may_write, may_read, may_app_put, may_app_get, app_put, app_got, after_get, message_in, may_put_message, padded}
-use Rattle.ec_sync.specs.Runs.{Operation, Configure, Lock, Empty, PublishZeros, RingWrite, RingRead, AppPut, AppGet, MessageTake, MessagePut, step, run, draft_for, closed_draft, viewed, OpensNoView, OpensNoDraft, with_puts, ViewsStay, DraftsAreTheBytesPut}
+use Rattle.ec_sync.specs.Runs.{Operation, Configure, Lock, Empty, PublishZeros, RingWrite, RingRead, AppPut, AppGet, MessageTake, MessagePut, step, run, draft_for, OpensNoView, OpensNoDraft, with_puts, ViewsStay, DraftsAreTheBytesPut}
 use Rattle.ec_sync.proofs.WholeValues.{none_some, put_if, got_if}
 
 -- none is open, or the one with these bytes
@@ -169,6 +169,7 @@ same-draft d w i y true (Some f) (inl n) e = absurd (none_some f (sym n))
 same-draft d w i y true (Some f) (inr s) e = let same : f ≡ d = cc in let value : slice_set f i y ≡ w = cc in sym value ∙ rw same refl
 
 pub drafts_are_the_bytes_put : DraftsAreTheBytesPut
+unfolding DraftsAreTheBytesPut
 drafts_are_the_bytes_put m ops x i y value granted none e =
     let n : Manager = run (step m (AppPut 0 x)) ops in
     let d : List ℕ = slice_set (zeros (length m.buffer.published)) 0 x in

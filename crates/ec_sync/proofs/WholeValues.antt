@@ -1,11 +1,11 @@
 -- What readers get was published as a whole.
 use Rattle.std.proofs.Common.{ℕ, ◌+◌, ◌/◌, ◌%◌, ◌==◌, ◌&&◌, ◌≡◌, List, [], ◌∷◌, ◌++◌, length, Bool, true, false, if◌then◌else◌, nat_lt, slice_index, slice_set, Option, Some, None, is_some, unwrap_or, option_map, refl, sym, ap, subst, append_assoc}
 use Rattle.std.specs.List.{Contains}
-use Rattle.std.proofs.lemmas.List.Elements.{Contains-append_left, Contains-append_right, Contains-push}
+use Rattle.std.proofs.lemmas.List.Elements.{Contains-append_left, Contains-push}
 use Rattle.ec_bits.specs.Bits.{zeros}
 use Rattle.ec_sync.specs.Buffer.{Buffer, Got, app_written, app_read, publishing}
 use Rattle.ec_sync.specs.Manager.{Manager, no_manager, buffer_length, may_write, may_read, may_app_put, may_app_get, app_got, after_get, message_in, may_put_message, padded, is_enabled}
-use Rattle.ec_sync.specs.Runs.{Operation, Configure, Lock, Empty, PublishZeros, RingWrite, RingRead, AppPut, AppGet, MessageTake, MessagePut, step, run, draft_for, only, publications, history, viewed, shown_by, OnlyWholeValues, BytesOfTheView}
+use Rattle.ec_sync.specs.Runs.{Operation, Configure, Lock, Empty, PublishZeros, RingWrite, RingRead, AppPut, AppGet, MessageTake, MessagePut, step, run, draft_for, only, publications, history, shown_by, OnlyWholeValues, BytesOfTheView}
 
 -- all that a reader could get is in the history
 pub record Known (h : List (List ℕ)) (m : Manager) : Type 0 where

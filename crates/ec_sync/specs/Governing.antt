@@ -30,8 +30,8 @@ abbrev pub after_ring_read : (ℕ → Bool) → Manager → Manager
 after_ring_read touched m = if covers touched m && may_read m then ring_read m else m
 
 -- of a byte that it governs: the byte lies in its value, and not in a buffer behind it
-abbrev pub in_front : Manager → ℕ → Bool
-in_front m a = nat_lt a (m.settings.start + m.settings.length)
+abbrev pub in_first_buffer : Manager → ℕ → Bool
+in_first_buffer m a = nat_lt a (m.settings.start + m.settings.length)
 
 -- byte k of its eight, little-endian: start, length, control, status (bit 3: mailbox full), activate, the slave's side
 -- (bit 0: deactivate)

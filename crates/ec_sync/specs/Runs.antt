@@ -1,13 +1,14 @@
 -- Whole runs of one manager: any list of accesses of the ring, bytes of the application, messages of the firmware and
--- changes of the settings, in any order, granted or denied. Each step is what the contract of the call of that name says.
-use Rattle.std.specs.Prelude.{ℕ, suc, ◌+◌, ◌==◌, ◌&&◌, ◌≡◌, List, [], ◌∷◌, ◌++◌, length, Bool, true, false, if◌then◌else◌, nat_lt, slice_index, slice_set, Option, Some, None, is_some, unwrap_or, option_map, Contains}
+-- changes of the settings, in any order, granted or denied. That each step is what the call of that name does is the law
+-- `CallsAreSteps`.
+use Rattle.std.specs.Prelude.{ℕ, suc, ◌+◌, ◌==◌, ◌&&◌, ◌≡◌, ◌<◌, List, [], ◌∷◌, ◌++◌, length, Bool, true, false, if◌then◌else◌, slice_index, slice_set, Option, Some, None, is_some, unwrap_or, option_map, Contains}
 use Rattle.std.specs.List.{All}
 use Rattle.ec_bits.specs.Bits.{zeros}
 use Rattle.ec_regs.specs.declared.manager.ManagerSettings.{ManagerSettings}
-use Rattle.ec_regs.specs.Managers.{settings_of, is_mailbox}
+use Rattle.ec_regs.specs.Managers.{settings_of, manager_bytes, is_mailbox}
 use Rattle.ec_sync.specs.Buffer.{Got}
-use Rattle.ec_sync.specs.Manager.{Manager, no_manager, buffer_length, empty_manager, zeros_published, may_read, may_write, ring_written, ring_read, shown, may_app_put, app_put, app_got, after_get, message_in, message_taken, may_put_message, padded, message_put}
-use Rattle.ec_sync.specs.Governing.{manager_byte}
+use Rattle.ec_sync.specs.Manager.{Manager, no_manager, buffer_length, empty_manager, zeros_published, may_read, may_write, ring_written, ring_read, shown, app_put, app_got, after_get, message_in, message_taken, may_put_message, padded, message_put}
+use Rattle.ec_sync.specs.Governing.{manager_byte, covers, after_ring_write, after_ring_read}
 
 -- Of an access of the ring it counts whether it touches the first and the last byte, and the value that it leaves.
 pub data Operation : Type 0 where
@@ -128,7 +129,7 @@ with_puts m (o ∷ ops) value = with_puts (step m o) ops value
 
 -- Whatever happens after the application put byte 0: a draft that is closed then has just the bytes that were put since,
 -- and zeros elsewhere.
-abbrev pub DraftsAreTheBytesPut : Type 0
+unfoldable pub DraftsAreTheBytesPut : Type 0
 DraftsAreTheBytesPut =
     (m : Manager) (ops : List Operation) (x i y : ℕ) (value : List ℕ) → is_some (app_put m 0 x) ≡ true → All OpensNoDraft ops
     → closed_draft (run (step m (AppPut 0 x)) ops) (suc i) y ≡ Some value
@@ -150,6 +151,22 @@ ShowsTheNewest =
     (m : Manager) (ops : List Operation) → is_mailbox m.settings ≡ false → All StaysBuffered ops
     → newest m.buffer.published (history m ops) ≡ (run m ops).buffer.published
 
--- What the eight register bytes of a manager say, read one by one, are its settings.
-abbrev pub RegistersReadBack : Type 0
-RegistersReadBack = (m : Manager) → settings_of (manager_byte m) ≡ m.settings
+-- What the eight register bytes of a manager say, read one by one, are its settings; and they are the bytes of the
+-- settings, but for the status (5) and the slave's side (7), which are no settings.
+pub record RegistersReadBack : Type 0 where
+  pub read_back : (m : Manager) → settings_of (manager_byte m) ≡ m.settings
+  pub bytes : (m : Manager) (k : ℕ) → k < 8 → ¬ (k ≡ 5) → ¬ (k ≡ 7) → manager_byte m k ≡ slice_index (manager_bytes m.settings) k
+
+-- What the contract of each call says of the manager after it is the step of that name.
+pub record CallsAreSteps : Type 0 where
+  pub configure : (m : Manager) (settings : ManagerSettings) → empty_manager settings m.locked ≡ step m (Configure settings)
+  pub set_locked : (m : Manager) (locked : Bool) → record m { locked = locked } ≡ step m (Lock locked)
+  pub empty : (m : Manager) → empty_manager m.settings m.locked ≡ step m Empty
+  pub publish_zeros : (m : Manager) → zeros_published m ≡ step m PublishZeros
+  pub ring_write : (m : Manager) (touched : ℕ → Bool) (written : ℕ → ℕ → List ℕ)
+      → after_ring_write touched written m ≡ step m (RingWrite (covers touched m) (written m.settings.start m.settings.length))
+  pub ring_read : (m : Manager) (touched : ℕ → Bool) → after_ring_read touched m ≡ step m (RingRead (covers touched m))
+  pub app_put : (m : Manager) (i x : ℕ) → unwrap_or (app_put m i x) m ≡ step m (AppPut i x)
+  pub app_get : (m : Manager) (i : ℕ) → after_get m (app_got m i) ≡ step m (AppGet i)
+  pub mailbox_take : (m : Manager) → message_taken m ≡ step m MessageTake
+  pub mailbox_put : (m : Manager) (message : List ℕ) → message_put m message ≡ step m (MessagePut message)

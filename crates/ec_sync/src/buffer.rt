@@ -1,6 +1,6 @@
 //! What a buffered manager holds.
 
-ghost use Rattle.std.specs.Prelude.{◌≡◌, ◌+◌, ◌-◌, ◌<◌, ◌≤◌, ◌++◌, length, take, drop, slice_set, slice_index, IfOk, Some, is_some, unwrap_or, option_map, true};
+ghost use Rattle.std.specs.Prelude.{◌≡◌, ◌+◌, ◌-◌, ◌<◌, ◌≤◌, ◌++◌, length, take, drop, slice_set, IfOk, Some, is_some, unwrap_or, option_map, true};
 ghost use Rattle.ec_bits.specs.Bits.{zeros};
 ghost use Rattle.ec_regs.specs.Memory.{ram_end};
 ghost use Rattle.ec_sync.specs.Buffer.{emptied_buffer, publishing, draft_next, app_written, app_read, after_read};
@@ -192,7 +192,5 @@ pub fn fill_front<W: Writing>(storage: &mut [u8], len: usize, start: usize, writ
     ensures front { storage.new ≡ W.written writing.now start len ++ drop len storage.old }
     ensures length { length (W.written writing.now start len) ≡ len }
 {
-    let value = &mut storage[..len];
-    value.fill(0);
-    writing.fill(start, value);
+    writing.fill(start, &mut storage[..len]);
 }

@@ -3,6 +3,7 @@
 ghost use Rattle.std.specs.Prelude.{◌≡◌, ◌≤◌};
 ghost use Rattle.ec_sync.specs.Manager.{buffer_length as buffer_length_of, empty_manager, zeros_published};
 
+use crate::bounds::Bounds;
 use crate::manager::Manager;
 use ec_regs::ManagerSettings;
 
@@ -13,6 +14,7 @@ impl Manager {
         ensures { self.new ≡ empty_manager settings self.old.locked }
     {
         self.settings = settings;
+        self.bounds = Bounds::of(settings);
         self.mail.empty();
         self.buffer.empty(buffer_length(settings));
     }

@@ -4,6 +4,7 @@
 #![tactic(auto)]
 
 mod application;
+mod bounds;
 mod buffer;
 mod configuring;
 pub mod laws;
@@ -13,6 +14,7 @@ mod manager;
 mod ring;
 mod touching;
 
+pub use crate::bounds::Bounds;
 pub use crate::manager::Manager;
 pub use crate::touching::{Range, Reach, Touching, Writing};
 

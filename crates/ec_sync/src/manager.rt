@@ -1,12 +1,14 @@
 //! One sync manager, and what can be asked of it.
 
-ghost use Rattle.std.specs.Prelude.{◌≡◌, ◌+◌, ◌-◌, ◌<◌, ◌≤◌, length, IfOk, true, false};
+ghost use Rattle.std.specs.Prelude.{◌≡◌, ◌-◌, ◌<◌, ◌≤◌, length, IfOk, true, false};
 ghost use Rattle.std.specs.Bool.{OnTrue};
 ghost use Rattle.ec_bits.specs.Bits.{within};
 ghost use Rattle.ec_regs.specs.Managers.{is_set as is_set_of};
-ghost use Rattle.ec_sync.specs.Manager.{buffer_length as buffer_length_of, no_manager, LiesInRam, is_enabled as is_enabled_of, may_read as may_be_read, may_write as may_be_written};
-ghost use Rattle.ec_sync.specs.Governing.{governs as governs_byte, covers, in_front as lies_in_front, manager_byte, shown_byte as byte_shown};
+ghost use Rattle.ec_sync.specs.Manager.{buffer_length as buffer_length_of, no_manager, LiesInRam, is_enabled as is_enabled_of, may_read as may_be_read, may_write as may_be_written, shown as value_shown};
+ghost use Rattle.ec_sync.specs.Bounds.{bounds_of};
+ghost use Rattle.ec_sync.specs.Governing.{governs as governs_byte, covers, in_first_buffer as lies_in_first_buffer, manager_byte, shown_byte as byte_shown};
 
+use crate::bounds::Bounds;
 use crate::buffer::Buffer;
 use crate::mail::Mail;
 use ec_regs::ManagerSettings;
@@ -17,6 +19,7 @@ use std::marker::Model;
 #[derive(Drop)]
 pub struct Manager {
     pub(crate) settings: ManagerSettings,
+    pub(crate) bounds: Bounds,
     pub(crate) is_locked: bool,
     pub(crate) buffer: Buffer,
     pub(crate) mail: Mail,
@@ -25,13 +28,15 @@ pub struct Manager {
 impl Model for Manager {
     ghost use Rattle.std.specs.Prelude.{◌≡◌, length};
     ghost use Rattle.ec_sync.specs.Manager.{Manager as ManagerState, buffer_length};
+    ghost use Rattle.ec_sync.specs.Bounds.{bounds_of};
 
     ghost Value = { ManagerState };
 
     ghost view = { λ m.
         record { settings = m.settings; locked = m.is_locked; buffer = m.buffer; mail = m.mail } };
 
-    ghost invariant = { λ m. length m.buffer.published ≡ buffer_length m.settings };
+    ghost invariant = { λ m.
+        (length m.buffer.published ≡ buffer_length m.settings) × (m.bounds ≡ bounds_of m.settings) };
 }
 
 impl Manager {
@@ -44,13 +49,10 @@ impl Manager {
     pub fn new(alloc: Global) -> Result<Manager, AllocError>
         ensures { IfOk result (λ m. m ≡ no_manager) }
     {
+        let settings = ManagerSettings::none();
         Ok(Manager {
-            settings: ManagerSettings {
-                start: 0,
-                length: 0,
-                control: 0,
-                activate: 0,
-            },
+            settings,
+            bounds: Bounds::of(settings),
             is_locked: false,
             buffer: Buffer::new(alloc)?,
             mail: Mail::new(alloc)?,
@@ -70,7 +72,7 @@ impl Manager {
         ensures value { result ≡ is_set_of self.now.settings }
         ensures inside { OnTrue result (LiesInRam self.now.settings) }
     {
-        self.settings.is_set()
+        self.bounds.is_set
     }
 
     /// Whether it is set and not locked: a locked manager denies every access.
@@ -82,19 +84,26 @@ impl Manager {
         self.is_set() && !self.is_locked
     }
 
+    /// Where its bytes lie.
+    pub fn bounds(&self) -> Bounds
+        ensures { result ≡ bounds_of self.now.settings }
+    {
+        self.bounds
+    }
+
     /// Whether its span has the byte.
+    #[tactic(auto, using(crate::proofs::Lengths::span_has))]
     pub fn governs(&self, address: usize) -> bool
         ensures { result ≡ governs_byte self.now address }
     {
-        let start = self.settings.start as usize;
-        self.is_set() && start <= address && address < start + self.settings.span()
+        self.bounds.first <= address && address < self.bounds.span_end
     }
 
     /// Whether the byte lies before the end of its value, and not in a buffer behind it.
-    pub fn in_front(&self, address: usize) -> bool
-        ensures { result ≡ lies_in_front self.now address }
+    pub fn in_first_buffer(&self, address: usize) -> bool
+        ensures { result ≡ lies_in_first_buffer self.now address }
     {
-        address < self.settings.start as usize + self.settings.length as usize
+        address < self.bounds.value_end
     }
 
     /// Whether the ring may read it, by a datagram that touches its first and its last byte.
@@ -123,8 +132,8 @@ impl Manager {
     pub fn is_covered(&self, from: usize, len: usize) -> bool
         ensures { result ≡ covers (within from len) self.now }
     {
-        let first = self.settings.start as usize;
-        let last = (first + self.settings.length as usize).saturating_sub(1);
+        let first = self.bounds.first;
+        let last = self.bounds.value_end.saturating_sub(1);
         first >= from && first - from < len && last >= from && last - from < len
     }
 
@@ -154,17 +163,23 @@ impl Manager {
         self.buffer.published()
     }
 
+    /// What a datagram reads: the message of a mailbox, else the last value that was published whole.
+    pub fn shown(&self) -> &[u8]
+        ensures { result.now ≡ value_shown self.now }
+    {
+        if self.settings.is_mailbox() {
+            self.mail.message()
+        } else {
+            self.buffer.published()
+        }
+    }
+
     /// The byte that a datagram reads at an address in its value.
     pub fn shown_byte(&self, address: usize) -> u8
         ensures { result ≡ byte_shown self.now address }
     {
-        let bytes = if self.settings.is_mailbox() {
-            self.mail.message()
-        } else {
-            self.buffer.published()
-        };
-        let place = address.saturating_sub(self.settings.start as usize);
-        match bytes.get(place) {
+        let place = address.saturating_sub(self.bounds.first);
+        match self.shown().get(place) {
             Some(byte) => *byte,
             None => 0,
         }

@@ -63,7 +63,6 @@ impl Manager {
         requires { LiesInRam self.now.settings }
         ensures { result ≡ covers (T.touched access.now) self.now }
     {
-        let first = self.settings.start as usize;
-        access.touches(first) && access.touches(first + self.settings.length as usize - 1)
+        access.touches(self.bounds.first) && access.touches(self.bounds.value_end - 1)
     }
 }

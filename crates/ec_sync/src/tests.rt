@@ -1,8 +1,8 @@
-ghost use Rattle.std.specs.Prelude.{◌≡◌, ◌==◌, ◌-◌, ◌||◌, slice_set};
+ghost use Rattle.std.specs.Prelude.{◌==◌, ◌||◌};
 ghost use Rattle.ec_bits.specs.Bits.{zeros};
 
 use super::*;
-use ec_regs::ManagerSettings;
+use ec_regs::{CONTROL_INPUTS, CONTROL_MAILBOX_IN, ManagerSettings};
 use std::test::Fail;
 
 /// Two buffered bytes at 0x1100 that the ring writes.
@@ -24,7 +24,7 @@ const INPUTS: ManagerSettings = ManagerSettings {
 /// The last byte of the RAM.
 const LAST: usize = 0x2fff;
 
-/// Writes two bytes and none between.
+/// Writes 0 at two bytes, and none between.
 #[derive(Drop)]
 struct Ends {
     first: usize,
@@ -40,11 +40,14 @@ impl Touching for Ends {
 }
 
 impl Writing for Ends {
-    ghost written = { λ e start len. slice_set (slice_set (zeros len) 0 7) (len - 1) 9 };
+    ghost use Rattle.std.proofs.lemmas.List.{get_or-replicate};
+
+    ghost written = { λ e start len. zeros len };
+
+    ghost zero_untouched = { λ e start len k first last inside untouched. get_or-replicate len k 0 0 inside };
 
     fn fill(&self, _start: usize, value: &mut [u8]) {
-        value[0] = 7;
-        value[value.len() - 1] = 9;
+        value.fill(0);
     }
 }
 
@@ -199,6 +202,59 @@ fn untouched_bytes_are_zero(rt: HostRuntime) -> Result<(), Fail> {
     };
     assert!(rt; manager.ring_write(&full));
     assert!(rt; manager.ring_write(&ends));
-    assert_eq!(rt; manager.published(), [7, 0, 0, 9].as_slice());
+    assert_eq!(rt; manager.published(), [0, 0, 0, 0].as_slice());
+    Ok(())
+}
+
+// New settings empty a manager, also where they are what they were, and where it wasn't set before.
+#[test]
+fn settings_written_again_empty_it(rt: HostRuntime) -> Result<(), Fail> {
+    let mut manager = Manager::new(rt.alloc())?;
+    let mailbox = ManagerSettings::of_area(0x1000, 16, CONTROL_MAILBOX_IN);
+    manager.configure(mailbox);
+    assert!(rt; manager.mailbox_put(&[1, 2, 3]));
+    assert_eq!(rt; manager.register(5), 8);
+    manager.configure(mailbox);
+    assert_eq!(rt; manager.register(5), 0);
+    assert!(rt; manager.mailbox_put(&[4]));
+    manager.configure(ManagerSettings {
+        activate: 0,
+        ..mailbox
+    });
+    assert_eq!(rt; manager.register(5), 0);
+    assert!(rt; manager.shown().is_empty());
+    Ok(())
+}
+
+// The deactivate bit is kept, and read back, also where the manager isn't set.
+#[test]
+fn locked_where_it_is_not_set(rt: HostRuntime) -> Result<(), Fail> {
+    let mut manager = Manager::new(rt.alloc())?;
+    manager.set_locked(true);
+    assert_eq!(rt; manager.register(7), 1);
+    manager.configure(OUTPUTS);
+    assert_eq!(rt; manager.register(7), 1);
+    assert!(rt; !manager.is_enabled());
+    Ok(())
+}
+
+// A span with its three buffers, a mailbox, and a manager that isn't set.
+#[test]
+fn bounds_of_managers(rt: HostRuntime) -> Result<(), Fail> {
+    let rows = [
+        (OUTPUTS, 0x1102, 0x1106),
+        (ManagerSettings::of_area(0x2fff, 1, CONTROL_MAILBOX_IN), 0x3000, 0x3000),
+        (ManagerSettings::of_area(0x2fff, 1, CONTROL_INPUTS), 0x3000, 0),
+    ];
+    let mut manager = Manager::new(rt.alloc())?;
+    for (settings, value_end, span_end) in rows {
+        manager.configure(settings);
+        let bounds = manager.bounds();
+        assert_eq!(rt; bounds.first, settings.start as usize);
+        assert_eq!(rt; bounds.value_end, value_end);
+        assert_eq!(rt; bounds.span_end, span_end);
+        assert_eq!(rt; manager.governs(bounds.first), span_end != 0);
+        assert!(rt; !manager.governs(span_end));
+    }
     Ok(())
 }

@@ -1,7 +1,7 @@
 //! What a datagram touches, and what it writes there.
 
 ghost use Rattle.std.specs.Prelude.{◌≡◌, ◌+◌, ◌-◌, ◌<◌, ◌≤◌, length, true};
-ghost use Rattle.ec_bits.specs.Bits.{zeros, within};
+ghost use Rattle.ec_bits.specs.Bits.{within};
 ghost use Rattle.ec_regs.specs.Memory.{ram_end};
 
 /// An access of the ring to a slave's memory: which bytes one datagram touches.
@@ -19,19 +19,23 @@ pub trait Touching {
 
 /// An access that writes.
 pub trait Writing: Touching {
-    ghost use Rattle.std.specs.Prelude.{ℕ, List};
+    ghost use Rattle.std.specs.Prelude.{ℕ, List, false, slice_index};
 
-    /// What it leaves in a value of so many bytes that begins at an address, where it touches the first and the last.
+    /// The value that it leaves in so many bytes from an address on, if it touches the first and the last of them.
     ghost written: { Self → ℕ → ℕ → List ℕ };
 
-    /// Fills a value that begins at `start`; what it does not touch stays 0.
+    /// Fills a value that begins at `start`, whatever stands there: 0 in each byte that it does not touch.
     fn fill(&self, start: usize, value: &mut [u8])
         requires some { 0 < length value.old }
         requires inside { start + length value.old ≤ ram_end }
-        requires zeroed { value.old ≡ zeros (length value.old) }
         requires first { Self.touched self.now start ≡ true }
         requires last { Self.touched self.now (start + length value.old - 1) ≡ true }
         ensures { value.new ≡ written self.now start (length value.old) };
+
+    /// What it does not touch is 0.
+    ghost zero_untouched: { (w : Self) (start len k : ℕ) → Self.touched w start ≡ true
+        → Self.touched w (start + len - 1) ≡ true → k < len → Self.touched w (start + k) ≡ false
+        → slice_index (written w start len) k ≡ 0 };
 }
 
 /// The `len` bytes from `from` on, as a physical datagram reads them.
@@ -69,9 +73,12 @@ impl Touching for Range<'_> {
 }
 
 impl Writing for Range<'_> {
-    ghost use Rattle.ec_sync.specs.Touching.{cut_out};
+    ghost use Rattle.ec_sync.specs.Touching.{cut_out, all_touched};
 
     ghost written = { λ r start len. cut_out r.from r.bytes.now start len };
+
+    ghost zero_untouched = { λ r start len k first last inside untouched.
+        absurd (all_touched r.from (length r.bytes.now) start len k first last inside untouched) };
 
     fn fill(&self, start: usize, value: &mut [u8]) {
         let place = start - self.from;

@@ -1,5 +1,5 @@
 -- One row of a section, and the end.
-use Rattle.std.proofs.Common.{◌≡◌, ℕ, ◌+◌, ◌<◌, ◌≤◌, List, [], ◌∷◌, ◌++◌, length, get_or, drop, Result, Ok, sym, ◌∙◌}
+use Rattle.std.proofs.Common.{◌≡◌, ℕ, ◌+◌, ◌<◌, ◌≤◌, List, [], ◌∷◌, ◌++◌, length, get_or, drop, Result, Ok, Err, sym, ap, ◌∙◌}
 use Rattle.std.proofs.lemmas.List.{drop_all}
 use Rattle.toml.specs.Data.{Data}
 use Rattle.toml.specs.View.{view, items_view}
@@ -9,7 +9,7 @@ use Rattle.ec_table.specs.declared.fault.Fault.{Fault}
 use Rattle.ec_table.specs.Fields.{◌>>=◌}
 use Rattle.ec_table.specs.declared.fault.TableError.{TableError}
 use Rattle.ec_table.specs.declared.fault.TableError.TheVariants.{Memory, Refused}
-use Rattle.ec_table.specs.InOrder.{rows_after, Fails}
+use Rattle.ec_table.specs.InOrder.{rows_after, one_more, Fails}
 
 pub rows_at : {X : Type 0} (row : ℕ → Data → List X → Result X Fault) (found : List X) (vs : List Value) (i : ℕ) (v : Value) → i < length vs → v ≡ get_or vs i v
     → rows_after row found i (items_view (drop i vs)) ≡ (row i (view v) found >>= (λ x. rows_after row (found ++ x ∷ []) (i + 1) (items_view (drop (i + 1) vs))))
@@ -33,5 +33,28 @@ pub rows_fail : {X : Type 0} (row : ℕ → Data → List X → Result X Fault) 
     → rows_after row found i (items_view (drop i vs)) ≡ whole → Fails e (row i (view v) found) → Fails e whole
 rows_fail row found vs i v whole Memory h is same f = tt
 rows_fail row found vs i v whole (Refused fault) h is inv f = sym inv ∙ rw (rows_at row found vs i v h is, f)
+
+more_then : {X Y : Type 0} (found more : List X) (read : Result X Fault) (k : List X → Result Y Fault) → one_more found read ≡ Ok more → (read >>= (λ x. k (found ++ x ∷ []))) ≡ k more
+more_then found more (Ok x) k h = let e : found ++ x ∷ [] ≡ more = cc in ap k e
+more_then found more (Err f) k h = cc
+
+-- a row that reads, put behind those found
+pub rows_more : {X : Type 0} (row : ℕ → Data → List X → Result X Fault) (found more : List X) (vs : List Value) (i : ℕ) (v : Value) → i < length vs → v ≡ get_or vs i v
+    → one_more found (row i (view v) found) ≡ Ok more
+    → rows_after row more (i + 1) (items_view (drop (i + 1) vs)) ≡ rows_after row found i (items_view (drop i vs))
+rows_more row found more vs i v h is ok = sym (rows_at row found vs i v h is ∙ more_then found more (row i (view v) found) (λ xs. rows_after row xs (i + 1) (items_view (drop (i + 1) vs))) ok)
+
+more_fails : {X Y : Type 0} (found : List X) (read : Result X Fault) (k : X → Result Y Fault) (f : Fault) → one_more found read ≡ Err f → (read >>= k) ≡ Err f
+more_fails found (Ok x) k f h = cc
+more_fails found (Err g) k f h = let e : g ≡ f = cc in ap Err e
+
+-- one that doesn't
+pub rows_stop : {X : Type 0} (row : ℕ → Data → List X → Result X Fault) (found : List X) (vs : List Value) (i : ℕ) (v : Value) (whole : Result (List X) Fault) (e : TableError) → i < length vs → v ≡ get_or vs i v
+    → rows_after row found i (items_view (drop i vs)) ≡ whole → Fails e (one_more found (row i (view v) found)) → Fails e whole
+rows_stop row found vs i v whole Memory h is same f = tt
+rows_stop row found vs i v whole (Refused fault) h is inv f = sym inv ∙ (rows_at row found vs i v h is ∙ more_fails found (row i (view v) found) _ fault f)
+
+-- rows that are put behind those found
+pub ruleset rows_more_all = (rows_more, rows_stop, rows_end)
 
 pub ruleset rows_all = (rows_ok, rows_fail, rows_end)

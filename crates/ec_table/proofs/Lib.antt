@@ -1,6 +1,8 @@
 pub mod Lookups
+pub mod Naming
 pub mod InOrder
 pub mod Meets
+pub mod Ranges
 pub mod SoundReads
 pub mod SoundRows
 pub mod ObjectLemmas
@@ -9,3 +11,5 @@ pub mod Written
 pub mod WrittenRows
 pub mod WrittenWhole
 pub mod ElementByElement
+pub mod DocumentFaults
+pub mod Defaults

@@ -19,8 +19,10 @@ use Rattle.ec_table.specs.declared.rows.TypeRow.{TypeRow}
 use Rattle.ec_table.specs.declared.rows.SlaveRow.{SlaveRow}
 use Rattle.ec_table.specs.Contents.{Contents, pdos_toward, assigned_toward}
 use Rattle.ec_table.specs.Pdos.{indices_of}
-use Rattle.ec_table.specs.Sound.{IsOnce, IsEntry, IsPdo, ArePdos, IsType, IsAssignment, IsSlave, AreSlaves}
+use Rattle.ec_regs.specs.Types.{IsEntry, IsPdo, ArePdos}
 use Rattle.ec_regs.specs.Objects.{entries_at, assigned_entries, bits_of, entry_bits}
+use Rattle.ec_table.specs.Sound.{IsOnce, IsType, IsAssignment, IsSlave, AreSlaves, first_index}
+use Rattle.ec_table.proofs.Ranges.{limits_toward}
 use Rattle.ec_table.specs.Objects.{entries_of, type_of, object_bits}
 
 -- no list without doubles is longer than one that has all its elements
@@ -40,30 +42,30 @@ pub record FewEntries (es : List Entry) : Type 0 where
   pub each : All IsEntry es
   pub few : length es ≤ 64
 
-entries_found : (direction : Direction) (o : Option Pdo) → ((q : Pdo) → o ≡ Some q → IsPdo direction q) → FewEntries (option_map_or (λ (q : Pdo). q.entries) o [])
+entries_found : (direction : Direction) (o : Option Pdo) → ((q : Pdo) → o ≡ Some q → IsPdo (first_index direction) q) → FewEntries (option_map_or (λ (q : Pdo). q.entries) o [])
 entries_found direction None h = record { each = All-nil IsEntry; few = omega arith }
 entries_found direction (Some q) h = record { each = (h q refl).entries; few = (h q refl).few }
 
-entries_met : (direction : Direction) (pdos : List Pdo) (index : ℕ) → ArePdos direction pdos → FewEntries (entries_at pdos index)
-entries_met direction pdos index h = entries_found direction (find (λ (q : Pdo). q.index == index) pdos) (λ q is. found_met (IsPdo direction) index pdos h.each q is)
+entries_met : (direction : Direction) (pdos : List Pdo) (index : ℕ) → ArePdos (first_index direction) pdos → FewEntries (entries_at pdos index)
+entries_met direction pdos index h = entries_found direction (find (λ (q : Pdo). q.index == index) pdos) (λ q is. found_met (IsPdo (first_index direction)) index pdos h.each q is)
 
-all_entries : (direction : Direction) (pdos : List Pdo) (indices : List ℕ) → ArePdos direction pdos → All IsEntry (assigned_entries pdos indices)
+all_entries : (direction : Direction) (pdos : List Pdo) (indices : List ℕ) → ArePdos (first_index direction) pdos → All IsEntry (assigned_entries pdos indices)
 all_entries direction pdos [] h = All-nil IsEntry
 all_entries direction pdos (x ∷ xs) h = All-append IsEntry (entries_at pdos x) (assigned_entries pdos xs) (entries_met direction pdos x h).each (all_entries direction pdos xs h)
 
-entry_count : (direction : Direction) (pdos : List Pdo) (indices : List ℕ) → ArePdos direction pdos → length (assigned_entries pdos indices) ≤ 64 * length indices
+entry_count : (direction : Direction) (pdos : List Pdo) (indices : List ℕ) → ArePdos (first_index direction) pdos → length (assigned_entries pdos indices) ≤ 64 * length indices
 entry_count direction pdos [] h = omega arith
 entry_count direction pdos (x ∷ xs) h = simp length-append (omega (arith, (entries_met direction pdos x h).few, entry_count direction pdos xs h))
 
 -- sixteen objects at most
-pub few_entries : (direction : Direction) (t : TypeRow) (s : SlaveRow) → ArePdos direction (pdos_toward direction t) → IsAssignment t.mailbox (pdos_toward direction t) (assigned_toward direction s) → length (assigned_entries (pdos_toward direction t) (assigned_toward direction s)) ≤ 1024
+pub few_entries : (direction : Direction) (t : TypeRow) (s : SlaveRow) → ArePdos (first_index direction) (pdos_toward direction t) → IsAssignment t.mailbox (pdos_toward direction t) (assigned_toward direction s) → length (assigned_entries (pdos_toward direction t) (assigned_toward direction s)) ≤ 1024
 few_entries direction t s h a =
     let pdos : List Pdo = pdos_toward direction t in
     let indices : List ℕ = assigned_toward direction s in
     omega (arith, entry_count direction pdos indices h, length_le indices (indices_of pdos) a.once a.known, length-map pdos (λ (q : Pdo). q.index), h.few)
 
 pub few_bits : (es : List Entry) → All IsEntry es → length es ≤ 1024 → bits_of es ≤ 65536
-few_bits es h few = omega (arith, sum_by-le (λ (e : Entry). e.bits) 64 es (λ k d lt. (h k d lt).most))
+few_bits es h few = omega (arith, sum_by-le (λ (e : Entry). e.bits) 64 es (λ k d lt. (h k d lt).few))
 
 pub record ObjectBounds (es : List Entry) : Type 0 where
   pub each : All IsEntry es
@@ -82,8 +84,8 @@ pub object_bounds : (c : Contents) (s : ℕ) (d : Direction) (r : SlaveRow) (t :
 object_bounds c s d r t slaves is it kind =
     let at : slice_get c.types r.type_place ≡ Some t = rw is at it in
     let row : IsSlave c.version c.types r = subst (IsSlave c.version c.types) (get_or_from_slice_get c.slaves s r r is) (slaves.each s r (slice_get_within c.slaves s r is)) in
-    let each : All IsEntry (assigned_entries (pdos_toward d t) (assigned_toward d r)) = all_entries d (pdos_toward d t) (assigned_toward d r) (kind.pdos d) in
-    let few : length (assigned_entries (pdos_toward d t) (assigned_toward d r)) ≤ 1024 = few_entries d t r (kind.pdos d) (row.assigned t d at) in
+    let each : All IsEntry (assigned_entries (pdos_toward d t) (assigned_toward d r)) = all_entries d (pdos_toward d t) (assigned_toward d r) (limits_toward t kind d) in
+    let few : length (assigned_entries (pdos_toward d t) (assigned_toward d r)) ≤ 1024 = few_entries d t r (limits_toward t kind d) (row.assigned t d at) in
     subst ObjectBounds (sym (entries_are c s d r t is it)) (record { each = each; few = few; bits = few_bits _ each few })
 
 count_bits : (es : List Entry) → length (flat_map entry_bits es) ≡ bits_of es

@@ -15,7 +15,8 @@ use Rattle.ec_table.specs.Faults.{fault_place}
 use Rattle.ec_table.specs.Fields.{◌>>=◌, must, in_range, magnitude, is_name, number_in, name_in, mailbox_of, mailbox_in, direction_in, link_bits_of, link_bits_in, number_or_0, truth_in}
 use Rattle.ec_table.specs.InOrder.{members_in, rows_after}
 use Rattle.ec_table.specs.Pdos.{entry_of, entry_row, array_of, array_in, pdo_of, pdo_row, pdos_in, number_row, number_list, numbers_in, indices_of, has_twice}
-use Rattle.ec_table.specs.Reading.{device_in, process_in, type_at, is_slave_name, type_named, assigned_in, all_in, same_list, slave_at, variable_at, link_at}
+use Rattle.ec_table.specs.Reading.{device_in, process_in, type_at, assigned_in, all_in, same_list, slave_at, variable_at, link_at}
+use Rattle.ec_table.specs.Names.{is_named, place_named}
 
 -- a fault, if there is one, is at the place
 pub record FailsAt {A : Type 0} (p : Place) (r : Result A Fault) : Type 0 where
@@ -179,8 +180,8 @@ fails_slave v ts p ms found =
     fails_then p _ _ (fails_numbers p 0x1A00 0x1BFF (get_member (codes "in") ms)) (λ inputs.
     fails_then p _ _ (fails_number_or_0 p 4294967295 (get_member (codes "serial") ms)) (λ serial.
     fails_then p _ _ (fails_number_or_0 p 63 (get_member (codes "unit") ms)) (λ unit.
-    fails_then p _ _ (fails_must p (not (is_slave_name name found || (has_twice (unwrap_or outputs []) || has_twice (unwrap_or inputs [])))) (TwiceNamed p) refl) (λ w.
-    fails_then p _ _ (fails_none p (type_named type_name ts) (UnknownName p) refl) (λ place.
+    fails_then p _ _ (fails_must p (not (is_named (λ (s : SlaveRow). s.name) name found || (has_twice (unwrap_or outputs []) || has_twice (unwrap_or inputs [])))) (TwiceNamed p) refl) (λ w.
+    fails_then p _ _ (fails_none p (place_named (λ (t : TypeRow). t.name) type_name ts) (UnknownName p) refl) (λ place.
     fails_then p _ _ (fails_none p (slice_get ts place) (UnknownName p) refl) (λ t. fails_assigned p t (record { name = name; type_place = place; outputs = unwrap_or outputs (indices_of t.process.outputs); inputs = unwrap_or inputs (indices_of t.process.inputs); serial = serial; unit = unit })))))))))))
 
 pub fails_variable : (v : Version) (p : Place) (ms : Members) (found : List VariableRow) → FailsAt p (variable_at v p ms found)

@@ -25,38 +25,40 @@ use Rattle.ec_table.specs.Contents.{pdos_toward}
 use Rattle.ec_table.specs.Fields.{◌>>=◌, must, keys_are, mailbox_of, mailbox_in, direction_in, truth_in}
 use Rattle.ec_table.specs.InOrder.{members_in, rows_after}
 use Rattle.ec_table.specs.Pdos.{entry_of, entry_row, array_of, array_in, pdo_of, pdo_row, pdos_in, indices_of, has_twice}
-use Rattle.ec_table.specs.Reading.{is_type_name, device_in, process_in, process_twice, type_at, type_element, is_variable_name, variable_at, variable_element}
-use Rattle.ec_table.specs.Sound.{IsOnce, IsDevice, IsMailbox, IsEntry, IsPdo, ArePdos, IsType, AreTypes, IsVariable, AreVariables, first_index, last_index}
+use Rattle.ec_table.specs.Reading.{device_in, process_in, process_twice, type_at, type_element, variable_at, variable_element}
+use Rattle.ec_table.specs.Names.{is_named, place_named}
+use Rattle.ec_table.specs.Sound.{IsOnce, IsDevice, IsType, AreTypes, IsVariable, AreVariables, first_index}
+use Rattle.ec_table.proofs.Ranges.{ReadMailbox, ReadEntry, ReadPdo, ReadPdos, last_index, type_read}
 use Rattle.ec_table.proofs.Meets.{Meets, meets_ok, meets_then, any_met, must_met, number_met, name_met, rows_met}
 
 -- ---- values
 
-pub mailbox_of_met : (p : Place) (d : Data) → Meets (mailbox_of p d) IsMailbox
+pub mailbox_of_met : (p : Place) (d : Data) → Meets (mailbox_of p d) ReadMailbox
 unfolding mailbox_of
 mailbox_of_met p d =
-    meets_then _ IsMailbox _ _ (number_met p 0 65535 (at 0 d)) (λ a ha.
-    meets_then _ IsMailbox _ _ (number_met p 16 1024 (at 1 d)) (λ b hb.
-    meets_then _ IsMailbox _ _ (number_met p 0 65535 (at 2 d)) (λ e he.
-    meets_then _ IsMailbox _ _ (number_met p 16 1024 (at 3 d)) (λ f hf.
-    meets_then _ IsMailbox _ _ (any_met _) (λ u _.
-    meets_ok IsMailbox _ (record { receive_start = ha.1; receive_least = hb.0; receive_most = hb.1; send_start = he.1; send_least = hf.0; send_most = hf.1 }))))))
+    meets_then _ ReadMailbox _ _ (number_met p 0 65535 (at 0 d)) (λ a ha.
+    meets_then _ ReadMailbox _ _ (number_met p 16 1024 (at 1 d)) (λ b hb.
+    meets_then _ ReadMailbox _ _ (number_met p 0 65535 (at 2 d)) (λ e he.
+    meets_then _ ReadMailbox _ _ (number_met p 16 1024 (at 3 d)) (λ f hf.
+    meets_then _ ReadMailbox _ _ (any_met _) (λ u _.
+    meets_ok ReadMailbox _ (record { receive_start = ha.1; receive_least = hb.0; receive_most = hb.1; send_start = he.1; send_least = hf.0; send_most = hf.1 }))))))
 
-pub mailbox_met : (p : Place) (v : Option Data) → Meets (mailbox_in p v) (λ o. (m : Mailbox) → o ≡ Some m → IsMailbox m)
+pub mailbox_met : (p : Place) (v : Option Data) → Meets (mailbox_in p v) (λ o. (m : Mailbox) → o ≡ Some m → ReadMailbox m)
 unfolding mailbox_in
-mailbox_met p None = meets_ok (λ o. (m : Mailbox) → o ≡ Some m → IsMailbox m) None (λ m is. cc)
-mailbox_met p (Some d) = meets_then IsMailbox (λ o. (m : Mailbox) → o ≡ Some m → IsMailbox m) _ _ (mailbox_of_met p d) (λ m hm. meets_ok (λ o. (k : Mailbox) → o ≡ Some k → IsMailbox k) (Some m) (λ k is. let e : m ≡ k = cc in subst IsMailbox e hm))
+mailbox_met p None = meets_ok (λ o. (m : Mailbox) → o ≡ Some m → ReadMailbox m) None (λ m is. cc)
+mailbox_met p (Some d) = meets_then ReadMailbox (λ o. (m : Mailbox) → o ≡ Some m → ReadMailbox m) _ _ (mailbox_of_met p d) (λ m hm. meets_ok (λ o. (k : Mailbox) → o ≡ Some k → ReadMailbox k) (Some m) (λ k is. let e : m ≡ k = cc in subst ReadMailbox e hm))
 
 gap_kept : (a b : ℕ) (c : Bool) → (c && (not (a == 0) || (b == 0))) ≡ true → a ≡ 0 → b ≡ 0
 gap_kept a b c h e = grind (arith, nat_tests)
 
-pub entry_met : (p : Place) (d : Data) → Meets (entry_of p d) IsEntry
+pub entry_met : (p : Place) (d : Data) → Meets (entry_of p d) ReadEntry
 unfolding entry_of
 entry_met p d =
-    meets_then _ IsEntry _ _ (number_met p 0 65535 (at 0 d)) (λ a ha.
-    meets_then _ IsEntry _ _ (number_met p 0 255 (at 1 d)) (λ b hb.
-    meets_then _ IsEntry _ _ (number_met p 1 64 (at 2 d)) (λ n hn.
-    meets_then _ IsEntry _ _ (must_met _ _) (λ u hu.
-    meets_ok IsEntry _ (record { index = ha.1; subindex = hb.1; least = hn.0; most = hn.1; gap = gap_kept a b (not (is_some (at 3 d))) hu })))))
+    meets_then _ ReadEntry _ _ (number_met p 0 65535 (at 0 d)) (λ a ha.
+    meets_then _ ReadEntry _ _ (number_met p 0 255 (at 1 d)) (λ b hb.
+    meets_then _ ReadEntry _ _ (number_met p 1 64 (at 2 d)) (λ n hn.
+    meets_then _ ReadEntry _ _ (must_met _ _) (λ u hu.
+    meets_ok ReadEntry _ (record { index = ha.1; subindex = hb.1; least = hn.0; most = hn.1; gap = gap_kept a b (not (is_some (at 3 d))) hu })))))
 
 le_from_test : (n m : ℕ) → nat_le n m ≡ true → n ≤ m
 le_from_test n m h = grind (arith, nat_tests)
@@ -74,16 +76,16 @@ array_met P row p most one (Some d) =
 pub members_met : {A : Type 0} (P : A → Type 0) (p : Place) (d : Data) (f : Members → Result A Fault) → ((ms : Members) → Meets (f ms) P) → Meets (members_in p d >>= f) P
 members_met P p d f h = meets_then (λ _. Unit {0}) P (members_in p d) f (any_met _) (λ ms _. h ms)
 
-pub pdo_met : (direction : Direction) (p : Place) (ms : Members) → Meets (pdo_of p (first_index direction) (last_index direction) ms) (IsPdo direction)
+pub pdo_met : (direction : Direction) (p : Place) (ms : Members) → Meets (pdo_of p (first_index direction) (last_index direction) ms) (ReadPdo direction)
 unfolding pdo_of
 pdo_met direction p ms =
-    meets_then _ (IsPdo direction) _ _ (any_met _) (λ u _.
-    meets_then _ (IsPdo direction) _ _ (number_met p (first_index direction) (last_index direction) (get_member (codes "index") ms)) (λ n hn.
-    meets_then _ (IsPdo direction) _ _ (array_met IsEntry (entry_row p) p 64 (λ k d found. entry_met p d) (get_member (codes "entries") ms)) (λ es hes.
-    meets_ok (IsPdo direction) _ (record { first = hn.0; last = hn.1; entries = hes.0; few = hes.1 }))))
+    meets_then _ (ReadPdo direction) _ _ (any_met _) (λ u _.
+    meets_then _ (ReadPdo direction) _ _ (number_met p (first_index direction) (last_index direction) (get_member (codes "index") ms)) (λ n hn.
+    meets_then _ (ReadPdo direction) _ _ (array_met ReadEntry (entry_row p) p 64 (λ k d found. entry_met p d) (get_member (codes "entries") ms)) (λ es hes.
+    meets_ok (ReadPdo direction) _ (record { first = hn.0; last = hn.1; entries = hes.0; few = hes.1 }))))
 
-pub pdos_met : (direction : Direction) (p : Place) (v : Option Data) → Meets (pdos_in p (first_index direction) (last_index direction) v) (λ qs. All (IsPdo direction) qs × (length qs ≤ 16))
-pdos_met direction p v = array_met (IsPdo direction) (pdo_row p (first_index direction) (last_index direction)) p 16 (λ n d found. members_met (IsPdo direction) p d (pdo_of p (first_index direction) (last_index direction)) (pdo_met direction p)) v
+pub pdos_met : (direction : Direction) (p : Place) (v : Option Data) → Meets (pdos_in p (first_index direction) (last_index direction) v) (λ qs. All (ReadPdo direction) qs × (length qs ≤ 16))
+pdos_met direction p v = array_met (ReadPdo direction) (pdo_row p (first_index direction) (last_index direction)) p 16 (λ n d found. members_met (ReadPdo direction) p d (pdo_of p (first_index direction) (last_index direction)) (pdo_met direction p)) v
 
 -- no number stands twice
 not_among : (x : ℕ) (xs : List ℕ) → list_any (λ y. y == x) xs ≡ false → All (λ y. x ≢ y) xs
@@ -116,9 +118,9 @@ device_met p ms =
 pub record IsProcess (d : ProcessData) : Type 0 where
   pub out_start : d.out_start ≤ 65535
   pub in_start : d.in_start ≤ 65535
-  pub outputs : All (IsPdo Out) d.outputs
+  pub outputs : All (ReadPdo Out) d.outputs
   pub output_count : length d.outputs ≤ 16
-  pub inputs : All (IsPdo In) d.inputs
+  pub inputs : All (ReadPdo In) d.inputs
   pub input_count : length d.inputs ≤ 16
 
 pub process_met : (p : Place) (ms : Members) → Meets (process_in p ms) IsProcess
@@ -136,7 +138,7 @@ fresh name_of name found h k d lt e =
     let same : bytes_eq (name_of (get_or found k d)) name ≡ true = (bytes_eq-Decides (name_of (get_or found k d)) name).1 e in
     let some : list_any (λ x. bytes_eq (name_of x) name) found ≡ true = list_any_at (λ x. bytes_eq (name_of x) name) found k d lt same in cc
 
-pub pdos_of_process : (d : ProcessData) → IsProcess d → process_twice d ≡ false → (t : TypeRow) → t.process ≡ d → (direction : Direction) → ArePdos direction (pdos_toward direction t)
+pub pdos_of_process : (d : ProcessData) → IsProcess d → process_twice d ≡ false → (t : TypeRow) → t.process ≡ d → (direction : Direction) → ReadPdos direction (pdos_toward direction t)
 pdos_of_process d h once t is Out = let parts : (has_twice (indices_of d.outputs) ≡ false) × (has_twice (indices_of d.inputs) ≡ false) = or_parts _ _ once in rw is (record { each = h.outputs; few = h.output_count; once = once_from_test _ parts.0 })
 pdos_of_process d h once t is In = let parts : (has_twice (indices_of d.outputs) ≡ false) × (has_twice (indices_of d.inputs) ≡ false) = or_parts _ _ once in rw is (record { each = h.inputs; few = h.input_count; once = once_from_test _ parts.1 })
 
@@ -154,17 +156,10 @@ type_met v p ms found =
     meets_then _ (NewType found) _ _ (mailbox_met p (get_member (codes "mailbox") ms)) (λ mailbox hmailbox.
     meets_then _ (NewType found) _ _ (process_met p ms) (λ process hprocess.
     meets_then _ (NewType found) _ _ (any_met (truth_in p (get_member (codes "lrw") ms))) (λ lrw _.
-    meets_then _ (NewType found) _ _ (must_met (not (is_type_name name found || process_twice process)) (TwiceNamed p)) (λ w hw.
-    let parts : (is_type_name name found ≡ false) × (process_twice process ≡ false) = or_parts (is_type_name name found) (process_twice process) (not_true _ hw) in
+    meets_then _ (NewType found) _ _ (must_met (not (is_named (λ (t : TypeRow). t.name) name found || process_twice process)) (TwiceNamed p)) (λ w hw.
+    let parts : (is_named (λ (t : TypeRow). t.name) name found ≡ false) × (process_twice process ≡ false) = or_parts (is_named (λ (t : TypeRow). t.name) name found) (process_twice process) (not_true _ hw) in
     meets_ok (NewType found) (record { name = name; device = device; mailbox = mailbox; process = process; lrw = lrw }) (record {
-      sound = record {
-        name = hname;
-        device = hdevice;
-        mailbox = hmailbox;
-        out_start = hprocess.out_start;
-        in_start = hprocess.in_start;
-        pdos = pdos_of_process process hprocess parts.1 (record { name = name; device = device; mailbox = mailbox; process = process; lrw = lrw }) refl;
-      };
+      sound = type_read (record { name = name; device = device; mailbox = mailbox; process = process; lrw = lrw }) hname hdevice hmailbox hprocess.out_start hprocess.in_start (pdos_of_process process hprocess parts.1 (record { name = name; device = device; mailbox = mailbox; process = process; lrw = lrw }) refl);
       fresh = fresh (λ (t : TypeRow). t.name) name found parts.0;
     }))))))))
 
@@ -187,7 +182,7 @@ variable_met v p ms found =
     meets_then _ (NewVariable found) _ _ (name_met p (get_member (codes "name") ms)) (λ name hname.
     meets_then _ (NewVariable found) _ _ (any_met (direction_in p (get_member (codes "dir") ms))) (λ direction _.
     meets_then _ (NewVariable found) _ _ (number_met p 1 64 (get_member (codes "bits") ms)) (λ bits hbits.
-    meets_then _ (NewVariable found) _ _ (must_met (not (is_variable_name name found)) (TwiceNamed p)) (λ w hw.
+    meets_then _ (NewVariable found) _ _ (must_met (not (is_named (λ (w : VariableRow). w.name) name found)) (TwiceNamed p)) (λ w hw.
     meets_ok (NewVariable found) (record { name = name; direction = direction; bits = bits }) (record {
       sound = record { name = hname; least = hbits.0; most = hbits.1 };
       fresh = fresh (λ (x : VariableRow). x.name) name found (not_true _ hw);

@@ -34,8 +34,10 @@ use Rattle.ec_table.specs.Contents.{pdos_toward, assigned_toward}
 use Rattle.ec_table.specs.Fields.{must, each_key, is_key, has_required, keys_are, link_bits_of, link_bits_in, number_or_0, version_in, section_in}
 use Rattle.ec_table.specs.InOrder.{rows_after}
 use Rattle.ec_table.specs.Pdos.{indices_of, has_twice, numbers_in}
-use Rattle.ec_table.specs.Reading.{is_slave_name, type_named, all_in, same_list, assigned_in, slave_at, slave_element, slave_named, variable_named, all_bits, link_at, link_element, type_element, variable_element, top, table_of_document, table_of}
+use Rattle.ec_table.specs.Reading.{all_in, same_list, assigned_in, slave_at, slave_element, all_bits, link_at, link_element, type_element, variable_element, top, table_of_document, table_of}
+use Rattle.ec_table.specs.Names.{is_named, place_named}
 use Rattle.ec_table.specs.Sound.{IsOnce, IsType, AreTypes, IsAssignment, IsSlave, AreSlaves, IsVariable, AreVariables, IsBits, IsLink, IsSound, IsName}
+use Rattle.ec_table.proofs.Ranges.{pdos_toward_read}
 use Rattle.ec_table.proofs.Meets.{Meets, meets_ok, meets_then, any_met, must_met, ok_or_met, number_met, name_met, rows_met}
 use Rattle.ec_table.proofs.SoundReads.{once_from_test, not_true, fresh, members_met, types_met, variables_met}
 
@@ -145,11 +147,11 @@ slave_met v ts p ms found types =
     meets_then _ (NewSlave v ts found) _ _ (any_met (numbers_in p 0x1A00 0x1BFF (get_member (codes "in") ms))) (λ inputs _.
     meets_then _ (NewSlave v ts found) _ _ (number_or_0_met p 4294967295 (get_member (codes "serial") ms)) (λ serial hserial.
     meets_then _ (NewSlave v ts found) _ _ (number_or_0_met p 63 (get_member (codes "unit") ms)) (λ unit hunit.
-    meets_then _ (NewSlave v ts found) _ _ (must_met (not (is_slave_name name found || (has_twice (unwrap_or outputs []) || has_twice (unwrap_or inputs [])))) (TwiceNamed p)) (λ w hw.
-    meets_then _ (NewSlave v ts found) _ _ (any_met (ok_or (type_named type_name ts) (UnknownName p))) (λ place _.
+    meets_then _ (NewSlave v ts found) _ _ (must_met (not (is_named (λ (s : SlaveRow). s.name) name found || (has_twice (unwrap_or outputs []) || has_twice (unwrap_or inputs [])))) (TwiceNamed p)) (λ w hw.
+    meets_then _ (NewSlave v ts found) _ _ (any_met (ok_or (place_named (λ (t : TypeRow). t.name) type_name ts) (UnknownName p))) (λ place _.
     meets_then _ (NewSlave v ts found) _ _ (ok_or_met (slice_get ts place) (UnknownName p)) (λ t is.
     let row : SlaveRow = record { name = name; type_place = place; outputs = unwrap_or outputs (indices_of t.process.outputs); inputs = unwrap_or inputs (indices_of t.process.inputs); serial = serial; unit = unit } in
-    let twice : (is_slave_name name found ≡ false) × ((has_twice (unwrap_or outputs []) || has_twice (unwrap_or inputs [])) ≡ false) = or_parts (is_slave_name name found) (has_twice (unwrap_or outputs []) || has_twice (unwrap_or inputs [])) (not_true _ hw) in
+    let twice : (is_named (λ (s : SlaveRow). s.name) name found ≡ false) × ((has_twice (unwrap_or outputs []) || has_twice (unwrap_or inputs [])) ≡ false) = or_parts (is_named (λ (s : SlaveRow). s.name) name found) (has_twice (unwrap_or outputs []) || has_twice (unwrap_or inputs [])) (not_true _ hw) in
     let lists : (has_twice (unwrap_or outputs []) ≡ false) × (has_twice (unwrap_or inputs []) ≡ false) = or_parts (has_twice (unwrap_or outputs [])) (has_twice (unwrap_or inputs [])) twice.1 in
     let kind : IsType t = type_at_place ts place t types is in
     record {
@@ -158,8 +160,8 @@ slave_met v ts p ms found types =
           subst (NewSlave v ts found) fits.same (record {
             sound = slave_sound v ts place t row types is refl (record { same = refl; known = fits.known; fixed = fits.fixed })
                 (λ d. elim d as (λ d. IsOnce (assigned_toward d row)) [
-                  | Out ↦ once_or_all outputs (indices_of t.process.outputs) lists.0 (kind.pdos Out).once
-                  | In ↦ once_or_all inputs (indices_of t.process.inputs) lists.1 (kind.pdos In).once
+                  | Out ↦ once_or_all outputs (indices_of t.process.outputs) lists.0 (pdos_toward_read t kind Out).once
+                  | In ↦ once_or_all inputs (indices_of t.process.inputs) lists.1 (pdos_toward_read t kind In).once
                 ])
                 hname hserial.0 hunit.0 (λ one. hunit.1 (no_unit v ms keys one));
             fresh = fresh (λ (s : SlaveRow). s.name) name found twice.0;
@@ -208,9 +210,9 @@ link_met v ss ws p ms variables =
     meets_then _ (IsLink ss ws) _ _ (number_met p 1 65535 (get_member (codes "index") ms)) (λ index hindex.
     meets_then _ (IsLink ss ws) _ _ (number_met p 0 255 (get_member (codes "sub") ms)) (λ subindex hsubindex.
     meets_then _ (IsLink ss ws) _ _ (link_bits_met p (get_member (codes "bits") ms)) (λ bits hbits.
-    meets_then _ (IsLink ss ws) _ _ (any_met (ok_or (variable_named variable_name ws) (UnknownName p))) (λ variable _.
+    meets_then _ (IsLink ss ws) _ _ (any_met (ok_or (place_named (λ (w : VariableRow). w.name) variable_name ws) (UnknownName p))) (λ variable _.
     meets_then _ (IsLink ss ws) _ _ (ok_or_met (slice_get ws variable) (UnknownName p)) (λ w is.
-    meets_then _ (IsLink ss ws) _ _ (ok_or_met (slave_named slave_name ss) (UnknownName p)) (λ slave hslave.
+    meets_then _ (IsLink ss ws) _ _ (ok_or_met (place_named (λ (s : SlaveRow). s.name) slave_name ss) (UnknownName p)) (λ slave hslave.
     meets_ok (IsLink ss ws) (record { variable = variable; slave = slave; index = index; subindex = subindex; bits = unwrap_or bits (all_bits w) })
     (record {
       variable = slice_get_within ws variable w is;

@@ -23,8 +23,10 @@ use Rattle.ec_table.specs.declared.rows.LinkBits.{LinkBits}
 use Rattle.ec_table.specs.Fields.{number_in, name_in, mailbox_of, mailbox_in, direction_in, link_bits_of, link_bits_in}
 use Rattle.ec_table.specs.InOrder.{rows_after}
 use Rattle.ec_table.specs.Pdos.{entry_of, entry_row, array_of, array_in, pdo_of, pdo_row, pdos_in, number_row, number_list, numbers_in}
-use Rattle.ec_table.specs.Reading.{is_variable_name, variable_at}
-use Rattle.ec_table.specs.Sound.{IsName, IsMailbox, IsEntry, IsPdo, ArePdos, IsVariable, IsBits, first_index, last_index}
+use Rattle.ec_table.specs.Reading.{variable_at}
+use Rattle.ec_table.specs.Names.{is_named, place_named}
+use Rattle.ec_table.specs.Sound.{IsName, IsVariable, IsBits, first_index}
+use Rattle.ec_table.proofs.Ranges.{ReadMailbox, ReadEntry, ReadPdo, ReadPdos, last_index}
 use Rattle.ec_table.proofs.SoundRows.{false_from}
 use Rattle.ec_table.specs.Writing.{number, array_of_all, entry_data, pdo_data, mailbox_data, direction_text, variable_members, bits_data}
 
@@ -46,7 +48,7 @@ unfolding direction_in
 direction_reads p Out = refl
 direction_reads p In = refl
 
-pub mailbox_reads : (p : Place) (m : Mailbox) → IsMailbox m → mailbox_in p (Some (mailbox_data m)) ≡ Ok (Some m)
+pub mailbox_reads : (p : Place) (m : Mailbox) → ReadMailbox m → mailbox_in p (Some (mailbox_data m)) ≡ Ok (Some m)
 unfolding mailbox_in mailbox_of
 mailbox_reads p m h = rw (number_reads p 0 65535 m.receive_start (omega arith) h.receive_start, number_reads p 16 1024 m.receive_size h.receive_least h.receive_most, number_reads p 0 65535 m.send_start (omega arith) h.send_start, number_reads p 16 1024 m.send_size h.send_least h.send_most) refl
 
@@ -73,10 +75,10 @@ middle P before x after xs e h =
     let all : All P (before ++ x ∷ after) = rw e h in
     subst P there (all (length before) x within)
 
-no_gap_name : (e : Entry) → IsEntry e → (not (e.index == 0) || (e.subindex == 0)) ≡ true
+no_gap_name : (e : Entry) → ReadEntry e → (not (e.index == 0) || (e.subindex == 0)) ≡ true
 no_gap_name e h = let gap : e.index ≡ 0 → e.subindex ≡ 0 = h.gap in grind (arith, nat_tests, gap)
 
-pub entry_reads : (p : Place) (e : Entry) → IsEntry e → entry_of p (entry_data e) ≡ Ok e
+pub entry_reads : (p : Place) (e : Entry) → ReadEntry e → entry_of p (entry_data e) ≡ Ok e
 unfolding entry_of
 entry_reads p e h = rw (number_reads p 0 65535 e.index (omega arith) h.index, number_reads p 0 255 e.subindex (omega arith) h.subindex, number_reads p 1 64 e.bits h.least h.most, no_gap_name e h) refl
 
@@ -86,12 +88,12 @@ array_reads row spell P p most xs one all few =
     let rows : rows_after row [] 0 (items_of (map spell xs)) ≡ Ok xs = rows_written row spell [] xs (λ before x after e. one (length before) x before (middle P before x after xs e all)) in
     rw (rows, test_from_le (length xs) most few) refl
 
-pub pdo_reads : (p : Place) (d : Direction) (q : Pdo) → IsPdo d q → pdo_row p (first_index d) (last_index d) 0 (pdo_data q) [] ≡ Ok q
+pub pdo_reads : (p : Place) (d : Direction) (q : Pdo) → ReadPdo d q → pdo_row p (first_index d) (last_index d) 0 (pdo_data q) [] ≡ Ok q
 unfolding pdo_of
-pdo_reads p d q h = rw (number_reads p (first_index d) (last_index d) q.index h.first h.last, array_reads (entry_row p) entry_data IsEntry p 64 q.entries (λ n e found he. entry_reads p e he) h.entries h.few) refl
+pdo_reads p d q h = rw (number_reads p (first_index d) (last_index d) q.index h.first h.last, array_reads (entry_row p) entry_data ReadEntry p 64 q.entries (λ n e found he. entry_reads p e he) h.entries h.few) refl
 
-pub pdos_read : (p : Place) (d : Direction) (qs : List Pdo) → ArePdos d qs → pdos_in p (first_index d) (last_index d) (Some (array_of_all pdo_data qs)) ≡ Ok qs
-pdos_read p d qs h = array_reads (pdo_row p (first_index d) (last_index d)) pdo_data (IsPdo d) p 16 qs (λ n q found hq. pdo_reads p d q hq) h.each h.few
+pub pdos_read : (p : Place) (d : Direction) (qs : List Pdo) → ReadPdos d qs → pdos_in p (first_index d) (last_index d) (Some (array_of_all pdo_data qs)) ≡ Ok qs
+pdos_read p d qs h = array_reads (pdo_row p (first_index d) (last_index d)) pdo_data (ReadPdo d) p 16 qs (λ n q found hq. pdo_reads p d q hq) h.each h.few
 
 pub numbers_read : (p : Place) (low high : ℕ) (xs : List ℕ) → All (λ n. (low ≤ n) × (n ≤ high)) xs → numbers_in p low high (Some (array_of_all number xs)) ≡ Ok (Some xs)
 unfolding number_list
@@ -117,6 +119,6 @@ not_before name_of before x after xs e h =
 
 -- ---- variables
 
-pub variable_reads : (v : Version) (p : Place) (w : VariableRow) (found : List VariableRow) → IsVariable w → is_variable_name w.name found ≡ false → variable_at v p (variable_members w) found ≡ Ok w
+pub variable_reads : (v : Version) (p : Place) (w : VariableRow) (found : List VariableRow) → IsVariable w → is_named (λ (w : VariableRow). w.name) w.name found ≡ false → variable_at v p (variable_members w) found ≡ Ok w
 unfolding variable_at
 variable_reads v p w found h fresh = rw (name_reads p w.name h.name, direction_reads p w.direction, number_reads p 1 64 w.bits h.least h.most, fresh) refl

@@ -17,8 +17,10 @@ use Rattle.ec_table.specs.declared.rows.VariableRow.{VariableRow}
 use Rattle.ec_table.specs.Fields.{mailbox_in}
 use Rattle.ec_table.specs.InOrder.{rows_after}
 use Rattle.ec_table.specs.Pdos.{indices_of, has_twice}
-use Rattle.ec_table.specs.Reading.{is_type_name, device_in, process_in, process_twice, type_at, type_element, variable_element}
+use Rattle.ec_table.specs.Reading.{device_in, process_in, process_twice, type_at, type_element, variable_element}
+use Rattle.ec_table.specs.Names.{is_named, place_named}
 use Rattle.ec_table.specs.Sound.{IsOnce, IsDevice, IsType, AreTypes, IsVariable, AreVariables}
+use Rattle.ec_table.proofs.Ranges.{pdos_toward_read, mailbox_read}
 use Rattle.ec_table.specs.Writing.{type_members, variable_members}
 use Rattle.ec_table.proofs.Written.{number_reads, name_reads, mailbox_reads, rows_written, middle, pdos_read, not_before, variable_reads}
 use Rattle.ec_table.proofs.SoundRows.{false_from}
@@ -53,21 +55,21 @@ device_reads p name device (Some m) process lrw h = rw (number_reads p 0 4294967
 
 process_reads : (p : Place) (name : List ℕ) (device : Device) (o : Option Mailbox) (process : ProcessData) (lrw : Bool) → IsType (row name device o process lrw) → process_in p (type_members (row name device o process lrw)) ≡ Ok process
 unfolding process_in
-process_reads p name device None process lrw h = rw (number_reads p 0 65535 process.out_start (omega arith) h.out_start, number_reads p 0 65535 process.in_start (omega arith) h.in_start, pdos_read p Out process.outputs (h.pdos Out), pdos_read p In process.inputs (h.pdos In)) refl
-process_reads p name device (Some m) process lrw h = rw (number_reads p 0 65535 process.out_start (omega arith) h.out_start, number_reads p 0 65535 process.in_start (omega arith) h.in_start, pdos_read p Out process.outputs (h.pdos Out), pdos_read p In process.inputs (h.pdos In)) refl
+process_reads p name device None process lrw h = rw (number_reads p 0 65535 process.out_start (omega arith) h.out_start, number_reads p 0 65535 process.in_start (omega arith) h.in_start, pdos_read p Out process.outputs (pdos_toward_read (row name device None process lrw) h Out), pdos_read p In process.inputs (pdos_toward_read (row name device None process lrw) h In)) refl
+process_reads p name device (Some m) process lrw h = rw (number_reads p 0 65535 process.out_start (omega arith) h.out_start, number_reads p 0 65535 process.in_start (omega arith) h.in_start, pdos_read p Out process.outputs (pdos_toward_read (row name device (Some m) process lrw) h Out), pdos_read p In process.inputs (pdos_toward_read (row name device (Some m) process lrw) h In)) refl
 
 no_process_twice : (name : List ℕ) (device : Device) (o : Option Mailbox) (process : ProcessData) (lrw : Bool) → IsType (row name device o process lrw) → process_twice process ≡ false
-no_process_twice name device o process lrw h = or_from _ _ (test_from_once (indices_of process.outputs) (h.pdos Out).once) (test_from_once (indices_of process.inputs) (h.pdos In).once)
+no_process_twice name device o process lrw h = or_from _ _ (test_from_once (indices_of process.outputs) (pdos_toward_read (row name device o process lrw) h Out).once) (test_from_once (indices_of process.inputs) (pdos_toward_read (row name device o process lrw) h In).once)
 
-fields_read : (v : Version) (p : Place) (name : List ℕ) (device : Device) (o : Option Mailbox) (process : ProcessData) (lrw : Bool) (found : List TypeRow) → IsType (row name device o process lrw) → is_type_name name found ≡ false → type_at v p (type_members (row name device o process lrw)) found ≡ Ok (row name device o process lrw)
+fields_read : (v : Version) (p : Place) (name : List ℕ) (device : Device) (o : Option Mailbox) (process : ProcessData) (lrw : Bool) (found : List TypeRow) → IsType (row name device o process lrw) → is_named (λ (t : TypeRow). t.name) name found ≡ false → type_at v p (type_members (row name device o process lrw)) found ≡ Ok (row name device o process lrw)
 unfolding type_at mailbox_in
 fields_read v p name device None process lrw found h fresh =
     let r = row name device None process lrw in
     rw (name_reads p name h.name, device_reads p name device None process lrw h.device, process_reads p name device None process lrw h, fresh, no_process_twice name device None process lrw h) refl
 fields_read v p name device (Some m) process lrw found h fresh =
-    rw (name_reads p name h.name, device_reads p name device (Some m) process lrw h.device, mailbox_reads p m (h.mailbox m refl), process_reads p name device (Some m) process lrw h, fresh, no_process_twice name device (Some m) process lrw h) refl
+    rw (name_reads p name h.name, device_reads p name device (Some m) process lrw h.device, mailbox_reads p m (mailbox_read (row name device (Some m) process lrw) h m refl), process_reads p name device (Some m) process lrw h, fresh, no_process_twice name device (Some m) process lrw h) refl
 
-pub type_reads : (v : Version) (p : Place) (t : TypeRow) (found : List TypeRow) → IsType t → is_type_name t.name found ≡ false → type_at v p (type_members t) found ≡ Ok t
+pub type_reads : (v : Version) (p : Place) (t : TypeRow) (found : List TypeRow) → IsType t → is_named (λ (t : TypeRow). t.name) t.name found ≡ false → type_at v p (type_members t) found ≡ Ok t
 type_reads v p t found h fresh = fields_read v p t.name t.device t.mailbox t.process t.lrw found h fresh
 
 pub types_read : (v : Version) (ts : List TypeRow) → AreTypes ts → rows_after (type_element v) [] 0 (items_of (map (λ t. table (type_members t)) ts)) ≡ Ok ts

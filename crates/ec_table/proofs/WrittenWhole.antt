@@ -26,8 +26,10 @@ use Rattle.ec_table.specs.Contents.{Contents, pdos_toward, assigned_toward}
 use Rattle.ec_table.specs.Fields.{number_in, section_in, are_tables, version_in}
 use Rattle.ec_table.specs.InOrder.{rows_after}
 use Rattle.ec_table.specs.Pdos.{indices_of, has_twice}
-use Rattle.ec_table.specs.Reading.{is_slave_name, all_in, same_list, assigned_in, slave_at, slave_element, slave_named, variable_named, link_at, link_element, table_of_document, top}
-use Rattle.ec_table.specs.Sound.{IsName, IsPdo, IsType, AreTypes, IsAssignment, IsSlave, AreSlaves, IsVariable, AreVariables, IsLink, IsSound, first_index, last_index}
+use Rattle.ec_table.specs.Reading.{all_in, same_list, assigned_in, slave_at, slave_element, link_at, link_element, table_of_document, top}
+use Rattle.ec_table.specs.Names.{is_named, place_named}
+use Rattle.ec_table.specs.Sound.{IsName, IsType, AreTypes, IsAssignment, IsSlave, AreSlaves, IsVariable, AreVariables, IsLink, IsSound, first_index}
+use Rattle.ec_table.proofs.Ranges.{ReadPdo, last_index, pdos_toward_read}
 use Rattle.ec_table.specs.Writing.{number, array_of_all, type_members, slave_members, variable_members, link_members, version_number, document_of}
 use Rattle.ec_table.proofs.Written.{number_reads, name_reads, bits_read, rows_written, middle, numbers_read, differ, not_before}
 use Rattle.ec_table.proofs.WrittenRows.{test_from_once, types_read, variables_read}
@@ -65,14 +67,14 @@ next x xs k d = rw add-one refl
 rest_all : {X : Type 0} (P : X → Type 0) (x : X) (xs : List X) → All P (x ∷ xs) → All P xs
 rest_all P x xs h k d lt = rw (next x xs k d) at (h (k + 1) d (omega arith))
 
-index_range : (d : Direction) (pdos : List Pdo) → All (IsPdo d) pdos → All (λ n. (first_index d ≤ n) × (n ≤ last_index d)) (indices_of pdos)
+index_range : (d : Direction) (pdos : List Pdo) → All (ReadPdo d) pdos → All (λ n. (first_index d ≤ n) × (n ≤ last_index d)) (indices_of pdos)
 index_range d [] h = All-nil (λ n. (first_index d ≤ n) × (n ≤ last_index d))
 index_range d (q ∷ qs) h =
     All-cons (λ n. (first_index d ≤ n) × (n ≤ last_index d)) q.index (indices_of qs)
-    (let this : IsPdo d q = middle (IsPdo d) [] q qs (q ∷ qs) refl h in (this.first, this.last))
-    (index_range d qs (rest_all (IsPdo d) q qs h))
+    (let this : ReadPdo d q = middle (ReadPdo d) [] q qs (q ∷ qs) refl h in (this.first, this.last))
+    (index_range d qs (rest_all (ReadPdo d) q qs h))
 
-assigned_range : (d : Direction) (pdos : List Pdo) (xs : List ℕ) → All (IsPdo d) pdos → All (Contains (indices_of pdos)) xs → All (λ n. (first_index d ≤ n) × (n ≤ last_index d)) xs
+assigned_range : (d : Direction) (pdos : List Pdo) (xs : List ℕ) → All (ReadPdo d) pdos → All (Contains (indices_of pdos)) xs → All (λ n. (first_index d ≤ n) × (n ≤ last_index d)) xs
 assigned_range d pdos xs h known k e lt = All-contains (λ n. (first_index d ≤ n) × (n ≤ last_index d)) (indices_of pdos) (get_or xs k e) (index_range d pdos h) (known k e lt)
 
 any_from_contains : (x : ℕ) (ys : List ℕ) → Contains ys x → list_any (λ y. y == x) ys ≡ true
@@ -97,10 +99,10 @@ assignment_fits p t s h =
     λ none. both (same_list s.outputs (indices_of t.process.outputs)) (same_list s.inputs (indices_of t.process.inputs)) ((bytes_eq-Decides s.outputs (indices_of t.process.outputs)).1 ((h Out).fixed none)) ((bytes_eq-Decides s.inputs (indices_of t.process.inputs)).1 ((h In).fixed none)) in
     rw (all_in_from s.outputs (indices_of t.process.outputs) (h Out).known, all_in_from s.inputs (indices_of t.process.inputs) (h In).known, fixed_or_mailbox t.mailbox (same_list s.outputs (indices_of t.process.outputs) && same_list s.inputs (indices_of t.process.inputs)) same) refl
 
-no_double : (s : SlaveRow) (t : TypeRow) (found : List SlaveRow) → ((d : Direction) → IsAssignment t.mailbox (pdos_toward d t) (assigned_toward d s)) → is_slave_name s.name found ≡ false → (is_slave_name s.name found || (has_twice s.outputs || has_twice s.inputs)) ≡ false
-no_double s t found h fresh = or_from (is_slave_name s.name found) (has_twice s.outputs || has_twice s.inputs) fresh (or_from (has_twice s.outputs) (has_twice s.inputs) (test_from_once s.outputs (h Out).once) (test_from_once s.inputs (h In).once))
+no_double : (s : SlaveRow) (t : TypeRow) (found : List SlaveRow) → ((d : Direction) → IsAssignment t.mailbox (pdos_toward d t) (assigned_toward d s)) → is_named (λ (s : SlaveRow). s.name) s.name found ≡ false → (is_named (λ (s : SlaveRow). s.name) s.name found || (has_twice s.outputs || has_twice s.inputs)) ≡ false
+no_double s t found h fresh = or_from (is_named (λ (s : SlaveRow). s.name) s.name found) (has_twice s.outputs || has_twice s.inputs) fresh (or_from (has_twice s.outputs) (has_twice s.inputs) (test_from_once s.outputs (h Out).once) (test_from_once s.inputs (h In).once))
 
-pub slave_reads : (v : Version) (ts : List TypeRow) (p : Place) (s : SlaveRow) (found : List SlaveRow) (t : TypeRow) → AreTypes ts → IsSlave v ts s → slice_get ts s.type_place ≡ Some t → is_slave_name s.name found ≡ false → slave_at v ts p (slave_members v ts s) found ≡ Ok s
+pub slave_reads : (v : Version) (ts : List TypeRow) (p : Place) (s : SlaveRow) (found : List SlaveRow) (t : TypeRow) → AreTypes ts → IsSlave v ts s → slice_get ts s.type_place ≡ Some t → is_named (λ (s : SlaveRow). s.name) s.name found ≡ false → slave_at v ts p (slave_members v ts s) found ≡ Ok s
 unfolding slave_at
 slave_reads One ts p s found t types h is fresh =
     let kind : IsType t = type_at_place ts s.type_place t types is in
@@ -110,8 +112,8 @@ slave_reads One ts p s found t types h is fresh =
       is,
       name_reads p s.name h.name,
       name_reads p t.name kind.name,
-      numbers_read p 0x1600 0x17FF s.outputs (assigned_range Out t.process.outputs s.outputs (kind.pdos Out).each (fits Out).known),
-      numbers_read p 0x1A00 0x1BFF s.inputs (assigned_range In t.process.inputs s.inputs (kind.pdos In).each (fits In).known),
+      numbers_read p 0x1600 0x17FF s.outputs (assigned_range Out t.process.outputs s.outputs (pdos_toward_read t kind Out).each (fits Out).known),
+      numbers_read p 0x1A00 0x1BFF s.inputs (assigned_range In t.process.inputs s.inputs (pdos_toward_read t kind In).each (fits In).known),
       number_reads p 0 4294967295 s.serial (omega arith) h.serial,
       no_double s t found fits fresh,
       name_place (λ (t : TypeRow). t.name) ts s.type_place t types.once is,
@@ -126,8 +128,8 @@ slave_reads Two ts p s found t types h is fresh =
       is,
       name_reads p s.name h.name,
       name_reads p t.name kind.name,
-      numbers_read p 0x1600 0x17FF s.outputs (assigned_range Out t.process.outputs s.outputs (kind.pdos Out).each (fits Out).known),
-      numbers_read p 0x1A00 0x1BFF s.inputs (assigned_range In t.process.inputs s.inputs (kind.pdos In).each (fits In).known),
+      numbers_read p 0x1600 0x17FF s.outputs (assigned_range Out t.process.outputs s.outputs (pdos_toward_read t kind Out).each (fits Out).known),
+      numbers_read p 0x1A00 0x1BFF s.inputs (assigned_range In t.process.inputs s.inputs (pdos_toward_read t kind In).each (fits In).known),
       number_reads p 0 4294967295 s.serial (omega arith) h.serial,
       number_reads p 0 63 s.unit (omega arith) h.unit,
       no_double s t found fits fresh,

@@ -1,9 +1,12 @@
 -- What the reading of link tables keeps, in the format's own words.
-use Rattle.std.specs.Prelude.{◌≡◌, ℕ, List, ◌∷◌, ◌++◌, length, take, codes, IsTrue, slice_get, Result, Ok, Err, Option, Some}
+use Rattle.std.specs.Prelude.{◌≡◌, ℕ, false, List, [], ◌∷◌, ◌++◌, length, take, codes, IsTrue, slice_get, Result, Ok, Err, Option, Some, None}
 use Rattle.toml.specs.Data.{Data, Members, get_member}
+use Rattle.toml.specs.Parse.{parse_document}
 use Rattle.toml.specs.View.{items_of}
 use Rattle.ec_table.specs.declared.fault.Fault.{Fault}
+use Rattle.ec_table.specs.declared.fault.Fault.TheVariants.{Toml, BadKey, BadValue}
 use Rattle.ec_table.specs.declared.rows.Version.{Version}
+use Rattle.ec_table.specs.declared.rows.Version.TheVariants.{One}
 use Rattle.ec_table.specs.declared.fault.Place.{Place}
 use Rattle.ec_table.specs.declared.fault.Section.{Section}
 use Rattle.ec_table.specs.declared.fault.Section.TheVariants as section
@@ -15,7 +18,8 @@ use Rattle.ec_table.specs.declared.rows.LinkRow.{LinkRow}
 use Rattle.ec_table.specs.Contents.{Contents}
 use Rattle.ec_table.specs.Sound.{IsSound}
 use Rattle.ec_table.specs.Faults.{fault_place}
-use Rattle.ec_table.specs.Reading.{type_element, slave_element, variable_element, link_element, top, table_of_document, table_of}
+use Rattle.ec_table.specs.Pdos.{indices_of}
+use Rattle.ec_table.specs.Reading.{type_at, slave_at, link_at, type_element, slave_element, variable_element, link_element, top, table_of_document, table_of}
 use Rattle.ec_table.specs.Fields.{keys_are, version_in, section_in}
 use Rattle.ec_regs.specs.Objects.{bits_of}
 use Rattle.ec_table.specs.Objects.{object_bits, entries_of}
@@ -73,6 +77,57 @@ pub record FirstFaultIsTold : Type 0 where
       → EachReads (type_element v) types ts → EachReads (slave_element v ts) slaves ss → EachReads (variable_element v) before ws → variable_element v (length before) d ws ≡ Err f → table_of_document ms ≡ Err f
   pub links : (ms : Members) (v : Version) (types slaves variables before : List Data) (d : Data) (after : List Data) (ts : List TypeRow) (ss : List SlaveRow) (ws : List VariableRow) (ls : List LinkRow) (f : Fault) → HasSections ms v types slaves variables (before ++ d ∷ after)
       → EachReads (type_element v) types ts → EachReads (slave_element v ts) slaves ss → EachReads (variable_element v) variables ws → EachReads (link_element v ss ws) before ls → link_element v ss ws (length before) d ls ≡ Err f → table_of_document ms ≡ Err f
+
+-- ---- the document itself
+
+-- What is told of a document before its elements, in this order: that the text is no TOML, a bad version, a bad key, a section that is no array of tables.
+pub record DocumentFaultsInOrder : Type 0 where
+  pub text : (text : List ℕ) → parse_document text ≡ None → table_of text ≡ Err Toml
+  pub version : (ms : Members) (f : Fault) → version_in top (get_member (codes "version") ms) ≡ Err f → table_of_document ms ≡ Err (BadValue top)
+  pub keys : (ms : Members) (v : Version) → version_in top (get_member (codes "version") ms) ≡ Ok v → keys_are shape.Document v ms ≡ false → table_of_document ms ≡ Err (BadKey top)
+  pub types : (ms : Members) (v : Version) (f : Fault) → version_in top (get_member (codes "version") ms) ≡ Ok v → IsTrue (keys_are shape.Document v ms) → section_in top (get_member (codes "type") ms) ≡ Err f → table_of_document ms ≡ Err (BadValue top)
+  pub slaves : (ms : Members) (v : Version) (f : Fault) → version_in top (get_member (codes "version") ms) ≡ Ok v → IsTrue (keys_are shape.Document v ms) → section_in top (get_member (codes "slave") ms) ≡ Err f → table_of_document ms ≡ Err (BadValue top)
+  pub variables : (ms : Members) (v : Version) (f : Fault) → version_in top (get_member (codes "version") ms) ≡ Ok v → IsTrue (keys_are shape.Document v ms) → section_in top (get_member (codes "variable") ms) ≡ Err f → table_of_document ms ≡ Err (BadValue top)
+  pub links : (ms : Members) (v : Version) (f : Fault) → version_in top (get_member (codes "version") ms) ≡ Ok v → IsTrue (keys_are shape.Document v ms) → section_in top (get_member (codes "link") ms) ≡ Err f → table_of_document ms ≡ Err (BadValue top)
+
+-- ---- what is left out
+
+-- no such key
+abbrev pub LeavesOut : Members → List ℕ → Type 0
+LeavesOut ms key = get_member key ms ≡ None
+
+-- a type has then no mailbox, no PDOs of the direction, and takes part in LRW datagrams
+pub record TypeDefaults (ms : Members) (t : TypeRow) : Type 0 where
+  pub mailbox : LeavesOut ms (codes "mailbox") → t.mailbox ≡ None
+  pub outputs : LeavesOut ms (codes "rxpdo") → t.process.outputs ≡ []
+  pub inputs : LeavesOut ms (codes "txpdo") → t.process.inputs ≡ []
+  pub lrw : LeavesOut ms (codes "lrw") → IsTrue t.lrw
+
+-- a slave assigns then all PDOs of its type in order, has serial number 0 and is in sync unit 0
+pub record SlaveDefaults (ts : List TypeRow) (ms : Members) (s : SlaveRow) : Type 0 where
+  pub outputs : LeavesOut ms (codes "out") → (t : TypeRow) → slice_get ts s.type_place ≡ Some t → s.outputs ≡ indices_of t.process.outputs
+  pub inputs : LeavesOut ms (codes "in") → (t : TypeRow) → slice_get ts s.type_place ≡ Some t → s.inputs ≡ indices_of t.process.inputs
+  pub serial : LeavesOut ms (codes "serial") → s.serial ≡ 0
+  pub unit : LeavesOut ms (codes "unit") → s.unit ≡ 0
+
+-- a link joins then all bits of its variable, from bit 0 of both
+pub record LinkDefaults (ws : List VariableRow) (ms : Members) (l : LinkRow) : Type 0 where
+  pub bits : LeavesOut ms (codes "bits") → (w : VariableRow) → slice_get ws l.variable ≡ Some w → l.bits ≡ record { variable_bit = 0; entry_bit = 0; count = w.bits }
+
+-- a document is then of version 1, and the section has no rows
+pub record DocumentDefaults (ms : Members) (c : Contents) : Type 0 where
+  pub version : LeavesOut ms (codes "version") → c.version ≡ One
+  pub types : LeavesOut ms (codes "type") → c.types ≡ []
+  pub slaves : LeavesOut ms (codes "slave") → c.slaves ≡ []
+  pub variables : LeavesOut ms (codes "variable") → c.variables ≡ []
+  pub links : LeavesOut ms (codes "link") → c.links ≡ []
+
+-- What an accepted element or document leaves out has its default.
+pub record LeftOutIsDefault : Type 0 where
+  pub types : (v : Version) (p : Place) (ms : Members) (found : List TypeRow) (t : TypeRow) → type_at v p ms found ≡ Ok t → TypeDefaults ms t
+  pub slaves : (v : Version) (ts : List TypeRow) (p : Place) (ms : Members) (found : List SlaveRow) (s : SlaveRow) → slave_at v ts p ms found ≡ Ok s → SlaveDefaults ts ms s
+  pub links : (v : Version) (ss : List SlaveRow) (ws : List VariableRow) (p : Place) (ms : Members) (l : LinkRow) → link_at v ss ws p ms ≡ Ok l → LinkDefaults ws ms l
+  pub documents : (ms : Members) (c : Contents) → table_of_document ms ≡ Ok c → DocumentDefaults ms c
 
 -- ---- written out
 

@@ -1,10 +1,14 @@
-pub mod Faults
+-- To be believed, in this order: what a table holds (Contents), and how a text is read as one (Fields, Names, Pdos, Reading, with
+-- the faults and their order: Faults, InOrder), and what a table says of a slave or a link (Objects).
 pub mod Contents
+pub mod Faults
 pub mod Fields
+pub mod Names
 pub mod InOrder
 pub mod Pdos
 pub mod Reading
-pub mod Sound
 pub mod Objects
+-- Other words for the same, which laws tie to them: what every table keeps, the document of a table, and the laws.
+pub mod Sound
 pub mod Writing
 pub mod Laws

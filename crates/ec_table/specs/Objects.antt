@@ -1,11 +1,12 @@
--- The objects of a slave of a table: the entries of the PDOs that it assigns, and their bits (ETG.1000.6, "Object dictionary").
-use Rattle.std.specs.Prelude.{ℕ, List, [], Option, slice_get, option_map, option_and_then}
-use Rattle.std.specs.List.{flat_map}
+-- What a table says of one slave or one link: its type, its identity, and the entries of the PDOs that it assigns (ETG.1000.6, "Object dictionary").
+use Rattle.std.specs.Prelude.{ℕ, ◌==◌, if◌then◌else◌, List, [], map, find, sum_by, Option, Some, None, slice_get, option_map, option_and_then}
+use Rattle.std.specs.List.{flat_map, range_with_len}
 use Rattle.std.specs.Option.{option_map_or}
 use Rattle.ec_regs.specs.declared.slave_type.Entry.{Entry}
+use Rattle.ec_regs.specs.declared.slave_type.Pdo.{Pdo}
 use Rattle.ec_regs.specs.declared.slave_type.Identity.{Identity}
-use Rattle.ec_regs.specs.Types.{device_identity}
-use Rattle.ec_regs.specs.Objects.{ObjectBit, assigned_entries, entry_bits}
+use Rattle.ec_regs.specs.Types.{SlaveKind, device_identity}
+use Rattle.ec_regs.specs.Objects.{ObjectBit, entry_bits, assigned_entries}
 use Rattle.ec_table.specs.declared.rows.Direction.{Direction}
 use Rattle.ec_table.specs.declared.rows.TypeRow.{TypeRow}
 use Rattle.ec_table.specs.declared.rows.SlaveRow.{SlaveRow}
@@ -27,6 +28,21 @@ slave_of c l = option_and_then (λ (r : LinkRow). slice_get c.slaves r.slave) (s
 -- what slave s shows as its identity: its type's device, and its own serial number
 abbrev pub identity_of : Contents → ℕ → Option Identity
 identity_of c s = option_and_then (λ (r : SlaveRow). option_map (λ (t : TypeRow). device_identity t.device r.serial) (slice_get c.types r.type_place)) (slice_get c.slaves s)
+
+-- the type of slave s, as a slave has it
+abbrev pub kind_of_type : TypeRow → SlaveKind
+kind_of_type t = record {
+  device = t.device;
+  mailbox = t.mailbox;
+  out_start = t.process.out_start;
+  in_start = t.process.in_start;
+  outputs = t.process.outputs;
+  inputs = t.process.inputs;
+  lrw = t.lrw;
+}
+
+abbrev pub kind_of : Contents → ℕ → Option SlaveKind
+kind_of c s = option_map kind_of_type (type_of c s)
 
 -- the entries of slave s in a direction
 unfoldable pub entries_of : Contents → ℕ → Direction → List Entry

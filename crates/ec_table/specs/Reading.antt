@@ -20,14 +20,11 @@ use Rattle.ec_table.specs.declared.rows.LinkRow.{LinkRow}
 use Rattle.ec_table.specs.declared.fields.Shape.TheVariants as shape
 use Rattle.ec_table.specs.Contents.{Contents}
 use Rattle.ec_table.specs.InOrder.{members_in, rows_after}
+use Rattle.ec_table.specs.Names.{is_named, place_named}
 use Rattle.ec_table.specs.Pdos.{pdos_in, indices_of, has_twice, numbers_in}
 use Rattle.ec_table.specs.Fields.{◌>>=◌, must, keys_are, name_in, direction_in, mailbox_in, section_in, number_in, number_or_0, truth_in, version_in, link_bits_in}
 
 -- ---- types
-
--- some type has the name
-abbrev pub is_type_name : List ℕ → List TypeRow → Bool
-is_type_name name found = list_any (λ (t : TypeRow). bytes_eq t.name name) found
 
 -- vendor, product, revision
 unfoldable pub device_in : Place → Members → Result Device Fault
@@ -59,7 +56,7 @@ type_at v p ms found = do
   mailbox ← mailbox_in p (get_member (codes "mailbox") ms)
   process ← process_in p ms
   lrw ← truth_in p (get_member (codes "lrw") ms)
-  _ ← must (not (is_type_name name found || process_twice process)) (TwiceNamed p)
+  _ ← must (not (is_named (λ (t : TypeRow). t.name) name found || process_twice process)) (TwiceNamed p)
   Ok (record { name = name; device = device; mailbox = mailbox; process = process; lrw = lrw })
 
 abbrev pub type_element : Version → ℕ → Data → List TypeRow → Result TypeRow Fault
@@ -68,14 +65,6 @@ type_element v n d found =
     members_in p d >>= (λ ms. type_at v p ms found)
 
 -- ---- slaves
-
--- some slave has the name
-abbrev pub is_slave_name : List ℕ → List SlaveRow → Bool
-is_slave_name name found = list_any (λ (s : SlaveRow). bytes_eq s.name name) found
-
--- the place of the first type with a name
-abbrev pub type_named : List ℕ → List TypeRow → Option ℕ
-type_named name types = position (λ (t : TypeRow). bytes_eq t.name name) types
 
 abbrev pub all_in : List ℕ → List ℕ → Bool
 all_in xs ys = list_all (λ x. list_any (λ y. y == x) ys) xs
@@ -100,8 +89,8 @@ slave_at v types p ms found = do
   inputs ← numbers_in p 0x1A00 0x1BFF (get_member (codes "in") ms)
   serial ← number_or_0 p 4294967295 (get_member (codes "serial") ms)
   unit ← number_or_0 p 63 (get_member (codes "unit") ms)
-  _ ← must (not (is_slave_name name found || (has_twice (unwrap_or outputs []) || has_twice (unwrap_or inputs [])))) (TwiceNamed p)
-  at ← ok_or (type_named type_name types) (UnknownName p)
+  _ ← must (not (is_named (λ (s : SlaveRow). s.name) name found || (has_twice (unwrap_or outputs []) || has_twice (unwrap_or inputs [])))) (TwiceNamed p)
+  at ← ok_or (place_named (λ (t : TypeRow). t.name) type_name types) (UnknownName p)
   t ← ok_or (slice_get types at) (UnknownName p)
   assigned_in p t (record { name = name; type_place = at; outputs = unwrap_or outputs (indices_of t.process.outputs); inputs = unwrap_or inputs (indices_of t.process.inputs); serial = serial; unit = unit })
 
@@ -112,10 +101,6 @@ slave_element v types n d found =
 
 -- ---- variables
 
--- some variable has the name
-abbrev pub is_variable_name : List ℕ → List VariableRow → Bool
-is_variable_name name found = list_any (λ (w : VariableRow). bytes_eq w.name name) found
-
 -- the variable that an element states, after those found
 unfoldable pub variable_at : Version → Place → Members → List VariableRow → Result VariableRow Fault
 variable_at v p ms found = do
@@ -123,7 +108,7 @@ variable_at v p ms found = do
   name ← name_in p (get_member (codes "name") ms)
   direction ← direction_in p (get_member (codes "dir") ms)
   bits ← number_in p 1 64 (get_member (codes "bits") ms)
-  _ ← must (not (is_variable_name name found)) (TwiceNamed p)
+  _ ← must (not (is_named (λ (w : VariableRow). w.name) name found)) (TwiceNamed p)
   Ok (record { name = name; direction = direction; bits = bits })
 
 abbrev pub variable_element : Version → ℕ → Data → List VariableRow → Result VariableRow Fault
@@ -132,13 +117,6 @@ variable_element v n d found =
     members_in p d >>= (λ ms. variable_at v p ms found)
 
 -- ---- links
-
--- the place of the first slave, and of the first variable, with a name
-abbrev pub slave_named : List ℕ → List SlaveRow → Option ℕ
-slave_named name slaves = position (λ (s : SlaveRow). bytes_eq s.name name) slaves
-
-abbrev pub variable_named : List ℕ → List VariableRow → Option ℕ
-variable_named name variables = position (λ (w : VariableRow). bytes_eq w.name name) variables
 
 -- all bits of a variable, from bit 0 of both
 abbrev pub all_bits : VariableRow → LinkBits
@@ -153,9 +131,9 @@ link_at v slaves variables p ms = do
   index ← number_in p 1 65535 (get_member (codes "index") ms)
   subindex ← number_in p 0 255 (get_member (codes "sub") ms)
   bits ← link_bits_in p (get_member (codes "bits") ms)
-  variable ← ok_or (variable_named variable_name variables) (UnknownName p)
+  variable ← ok_or (place_named (λ (w : VariableRow). w.name) variable_name variables) (UnknownName p)
   w ← ok_or (slice_get variables variable) (UnknownName p)
-  slave ← ok_or (slave_named slave_name slaves) (UnknownName p)
+  slave ← ok_or (place_named (λ (s : SlaveRow). s.name) slave_name slaves) (UnknownName p)
   Ok (record { variable = variable; slave = slave; index = index; subindex = subindex; bits = unwrap_or bits (all_bits w) })
 
 abbrev pub link_element : Version → List SlaveRow → List VariableRow → ℕ → Data → List LinkRow → Result LinkRow Fault

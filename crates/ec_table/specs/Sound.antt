@@ -1,13 +1,15 @@
 -- What each table that was read keeps.
 use Rattle.std.specs.Prelude.{◌≡◌, ◌≢◌, ℕ, ◌<◌, ◌≤◌, List, length, Option, Some, None, All, AllPairs, Contains, IsTrue, slice_get}
+use Rattle.std.specs.Option.{ForSome}
 use Rattle.ec_regs.specs.declared.slave_type.Entry.{Entry}
 use Rattle.ec_regs.specs.declared.slave_type.Pdo.{Pdo}
 use Rattle.ec_regs.specs.declared.slave_type.Mailbox.{Mailbox}
+use Rattle.ec_regs.specs.declared.slave_type.Device.{Device}
+use Rattle.ec_regs.specs.Types.{IsWithinLimits, first_output_index, first_input_index}
 use Rattle.ec_table.specs.declared.rows.Version.{Version}
 use Rattle.ec_table.specs.declared.rows.Version.TheVariants.{One}
 use Rattle.ec_table.specs.declared.rows.Direction.{Direction}
 use Rattle.ec_table.specs.declared.rows.Direction.TheVariants.{Out, In}
-use Rattle.ec_regs.specs.declared.slave_type.Device.{Device}
 use Rattle.ec_table.specs.declared.rows.TypeRow.{TypeRow}
 use Rattle.ec_table.specs.declared.rows.SlaveRow.{SlaveRow}
 use Rattle.ec_table.specs.declared.rows.VariableRow.{VariableRow}
@@ -32,49 +34,30 @@ pub record IsDevice (d : Device) : Type 0 where
   pub product : d.product ≤ 4294967295
   pub revision : d.revision ≤ 4294967295
 
-pub record IsMailbox (m : Mailbox) : Type 0 where
-  pub receive_start : m.receive_start ≤ 65535
-  pub receive_least : 16 ≤ m.receive_size
-  pub receive_most : m.receive_size ≤ 1024
-  pub send_start : m.send_start ≤ 65535
-  pub send_least : 16 ≤ m.send_size
-  pub send_most : m.send_size ≤ 1024
+-- where mailboxes lie has 16 bits
+pub record HasMailboxStarts (m : Mailbox) : Type 0 where
+  pub receive : m.receive_start ≤ 65535
+  pub send : m.send_start ≤ 65535
 
-pub record IsEntry (e : Entry) : Type 0 where
+-- what an entry stands for: an index of 16 bits and a subindex of 8
+pub record HasName (e : Entry) : Type 0 where
   pub index : e.index ≤ 65535
   pub subindex : e.subindex ≤ 255
-  pub least : 1 ≤ e.bits
-  pub most : e.bits ≤ 64
-  pub gap : e.index ≡ 0 → e.subindex ≡ 0
 
 -- the indices of process data objects: RxPDOs are outputs, TxPDOs inputs (ETG.1000.6, "Object dictionary")
 abbrev pub first_index : Direction → ℕ
-first_index Out = 0x1600
-first_index In = 0x1A00
+first_index Out = first_output_index
+first_index In = first_input_index
 
-abbrev pub last_index : Direction → ℕ
-last_index Out = 0x17FF
-last_index In = 0x1BFF
-
-pub record IsPdo (d : Direction) (q : Pdo) : Type 0 where
-  pub first : first_index d ≤ q.index
-  pub last : q.index ≤ last_index d
-  pub entries : All IsEntry q.entries
-  pub few : length q.entries ≤ 64
-
--- the objects of one direction: at most 16, each index once
-pub record ArePdos (d : Direction) (pdos : List Pdo) : Type 0 where
-  pub each : All (IsPdo d) pdos
-  pub few : length pdos ≤ 16
-  pub once : IsOnce (indices_of pdos)
-
+-- a type of slaves, within the limits of the profile, and each of its numbers within its range
 pub record IsType (t : TypeRow) : Type 0 where
   pub name : IsName t.name
   pub device : IsDevice t.device
-  pub mailbox : (m : Mailbox) → t.mailbox ≡ Some m → IsMailbox m
+  pub limits : IsWithinLimits t.mailbox t.process.outputs t.process.inputs
+  pub mailbox : ForSome t.mailbox HasMailboxStarts
   pub out_start : t.process.out_start ≤ 65535
   pub in_start : t.process.in_start ≤ 65535
-  pub pdos : (d : Direction) → ArePdos d (pdos_toward d t)
+  pub entries : (d : Direction) → All (λ (q : Pdo). All HasName q.entries) (pdos_toward d t)
 
 pub record AreTypes (ts : List TypeRow) : Type 0 where
   pub each : All IsType ts

@@ -9,8 +9,13 @@ ghost use Rattle.ec_table.specs.Fields.{number_or_0, truth_in, version_in, link_
 
 use crate::fault::{Fault, Place};
 use crate::rows::{Direction, LinkBits, Version};
-use ec_regs::Mailbox;
+use ec_regs::{MAX_MAILBOX_SIZE, MIN_MAILBOX_SIZE, Mailbox};
 use toml::Value;
+
+/// The largest number of 16 bits, as an address or an index has.
+pub const MAX_U16: u32 = u16::MAX as u32;
+/// The largest number of 8 bits, as a subindex has.
+pub const MAX_U8: u32 = u8::MAX as u32;
 
 /// A kind of table in a document.
 #[derive(Clone, Copy, Debug, PartialEq, Eq)]
@@ -54,43 +59,34 @@ fn is_key(shape: Shape, version: Version, key: &str) -> bool
     ensures { result ≡ is_key shape version key.now }
 {
     match shape {
-        Shape::Document => {
-            key == "version"
-                || key == "type"
-                || key == "slave"
-                || key == "variable"
-                || key == "link"
-        }
+        Shape::Document => matches!(key, "version" | "type" | "slave" | "variable" | "link"),
         Shape::Type => is_type_key(key),
-        Shape::Pdo => key == "index" || key == "entries",
+        Shape::Pdo => matches!(key, "index" | "entries"),
         Shape::Slave => {
-            key == "name"
-                || key == "type"
-                || key == "out"
-                || key == "in"
-                || key == "serial"
+            matches!(key, "name" | "type" | "out" | "in" | "serial")
                 || (version == Version::Two && key == "unit")
         }
-        Shape::Variable => key == "name" || key == "dir" || key == "bits",
-        Shape::Link => {
-            key == "var" || key == "slave" || key == "index" || key == "sub" || key == "bits"
-        }
+        Shape::Variable => matches!(key, "name" | "dir" | "bits"),
+        Shape::Link => matches!(key, "var" | "slave" | "index" | "sub" | "bits"),
     }
 }
 
 fn is_type_key(key: &str) -> bool
     ensures { result ≡ is_key shape.Type version.One key.now }
 {
-    key == "name"
-        || key == "vendor"
-        || key == "product"
-        || key == "revision"
-        || key == "out_start"
-        || key == "in_start"
-        || key == "mailbox"
-        || key == "rxpdo"
-        || key == "txpdo"
-        || key == "lrw"
+    matches!(
+        key,
+        "name"
+            | "vendor"
+            | "product"
+            | "revision"
+            | "out_start"
+            | "in_start"
+            | "mailbox"
+            | "rxpdo"
+            | "txpdo"
+            | "lrw"
+    )
 }
 
 /// Whether a table has each key that its shape must have.
@@ -141,10 +137,11 @@ pub fn keys_are(shape: Shape, version: Version, members: &toml::Table) -> bool
 fn each_key(shape: Shape, version: Version, members: &toml::Table) -> bool
     ensures { result ≡ each_key (is_key shape version) (table_view members.now) }
 {
-    each_entry_key(shape, version, members)
+    each_map_key(shape, version, members)
 }
 
-fn each_entry_key(shape: Shape, version: Version, members: &toml::Table) -> bool
+/// The same, said of the keys of the map that a table is.
+fn each_map_key(shape: Shape, version: Version, members: &toml::Table) -> bool
     ensures { result
         ≡ list_all (λ k. is_key shape version (string_bytes k)) (keys_of members.now.entries) }
 {
@@ -214,10 +211,11 @@ pub fn direction_in(place: Place, value: Option<&Value>) -> Result<Direction, Fa
 fn mailbox_of(place: Place, value: &Value) -> Result<Mailbox, Fault>
     ensures { result ≡ mailbox_of place (view value.now) }
 {
-    let receive_start = number_in(place, value.get(0), 0, 65535)?;
-    let receive_size = number_in(place, value.get(1), 16, 1024)?;
-    let send_start = number_in(place, value.get(2), 0, 65535)?;
-    let send_size = number_in(place, value.get(3), 16, 1024)?;
+    let (least, most) = (MIN_MAILBOX_SIZE as u32, MAX_MAILBOX_SIZE as u32);
+    let receive_start = number_in(place, value.get(0), 0, MAX_U16)?;
+    let receive_size = number_in(place, value.get(1), least, most)?;
+    let send_start = number_in(place, value.get(2), 0, MAX_U16)?;
+    let send_size = number_in(place, value.get(3), least, most)?;
     if value.get(4).is_some() {
         return Err(Fault::BadValue(place));
     }
@@ -308,7 +306,7 @@ pub fn truth_in(place: Place, value: Option<&Value>) -> Result<bool, Fault>
     }
 }
 
-fn is_table_value(value: &Value) -> bool
+fn is_table(value: &Value) -> bool
     ensures { result ≡ is_table (view value.now) }
 {
     value.as_table().is_some()
@@ -321,10 +319,11 @@ fn are_tables(elements: &[Value]) -> bool
     each_is_table(elements)
 }
 
+/// The same, said of the values of the array.
 fn each_is_table(elements: &[Value]) -> bool
     ensures { result ≡ list_all (λ v. is_table (view v)) elements.now }
 {
-    elements.iter().all(|value| is_table_value(value))
+    elements.iter().all(|value| is_table(value))
 }
 
 /// The elements of a section, none where it is left out.

@@ -1,6 +1,6 @@
 //! What the definition of a link table's reading keeps, in the format's own words. Nothing runs here.
 
-ghost use Rattle.ec_table.specs.Laws.{AcceptedIsSound, FaultsHaveTheirPlace, AcceptedElementByElement, FirstFaultIsTold, WrittenIsRead, ObjectBitsAreCounted};
+ghost use Rattle.ec_table.specs.Laws.{AcceptedIsSound, FaultsHaveTheirPlace, AcceptedElementByElement, DocumentFaultsInOrder, FirstFaultIsTold, LeftOutIsDefault, WrittenIsRead, ObjectBitsAreCounted};
 
 /// What is accepted has unique names, known references, values in range, and assigned objects of its type
 /// without a double.
@@ -9,8 +9,21 @@ pub fn accepted_is_sound()
 {}
 
 /// A document whose every element passes its own tests is accepted.
+#[tactic(auto, using(crate::proofs::ElementByElement::accepted))]
 pub fn accepted_element_by_element()
     ensures { AcceptedElementByElement }
+{}
+
+/// What is told of a document before its elements, and in which order.
+#[tactic(auto, using(crate::proofs::DocumentFaults::document_faults))]
+pub fn document_faults_in_order()
+    ensures { DocumentFaultsInOrder }
+{}
+
+/// What an accepted element or document leaves out has its default.
+#[tactic(auto, using(crate::proofs::Defaults::defaults))]
+pub fn left_out_is_default()
+    ensures { LeftOutIsDefault }
 {}
 
 /// The first element in order that fails a test is told.
@@ -24,6 +37,7 @@ pub fn faults_have_their_place()
 {}
 
 /// Each sound table is what some document states: its own, with each key written out.
+#[tactic(auto, using(crate::proofs::WrittenWhole::document_reads))]
 pub fn written_is_read()
     ensures { WrittenIsRead }
 {}

@@ -5,6 +5,7 @@ mod fault;
 mod fields;
 pub mod laws;
 mod links;
+mod named;
 mod objects;
 mod pdos;
 mod read;

@@ -1,28 +1,15 @@
 ghost use Rattle.std.specs.Prelude.{◌≡◌, [], unwrap_or};
 ghost use Rattle.toml.specs.View.{view, table_view, items_view};
 ghost use Rattle.ec_table.specs.InOrder.{Gives, rows_after};
-ghost use Rattle.ec_table.specs.Reading.{slave_named, variable_named, all_bits, link_at, link_element};
+ghost use Rattle.ec_table.specs.Reading.{all_bits, link_at, link_element};
 
 use crate::fault::{Fault, Place, Section, TableError};
-use crate::fields::{Shape, keys_are, link_bits_in, member, name_in, number_in};
+use crate::fields::{MAX_U8, MAX_U16, Shape, keys_are, link_bits_in, member, name_in, number_in};
+use crate::named::NamedRows;
 use crate::rows::{LinkBits, LinkRow, SlaveRow, VariableRow, Version};
 use ec_regs::Listed;
 use std::alloc::Global;
 use toml::Value;
-
-/// The place of the first slave with a name.
-fn slave_named(name: &str, slaves: &[SlaveRow]) -> Option<usize>
-    ensures { result ≡ slave_named name.now slaves.now }
-{
-    slaves.iter().position(|row| row.name.as_str() == name)
-}
-
-/// The place of the first variable with a name.
-fn variable_named(name: &str, variables: &[VariableRow]) -> Option<usize>
-    ensures { result ≡ variable_named name.now variables.now }
-{
-    variables.iter().position(|row| row.name.as_str() == name)
-}
 
 /// The bits that are written, else all of the variable's, from bit 0 of both.
 fn written_or_all(written: Option<LinkBits>, variable: &VariableRow) -> LinkBits
@@ -42,8 +29,8 @@ fn written_or_all(written: Option<LinkBits>, variable: &VariableRow) -> LinkBits
 #[tactic(auto, unfolding(crate::specs::Reading::link_at))]
 fn link_at(
     version: Version,
-    slaves: &[SlaveRow],
-    variables: &[VariableRow],
+    slaves: &NamedRows<'_, SlaveRow>,
+    variables: &NamedRows<'_, VariableRow>,
     place: Place,
     members: &toml::Table,
 ) -> Result<LinkRow, Fault>
@@ -54,16 +41,16 @@ fn link_at(
     }
     let variable_name = name_in(place, member(members, "var"))?;
     let slave_name = name_in(place, member(members, "slave"))?;
-    let index = number_in(place, member(members, "index"), 1, 65535)?;
-    let subindex = number_in(place, member(members, "sub"), 0, 255)?;
+    let index = number_in(place, member(members, "index"), 1, MAX_U16)?;
+    let subindex = number_in(place, member(members, "sub"), 0, MAX_U8)?;
     let bits = link_bits_in(place, member(members, "bits"))?;
-    let Some(at) = variable_named(variable_name, variables) else {
+    let Some(at) = variables.place_of(variable_name) else {
         return Err(Fault::UnknownName(place));
     };
-    let Some(variable) = variables.get(at) else {
+    let Some(variable) = variables.as_slice().get(at) else {
         return Err(Fault::UnknownName(place));
     };
-    let Some(slave) = slave_named(slave_name, slaves) else {
+    let Some(slave) = slaves.place_of(slave_name) else {
         return Err(Fault::UnknownName(place));
     };
     Ok(LinkRow {
@@ -77,8 +64,8 @@ fn link_at(
 
 fn link_element(
     version: Version,
-    slaves: &[SlaveRow],
-    variables: &[VariableRow],
+    slaves: &NamedRows<'_, SlaveRow>,
+    variables: &NamedRows<'_, VariableRow>,
     element: usize,
     value: &Value,
 ) -> Result<LinkRow, Fault>
@@ -99,8 +86,8 @@ fn link_element(
 pub fn links_of(
     alloc: Global,
     version: Version,
-    slaves: &[SlaveRow],
-    variables: &[VariableRow],
+    slaves: &NamedRows<'_, SlaveRow>,
+    variables: &NamedRows<'_, VariableRow>,
     elements: &[Value],
 ) -> Result<Listed<LinkRow>, TableError>
     ensures { Gives result

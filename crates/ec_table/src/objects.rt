@@ -6,14 +6,14 @@ ghost use Rattle.ec_regs.specs.Objects.{entries_at, assigned_entries};
 use ec_regs::{Entry, Listed, Pdo};
 use std::alloc::{AllocError, Global};
 
-/// The object with an index.
+/// The PDO with an index.
 fn pdo_at(pdos: &[Pdo], index: u16) -> Option<&Pdo>
     ensures { option_copied result ≡ find (λ (q : Pdo). q.index == index) pdos.now }
 {
     pdos.iter().find(|pdo| pdo.index == index)
 }
 
-/// The entries of the object with an index, none where there is no such object.
+/// The entries of the PDO with an index, none where there is no such PDO.
 fn entries_at(pdos: &[Pdo], index: u16) -> &[Entry]
     ensures { result.now ≡ entries_at pdos.now index }
 {
@@ -32,7 +32,7 @@ fn push_all(found: &mut Listed<Entry>, entries: &[Entry]) -> Result<(), AllocErr
     Ok(())
 }
 
-/// The entries of objects, one after another.
+/// The entries of the PDOs with these indices, one after another.
 pub fn assigned_entries(
     alloc: Global,
     pdos: &[Pdo],

@@ -6,19 +6,27 @@ ghost use Rattle.ec_table.specs.InOrder.{Gives, rows_after};
 ghost use Rattle.ec_table.specs.Pdos.{entry_of, entry_row, array_of, array_in, pdo_of, pdo_row, pdos_in, indices_of, has_twice, number_row, number_list, numbers_in};
 
 use crate::fault::{Fault, Place, TableError};
-use crate::fields::{Shape, keys_are, member, number_in};
+use crate::fields::{MAX_U8, MAX_U16, Shape, keys_are, member, number_in};
 use crate::rows::Version;
-use ec_regs::{Entry, Listed, Pdo};
+use ec_regs::{
+    Entry, FIRST_INPUT_INDEX, FIRST_OUTPUT_INDEX, Listed, MAX_ENTRIES, MAX_ENTRY_BITS, MAX_PDOS,
+    PDO_INDICES, Pdo,
+};
 use std::alloc::{AllocError, Global};
 use toml::Value;
+
+/// The last index of an output PDO.
+pub const LAST_OUTPUT_INDEX: u16 = FIRST_OUTPUT_INDEX + (PDO_INDICES - 1);
+/// The last index of an input PDO.
+pub const LAST_INPUT_INDEX: u16 = FIRST_INPUT_INDEX + (PDO_INDICES - 1);
 
 #[tactic(auto, unfolding(crate::specs::Pdos::entry_of))]
 fn entry_of(place: Place, value: &Value) -> Result<Entry, Fault>
     ensures { result ≡ entry_of place (view value.now) }
 {
-    let index = number_in(place, value.get(0), 0, 65535)?;
-    let subindex = number_in(place, value.get(1), 0, 255)?;
-    let bits = number_in(place, value.get(2), 1, 64)?;
+    let index = number_in(place, value.get(0), 0, MAX_U16)?;
+    let subindex = number_in(place, value.get(1), 0, MAX_U8)?;
+    let bits = number_in(place, value.get(2), 1, MAX_ENTRY_BITS as u32)?;
     if value.get(3).is_some() || (index == 0 && subindex != 0) {
         return Err(Fault::BadValue(place));
     }
@@ -49,7 +57,7 @@ fn entry_array(alloc: Global, place: Place, value: &Value) -> Result<Listed<Entr
         return Err(TableError::Refused(Fault::BadValue(place)));
     };
     let entries = entries_of(alloc, place, elements.as_slice())?;
-    if entries.len() > 64 {
+    if entries.len() > MAX_ENTRIES {
         return Err(TableError::Refused(Fault::BadValue(place)));
     }
     Ok(entries)
@@ -72,7 +80,7 @@ fn entries_in(
 fn pdo_of(
     alloc: Global,
     place: Place,
-    low: u32,
+    low: u16,
     high: u16,
     members: &toml::Table,
 ) -> Result<Pdo, TableError>
@@ -81,7 +89,12 @@ fn pdo_of(
     if !keys_are(Shape::Pdo, Version::One, members) {
         return Err(TableError::Refused(Fault::BadValue(place)));
     }
-    let index = number_in(place, member(members, "index"), low, u32::from(high))?;
+    let index = number_in(
+        place,
+        member(members, "index"),
+        u32::from(low),
+        u32::from(high),
+    )?;
     let entries = entries_in(alloc, place, member(members, "entries"))?;
     Ok(Pdo {
         index: index as u16,
@@ -92,7 +105,7 @@ fn pdo_of(
 fn pdo_row(
     alloc: Global,
     place: Place,
-    low: u32,
+    low: u16,
     high: u16,
     value: &Value,
 ) -> Result<Pdo, TableError>
@@ -108,7 +121,7 @@ fn pdo_row(
 fn pdos_of(
     alloc: Global,
     place: Place,
-    low: u32,
+    low: u16,
     high: u16,
     elements: &[Value],
 ) -> Result<Listed<Pdo>, TableError>
@@ -126,7 +139,7 @@ fn pdos_of(
 fn pdo_array(
     alloc: Global,
     place: Place,
-    low: u32,
+    low: u16,
     high: u16,
     value: &Value,
 ) -> Result<Listed<Pdo>, TableError>
@@ -136,7 +149,7 @@ fn pdo_array(
         return Err(TableError::Refused(Fault::BadValue(place)));
     };
     let pdos = pdos_of(alloc, place, low, high, elements.as_slice())?;
-    if pdos.len() > 16 {
+    if pdos.len() > MAX_PDOS {
         return Err(TableError::Refused(Fault::BadValue(place)));
     }
     Ok(pdos)
@@ -147,7 +160,7 @@ pub fn pdos_in(
     alloc: Global,
     place: Place,
     value: Option<&Value>,
-    low: u32,
+    low: u16,
     high: u16,
 ) -> Result<Listed<Pdo>, TableError>
     ensures { Gives result (pdos_in place low high (seen value.entry)) }
@@ -162,7 +175,7 @@ pub fn pdos_in(
 fn numbers_of(
     alloc: Global,
     place: Place,
-    low: u32,
+    low: u16,
     high: u16,
     elements: &[Value],
 ) -> Result<Listed<u16>, TableError>
@@ -170,7 +183,7 @@ fn numbers_of(
 {
     let mut found = Listed::new(alloc);
     for value in elements {
-        let number = number_in(place, Some(value), low, u32::from(high))?;
+        let number = number_in(place, Some(value), u32::from(low), u32::from(high))?;
         found.push(number as u16)?;
     }
     Ok(found)
@@ -180,7 +193,7 @@ fn numbers_of(
 fn number_list(
     alloc: Global,
     place: Place,
-    low: u32,
+    low: u16,
     high: u16,
     value: &Value,
 ) -> Result<Listed<u16>, TableError>
@@ -197,7 +210,7 @@ pub fn numbers_in(
     alloc: Global,
     place: Place,
     value: Option<&Value>,
-    low: u32,
+    low: u16,
     high: u16,
 ) -> Result<Option<Listed<u16>>, TableError>
     ensures { Gives result (numbers_in place low high (seen value.entry)) }

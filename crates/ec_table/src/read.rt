@@ -29,16 +29,16 @@ fn table_of_document(alloc: Global, document: &toml::Table) -> Result<Table, Tab
     let variables = section_in(top, member(document, "variable"))?;
     let links = section_in(top, member(document, "link"))?;
     let types = types_of(alloc, version, types)?;
-    let slaves = slaves_of(alloc, version, types.as_slice(), slaves)?;
+    let slaves = slaves_of(alloc, version, &types, slaves)?;
     let variables = variables_of(alloc, version, variables)?;
-    let links = links_of(
-        alloc,
+    let links = links_of(alloc, version, &slaves, &variables, links)?;
+    Ok(Table::new(
         version,
-        slaves.as_slice(),
-        variables.as_slice(),
+        types.into_rows(),
+        slaves.into_rows(),
+        variables.into_rows(),
         links,
-    )?;
-    Ok(Table::new(version, types, slaves, variables, links))
+    ))
 }
 
 /// The table that a text states, or the first fault of the text.

@@ -1,29 +1,20 @@
 ghost use Rattle.std.specs.Prelude.{◌≡◌, ◌||◌, [], IfOk, unwrap_or};
 ghost use Rattle.toml.specs.View.{view, table_view, items_view};
 ghost use Rattle.ec_table.specs.Pdos.{has_twice, indices_of};
-ghost use Rattle.ec_table.specs.InOrder.{Gives, rows_after};
-ghost use Rattle.ec_table.specs.Reading.{is_slave_name, type_named, all_in, assigned_in, slave_at, slave_element};
+ghost use Rattle.ec_table.specs.InOrder.{Gives, one_more, rows_after};
+ghost use Rattle.ec_table.specs.Reading.{all_in, assigned_in, slave_at, slave_element};
 
 use crate::fault::{Fault, Place, Section, TableError};
 use crate::fields::{Shape, keys_are, member, name_in, number_or_0};
-use crate::pdos::{has_twice, indices_of, is_in, numbers_in};
+use crate::named::{Named, NamedRows};
+use crate::pdos::{LAST_INPUT_INDEX, LAST_OUTPUT_INDEX, has_twice, indices_of, is_in, numbers_in};
 use crate::rows::{Name, SlaveRow, TypeRow, Version};
-use ec_regs::{Listed, Pdo};
+use ec_regs::{FIRST_INPUT_INDEX, FIRST_OUTPUT_INDEX, Listed, Pdo};
 use std::alloc::{AllocError, Global};
 use toml::Value;
 
-/// Whether some slave has the name.
-fn is_slave_name(name: &str, found: &[SlaveRow]) -> bool
-    ensures { result ≡ is_slave_name name.now found.now }
-{
-    found.iter().any(|row| row.name.as_str() == name)
-}
-
-/// The place of the first type with a name.
-fn type_named(name: &str, types: &[TypeRow]) -> Option<usize>
-    ensures { result ≡ type_named name.now types.now }
-{
-    types.iter().position(|row| row.name.as_str() == name)
+impl Named for SlaveRow {
+    ghost name = { λ s. s.name };
 }
 
 fn all_in(numbers: &[u16], known: &[u16]) -> bool
@@ -64,7 +55,8 @@ fn assigned_in(
     slave_type: &TypeRow,
     row: SlaveRow,
 ) -> Result<SlaveRow, TableError>
-    ensures { Gives result (assigned_in place slave_type.now row) }
+    ensures value { Gives result (assigned_in place slave_type.now row) }
+    ensures same { IfOk result (λ r. r ≡ row) }
 {
     let all_outputs = indices_of(alloc, slave_type.process.outputs.as_slice())?;
     let all_inputs = indices_of(alloc, slave_type.process.inputs.as_slice())?;
@@ -82,34 +74,47 @@ fn assigned_in(
     Ok(row)
 }
 
-/// The slave that an element states, after those found.
+/// The slaves found, and the one that an element states behind them.
 #[tactic(auto, unfolding(crate::specs::Reading::slave_at))]
-fn slave_at(
+fn with_slave<'a>(
     alloc: Global,
     version: Version,
-    types: &[TypeRow],
+    types: &NamedRows<'_, TypeRow>,
     place: Place,
-    members: &toml::Table,
-    found: &[SlaveRow],
-) -> Result<SlaveRow, TableError>
-    ensures { Gives result (slave_at version types.now place (table_view members.now) found.now) }
+    members: &'a toml::Table,
+    found: NamedRows<'a, SlaveRow>,
+) -> Result<NamedRows<'a, SlaveRow>, TableError>
+    ensures { Gives result
+        (one_more found.entry (slave_at version types.now place (table_view members.now) found.entry)) }
 {
     if !keys_are(Shape::Slave, version, members) {
         return Err(TableError::Refused(Fault::BadKey(place)));
     }
     let name = name_in(place, member(members, "name"))?;
     let type_name = name_in(place, member(members, "type"))?;
-    let outputs = numbers_in(alloc, place, member(members, "out"), 0x1600, 0x17FF)?;
-    let inputs = numbers_in(alloc, place, member(members, "in"), 0x1A00, 0x1BFF)?;
+    let outputs = numbers_in(
+        alloc,
+        place,
+        member(members, "out"),
+        FIRST_OUTPUT_INDEX,
+        LAST_OUTPUT_INDEX,
+    )?;
+    let inputs = numbers_in(
+        alloc,
+        place,
+        member(members, "in"),
+        FIRST_INPUT_INDEX,
+        LAST_INPUT_INDEX,
+    )?;
     let serial = number_or_0(place, member(members, "serial"), u32::MAX)?;
     let unit = number_or_0(place, member(members, "unit"), 63)?;
-    if is_slave_name(name, found) || (twice_in(&outputs) || twice_in(&inputs)) {
+    if found.has(name) || (twice_in(&outputs) || twice_in(&inputs)) {
         return Err(TableError::Refused(Fault::TwiceNamed(place)));
     }
-    let Some(at) = type_named(type_name, types) else {
+    let Some(at) = types.place_of(type_name) else {
         return Err(TableError::Refused(Fault::UnknownName(place)));
     };
-    let Some(slave_type) = types.get(at) else {
+    let Some(slave_type) = types.as_slice().get(at) else {
         return Err(TableError::Refused(Fault::UnknownName(place)));
     };
     let row = SlaveRow {
@@ -120,43 +125,44 @@ fn slave_at(
         serial,
         unit: unit as u8,
     };
-    assigned_in(alloc, place, slave_type, row)
+    let row = assigned_in(alloc, place, slave_type, row)?;
+    Ok(found.with(name, row)?)
 }
 
-fn slave_element(
+fn with_slave_element<'a>(
     alloc: Global,
     version: Version,
-    types: &[TypeRow],
+    types: &NamedRows<'_, TypeRow>,
     element: usize,
-    value: &Value,
-    found: &[SlaveRow],
-) -> Result<SlaveRow, TableError>
-    ensures { Gives result (slave_element version types.now element (view value.now) found.now) }
+    value: &'a Value,
+    found: NamedRows<'a, SlaveRow>,
+) -> Result<NamedRows<'a, SlaveRow>, TableError>
+    ensures { Gives result
+        (one_more found.entry (slave_element version types.now element (view value.now) found.entry)) }
 {
     let place = Place {
         section: Section::Slave,
         element,
     };
     match value.as_table() {
-        Some(members) => slave_at(alloc, version, types, place, members, found),
+        Some(members) => with_slave(alloc, version, types, place, members, found),
         None => Err(TableError::Refused(Fault::BadValue(place))),
     }
 }
 
 /// The slaves of the section, in order.
-#[tactic(auto, using(crate::proofs::InOrder::rows_all))]
-pub fn slaves_of(
+#[tactic(auto, using(crate::proofs::InOrder::rows_more_all))]
+pub fn slaves_of<'a>(
     alloc: Global,
     version: Version,
-    types: &[TypeRow],
-    elements: &[Value],
-) -> Result<Listed<SlaveRow>, TableError>
+    types: &NamedRows<'_, TypeRow>,
+    elements: &'a [Value],
+) -> Result<NamedRows<'a, SlaveRow>, TableError>
     ensures { Gives result (rows_after (slave_element version types.now) [] 0 (items_view elements.now)) }
 {
-    let mut found = Listed::new(alloc);
+    let mut found = NamedRows::new(alloc);
     for (element, value) in elements.iter().enumerate() {
-        let row = slave_element(alloc, version, types, element, value, found.as_slice())?;
-        found.push(row)?;
+        found = with_slave_element(alloc, version, types, element, value, found)?;
     }
     Ok(found)
 }

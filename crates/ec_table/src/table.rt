@@ -1,11 +1,12 @@
 ghost use Rattle.std.specs.Prelude.{◌≡◌, ◌<◌, ◌≤◌, length, All, Some, IfOk, slice_get};
-ghost use Rattle.ec_table.specs.Sound.{IsSound, IsType, AreTypes, AreSlaves, IsVariable, AreVariables, IsLink, IsEntry};
+ghost use Rattle.ec_regs.specs.Types.{IsEntry};
 ghost use Rattle.ec_regs.specs.Objects.{bits_of};
-ghost use Rattle.ec_table.specs.Objects.{type_of, variable_of, slave_of, identity_of, entries_of};
+ghost use Rattle.ec_table.specs.Sound.{IsSound, IsType, AreTypes, AreSlaves, IsVariable, AreVariables, IsLink};
+ghost use Rattle.ec_table.specs.Objects.{type_of, variable_of, slave_of, identity_of, kind_of, entries_of};
 
 use crate::objects::assigned_entries;
 use crate::rows::{Direction, LinkRow, SlaveRow, TypeRow, VariableRow, Version};
-use ec_regs::{Entry, Identity, Listed};
+use ec_regs::{Entry, Identity, Listed, SlaveType, copied_pdos};
 use std::alloc::{AllocError, Global};
 use std::marker::Model;
 
@@ -79,6 +80,9 @@ impl Table {
     }
 
     /// The version of the format.
+    ///
+    /// Its clause `sound` says all that every table keeps: a proof that needs more than the clauses of
+    /// the other calls say calls this one.
     pub fn version(&self) -> Version
         ensures value { result ≡ self.now.version }
         ensures sound { IsSound self.now }
@@ -154,12 +158,26 @@ impl Table {
     {
         let row = &self.slaves.as_slice()[slave];
         let device = self.types.as_slice()[row.type_place].device;
-        Identity {
-            vendor: device.vendor,
-            product: device.product,
-            revision: device.revision,
-            serial: row.serial,
-        }
+        device.identity(row.serial)
+    }
+
+    /// The type of the slave at a place, as a slave has it. The error says that memory was refused.
+    pub fn kind_of(&self, alloc: Global, slave: usize) -> Result<SlaveType, AllocError>
+        requires { slave < length self.now.slaves }
+        ensures { IfOk result (λ k. kind_of self.now slave ≡ Some k) }
+    {
+        let row = self.type_of(slave);
+        let outputs = copied_pdos(alloc, row.process.outputs.as_slice())?;
+        let inputs = copied_pdos(alloc, row.process.inputs.as_slice())?;
+        Ok(SlaveType::new(
+            row.device,
+            row.mailbox,
+            row.process.out_start,
+            row.process.in_start,
+            outputs,
+            inputs,
+            row.lrw,
+        ))
     }
 
     /// The entries of the objects that the slave at a place assigns in one direction, one after another;

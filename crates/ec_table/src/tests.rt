@@ -2,8 +2,9 @@ ghost use Rattle.std.specs.Prelude.{◌<◌, length};
 
 use crate::tests::changes::{
     IN_LINKS, IN_ORDER, IN_SLAVES, IN_THE_DOCUMENT, IN_TYPES, IN_VARIABLES, IN_VERSION_2, LEFT_OUT,
+    SMALL_TEXTS,
 };
-use crate::tests::examples::{SMALL_MACHINE, THREE_SLAVES};
+use crate::tests::examples::{DO4, SMALL_MACHINE, THREE_SLAVES};
 use crate::{
     Direction, Fault, LinkRow, Place, Section, SlaveRow, Table, TableError, TypeRow, read_table,
 };
@@ -220,10 +221,11 @@ fn reads_the_examples(rt: HostRuntime) -> Result<(), Fail> {
 
 #[test]
 fn tells_which_line_is_missing(rt: HostRuntime) -> Result<(), Fail> {
-    for (place, wanted) in LEFT_OUT.iter().enumerate() {
+    for (place, row) in LEFT_OUT.lines().enumerate() {
         let text = without_line(rt.alloc(), THREE_SLAVES, Some(place))?;
         let told = answer(rt.alloc(), text.as_str())?;
-        assert_eq!(rt; told.as_str(), *wanted, "without line {place}");
+        let (wanted, line) = row.split_once(": ").ok_or("no answer")?;
+        assert_eq!(rt; told.as_str(), wanted, "without line {place}, {line}");
     }
     Ok(())
 }
@@ -272,6 +274,85 @@ fn tells_what_is_wrong(rt: HostRuntime) -> Result<(), Fail> {
     assert_changes(&rt, rt.alloc(), text.as_str(), IN_ORDER)?;
     let text = format!(in rt.alloc(); "version = 2\n{text}")?;
     assert_changes(&rt, rt.alloc(), text.as_str(), IN_VERSION_2)
+}
+
+#[test]
+fn reads_small_texts(rt: HostRuntime) -> Result<(), Fail> {
+    for row in SMALL_TEXTS.lines() {
+        let (wanted, text) = row.split_once(':').ok_or("no answer")?;
+        let text = with_lines(rt.alloc(), text)?;
+        let told = answer(rt.alloc(), text.as_str())?;
+        assert_eq!(rt; told.as_str(), wanted, "{text}");
+    }
+    let nothing = read_table(rt.alloc(), "")?;
+    assert_eq!(rt; described(rt.alloc(), &nothing)?.as_str(), "One\n");
+    Ok(())
+}
+
+/// `count` opening brackets and as many closing ones, as the value of `version`.
+fn nested(alloc: Global, count: usize) -> Result<String, AllocError> {
+    let mut text = String::from_str(alloc, "version = ")?;
+    for _ in 0..count {
+        text.push('[')?;
+    }
+    for _ in 0..count {
+        text.push(']')?;
+    }
+    Ok(text)
+}
+
+#[test]
+fn nests_to_a_limit(rt: HostRuntime) -> Result<(), Fail> {
+    for (count, wanted) in [
+        (79, "13 BadValue 0 0"),
+        (80, "13 BadValue 0 0"),
+        (81, "11 Toml"),
+    ] {
+        let text = nested(rt.alloc(), count)?;
+        let told = answer(rt.alloc(), text.as_str())?;
+        assert_eq!(rt; told.as_str(), wanted, "{count} arrays");
+    }
+    Ok(())
+}
+
+/// A slave of the type `do4`, which writes its own variable, for each number below `count`.
+fn many_slaves(alloc: Global, count: usize) -> Result<String, AllocError> {
+    let mut text = String::from_str(alloc, DO4)?;
+    for number in 0..count {
+        let slave = format!(in alloc; "[[slave]]\nname = \"s{number}\"\ntype = \"do4\"\n")?;
+        text.push_str(slave.as_str())?;
+        let variable = format!(in alloc;
+            "[[variable]]\nname = \"v{number}\"\ndir = \"out\"\nbits = 4\n"
+        )?;
+        text.push_str(variable.as_str())?;
+        let link = format!(in alloc;
+            "[[link]]\nvar = \"v{number}\"\nslave = \"s{number}\"\nindex = 0x7000\nsub = 1\n"
+        )?;
+        text.push_str(link.as_str())?;
+    }
+    Ok(text)
+}
+
+#[test]
+fn reads_many_slaves(rt: HostRuntime) -> Result<(), Fail> {
+    for count in [64, 65] {
+        let text = many_slaves(rt.alloc(), count)?;
+        let table = read_table(rt.alloc(), text.as_str())?;
+        assert_eq!(rt; table.slaves().len(), count);
+        assert_eq!(rt; table.links().len(), count);
+        for link in 0..count {
+            assert!(rt; link < table.links().len());
+            let wanted = format!(in rt.alloc(); "v{link} s{link}")?;
+            let (variable, slave) = (table.variable_of(link), table.slave_of(link));
+            let found = format!(in rt.alloc();
+                "{} {}",
+                variable.name.as_str(),
+                slave.name.as_str()
+            )?;
+            assert_eq!(rt; found.as_str(), wanted.as_str());
+        }
+    }
+    Ok(())
 }
 
 /// An array of texts with the numbers from `first` to `last` between `before` and `after`.

@@ -1,22 +1,20 @@
 ghost use Rattle.std.specs.Prelude.{◌≡◌, ◌||◌, [], IfOk};
 ghost use Rattle.toml.specs.View.{view, table_view, items_view};
-ghost use Rattle.ec_table.specs.InOrder.{Gives, rows_after};
+ghost use Rattle.ec_table.specs.InOrder.{Gives, one_more, rows_after};
 ghost use Rattle.ec_table.specs.Pdos.{has_twice, indices_of};
-ghost use Rattle.ec_table.specs.Reading.{is_type_name, device_in, process_in, process_twice, type_at, type_element};
+ghost use Rattle.ec_table.specs.Reading.{device_in, process_in, process_twice, type_at, type_element};
 
 use crate::fault::{Fault, Place, Section, TableError};
-use crate::fields::{Shape, keys_are, mailbox_in, member, name_in, number_in, truth_in};
-use crate::pdos::{has_twice, indices_of, pdos_in};
+use crate::fields::{MAX_U16, Shape, keys_are, mailbox_in, member, name_in, number_in, truth_in};
+use crate::named::{Named, NamedRows};
+use crate::pdos::{LAST_INPUT_INDEX, LAST_OUTPUT_INDEX, has_twice, indices_of, pdos_in};
 use crate::rows::{Name, ProcessData, TypeRow, Version};
-use ec_regs::{Device, Listed, Pdo};
+use ec_regs::{Device, FIRST_INPUT_INDEX, FIRST_OUTPUT_INDEX, Pdo};
 use std::alloc::{AllocError, Global};
 use toml::Value;
 
-/// Whether some type has the name.
-fn is_type_name(name: &str, found: &[TypeRow]) -> bool
-    ensures { result ≡ is_type_name name.now found.now }
-{
-    found.iter().any(|row| row.name.as_str() == name)
+impl Named for TypeRow {
+    ghost name = { λ t. t.name };
 }
 
 /// Vendor, product and revision.
@@ -39,10 +37,22 @@ fn device_in(place: Place, members: &toml::Table) -> Result<Device, Fault>
 fn process_in(alloc: Global, place: Place, members: &toml::Table) -> Result<ProcessData, TableError>
     ensures { Gives result (process_in place (table_view members.now)) }
 {
-    let out_start = number_in(place, member(members, "out_start"), 0, 65535)?;
-    let in_start = number_in(place, member(members, "in_start"), 0, 65535)?;
-    let outputs = pdos_in(alloc, place, member(members, "rxpdo"), 0x1600, 0x17FF)?;
-    let inputs = pdos_in(alloc, place, member(members, "txpdo"), 0x1A00, 0x1BFF)?;
+    let out_start = number_in(place, member(members, "out_start"), 0, MAX_U16)?;
+    let in_start = number_in(place, member(members, "in_start"), 0, MAX_U16)?;
+    let outputs = pdos_in(
+        alloc,
+        place,
+        member(members, "rxpdo"),
+        FIRST_OUTPUT_INDEX,
+        LAST_OUTPUT_INDEX,
+    )?;
+    let inputs = pdos_in(
+        alloc,
+        place,
+        member(members, "txpdo"),
+        FIRST_INPUT_INDEX,
+        LAST_INPUT_INDEX,
+    )?;
     Ok(ProcessData {
         out_start: out_start as u16,
         in_start: in_start as u16,
@@ -68,16 +78,16 @@ fn process_twice(alloc: Global, process: &ProcessData) -> Result<bool, AllocErro
     Ok(outputs || inputs)
 }
 
-/// The type that an element states, after those found.
+/// The types found, and the one that an element states behind them.
 #[tactic(auto, unfolding(crate::specs::Reading::type_at))]
-fn type_at(
+fn with_type<'a>(
     alloc: Global,
     version: Version,
     place: Place,
-    members: &toml::Table,
-    found: &[TypeRow],
-) -> Result<TypeRow, TableError>
-    ensures { Gives result (type_at version place (table_view members.now) found.now) }
+    members: &'a toml::Table,
+    found: NamedRows<'a, TypeRow>,
+) -> Result<NamedRows<'a, TypeRow>, TableError>
+    ensures { Gives result (one_more found.entry (type_at version place (table_view members.now) found.entry)) }
 {
     if !keys_are(Shape::Type, version, members) {
         return Err(TableError::Refused(Fault::BadKey(place)));
@@ -88,50 +98,50 @@ fn type_at(
     let process = process_in(alloc, place, members)?;
     let lrw = truth_in(place, member(members, "lrw"))?;
     let object_twice = process_twice(alloc, &process)?;
-    if is_type_name(name, found) || object_twice {
+    if found.has(name) || object_twice {
         return Err(TableError::Refused(Fault::TwiceNamed(place)));
     }
-    Ok(TypeRow {
+    let row = TypeRow {
         name: Name::new(alloc, name)?,
         device,
         mailbox,
         process,
         lrw,
-    })
+    };
+    Ok(found.with(name, row)?)
 }
 
-fn type_element(
+fn with_type_element<'a>(
     alloc: Global,
     version: Version,
     element: usize,
-    value: &Value,
-    found: &[TypeRow],
-) -> Result<TypeRow, TableError>
-    ensures { Gives result (type_element version element (view value.now) found.now) }
+    value: &'a Value,
+    found: NamedRows<'a, TypeRow>,
+) -> Result<NamedRows<'a, TypeRow>, TableError>
+    ensures { Gives result (one_more found.entry (type_element version element (view value.now) found.entry)) }
 {
     let place = Place {
         section: Section::Type,
         element,
     };
     match value.as_table() {
-        Some(members) => type_at(alloc, version, place, members, found),
+        Some(members) => with_type(alloc, version, place, members, found),
         None => Err(TableError::Refused(Fault::BadValue(place))),
     }
 }
 
 /// The types of the section, in order.
-#[tactic(auto, using(crate::proofs::InOrder::rows_all))]
-pub fn types_of(
+#[tactic(auto, using(crate::proofs::InOrder::rows_more_all))]
+pub fn types_of<'a>(
     alloc: Global,
     version: Version,
-    elements: &[Value],
-) -> Result<Listed<TypeRow>, TableError>
+    elements: &'a [Value],
+) -> Result<NamedRows<'a, TypeRow>, TableError>
     ensures { Gives result (rows_after (type_element version) [] 0 (items_view elements.now)) }
 {
-    let mut found = Listed::new(alloc);
+    let mut found = NamedRows::new(alloc);
     for (element, value) in elements.iter().enumerate() {
-        let row = type_element(alloc, version, element, value, found.as_slice())?;
-        found.push(row)?;
+        found = with_type_element(alloc, version, element, value, found)?;
     }
     Ok(found)
 }

@@ -1,32 +1,30 @@
 ghost use Rattle.std.specs.Prelude.{◌≡◌, []};
 ghost use Rattle.toml.specs.View.{view, table_view, items_view};
-ghost use Rattle.ec_table.specs.InOrder.{Gives, rows_after};
-ghost use Rattle.ec_table.specs.Reading.{is_variable_name, variable_at, variable_element};
+ghost use Rattle.ec_table.specs.InOrder.{Gives, one_more, rows_after};
+ghost use Rattle.ec_table.specs.Reading.{variable_at, variable_element};
 
 use crate::fault::{Fault, Place, Section, TableError};
 use crate::fields::{Shape, direction_in, keys_are, member, name_in, number_in};
+use crate::named::{Named, NamedRows};
 use crate::rows::{Name, VariableRow, Version};
-use ec_regs::Listed;
 use std::alloc::Global;
 use toml::Value;
 
-/// Whether some variable has the name.
-fn is_variable_name(name: &str, found: &[VariableRow]) -> bool
-    ensures { result ≡ is_variable_name name.now found.now }
-{
-    found.iter().any(|row| row.name.as_str() == name)
+impl Named for VariableRow {
+    ghost name = { λ w. w.name };
 }
 
-/// The variable that an element states, after those found.
+/// The variables found, and the one that an element states behind them.
 #[tactic(auto, unfolding(crate::specs::Reading::variable_at))]
-fn variable_at(
+fn with_variable<'a>(
     alloc: Global,
     version: Version,
     place: Place,
-    members: &toml::Table,
-    found: &[VariableRow],
-) -> Result<VariableRow, TableError>
-    ensures { Gives result (variable_at version place (table_view members.now) found.now) }
+    members: &'a toml::Table,
+    found: NamedRows<'a, VariableRow>,
+) -> Result<NamedRows<'a, VariableRow>, TableError>
+    ensures { Gives result
+        (one_more found.entry (variable_at version place (table_view members.now) found.entry)) }
 {
     if !keys_are(Shape::Variable, version, members) {
         return Err(TableError::Refused(Fault::BadKey(place)));
@@ -34,48 +32,49 @@ fn variable_at(
     let name = name_in(place, member(members, "name"))?;
     let direction = direction_in(place, member(members, "dir"))?;
     let bits = number_in(place, member(members, "bits"), 1, 64)?;
-    if is_variable_name(name, found) {
+    if found.has(name) {
         return Err(TableError::Refused(Fault::TwiceNamed(place)));
     }
-    Ok(VariableRow {
+    let row = VariableRow {
         name: Name::new(alloc, name)?,
         direction,
         bits: bits as u8,
-    })
+    };
+    Ok(found.with(name, row)?)
 }
 
-fn variable_element(
+fn with_variable_element<'a>(
     alloc: Global,
     version: Version,
     element: usize,
-    value: &Value,
-    found: &[VariableRow],
-) -> Result<VariableRow, TableError>
-    ensures { Gives result (variable_element version element (view value.now) found.now) }
+    value: &'a Value,
+    found: NamedRows<'a, VariableRow>,
+) -> Result<NamedRows<'a, VariableRow>, TableError>
+    ensures { Gives result
+        (one_more found.entry (variable_element version element (view value.now) found.entry)) }
 {
     let place = Place {
         section: Section::Variable,
         element,
     };
     match value.as_table() {
-        Some(members) => variable_at(alloc, version, place, members, found),
+        Some(members) => with_variable(alloc, version, place, members, found),
         None => Err(TableError::Refused(Fault::BadValue(place))),
     }
 }
 
 /// The variables of the section, in order.
-#[tactic(auto, using(crate::proofs::InOrder::rows_all))]
-pub fn variables_of(
+#[tactic(auto, using(crate::proofs::InOrder::rows_more_all))]
+pub fn variables_of<'a>(
     alloc: Global,
     version: Version,
-    elements: &[Value],
-) -> Result<Listed<VariableRow>, TableError>
+    elements: &'a [Value],
+) -> Result<NamedRows<'a, VariableRow>, TableError>
     ensures { Gives result (rows_after (variable_element version) [] 0 (items_view elements.now)) }
 {
-    let mut found = Listed::new(alloc);
+    let mut found = NamedRows::new(alloc);
     for (element, value) in elements.iter().enumerate() {
-        let row = variable_element(alloc, version, element, value, found.as_slice())?;
-        found.push(row)?;
+        found = with_variable_element(alloc, version, element, value, found)?;
     }
     Ok(found)
 }

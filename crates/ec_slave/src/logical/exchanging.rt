@@ -56,11 +56,17 @@ impl Writing for LogicalBits<'_> {
     ghost use Rattle.std.specs.Prelude.{◌*◌, length};
     ghost use Rattle.ec_fmmu.specs.Applied.{Place};
     ghost use Rattle.ec_slave.specs.Logical.{value_brought};
+    ghost use Rattle.ec_slave.specs.Untouched.{untouched-zero};
 
     ghost written = { λ w start len. value_brought w.lower.now w.fmmus.now
         (record { from = w.from; bits = 8 * length w.bytes.now }) w.bytes.now start len };
 
+    ghost zero_untouched = { λ w start len k first last inside untouched.
+        untouched-zero w.lower.now w.fmmus.now
+        (record { from = w.from; bits = 8 * length w.bytes.now }) w.bytes.now start len k inside untouched };
+
     fn fill(&self, start: usize, value: &mut [u8]) {
+        value.fill(0);
         let rights = Ungoverned {
             managers: self.lower,
         };

@@ -35,7 +35,7 @@ fn seen_behind(manager: &Manager, is_readable: bool, physical: u32) -> Option<bo
     ensures { result ≡ behind_it manager.now is_readable physical }
 {
     let address = physical as usize / 8;
-    if manager.in_front(address) && is_readable {
+    if manager.in_first_buffer(address) && is_readable {
         let byte = manager.shown_byte(address);
         Some(get(&[byte], physical as usize % 8))
     } else {

@@ -1,82 +1,81 @@
 // Changes to the text of the table of three slaves. A line `ANSWER: OLD => NEW` says what is told of the text with NEW in
 // the place of its first OLD. `|` is the end of a line.
 
-/// What is told where each line of the table of three slaves is left out, in order.
+/// What is told of the table of three slaves without a line: each line that is no comment, in order.
 ///
 /// Without a header the keys below it belong to what stands above: to the document, or to the element before.
-pub const LEFT_OUT: [&str; 71] = [
-    "12 BadKey 0 0",
-    "12 BadKey 1 0",
-    "12 BadKey 1 0",
-    "12 BadKey 1 0",
-    "12 BadKey 1 0",
-    "12 BadKey 1 0",
-    "12 BadKey 1 0",
-    "read",
-    "11 Toml",
-    "12 BadKey 1 1",
-    "12 BadKey 1 1",
-    "12 BadKey 1 1",
-    "12 BadKey 1 1",
-    "12 BadKey 1 1",
-    "12 BadKey 1 1",
-    "read",
-    "11 Toml",
-    "12 BadKey 1 2",
-    "12 BadKey 1 2",
-    "12 BadKey 1 2",
-    "12 BadKey 1 2",
-    "read",
-    "12 BadKey 1 2",
-    "12 BadKey 1 2",
-    "read",
-    "read",
-    "11 Toml",
-    "12 BadKey 2 0",
-    "12 BadKey 2 0",
-    "11 Toml",
-    "12 BadKey 2 1",
-    "12 BadKey 2 1",
-    "11 Toml",
-    "12 BadKey 2 2",
-    "12 BadKey 2 2",
-    "11 Toml",
-    "12 BadKey 3 0",
-    "12 BadKey 3 0",
-    "12 BadKey 3 0",
-    "11 Toml",
-    "12 BadKey 3 1",
-    "12 BadKey 3 1",
-    "12 BadKey 3 1",
-    "11 Toml",
-    "12 BadKey 3 2",
-    "12 BadKey 3 2",
-    "12 BadKey 3 2",
-    "11 Toml",
-    "12 BadKey 3 3",
-    "12 BadKey 3 3",
-    "12 BadKey 3 3",
-    "12 BadKey 3 3",
-    "12 BadKey 4 0",
-    "12 BadKey 4 0",
-    "12 BadKey 4 0",
-    "12 BadKey 4 0",
-    "11 Toml",
-    "12 BadKey 4 1",
-    "12 BadKey 4 1",
-    "12 BadKey 4 1",
-    "12 BadKey 4 1",
-    "11 Toml",
-    "12 BadKey 4 2",
-    "12 BadKey 4 2",
-    "12 BadKey 4 2",
-    "12 BadKey 4 2",
-    "11 Toml",
-    "12 BadKey 4 3",
-    "12 BadKey 4 3",
-    "12 BadKey 4 3",
-    "12 BadKey 4 3",
-];
+pub const LEFT_OUT: &str = r#"12 BadKey 0 0: [[type]]
+12 BadKey 1 0: name = "do4"
+12 BadKey 1 0: vendor = 0xABCD
+12 BadKey 1 0: product = 1
+12 BadKey 1 0: revision = 1
+12 BadKey 1 0: out_start = 0x1100
+12 BadKey 1 0: in_start = 0
+read: rxpdo = [ { index = 0x1600, entries = [[0x7000, 1, 4]] } ]
+11 Toml: [[type]]
+12 BadKey 1 1: name = "di4"
+12 BadKey 1 1: vendor = 0xABCD
+12 BadKey 1 1: product = 2
+12 BadKey 1 1: revision = 1
+12 BadKey 1 1: out_start = 0
+12 BadKey 1 1: in_start = 0x1100
+read: txpdo = [ { index = 0x1A00, entries = [[0x6000, 1, 4]] } ]
+11 Toml: [[type]]
+12 BadKey 1 2: name = "mix"
+12 BadKey 1 2: vendor = 0xABCD
+12 BadKey 1 2: product = 3
+12 BadKey 1 2: revision = 1
+read: mailbox = [0x1000, 128, 0x1080, 128]
+12 BadKey 1 2: out_start = 0x1100
+12 BadKey 1 2: in_start = 0x1400
+read: rxpdo = [ { index = 0x1600, entries = [[0x7010, 1, 12]] } ]
+read: txpdo = [ { index = 0x1A00, entries = [[0x6010, 1, 16]] } ]
+11 Toml: [[slave]]
+12 BadKey 2 0: name = "s0"
+12 BadKey 2 0: type = "do4"
+11 Toml: [[slave]]
+12 BadKey 2 1: name = "s1"
+12 BadKey 2 1: type = "di4"
+11 Toml: [[slave]]
+12 BadKey 2 2: name = "s2"
+12 BadKey 2 2: type = "mix"
+11 Toml: [[variable]]
+12 BadKey 3 0: name = "a"
+12 BadKey 3 0: dir = "out"
+12 BadKey 3 0: bits = 4
+11 Toml: [[variable]]
+12 BadKey 3 1: name = "b"
+12 BadKey 3 1: dir = "out"
+12 BadKey 3 1: bits = 12
+11 Toml: [[variable]]
+12 BadKey 3 2: name = "c"
+12 BadKey 3 2: dir = "in"
+12 BadKey 3 2: bits = 4
+11 Toml: [[variable]]
+12 BadKey 3 3: name = "d"
+12 BadKey 3 3: dir = "in"
+12 BadKey 3 3: bits = 16
+12 BadKey 3 3: [[link]]
+12 BadKey 4 0: var = "a"
+12 BadKey 4 0: slave = "s0"
+12 BadKey 4 0: index = 0x7000
+12 BadKey 4 0: sub = 1
+11 Toml: [[link]]
+12 BadKey 4 1: var = "b"
+12 BadKey 4 1: slave = "s2"
+12 BadKey 4 1: index = 0x7010
+12 BadKey 4 1: sub = 1
+11 Toml: [[link]]
+12 BadKey 4 2: var = "c"
+12 BadKey 4 2: slave = "s1"
+12 BadKey 4 2: index = 0x6000
+12 BadKey 4 2: sub = 1
+11 Toml: [[link]]
+12 BadKey 4 3: var = "d"
+12 BadKey 4 3: slave = "s2"
+12 BadKey 4 3: index = 0x6010
+12 BadKey 4 3: sub = 1
+"#;
 
 /// Changes to the document itself.
 pub const IN_THE_DOCUMENT: &str =
@@ -306,4 +305,34 @@ read: type = "mix" => type = "mix"|unit = 63
 13 BadValue 2 2: type = "mix" => type = "mix"|unit = [1]
 12 BadKey 3 0: name = "a" => name = "a"|unit = 1
 12 BadKey 1 1: product = 2 => product = 2|unit = 1
+"#;
+
+/// Texts that state little or nothing, after what is told of each.
+pub const SMALL_TEXTS: &str = r#"read:
+read: # nothing
+read: type = []|slave = []|variable = []|link = []
+read: version = 1
+read: version = 2|link = []
+13 BadValue 0 0: type = 1
+13 BadValue 0 0: type = [1]
+13 BadValue 0 0: type = [[]]
+13 BadValue 0 0: slave = "s0"
+13 BadValue 0 0: variable = { name = "a", dir = "out", bits = 1 }
+13 BadValue 0 0: link = [{}, 2]
+12 BadKey 4 0: link = [{}, {}]
+12 BadKey 1 0: type = [{}]
+12 BadKey 0 0: cycle = 1|type = 1
+12 BadKey 0 0: version = 1|cycle = 1
+13 BadValue 0 0: version = 3|cycle = 1
+13 BadValue 0 0: version = 0
+13 BadValue 0 0: version = "1"
+13 BadValue 0 0: version = 9223372036854775807
+11 Toml: version = 9223372036854775808
+11 Toml: version = 18446744073709551617
+11 Toml: version = 1|version = 1
+11 Toml: version
+13 BadValue 0 0: version = 07:32
+12 BadKey 1 0: type = [{|}]
+11 Toml: version = 1e400
+13 BadValue 0 0: version = 1e300
 "#;

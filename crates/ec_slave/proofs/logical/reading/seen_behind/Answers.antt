@@ -12,4 +12,4 @@ returns-then-is_readable c =
     let q : ℕ = c.args.physical in
     let b : c.get.result ≡ bit (shown m) (q - 8 * m.settings.start)
     = c.get.ensures ∙ (ap (λ x. bit (x ∷ []) (q % 8)) c.shown_byte-byte.ensures ∙ bit-byte (shown m) (m.settings.start) q c.requires) in
-    ap (λ x. Some x) b ∙ sym (if_true _ _ _ (and_from _ _ (sym c.in_front.ensures ∙ c.if-in_front.true) c.if-is_readable.true))
+    ap (λ x. Some x) b ∙ sym (if_true _ _ _ (and_from _ _ (sym c.in_first_buffer.ensures ∙ c.if-in_first_buffer.true) c.if-is_readable.true))

@@ -1,0 +1,6 @@
+pub mod ReadBack
+pub mod Spelling
+pub mod Finding
+pub mod Distinct
+pub mod Assigning
+pub mod Written

@@ -1,0 +1,6 @@
+use Rattle.ec_regs.specs.Types.{first_output_index}
+use Rattle.ec_regs.proofs.Limits.{few_bits}
+use Rattle.ec_coe.proofs.dictionary.Dictionary.output_bits.Goals as goal
+
+pub bits-requires : goal.bits-requires
+bits-requires c = few_bits first_output_index _ c.outputs.ensures.limits

@@ -1,0 +1,55 @@
+-- What a slave answers to an SDO request (ETG.1000.6, "SDO services", expedited transfer).
+use Rattle.std.specs.Prelude.{ℕ, ◌*◌, ◌%◌, ◌^◌, Bool, Result, Ok, Err}
+use Rattle.ec_coe.specs.declared.value.Size.{Size}
+use Rattle.ec_coe.specs.declared.value.Value.{Value}
+use Rattle.ec_coe.specs.declared.message.Service.{Service}
+use Rattle.ec_coe.specs.declared.message.Service.TheVariants.{Request, Response}
+use Rattle.ec_coe.specs.declared.message.Command.{Command}
+use Rattle.ec_coe.specs.declared.message.Command.TheVariants.{DownloadRequest, DownloadResponse, UploadRequest, UploadResponse, Abort, Other as OtherCommand}
+use Rattle.ec_coe.specs.declared.message.Message.{Message}
+use Rattle.ec_coe.specs.declared.abort_code.AbortCode.{AbortCode}
+use Rattle.ec_coe.specs.declared.abort_code.AbortCode.TheVariants.{InvalidCommand}
+use Rattle.ec_coe.specs.Messages.{size_number}
+use Rattle.ec_coe.specs.Objects.{Dictionary}
+use Rattle.ec_coe.specs.Transfers.{abort_number, uploaded, downloaded}
+
+-- a reply, and the dictionary after it
+pub record Answer : Type 0 where
+  pub reply : Message
+  pub dictionary : Dictionary
+
+-- a reply has the index and the subindex of its request
+abbrev pub reply_to : Message → ℕ → Service → Command → ℕ → Message
+reply_to m counter service command value =
+    record { counter = counter; service = service; command = command; index = m.index; subindex = m.subindex; value = value }
+
+-- an abort has the service of a request
+abbrev pub abort_to : Message → ℕ → AbortCode → Message
+abort_to m counter code = reply_to m counter Request Abort (abort_number code)
+
+abbrev pub upload_answer : Message → ℕ → Result Value AbortCode → Message
+upload_answer m counter (Ok value) = reply_to m counter Response (UploadResponse value.size) value.number
+upload_answer m counter (Err code) = abort_to m counter code
+
+abbrev pub download_answer : Dictionary → Message → ℕ → Result Dictionary AbortCode → Answer
+download_answer d m counter (Ok after) = record { reply = reply_to m counter Response DownloadResponse 0; dictionary = after }
+download_answer d m counter (Err code) = record { reply = abort_to m counter code; dictionary = d }
+
+-- as many of the four bytes of data as the command says
+abbrev pub value_of : Size → ℕ → Value
+value_of size data_bytes = record { size = size; number = data_bytes % 2 ^ (8 * size_number size) }
+
+abbrev pub invalid_answer : Dictionary → Message → ℕ → Answer
+invalid_answer d m counter = record { reply = abort_to m counter InvalidCommand; dictionary = d }
+
+abbrev pub answer_by : Bool → Dictionary → Message → ℕ → Command → Answer
+answer_by in_preop d m counter (DownloadRequest size) = download_answer d m counter (downloaded in_preop d m.index m.subindex (value_of size m.value))
+answer_by in_preop d m counter UploadRequest = record { reply = upload_answer m counter (uploaded d m.index m.subindex); dictionary = d }
+answer_by in_preop d m counter DownloadResponse = invalid_answer d m counter
+answer_by in_preop d m counter (UploadResponse size) = invalid_answer d m counter
+answer_by in_preop d m counter Abort = invalid_answer d m counter
+answer_by in_preop d m counter (OtherCommand number) = invalid_answer d m counter
+
+-- the answer to a request, whose counter is not looked at; the reply has its own
+unfoldable pub answered : Bool → Dictionary → Message → ℕ → Answer
+answered in_preop d m counter = answer_by in_preop d m counter m.command

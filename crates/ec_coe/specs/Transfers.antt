@@ -1,0 +1,102 @@
+-- Uploads from and downloads to the object dictionary (ETG.1000.6, "SDO services", expedited transfer; "Abort SDO transfer",
+-- the table of abort codes; which of several aborts comes is the profile of the simulated slaves).
+use Rattle.std.specs.Prelude.{ℕ, ◌-◌, ◌==◌, ◌&&◌, ◌||◌, not, List, [], ◌∷◌, length, take, Bool, true, false, if◌then◌else◌, nat_le, slice_get, slice_set, Option, Some, None, is_some, Result, Ok, Err}
+use Rattle.std.specs.List.{list_any}
+use Rattle.ec_regs.specs.declared.slave_type.Pdo.{Pdo}
+use Rattle.ec_regs.specs.Objects.{pdo_at, bits_assigned}
+use Rattle.ec_coe.specs.Messages.{size_number}
+use Rattle.ec_coe.specs.declared.value.Value.{Value}
+use Rattle.ec_coe.specs.declared.abort_code.AbortCode.{AbortCode}
+use Rattle.ec_coe.specs.declared.abort_code.AbortCode.TheVariants.{InvalidCommand, ReadOnly, NoObject, WrongLength, NoSubindex, InvalidValue, WrongState}
+use Rattle.ec_coe.specs.Objects.{Assignment, Dictionary, output_assignment, object_values, input_assignment}
+
+-- the numbers of the abort codes
+abbrev pub abort_number : AbortCode → ℕ
+abort_number InvalidCommand = 0x05040001
+abort_number ReadOnly = 0x06010002
+abort_number NoObject = 0x06020000
+abort_number WrongLength = 0x06070010
+abort_number NoSubindex = 0x06090011
+abort_number InvalidValue = 0x06090030
+abort_number WrongState = 0x08000022
+
+-- ---- upload
+
+abbrev pub value_or_abort : Option Value → Result Value AbortCode
+value_or_abort None = Err NoSubindex
+value_or_abort (Some value) = Ok value
+
+abbrev pub value_at : Option (List Value) → ℕ → Result Value AbortCode
+value_at None subindex = Err NoObject
+value_at (Some values) subindex = value_or_abort (slice_get values subindex)
+
+-- the value at an index and a subindex: no object, no subindex, or it
+unfoldable pub uploaded : Dictionary → ℕ → ℕ → Result Value AbortCode
+uploaded d index subindex = value_at (object_values d index) subindex
+
+-- ---- download
+
+-- whether no number stands twice in a list
+abbrev pub contains : List ℕ → ℕ → Bool
+contains xs x = list_any (λ y. y == x) xs
+
+abbrev pub distinct : List ℕ → Bool
+distinct [] = true
+distinct (x ∷ xs) = not (contains xs x) && distinct xs
+
+-- how many bits a direction may have
+abbrev pub most_bits : ℕ
+most_bits = 2048
+
+-- a count: as many slots as the type has PDOs of the direction, distinct, with at most 2048 bits
+abbrev pub takes_count : List Pdo → Assignment → ℕ → Bool
+takes_count ps a n = nat_le n (length ps) && (distinct (take n a.slots) && nat_le (bits_assigned ps (take n a.slots)) most_bits)
+
+-- an index: that of a PDO of the direction
+abbrev pub takes_index : List Pdo → ℕ → Bool
+takes_index ps index = is_some (pdo_at ps index)
+
+abbrev pub takes_value : List Pdo → Assignment → ℕ → ℕ → Bool
+takes_value ps a subindex number = if subindex == 0 then takes_count ps a number else takes_index ps number
+
+abbrev pub with_value : Assignment → ℕ → ℕ → Assignment
+with_value a subindex number =
+    if subindex == 0 then record { slots = a.slots; count = number } else record { slots = slice_set a.slots (subindex - 1) number; count = a.count }
+
+-- only in PREOP, and an index only while the count is 0
+abbrev pub is_open : Bool → Assignment → ℕ → Bool
+is_open in_preop a subindex = in_preop && ((subindex == 0) || (a.count == 0))
+
+-- a download to an assignment object
+unfoldable pub assignment_written : Bool → List Pdo → Assignment → ℕ → ℕ → Result Assignment AbortCode
+assignment_written in_preop ps a subindex number =
+    if not (is_open in_preop a subindex) then Err WrongState
+    else (if not (takes_value ps a subindex number) then Err InvalidValue
+    else Ok (with_value a subindex number))
+
+abbrev pub with_outs : Dictionary → Result Assignment AbortCode → Result Dictionary AbortCode
+with_outs d (Ok a) = Ok (record d { outs = a })
+with_outs d (Err code) = Err code
+
+abbrev pub with_ins : Dictionary → Result Assignment AbortCode → Result Dictionary AbortCode
+with_ins d (Ok a) = Ok (record d { ins = a })
+with_ins d (Err code) = Err code
+
+-- the objects that take downloads
+abbrev pub is_assignment : ℕ → Bool
+is_assignment index = (index == output_assignment) || (index == input_assignment)
+
+-- what is there is written over, where it takes downloads and has the length
+abbrev pub written_over : Bool → Dictionary → ℕ → ℕ → Value → Result Value AbortCode → Result Dictionary AbortCode
+written_over in_preop d index subindex value (Err code) = Err code
+written_over in_preop d index subindex value (Ok old) =
+    if not (is_assignment index) then Err ReadOnly
+    else (if not (size_number value.size == size_number old.size) then Err WrongLength
+    else (if index == output_assignment
+    then with_outs d (assignment_written in_preop d.kind.outputs d.outs subindex value.number)
+    else with_ins d (assignment_written in_preop d.kind.inputs d.ins subindex value.number)))
+
+-- The dictionary after a download, or the first abort that fits: no object, no subindex, read-only, another length, another
+-- state than PREOP or an index while the count isn't 0, a value that isn't taken.
+unfoldable pub downloaded : Bool → Dictionary → ℕ → ℕ → Value → Result Dictionary AbortCode
+downloaded in_preop d index subindex value = written_over in_preop d index subindex value (uploaded d index subindex)

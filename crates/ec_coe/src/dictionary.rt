@@ -1,0 +1,262 @@
+//! A slave's object dictionary.
+
+ghost use Rattle.std.specs.Prelude.{◌≡◌, ◌++◌, ◌≤◌, ◌<◌, ◌^◌, ◌*◌, ◌+◌, length, slice_get, IfOk, IfSome, MatchResult, Ok, Err};
+ghost use Rattle.std.specs.Option.{option_copied};
+ghost use Rattle.ec_regs.specs.Objects.{pdo_at, bits_assigned};
+ghost use Rattle.ec_coe.specs.Objects.{new_dictionary, assigned, entry_number as number_of_entry, identity_values, pdo_values};
+ghost use Rattle.ec_coe.specs.Messages.{size_number};
+ghost use Rattle.ec_coe.specs.Transfers.{value_or_abort, uploaded, downloaded};
+ghost use Rattle.ec_coe.specs.Answers.{answered};
+
+use crate::abort_code::AbortCode;
+use crate::assignment::{Assignment, find_pdo};
+use crate::message::{Command, Message, Service};
+use crate::value::Value;
+use ec_regs::{Entry, Identity, Pdo, SlaveType};
+use std::alloc::{AllocError, Global};
+use std::marker::Model;
+
+/// The index of the identity object.
+pub const IDENTITY_OBJECT: u16 = 0x1018;
+
+/// The index of the object that assigns output PDOs.
+pub const OUTPUT_ASSIGNMENT: u16 = 0x1C12;
+
+/// The index of the object that assigns input PDOs.
+pub const INPUT_ASSIGNMENT: u16 = 0x1C13;
+
+/// The objects of a slave (ETG.1000.6, "Object dictionary"): its identity, the PDOs of its type, and which of them are
+/// assigned. It owns all of these.
+#[derive(Debug, Drop)]
+pub struct Dictionary {
+    kind: SlaveType,
+    identity: Identity,
+    outs: Assignment,
+    ins: Assignment,
+}
+
+impl Model for Dictionary {
+    ghost use Rattle.ec_coe.specs.Objects.{Dictionary as Objects, HasSlots};
+
+    ghost Value = { Objects };
+
+    ghost view = { λ d. record { kind = d.kind; identity = d.identity; outs = d.outs; ins = d.ins } };
+
+    ghost invariant = { λ d. HasSlots d.kind d.outs d.ins };
+}
+
+/// The number of an entry in a mapping object.
+fn entry_number(entry: &Entry) -> u32
+    ensures { result ≡ number_of_entry entry.now }
+{
+    0x1_0000 * entry.index as u32 + 0x100 * entry.subindex as u32 + entry.bits as u32
+}
+
+/// The value at a subindex of the identity object.
+fn identity_value(identity: &Identity, subindex: u8) -> Option<Value>
+    ensures { result ≡ slice_get (identity_values identity.now) subindex }
+{
+    match subindex {
+        0 => Some(Value::byte(4)),
+        1 => Some(Value::long(identity.vendor)),
+        2 => Some(Value::long(identity.product)),
+        3 => Some(Value::long(identity.revision)),
+        4 => Some(Value::long(identity.serial)),
+        _ => None,
+    }
+}
+
+/// The value at a subindex of a PDO's mapping object.
+fn pdo_value(pdo: &Pdo, subindex: u8) -> Option<Value>
+    requires { length pdo.now.entries < 256 }
+    ensures { result ≡ slice_get (pdo_values pdo.now) subindex }
+{
+    if subindex == 0 {
+        return Some(Value::byte(pdo.entries.len() as u8));
+    }
+    let entry = pdo.entries.as_slice().get(subindex as usize - 1)?;
+    Some(Value::long(entry_number(entry)))
+}
+
+/// What the value of an object is, where the object is there.
+fn found(value: Option<Value>) -> Result<Value, AbortCode>
+    ensures { result ≡ value_or_abort value }
+{
+    value.ok_or(AbortCode::NoSubindex)
+}
+
+impl Dictionary {
+    /// The objects of a slave of a type that was just switched on: every PDO is assigned, in order. No later call takes
+    /// memory.
+    ///
+    /// # Errors
+    ///
+    /// `AllocError` where there is no memory.
+    pub fn new(alloc: Global, kind: SlaveType, identity: Identity) -> Result<Dictionary, AllocError>
+        ensures { IfOk result (λ d. d ≡ new_dictionary kind identity) }
+    {
+        let outs = Assignment::new(alloc, kind.outputs())?;
+        let ins = Assignment::new(alloc, kind.inputs())?;
+        Ok(Dictionary {
+            kind,
+            identity,
+            outs,
+            ins,
+        })
+    }
+
+    /// The slave's type.
+    pub fn kind(&self) -> &SlaveType
+        ensures { result.now ≡ self.now.kind }
+    {
+        &self.kind
+    }
+
+    /// The slave's identity.
+    pub fn identity(&self) -> Identity
+        ensures { result ≡ self.now.identity }
+    {
+        self.identity
+    }
+
+    /// The indices of the output PDOs that are assigned, in order.
+    pub fn assigned_outputs(&self) -> &[u16]
+        ensures { result.now ≡ assigned self.now.outs }
+    {
+        self.outs.assigned()
+    }
+
+    /// The indices of the input PDOs that are assigned, in order.
+    pub fn assigned_inputs(&self) -> &[u16]
+        ensures { result.now ≡ assigned self.now.ins }
+    {
+        self.ins.assigned()
+    }
+
+    /// How many bits the assigned output PDOs have together.
+    pub fn output_bits(&self) -> usize
+        ensures { result ≡ bits_assigned self.now.kind.outputs (assigned self.now.outs) }
+    {
+        self.outs.bits(self.kind.outputs())
+    }
+
+    /// How many bits the assigned input PDOs have together.
+    pub fn input_bits(&self) -> usize
+        ensures { result ≡ bits_assigned self.now.kind.inputs (assigned self.now.ins) }
+    {
+        self.ins.bits(self.kind.inputs())
+    }
+
+    /// The mapping object of a PDO of the type.
+    fn pdo(&self, index: u16) -> Option<&Pdo>
+        ensures value { option_copied result ≡ pdo_at (self.now.kind.outputs ++ self.now.kind.inputs) index }
+        ensures few { IfSome result (λ p. length p.now.entries ≤ 64) }
+    {
+        match find_pdo(self.kind.outputs(), index) {
+            Some(pdo) => Some(pdo),
+            None => find_pdo(self.kind.inputs(), index),
+        }
+    }
+
+    /// The value at an index and a subindex.
+    ///
+    /// # Errors
+    ///
+    /// `NoObject` where the index has no object, `NoSubindex` where the object has no such subindex.
+    #[tactic(auto, unfolding(crate::specs::Transfers::uploaded, crate::specs::Objects::object_values))]
+    pub fn upload(&self, index: u16, subindex: u8) -> Result<Value, AbortCode>
+        ensures { result ≡ uploaded self.now index subindex }
+    {
+        match index {
+            IDENTITY_OBJECT => found(identity_value(&self.identity, subindex)),
+            OUTPUT_ASSIGNMENT if self.kind.outputs().is_empty() => Err(AbortCode::NoObject),
+            OUTPUT_ASSIGNMENT => found(self.outs.value(subindex)),
+            INPUT_ASSIGNMENT if self.kind.inputs().is_empty() => Err(AbortCode::NoObject),
+            INPUT_ASSIGNMENT => found(self.ins.value(subindex)),
+            _ => match self.pdo(index) {
+                Some(pdo) => found(pdo_value(pdo, subindex)),
+                None => Err(AbortCode::NoObject),
+            },
+        }
+    }
+
+    /// A download to an index and a subindex. The objects that assign PDOs alone take any, and only in PREOP: a count of
+    /// slots, and while that is 0 the slots.
+    ///
+    /// # Errors
+    ///
+    /// The first abort that fits: `NoObject`, `NoSubindex`, `ReadOnly`, `WrongLength`, `WrongState`, `InvalidValue`. Nothing
+    /// changes then.
+    #[tactic(auto, unfolding(crate::specs::Transfers::downloaded))]
+    pub fn download(
+        &mut self,
+        in_preop: bool,
+        index: u16,
+        subindex: u8,
+        value: Value,
+    ) -> Result<(), AbortCode>
+        requires { value.number < 2 ^ (8 * size_number value.size) }
+        ensures { MatchResult result
+            (λ _. downloaded in_preop self.old index subindex value ≡ Ok self.new)
+            (λ code. (downloaded in_preop self.old index subindex value ≡ Err code) × (self.new ≡ self.old)) }
+    {
+        let old = self.upload(index, subindex)?;
+        let is_as_long = value.size.number() == old.size.number();
+        match index {
+            OUTPUT_ASSIGNMENT | INPUT_ASSIGNMENT if !is_as_long => Err(AbortCode::WrongLength),
+            OUTPUT_ASSIGNMENT => {
+                let outputs = self.kind.outputs();
+                self.outs.write(outputs, in_preop, subindex, value.number)
+            }
+            INPUT_ASSIGNMENT => {
+                let inputs = self.kind.inputs();
+                self.ins.write(inputs, in_preop, subindex, value.number)
+            }
+            _ => Err(AbortCode::ReadOnly),
+        }
+    }
+
+    /// The reply to a request, with this counter; the counter of the request is not looked at. The reply is a response with
+    /// the index and the subindex of the request, or an abort.
+    #[tactic(auto, unfolding(crate::specs::Answers::answered))]
+    pub fn answer(&mut self, in_preop: bool, request: &Message, counter: u8) -> Message
+        ensures reply { result ≡ (answered in_preop self.old request.now counter).reply }
+        ensures after { self.new ≡ (answered in_preop self.old request.now counter).dictionary }
+    {
+        let outcome = match request.command {
+            Command::DownloadRequest(size) => self
+                .download(
+                    in_preop,
+                    request.index,
+                    request.subindex,
+                    Value::of(size, request.value),
+                )
+                .map(|_| (Command::DownloadResponse, 0)),
+            Command::UploadRequest => self.upload(request.index, request.subindex).map(|value| (
+                Command::UploadResponse(value.size),
+                value.number,
+            )),
+            _ => Err(AbortCode::InvalidCommand),
+        };
+        let (service, command, value) = match outcome {
+            Ok((command, value)) => (Service::Response, command, value),
+            Err(code) => (Service::Request, Command::Abort, code.number()),
+        };
+        Message {
+            counter,
+            service,
+            command,
+            index: request.index,
+            subindex: request.subindex,
+            value,
+        }
+    }
+
+    /// The slave is switched off and on: every PDO is assigned again, in order.
+    pub fn reset(&mut self)
+        ensures { self.new ≡ new_dictionary self.old.kind self.old.identity }
+    {
+        self.outs.reset(self.kind.outputs());
+        self.ins.reset(self.kind.inputs());
+    }
+}

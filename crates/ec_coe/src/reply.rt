@@ -1,0 +1,52 @@
+//! What a master finds where it waits for a reply.
+
+ghost use Rattle.std.specs.Prelude.{◌≡◌};
+ghost use Rattle.ec_coe.specs.Messages.{message_read};
+ghost use Rattle.ec_coe.specs.Replies.{reply_in, reply_of};
+
+use crate::message::{Command, Message, Service, read_message};
+use crate::value::Value;
+
+/// What a mailbox says as the reply to a request (ETG.1000.6, "SDO services").
+#[derive(Clone, Copy, Debug, PartialEq, Eq)]
+pub enum Reply {
+    /// The download was done; the data of such a reply are not looked at.
+    Downloaded,
+    /// The value that was asked for, of the size that the reply says.
+    Uploaded(Value),
+    /// The transfer was aborted, with this code.
+    Aborted(u32),
+    /// Anything else: no message, another index or subindex, another service or command.
+    Unexpected,
+}
+
+impl Message {
+    /// What the message says as the reply to a request for an index and a subindex: an abort has the service of a request or
+    /// of a response, all else that of a response. The counter is not looked at.
+    #[tactic(auto, unfolding(crate::specs::Replies::reply_in))]
+    pub fn reply_to(&self, index: u16, subindex: u8) -> Reply
+        ensures { result ≡ reply_in index subindex self.now }
+    {
+        if self.index != index || self.subindex != subindex {
+            return Reply::Unexpected;
+        }
+        match (self.service, self.command) {
+            (Service::Request | Service::Response, Command::Abort) => Reply::Aborted(self.value),
+            (Service::Response, Command::DownloadResponse) => Reply::Downloaded,
+            (Service::Response, Command::UploadResponse(size)) => {
+                Reply::Uploaded(Value::of(size, self.value))
+            }
+            _ => Reply::Unexpected,
+        }
+    }
+}
+
+/// What the bytes of a mailbox say as the reply to a request for an index and a subindex.
+pub fn read_reply(mailbox: &[u8], index: u16, subindex: u8) -> Reply
+    ensures { result ≡ reply_of index subindex (message_read mailbox.now) }
+{
+    match read_message(mailbox) {
+        Ok(message) => message.reply_to(index, subindex),
+        Err(_) => Reply::Unexpected,
+    }
+}

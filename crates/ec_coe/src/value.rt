@@ -1,0 +1,87 @@
+//! The values that expedited SDOs carry.
+
+ghost use Rattle.std.specs.Prelude.{◌≡◌};
+ghost use Rattle.ec_coe.specs.Messages.{size_number};
+ghost use Rattle.ec_coe.specs.Answers.{value_of};
+ghost use Rattle.ec_coe.specs.Objects.{byte_value, word_value, long_value};
+
+/// How many bytes a value has, as the command of an expedited SDO says it.
+#[derive(Clone, Copy, Debug, PartialEq, Eq)]
+pub enum Size {
+    /// 1 byte.
+    One,
+    /// 2 bytes.
+    Two,
+    /// 3 bytes.
+    Three,
+    /// 4 bytes.
+    Four,
+}
+
+impl Size {
+    /// The number of bytes.
+    pub fn number(self) -> u8
+        ensures { result ≡ size_number self }
+    {
+        match self {
+            Size::One => 1,
+            Size::Two => 2,
+            Size::Three => 3,
+            Size::Four => 4,
+        }
+    }
+}
+
+/// A value of 1 to 4 bytes, little-endian on the wire.
+#[derive(Clone, Copy, Debug, PartialEq, Eq)]
+pub struct Value {
+    /// How many bytes it has.
+    pub size: Size,
+    /// The bytes as a number.
+    pub number: u32,
+}
+
+impl Value {
+    /// A value of one byte.
+    pub fn byte(number: u8) -> Self
+        ensures { result ≡ byte_value number }
+    {
+        Value {
+            size: Size::One,
+            number: number as u32,
+        }
+    }
+
+    /// A value of two bytes.
+    pub fn word(number: u16) -> Self
+        ensures { result ≡ word_value number }
+    {
+        Value {
+            size: Size::Two,
+            number: number as u32,
+        }
+    }
+
+    /// A value of four bytes.
+    pub fn long(number: u32) -> Self
+        ensures { result ≡ long_value number }
+    {
+        Value {
+            size: Size::Four,
+            number,
+        }
+    }
+
+    /// As many of the four bytes of data as the size says, which come as a number.
+    pub fn of(size: Size, bytes: u32) -> Self
+        ensures { result ≡ value_of size bytes }
+    {
+        let number = match size {
+            Size::One => bytes % 0x100,
+            Size::Two => bytes % 0x1_0000,
+            Size::Three => bytes % 0x100_0000,
+            Size::Four => bytes,
+        };
+        Value { size, number }
+    }
+}

@@ -1,0 +1,91 @@
+ghost use Rattle.std.specs.Prelude.{◌≡◌, [], ◌∷◌, ◌++◌, false, IfOk};
+ghost use Rattle.ec_table.specs.Names.{is_named, place_named};
+
+use ec_regs::Listed;
+use std::alloc::{AllocError, Global};
+use std::collections::HashMap;
+use std::marker::Model;
+
+/// A row with a name. Only contracts ask for it: the reader has the name as text of the document.
+pub trait Named: Drop {
+    ghost use Rattle.std.specs.Prelude.{List, ℕ};
+
+    ghost name: { Self → List ℕ };
+}
+
+/// The rows of a section in order, and the place of each name, so that none is looked for row by row.
+#[derive(Drop)]
+pub struct NamedRows<'a, X: Named> {
+    rows: Listed<X>,
+    places: HashMap<&'a str, usize>,
+}
+
+impl<'a, X: Named> Model for NamedRows<'a, X> {
+    ghost use Rattle.std.specs.Prelude.{◌≡◌, List, ℕ};
+    ghost use Rattle.std.specs.Str.{bytes_eq};
+    ghost use Rattle.std.specs.HashMap.{get_by};
+    ghost use Rattle.ec_table.specs.Names.{place_named};
+
+    ghost Value = { List X };
+
+    ghost view = { λ a. a.rows };
+
+    ghost invariant = { λ a. (q : List ℕ) → get_by (λ k. bytes_eq q k.now) a.places ≡ place_named X.name q a.rows };
+}
+
+impl<'a, X: Named> NamedRows<'a, X> {
+    /// No rows.
+    pub fn new(alloc: Global) -> Self
+        ensures { result ≡ [] }
+    {
+        NamedRows {
+            rows: Listed::new(alloc),
+            places: HashMap::new(alloc),
+        }
+    }
+
+    /// The rows in order.
+    pub fn as_slice(&self) -> &[X]
+        ensures { result.now ≡ self.now }
+    {
+        self.rows.as_slice()
+    }
+
+    /// The place of the row with a name.
+    pub fn place_of(&self, name: &str) -> Option<usize>
+        ensures { result ≡ place_named X.name name.now self.now }
+    {
+        self.places.get(name).copied()
+    }
+
+    /// Whether some row has the name.
+    #[tactic(auto, using(crate::proofs::Naming::named_at))]
+    pub fn has(&self, name: &str) -> bool
+        ensures { result ≡ is_named X.name name.now self.now }
+    {
+        self.place_of(name).is_some()
+    }
+
+    /// The rows with one more behind them, whose name no other has.
+    pub fn with(self, name: &'a str, row: X) -> Result<Self, AllocError>
+        requires named { X.name row ≡ name.now }
+        requires fresh { is_named X.name name.now self ≡ false }
+        ensures { IfOk result (λ a. a ≡ self.entry ++ row ∷ []) }
+    {
+        let NamedRows {
+            mut rows,
+            mut places,
+        } = self;
+        places.insert(name, rows.len())?;
+        rows.push(row)?;
+        Ok(NamedRows { rows, places })
+    }
+
+    /// The rows alone.
+    pub fn into_rows(self) -> Listed<X>
+        ensures { result ≡ self.entry }
+    {
+        let NamedRows { rows, places: _ } = self;
+        rows
+    }
+}
