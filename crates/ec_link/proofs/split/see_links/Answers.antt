@@ -1,0 +1,20 @@
+use Rattle.std.proofs.Common.{◌≡◌, ◌∙◌, ◌+◌, ◌<◌, ℕ, List, None, false, sym, ap, subst, refl, get_or, length, slice_set, arith}
+use Rattle.std.proofs.lemmas.List.{length-set, get_or_default}
+use Rattle.ec_table.specs.declared.rows.LinkRow.{LinkRow}
+use Rattle.ec_link.specs.declared.split.Seen.{Seen}
+use Rattle.ec_link.specs.Seen.{seen_more, nothing_seen}
+use Rattle.ec_link.proofs.SeenLinks.{seen_step}
+use Rattle.ec_link.proofs.split.see_links.Goals as goal
+
+pub loop-link-preserved : goal.loop-link-preserved
+loop-link-preserved c =
+    let ls : List LinkRow = c.links-link-items.result.now in
+    let none : LinkRow = record { variable = 0; slave = 0; index = 0; subindex = 0; bits = record { variable_bit = 0; entry_bit = 0; count = 0 } } in
+    let l : LinkRow = get_or ls c.loop-link.link-index none in
+    let same : ls ≡ c.args.table.now.links = c.links-link-items.ensures.value in
+    let lt : c.loop-link.link-index < length c.args.table.now.links = subst (λ (xs : List LinkRow). c.loop-link.link-index < length xs) same c.loop-link-test.true in
+    let is : l ≡ get_or c.args.table.now.links c.loop-link.link-index l = get_or_default ls c.loop-link.link-index none l c.loop-link-test.true ∙ ap (λ (xs : List LinkRow). get_or xs c.loop-link.link-index l) same in
+    let there : l.variable < length c.args.table.now.variables = subst (λ (k : LinkRow). k.variable < length c.args.table.now.variables) (sym is) (c.links-link-items.ensures.sound c.loop-link.link-index l lt).variable in
+    let value : c.seen_more.result ≡ seen_more (get_or c.loop-link.seen l.variable nothing_seen) _ = c.seen_more.ensures ∙ ap (seen_more (get_or c.loop-link.seen l.variable nothing_seen)) c.unit_of_link-unit.ensures in
+    seen_step c.args.table.now c.loop-link.link-index l c.loop-link.seen (slice_set c.loop-link.seen l.variable c.seen_more.result) nothing_seen c.loop-link.invariant lt is there
+    (ap (slice_set c.loop-link.seen l.variable) value) (length-set c.loop-link.seen l.variable c.seen_more.result)

@@ -1,0 +1,60 @@
+-- What private code keeps of the numbers and places that it counts with; none of it is needed to read what a plan is.
+use Rattle.std.specs.Prelude.{ℕ, ◌+◌, ◌≡◌, ◌<◌, ◌≤◌, ◌^◌, List, length, All, Option, Some, None, Result, Ok, Err}
+use Rattle.ec_table.specs.declared.rows.VariableRow.{VariableRow}
+use Rattle.ec_link.specs.declared.entries.Run.{Run}
+use Rattle.ec_link.specs.declared.sizes.Size.{Size}
+use Rattle.ec_link.specs.declared.layout.Part.{Part}
+use Rattle.ec_link.specs.declared.layout.Seat.{Seat}
+use Rattle.ec_link.specs.declared.wires.Wire.{Wire}
+use Rattle.ec_link.specs.declared.image.Variable.{Variable}
+use Rattle.ec_link.specs.declared.plan.PartPlan.{PartPlan}
+use Rattle.ec_link.specs.declared.fault.LinkFault.{LinkFault}
+use Rattle.ec_link.specs.declared.fault.LinkError.{LinkError}
+use Rattle.ec_link.specs.declared.fault.LinkError.TheVariants.{Memory}
+use Rattle.ec_link.specs.Layout.{part_so_far, seat_at}
+use Rattle.ec_link.specs.Plan.{logical_from}
+
+-- within what a slave can have
+pub record IsShort (r : Run) : Type 0 where
+  pub low : r.from + r.bits ≤ 65536
+
+-- at most 2048 bits in each direction, and one of the 64 units
+pub record IsSize (z : Size) : Type 0 where
+  pub outs : z.outs ≤ 2048
+  pub ins : z.ins ≤ 2048
+  pub unit : z.unit ≤ 63
+
+-- at most 1422 bytes each
+pub record AreSmall (parts : List Part) : Type 0 where
+  pub each : (k : ℕ) → (part_so_far parts k).bits ≤ 11376
+
+-- n slaves have their seats in these parts
+pub record AreSeated (n : ℕ) (ps : List PartPlan) (seats : List Seat) : Type 0 where
+  pub as_many : length seats ≡ n
+  pub there : (s : ℕ) → s < n → (seat_at seats s).part < length ps
+  pub low : (s : ℕ) → s < n → logical_from ps (seat_at seats s) < 2 ^ 35
+
+-- its place is counted without overflow
+abbrev pub IsPlacedLow : Variable → Type 0
+IsPlacedLow v = v.from ≤ 2 ^ 60
+
+-- its bits are counted without overflow
+pub record IsShortWire (w : Wire) : Type 0 where
+  pub variable_bit : w.variable_bit ≤ 255
+  pub object_bit : w.object_bit ≤ 65791
+  pub count : w.count ≤ 255
+
+-- the variables of the wires are there
+pub record HasVariable (ws : List VariableRow) (w : Wire) : Type 0 where
+  pub there : w.variable < length ws
+
+abbrev pub HaveVariables : List VariableRow → List Wire → Type 0
+HaveVariables ws xs = All (HasVariable ws) xs
+
+abbrev pub IsMemory : LinkError → Type 0
+IsMemory e = e ≡ Memory
+
+-- what a test answers: done, or the fault
+abbrev pub Tested : {X : Type 0} → Result X LinkFault → Option LinkFault → Type 0
+Tested (Ok x) f = f ≡ None
+Tested (Err g) f = f ≡ Some g

@@ -1,0 +1,25 @@
+//! From a link table to a plan: which bits of the process image go to which logical bits, and where each slave maps them.
+#![tactic(auto)]
+
+mod compiling;
+mod entries;
+mod fault;
+mod faults;
+mod image;
+mod kinds;
+mod layout;
+mod marks;
+mod objects;
+mod plan;
+mod settings;
+mod sizes;
+mod split;
+#[cfg(test)]
+mod tests;
+mod wires;
+
+pub use crate::compiling::compile;
+pub use crate::fault::{LinkError, LinkFault};
+pub use crate::image::Variable;
+pub use crate::plan::{Link, PartPlan, Plan, Predicted};
+pub use crate::settings::{Settings, Share};
