@@ -1,5 +1,7 @@
 use arrayvec::{ArrayString, ArrayVec};
 use ec_frame::FrameError;
+use ec_link::LinkError;
+use ec_table::TableError;
 use std::alloc::{AllocError, AllocFailed};
 use std::error::Error;
 use std::fmt;
@@ -16,6 +18,10 @@ pub enum Refusal {
     Memory,
     /// A payload that is no frame. Over 1472 bytes are `TooLong` too.
     Frame(FrameError),
+    /// A text that is no link table, with the section and the place of its first fault.
+    Table(TableError),
+    /// A link table that has no plan, with the place of its first fault or how many there are.
+    Link(LinkError),
     /// A text that isn't pairs of hex digits.
     BadHex,
     /// The output took no more.
@@ -35,6 +41,8 @@ impl Refusal {
         match self {
             Refusal::Memory => 1,
             Refusal::Frame(error) => error.number(),
+            Refusal::Table(error) => error.number(),
+            Refusal::Link(error) => error.number(),
             Refusal::BadHex => 40,
             Refusal::Output => 41,
             Refusal::Input => 42,
@@ -53,6 +61,8 @@ impl Refusal {
             Refusal::Frame(FrameError::BadMore) => "BadMore",
             Refusal::Frame(FrameError::BadCommand) => "BadCommand",
             Refusal::Frame(FrameError::TooLong) => "TooLong",
+            Refusal::Table(error) => error.name(),
+            Refusal::Link(error) => error.name(),
             Refusal::BadHex => "BadHex",
             Refusal::Output => "Output",
             Refusal::Input => "Input",
@@ -63,7 +73,22 @@ impl Refusal {
     pub fn values(&self) -> ArrayVec<u64, 4>
         ensures { result.items ≡ values_of self.now }
     {
-        ArrayVec::new()
+        let mut values = ArrayVec::new();
+        match self {
+            Refusal::Table(error) => {
+                if let Some(place) = error.place() {
+                    values.push(u64::from(place.section.number()));
+                    values.push(place.element as u64);
+                }
+            }
+            Refusal::Link(error) => {
+                if let Some(value) = error.value() {
+                    values.push(value as u64);
+                }
+            }
+            _ => {}
+        }
+        values
     }
 
     /// The exit status that the program ends with: 4 for a fault of a wire, the output, the input or
@@ -118,6 +143,28 @@ impl From<FrameError> for Refusal {
 
     fn from(error: FrameError) -> Refusal {
         Self::Frame(error)
+    }
+}
+
+impl From<TableError> for Refusal {
+    ghost use Rattle.std.specs.Prelude.{◌≡◌};
+    ghost use Rattle.ec_app.specs.declared.refusal.Refusal.TheVariants.{Table};
+
+    ghost from_gives = { λ error refusal. refusal ≡ Table error };
+
+    fn from(error: TableError) -> Refusal {
+        Self::Table(error)
+    }
+}
+
+impl From<LinkError> for Refusal {
+    ghost use Rattle.std.specs.Prelude.{◌≡◌};
+    ghost use Rattle.ec_app.specs.declared.refusal.Refusal.TheVariants.{Link};
+
+    ghost from_gives = { λ error refusal. refusal ≡ Link error };
+
+    fn from(error: LinkError) -> Refusal {
+        Self::Link(error)
     }
 }
 

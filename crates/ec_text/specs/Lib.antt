@@ -1,0 +1,2 @@
+-- To be believed by reading: the fixed form of a plan.
+pub mod PlanText

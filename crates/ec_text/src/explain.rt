@@ -1,0 +1,330 @@
+//! A plan for people: which bit of which object stands where, and which variable it is linked with.
+ghost use Rattle.std.specs.Prelude.{◌<◌, length};
+
+use ec_link::{Link, PartPlan, Plan, Predicted, Settings};
+use ec_regs::Entry;
+use ec_table::{Direction, SlaveRow, Table};
+use std::alloc::{AllocError, Global};
+use std::fmt::Write as _;
+
+const LEGEND: &str = "\
+Each line is a run of bits that go the same way. Bits count from 0, the lowest first.
+  object    index in hex and subindex in decimal, as in the table; a gap has neither
+  bits      of the object
+  logical   byte and bit of the logical addresses, over which the part's datagrams go
+  variable  the variable that they are linked with, and its bits
+";
+
+/// Bits of an object one after another that go the same way.
+#[derive(Clone, Copy, Debug)]
+struct Run {
+    /// The first among the object bits of the slave.
+    from: usize,
+    count: usize,
+    link: Option<Link>,
+}
+
+/// One direction of a plan: its links, and for each bit of its image the place of its variable.
+#[derive(Debug, Drop)]
+struct Image<'a> {
+    direction: Direction,
+    links: &'a [Link],
+    owners: Vec<usize>,
+}
+
+impl<'a> Image<'a> {
+    fn new(alloc: Global, plan: &'a Plan, direction: Direction) -> Result<Image<'a>, AllocError> {
+        let mut owners = Vec::new(alloc);
+        for (place, variable) in plan.variables().iter().enumerate() {
+            if variable.direction == direction {
+                for _ in 0..variable.bits {
+                    owners.push(place)?;
+                }
+            }
+        }
+        let links = match direction {
+            Direction::Out => plan.out_links(),
+            Direction::In => plan.in_links(),
+        };
+        Ok(Image {
+            direction,
+            links,
+            owners,
+        })
+    }
+
+    /// The links of a slave, in the order of their object bits.
+    fn links_of(&self, alloc: Global, slave: usize) -> Result<Vec<Link>, AllocError> {
+        let mut found = Vec::new(alloc);
+        for link in self.links {
+            if link.slave == slave {
+                found.push(*link)?;
+            }
+        }
+        found.sort_by_key(|link| link.object_bit)?;
+        Ok(found)
+    }
+}
+
+/// Bits from one on, as `4` or as `4..7`.
+fn bits_text(alloc: Global, from: usize, count: usize) -> Result<String, AllocError> {
+    let last = from.saturating_add(count.saturating_sub(1));
+    if from == last {
+        format!(in alloc; "{from}")
+    } else {
+        format!(in alloc; "{from}..{last}")
+    }
+}
+
+/// The logical byte and bit of a logical bit.
+fn logical_text(alloc: Global, bit: usize) -> Result<String, AllocError> {
+    let (byte, bit) = (bit / 8, bit % 8);
+    format!(in alloc; "0x{byte:08x}.{bit}")
+}
+
+/// The logical bytes and bits of a run.
+fn logical_range(alloc: Global, from: usize, count: usize) -> Result<String, AllocError> {
+    let first = logical_text(alloc, from)?;
+    if count <= 1 {
+        return Ok(first);
+    }
+    let last = logical_text(alloc, from.saturating_add(count - 1))?;
+    format!(in alloc; "{first} to {last}")
+}
+
+/// The name of an entry's object.
+fn object_text(alloc: Global, entry: &Entry) -> Result<String, AllocError> {
+    let (index, subindex) = (entry.index, entry.subindex);
+    if index == 0 {
+        format!(in alloc; "gap")
+    } else {
+        format!(in alloc; "0x{index:04x}:{subindex}")
+    }
+}
+
+/// The runs of an entry whose bits begin at `from`, by the links of its slave in their order.
+fn runs_of(
+    alloc: Global,
+    from: usize,
+    entry: &Entry,
+    links: &[Link],
+) -> Result<Vec<Run>, AllocError> {
+    let end = from.saturating_add(usize::from(entry.bits));
+    let mut runs = Vec::new(alloc);
+    let mut at = from;
+    for link in links {
+        let first = link.object_bit;
+        if from <= first && first < end {
+            if at < first {
+                runs.push(Run {
+                    from: at,
+                    count: first - at,
+                    link: None,
+                })?;
+            }
+            runs.push(Run {
+                from: first,
+                count: link.count,
+                link: Some(*link),
+            })?;
+            at = at.max(first.saturating_add(link.count));
+        }
+    }
+    if at < end {
+        runs.push(Run {
+            from: at,
+            count: end - at,
+            link: None,
+        })?;
+    }
+    Ok(runs)
+}
+
+/// A plan and its table, with what is looked up in them.
+#[derive(Debug, Drop)]
+struct Explained<'a> {
+    alloc: Global,
+    table: &'a Table,
+    plan: &'a Plan,
+    outputs: Image<'a>,
+    inputs: Image<'a>,
+}
+
+impl<'a> Explained<'a> {
+    fn new(alloc: Global, table: &'a Table, plan: &'a Plan) -> Result<Explained<'a>, AllocError> {
+        Ok(Explained {
+            alloc,
+            table,
+            plan,
+            outputs: Image::new(alloc, plan, Direction::Out)?,
+            inputs: Image::new(alloc, plan, Direction::In)?,
+        })
+    }
+
+    fn image(&self, direction: Direction) -> &Image<'a> {
+        match direction {
+            Direction::Out => &self.outputs,
+            Direction::In => &self.inputs,
+        }
+    }
+
+    /// The variable that a run is linked with, and its bits.
+    fn variable_text(&self, image: &Image<'_>, run: Run) -> Result<String, AllocError> {
+        let alloc = self.alloc;
+        let Some(link) = run.link else {
+            return format!(in alloc; "-");
+        };
+        let Some(owner) = image.owners.get(link.image) else {
+            return format!(in alloc; "-");
+        };
+        let rows = (
+            self.table.variables().get(*owner),
+            self.plan.variables().get(*owner),
+        );
+        let (Some(row), Some(variable)) = rows else {
+            return format!(in alloc; "-");
+        };
+        let first = link.image.saturating_sub(variable.from);
+        let (name, bits) = (row.name.as_str(), bits_text(alloc, first, run.count)?);
+        format!(in alloc; "{name} {bits}")
+    }
+
+    /// Adds the lines of an entry whose bits begin at the object bit `from`, of a slave whose area
+    /// begins at the logical bit `area`.
+    fn write_entry(
+        &self,
+        text: &mut String,
+        direction: Direction,
+        links: &[Link],
+        area: usize,
+        from: usize,
+        entry: &Entry,
+    ) -> Result<(), AllocError> {
+        let alloc = self.alloc;
+        let object = object_text(alloc, entry)?;
+        for run in runs_of(alloc, from, entry, links)?.as_slice() {
+            let bits = bits_text(alloc, run.from.saturating_sub(from), run.count)?;
+            let logical = logical_range(alloc, area.saturating_add(run.from), run.count)?;
+            let variable = self.variable_text(self.image(direction), *run)?;
+            writeln!(
+                text,
+                "    {object:<10}  {bits:<6}  {logical:<28}  {variable}"
+            )?;
+        }
+        Ok(())
+    }
+
+    /// Adds the bits of a slave in one direction.
+    fn write_direction(
+        &self,
+        text: &mut String,
+        direction: Direction,
+        slave: usize,
+        settings: &Settings,
+        entries: &[Entry],
+    ) -> Result<(), AllocError> {
+        let links = self.image(direction).links_of(self.alloc, slave)?;
+        let (name, number, manager) = match direction {
+            Direction::Out => ("outputs", 2, &settings.managers[2]),
+            Direction::In => ("inputs", 3, &settings.managers[3]),
+        };
+        let (bytes, start) = (manager.length, manager.start);
+        writeln!(
+            text,
+            "  {name}: sync manager {number}, address 0x{start:04x}, length {bytes}"
+        )?;
+        let (object, bits, logical) = ("object", "bits", "logical");
+        writeln!(text, "    {object:<10}  {bits:<6}  {logical:<28}  variable")?;
+        let mut from: usize = 0;
+        for entry in entries {
+            self.write_entry(
+                text,
+                direction,
+                links.as_slice(),
+                settings.from,
+                from,
+                entry,
+            )?;
+            from = from.saturating_add(usize::from(entry.bits));
+        }
+        Ok(())
+    }
+
+    /// Adds a slave.
+    fn write_slave(
+        &self,
+        text: &mut String,
+        slave: usize,
+        row: &SlaveRow,
+        settings: &Settings,
+    ) -> Result<(), AllocError>
+        requires { slave < length self.now.table.now.slaves }
+    {
+        let (name, unit) = (row.name.as_str(), row.unit);
+        let kind = self.table.type_of(slave).name.as_str();
+        let part = settings.share.part;
+        writeln!(
+            text,
+            "\nslave {slave}  {name}  type {kind}  part {part}  unit {unit}"
+        )?;
+        let share = settings.share;
+        if share.outs == 0 && share.ins == 0 {
+            writeln!(text, "  no process data")?;
+        }
+        for (direction, bits) in [(Direction::Out, share.outs), (Direction::In, share.ins)] {
+            if bits > 0 {
+                let entries = self.table.entries_of(self.alloc, slave, direction)?;
+                self.write_direction(text, direction, slave, settings, entries.as_slice())?;
+            }
+        }
+        Ok(())
+    }
+
+    /// Adds the slaves that stand in a part.
+    fn write_slaves(&self, text: &mut String, part: usize) -> Result<(), AllocError> {
+        for (slave, row) in self.table.slaves().iter().enumerate() {
+            match self.plan.slaves().get(slave) {
+                Some(settings) if settings.share.part == part => {
+                    self.write_slave(text, slave, row, settings)?;
+                }
+                _ => {}
+            }
+        }
+        Ok(())
+    }
+}
+
+/// Adds the heading of a part.
+fn write_part(
+    text: &mut String,
+    number: usize,
+    part: &PartPlan,
+    predicted: Predicted,
+) -> Result<(), AllocError> {
+    let (bytes, address, unit) = (part.bytes, part.address, part.unit);
+    writeln!(
+        text,
+        "\npart {number}: address 0x{address:08x}, length {bytes}, unit {unit}"
+    )?;
+    match predicted {
+        _ if bytes == 0 => writeln!(text, "  no datagram of process data"),
+        Predicted::Lrw(count) => writeln!(text, "  an LRW that comes back with counter {count}"),
+        Predicted::Split { write, read } => writeln!(
+            text,
+            "  an LWR that comes back with counter {write}, and an LRD with {read}"
+        ),
+    }
+}
+
+/// The plan of a table for people: part by part, for each slave in it and each direction, which bits
+/// of which object stand at which logical bits, and which variable they are linked with. The plan is
+/// that of the table; no line has over 100 characters. The error is want of memory.
+pub fn explain_text(alloc: Global, table: &Table, plan: &Plan) -> Result<String, AllocError> {
+    let explained = Explained::new(alloc, table, plan)?;
+    let mut text = String::from_str(alloc, LEGEND)?;
+    for (number, part) in plan.parts().iter().enumerate() {
+        write_part(&mut text, number, part, plan.predicted(number))?;
+        explained.write_slaves(&mut text, number)?;
+    }
+    Ok(text)
+}
