@@ -10,6 +10,8 @@ use Rattle.ec_table.specs.declared.fault.Place.{Place}
 use Rattle.ec_table.specs.Faults.{section_number}
 use Rattle.ec_table.specs.Faults as table
 use Rattle.ec_link.specs.Faults as link
+use Rattle.ec_app.specs.declared.refusal.Values.{Values}
+use Rattle.ec_app.specs.declared.refusal.Values.TheVariants.{Empty, One, Two}
 use Rattle.ec_app.specs.declared.refusal.Refusal.{Refusal}
 use Rattle.ec_app.specs.declared.refusal.Refusal.TheVariants.{Memory, Frame, Table, Link, BadHex, Output, Input}
 
@@ -39,6 +41,12 @@ name_of BadHex = codes "BadHex"
 name_of Output = codes "Output"
 name_of Input = codes "Input"
 
+-- values as a list
+abbrev pub listed : Values → List ℕ
+listed Empty = []
+listed (One value) = value ∷ []
+listed (Two first second) = first ∷ second ∷ []
+
 -- of a table's fault its section, as a number, and its place in it
 abbrev pub place_values : Option Place → List ℕ
 place_values None = []
@@ -54,9 +62,13 @@ values_of (Table error) = place_values (table.error_place error)
 values_of (Link error) = link_values (link.error_value error)
 values_of _ = []
 
+-- values in decimal, each with a blank before it
+abbrev pub values_text : List ℕ → List ℕ
+values_text values = flat_map (λ value. 32 ∷ decimal value) values
+
 -- the number, the name and the values, with blanks between
 abbrev pub text_of : Refusal → List ℕ
-text_of refusal = decimal (number_of refusal) ++ 32 ∷ name_of refusal ++ flat_map (λ value. 32 ∷ decimal value) (values_of refusal)
+text_of refusal = decimal (number_of refusal) ++ 32 ∷ name_of refusal ++ values_text (values_of refusal)
 
 -- what is told of a refusal
 abbrev pub line_of : Refusal → List ℕ

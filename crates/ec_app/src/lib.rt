@@ -15,5 +15,5 @@ pub use crate::input::read_text;
 pub use crate::pass::{pass_hex, print_pass};
 pub use crate::plan::{print_plan, show_plan};
 pub use crate::printing::{print_text, tell};
-pub use crate::refusal::Refusal;
+pub use crate::refusal::{Refusal, Values};
 pub use crate::run::{App, run_command};

@@ -1,6 +1,6 @@
 -- What keeps a table from having a plan, each fault by itself, and the first one in the order of their numbers; the last,
 -- 44, came to the project late. The limits of 64 slaves, 32 parts and 2048 bits are this project's own.
-use Rattle.std.specs.Prelude.{ℕ, ◌+◌, ◌==◌, ◌≡◌, ◌&&◌, ◌||◌, not, Bool, true, false, nat_lt, if◌then◌else◌, List, [], ◌∷◌, length, map, filter, All, codes, slice_get, Option, Some, None, is_some, is_none, option_map, Result, Ok, Err}
+use Rattle.std.specs.Prelude.{ℕ, ◌+◌, ◌==◌, ◌≡◌, ◌&&◌, ◌||◌, not, Bool, false, nat_lt, if◌then◌else◌, List, [], ◌∷◌, length, map, filter, codes, slice_get, Option, Some, None, is_some, is_none, option_map}
 use Rattle.std.specs.Option.{option_map_or}
 use Rattle.std.specs.List.{list_any}
 use Rattle.ec_table.specs.declared.rows.Direction.{Direction}

@@ -6,7 +6,6 @@ mod entries;
 mod fault;
 mod faults;
 mod image;
-mod kinds;
 mod layout;
 mod marks;
 mod objects;
