@@ -8,7 +8,7 @@ use Rattle.ec_frame.specs.Refusals.{IsRefused}
 use Rattle.ec_frame.specs.declared.error.FrameError.{FrameError}
 use Rattle.ec_frame.specs.declared.error.FrameError.TheVariants.{TooLong}
 use Rattle.ec_slave.specs.State.{SlaveState, power_on}
-use Rattle.ec_ring.specs.Rings.{rings}
+use Rattle.ec_ring.specs.Rings.{passes_ring}
 use Rattle.ec_app.specs.Printing.{Prints}
 use Rattle.ec_app.specs.declared.refusal.Refusal.{Refusal}
 use Rattle.ec_app.specs.declared.refusal.Refusal.TheVariants.{Memory, Frame, BadHex}
@@ -21,7 +21,7 @@ plain_slave = power_on plain_kind (record { vendor = 0; product = 0; revision = 
 pub record ComesBack (slaves : ℕ) (sent back : List ℕ) : Type 0 where
   pub payload : Payload
   pub is_sent : IsFrame sent payload
-  pub is_back : IsFrame back (with_datagrams payload (rings (replicate slaves plain_slave) payload.datagrams).datagrams)
+  pub is_back : IsFrame back (with_datagrams payload (passes_ring (replicate slaves plain_slave) payload.datagrams).datagrams)
 
 -- the text spells these bytes in hex digits of either case, no more than a UDP payload of EtherCAT has
 pub record SpellsPayload (text payload : List ℕ) : Type 0 where

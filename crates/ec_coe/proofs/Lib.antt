@@ -4,3 +4,5 @@ pub mod Finding
 pub mod Distinct
 pub mod Assigning
 pub mod Written
+pub mod Effects
+pub mod Keeping

@@ -58,7 +58,8 @@ fn bits_of(pdos: &[Pdo], index: u16) -> usize
 fn sum_of_bits(pdos: &[Pdo], indices: &[u16]) -> usize
     requires few { length indices.now < 256 }
     requires small { All (λ p. (length p.entries ≤ 64) × (pdo_bits p ≤ 4096)) pdos.now }
-    ensures { result ≡ bits_assigned pdos.now indices.now }
+    ensures value { result ≡ bits_assigned pdos.now indices.now }
+    ensures limit { result < 2 ^ 20 }
 {
     let mut total = 0;
     for index in indices {
@@ -106,7 +107,8 @@ impl Assignment {
     /// How many bits the PDOs that are assigned have together, of these of the direction.
     pub(crate) fn bits(&self, pdos: &[Pdo]) -> usize
         requires { All (λ p. (length p.entries ≤ 64) × (pdo_bits p ≤ 4096)) pdos.now }
-        ensures { result ≡ bits_assigned pdos.now (assigned_indices self.now) }
+        ensures value { result ≡ bits_assigned pdos.now (assigned_indices self.now) }
+        ensures limit { result < 2 ^ 20 }
     {
         sum_of_bits(pdos, &self.slots[..self.count as usize])
     }

@@ -4,7 +4,7 @@ ghost use Rattle.std.specs.Prelude.{◌≡◌, ◌++◌, ◌≤◌, ◌<◌, ◌
 ghost use Rattle.std.specs.Option.{option_copied};
 ghost use Rattle.ec_regs.specs.Objects.{pdo_at, bits_assigned};
 ghost use Rattle.ec_coe.specs.Objects.{new_dictionary, assigned, entry_number as number_of_entry, identity_values, pdo_values};
-ghost use Rattle.ec_coe.specs.Messages.{size_number};
+ghost use Rattle.ec_coe.specs.Messages.{size_number, IsMessage};
 ghost use Rattle.ec_coe.specs.Transfers.{value_or_abort, uploaded, downloaded};
 ghost use Rattle.ec_coe.specs.Answers.{answered};
 
@@ -135,14 +135,16 @@ impl Dictionary {
 
     /// How many bits the assigned output PDOs have together.
     pub fn output_bits(&self) -> usize
-        ensures { result ≡ bits_assigned self.now.kind.outputs (assigned self.now.outs) }
+        ensures value { result ≡ bits_assigned self.now.kind.outputs (assigned self.now.outs) }
+        ensures limit { result < 2 ^ 20 }
     {
         self.outs.bits(self.kind.outputs())
     }
 
     /// How many bits the assigned input PDOs have together.
     pub fn input_bits(&self) -> usize
-        ensures { result ≡ bits_assigned self.now.kind.inputs (assigned self.now.ins) }
+        ensures value { result ≡ bits_assigned self.now.kind.inputs (assigned self.now.ins) }
+        ensures limit { result < 2 ^ 20 }
     {
         self.ins.bits(self.kind.inputs())
     }
@@ -220,6 +222,8 @@ impl Dictionary {
     /// the index and the subindex of the request, or an abort.
     #[tactic(auto, unfolding(crate::specs::Answers::answered))]
     pub fn answer(&mut self, in_preop: bool, request: &Message, counter: u8) -> Message
+        requires { counter < 8 }
+        ensures message { IsMessage result }
         ensures reply { result ≡ (answered in_preop self.old request.now counter).reply }
         ensures after { self.new ≡ (answered in_preop self.old request.now counter).dictionary }
     {

@@ -1,11 +1,10 @@
 -- The datagrams ahead of a place in a frame, and a pass over them.
 use Rattle.std.proofs.Common.{◌≡◌, ℕ, ◌+◌, ◌-◌, ◌≤◌, Bool, List, [], ◌∷◌, ◌++◌, length, take, drop, Some, sym, ap, ◌∙◌, append_assoc, arith}
 use Rattle.std.proofs.lemmas.List.{length-append, drop_at, take_at}
-use Rattle.ec_frame.specs.declared.places.Places.{Places}
-use Rattle.ec_frame.specs.declared.places.Span.{Span}
-use Rattle.ec_frame.specs.Datagram.{Datagram, spelling, is_followed, joined}
-use Rattle.ec_frame.specs.Refusals.{data_length}
-use Rattle.ec_frame.specs.Places.{IsAhead, StepsTo}
+use Rattle.ec_frame.specs.declared.cursor.Places.{Places}
+use Rattle.ec_frame.specs.declared.cursor.Span.{Span}
+use Rattle.ec_frame.specs.Datagram.{Datagram, spelling, is_followed, joined, data_length}
+use Rattle.ec_frame.specs.Cursor.{IsAhead, StepsTo}
 use Rattle.ec_frame.proofs.Decoding.{data_length_again}
 use Rattle.ec_frame.proofs.Readings.{spelling_length}
 use Rattle.ec_frame.proofs.Writes.{bare_length}

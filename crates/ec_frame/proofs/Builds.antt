@@ -4,15 +4,16 @@ use Rattle.std.specs.List.{AllByRecursion}
 use Rattle.std.proofs.lemmas.List.{length-append, append-nil, set_at, get_or_at, length-set, length-drop, take_at}
 use Rattle.byteorder.specs.Endian.{little_bytes}
 use Rattle.ec_frame.specs.declared.command.Command.{Command}
-use Rattle.ec_frame.specs.Building.{IsBuilt, bare_payload, new_datagram}
+use Rattle.ec_frame.specs.Built.{IsBuilt}
+use Rattle.ec_frame.specs.Building.{bare_payload, new_datagram}
 use Rattle.ec_frame.specs.Commands.{number_of}
-use Rattle.ec_frame.specs.Datagram.{Datagram, flags, spelling, IsDatagram, joined}
+use Rattle.ec_frame.specs.Datagram.{Datagram, flags, spelling, IsDatagram, joined, opened}
 use Rattle.ec_frame.specs.Decoded.{after_data, decoded, datagrams_in}
-use Rattle.ec_frame.specs.Frame.{IsFrame}
-use Rattle.ec_frame.specs.Refusals.{opened}
+use Rattle.ec_frame.specs.Frame.{IsByte, IsFrame}
+use Rattle.ec_frame.proofs.Numbers.{all_append, all_drop, all_set, bytes_of_all, number_most, word_bytes}
 use Rattle.ec_frame.proofs.Decoding.{after_again, decoded_again}
 use Rattle.ec_frame.proofs.Readings.{ended}
-use Rattle.ec_frame.proofs.Walk.{All-push, opened_push}
+use Rattle.ec_frame.proofs.Walked.{All-push, opened_push}
 use Rattle.ec_frame.proofs.Writes.{bare_length}
 use Rattle.ec_frame.proofs.Steps.{joined_length}
 
@@ -61,16 +62,20 @@ last_of (a ∷ xs) (b ∷ ys) x y e =
 abbrev pub ten_bytes : Command → ℕ → ℕ → ℕ → List ℕ
 ten_bytes command index address word = number_of command ∷ index ∷ little_bytes 4 address ++ little_bytes 2 word ++ little_bytes 2 0
 
+ten_are_bytes : (command : Command) (index address word : ℕ) → index < 256 → AllByRecursion IsByte (ten_bytes command index address word)
+ten_are_bytes command index address word i =
+    let n = number_most command in (omega arith, (i, (omega arith, (omega arith, (omega arith, (omega arith, (omega arith, (omega arith, (omega arith, (omega arith, tt))))))))))
+
 pub joined_push : (ds : List Datagram) (d : Datagram) → length (joined (ds ++ d ∷ [])) ≡ length (joined ds) + (12 + length d.data_bytes)
 joined_push ds d =
     joined_length (ds ++ d ∷ []) ∙ ap length (opened_push ds d) ∙ length-append (opened ds) (spelling true d) ∙ omega (arith, joined_length ds, bare_length true d)
 
 pub added : (old new : List ℕ) (last at : ℕ) (ds : List Datagram) (command : Command) (index address : ℕ) (content : List ℕ) → IsBuilt old last ds
-    → index < 256 → address < 2 ^ 32 → length old + (12 + length content) ≤ 1472
+    → index < 256 → address < 2 ^ 32 → AllByRecursion IsByte content → length old + (12 + length content) ≤ 1472
     → at ≡ length old
     → new ≡ ((old ++ ten_bytes command index address (length content + 32768)) ++ content) ++ (0 ∷ 0 ∷ [])
     → IsBuilt new at (ds ++ new_datagram command index address content ∷ [])
-added old new last at ds command index address content h i a fits is bytes =
+added old new last at ds command index address content h i a filled fits is bytes =
     let d : Datagram = new_datagram command index address content in
     let size = built_length old last ds h in
     let flag : flags true d ≡ length content + 32768 = omega arith in
@@ -79,7 +84,10 @@ added old new last at ds command index address content h i a fits is bytes =
     let all : new ≡ 0 ∷ 0 ∷ (opened ds ++ spelling true d) =
     bytes ∙ append_assoc (old ++ head) content (0 ∷ 0 ∷ []) ∙ append_assoc old head (content ++ (0 ∷ 0 ∷ [])) ∙ ap (λ (xs : List ℕ). old ++ xs) spelled ∙ ap (λ (xs : List ℕ). xs ++ spelling true d) h.spelled in
     let long = joined_push ds d in
+    let inside : AllByRecursion IsByte (((old ++ head) ++ content) ++ (0 ∷ 0 ∷ [])) =
+    all_append ((old ++ head) ++ content) (0 ∷ 0 ∷ []) (all_append (old ++ head) content (all_append old head h.fits (ten_are_bytes command index address (length content + 32768) i)) filled) (word_bytes 0) in
     record {
+      fits = subst (λ (xs : List ℕ). AllByRecursion IsByte xs) (sym bytes) inside;
       each = All-push ds d h.each (new_good command index address content i a (omega arith));
       most = omega arith;
       spelled = all ∙ ap (λ (xs : List ℕ). 0 ∷ 0 ∷ xs) (sym (opened_push ds d));
@@ -94,7 +102,7 @@ pub added_built : (bytes : List ℕ) (at : ℕ) (ds : List Datagram) → IsBuilt
 added_built bytes at ds h = subst (λ (es : List Datagram). IsBuilt bytes at es) (sym (added_view bytes at ds h)) h
 
 pub none_built : (bytes : List ℕ) (at : ℕ) → bytes ≡ 0 ∷ 0 ∷ [] → IsBuilt bytes at []
-none_built bytes at e = record { each = tt; most = omega arith; spelled = e; place = λ before d is. absurd (none_push before d is) }
+none_built bytes at e = record { fits = subst (λ (xs : List ℕ). AllByRecursion IsByte xs) (sym e) (word_bytes 0); each = tt; most = omega arith; spelled = e; place = λ before d is. absurd (none_push before d is) }
   where
     none_push : (before : List Datagram) (d : Datagram) → [] ≡ before ++ d ∷ [] → ⊥
     none_push [] d is = cc
@@ -151,12 +159,13 @@ module _ (bytes : List ℕ) (at : ℕ) (ds : List Datagram) (l : LastByte bytes 
   high_read = ap (λ (xs : List ℕ). get_or xs (at + 7) 0) l.parts ∙ get_or_at (0 ∷ 0 ∷ l.front) l.high l.back 0 (at + 7) (let place = l.place in omega arith)
 
   pub finished : (x : ℕ) (new : List ℕ) → IsBuilt bytes at ds → 0 < length ds → x ≡ l.high - 128
-      → new ≡ little_bytes 2 (length bytes - 2 + 4096) ++ drop 2 (set bytes (at + 7) x) → IsFrame new (bare_payload ds)
-  finished x new h some is e =
+      → new ≡ little_bytes 2 (length bytes - 2 + 4096) ++ drop 2 (set bytes (at + 7) x) → AllByRecursion IsByte new → IsFrame new (bare_payload ds)
+  finished x new h some is e all =
       let done : set bytes (at + 7) x ≡ 0 ∷ 0 ∷ (l.front ++ x ∷ l.back) = ap (λ (xs : List ℕ). set xs (at + 7) x) l.parts ∙ set_at (0 ∷ 0 ∷ l.front) l.high l.back x (at + 7) (let place = l.place in omega arith) in
       let rest : drop 2 (set bytes (at + 7) x) ≡ joined ds ++ [] = ap (λ (xs : List ℕ). drop 2 xs) done ∙ ap (λ (n : ℕ). l.front ++ n ∷ l.back) is ∙ l.cleared ∙ sym (append-nil (joined ds)) in
       let size : length bytes - 2 + 4096 ≡ length (joined ds) + 0 + 4096 = omega (arith, built_length bytes at ds h) in
       record {
+        bytes = all;
         some = some;
         each = h.each;
         most = h.most;
@@ -171,9 +180,12 @@ module _ (bytes : List ℕ) (at : ℕ) (ds : List Datagram) (l : LastByte bytes 
       let on : new ≡ little_bytes 2 (length bytes - 2 + 4096) ++ drop 2 (set bytes (at + 7) x) =
       e ∙ ap (λ (n : ℕ). little_bytes 2 (n - 2 + 4096) ++ drop 2 (set items (at + 7) (get_or items (at + 7) 0 - 128))) size
       ∙ ap (λ (xs : List ℕ). little_bytes 2 (length bytes - 2 + 4096) ++ drop 2 (set xs (at + 7) (get_or xs (at + 7) 0 - 128))) is in
+      let high : get_or bytes (at + 7) 0 < 256 = bytes_of_all bytes h.fits (at + 7) in
+      let all : AllByRecursion IsByte new = subst (λ (xs : List ℕ). AllByRecursion IsByte xs) (sym on)
+      (all_append (little_bytes 2 (length bytes - 2 + 4096)) (drop 2 (set bytes (at + 7) x)) (word_bytes (length bytes - 2 + 4096)) (all_drop 2 (set bytes (at + 7) x) (all_set bytes (at + 7) x h.fits (omega arith)))) in
       let long : length new ≡ length bytes = ap length on ∙ omega (arith, length-drop 2 (set bytes (at + 7) x), length-set bytes (at + 7) x, built_length bytes at ds h) in
       subst (λ (xs : List ℕ). IsFrame xs (bare_payload ds)) (sym (take_at new (drop (length new) bytes) (length bytes) long))
-      (finished x new h some (ap (λ (n : ℕ). n - 128) high_read) on)
+      (finished x new h some (ap (λ (n : ℕ). n - 128) high_read) on all)
 
 -- a builder that is seen as these datagrams is built of them
 pub seen_built : (bytes : List ℕ) (at : ℕ) (ds : List Datagram) → IsBuilt bytes at (datagrams_in (length bytes) (drop 2 bytes)) → datagrams_in (length bytes) (drop 2 bytes) ≡ ds → IsBuilt bytes at ds

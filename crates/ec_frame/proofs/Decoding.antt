@@ -4,8 +4,7 @@ use Rattle.std.proofs.lemmas.List.{take_at, drop_at, take-append-drop, length-ta
 use Rattle.std.proofs.lemmas.Bool.Decides.{nat_tests}
 use Rattle.byteorder.specs.Endian.{little_bytes, little_number}
 use Rattle.ec_frame.specs.declared.command.Command.{Command}
-use Rattle.ec_frame.specs.Datagram.{Datagram, flags, spelling, IsDatagram}
-use Rattle.ec_frame.specs.Refusals.{data_length}
+use Rattle.ec_frame.specs.Datagram.{Datagram, flags, spelling, IsDatagram, data_length}
 use Rattle.ec_frame.specs.Decoded.{after_data, decoded}
 use Rattle.ec_frame.proofs.Numbers.{command_again, command_back, IsBytes, IsBytes-drop, word_back, word_fits, quad_fits, word_again, quad_again, word_of, quad_of}
 

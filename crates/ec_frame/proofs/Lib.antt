@@ -1,10 +1,12 @@
 pub mod Ahead
 pub mod Builds
 pub mod Decoding
+pub mod FrameLaws
+pub mod Kept
 pub mod Numbers
+pub mod Readings
 pub mod Shapes
 pub mod Steps
-pub mod Readings
-pub mod Walk
-pub mod Writes
 pub mod Verdict
+pub mod Walked
+pub mod Writes

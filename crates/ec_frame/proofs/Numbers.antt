@@ -1,5 +1,11 @@
 -- Bytes as numbers, and a command as its number.
-use Rattle.std.proofs.Common.{◌≡◌, ℕ, zero, suc, ◌+◌, ◌/◌, ◌%◌, ◌^◌, ◌<◌, ◌≤◌, List, [], ◌∷◌, ◌++◌, length, get_or, take, drop, refl, sym, ap, ◌∙◌, arith, inl, inr}
+use Rattle.std.proofs.Common.{◌≡◌, ℕ, zero, suc, Bool, true, false, Option, Some, None, IfSome, IfNone, nat_eq, ◌+◌, ◌*◌, ◌/◌, ◌%◌, ◌^◌, ◌<◌, ◌≤◌, List, [], ◌∷◌, ◌++◌, length, set, get_or, take, drop, refl, sym, ap, ◌∙◌, arith, inl, inr}
+use Rattle.std.specs.Int.RustNames.{bit_and}
+use Rattle.std.specs.Option.{is_some}
+use Rattle.std.specs.List.{AllByRecursion}
+use Rattle.std.proofs.Math.Bool.{not}
+use Rattle.std.proofs.lemmas.Nat.Bits.{and_pow}
+use Rattle.std.proofs.lemmas.Bool.Decides.{nat_tests}
 use Rattle.std.proofs.lemmas.List.{length-take, get_or-drop, get_or-take, get_or_past}
 use Rattle.std.proofs.lemmas.Bool.{cases_lt}
 use Rattle.byteorder.specs.Endian.{little_bytes, little_number}
@@ -7,6 +13,7 @@ use Rattle.ec_frame.specs.declared.command.Command.{Command}
 use Rattle.ec_frame.specs.declared.command.Command.TheVariants.{Nop, Aprd, Apwr, Aprw, Fprd, Fpwr, Fprw, Brd, Bwr, Brw, Lrd, Lwr, Lrw, Armw, Frmw}
 use Rattle.ec_frame.specs.Commands.{number_of}
 use Rattle.ec_frame.specs.Decoded.{command_at}
+use Rattle.ec_frame.specs.Frame.{IsByte}
 
 -- ---- commands
 
@@ -71,6 +78,41 @@ one_command c d e = sym (command_again c) ∙ ap command_at e ∙ command_again 
 abbrev pub IsBytes : List ℕ → Type 0
 IsBytes bytes = (i : ℕ) → get_or bytes i 0 < 256
 
+-- each of them a byte, said by recursion
+pub all_bytes : (bytes : List ℕ) → IsBytes bytes → AllByRecursion IsByte bytes
+all_bytes [] h = tt
+all_bytes (b ∷ bytes) h = (h 0, all_bytes bytes (λ i. h (suc i)))
+
+pub bytes_of_all : (bytes : List ℕ) → AllByRecursion IsByte bytes → IsBytes bytes
+bytes_of_all [] h i = omega arith
+bytes_of_all (b ∷ bytes) h zero = h.0
+bytes_of_all (b ∷ bytes) h (suc i) = bytes_of_all bytes h.1 i
+
+pub all_left : (xs ys : List ℕ) → AllByRecursion IsByte (xs ++ ys) → AllByRecursion IsByte xs
+all_left [] ys h = tt
+all_left (x ∷ xs) ys h = (h.0, all_left xs ys h.1)
+
+pub all_right : (xs ys : List ℕ) → AllByRecursion IsByte (xs ++ ys) → AllByRecursion IsByte ys
+all_right [] ys h = h
+all_right (x ∷ xs) ys h = all_right xs ys h.1
+
+pub all_append : (xs ys : List ℕ) → AllByRecursion IsByte xs → AllByRecursion IsByte ys → AllByRecursion IsByte (xs ++ ys)
+all_append [] ys g h = h
+all_append (x ∷ xs) ys g h = (g.0, all_append xs ys g.1 h)
+
+pub all_set : (xs : List ℕ) (k n : ℕ) → AllByRecursion IsByte xs → n < 256 → AllByRecursion IsByte (set xs k n)
+all_set [] k n h f = tt
+all_set (x ∷ xs) zero n h f = (f, h.1)
+all_set (x ∷ xs) (suc k) n h f = (h.0, all_set xs k n h.1 f)
+
+pub all_drop : (n : ℕ) (xs : List ℕ) → AllByRecursion IsByte xs → AllByRecursion IsByte (drop n xs)
+all_drop zero xs h = h
+all_drop (suc n) [] h = tt
+all_drop (suc n) (x ∷ xs) h = all_drop n xs h.1
+
+pub word_bytes : (n : ℕ) → AllByRecursion IsByte (little_bytes 2 n)
+word_bytes n = (omega arith, (omega arith, tt))
+
 pub IsBytes-drop : (n : ℕ) (bytes : List ℕ) → IsBytes bytes → IsBytes (drop n bytes)
 IsBytes-drop n bytes h i = rw get_or-drop (h (n + i))
 
@@ -116,3 +158,24 @@ word_of a b p q = (omega arith, omega arith)
 pub quad_of : (a b c d n : ℕ) → a < 256 → b < 256 → c < 256 → d < 256 → n ≡ little_number 4 (a ∷ b ∷ c ∷ d ∷ [])
     → (n % 256 ≡ a) × (n / 256 % 256 ≡ b) × (n / 65536 % 256 ≡ c) × (n / 16777216 % 256 ≡ d)
 quad_of a b c d n p q r s e = (omega arith, omega arith, omega arith, omega arith)
+
+-- the test of bit 14
+multiple : (b x p : ℕ) → b < 2 → 0 < p → x ≡ b * p → not (nat_eq x 0) ≡ nat_eq b 1
+multiple zero x p few some e = grind (arith, nat_tests)
+multiple (suc zero) x p few some e = grind (arith, nat_tests)
+multiple (suc (suc n)) x p few some e = absurd (omega arith)
+
+pub circulating_flag : (w : ℕ) → not (nat_eq (bit_and w 16384) 0) ≡ nat_eq (w / 16384 % 2) 1
+circulating_flag w = multiple (w / 16384 % 2) (bit_and w 16384) 16384 (omega arith) (omega arith) (and_pow w 14)
+
+-- ---- what a search for a command's number tells
+
+pub unknown_command : (o : Option Command) (b : Bool) (n : ℕ) → IfNone o (14 < n) → is_some o ≡ not b → b ≡ true → 14 < n
+unknown_command None b n h e t = h
+unknown_command (Some c) true n h e t = absurd cc
+unknown_command (Some c) false n h e t = absurd cc
+
+pub known_command : (o : Option Command) (b : Bool) (n : ℕ) → IfSome o (λ (c : Command). n ≡ number_of c) → is_some o ≡ not b → b ≡ false → n ≤ 14
+known_command (Some c) b n h e t = omega (arith, h, number_most c)
+known_command None true n h e t = absurd cc
+known_command None false n h e t = absurd cc

@@ -5,8 +5,8 @@ use Rattle.std.proofs.lemmas.List.{length-append, append-nil}
 use Rattle.ec_frame.specs.declared.error.FrameError.{FrameError}
 use Rattle.ec_frame.specs.declared.error.FrameError.TheVariants.{Short, BadType, TooLong, BadLength, BadCommand, BadMore}
 use Rattle.ec_frame.specs.Commands.{number_of}
-use Rattle.ec_frame.specs.Datagram.{Datagram, spelling, IsDatagram, joined}
-use Rattle.ec_frame.specs.Refusals.{data_length, IsCutShort, SaysMoreWrongly, FaultAt, opened}
+use Rattle.ec_frame.specs.Datagram.{Datagram, spelling, IsDatagram, joined, data_length, opened}
+use Rattle.ec_frame.specs.Refusals.{IsCutShort, SaysMoreWrongly, FaultAt}
 use Rattle.ec_frame.proofs.Numbers.{number_most}
 use Rattle.ec_frame.proofs.Decoding.{one_spelling, data_length_again}
 

@@ -1,14 +1,14 @@
 -- The datagram at the front of some bytes, as the tests of the reader show it.
-use Rattle.std.proofs.Common.{◌≡◌, ℕ, ◌+◌, ◌%◌, ◌<◌, ◌≤◌, Bool, true, false, ltb, leb, eqb, List, [], ◌++◌, length, get_or, drop, refl, sym, ap, ◌∙◌, arith, inl, inr}
+use Rattle.std.proofs.Common.{◌≡◌, ℕ, ◌+◌, ◌%◌, ◌<◌, ◌≤◌, Bool, true, false, leb, eqb, List, [], ◌++◌, length, get_or, drop, refl, sym, ap, ◌∙◌, arith, inl, inr}
 use Rattle.std.proofs.Math.Bool.{not, beq}
 use Rattle.std.proofs.Common.{◌⊎◌}
 use Rattle.std.proofs.lemmas.List.{length-drop, length-take-le, nil_from_length}
 use Rattle.std.proofs.lemmas.Bool.Decides.{nat_tests}
 use Rattle.byteorder.specs.Endian.{little_number}
 use Rattle.ec_frame.specs.declared.error.FrameError.TheVariants.{BadMore, BadCommand}
-use Rattle.ec_frame.specs.Datagram.{spelling}
-use Rattle.ec_frame.specs.Refusals.{data_length, FaultAt}
-use Rattle.ec_frame.specs.Shape.{HasShape}
+use Rattle.ec_frame.specs.Datagram.{spelling, data_length}
+use Rattle.ec_frame.specs.Refusals.{FaultAt}
+use Rattle.ec_frame.specs.Reading.{HasShape}
 use Rattle.ec_frame.proofs.Numbers.{IsBytes}
 use Rattle.ec_frame.specs.Decoded.{after_data, decoded}
 use Rattle.ec_frame.proofs.Decoding.{more_at, decodes, good_decoded}
@@ -25,8 +25,9 @@ other_test true false e = refl
 other_test false true e = refl
 other_test false false e = absurd cc
 
-not_ltb : (m n : ℕ) → not (ltb m n) ≡ leb n m
-not_ltb m n = grind (arith, nat_tests)
+twice : (b : Bool) → not (not b) ≡ b
+twice true = refl
+twice false = refl
 
 not_true : (b : Bool) → not b ≡ true → b ≡ false
 not_true true e = absurd cc
@@ -42,41 +43,44 @@ more_ends : (more same : Bool) (after : List ℕ) → same ≡ more → (same �
 more_ends true same after e empty some = inl (refl, nil_from_length after (empty e))
 more_ends false same after e empty some = inr (refl, some e)
 
-module _ (bytes : List ℕ) (w : ℕ) (fits : IsBytes bytes) (is : w ≡ little_number 2 (drop 6 bytes)) (some : 12 ≤ length bytes) (whole : 12 + w % 2048 ≤ length bytes) where
-  n-is : w % 2048 ≡ data_length bytes
-  n-is = ap (λ (x : ℕ). x % 2048) is
+module _ (bytes : List ℕ) (w size : ℕ) (more : Bool) (fits : IsBytes bytes) (is : w ≡ little_number 2 (drop 6 bytes)) (length_is : size ≡ w % 2048) (more_is : more ≡ leb 32768 w) (some : 12 ≤ length bytes) (whole : 12 + size ≤ length bytes) where
+  n-is : size ≡ data_length bytes
+  n-is = length_is ∙ ap (λ (x : ℕ). x % 2048) is
 
-  after_length : length (drop 2 (after_data bytes)) + (12 + w % 2048) ≡ length bytes
+  says_more : more ≡ more_at bytes
+  says_more = more_is ∙ ap (λ (x : ℕ). leb 32768 x) is
+
+  after_length : length (drop 2 (after_data bytes)) + (12 + size) ≡ length bytes
   after_length = let e = n-is in omega (arith, length-drop 2 (after_data bytes), length-drop (data_length bytes) (drop 10 bytes), length-drop 10 bytes)
 
   back : get_or bytes 0 0 ≤ 14 → bytes ≡ spelling (more_at bytes) (decoded bytes) ++ drop 2 (after_data bytes)
   back known = let e = n-is in sym (decodes bytes fits some (omega arith) known)
 
-  len : 12 + w % 2048 ≡ 12 + length (decoded bytes).data_bytes
+  len : 12 + size ≡ 12 + length (decoded bytes).data_bytes
   len = let e = n-is in let long = length-take-le (data_length bytes) (drop 10 bytes) (omega (arith, length-drop 10 bytes)) in omega arith
 
-  pub shape_found : get_or bytes 0 0 ≤ 14 → not (beq (ltb w 32768) (eqb (length bytes) (12 + w % 2048))) ≡ false → HasShape bytes (record { len = 12 + w % 2048; is_last = ltb w 32768 })
+  pub shape_found : get_or bytes 0 0 ≤ 14 → not (beq (not more) (eqb (length bytes) (12 + size))) ≡ false → HasShape bytes (record { len = 12 + size; is_last = not more })
   shape_found known test =
-      let same : ltb w 32768 ≡ eqb (length bytes) (12 + w % 2048) = same_test _ _ test in
-      let more : not (ltb w 32768) ≡ more_at bytes = not_ltb w 32768 ∙ ap (λ (x : ℕ). leb 32768 x) is in
+      let same : not more ≡ eqb (length bytes) (12 + size) = same_test _ _ test in
+      let again : not (not more) ≡ more_at bytes = twice more ∙ says_more in
       let e = after_length in
       record {
         datagram = decoded bytes;
         after = drop 2 (after_data bytes);
         good = good_decoded bytes fits;
-        parts = rw more (back known);
+        parts = rw again (back known);
         len = len;
-        ends = λ last. let whole : length bytes ≡ 12 + w % 2048 = eqb_is _ _ (sym same ∙ last) in nil_from_length (drop 2 (after_data bytes)) (omega arith);
-        goes_on = λ last. let whole : 12 + w % 2048 < length bytes = eqb_not _ _ (sym same ∙ last) whole in omega arith;
+        ends = λ last. let whole : length bytes ≡ 12 + size = eqb_is _ _ (sym same ∙ last) in nil_from_length (drop 2 (after_data bytes)) (omega arith);
+        goes_on = λ last. let whole : 12 + size < length bytes = eqb_not _ _ (sym same ∙ last) whole in omega arith;
       }
 
   pub bad_command : 14 < get_or bytes 0 0 → FaultAt bytes BadCommand
   bad_command big = let e = n-is in (record { overhead = some; whole = omega arith }, big)
 
-  pub bad_more : get_or bytes 0 0 ≤ 14 → not (beq (ltb w 32768) (eqb (length bytes) (12 + w % 2048))) ≡ true → FaultAt bytes BadMore
+  pub bad_more : get_or bytes 0 0 ≤ 14 → not (beq (not more) (eqb (length bytes) (12 + size))) ≡ true → FaultAt bytes BadMore
   bad_more known test =
-      let other : eqb (length bytes) (12 + w % 2048) ≡ not (ltb w 32768) = other_test _ _ test in
-      let more : not (ltb w 32768) ≡ more_at bytes = not_ltb w 32768 ∙ ap (λ (x : ℕ). leb 32768 x) is in
+      let other : eqb (length bytes) (12 + size) ≡ not (not more) = other_test _ _ test in
+      let again : not (not more) ≡ more_at bytes = twice more ∙ says_more in
       let e = after_length in
       record {
         more = more_at bytes;
@@ -84,5 +88,5 @@ module _ (bytes : List ℕ) (w : ℕ) (fits : IsBytes bytes) (is : w ≡ little_
         after = drop 2 (after_data bytes);
         good = good_decoded bytes fits;
         parts = back known;
-        wrong = more_ends (more_at bytes) (eqb (length bytes) (12 + w % 2048)) (drop 2 (after_data bytes)) (other ∙ more) (λ t. let is_whole : length bytes ≡ 12 + w % 2048 = eqb_is _ _ t in omega arith) (λ t. let is_more : 12 + w % 2048 < length bytes = eqb_not _ _ t whole in omega arith);
+        wrong = more_ends (more_at bytes) (eqb (length bytes) (12 + size)) (drop 2 (after_data bytes)) (other ∙ again) (λ t. let is_whole : length bytes ≡ 12 + size = eqb_is _ _ t in omega arith) (λ t. let is_more : 12 + size < length bytes = eqb_not _ _ t whole in omega arith);
       }

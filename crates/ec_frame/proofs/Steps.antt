@@ -3,15 +3,14 @@ use Rattle.std.proofs.Common.{◌≡◌, ℕ, ◌+◌, ◌-◌, ◌<◌, ◌≤�
 use Rattle.std.specs.List.{AllByRecursion}
 use Rattle.std.proofs.lemmas.List.{length-append, append-nil, drop_at, take_at}
 use Rattle.byteorder.specs.Endian.{little_bytes}
-use Rattle.ec_frame.specs.declared.places.Span.{Span}
-use Rattle.ec_frame.specs.declared.places.Places.{Places}
-use Rattle.ec_frame.specs.Datagram.{Datagram, spelling, IsDatagram, is_followed, joined}
-use Rattle.ec_frame.specs.Frame.{IsFrame}
-use Rattle.ec_frame.specs.Passing.{handled_all, after_all, KeepsLength}
-use Rattle.ec_frame.specs.Places.{IsAhead, StepsTo}
-use Rattle.ec_frame.specs.Refusals.{opened}
+use Rattle.ec_frame.specs.declared.cursor.Span.{Span}
+use Rattle.ec_frame.specs.declared.cursor.Places.{Places}
+use Rattle.ec_frame.specs.Datagram.{Datagram, spelling, IsDatagram, is_followed, joined, opened}
+use Rattle.ec_frame.specs.Frame.{IsByte, IsFrame}
+use Rattle.ec_frame.specs.Walk.{handled_all, after_all, KeepsLength}
+use Rattle.ec_frame.specs.Cursor.{IsAhead, StepsTo}
 use Rattle.ec_frame.proofs.Writes.{bare_length}
-use Rattle.ec_frame.proofs.Walk.{All-push, opened_push}
+use Rattle.ec_frame.proofs.Walked.{All-push, opened_push}
 
 abbrev pub header : ℕ → Bool → List ℕ
 header n bit = little_bytes 2 (n + cond bit 2048 0 + 4096)
@@ -140,12 +139,13 @@ module _ {S : Type 0} (f : S → Datagram → Datagram) (g : S → Datagram → 
         end = omega arith;
       }
 
-  pub ends : (s : S) (frame : List ℕ) (p : Places) (done : List Datagram) → length (joined ds) ≤ 1470 → ProgressAt f g first bit ds tail s frame p done [] → Spells frame bit (handled_all f g first ds) tail × (s ≡ after_all f g first ds)
-  ends s frame p done most r =
+  pub ends : (s : S) (frame : List ℕ) (p : Places) (done : List Datagram) → length (joined ds) ≤ 1470 → AllByRecursion IsByte frame → ProgressAt f g first bit ds tail s frame p done [] → Spells frame bit (handled_all f g first ds) tail × (s ≡ after_all f g first ds)
+  ends s frame p done most bytes r =
       let all : done ≡ handled_all f g first ds = sym (append-nil done) ∙ r.out in
       let size : length (joined done) ≡ length (joined ds) = ap (λ (b : List Datagram). length (joined b)) (sym (append-nil done)) ∙ r.size in
       let some : 0 < length done = omega (arith, r.some, ap length (append-nil done)) in
       let spells : Spells frame bit done tail = record {
+        bytes = bytes;
         some = some;
         each = r.done_each;
         most = omega arith;
@@ -216,9 +216,9 @@ module _ {S : Type 0} (f : S → Datagram → Datagram) (g : S → Datagram → 
       let end_next = ap (λ (z : Places). z.end) t.moved in
       omega (arith, length-append (spelling (is_followed t.others) t.datagram) (joined t.others), bare_length (is_followed t.others) t.datagram)
 
-  pub none_at : (s : S) (frame : List ℕ) (p q : Places) (r : Option Span) (done rest : List Datagram) → length (joined ds) ≤ 1470 → ProgressAt f g first bit ds tail s frame p done rest → StepsTo p q r rest → ((span : Span) → r ≡ Some span → ⊥) → Spells frame bit (handled_all f g first ds) tail × (s ≡ after_all f g first ds)
-  none_at s frame p q r done [] most h step never = ends s frame p done most h
-  none_at s frame p q r done (d ∷ others) most h step never = absurd (never _ step.0)
+  pub none_at : (s : S) (frame : List ℕ) (p q : Places) (r : Option Span) (done rest : List Datagram) → length (joined ds) ≤ 1470 → AllByRecursion IsByte frame → ProgressAt f g first bit ds tail s frame p done rest → StepsTo p q r rest → ((span : Span) → r ≡ Some span → ⊥) → Spells frame bit (handled_all f g first ds) tail × (s ≡ after_all f g first ds)
+  none_at s frame p q r done [] most bytes h step never = ends s frame p done most bytes h
+  none_at s frame p q r done (d ∷ others) most bytes h step never = absurd (never _ step.0)
 
-  pub all_done : (s : S) (frame : List ℕ) (p q : Places) (r : Option Span) → length (joined ds) ≤ 1470 → Progress f g first bit ds tail s frame p → ((rest : List Datagram) → IsAhead frame p rest → StepsTo p q r rest) → ((span : Span) → r ≡ Some span → ⊥) → Spells frame bit (handled_all f g first ds) tail × (s ≡ after_all f g first ds)
-  all_done s frame p q r most h step never = none_at s frame p q r h.0 h.1 most h.2 (step h.1 (ahead f g first bit ds tail s frame p h.0 h.1 h.2)) never
+  pub all_done : (s : S) (frame : List ℕ) (p q : Places) (r : Option Span) → length (joined ds) ≤ 1470 → AllByRecursion IsByte frame → Progress f g first bit ds tail s frame p → ((rest : List Datagram) → IsAhead frame p rest → StepsTo p q r rest) → ((span : Span) → r ≡ Some span → ⊥) → Spells frame bit (handled_all f g first ds) tail × (s ≡ after_all f g first ds)
+  all_done s frame p q r most bytes h step never = none_at s frame p q r h.0 h.1 most bytes h.2 (step h.1 (ahead f g first bit ds tail s frame p h.0 h.1 h.2)) never

@@ -6,15 +6,15 @@ use Rattle.std.proofs.lemmas.Bool.Decides.{nat_tests}
 use Rattle.byteorder.specs.Endian.{little_bytes, little_number}
 use Rattle.ec_frame.specs.declared.error.FrameError.{FrameError}
 use Rattle.ec_frame.specs.declared.error.FrameError.TheVariants.{Short, BadType, TooLong, BadLength, BadCommand, BadMore}
-use Rattle.ec_frame.specs.Datagram.{Datagram, spelling, IsDatagram, joined}
-use Rattle.ec_frame.specs.Frame.{Payload, IsFrame}
-use Rattle.ec_frame.specs.Refusals.{FirstFault, stated, HasArea, area, IsRefused, opened}
-use Rattle.ec_frame.specs.Shape.{GivesCount, GivesVerdict}
-use Rattle.ec_frame.proofs.Numbers.{IsBytes, word_back, word_again}
+use Rattle.ec_frame.specs.Datagram.{Datagram, spelling, IsDatagram, joined, opened}
+use Rattle.ec_frame.specs.Frame.{Payload, IsFrame, length_field, area}
+use Rattle.ec_frame.specs.Refusals.{FirstFault, HasArea, IsRefused}
+use Rattle.ec_frame.specs.Reading.{GivesCount, GivesVerdict}
+use Rattle.ec_frame.proofs.Numbers.{IsBytes, all_bytes, word_back, word_again}
 use Rattle.ec_frame.proofs.Readings.{Reads, one_reading, Ended, ended}
 
-area_length : (payload : List ℕ) → HasArea payload → length (area payload) ≡ stated payload
-area_length payload h = let whole = h.whole in length-take-le (stated payload) (drop 2 payload) (omega (arith, length-drop 2 payload))
+area_length : (payload : List ℕ) → HasArea payload → length (area payload) ≡ length_field payload
+area_length payload h = let whole = h.whole in length-take-le (length_field payload) (drop 2 payload) (omega (arith, length-drop 2 payload))
 
 some_datagram : (ds : List Datagram) (xs : List ℕ) → xs ≡ joined ds → 0 < length xs → 0 < length ds
 some_datagram [] xs e h = absurd (omega (arith, ap length e))
@@ -25,27 +25,28 @@ number_is w e = grind (arith, nat_tests)
 
 -- what the payload says
 abbrev said : List ℕ → List Datagram → Payload
-said payload ds = record { reserved = eqb (little_number 2 payload / 2048 % 2) 1; datagrams = ds; rest = drop (stated payload) (drop 2 payload) }
+said payload ds = record { reserved = eqb (little_number 2 payload / 2048 % 2) 1; datagrams = ds; rest = drop (length_field payload) (drop 2 payload) }
 
-found : (payload : List ℕ) → IsBytes payload → HasArea payload → 0 < stated payload → (ds : List Datagram) → AllByRecursion IsDatagram ds → area payload ≡ joined ds → IsFrame payload (said payload ds)
+found : (payload : List ℕ) → IsBytes payload → HasArea payload → 0 < length_field payload → (ds : List Datagram) → AllByRecursion IsDatagram ds → area payload ≡ joined ds → IsFrame payload (said payload ds)
 found payload fits h some ds each e =
     let w : ℕ = little_number 2 payload in
     let bit : ℕ = cond (eqb (w / 2048 % 2) 1) 2048 0 in
     let size = area_length payload h in
     let two = h.header.whole in
     let most = h.header.most in
-    let tail : List ℕ = drop (stated payload) (drop 2 payload) in
-    let long : length (joined ds) ≡ stated payload = ap length (sym e) ∙ size in
+    let tail : List ℕ = drop (length_field payload) (drop 2 payload) in
+    let long : length (joined ds) ≡ length_field payload = ap length (sym e) ∙ size in
     let number : w ≡ length (joined ds) + bit + 4096 = number_is w h.header.type ∙ ap (λ (n : ℕ). n + bit + 4096) (sym long) in
-    let rest : drop 2 payload ≡ joined ds ++ tail = sym (take-append-drop (stated payload) (drop 2 payload)) ∙ ap (λ (xs : List ℕ). xs ++ tail) e in
+    let rest : drop 2 payload ≡ joined ds ++ tail = sym (take-append-drop (length_field payload) (drop 2 payload)) ∙ ap (λ (xs : List ℕ). xs ++ tail) e in
     record {
+      bytes = all_bytes payload fits;
       some = some_datagram ds (area payload) e (omega arith);
       each = each;
       most = omega arith;
       parts = sym (word_back payload fits two) ∙ ap (λ (n : ℕ). little_bytes 2 n ++ drop 2 payload) number ∙ ap (λ (xs : List ℕ). little_bytes 2 (length (joined ds) + bit + 4096) ++ xs) rest;
     }
 
-pub verdict_of : (payload : List ℕ) (r : Result ℕ FrameError) → IsBytes payload → HasArea payload → 0 < stated payload → GivesCount (area payload) r → GivesVerdict payload r
+pub verdict_of : (payload : List ℕ) (r : Result ℕ FrameError) → IsBytes payload → HasArea payload → 0 < length_field payload → GivesCount (area payload) r → GivesVerdict payload r
 verdict_of payload (Ok count) fits h some g = (said payload g.0, found payload fits h some g.0 g.1 g.2, g.3)
 verdict_of payload (Err Short) fits h some g = absurd g.fault
 verdict_of payload (Err BadType) fits h some g = absurd g.fault
@@ -68,7 +69,7 @@ reserved_fits false = (omega arith, omega arith)
 
 pub record AreaIs (payload : List ℕ) (p : Payload) : Type 0 where
   pub has : HasArea payload
-  pub stated : stated payload ≡ length (joined p.datagrams)
+  pub said : length_field payload ≡ length (joined p.datagrams)
   pub area : area payload ≡ joined p.datagrams
   pub number : little_number 2 payload ≡ length (joined p.datagrams) + reserved_bit p.reserved + 4096
   pub rest : drop 2 payload ≡ joined p.datagrams ++ p.rest
@@ -81,12 +82,12 @@ area_is payload p s =
     let bit_fits = reserved_fits p.reserved in
     let w : little_number 2 payload ≡ n + bit + 4096 = ap (λ (xs : List ℕ). little_number 2 xs) s.parts ∙ word_again (n + bit + 4096) (joined p.datagrams ++ p.rest) (omega arith) in
     let hn = header_number n bit most bit_fits.0 bit_fits.1 in
-    let st : stated payload ≡ n = ap (λ (x : ℕ). x % 2048) w ∙ hn.0 in
+    let st : length_field payload ≡ n = ap (λ (x : ℕ). x % 2048) w ∙ hn.0 in
     let long : length payload ≡ 2 + (n + length p.rest) = ap length s.parts ∙ ap (λ (x : ℕ). suc (suc x)) (length-append (joined p.datagrams) p.rest) ∙ omega arith in
     let behind : drop 2 payload ≡ joined p.datagrams ++ p.rest = ap (λ (xs : List ℕ). drop 2 xs) s.parts in
     record {
       has = record { header = record { whole = omega arith; type = ap (λ (x : ℕ). x / 4096) w ∙ hn.1; most = omega arith }; whole = omega arith };
-      stated = st;
+      said = st;
       area = rw st (ap (λ (xs : List ℕ). take n xs) behind ∙ take_at (joined p.datagrams) p.rest n refl);
       number = w;
       rest = behind;
@@ -150,10 +151,10 @@ no_first_fault payload p e f g =
     let one = one_reading s.before g.before (area payload) _ _ (Ok s.last) (Err e) (reads_of (area payload) p.datagrams s (area_is payload p f).area) (reads_fault (area payload) e g) in
     ok_no_err s.last e one.1
 
-frame_some : (payload : List ℕ) (p : Payload) → IsFrame payload p → stated payload ≡ 0 → ⊥
+frame_some : (payload : List ℕ) (p : Payload) → IsFrame payload p → length_field payload ≡ 0 → ⊥
 frame_some payload p f z =
     let s = ended p.datagrams f.some f.each in
-    let a = (area_is payload p f).stated in
+    let a = (area_is payload p f).said in
     omega (arith, ap length s.spelled, length-append (opened s.before) (spelling false s.last))
 
 pub no_refusal : (payload : List ℕ) (p : Payload) (e : FrameError) → IsFrame payload p → IsRefused payload e → ⊥
@@ -169,7 +170,7 @@ no_refusal payload p BadMore f (h, g) = no_first_fault payload p BadMore f g
 two_faults : (payload : List ℕ) (e f : FrameError) → FirstFault (area payload) e → FirstFault (area payload) f → e ≡ f
 two_faults payload e f g h = err_is e f (one_reading g.before h.before (area payload) _ _ (Err e) (Err f) (reads_fault (area payload) e g) (reads_fault (area payload) f h)).1
 
-empty_no_fault : (payload : List ℕ) (e : FrameError) → HasArea payload → stated payload ≡ 0 → FirstFault (area payload) e → ⊥
+empty_no_fault : (payload : List ℕ) (e : FrameError) → HasArea payload → length_field payload ≡ 0 → FirstFault (area payload) e → ⊥
 empty_no_fault payload e h z f = not_empty (area payload) e f (area_length payload h ∙ z)
 
 short_area : (payload : List ℕ) → IsRefused payload Short → HasArea payload → ⊥

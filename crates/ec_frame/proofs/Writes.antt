@@ -3,7 +3,7 @@ use Rattle.std.proofs.Common.{◌≡◌, ℕ, ◌+◌, ◌-◌, ◌*◌, ◌/◌
 use Rattle.std.proofs.lemmas.List.{append-nil, drop_at, take_at}
 use Rattle.byteorder.specs.Endian.{little_bytes, little_number}
 use Rattle.ec_frame.specs.declared.command.Command.{Command}
-use Rattle.ec_frame.specs.declared.header.Header.{Header}
+use Rattle.ec_frame.specs.declared.datagram.Header.{Header}
 use Rattle.ec_frame.specs.Commands.{number_of}
 use Rattle.ec_frame.specs.Datagram.{Datagram, flags, heading, spelling, IsDatagram}
 use Rattle.ec_frame.specs.Fields.{header_of, with_address, with_adp, with_data, with_counter}

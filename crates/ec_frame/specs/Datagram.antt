@@ -1,6 +1,7 @@
 -- A datagram and its spelling in bytes (ETG.1000.4, "EtherCAT datagram"). Numbers of several bytes are little-endian.
-use Rattle.std.specs.Prelude.{◌≡◌, ℕ, ◌+◌, ◌*◌, ◌/◌, ◌%◌, ◌^◌, ◌<◌, Bool, true, false, if◌then◌else◌, List, [], ◌∷◌, ◌++◌, length}
-use Rattle.byteorder.specs.Endian.{little_bytes}
+use Rattle.std.specs.Prelude.{◌≡◌, ℕ, ◌+◌, ◌*◌, ◌/◌, ◌%◌, ◌^◌, ◌<◌, Bool, true, false, if◌then◌else◌, List, [], ◌∷◌, ◌++◌, length, drop}
+use Rattle.std.specs.List.{flat_map}
+use Rattle.byteorder.specs.Endian.{little_bytes, little_number}
 use Rattle.ec_frame.specs.declared.command.Command.{Command}
 use Rattle.ec_frame.specs.Commands.{number_of}
 
@@ -32,7 +33,7 @@ heading more d = number_of d.command ∷ d.index ∷ little_bytes 4 d.address ++
 abbrev pub spelling : Bool → Datagram → List ℕ
 spelling more d = heading more d ++ (d.data_bytes ++ little_bytes 2 d.counter)
 
--- each field fits its bits
+-- Each field fits its bits. That the data are bytes is a frame's to say: `IsFrame` has it of the whole payload.
 pub record IsDatagram (d : Datagram) : Type 0 where
   pub index : d.index < 256
   pub address : d.address < 2 ^ 32
@@ -53,3 +54,11 @@ is_followed (d ∷ ds) = true
 abbrev pub joined : List Datagram → List ℕ
 joined [] = []
 joined (d ∷ ds) = spelling (is_followed ds) d ++ joined ds
+
+-- the spellings of datagrams that others follow
+abbrev pub opened : List Datagram → List ℕ
+opened ds = flat_map (spelling true) ds
+
+-- the length of the data that the bytes of a datagram say
+abbrev pub data_length : List ℕ → ℕ
+data_length bytes = little_number 2 (drop 6 bytes) % 2048

@@ -1,11 +1,10 @@
--- The datagrams that bytes spell, read from the front: how a builder is seen. The law
--- `SpellingsAreReadBack` ties them to spellings.
+-- The datagrams that bytes spell, read from the front. The law `FramesAreDecoded` ties them to `IsFrame`.
 use Rattle.std.specs.Prelude.{ℕ, zero, suc, ◌/◌, ◌%◌, nat_eq, List, [], ◌∷◌, length, take, drop, get_or}
 use Rattle.byteorder.specs.Endian.{little_number}
 use Rattle.ec_frame.specs.declared.command.Command.{Command}
 use Rattle.ec_frame.specs.declared.command.Command.TheVariants.{Nop, Aprd, Apwr, Aprw, Fprd, Fpwr, Fprw, Brd, Bwr, Brw, Lrd, Lwr, Lrw, Armw, Frmw}
-use Rattle.ec_frame.specs.Datagram.{Datagram}
-use Rattle.ec_frame.specs.Refusals.{data_length}
+use Rattle.ec_frame.specs.Datagram.{Datagram, data_length}
+use Rattle.ec_frame.specs.Frame.{area}
 
 abbrev pub command_at : ℕ → Command
 command_at n =
@@ -35,6 +34,6 @@ datagrams_in (suc n) [] = []
 datagrams_in (suc n) (b ∷ bytes) =
     decoded (b ∷ bytes) ∷ datagrams_in n (drop 2 (after_data (b ∷ bytes)))
 
--- those behind the two bytes of a header
+-- the datagrams of a frame
 abbrev pub datagrams_of : List ℕ → List Datagram
-datagrams_of bytes = datagrams_in (length bytes) (drop 2 bytes)
+datagrams_of payload = datagrams_in (length (area payload)) (area payload)

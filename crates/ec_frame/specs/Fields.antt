@@ -1,6 +1,6 @@
 -- A datagram's header as the code holds it, and a datagram with one field changed.
 use Rattle.std.specs.Prelude.{ℕ, ◌+◌, ◌*◌, ◌/◌, Bool, List, length}
-use Rattle.ec_frame.specs.declared.header.Header.{Header}
+use Rattle.ec_frame.specs.declared.datagram.Header.{Header}
 use Rattle.ec_frame.specs.Datagram.{Datagram}
 
 abbrev pub header_of : Bool → Datagram → Header

@@ -1,14 +1,44 @@
 -- Laws over the definitions of frames alone.
-use Rattle.std.specs.Prelude.{◌≡◌, ◌+◌, ◌*◌, ◌<◌, ◌≤◌, Bool, ℕ, List, ◌++◌, length}
+use Rattle.std.specs.Prelude.{◌≡◌, ◌+◌, ◌*◌, ◌<◌, ◌≤◌, ◌⊎◌, Bool, ℕ, List, ◌++◌, length}
 use Rattle.std.specs.List.{AllByRecursion}
-use Rattle.ec_frame.specs.Datagram.{Datagram, IsDatagram, adp_of, ado_of, spelling}
-use Rattle.ec_frame.specs.Decoded.{datagrams_in}
-use Rattle.ec_frame.specs.Frame.{Payload, IsFrame}
-use Rattle.ec_frame.specs.Refusals.{opened}
+use Rattle.ec_frame.specs.declared.error.FrameError.{FrameError}
+use Rattle.ec_frame.specs.Datagram.{Datagram, IsDatagram, adp_of, ado_of, opened, spelling}
+use Rattle.ec_frame.specs.Decoded.{datagrams_in, datagrams_of}
+use Rattle.ec_frame.specs.Frame.{IsByte, IsFrame, Payload}
+use Rattle.ec_frame.specs.Refusals.{IsRefused}
+
+-- ---- frames
 
 -- bytes are a frame of one payload at most
 abbrev pub FramesAreReadOneWay : Type 0
 FramesAreReadOneWay = (bytes : List ℕ) (p q : Payload) → IsFrame bytes p → IsFrame bytes q → p ≡ q
+
+-- the datagrams of a frame are those that its bytes are decoded to
+abbrev pub FramesAreDecoded : Type 0
+FramesAreDecoded = (payload : List ℕ) (p : Payload) → IsFrame payload p → datagrams_of payload ≡ p.datagrams
+
+-- the data of a frame's datagrams are bytes, and so is what follows them
+abbrev pub DataAreBytes : Type 0
+DataAreBytes =
+    (payload : List ℕ) (p : Payload) → IsFrame payload p
+    → AllByRecursion (λ (d : Datagram). AllByRecursion IsByte d.data_bytes) p.datagrams × AllByRecursion IsByte p.rest
+
+-- ---- refusals
+
+-- bytes are a frame, or some test refuses them
+abbrev pub IsFrameOrRefused : Type 0
+IsFrameOrRefused =
+    (payload : List ℕ) → AllByRecursion IsByte payload → ((p : Payload) × IsFrame payload p) ⊎ ((e : FrameError) × IsRefused payload e)
+
+-- and not both
+abbrev pub NoFrameIsRefused : Type 0
+NoFrameIsRefused = (payload : List ℕ) (p : Payload) (e : FrameError) → IsFrame payload p → IsRefused payload e → ⊥
+
+-- one test alone is the first to fail
+abbrev pub RefusedForOneCause : Type 0
+RefusedForOneCause = (payload : List ℕ) (e f : FrameError) → IsRefused payload e → IsRefused payload f → e ≡ f
+
+-- ---- datagrams
 
 -- where a spelling begins some bytes, no other begins them too, and what follows is told
 abbrev pub NoSpellingBeginsAnother : Type 0

@@ -1,13 +1,19 @@
-pub mod Building
+-- What is to be believed, in this order: `Commands`, `Datagram` and `Frame` say which bytes are which frame, `Refusals` which are
+-- none, and why. `Decoded` reads a frame's datagrams from its bytes, `Fields` changes one field of a datagram, `Walk` handles
+-- all datagrams of a frame in order, `Building` makes them. `Cursor` and `Parts` say where datagrams stand in a frame, and how
+-- their parts are lent.
 pub mod Commands
 pub mod Datagram
+pub mod Frame
+pub mod Refusals
 pub mod Decoded
 pub mod Fields
-pub mod Frame
-pub mod Kept
-pub mod Laws
+pub mod Walk
+pub mod Building
+pub mod Cursor
 pub mod Parts
-pub mod Passing
-pub mod Places
-pub mod Refusals
-pub mod Shape
+-- Other words for the same, proved.
+pub mod Laws
+-- For private code alone: no public clause cites them.
+pub mod Reading
+pub mod Built

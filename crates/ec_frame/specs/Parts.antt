@@ -1,4 +1,4 @@
--- Two parts of some bytes, lent apart.
+-- Two parts of some bytes, lent as two slices.
 use Rattle.std.specs.Prelude.{ℕ, List, ◌++◌}
 use Rattle.std.specs.Borrow.{LendsBoth, MutBor, Fml, u8, Array}
 

@@ -2,23 +2,25 @@ ghost use Rattle.std.specs.Prelude.{◌≡◌, ◌≤◌, ◌<◌, ◌+◌, ◌�
 ghost use Rattle.std.specs.Prelude.{OnOk, OnErr};
 ghost use Rattle.byteorder.specs.Endian.{little_bytes};
 ghost use Rattle.ec_frame.specs.declared.command.Command.{Command};
-ghost use Rattle.ec_frame.specs.Building.{IsBuilt, bare_payload, new_datagram};
+ghost use Rattle.ec_frame.specs.Built.{IsBuilt, built_datagrams};
+ghost use Rattle.ec_frame.specs.Building.{bare_payload, new_datagram};
 ghost use Rattle.ec_frame.specs.Commands.{number_of};
 ghost use Rattle.ec_frame.specs.Datagram.{Datagram, joined};
-ghost use Rattle.ec_frame.specs.Decoded.{datagrams_of};
 ghost use Rattle.ec_frame.specs.Frame.{IsFrame};
 
 use crate::command::Command;
-use crate::reading::OVERHEAD;
+use crate::field::{DATAGRAMS, FLAGS_HIGH, FRAME_HEADER_LEN, MORE, OVERHEAD};
 use arrayvec::ArrayVec;
 use byteorder::{ByteOrder, LittleEndian};
 use std::marker::Model;
+use thiserror::Error;
 
-/// A frame's payload: at most 1472 bytes.
+/// The frame of an EtherCAT UDP datagram: two bytes of header, and at most 1470 of datagrams.
 pub type Frame = ArrayVec<u8, 1472>;
 
 /// The datagram doesn't fit beside those that are there: 1470 bytes is the most for all.
-#[derive(Clone, Copy, Debug, PartialEq, Eq, Drop)]
+#[derive(Clone, Copy, Debug, PartialEq, Eq, Drop, Error)]
+#[error("the datagram doesn't fit in the frame")]
 pub struct Full;
 
 impl Full {
@@ -29,11 +31,6 @@ impl Full {
         8
     }
 }
-
-/// In the word of flags: another datagram follows.
-const MORE: u16 = 0x8000;
-/// In the header: the type of a frame of datagrams.
-const DATAGRAMS: u16 = 0x1000;
 
 /// The ten bytes before the data.
 fn heading_of(command: Command, index: u8, address: u32, flags: u16) -> [u8; 10]
@@ -75,9 +72,9 @@ pub struct Builder {
 impl Model for Builder {
     ghost Value = { List Datagram };
 
-    ghost view = { λ b. datagrams_of b.frame.items };
+    ghost view = { λ b. built_datagrams b.frame.items };
 
-    ghost invariant = { λ b. IsBuilt b.frame.items b.last (datagrams_of b.frame.items) };
+    ghost invariant = { λ b. IsBuilt b.frame.items b.last (built_datagrams b.frame.items) };
 }
 
 impl Builder {
@@ -88,7 +85,10 @@ impl Builder {
         let mut frame = Frame::new();
         frame.push(0);
         frame.push(0);
-        Builder { frame, last: 2 }
+        Builder {
+            frame,
+            last: FRAME_HEADER_LEN,
+        }
     }
 
     /// Appends a datagram with this data and counter 0. `Full` where all datagrams together would
@@ -123,10 +123,10 @@ impl Builder {
         ensures { IsFrame result.items (bare_payload self) }
     {
         let Builder { mut frame, last } = self;
-        let len = frame.len() - 2;
+        let len = frame.len() - FRAME_HEADER_LEN;
         let bytes = frame.as_mut_slice();
-        // the high byte of the last datagram's flags has the more bit
-        bytes[last + 7] -= 0x80;
+        // the last datagram doesn't say that another follows
+        bytes[last + FLAGS_HIGH] -= (MORE >> 8) as u8;
         LittleEndian::write_u16(bytes, len as u16 + DATAGRAMS);
         frame
     }

@@ -3,24 +3,24 @@
 #![tactic(auto)]
 
 mod builder;
+mod checking;
 mod command;
+mod cursor;
+mod datagram;
 mod error;
-mod fields;
-mod header;
+mod field;
 pub mod laws;
-mod parts;
-mod passing;
-mod places;
-mod reading;
 #[cfg(test)]
 mod tests;
+mod walk;
 
 pub use crate::builder::{Builder, Frame, Full};
+pub use crate::checking::check;
 pub use crate::command::Command;
+pub use crate::cursor::{Places, Span};
+pub use crate::datagram::{
+    Header, cut_counter, cut_heading, physical, read_counter, read_data, write_address, write_adp,
+    write_counter,
+};
 pub use crate::error::FrameError;
-pub use crate::fields::{read_counter, read_data, write_address, write_adp, write_counter};
-pub use crate::header::{Header, physical};
-pub use crate::parts::{cut_counter, cut_heading};
-pub use crate::passing::{Handler, pass};
-pub use crate::places::{Places, Span};
-pub use crate::reading::check;
+pub use crate::walk::{Handler, pass};

@@ -6,7 +6,7 @@ use Rattle.ec_frame.specs.Datagram.{Datagram}
 use Rattle.ec_frame.specs.Frame.{Payload, IsFrame, with_datagrams}
 use Rattle.ec_slave.specs.State.{SlaveState}
 use Rattle.ec_slave.specs.Meeting.{IsPassed, passes}
-use Rattle.ec_ring.specs.Rings.{rings}
+use Rattle.ec_ring.specs.Rings.{passes_ring}
 
 -- i slaves have been passed: what is done, the datagrams as they are, and that going on with the rest gives the whole
 pub record IsUnderWay (ss : List SlaveState) (p : Payload) (i : ℕ) (slaves : List SlaveState) (frame : List ℕ) : Type 0 where
@@ -15,8 +15,8 @@ pub record IsUnderWay (ss : List SlaveState) (p : Payload) (i : ℕ) (slaves : L
   pub many : length done ≡ i
   pub slaves_are : slaves ≡ done ++ drop i ss
   pub frame_is : IsFrame frame (with_datagrams p datagrams)
-  pub ends_slaves : done ++ (rings (drop i ss) datagrams).slaves ≡ (rings ss p.datagrams).slaves
-  pub ends_datagrams : (rings (drop i ss) datagrams).datagrams ≡ (rings ss p.datagrams).datagrams
+  pub ends_slaves : done ++ (passes_ring (drop i ss) datagrams).slaves ≡ (passes_ring ss p.datagrams).slaves
+  pub ends_datagrams : (passes_ring (drop i ss) datagrams).datagrams ≡ (passes_ring ss p.datagrams).datagrams
 
 pub started : (ss : List SlaveState) (p : Payload) (frame : List ℕ) → IsFrame frame p → IsUnderWay ss p 0 ss frame
 started ss p frame h = record { done = []; datagrams = p.datagrams; many = refl; slaves_are = refl; frame_is = h; ends_slaves = refl; ends_datagrams = refl }
@@ -42,17 +42,17 @@ passed_one ss p i slaves frame s after left u l q =
           ∙ (set-append_seam u.done m (drop (i + 1) ss) after ∙ sym (whole (drop (i + 1) ss))));
       frame_is = subst (λ (t : SlaveState). IsFrame left (with_datagrams p (passes t u.datagrams).datagrams)) own (q.frame (with_datagrams p u.datagrams) u.frame_is);
       ends_slaves =
-          whole (rings (drop (i + 1) ss) ds).slaves
-          ∙ (ap (λ (t : SlaveState). u.done ++ t ∷ (rings (drop (i + 1) ss) ds).slaves) made
-          ∙ (ap (λ (t : List SlaveState). u.done ++ (rings t u.datagrams).slaves) (sym rest) ∙ u.ends_slaves));
-      ends_datagrams = ap (λ (t : List SlaveState). (rings t u.datagrams).datagrams) (sym rest) ∙ u.ends_datagrams;
+          whole (passes_ring (drop (i + 1) ss) ds).slaves
+          ∙ (ap (λ (t : SlaveState). u.done ++ t ∷ (passes_ring (drop (i + 1) ss) ds).slaves) made
+          ∙ (ap (λ (t : List SlaveState). u.done ++ (passes_ring t u.datagrams).slaves) (sym rest) ∙ u.ends_slaves));
+      ends_datagrams = ap (λ (t : List SlaveState). (passes_ring t u.datagrams).datagrams) (sym rest) ∙ u.ends_datagrams;
     }
 
-pub arrived_slaves : (ss : List SlaveState) (p : Payload) (i : ℕ) (slaves : List SlaveState) (frame : List ℕ) → IsUnderWay ss p i slaves frame → length ss ≤ i → slaves ≡ (rings ss p.datagrams).slaves
+pub arrived_slaves : (ss : List SlaveState) (p : Payload) (i : ℕ) (slaves : List SlaveState) (frame : List ℕ) → IsUnderWay ss p i slaves frame → length ss ≤ i → slaves ≡ (passes_ring ss p.datagrams).slaves
 arrived_slaves ss p i slaves frame u l =
     u.slaves_are ∙ (ap (λ (t : List SlaveState). u.done ++ t) (drop_all i ss l)
-    ∙ (sym (ap (λ (t : List SlaveState). u.done ++ (rings t u.datagrams).slaves) (drop_all i ss l)) ∙ u.ends_slaves))
+    ∙ (sym (ap (λ (t : List SlaveState). u.done ++ (passes_ring t u.datagrams).slaves) (drop_all i ss l)) ∙ u.ends_slaves))
 
-pub arrived_frame : (ss : List SlaveState) (p : Payload) (i : ℕ) (slaves : List SlaveState) (frame : List ℕ) → IsUnderWay ss p i slaves frame → length ss ≤ i → IsFrame frame (with_datagrams p (rings ss p.datagrams).datagrams)
+pub arrived_frame : (ss : List SlaveState) (p : Payload) (i : ℕ) (slaves : List SlaveState) (frame : List ℕ) → IsUnderWay ss p i slaves frame → length ss ≤ i → IsFrame frame (with_datagrams p (passes_ring ss p.datagrams).datagrams)
 arrived_frame ss p i slaves frame u l =
-    subst (λ (t : List Datagram). IsFrame frame (with_datagrams p t)) (sym (ap (λ (t : List SlaveState). (rings t u.datagrams).datagrams) (drop_all i ss l)) ∙ u.ends_datagrams) u.frame_is
+    subst (λ (t : List Datagram). IsFrame frame (with_datagrams p t)) (sym (ap (λ (t : List SlaveState). (passes_ring t u.datagrams).datagrams) (drop_all i ss l)) ∙ u.ends_datagrams) u.frame_is

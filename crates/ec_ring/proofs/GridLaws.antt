@@ -3,8 +3,8 @@ use Rattle.std.proofs.Common.{ℕ, zero, suc, ◌+◌, ◌<◌, ◌≡◌, refl,
 use Rattle.ec_frame.specs.Datagram.{Datagram}
 use Rattle.ec_slave.specs.State.{SlaveState}
 use Rattle.ec_slave.specs.Meeting.{meets, passes}
-use Rattle.ec_ring.specs.Rings.{rings}
-use Rattle.ec_ring.specs.Grid.{IsGrid, RingIsGrid}
+use Rattle.ec_ring.specs.Rings.{passes_ring}
+use Rattle.ec_ring.specs.Grid.{IsGrid, RingIsGrid, SlaveIsRow}
 
 -- One row of the grid.
 pub record IsRow (s : SlaveState) (ds : List Datagram) (slave : ℕ → SlaveState) (before after : ℕ → Datagram) : Type 0 where
@@ -35,7 +35,7 @@ row_slave : (s : SlaveState) (ds : List Datagram) (slave : ℕ → SlaveState) (
 row_slave s [] slave before after r = r.first
 row_slave s (d ∷ ds) slave before after r = row_slave (meets s d).slave ds (λ j. slave (suc j)) (λ j. before (suc j)) (λ j. after (suc j)) (row_rest s d ds slave before after r)
 
-row_length : (s : SlaveState) (ds : List Datagram) → length (passes s ds).datagrams ≡ length ds
+pub row_length : (s : SlaveState) (ds : List Datagram) → length (passes s ds).datagrams ≡ length ds
 row_length s [] = refl
 row_length s (d ∷ ds) = ap suc (row_length (meets s d).slave ds)
 
@@ -65,13 +65,13 @@ rest_grid s ss ds slave datagram g =
       datagram_after = λ i j l k. let e : suc (i + 1) ≡ suc i + 1 = omega arith in ap (λ n. datagram n j) e ∙ g.datagram_after (suc i) j (omega arith) (omega (arith, len));
     }
 
-pub grid_slaves : (ss : List SlaveState) (ds : List Datagram) (slave : ℕ → ℕ → SlaveState) (datagram : ℕ → ℕ → Datagram) → IsGrid ss ds slave datagram → (i : ℕ) → i < length ss → slice_get (rings ss ds).slaves i ≡ Some (slave i (length ds))
+pub grid_slaves : (ss : List SlaveState) (ds : List Datagram) (slave : ℕ → ℕ → SlaveState) (datagram : ℕ → ℕ → Datagram) → IsGrid ss ds slave datagram → (i : ℕ) → i < length ss → slice_get (passes_ring ss ds).slaves i ≡ Some (slave i (length ds))
 grid_slaves [] ds slave datagram g i l = absurd (omega arith)
 grid_slaves (s ∷ ss) ds slave datagram g zero l = ap (λ x. Some x) (row_slave s ds (slave 0) (datagram 0) (datagram 1) (first_row s ss ds slave datagram g))
 grid_slaves (s ∷ ss) ds slave datagram g (suc i) l =
     grid_slaves ss (passes s ds).datagrams (λ k. slave (suc k)) (λ k. datagram (suc k)) (rest_grid s ss ds slave datagram g) i (omega arith) ∙ ap (λ n. Some (slave (suc i) n)) (row_length s ds)
 
-pub grid_datagrams : (ss : List SlaveState) (ds : List Datagram) (slave : ℕ → ℕ → SlaveState) (datagram : ℕ → ℕ → Datagram) → IsGrid ss ds slave datagram → (j : ℕ) → j < length ds → slice_get (rings ss ds).datagrams j ≡ Some (datagram (length ss) j)
+pub grid_datagrams : (ss : List SlaveState) (ds : List Datagram) (slave : ℕ → ℕ → SlaveState) (datagram : ℕ → ℕ → Datagram) → IsGrid ss ds slave datagram → (j : ℕ) → j < length ds → slice_get (passes_ring ss ds).datagrams j ≡ Some (datagram (length ss) j)
 grid_datagrams [] ds slave datagram g j l = g.columns j l
 grid_datagrams (s ∷ ss) ds slave datagram g j l =
     let len = row_length s ds in
@@ -79,3 +79,22 @@ grid_datagrams (s ∷ ss) ds slave datagram g j l =
 
 pub grid_law : RingIsGrid
 grid_law ss ds slave datagram g = (grid_slaves ss ds slave datagram g, grid_datagrams ss ds slave datagram g)
+
+-- row i of the grid
+any_row : (ss : List SlaveState) (ds : List Datagram) (slave : ℕ → ℕ → SlaveState) (datagram : ℕ → ℕ → Datagram) → IsGrid ss ds slave datagram
+    → (i : ℕ) (coming : List Datagram) → i < length ss → length coming ≡ length ds → ((j : ℕ) → j < length ds → slice_get coming j ≡ Some (datagram i j))
+    → IsRow (slave i 0) coming (slave i) (datagram i) (datagram (i + 1))
+any_row ss ds slave datagram g i coming l long come =
+    record {
+      first = refl;
+      columns = λ j k. come j (omega arith);
+      slave_after = λ j k. g.slave_after i j l (omega arith);
+      datagram_after = λ j k. g.datagram_after i j l (omega arith);
+    }
+
+pub row_law : SlaveIsRow
+row_law ss ds slave datagram g i coming l long come =
+    let row = any_row ss ds slave datagram g i coming l long come in (
+      row_slave (slave i 0) coming (slave i) (datagram i) (datagram (i + 1)) row ∙ ap (λ n. slave i n) long,
+      λ j k. row_datagrams (slave i 0) coming (slave i) (datagram i) (datagram (i + 1)) row j (omega arith),
+    )

@@ -1,2 +1,4 @@
-mod GridLaws
-mod Going
+pub mod AddressLaws
+pub mod Going
+pub mod GridExists
+pub mod GridLaws

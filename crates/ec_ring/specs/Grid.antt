@@ -2,8 +2,8 @@
 use Rattle.std.specs.Prelude.{ℕ, ◌+◌, ◌<◌, ◌≡◌, List, length, slice_get, Some}
 use Rattle.ec_frame.specs.Datagram.{Datagram}
 use Rattle.ec_slave.specs.State.{SlaveState}
-use Rattle.ec_slave.specs.Meeting.{slave_met, datagram_met}
-use Rattle.ec_ring.specs.Rings.{rings}
+use Rattle.ec_slave.specs.Meeting.{slave_met, datagram_met, passes}
+use Rattle.ec_ring.specs.Rings.{passes_ring}
 
 -- Cell (i, j) is the meeting of slave i, as datagram j - 1 left it, and datagram j, as slave i - 1 left it. `slave i j` is
 -- slave i before datagram j, `datagram i j` is datagram j before slave i.
@@ -17,5 +17,19 @@ pub record IsGrid (ss : List SlaveState) (ds : List Datagram) (slave : ℕ → �
 abbrev pub RingIsGrid : Type 0
 RingIsGrid =
     (ss : List SlaveState) (ds : List Datagram) (slave : ℕ → ℕ → SlaveState) (datagram : ℕ → ℕ → Datagram) → IsGrid ss ds slave datagram
-    → ((i : ℕ) → i < length ss → slice_get (rings ss ds).slaves i ≡ Some (slave i (length ds)))
-    × ((j : ℕ) → j < length ds → slice_get (rings ss ds).datagrams j ≡ Some (datagram (length ss) j))
+    → ((i : ℕ) → i < length ss → slice_get (passes_ring ss ds).slaves i ≡ Some (slave i (length ds)))
+    × ((j : ℕ) → j < length ds → slice_get (passes_ring ss ds).datagrams j ≡ Some (datagram (length ss) j))
+
+-- Any slaves and datagrams have a grid. Outside its borders it may hold any slave and datagram.
+abbrev pub GridExists : Type 0
+GridExists =
+    (outer : SlaveState) (passing : Datagram) (ss : List SlaveState) (ds : List Datagram)
+    → (slave : ℕ → ℕ → SlaveState) × (datagram : ℕ → ℕ → Datagram) × IsGrid ss ds slave datagram
+
+-- the datagrams as they come to slave i are passed by it as the grid's row i says
+abbrev pub SlaveIsRow : Type 0
+SlaveIsRow =
+    (ss : List SlaveState) (ds : List Datagram) (slave : ℕ → ℕ → SlaveState) (datagram : ℕ → ℕ → Datagram) → IsGrid ss ds slave datagram
+    → (i : ℕ) (coming : List Datagram) → i < length ss → length coming ≡ length ds → ((j : ℕ) → j < length ds → slice_get coming j ≡ Some (datagram i j))
+    → ((passes (slave i 0) coming).slave ≡ slave i (length ds))
+    × ((j : ℕ) → j < length ds → slice_get (passes (slave i 0) coming).datagrams j ≡ Some (datagram (i + 1) j))

@@ -8,16 +8,16 @@ use Rattle.ec_slave.specs.State.{SlaveState}
 use Rattle.ec_slave.specs.Meeting.{passes}
 
 -- slaves and the datagrams of a frame after they met
-pub record Rung : Type 0 where
+pub record RingPassed : Type 0 where
   pub slaves : List SlaveState
   pub datagrams : List Datagram
 
 -- slave after slave
-abbrev pub rings : List SlaveState → List Datagram → Rung
-rings [] ds = record { slaves = []; datagrams = ds }
-rings (s ∷ ss) ds = record {
-  slaves = (passes s ds).slave ∷ (rings ss (passes s ds).datagrams).slaves;
-  datagrams = (rings ss (passes s ds).datagrams).datagrams;
+abbrev pub passes_ring : List SlaveState → List Datagram → RingPassed
+passes_ring [] ds = record { slaves = []; datagrams = ds }
+passes_ring (s ∷ ss) ds = record {
+  slaves = (passes s ds).slave ∷ (passes_ring ss (passes s ds).datagrams).slaves;
+  datagrams = (passes_ring ss (passes s ds).datagrams).datagrams;
 }
 
 -- some test refuses the payload
@@ -30,6 +30,6 @@ pub record IsPassedAt (old : List SlaveState) (place : ℕ) (s : SlaveState) (be
   pub frame : (p : Payload) → IsFrame before p → IsFrame after (with_datagrams p (passes s p.datagrams).datagrams)
 
 -- slaves and a payload before and after it passed all of them; its header and the bytes after the datagrams stay
-pub record IsRung (old : List SlaveState) (before : List ℕ) (new : List SlaveState) (after : List ℕ) : Type 0 where
-  pub slaves : (p : Payload) → IsFrame before p → new ≡ (rings old p.datagrams).slaves
-  pub frame : (p : Payload) → IsFrame before p → IsFrame after (with_datagrams p (rings old p.datagrams).datagrams)
+pub record HasPassedRing (old : List SlaveState) (before : List ℕ) (new : List SlaveState) (after : List ℕ) : Type 0 where
+  pub slaves : (p : Payload) → IsFrame before p → new ≡ (passes_ring old p.datagrams).slaves
+  pub frame : (p : Payload) → IsFrame before p → IsFrame after (with_datagrams p (passes_ring old p.datagrams).datagrams)

@@ -4,7 +4,7 @@ ghost use Rattle.std.specs.Borrow.{sem};
 ghost use Rattle.ec_frame.specs.Frame.{Payload, IsFrame};
 ghost use Rattle.ec_slave.specs.State.{SlaveState};
 ghost use Rattle.ec_ring.specs.Lending.{LendsSlave};
-ghost use Rattle.ec_ring.specs.Rings.{IsNoFrame, IsPassedAt, IsRung};
+ghost use Rattle.ec_ring.specs.Rings.{IsNoFrame, IsPassedAt, HasPassedRing};
 
 use crate::error::NotAFrame;
 use ec_frame::check;
@@ -90,7 +90,7 @@ impl Ring {
         ensures slaves_kept { OnErr result (self.new ≡ self.old) }
         ensures frame_kept { OnErr result (frame.new ≡ frame.old) }
         ensures count { length self.new ≡ length self.old }
-        ensures ring { IsRung self.old frame.old self.new frame.new }
+        ensures ring { HasPassedRing self.old frame.old self.new frame.new }
     {
         if check(frame).is_err() {
             return Err(NotAFrame);
@@ -103,7 +103,7 @@ impl Ring {
 /// A frame passes slaves, one after the other.
 fn pass_slaves(slaves: &mut [Slave], frame: &mut [u8])
     requires { (p : Payload) × IsFrame frame.old p }
-    ensures { IsRung slaves.old frame.old slaves.new frame.new }
+    ensures { HasPassedRing slaves.old frame.old slaves.new frame.new }
 {
     for place in 0..slaves.len() {
         slaves[place].pass(frame);

@@ -8,11 +8,9 @@ use Rattle.ec_sii.specs.Port.{Sii}
 use Rattle.ec_slave.specs.State.{fmmus_of}
 
 -- The memory has all its addresses, there are four managers, the FMMUs are decoded as the registers stand, and the SII shows
--- the slave's identity and its type's mailbox, and there are as many slots for PDOs as the type has PDOs.
-pub record IsHeld (kind : SlaveKind) (identity : Identity) (memory : List ℕ) (managers : List Manager) (fmmus : List FmmuSettings) (sii : Sii) (out_slots in_slots : List ℕ) : Type 0 where
+-- the slave's identity and its type's mailbox.
+pub record IsHeld (kind : SlaveKind) (identity : Identity) (memory : List ℕ) (managers : List Manager) (fmmus : List FmmuSettings) (sii : Sii) : Type 0 where
   pub room : length memory ≡ 0x3000
   pub four : length managers ≡ 4
   pub decoded : fmmus ≡ fmmus_of memory
   pub image : sii.image ≡ record { identity = identity; mailbox = kind.mailbox }
-  pub outs : length out_slots ≡ length kind.outputs
-  pub ins : length in_slots ≡ length kind.inputs

@@ -9,6 +9,9 @@ pub mod Sights
 pub mod Meeting
 pub mod Ways
 pub mod Application
+pub mod Checking
+pub mod Serving
+pub mod Faulting
 pub mod Telling
 pub mod Untouched
 pub mod Keeping
@@ -16,3 +19,4 @@ pub mod Exchange
 pub mod AgainstAll
 pub mod Laws
 pub mod LogicalLaws
+pub mod FirmwareLaws

@@ -2,7 +2,6 @@
 use Rattle.std.specs.Prelude.{ℕ, ◌+◌, ◌*◌, ◌%◌, List, [], ◌∷◌, length, map, get_or, slice_index}
 use Rattle.ec_bits.specs.Bits.{zeros}
 use Rattle.ec_regs.specs.declared.slave_type.Identity.{Identity}
-use Rattle.ec_regs.specs.declared.slave_type.Pdo.{Pdo}
 use Rattle.ec_regs.specs.declared.fmmu.FmmuSettings.{FmmuSettings}
 use Rattle.ec_regs.specs.Types.{SlaveKind}
 use Rattle.ec_regs.specs.Fmmus.{fmmu_of}
@@ -11,6 +10,7 @@ use Rattle.ec_sync.specs.Manager.{Manager, no_manager}
 use Rattle.ec_al.specs.Al.{Al}
 use Rattle.ec_al.specs.Al as al
 use Rattle.ec_sii.specs.Port.{Sii, idle_port}
+use Rattle.ec_coe.specs.Objects.{Assignment, all_assigned}
 
 pub record SlaveState : Type 0 where
   -- the type that it is of
@@ -25,11 +25,9 @@ pub record SlaveState : Type 0 where
   pub al : Al
   -- the SII port
   pub sii : Sii
-  -- the PDO assignment: the slots of 0x1C12 (outputs) and 0x1C13 (inputs), and how many of them count
-  pub out_slots : List ℕ
-  pub out_count : ℕ
-  pub in_slots : List ℕ
-  pub in_count : ℕ
+  -- the PDOs that are assigned, 0x1C12 (outputs) and 0x1C13 (inputs)
+  pub outs : Assignment
+  pub ins : Assignment
   -- the counter of its last mailbox reply, 0 before the first
   pub replies : ℕ
 
@@ -55,9 +53,6 @@ fmmus s = fmmus_of s.memory
 unfoldable pub memory_length : ℕ
 memory_length = 0x3000
 
-abbrev pub indices : List Pdo → List ℕ
-indices ps = map (λ p. p.index) ps
-
 -- A slave that was just switched on: every register that a datagram can write, and the RAM, are 0, the managers are empty,
 -- the state is INIT without an error, and all PDOs of the type are assigned in order.
 unfoldable pub power_on : SlaveKind → Identity → SlaveState
@@ -68,10 +63,8 @@ power_on kind identity = record {
   managers = no_manager ∷ no_manager ∷ no_manager ∷ no_manager ∷ [];
   al = al.power_on;
   sii = idle_port (record { identity = identity; mailbox = kind.mailbox });
-  out_slots = indices kind.outputs;
-  out_count = length kind.outputs;
-  in_slots = indices kind.inputs;
-  in_count = length kind.inputs;
+  outs = all_assigned kind.outputs;
+  ins = all_assigned kind.inputs;
   replies = 0;
 }
 

@@ -3,13 +3,13 @@
 ghost use Rattle.std.specs.Prelude.{◌≡◌, ◌<◌, ◌≤◌, [], ◌∷◌, length, is_some, option_map, unwrap_or};
 ghost use Rattle.ec_bits.specs.Bits.{zeros};
 ghost use Rattle.ec_sync.specs.Manager.{no_manager};
-ghost use Rattle.ec_slave.specs.State.{indices, power_on};
+ghost use Rattle.ec_slave.specs.State.{power_on};
 ghost use Rattle.ec_slave.specs.Application.{is_running as runs_in, outputs_shown, get_size, put_size, input_put, output_got, output_taken};
 
 use crate::fmmus::read_fmmus;
 use crate::slave::Slave;
 use ec_al::State;
-use ec_regs::{ManagerSettings, Pdo};
+use ec_regs::ManagerSettings;
 use ec_sync::Manager;
 
 /// Whether the application has process data in an AL state.
@@ -80,16 +80,6 @@ impl Slave {
     }
 }
 
-/// Each slot gets the index of its PDO.
-fn assign_all(slots: &mut [u16], pdos: &[Pdo])
-    requires { length slots.old ≡ length pdos.now }
-    ensures { slots.new ≡ indices pdos.now }
-{
-    for k in 0..pdos.len() {
-        slots[k] = pdos[k].index;
-    }
-}
-
 /// A manager as the power comes on.
 fn reset_manager(manager: &mut Manager)
     ensures { manager.new ≡ no_manager }
@@ -125,10 +115,7 @@ impl Slave {
         reset_managers(&mut self.managers);
         self.al.reset();
         self.port.reset();
-        assign_all(&mut self.out_slots, self.kind.outputs());
-        self.out_count = self.kind.outputs().len() as u8;
-        assign_all(&mut self.in_slots, self.kind.inputs());
-        self.in_count = self.kind.inputs().len() as u8;
+        self.dictionary.reset();
         self.replies = 0;
     }
 }

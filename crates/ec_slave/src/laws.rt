@@ -5,6 +5,7 @@ ghost use Rattle.ec_slave.specs.Laws.{OtherPositionPasses};
 ghost use Rattle.ec_slave.specs.Laws.{HeadingStays, WritesByByte, ReadsByByte, CountsByRole};
 ghost use Rattle.ec_slave.specs.AgainstAll.{LogicalAgainstAll, PhysicalAgainstAll};
 ghost use Rattle.ec_slave.specs.LogicalLaws.{BroadcastLaw, ExchangeLaw, MappedLaw, MissesLaw};
+ghost use Rattle.ec_slave.specs.FirmwareLaws.{FirstReplyIsOne, RestsQuietly, ServesKeepAssignments, ServesKeepBuffers, ServesKeepSettings, StatesAreEntered};
 
 /// A datagram for another station address passes, and changes nothing.
 pub fn other_station_passes()
@@ -64,4 +65,42 @@ pub fn logical_against_all()
 /// A broadcast read of registers changes no slave and counts one.
 pub fn broadcast_read()
     ensures { BroadcastLaw }
+{}
+
+/// A slave for which nothing waits is unchanged by a firmware step.
+#[tactic(auto, using(crate::proofs::Serves::rests_quietly))]
+pub fn rests_quietly()
+    ensures { RestsQuietly }
+{}
+
+/// A firmware step changes no byte of the memory, no station address, no FMMU and no settings of a sync manager.
+#[tactic(auto, using(crate::proofs::Serves::settings_kept))]
+pub fn serves_keep_settings()
+    ensures { ServesKeepSettings }
+{}
+
+/// In SAFEOP and OP a firmware step changes no buffer of a sync manager, as long as it does not leave them.
+#[tactic(auto, using(crate::proofs::Serves::buffers_kept))]
+pub fn serves_keep_buffers()
+    ensures { ServesKeepBuffers }
+{}
+
+/// OP is reached only from SAFEOP, by a request for it; SAFEOP is entered from PREOP only where managers 2 and 3 are as the
+/// PDOs that are assigned want them, and PREOP from INIT only where managers 0 and 1 are the type's mailboxes.
+#[tactic(auto, using(crate::proofs::Entering::states_entered))]
+pub fn states_are_entered()
+    ensures { StatesAreEntered }
+{}
+
+/// After PREOP was entered from INIT, the first reply has number 1.
+#[tactic(auto, using(crate::proofs::Entering::first_is_one))]
+pub fn first_reply_is_one()
+    ensures { FirstReplyIsOne }
+{}
+
+/// An assignment changes only in PREOP, and stays a list of the type's own PDOs, with none of them twice and with at most
+/// 2048 bits.
+#[tactic(auto, using(crate::proofs::Assignments::assignments_served))]
+pub fn serves_keep_assignments()
+    ensures { ServesKeepAssignments }
 {}

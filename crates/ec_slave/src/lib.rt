@@ -3,9 +3,11 @@
 
 mod access;
 mod application;
+mod firmware;
 mod fmmus;
 pub mod laws;
 mod logical;
+mod mailbox;
 mod managers;
 mod mapped;
 mod passing;

@@ -137,7 +137,7 @@ impl Slave {
         ensures state { (more : Bool) (d : Datagram) → IsDatagram d → part.old ≡ spelling more d
             → self.new ≡ (meets_exchanging self.old d).slave }
     {
-        if self.kind.lrw() {
+        if self.dictionary.kind().lrw() {
             self.answer_mapped(Way::ReadWrite, header, part);
         }
     }

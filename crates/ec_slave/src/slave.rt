@@ -2,18 +2,19 @@ ghost use Rattle.std.specs.Prelude.{◌≡◌, ◌+◌, ◌*◌, ◌<◌, IfOk, 
 ghost use Rattle.ec_bits.specs.Bits.{zeros};
 ghost use Rattle.ec_sync.specs.Manager.{no_manager};
 ghost use Rattle.ec_slave.specs.Access.{byte_at, register_byte};
-ghost use Rattle.ec_slave.specs.State.{SlaveState, indices, memory_length, power_on, station_of};
+ghost use Rattle.ec_slave.specs.State.{SlaveState, memory_length, power_on, station_of};
 
 use crate::access::governor;
 use crate::fmmus::read_fmmus;
 use ec_al::Al;
+use ec_coe::Dictionary;
 use ec_fmmu::Fmmu;
 use ec_regs::registers::{
     AL_CONTROL, AL_STATUS, AL_STATUS_CODE, FMMU_COUNT, FMMUS, MANAGER_COUNT, NUMBER_OF_FMMUS,
     NUMBER_OF_SYNC_MANAGERS, RAM_END, RAM_KIB, RAM_SIZE, RAM_START, SII_CONTROL, STATION_ADDRESS,
     SYNC_MANAGERS,
 };
-use ec_regs::{Identity, Pdo, SlaveType};
+use ec_regs::{Identity, SlaveType};
 use ec_sii::{Image, Port};
 use ec_sync::Manager;
 use std::alloc::{AllocError, Global};
@@ -22,18 +23,15 @@ use std::marker::Model;
 /// A simulated slave.
 #[derive(Drop)]
 pub struct Slave {
-    pub(crate) kind: SlaveType,
-    pub(crate) identity: Identity,
+    // its type, its identity and the PDOs that are assigned
+    pub(crate) dictionary: Dictionary,
     pub(crate) memory: Vec<u8>,
     // as the registers in `memory` say them
     pub(crate) fmmus: [Fmmu; 4],
     pub(crate) managers: Vec<Manager>,
     pub(crate) al: Al,
     pub(crate) port: Port,
-    pub(crate) out_slots: Vec<u16>,
-    pub(crate) out_count: u8,
-    pub(crate) in_slots: Vec<u16>,
-    pub(crate) in_count: u8,
+    // the counter of the last mailbox reply, 0 before the first
     pub(crate) replies: u8,
 }
 
@@ -44,20 +42,18 @@ impl Model for Slave {
     ghost Value = { SlaveState };
 
     ghost view = { λ s. record {
-      kind = s.kind;
-      identity = s.identity;
+      kind = s.dictionary.kind;
+      identity = s.dictionary.identity;
       memory = s.memory.items;
       managers = s.managers.items;
       al = s.al;
       sii = s.port;
-      out_slots = s.out_slots.items;
-      out_count = s.out_count;
-      in_slots = s.in_slots.items;
-      in_count = s.in_count;
+      outs = s.dictionary.outs;
+      ins = s.dictionary.ins;
       replies = s.replies;
     } };
 
-    ghost invariant = { λ s. IsHeld s.kind s.identity s.memory.items s.managers.items s.fmmus s.port s.out_slots.items s.in_slots.items };
+    ghost invariant = { λ s. IsHeld s.dictionary.kind s.dictionary.identity s.memory.items s.managers.items s.fmmus s.port };
 }
 
 /// The number of addresses, which contracts see under its name.
@@ -67,13 +63,6 @@ fn memory_len() -> usize
     ensures is { result ≡ 0x3000 }
 {
     RAM_END as usize
-}
-
-/// The indices of PDOs, in order.
-fn indices_of(alloc: Global, pdos: &[Pdo]) -> Result<Vec<u16>, AllocError>
-    ensures { IfOk result (λ v. v.items ≡ indices pdos.now) }
-{
-    pdos.iter().map(|pdo| pdo.index).collect(alloc)
 }
 
 /// Four sync managers as the power comes on.
@@ -101,21 +90,15 @@ impl Slave {
         let memory = vec![in alloc; 0; memory_len()]?;
         let fmmus = read_fmmus(&memory);
         let managers = new_managers(alloc)?;
-        let out_slots = indices_of(alloc, kind.outputs())?;
-        let in_slots = indices_of(alloc, kind.inputs())?;
         let port = Port::new(Image::new(identity, kind.mailbox()));
+        let dictionary = Dictionary::new(alloc, kind, identity)?;
         Ok(Slave {
-            out_count: kind.outputs().len() as u8,
-            in_count: kind.inputs().len() as u8,
-            kind,
-            identity,
+            dictionary,
             memory,
             fmmus,
             managers,
             al: Al::new(),
             port,
-            out_slots,
-            in_slots,
             replies: 0,
         })
     }

@@ -1,4 +1,6 @@
-//! Frames past one slave. Nothing steps its firmware here, so it stays in INIT.
+//! Frames past one slave. Nothing steps its firmware here, so it stays in INIT; `firmware` does.
+mod firmware;
+
 use crate::Slave;
 use ec_frame::Command::{Aprd, Aprw, Apwr, Brd, Lrd, Lrw, Lwr};
 use ec_frame::{Builder, Command, check};

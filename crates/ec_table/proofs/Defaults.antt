@@ -1,8 +1,7 @@
 -- What is left out has its default.
-use Rattle.std.proofs.Common.{◌≡◌, ℕ, ◌+◌, List, [], ◌∷◌, ◌++◌, Bool, true, not, ◌||◌, IsTrue, Result, Ok, Err, Option, Some, None, codes, slice_get, unwrap_or, refl, subst}
+use Rattle.std.proofs.Common.{◌≡◌, ℕ, List, [], true, not, ◌||◌, IsTrue, Result, Option, Some, None, codes, slice_get, unwrap_or, refl, subst}
 use Rattle.std.specs.Option.{ok_or}
 use Rattle.toml.specs.Data.{Data, Items, no_items, item, Members, get_member}
-use Rattle.ec_regs.specs.declared.slave_type.Mailbox.{Mailbox}
 use Rattle.ec_table.specs.declared.fault.Fault.{Fault}
 use Rattle.ec_table.specs.declared.fault.Fault.TheVariants.{BadKey, TwiceNamed, UnknownName}
 use Rattle.ec_table.specs.declared.fault.Place.{Place}
@@ -12,11 +11,8 @@ use Rattle.ec_table.specs.declared.rows.ProcessData.{ProcessData}
 use Rattle.ec_table.specs.declared.rows.TypeRow.{TypeRow}
 use Rattle.ec_table.specs.declared.rows.SlaveRow.{SlaveRow}
 use Rattle.ec_table.specs.declared.rows.VariableRow.{VariableRow}
-use Rattle.ec_table.specs.declared.rows.LinkBits.{LinkBits}
-use Rattle.ec_table.specs.declared.rows.LinkRow.{LinkRow}
 use Rattle.ec_table.specs.declared.fields.Shape.TheVariants as shape
-use Rattle.ec_table.specs.Contents.{Contents}
-use Rattle.ec_table.specs.Fields.{◌>>=◌, must, keys_are, number_in, name_in, mailbox_in, truth_in, number_or_0, version_in, section_in, link_bits_in}
+use Rattle.ec_table.specs.Fields.{must, keys_are, number_in, name_in, mailbox_in, truth_in, version_in, section_in, link_bits_in}
 use Rattle.ec_table.specs.InOrder.{rows_after}
 use Rattle.ec_table.specs.Names.{is_named, place_named}
 use Rattle.ec_table.specs.Pdos.{pdos_in, numbers_in, indices_of, has_twice}

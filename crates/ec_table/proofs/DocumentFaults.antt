@@ -1,7 +1,7 @@
 -- The faults of a document before its elements.
 use Rattle.std.proofs.Common.{◌≡◌, ℕ, List, Bool, true, false, IsTrue, Result, Ok, Err, Option, Some, None, if◌then◌else◌, option_and_then, codes, refl, ap}
 use Rattle.std.specs.Option.{ok_or}
-use Rattle.toml.specs.Data.{Data, Items, no_items, Members, get_member, as_integer, as_array}
+use Rattle.toml.specs.Data.{Data, no_items, Members, get_member, as_integer, as_array}
 use Rattle.toml.specs.Parse.{parse_document}
 use Rattle.ec_table.specs.declared.fault.Fault.{Fault}
 use Rattle.ec_table.specs.declared.fault.Fault.TheVariants.{Toml, BadKey, BadValue}

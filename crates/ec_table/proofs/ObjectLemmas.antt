@@ -94,5 +94,5 @@ count_bits (e ∷ es) =
     let here : length (entry_bits e) ≡ e.bits = length-map-range_with_len (λ k. if e.index == 0 then None else Some (record { index = e.index; subindex = e.subindex; bit = k })) 0 e.bits in
     length-append (entry_bits e) (flat_map entry_bits es) ∙ rw (here, count_bits es) (sym (sum_by-cons (λ (e : Entry). e.bits) e es))
 
-pub object_bits-length : (c : Contents) (s : ℕ) (d : Direction) → length (object_bits c s d) ≡ bits_of (entries_of c s d)
-object_bits-length c s d = count_bits (entries_of c s d)
+pub object_bits_counted : (c : Contents) (s : ℕ) (d : Direction) → length (object_bits c s d) ≡ bits_of (entries_of c s d)
+object_bits_counted c s d = count_bits (entries_of c s d)

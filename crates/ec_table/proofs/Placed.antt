@@ -17,6 +17,7 @@ use Rattle.ec_table.specs.InOrder.{members_in, rows_after}
 use Rattle.ec_table.specs.Pdos.{entry_of, entry_row, array_of, array_in, pdo_of, pdo_row, pdos_in, number_row, number_list, numbers_in, indices_of, has_twice}
 use Rattle.ec_table.specs.Reading.{device_in, process_in, type_at, assigned_in, all_in, same_list, slave_at, variable_at, link_at}
 use Rattle.ec_table.specs.Names.{is_named, place_named}
+use Rattle.ec_table.specs.Laws.{FaultsHaveTheirPlace}
 
 -- a fault, if there is one, is at the place
 pub record FailsAt {A : Type 0} (p : Place) (r : Result A Fault) : Type 0 where
@@ -205,3 +206,11 @@ fails_link v ss ws p ms =
     fails_then p _ _ (fails_none p _ (UnknownName p) refl) (λ variable.
     fails_then p _ _ (fails_none p (slice_get ws variable) (UnknownName p) refl) (λ w.
     fails_then p _ _ (fails_none p _ (UnknownName p) refl) (λ slave. fails_ok p _)))))))))
+
+pub placed : FaultsHaveTheirPlace
+placed = record {
+  types = λ v n d found f is. (fails_members _ d _ (λ ms. fails_type v _ ms found)).at f is;
+  slaves = λ v ts n d found f is. (fails_members _ d _ (λ ms. fails_slave v ts _ ms found)).at f is;
+  variables = λ v n d found f is. (fails_members _ d _ (λ ms. fails_variable v _ ms found)).at f is;
+  links = λ v ss ws n d found f is. (fails_members _ d _ (λ ms. fails_link v ss ws _ ms)).at f is;
+}

@@ -38,6 +38,7 @@ use Rattle.ec_table.specs.Reading.{all_in, same_list, assigned_in, slave_at, sla
 use Rattle.ec_table.specs.Names.{is_named, place_named}
 use Rattle.ec_table.specs.Sound.{IsOnce, IsType, AreTypes, IsAssignment, IsSlave, AreSlaves, IsVariable, AreVariables, IsBits, IsLink, IsSound, IsName}
 use Rattle.ec_table.proofs.Ranges.{pdos_toward_read}
+use Rattle.ec_table.specs.Laws.{AcceptedIsSound}
 use Rattle.ec_table.proofs.Meets.{Meets, meets_ok, meets_then, any_met, must_met, ok_or_met, number_met, name_met, rows_met}
 use Rattle.ec_table.proofs.SoundReads.{once_from_test, not_true, fresh, members_met, types_met, variables_met}
 
@@ -252,3 +253,6 @@ document_met ms =
 pub text_met : (text : List ℕ) → Meets (table_of text) IsSound
 unfolding table_of
 text_met text = meets_then _ IsSound _ _ (any_met (ok_or (parse_document text) Toml)) (λ ms _. document_met ms)
+
+pub accepted_sound : AcceptedIsSound
+accepted_sound text c is = (text_met text).all c is

@@ -24,7 +24,7 @@ use Rattle.ec_table.specs.Fields.{number_in, name_in, mailbox_of, mailbox_in, di
 use Rattle.ec_table.specs.InOrder.{rows_after}
 use Rattle.ec_table.specs.Pdos.{entry_of, entry_row, array_of, array_in, pdo_of, pdo_row, pdos_in, number_row, number_list, numbers_in}
 use Rattle.ec_table.specs.Reading.{variable_at}
-use Rattle.ec_table.specs.Names.{is_named, place_named}
+use Rattle.ec_table.specs.Names.{is_named}
 use Rattle.ec_table.specs.Sound.{IsName, IsVariable, IsBits, first_index}
 use Rattle.ec_table.proofs.Ranges.{ReadMailbox, ReadEntry, ReadPdo, ReadPdos, last_index}
 use Rattle.ec_table.proofs.SoundRows.{false_from}

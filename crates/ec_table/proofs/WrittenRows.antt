@@ -18,7 +18,7 @@ use Rattle.ec_table.specs.Fields.{mailbox_in}
 use Rattle.ec_table.specs.InOrder.{rows_after}
 use Rattle.ec_table.specs.Pdos.{indices_of, has_twice}
 use Rattle.ec_table.specs.Reading.{device_in, process_in, process_twice, type_at, type_element, variable_element}
-use Rattle.ec_table.specs.Names.{is_named, place_named}
+use Rattle.ec_table.specs.Names.{is_named}
 use Rattle.ec_table.specs.Sound.{IsOnce, IsDevice, IsType, AreTypes, IsVariable, AreVariables}
 use Rattle.ec_table.proofs.Ranges.{pdos_toward_read, mailbox_read}
 use Rattle.ec_table.specs.Writing.{type_members, variable_members}

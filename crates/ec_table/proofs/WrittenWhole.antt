@@ -27,7 +27,7 @@ use Rattle.ec_table.specs.Fields.{number_in, section_in, are_tables, version_in}
 use Rattle.ec_table.specs.InOrder.{rows_after}
 use Rattle.ec_table.specs.Pdos.{indices_of, has_twice}
 use Rattle.ec_table.specs.Reading.{all_in, same_list, assigned_in, slave_at, slave_element, link_at, link_element, table_of_document, top}
-use Rattle.ec_table.specs.Names.{is_named, place_named}
+use Rattle.ec_table.specs.Names.{is_named}
 use Rattle.ec_table.specs.Sound.{IsName, IsType, AreTypes, IsAssignment, IsSlave, AreSlaves, IsVariable, AreVariables, IsLink, IsSound, first_index}
 use Rattle.ec_table.proofs.Ranges.{ReadPdo, last_index, pdos_toward_read}
 use Rattle.ec_table.specs.Writing.{number, array_of_all, type_members, slave_members, variable_members, link_members, version_number, document_of}

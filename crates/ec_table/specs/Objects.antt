@@ -1,9 +1,8 @@
 -- What a table says of one slave or one link: its type, its identity, and the entries of the PDOs that it assigns (ETG.1000.6, "Object dictionary").
-use Rattle.std.specs.Prelude.{ℕ, ◌==◌, if◌then◌else◌, List, [], map, find, sum_by, Option, Some, None, slice_get, option_map, option_and_then}
-use Rattle.std.specs.List.{flat_map, range_with_len}
+use Rattle.std.specs.Prelude.{ℕ, List, [], Option, slice_get, option_map, option_and_then}
+use Rattle.std.specs.List.{flat_map}
 use Rattle.std.specs.Option.{option_map_or}
 use Rattle.ec_regs.specs.declared.slave_type.Entry.{Entry}
-use Rattle.ec_regs.specs.declared.slave_type.Pdo.{Pdo}
 use Rattle.ec_regs.specs.declared.slave_type.Identity.{Identity}
 use Rattle.ec_regs.specs.Types.{SlaveKind, device_identity}
 use Rattle.ec_regs.specs.Objects.{ObjectBit, entry_bits, assigned_entries}

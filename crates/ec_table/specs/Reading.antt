@@ -1,5 +1,5 @@
 -- The elements of the sections, in the order of their tests: keys, values key by key, doubles, references.
-use Rattle.std.specs.Prelude.{List, [], ℕ, ◌==◌, Bool, not, ◌&&◌, ◌||◌, codes, Option, is_some, unwrap_or, position, slice_get, Result, Ok}
+use Rattle.std.specs.Prelude.{List, [], ℕ, ◌==◌, Bool, not, ◌&&◌, ◌||◌, codes, is_some, unwrap_or, slice_get, Result, Ok}
 use Rattle.std.specs.List.{list_any, list_all}
 use Rattle.std.specs.Str.{bytes_eq}
 use Rattle.std.specs.Option.{ok_or}

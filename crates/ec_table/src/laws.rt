@@ -27,11 +27,13 @@ pub fn left_out_is_default()
 {}
 
 /// The first element in order that fails a test is told.
+#[tactic(auto, using(crate::proofs::ElementByElement::first_told))]
 pub fn first_fault_is_told()
     ensures { FirstFaultIsTold }
 {}
 
 /// A fault of an element carries its section and its place.
+#[tactic(auto, using(crate::proofs::Placed::placed))]
 pub fn faults_have_their_place()
     ensures { FaultsHaveTheirPlace }
 {}
@@ -43,6 +45,7 @@ pub fn written_is_read()
 {}
 
 /// A direction of a slave has as many object bits as its entries have bits, gaps with them.
+#[tactic(auto, using(crate::proofs::ObjectLemmas::object_bits_counted))]
 pub fn object_bits_are_counted()
     ensures { ObjectBitsAreCounted }
 {}

@@ -1,4 +1,4 @@
-ghost use Rattle.std.specs.Prelude.{◌≡◌, ◌<◌, ◌≤◌, length, All, Some, IfOk, slice_get};
+ghost use Rattle.std.specs.Prelude.{◌≡◌, ◌<◌, ◌≤◌, length, All, Some, IfOk};
 ghost use Rattle.ec_regs.specs.Types.{IsEntry};
 ghost use Rattle.ec_regs.specs.Objects.{bits_of};
 ghost use Rattle.ec_table.specs.Sound.{IsSound, IsType, AreTypes, AreSlaves, IsVariable, AreVariables, IsLink};

@@ -1,4 +1,4 @@
-ghost use Rattle.std.specs.Prelude.{◌≡◌, []};
+ghost use Rattle.std.specs.Prelude.{[]};
 ghost use Rattle.toml.specs.View.{view, table_view, items_view};
 ghost use Rattle.ec_table.specs.InOrder.{Gives, one_more, rows_after};
 ghost use Rattle.ec_table.specs.Reading.{variable_at, variable_element};

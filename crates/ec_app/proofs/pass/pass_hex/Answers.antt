@@ -4,7 +4,7 @@ use Rattle.hex.specs.Hex.{encode_lower}
 use Rattle.ec_frame.specs.Frame.{IsFrame, with_datagrams}
 use Rattle.ec_frame.specs.Refusals.{IsRefused}
 use Rattle.ec_slave.specs.State.{SlaveState}
-use Rattle.ec_ring.specs.Rings.{rings}
+use Rattle.ec_ring.specs.Rings.{passes_ring}
 use Rattle.ec_app.proofs.PassLemmas.{ok_unless, passed_up}
 use Rattle.ec_app.proofs.pass.pass_hex.Goals as goal
 
@@ -28,7 +28,7 @@ returns-clause-answer c =
     let p = c.in_ok-check.ensures.accepted.0 in
     let sent : IsFrame c.in_ok-payload.payload.items p = subst (λ (bytes : List ℕ). IsFrame bytes p) c.as_slice.ensures.value c.in_ok-check.ensures.accepted.1 in
     let at_ring : IsFrame c.as_mut_slice.result.now p = subst (λ (bytes : List ℕ). IsFrame bytes p) (sym c.as_mut_slice.ensures.value) sent in
-    let back = subst (λ (slaves : List SlaveState). IsFrame c.pass_all.new.frame (with_datagrams p (rings slaves p.datagrams).datagrams)) c.in_ok-ring.ensures (c.pass_all.ensures.ring.frame p at_ring) in
+    let back = subst (λ (slaves : List SlaveState). IsFrame c.pass_all.new.frame (with_datagrams p (passes_ring slaves p.datagrams).datagrams)) c.in_ok-ring.ensures (c.pass_all.ensures.ring.frame p at_ring) in
     let same_len : length c.pass_all.new.frame ≡ c.in_ok-payload.payload.len = omega (arith, c.pass_all.auto.frame, c.as_mut_slice.ensures.len) in
     let printed : c.as_slice-2.result.now ≡ c.pass_all.new.frame = c.as_slice-2.ensures.value ∙ (ap (λ n. take n (c.pass_all.new.frame ++ drop (length c.pass_all.new.frame) c.in_ok-payload.payload.items)) (sym same_len) ∙ take-append_seam c.pass_all.new.frame _) in
     record {

@@ -1,6 +1,6 @@
 use Rattle.std.proofs.Common.{◌∙◌, ap, sym}
 use Rattle.ec_frame.specs.Datagram.{spelling}
-use Rattle.ec_frame.specs.declared.header.Header.{Header}
+use Rattle.ec_frame.specs.declared.datagram.Header.{Header}
 use Rattle.ec_slave.specs.State.{Met}
 use Rattle.ec_slave.proofs.Answered.{passed_over, is_answered, is_read, is_written, is_exchanged}
 use Rattle.ec_slave.proofs.passing.SlaveHandler.handle.Goals as goal

@@ -1,7 +1,7 @@
 use Rattle.std.proofs.Common.{◌≡◌, ◌∙◌, List, [], ◌∷◌, refl, ap, subst}
 use Rattle.ec_frame.specs.Datagram.{Datagram}
 use Rattle.ec_frame.specs.Frame.{IsFrame, with_datagrams}
-use Rattle.ec_frame.specs.Passing.{handled_all, after_all}
+use Rattle.ec_frame.specs.Walk.{handled_all, after_all}
 use Rattle.ec_slave.specs.State.{SlaveState}
 use Rattle.ec_slave.specs.Meeting.{passes, slave_met, datagram_met}
 use Rattle.ec_slave.proofs.Bystanders.{passes-kept}

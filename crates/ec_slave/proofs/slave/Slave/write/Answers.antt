@@ -33,6 +33,4 @@ invariant_of-self c =
           ∙ (decoded-kept ms w old fs room (c.self.invariant.decoded ∙ ap fmmus_of (sym own))
           ∙ ap fmmus_of (sym (front ∙ written))));
       image = ap (λ (p : Sii). p.image) c.write.ensures ∙ (written-image c.self.inside.port c.args.from c.args.bytes.now ∙ c.self.invariant.image);
-      outs = c.self.invariant.outs;
-      ins = c.self.invariant.ins;
     }

@@ -27,8 +27,6 @@ invariant_of-self c =
           ∙ (decoded-mapped c.deref-2.result.now c.self.inside.fmmus p c.args.bytes.now old
           ∙ ap fmmus_of (sym (front ∙ c.write_logical-in_memory.ensures.memory))));
       image = c.self.invariant.image;
-      outs = c.self.invariant.outs;
-      ins = c.self.invariant.ins;
     }
 
 pub returns-clause-slave : goal.returns-clause-slave

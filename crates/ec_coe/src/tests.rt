@@ -1,0 +1,384 @@
+//! Messages as they stand on the wire, to a slave with one PDO in each direction.
+use crate::{
+    BadMailbox, Dictionary, Message, Reply, Value, read_message, read_reply, write_message,
+};
+use ec_regs::{Device, Entry, Listed, Mailbox, Pdo, SlaveType};
+use std::alloc::{AllocError, Global};
+use std::process::Abort;
+use std::test::Fail;
+
+/// What the slave's type stands for.
+const DEVICE: Device = Device {
+    vendor: 0xABCD,
+    product: 3,
+    revision: 1,
+};
+
+/// The bytes of a row of hexadecimal digits.
+fn bytes_of(rt: &(impl AllocGlobal + Abort), row: &str) -> Result<Vec<u8>, Fail> {
+    let mut bytes = Vec::new(rt.alloc());
+    for word in row.split_whitespace() {
+        bytes.extend_from_slice(&hex::decode(rt.alloc(), word)?)?;
+    }
+    Ok(bytes)
+}
+
+/// A list of PDOs of one entry each.
+fn pdos_of(alloc: Global, rows: &[(u16, Entry)]) -> Result<Listed<Pdo>, AllocError> {
+    let mut pdos = Listed::new(alloc);
+    for (index, entry) in rows {
+        let mut entries = Listed::new(alloc);
+        entries.push(*entry)?;
+        pdos.push(Pdo {
+            index: *index,
+            entries,
+        })?;
+    }
+    Ok(pdos)
+}
+
+/// The objects of a slave with these output PDOs and these input PDOs.
+fn dictionary_of(
+    rt: &(impl AllocGlobal + Abort),
+    outputs: &[(u16, Entry)],
+    inputs: &[(u16, Entry)],
+) -> Result<Dictionary, Fail> {
+    let mailbox = Some(Mailbox {
+        receive_start: 0x1000,
+        receive_size: 128,
+        send_start: 0x1080,
+        send_size: 128,
+    });
+    let outputs = pdos_of(rt.alloc(), outputs)?;
+    let inputs = pdos_of(rt.alloc(), inputs)?;
+    assert!(rt; SlaveType::is_within_limits(mailbox, outputs.as_slice(), inputs.as_slice()));
+    let kind = SlaveType::new(DEVICE, mailbox, 0x1100, 0x1400, outputs, inputs, true);
+    Ok(Dictionary::new(rt.alloc(), kind, DEVICE.identity(0))?)
+}
+
+/// An entry of an output PDO or of an input PDO.
+fn entry(index: u16, subindex: u8, bits: u8) -> Entry {
+    Entry {
+        index,
+        subindex,
+        bits,
+    }
+}
+
+/// 12 bits of outputs in 0x1600, 16 bits of inputs in 0x1A00.
+fn mixed(rt: &(impl AllocGlobal + Abort)) -> Result<Dictionary, Fail> {
+    dictionary_of(
+        rt,
+        &[(0x1600, entry(0x7010, 1, 12))],
+        &[(0x1A00, entry(0x6010, 1, 16))],
+    )
+}
+
+/// Sends requests one after the other, and compares the bytes of the replies, which are counted from 1 on.
+fn assert_answers(
+    rt: &(impl AllocGlobal + Abort),
+    dictionary: &mut Dictionary,
+    in_preop: bool,
+    rows: &[(&str, &str)],
+) -> Result<(), Fail> {
+    let mut counter = 1;
+    for (sent, back) in rows {
+        let request = read_message(&bytes_of(rt, sent)?).ok().ok_or("a message")?;
+        let reply = dictionary.answer(in_preop, &request, counter);
+        let mut mailbox = [0xFF; 20];
+        assert_eq!(rt; write_message(&reply, &mut mailbox), Ok(()));
+        assert_eq!(rt;
+            mailbox.get(..16),
+            Some(bytes_of(rt, back)?.as_slice()),
+            "{sent}"
+        );
+        assert_eq!(rt; mailbox.get(16..), Some([0, 0, 0, 0].as_slice()));
+        counter = counter % 7 + 1;
+    }
+    Ok(())
+}
+
+// The count is set to 0, an index of the other direction is refused, the own one and the count are taken.
+#[test]
+fn assigns_in_preop(rt: HostRuntime) -> Result<(), Fail> {
+    let mut dictionary = mixed(&rt)?;
+    let rows = [
+        (
+            "0a0000000013 0020 2f121c00 00000000",
+            "0a0000000013 0030 60121c00 00000000",
+        ),
+        (
+            "0a0000000013 0020 2b121c01 001a0000",
+            "0a0000000023 0020 80121c01 30000906",
+        ),
+        (
+            "0a0000000013 0020 2b121c01 00160000",
+            "0a0000000033 0030 60121c01 00000000",
+        ),
+        (
+            "0a0000000013 0020 2f121c00 02000000",
+            "0a0000000043 0020 80121c00 30000906",
+        ),
+        (
+            "0a0000000013 0020 2f121c00 01000000",
+            "0a0000000053 0030 60121c00 00000000",
+        ),
+        (
+            "0a0000000013 0020 2b121c01 00160000",
+            "0a0000000063 0020 80121c01 22000008",
+        ),
+        (
+            "0a0000000013 0020 40121c01 00000000",
+            "0a0000000073 0030 4b121c01 00160000",
+        ),
+        (
+            "0a0000000013 0020 40121c00 00000000",
+            "0a0000000013 0030 4f121c00 01000000",
+        ),
+    ];
+    assert_answers(&rt, &mut dictionary, true, &rows)?;
+    assert_eq!(rt; dictionary.assigned_outputs(), [0x1600].as_slice());
+    assert_eq!(rt; dictionary.output_bits(), 12);
+    assert_eq!(rt; dictionary.input_bits(), 16);
+    Ok(())
+}
+
+#[test]
+fn assigns_in_no_other_state(rt: HostRuntime) -> Result<(), Fail> {
+    let mut dictionary = mixed(&rt)?;
+    let rows = [
+        (
+            "0a0000000013 0020 2f121c00 00000000",
+            "0a0000000013 0020 80121c00 22000008",
+        ),
+        (
+            "0a0000000013 0020 2f131c00 00000000",
+            "0a0000000023 0020 80131c00 22000008",
+        ),
+    ];
+    assert_answers(&rt, &mut dictionary, false, &rows)?;
+    assert_eq!(rt; dictionary.assigned_outputs(), [0x1600].as_slice());
+    assert_eq!(rt; dictionary.assigned_inputs(), [0x1A00].as_slice());
+    Ok(())
+}
+
+// Identity and mappings, each by its own size.
+#[test]
+fn uploads(rt: HostRuntime) -> Result<(), Fail> {
+    let mut dictionary = mixed(&rt)?;
+    let rows = [
+        (
+            "0a0000000013 0020 40181001 00000000",
+            "0a0000000013 0030 43181001 cdab0000",
+        ),
+        (
+            "0a0000000013 0020 40181000 00000000",
+            "0a0000000023 0030 4f181000 04000000",
+        ),
+        (
+            "0a0000000013 0020 40001600 00000000",
+            "0a0000000033 0030 4f001600 01000000",
+        ),
+        (
+            "0a0000000013 0020 40001601 00000000",
+            "0a0000000043 0030 43001601 0c011070",
+        ),
+        (
+            "0a0000000013 0020 40001a00 00000000",
+            "0a0000000053 0030 4f001a00 01000000",
+        ),
+        (
+            "0a0000000013 0020 40001a01 00000000",
+            "0a0000000063 0030 43001a01 10011060",
+        ),
+        (
+            "0a0000000013 0020 40131c01 00000000",
+            "0a0000000073 0030 4b131c01 001a0000",
+        ),
+    ];
+    assert_answers(&rt, &mut dictionary, true, &rows)
+}
+
+// Another command before no object, that before no subindex, read-only before another length, that before the state.
+#[test]
+fn aborts_in_their_order(rt: HostRuntime) -> Result<(), Fail> {
+    let mut dictionary = mixed(&rt)?;
+    let rows = [
+        (
+            "0a0000000013 0020 41002000 00000000",
+            "0a0000000013 0020 80002000 01000405",
+        ),
+        (
+            "0a0000000013 0020 41181001 00000000",
+            "0a0000000023 0020 80181001 01000405",
+        ),
+        (
+            "0a0000000013 0020 80181001 00000000",
+            "0a0000000033 0020 80181001 01000405",
+        ),
+        (
+            "0a0000000013 0020 40002000 00000000",
+            "0a0000000043 0020 80002000 00000206",
+        ),
+        (
+            "0a0000000013 0020 40181005 00000000",
+            "0a0000000053 0020 80181005 11000906",
+        ),
+        (
+            "0a0000000013 0020 2f121c02 00000000",
+            "0a0000000063 0020 80121c02 11000906",
+        ),
+        (
+            "0a0000000013 0020 2f181001 00000000",
+            "0a0000000073 0020 80181001 02000106",
+        ),
+        (
+            "0a0000000013 0020 27121c01 00000000",
+            "0a0000000013 0020 80121c01 10000706",
+        ),
+        (
+            "0a0000000013 0020 23121c00 00000000",
+            "0a0000000023 0020 80121c00 10000706",
+        ),
+    ];
+    assert_answers(&rt, &mut dictionary, false, &rows)
+}
+
+// An assignment object is there only where the type has PDOs of its direction.
+#[test]
+fn without_inputs(rt: HostRuntime) -> Result<(), Fail> {
+    let mut dictionary = dictionary_of(&rt, &[(0x1600, entry(0x7000, 1, 4))], &[])?;
+    let rows = [
+        (
+            "0a0000000013 0020 40131c00 00000000",
+            "0a0000000013 0020 80131c00 00000206",
+        ),
+        (
+            "0a0000000013 0020 40121c00 00000000",
+            "0a0000000023 0030 4f121c00 01000000",
+        ),
+    ];
+    assert_answers(&rt, &mut dictionary, true, &rows)?;
+    assert_eq!(rt; dictionary.kind().device(), DEVICE);
+    assert_eq!(rt; dictionary.identity(), DEVICE.identity(0));
+    Ok(())
+}
+
+// No index stands twice in an assignment.
+#[test]
+fn no_index_twice(rt: HostRuntime) -> Result<(), Fail> {
+    let rows = [
+        (0x1600, entry(0x7000, 1, 64)),
+        (0x1601, entry(0x7001, 1, 64)),
+    ];
+    let mut dictionary = dictionary_of(&rt, &rows, &[])?;
+    let rows = [
+        (
+            "0a0000000013 0020 2f121c00 00000000",
+            "0a0000000013 0030 60121c00 00000000",
+        ),
+        (
+            "0a0000000013 0020 2b121c02 00160000",
+            "0a0000000023 0030 60121c02 00000000",
+        ),
+        (
+            "0a0000000013 0020 2f121c00 02000000",
+            "0a0000000033 0020 80121c00 30000906",
+        ),
+        (
+            "0a0000000013 0020 2f121c00 01000000",
+            "0a0000000043 0030 60121c00 00000000",
+        ),
+    ];
+    assert_answers(&rt, &mut dictionary, true, &rows)?;
+    assert_eq!(rt; dictionary.assigned_outputs(), [0x1600].as_slice());
+    dictionary.reset();
+    assert_eq!(rt; dictionary.assigned_outputs(), [0x1600, 0x1601].as_slice());
+    Ok(())
+}
+
+// 33 entries of 64 bits are more than a direction may have; 32 are not.
+#[test]
+fn at_most_2048_bits(rt: HostRuntime) -> Result<(), Fail> {
+    for (entries, back) in [
+        (32, "0a0000000013 0030 60121c00 00000000"),
+        (33, "0a0000000013 0020 80121c00 30000906"),
+    ] {
+        let mut long = Listed::new(rt.alloc());
+        for place in 0..entries {
+            long.push(entry(0x7000, place, 64))?;
+        }
+        let mut outputs = Listed::new(rt.alloc());
+        outputs.push(Pdo {
+            index: 0x1600,
+            entries: long,
+        })?;
+        let inputs = Listed::new(rt.alloc());
+        assert!(rt; SlaveType::is_within_limits(None, outputs.as_slice(), inputs.as_slice()));
+        let kind = SlaveType::new(DEVICE, None, 0x1100, 0x1400, outputs, inputs, true);
+        let mut dictionary = Dictionary::new(rt.alloc(), kind, DEVICE.identity(0))?;
+        let sent = "0a0000000013 0020 2f121c00 01000000";
+        assert_answers(&rt, &mut dictionary, true, &[(sent, back)])?;
+    }
+    Ok(())
+}
+
+// A message in fewer than 16 bytes, of another length, of another type.
+#[test]
+fn what_is_no_message(rt: HostRuntime) -> Result<(), Fail> {
+    let rows = [
+        "0a0000000013 0020 40181001 000000",
+        "090000000013 0020 40181001 00000000",
+        "0a0100000013 0020 40181001 00000000",
+        "0a0000000014 0020 40181001 00000000",
+        "",
+    ];
+    for row in rows {
+        assert_eq!(rt;
+            read_message(&bytes_of(&rt, row)?),
+            Err(BadMailbox),
+            "{row}"
+        );
+    }
+    assert_eq!(rt; BadMailbox.number(), 9);
+    let message = read_message(&bytes_of(&rt, "0a0000000073 0020 40181001 00000000")?);
+    let message: Message = message.ok().ok_or("a message")?;
+    let mut short = [7; 15];
+    assert_eq!(rt; write_message(&message, &mut short), Err(BadMailbox));
+    assert_eq!(rt; short, [7; 15]);
+    Ok(())
+}
+
+// A done whatever its data, a value of its size, an abort of either service; all else is unexpected.
+#[test]
+fn replies(rt: HostRuntime) -> Result<(), Fail> {
+    let rows = [
+        ("0a0000000013 0030 60121c00 01020304", Reply::Downloaded),
+        (
+            "0a0000000013 0030 4f121c00 0102ffff",
+            Reply::Uploaded(Value::byte(1)),
+        ),
+        (
+            "0a0000000013 0030 43121c00 01020304",
+            Reply::Uploaded(Value::long(0x0403_0201)),
+        ),
+        (
+            "0a0000000013 0020 80121c00 22000008",
+            Reply::Aborted(0x0800_0022),
+        ),
+        (
+            "0a0000000013 0030 80121c00 22000008",
+            Reply::Aborted(0x0800_0022),
+        ),
+        ("0a0000000013 0020 60121c00 00000000", Reply::Unexpected),
+        ("0a0000000013 0040 80121c00 00000000", Reply::Unexpected),
+        ("0a0000000013 0030 60131c00 00000000", Reply::Unexpected),
+        ("0a0000000013 0030 60121c01 00000000", Reply::Unexpected),
+        ("0a0000000013 0030 40121c00 00000000", Reply::Unexpected),
+        ("0a0000000014 0030 60121c00 00000000", Reply::Unexpected),
+    ];
+    for (row, reply) in rows {
+        assert_eq!(rt; read_reply(&bytes_of(&rt, row)?, 0x1C12, 0), reply, "{row}");
+    }
+    Ok(())
+}

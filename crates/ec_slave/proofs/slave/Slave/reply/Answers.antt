@@ -1,0 +1,55 @@
+use Rattle.std.proofs.Common.{◌≡◌, ◌<◌, ◌∙◌, ◌+◌, ◌%◌, ℕ, Bool, List, length, arith, ap, sym, slice_set, length-set}
+use Rattle.ec_sii.specs.declared.image.Image.{Image}
+use Rattle.ec_sync.specs.Manager.{Manager, message_put}
+use Rattle.ec_coe.specs.declared.message.Message.{Message}
+use Rattle.ec_coe.specs.Messages.{message_bytes}
+use Rattle.ec_coe.specs.Objects.{Dictionary}
+use Rattle.ec_coe.specs.Answers.{Answer, answered}
+use Rattle.ec_coe.proofs.Effects.{SameSlots, answered-slots}
+use Rattle.ec_al.specs.declared.state.State.{State}
+use Rattle.ec_slave.specs.State.{SlaveState, manager_at}
+use Rattle.ec_slave.specs.Serving.{is_preop, reply_counter, dictionary_of, answer_to}
+use Rattle.ec_slave.proofs.Applications.{indexed}
+use Rattle.ec_slave.proofs.Stepping.{replied-by}
+use Rattle.ec_slave.proofs.slave.Slave.reply.Goals as goal
+
+pub invariant_of-self : goal.invariant_of-self
+invariant_of-self c =
+    let d : Dictionary = c.self.inside.dictionary in
+    let e : Dictionary = c.answer-reply.new.self in
+    let counter : ℕ = c.self.inside.replies % 7 + 1 in
+    let k : SameSlots d (answered c.is_preop-in_preop.result d c.args.request.now counter).dictionary = answered-slots c.is_preop-in_preop.result d c.args.request.now counter in
+    let after = c.answer-reply.ensures.after in
+    let identity : e.identity ≡ d.identity = ap (λ (x : Dictionary). x.identity) after ∙ k.identity in
+    let kind : e.kind ≡ d.kind = ap (λ (x : Dictionary). x.kind) after ∙ k.kind in
+    record {
+      room = c.self.invariant.room;
+      four = length-set c.self.inside.managers.items 1 c.mailbox_put.new.self ∙ c.self.invariant.four;
+      decoded = c.self.invariant.decoded;
+      image = c.self.invariant.image ∙ sym (rw (identity, kind));
+    }
+
+pub returns : goal.returns
+returns c =
+    let s : SlaveState = c.args.self.now in
+    let r : Message = c.args.request.now in
+    let four : 1 < length c.self.inside.managers.items = omega (arith, c.self.invariant.four) in
+    let managers = ap (λ (x : SlaveState). x.managers) c.self.view_is in
+    let here : c.index_mut.result.now ≡ manager_at s.managers 1 = indexed _ s.managers 1 _ four c.index_mut.ensures.value managers in
+    let preop : c.is_preop-in_preop.result ≡ is_preop s.al.state = c.is_preop-in_preop.ensures ∙ ap is_preop (c.state.ensures ∙ ap (λ (x : SlaveState). x.al.state) c.self.view_is) in
+    let by : Answer = answered c.is_preop-in_preop.result c.self.inside.dictionary r (reply_counter c.self.inside.replies) in
+    let same : by ≡ answer_to s r = ap (λ (b : Bool). answered b c.self.inside.dictionary r (reply_counter c.self.inside.replies)) preop
+    ∙ ap (λ (x : SlaveState). answered (is_preop s.al.state) (dictionary_of x) r (reply_counter x.replies)) c.self.view_is in
+    ap (λ (x : SlaveState). record x {
+      kind = c.answer-reply.new.self.kind;
+      identity = c.answer-reply.new.self.identity;
+      outs = c.answer-reply.new.self.outs;
+      ins = c.answer-reply.new.self.ins;
+      managers = slice_set x.managers 1 c.mailbox_put.new.self;
+      replies = reply_counter x.replies;
+    }) c.self.view_is
+    ∙ replied-by s r c.answer-reply.new.self c.mailbox_put.new.self
+    (c.answer-reply.ensures.after ∙ ap (λ (x : Answer). x.dictionary) same)
+    (c.mailbox_put.ensures.after
+    ∙ (ap (λ (m : Manager). message_put m c.bytes.result) here
+    ∙ ap (message_put (manager_at s.managers 1)) (c.bytes.ensures ∙ (ap message_bytes c.answer-reply.ensures.reply ∙ ap (λ (x : Answer). message_bytes x.reply) same))))

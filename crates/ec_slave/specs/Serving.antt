@@ -1,0 +1,130 @@
+-- A firmware step of a slave: the AL request, the SII read and one mailbox message, in this order (ETG.1000.6, "EtherCAT state
+-- machine", "Slave information interface" and "Mailbox"; the step and its order are the profile of the simulated slaves).
+use Rattle.std.specs.Prelude.{ℕ, ◌+◌, ◌%◌, ◌&&◌, not, List, map, slice_set, Bool, true, false, if◌then◌else◌, nat_lt, Option, Some, None, is_some, is_none, option_and_then}
+use Rattle.ec_sync.specs.Manager.{Manager, empty_manager, is_enabled, message_in, message_taken, message_put, zeros_published}
+use Rattle.ec_regs.specs.Managers.{is_mailbox, is_ring_read}
+use Rattle.ec_al.specs.declared.state.State.{State}
+use Rattle.ec_al.specs.declared.state.State.TheVariants.{Init, PreOp, SafeOp, Op}
+use Rattle.ec_al.specs.Al.{Al, decided}
+use Rattle.ec_sii.specs.Port as port
+use Rattle.ec_coe.specs.declared.message.Message.{Message}
+use Rattle.ec_coe.specs.declared.message.Service.{Service}
+use Rattle.ec_coe.specs.declared.message.Service.TheVariants.{Request, Response, Other}
+use Rattle.ec_coe.specs.Messages.{message_bytes, message_read, message_length}
+use Rattle.ec_coe.specs.Objects.{Dictionary}
+use Rattle.ec_coe.specs.Answers.{Answer, answered}
+use Rattle.ec_slave.specs.State.{SlaveState, manager_at}
+use Rattle.ec_slave.specs.Application.{with_manager}
+use Rattle.ec_slave.specs.Checking.{checks_of, control_word}
+
+-- ---- the AL request
+
+abbrev pub is_init : State → Bool
+is_init Init = true
+is_init PreOp = false
+is_init SafeOp = false
+is_init Op = false
+
+abbrev pub is_preop : State → Bool
+is_preop PreOp = true
+is_preop Init = false
+is_preop SafeOp = false
+is_preop Op = false
+
+abbrev pub is_safeop : State → Bool
+is_safeop SafeOp = true
+is_safeop Init = false
+is_safeop PreOp = false
+is_safeop Op = false
+
+abbrev pub unlocked_empty : Manager → Manager
+unlocked_empty m = empty_manager m.settings false
+
+-- What the managers become where one state is left for another. Where INIT is entered they are unlocked and empty; where
+-- SAFEOP is entered from PREOP, manager 3 publishes zeros, and an open draft or view stays.
+abbrev pub managers_entered : State → State → List Manager → List Manager
+managers_entered old new ms =
+    if is_init new && not (is_init old) then map unlocked_empty ms
+    else (if is_safeop new && is_preop old then slice_set ms 3 (zeros_published (manager_at ms 3)) else ms)
+
+-- the first reply after PREOP was entered from INIT has counter 1
+abbrev pub replies_entered : State → State → ℕ → ℕ
+replies_entered old new replies = if is_preop new && is_init old then 0 else replies
+
+abbrev pub with_al : SlaveState → Al → SlaveState
+with_al s a = record s {
+  al = a;
+  managers = managers_entered s.al.state a.state s.managers;
+  replies = replies_entered s.al.state a.state s.replies;
+}
+
+-- the latest request is decided, by the control word as it now stands
+unfoldable pub request_decided : SlaveState → SlaveState
+request_decided s = if s.al.requested then with_al s (decided s.al (control_word s) (checks_of s)) else s
+
+-- ---- the SII read
+
+unfoldable pub read_finished : SlaveState → SlaveState
+read_finished s = record s { sii = port.stepped s.sii }
+
+-- ---- one message
+
+-- where messages are answered: in PREOP, SAFEOP and OP, by a type with a mailbox
+abbrev pub has_mailbox : SlaveState → Bool
+has_mailbox s = not (is_init s.al.state) && is_some s.kind.mailbox
+
+-- manager 1 can take a reply: an enabled, empty mailbox that the ring reads
+abbrev pub takes_reply : Manager → Bool
+takes_reply m = is_enabled m && (is_mailbox m.settings && (is_ring_read m.settings && is_none m.mail))
+
+-- whether a message is taken now
+abbrev pub is_served : SlaveState → Bool
+is_served s = has_mailbox s && (takes_reply (manager_at s.managers 1) && is_some (message_in (manager_at s.managers 0)))
+
+abbrev pub is_request : Service → Bool
+is_request Request = true
+is_request Response = false
+is_request (Other number) = false
+
+-- a request that is well-formed, where there is room for the reply; anything else is dropped
+abbrev pub request_for : Manager → Option Message → Option Message
+request_for m None = None
+request_for m (Some r) = if is_request r.service && not (nat_lt m.settings.length message_length) then Some r else None
+
+abbrev pub request_in : SlaveState → Option Message
+request_in s = request_for (manager_at s.managers 1) (option_and_then message_read (message_in (manager_at s.managers 0)))
+
+-- reply counters go 1, 2, .. 7, 1, ..
+abbrev pub reply_counter : ℕ → ℕ
+reply_counter replies = replies % 7 + 1
+
+abbrev pub dictionary_of : SlaveState → Dictionary
+dictionary_of s = record { kind = s.kind; identity = s.identity; outs = s.outs; ins = s.ins }
+
+-- only in PREOP does an assignment change
+abbrev pub answer_to : SlaveState → Message → Answer
+answer_to s r = answered (is_preop s.al.state) (dictionary_of s) r (reply_counter s.replies)
+
+-- the reply lies in manager 1, and counts
+abbrev pub replied : SlaveState → Message → SlaveState
+replied s r = record s {
+  managers = slice_set s.managers 1 (message_put (manager_at s.managers 1) (message_bytes (answer_to s r).reply));
+  kind = (answer_to s r).dictionary.kind;
+  identity = (answer_to s r).dictionary.identity;
+  outs = (answer_to s r).dictionary.outs;
+  ins = (answer_to s r).dictionary.ins;
+  replies = reply_counter s.replies;
+}
+
+abbrev pub reply_given : SlaveState → Option Message → SlaveState
+reply_given s None = s
+reply_given s (Some r) = replied s r
+
+-- the message is taken out of manager 0, and answered if it is a request
+unfoldable pub message_served : SlaveState → SlaveState
+message_served s = if is_served s then reply_given (with_manager s 0 (message_taken (manager_at s.managers 0))) (request_in s) else s
+
+-- ---- all of it
+
+unfoldable pub served : SlaveState → SlaveState
+served s = message_served (read_finished (request_decided s))

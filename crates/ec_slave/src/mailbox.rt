@@ -1,0 +1,94 @@
+//! The mailbox of a slave: one message is taken and answered.
+
+ghost use Rattle.std.specs.Prelude.{◌≡◌, is_some};
+ghost use Rattle.ec_sync.specs.Manager.{message_in, message_taken};
+ghost use Rattle.ec_slave.specs.State.{manager_at};
+ghost use Rattle.ec_slave.specs.Application.{with_manager};
+ghost use Rattle.ec_slave.specs.Serving.{has_mailbox as has_mailbox_in, takes_reply, is_preop as is_preop_state, is_served as is_served_now, message_served, replied, request_in};
+
+use crate::slave::Slave;
+use ec_al::State;
+use ec_coe::{MESSAGE_LENGTH, Message, Service, read_message};
+
+/// Whether the state is PREOP.
+fn is_preop(state: State) -> bool
+    ensures { result ≡ is_preop_state state }
+{
+    match state {
+        State::PreOp => true,
+        State::Init | State::SafeOp | State::Op => false,
+    }
+}
+
+impl Slave {
+    /// Whether messages are answered: in every state but INIT, by a type with a mailbox.
+    fn has_mailbox(&self) -> bool
+        ensures { result ≡ has_mailbox_in self.now }
+    {
+        self.al.state() != State::Init && self.dictionary.kind().mailbox().is_some()
+    }
+
+    /// The request that lies in manager 0: a message of CoE with the service of a request, where manager 1 has room for
+    /// the reply.
+    fn request(&self) -> Option<Message>
+        ensures { result ≡ request_in self.now }
+    {
+        let message = read_message(self.managers[0].message()?).ok()?;
+        let has_room = self.managers[1].settings().length as usize >= MESSAGE_LENGTH;
+        (message.service == Service::Request && has_room).then_some(message)
+    }
+
+    /// Puts the answer to a request into manager 1, and counts it.
+    fn reply(&mut self, request: &Message)
+        ensures { self.new ≡ replied self.old request.now }
+    {
+        let counter = self.replies % 7 + 1;
+        let in_preop = is_preop(self.al.state());
+        let reply = self.dictionary.answer(in_preop, request, counter);
+        self.managers[1].mailbox_put(&reply.bytes());
+        self.replies = counter;
+    }
+
+    /// Whether the reply can lie in manager 1: an enabled, empty mailbox that the ring reads.
+    fn can_reply(&self) -> bool
+        ensures { result ≡ takes_reply (manager_at self.now.managers 1) }
+    {
+        self.managers[1].may_put_message(0)
+    }
+
+    /// Whether a message lies in manager 0, an enabled mailbox that the ring writes.
+    fn has_message(&self) -> bool
+        ensures { result ≡ is_some (message_in (manager_at self.now.managers 0)) }
+    {
+        self.managers[0].message().is_some()
+    }
+
+    /// Whether a message is taken now.
+    fn is_served(&self) -> bool
+        ensures { result ≡ is_served_now self.now }
+    {
+        self.has_mailbox() && self.can_reply() && self.has_message()
+    }
+
+    /// Takes the message out of manager 0.
+    fn take_message(&mut self)
+        ensures { self.new ≡ with_manager self.old 0 (message_taken (manager_at self.old.managers 0)) }
+    {
+        self.managers[0].mailbox_take();
+    }
+
+    /// Takes a message, where one lies in manager 0 and the reply can lie in manager 1, and answers it, or drops it.
+    #[tactic(auto, unfolding(crate::specs::Serving::message_served))]
+    pub(crate) fn serve_message(&mut self)
+        ensures { self.new ≡ message_served self.old }
+    {
+        if !self.is_served() {
+            return;
+        }
+        let request = self.request();
+        self.take_message();
+        if let Some(request) = request {
+            self.reply(&request);
+        }
+    }
+}
