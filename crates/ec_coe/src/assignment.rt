@@ -97,6 +97,13 @@ impl Assignment {
         })
     }
 
+    /// Does nothing. Its contract says what holds of every assignment: no more slots count than there are.
+    pub(crate) fn is_sound(&self)
+        ensures { self.now.count ≤ length self.now.slots }
+    {
+        let _ = &self.slots;
+    }
+
     /// The indices of the PDOs that are assigned, in order.
     pub fn assigned(&self) -> &[u16]
         ensures { result.now ≡ assigned_indices self.now }

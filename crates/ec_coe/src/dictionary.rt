@@ -3,7 +3,7 @@
 ghost use Rattle.std.specs.Prelude.{◌≡◌, ◌++◌, ◌≤◌, ◌<◌, ◌^◌, ◌*◌, ◌+◌, length, slice_get, IfOk, IfSome, MatchResult, Ok, Err};
 ghost use Rattle.std.specs.Option.{option_copied};
 ghost use Rattle.ec_regs.specs.Objects.{pdo_at, bits_assigned};
-ghost use Rattle.ec_coe.specs.Objects.{new_dictionary, assigned, entry_number as number_of_entry, identity_values, pdo_values};
+ghost use Rattle.ec_coe.specs.Objects.{HasSlots, new_dictionary, assigned, entry_number as number_of_entry, identity_values, pdo_values};
 ghost use Rattle.ec_coe.specs.Messages.{size_number, IsMessage};
 ghost use Rattle.ec_coe.specs.Transfers.{value_or_abort, uploaded, downloaded};
 ghost use Rattle.ec_coe.specs.Answers.{answered};
@@ -103,6 +103,17 @@ impl Dictionary {
             outs,
             ins,
         })
+    }
+
+    /// Does nothing. Its contract says what holds of every dictionary, whatever was done to it: there are as many slots as
+    /// the type has PDOs, and no more of them count than there are.
+    pub fn is_sound(&self)
+        ensures slots { HasSlots self.now.kind self.now.outs self.now.ins }
+        ensures outputs { self.now.outs.count ≤ length self.now.outs.slots }
+        ensures inputs { self.now.ins.count ≤ length self.now.ins.slots }
+    {
+        self.outs.is_sound();
+        self.ins.is_sound();
     }
 
     /// The slave's type.

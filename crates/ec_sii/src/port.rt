@@ -1,4 +1,4 @@
-ghost use Rattle.std.specs.Prelude.{◌≡◌};
+ghost use Rattle.std.specs.Prelude.{◌≡◌, ◌<◌, ◌^◌};
 ghost use Rattle.ec_sii.specs.Port.{idle_port, sii_byte, status_byte, byte_for, address_written, written, stepped};
 
 use crate::image::Image;
@@ -52,6 +52,13 @@ impl Port {
             is_error: false,
             found: 0,
         }
+    }
+
+    /// Does nothing. Its contract says what holds of every port: the word address has 32 bits.
+    pub fn is_sound(&self)
+        ensures { self.now.address < 2 ^ 32 }
+    {
+        let _address = self.address;
     }
 
     /// Whether a read is under way. Until the next firmware step the port then takes no write.

@@ -1,5 +1,5 @@
 -- What an SII keeps, and a slave as the power comes on.
-use Rattle.std.proofs.Common.{ℕ, zero, suc, ◌+◌, ◌%◌, ◌==◌, ◌<◌, ◌≡◌, List, [], ◌∷◌, length, get_or, slice_set, Bool, true, false, if◌then◌else◌, nat_le, Option, Some, None, refl, sym, ◌∙◌, ap, arith, length-set}
+use Rattle.std.proofs.Common.{ℕ, ◌%◌, ◌==◌, ◌≡◌, List, [], ◌∷◌, Bool, true, false, if◌then◌else◌, nat_le, Option, Some, None, refl, ◌∙◌, ap}
 use Rattle.ec_sii.specs.declared.image.Image.{Image}
 use Rattle.ec_sii.specs.Port.{Sii, idle_port, addressed, address_written, byte_for, commanded, command_place, written, stepped, two_words, last_address}
 use Rattle.ec_bits.specs.Bits.{zeros}

@@ -1,6 +1,5 @@
 -- What a firmware step does to the PDOs that are assigned.
-use Rattle.std.proofs.Common.{ℕ, ◌≡◌, ◌≢◌, Bool, true, false, Option, Some, None, refl, sym, ◌∙◌, ap, subst, if◌then◌else◌}
-use Rattle.ec_al.specs.Al.{Al}
+use Rattle.std.proofs.Common.{◌≡◌, ◌≢◌, Bool, true, false, Option, Some, None, refl, sym, ◌∙◌, ap, subst, if◌then◌else◌}
 use Rattle.ec_al.specs.declared.state.State.{State}
 use Rattle.ec_al.specs.declared.state.State.TheVariants.{Init, PreOp, SafeOp, Op}
 use Rattle.ec_regs.specs.Types.{SlaveKind}
@@ -14,7 +13,7 @@ use Rattle.ec_slave.specs.State.{SlaveState, manager_at}
 use Rattle.ec_slave.specs.Application.{with_manager}
 use Rattle.ec_slave.specs.Serving.{served, request_decided, read_finished, message_served, is_served, reply_given, request_in, is_preop, dictionary_of, reply_counter}
 use Rattle.ec_slave.specs.FirmwareLaws.{KeepsAssigned, ServesKeepAssignments}
-use Rattle.ec_slave.proofs.Serves.{decided-same, served-al}
+use Rattle.ec_slave.proofs.Serves.{decided-same}
 
 no-preop : (s : State) → s ≢ PreOp → is_preop s ≡ false
 no-preop Init n = refl

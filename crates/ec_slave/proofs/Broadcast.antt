@@ -1,5 +1,5 @@
 -- Physical datagrams that leave a slave as it was.
-use Rattle.std.proofs.Common.{ℕ, ◌+◌, ◌%◌, ◌<◌, ◌≤◌, ◌≡◌, ◌==◌, ◌&&◌, ◌||◌, Bool, true, false, Some, refl, ◌∙◌, ap, inl, inr, arith, List, [], ◌∷◌, ◌++◌, length, slice_index, nat_lt, nat_le}
+use Rattle.std.proofs.Common.{ℕ, ◌+◌, ◌%◌, ◌<◌, ◌≤◌, ◌≡◌, ◌==◌, ◌||◌, Bool, true, false, Some, refl, ◌∙◌, ap, inl, inr, arith, List, [], ◌∷◌, ◌++◌, length, slice_index, nat_lt, nat_le}
 use Rattle.std.specs.Prelude.{bit_or}
 use Rattle.std.proofs.lemmas.Bool.{and_left, and_right, and_parts, cases_Bool, or_left, lt-ltb, leb-true}
 use Rattle.ec_bits.proofs.AnyLaws.{any_below_from, if_true, if_false, within_above}
@@ -16,7 +16,7 @@ use Rattle.ec_slave.specs.LogicalLaws.{BroadcastLaw}
 use Rattle.ec_slave.proofs.AgainstAll.{retold_alike}
 
 -- a set manager begins in the RAM
-set-start : (m : ManagerSettings) → is_set m ≡ true → ram_start ≤ m.start
+pub set-start : (m : ManagerSettings) → is_set m ≡ true → ram_start ≤ m.start
 unfolding is_set
 set-start m h =
     let a = (and_parts (m.activate % 2 == 1) _ h).1 in

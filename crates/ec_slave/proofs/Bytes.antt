@@ -10,7 +10,7 @@ use Rattle.ec_slave.specs.Laws.{WritesByByte, IsWrittenAt, ReadsByByte, CountsBy
 use Rattle.ec_bits.proofs.AnyLaws.{if_true, if_false, if_none}
 use Rattle.ec_slave.proofs.Told.{get-retold0}
 
-written_at : (ms : List Manager) (w : Window) (memory : List ℕ) (a : ℕ) → a < length memory → IsWrittenAt ms w memory a
+pub written_at : (ms : List Manager) (w : Window) (memory : List ℕ) (a : ℕ) → a < length memory → IsWrittenAt ms w memory a
 written_at ms w memory a l =
     let own = get-retold0 memory (kept_byte ms w) a l in
     record {

@@ -1,5 +1,5 @@
 -- Which states a firmware step enters, and what it checks before.
-use Rattle.std.proofs.Common.{ℕ, ◌+◌, ◌%◌, ◌≡◌, ◌≢◌, ◌&&◌, not, Bool, true, false, Result, Ok, Err, refl, sym, ◌∙◌, ap, subst, arith, if◌then◌else◌}
+use Rattle.std.proofs.Common.{ℕ, ◌≡◌, ◌≢◌, ◌&&◌, not, Bool, true, false, Result, Ok, Err, refl, sym, ◌∙◌, ap, arith, if◌then◌else◌}
 use Rattle.ec_al.specs.States.{state_number}
 use Rattle.ec_al.specs.Transitions.{requested_number, requested_by, acknowledges, answer}
 use Rattle.ec_al.specs.Al.{Al, stepped, ignored, answered}
@@ -12,7 +12,7 @@ use Rattle.ec_al.specs.declared.transition.Checks.{Checks}
 use Rattle.ec_slave.specs.State.{SlaveState}
 use Rattle.ec_slave.specs.Checking.{checks_of, control_word}
 use Rattle.ec_slave.specs.Serving.{served, request_decided, replies_entered, reply_counter, with_al}
-use Rattle.ec_slave.specs.FirmwareLaws.{IsGranted, StatesAreEntered, FirstReplyIsOne}
+use Rattle.ec_slave.specs.FirmwareLaws.{StatesAreEntered, FirstReplyIsOne}
 use Rattle.ec_slave.proofs.Serves.{served-al, decided-al}
 
 -- another state was granted, by the request that waited

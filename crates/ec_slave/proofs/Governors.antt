@@ -1,5 +1,5 @@
 -- Who governs a byte, among all managers and among the lower-numbered ones.
-use Rattle.std.proofs.Common.{ℕ, zero, suc, ◌+◌, ◌<◌, ◌≡◌, ◌≢◌, ◌&&◌, Bool, true, false, Option, is_none, Some, None, refl, sym, ◌∙◌, ap, arith, List, [], ◌∷◌, ◌++◌, length, take, append_assoc, inl, inr}
+use Rattle.std.proofs.Common.{ℕ, zero, suc, ◌+◌, ◌<◌, ◌≡◌, ◌≢◌, Bool, true, false, Option, is_none, Some, None, refl, sym, ◌∙◌, ap, arith, List, [], ◌∷◌, ◌++◌, length, take, append_assoc, inl, inr}
 use Rattle.std.specs.List.{position_from}
 use Rattle.std.proofs.lemmas.Bool.{and_left, and_right, cases_Bool, false≢true}
 use Rattle.std.proofs.lemmas.List.{append-nil}

@@ -1,7 +1,7 @@
 -- What a slave becomes by a logical datagram, as its code finds it.
-use Rattle.std.proofs.Common.{ℕ, zero, suc, ◌-◌, ◌*◌, ◌/◌, ◌<◌, ◌≡◌, ◌≢◌, ◌||◌, Bool, true, false, Option, Some, None, refl, sym, ◌∙◌, ap, arith, List, [], ◌∷◌, ◌++◌, length, get_or, slice_index, option_map, get_or-set_other}
+use Rattle.std.proofs.Common.{ℕ, ◌-◌, ◌*◌, ◌<◌, ◌≡◌, ◌||◌, Bool, true, false, Option, None, refl, sym, ◌∙◌, ap, arith, List, [], ◌∷◌, ◌++◌, option_map}
 use Rattle.std.proofs.lemmas.Bool.{and_right}
-use Rattle.ec_bits.specs.Bits.{bit, overlay, overlay_below, put, put_told}
+use Rattle.ec_bits.specs.Bits.{bit, overlay}
 use Rattle.ec_bits.proofs.AnyLaws.{if_false, if_none, within_below}
 use Rattle.ec_bits.proofs.BitLaws.{overlay_own}
 use Rattle.ec_regs.specs.declared.fmmu.FmmuSettings.{FmmuSettings}

@@ -1,6 +1,6 @@
 -- What an access leaves of a manager, as the code finds it.
 use Rattle.std.proofs.Common.{ℕ, ◌≡◌, ◌&&◌, Bool, true, false, List, sym, ◌∙◌, ap, if◌then◌else◌}
-use Rattle.ec_bits.proofs.AnyLaws.{if_true, if_false}
+use Rattle.ec_bits.proofs.AnyLaws.{if_false}
 use Rattle.ec_sync.specs.Manager.{Manager, ring_read}
 use Rattle.ec_slave.specs.Managers.{is_read_by, is_written_by, manager_after}
 

@@ -1,24 +1,23 @@
 -- What a firmware step leaves as it is.
-use Rattle.std.proofs.Common.{ℕ, zero, suc, ◌+◌, ◌*◌, ◌%◌, ◌≡◌, ◌≢◌, ◌&&◌, ◌==◌, not, Bool, true, false, Option, Some, None, Result, Ok, Err, refl, sym, ◌∙◌, ap, subst, arith, if◌then◌else◌, List, [], ◌∷◌, map, get_or, slice_set, is_some}
-use Rattle.ec_bits.proofs.AnyLaws.{if_true, if_false}
+use Rattle.std.proofs.Common.{ℕ, zero, suc, ◌+◌, ◌*◌, ◌≡◌, ◌&&◌, not, Bool, true, false, Option, Some, None, refl, sym, ◌∙◌, ap, if◌then◌else◌, List, [], ◌∷◌, map, get_or, slice_set, is_some}
+use Rattle.ec_bits.proofs.AnyLaws.{if_false}
 use Rattle.ec_sync.specs.Buffer.{Buffer}
 use Rattle.ec_regs.specs.declared.manager.ManagerSettings.{ManagerSettings}
-use Rattle.ec_sync.specs.Manager.{Manager, message_taken, message_put, message_in, may_put_message, zeros_published, no_manager}
+use Rattle.ec_sync.specs.Manager.{Manager, message_taken, message_put, message_in, zeros_published}
 use Rattle.ec_al.specs.declared.state.State.{State}
 use Rattle.ec_al.specs.declared.state.State.TheVariants.{Init, PreOp, SafeOp, Op}
-use Rattle.ec_al.specs.Al.{Al, decided, stepped}
+use Rattle.ec_al.specs.Al.{Al, stepped}
 use Rattle.ec_sii.specs.Port as port
 use Rattle.ec_sii.specs.Port.{Sii}
 use Rattle.ec_coe.specs.declared.message.Message.{Message}
-use Rattle.ec_coe.specs.Objects.{Dictionary}
 use Rattle.ec_coe.specs.Answers.{answered}
 use Rattle.ec_coe.specs.Laws.{KeepsAssignments}
 use Rattle.ec_coe.proofs.Keeping.{assignments_kept}
-use Rattle.ec_slave.specs.State.{SlaveState, manager_at, station_of, fmmus, fmmus_of}
+use Rattle.ec_slave.specs.State.{SlaveState, manager_at, fmmus_of}
 use Rattle.ec_slave.specs.Application.{is_running, with_manager}
 use Rattle.ec_slave.specs.Checking.{checks_of, control_word}
-use Rattle.ec_slave.specs.Serving.{served, request_decided, read_finished, message_served, with_al, managers_entered, is_served, reply_given, replied, request_in, is_preop, dictionary_of, reply_counter, unlocked_empty, is_init, is_safeop, has_mailbox, takes_reply}
-use Rattle.ec_slave.specs.FirmwareLaws.{IsResting, RestsQuietly, KeepsSettings, ServesKeepSettings, ServesKeepBuffers}
+use Rattle.ec_slave.specs.Serving.{served, request_decided, read_finished, message_served, with_al, managers_entered, is_served, reply_given, request_in, is_preop, dictionary_of, reply_counter, unlocked_empty, is_init, is_safeop, has_mailbox, takes_reply}
+use Rattle.ec_slave.specs.FirmwareLaws.{RestsQuietly, ServesKeepSettings, ServesKeepBuffers}
 
 -- ---- nothing waits
 

@@ -1,6 +1,5 @@
 -- A bit is written exactly where one is in the memory itself or in some manager's value.
 use Rattle.std.proofs.Common.{ℕ, zero, suc, ◌+◌, ◌-◌, ◌*◌, ◌/◌, ◌%◌, ◌<◌, ◌≤◌, ◌≡◌, ◌==◌, ◌&&◌, ◌||◌, Bool, true, false, Option, Some, None, refl, sym, ◌∙◌, ap, subst, inl, inr, ◌⊎◌, arith, if◌then◌else◌, is_some, is_none, List, [], ◌∷◌, ◌++◌, length, take, nat_lt, nat_le, append_assoc}
-use Rattle.std.specs.List.{position_from}
 use Rattle.std.proofs.lemmas.Bool.{cases_Bool, and_parts, and_from, or_left, or_right, both_ways, lt-ltb, ltb-true, leb-true, false≢true}
 use Rattle.std.proofs.lemmas.List.{append-nil}
 use Rattle.ec_bits.proofs.AnyLaws.{any_below_from, any_below_some, if_true, if_false}
@@ -8,7 +7,7 @@ use Rattle.ec_regs.specs.declared.fmmu.FmmuSettings.{FmmuSettings}
 use Rattle.ec_regs.specs.declared.manager.ManagerSettings.{ManagerSettings}
 use Rattle.ec_regs.specs.Memory.{ram_start, ram_end}
 use Rattle.ec_regs.specs.Managers.{is_set, is_mailbox, is_buffered, is_ring_written, is_ring_read, span}
-use Rattle.ec_sync.specs.Manager.{Manager, may_write, is_enabled}
+use Rattle.ec_sync.specs.Manager.{Manager, may_write}
 use Rattle.ec_sync.specs.Governing.{governor, governs, covers, in_first_buffer}
 use Rattle.ec_fmmu.specs.Applied.{Place, touched_by_writing}
 use Rattle.ec_fmmu.proofs.PairLaws.{none_or_some}
@@ -48,7 +47,7 @@ written-there lower (m ∷ ms) fs p bytes (suc n) l h =
 abbrev WrittenSomewhere : List Manager → List FmmuSettings → Place → List ℕ → List Manager → Type 0
 WrittenSomewhere lower fs p bytes ms = (n : ℕ) × (n < length ms) × IsWrittenAt (lower ++ take n ms) fs p bytes (manager_at ms n)
 
-or-cases : (a b : Bool) → (a || b) ≡ true → (a ≡ true) ⊎ (b ≡ true)
+pub or-cases : (a b : Bool) → (a || b) ≡ true → (a ≡ true) ⊎ (b ≡ true)
 or-cases true b e = inl refl
 or-cases false b e = inr e
 
@@ -82,7 +81,7 @@ value-end m h =
       | inr f ↦ let s : span m ≡ 3 * m.length = if_false _ _ _ f in omega arith
     ]
 
-if-some : {X : Type 0} (b : Bool) (o : Option X) → is_some (if b then o else None) ≡ true → (b ≡ true) × (is_some o ≡ true)
+pub if-some : {X : Type 0} (b : Bool) (o : Option X) → is_some (if b then o else None) ≡ true → (b ≡ true) × (is_some o ≡ true)
 if-some true o e = (refl, e)
 if-some false o e = absurd (false≢true e)
 

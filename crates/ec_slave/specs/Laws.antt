@@ -8,7 +8,8 @@ use Rattle.ec_slave.specs.declared.role.Role.TheVariants.{Nothing, Read, Write, 
 use Rattle.ec_slave.specs.State.{SlaveState, station_of}
 use Rattle.ec_sync.specs.Manager.{Manager}
 use Rattle.ec_slave.specs.Access.{Window, touches, byte_at, byte_read, is_kept, may_read_byte, memory_written, retold, some_byte_read, some_byte_written, meeting}
-use Rattle.ec_slave.specs.Meeting.{meets, datagram_met}
+use Rattle.ec_slave.specs.Meeting.{meets, slave_met, datagram_met}
+use Rattle.ec_slave.specs.Sound.{IsSlave}
 
 -- the slave and the datagram are as they were
 abbrev pub OtherStationPasses : Type 0
@@ -34,6 +35,13 @@ pub record KeepsHeading (before after : Datagram) : Type 0 where
 
 abbrev pub HeadingStays : Type 0
 HeadingStays = (s : SlaveState) (d : Datagram) → IsDatagram d → KeepsHeading d (datagram_met s d)
+
+-- A datagram of any command that adds nothing to the working counter changes nothing: the slave is as it was, and so are the
+-- data. A request for an AL state, and a command to the SII that the port takes, count.
+abbrev pub CountsWhatItChanges : Type 0
+CountsWhatItChanges =
+    (s : SlaveState) (d : Datagram) → IsSlave s → d.counter < 65536 → (datagram_met s d).counter ≡ d.counter
+    → (slave_met s d ≡ s) × ((datagram_met s d).data_bytes ≡ d.data_bytes)
 
 -- the byte of address a after a write: where the memory itself keeps it, the data byte that belongs to it; else what it was
 pub record IsWrittenAt (ms : List Manager) (w : Window) (memory : List ℕ) (a : ℕ) : Type 0 where

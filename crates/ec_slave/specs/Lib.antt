@@ -1,22 +1,28 @@
-pub mod Roles
+-- What a slave is, and what datagrams and its application do to it: to be judged, in this order.
 pub mod State
-pub mod Held
+pub mod Roles
 pub mod Managers
 pub mod Access
 pub mod Logical
-pub mod Written
-pub mod Sights
 pub mod Meeting
-pub mod Ways
 pub mod Application
+-- A firmware step: the checks before a state, the step, and a fault.
 pub mod Checking
 pub mod Serving
 pub mod Faulting
+-- What holds of every slave, and laws: the same in other words, proved of the definitions above.
+pub mod Sound
+pub mod Laws
+pub mod MeetingLaws
+pub mod LogicalLaws
+pub mod FirmwareLaws
+pub mod Exchange
+pub mod AgainstAll
+-- What private functions and the proofs go by: no public contract rests on it.
+pub mod Held
+pub mod Ways
+pub mod Sights
+pub mod Written
 pub mod Telling
 pub mod Untouched
 pub mod Keeping
-pub mod Exchange
-pub mod AgainstAll
-pub mod Laws
-pub mod LogicalLaws
-pub mod FirmwareLaws

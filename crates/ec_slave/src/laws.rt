@@ -2,7 +2,9 @@
 
 ghost use Rattle.ec_slave.specs.Laws.{OtherStationPasses};
 ghost use Rattle.ec_slave.specs.Laws.{OtherPositionPasses};
-ghost use Rattle.ec_slave.specs.Laws.{HeadingStays, WritesByByte, ReadsByByte, CountsByRole};
+ghost use Rattle.ec_slave.specs.Sound.{MetIsSlave, PowerOnIsSlave};
+ghost use Rattle.ec_slave.specs.Laws.{CountsWhatItChanges, HeadingStays, WritesByByte, ReadsByByte, CountsByRole};
+ghost use Rattle.ec_slave.specs.MeetingLaws.{LogicalBitByBit, ManagersAfterWrite, RegistersAfterWrite, ValueBitByBit};
 ghost use Rattle.ec_slave.specs.AgainstAll.{LogicalAgainstAll, PhysicalAgainstAll};
 ghost use Rattle.ec_slave.specs.LogicalLaws.{BroadcastLaw, ExchangeLaw, MappedLaw, MissesLaw};
 ghost use Rattle.ec_slave.specs.FirmwareLaws.{FirstReplyIsOne, RestsQuietly, ServesKeepAssignments, ServesKeepBuffers, ServesKeepSettings, StatesAreEntered};
@@ -20,6 +22,33 @@ pub fn other_position_passes()
 /// Of a datagram only ADP, the bytes of its data and its working counter ever change.
 pub fn heading_stays()
     ensures { HeadingStays }
+{}
+
+/// What adds nothing to the working counter changes nothing of the slave, and nothing of the data.
+#[tactic(auto, using(crate::proofs::Counted::counts_what_it_changes))]
+pub fn counts_what_it_changes()
+    ensures { CountsWhatItChanges }
+{}
+
+/// What holds of every slave holds of one that was just switched on, and of one that a datagram met.
+pub fn slaves_stay_slaves()
+    ensures power_on { PowerOnIsSlave }
+    ensures met { MetIsSlave }
+{}
+
+/// After a datagram that writes, a register reads the byte that it brought, if it is stored, else what it read before; and
+/// each manager has the settings that were written to it and is empty, or is as it was.
+#[tactic(auto, using(crate::proofs::Registers::registers_after_write, crate::proofs::Registers::managers_after_write))]
+pub fn registers_after_write()
+    ensures registers { RegistersAfterWrite }
+    ensures managers { ManagersAfterWrite }
+{}
+
+/// A logical datagram moves the bits that the FMMUs map, and no other; what it leaves in a manager has 0 elsewhere.
+#[tactic(auto, using(crate::proofs::Registers::logical_bit_by_bit, crate::proofs::Registers::value_bit_by_bit))]
+pub fn logical_bit_by_bit()
+    ensures bits { LogicalBitByBit }
+    ensures value { ValueBitByBit }
 {}
 
 /// A write changes the bytes that it touches and that take writes, and no other.

@@ -15,6 +15,7 @@ mod physical;
 mod reach;
 mod role;
 mod slave;
+mod sound;
 
 pub use crate::slave::Slave;
 

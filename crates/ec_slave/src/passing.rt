@@ -3,6 +3,7 @@
 ghost use Rattle.std.specs.Prelude.{◌≡◌};
 ghost use Rattle.ec_frame.specs.Frame.{Payload, IsFrame};
 ghost use Rattle.ec_slave.specs.Keeping.{meets-keeps};
+ghost use Rattle.ec_slave.specs.Sound.{IsSlave};
 ghost use Rattle.ec_slave.specs.Meeting.{IsPassed, datagram_met, slave_met};
 
 use crate::mapped::Way;
@@ -17,8 +18,10 @@ impl Slave {
         ensures kind { self.new.kind ≡ self.old.kind }
         ensures identity { self.new.identity ≡ self.old.identity }
         ensures meets { IsPassed self.old frame.old self.new frame.new }
+        ensures sound { IsSlave self.new }
     {
         pass(self, frame);
+        self.is_sound();
     }
 }
 

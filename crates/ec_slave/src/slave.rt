@@ -9,11 +9,7 @@ use crate::fmmus::read_fmmus;
 use ec_al::Al;
 use ec_coe::Dictionary;
 use ec_fmmu::Fmmu;
-use ec_regs::registers::{
-    AL_CONTROL, AL_STATUS, AL_STATUS_CODE, FMMU_COUNT, FMMUS, MANAGER_COUNT, NUMBER_OF_FMMUS,
-    NUMBER_OF_SYNC_MANAGERS, RAM_END, RAM_KIB, RAM_SIZE, RAM_START, SII_CONTROL, STATION_ADDRESS,
-    SYNC_MANAGERS,
-};
+use ec_regs::registers::{FMMU_COUNT, MANAGER_COUNT, RAM_END, RAM_KIB, RAM_START, STATION_ADDRESS};
 use ec_regs::{Identity, SlaveType};
 use ec_sii::{Image, Port};
 use ec_sync::Manager;

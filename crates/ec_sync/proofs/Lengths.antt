@@ -1,6 +1,6 @@
 -- How long values are.
-use Rattle.std.proofs.Common.{◌≡◌, ◌+◌, ◌&&◌, ℕ, Bool, true, false, nat_le, nat_lt, refl, arith}
-use Rattle.std.specs.Prelude.{if◌then◌else◌}
+use Rattle.std.proofs.Common.{◌≡◌, ◌≤◌, ◌+◌, ◌&&◌, ℕ, Bool, true, false, Option, Some, None, List, length, take, nat_le, nat_lt, refl, sym, ◌∙◌, ap, arith, if◌then◌else◌}
+use Rattle.std.proofs.lemmas.List.{length-take-le}
 use Rattle.std.proofs.lemmas.Bool.Decides.{nat_tests}
 use Rattle.ec_bits.specs.Bits.{within}
 use Rattle.ec_sync.specs.Bounds.{span_end_of}
@@ -18,6 +18,14 @@ buffer_length_set m s b = grind (arith, common_steps, s, b)
 pub set_lies_in_ram : (m : ManagerSettings) → is_set m ≡ true → LiesInRam m
 unfolding is_set
 set_lies_in_ram m s = record { some = grind (arith, common_steps, s); from = grind (arith, common_steps, s); to = grind (arith, common_steps, s) }
+
+-- the front of one list, if it is there, is as long as that of another
+pub front-length : (n : ℕ) (b : Bool) (xs ys d : List ℕ) → n ≤ length xs → n ≤ length ys → (if b then Some (take n xs) else None) ≡ Some d
+    → length d ≡ length (take n ys)
+front-length n true xs ys d l k e =
+    let same : take n xs ≡ d = cc in
+    ap length (sym same) ∙ (length-take-le n xs l ∙ sym (length-take-le n ys k))
+front-length n false xs ys d l k e = absurd cc
 
 -- a byte lies in the span that is kept decoded exactly where the manager governs it
 ends_at : (b : Bool) (s n a : ℕ) → (nat_le s a && nat_lt a (if b then s + n else 0)) ≡ (b && (nat_le s a && nat_lt a (s + n)))

@@ -2,6 +2,7 @@
 -- shows (Governing), and the laws over whole runs (Runs, Messages). Bounds and Touching say how the code keeps them.
 pub mod Buffer
 pub mod Manager
+pub mod Sound
 pub mod Governing
 pub mod Touching
 pub mod Runs

@@ -1,6 +1,6 @@
 //! What a buffered manager holds.
 
-ghost use Rattle.std.specs.Prelude.{◌≡◌, ◌+◌, ◌-◌, ◌<◌, ◌≤◌, ◌++◌, length, take, drop, slice_set, IfOk, Some, is_some, unwrap_or, option_map, true};
+ghost use Rattle.std.specs.Prelude.{◌≡◌, ◌+◌, ◌-◌, ◌<◌, ◌≤◌, ◌++◌, length, take, drop, slice_set, IfOk, Some, is_some, unwrap_or, option_map, true, ℕ, List};
 ghost use Rattle.ec_bits.specs.Bits.{zeros};
 ghost use Rattle.ec_regs.specs.Memory.{ram_end};
 ghost use Rattle.ec_sync.specs.Buffer.{emptied_buffer, publishing, draft_next, app_written, app_read, after_read};
@@ -54,6 +54,14 @@ impl Buffer {
             seen: vec![in alloc; 0; LONGEST]?,
             is_viewing: false,
         })
+    }
+
+    /// Does nothing: an open draft and an open view are as long as what is published.
+    pub fn is_sound(&self)
+        ensures draft { (d : List ℕ) → self.now.draft ≡ Some d → length d ≡ length self.now.published }
+        ensures view { (v : List ℕ) → self.now.view ≡ Some v → length v ≡ length self.now.published }
+    {
+        let _len = self.len;
     }
 
     /// The last value that was published.

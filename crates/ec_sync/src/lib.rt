@@ -12,6 +12,7 @@ mod mail;
 mod mailbox;
 mod manager;
 mod ring;
+mod sound;
 mod touching;
 
 pub use crate::bounds::Bounds;

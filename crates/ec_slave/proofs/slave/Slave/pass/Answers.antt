@@ -27,4 +27,5 @@ returns c =
         slave = λ p h. c.pass.ensures.state p h ∙ slave_passed c.args.self.now p.datagrams;
         frame = λ p h. subst (λ (es : List Datagram). IsFrame c.pass.new.frame (with_datagrams p es)) (datagrams_passed c.args.self.now p.datagrams) (c.pass.ensures.frame p h);
       };
+      sound = c.is_sound.ensures;
     }

@@ -1,12 +1,10 @@
-use Rattle.std.proofs.Common.{◌≡◌, ◌<◌, ◌∙◌, ◌+◌, ◌%◌, ℕ, Bool, List, length, arith, ap, sym, slice_set, length-set}
-use Rattle.ec_sii.specs.declared.image.Image.{Image}
+use Rattle.std.proofs.Common.{◌≡◌, ◌<◌, ◌∙◌, ◌+◌, ◌%◌, ℕ, Bool, length, arith, ap, sym, slice_set, length-set}
 use Rattle.ec_sync.specs.Manager.{Manager, message_put}
 use Rattle.ec_coe.specs.declared.message.Message.{Message}
 use Rattle.ec_coe.specs.Messages.{message_bytes}
 use Rattle.ec_coe.specs.Objects.{Dictionary}
 use Rattle.ec_coe.specs.Answers.{Answer, answered}
 use Rattle.ec_coe.proofs.Effects.{SameSlots, answered-slots}
-use Rattle.ec_al.specs.declared.state.State.{State}
 use Rattle.ec_slave.specs.State.{SlaveState, manager_at}
 use Rattle.ec_slave.specs.Serving.{is_preop, reply_counter, dictionary_of, answer_to}
 use Rattle.ec_slave.proofs.Applications.{indexed}

@@ -1,7 +1,6 @@
-use Rattle.std.proofs.Common.{◌≡◌, ◌∙◌, refl, ap, length, arith, List, replicate}
+use Rattle.std.proofs.Common.{◌≡◌, ◌∙◌, ap, length, arith, List, replicate}
 use Rattle.ec_sii.specs.Port.{idle_port}
 use Rattle.ec_sync.specs.Manager.{Manager}
-use Rattle.ec_coe.specs.Objects.{Dictionary}
 use Rattle.ec_slave.specs.State.{SlaveState, power_on}
 use Rattle.ec_slave.proofs.Assigning.{reset-as-new}
 use Rattle.ec_slave.proofs.Exchanges.{take_front}

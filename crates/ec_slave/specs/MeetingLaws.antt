@@ -1,0 +1,57 @@
+-- Laws of a whole meeting: what a slave's registers, managers and bits are after a datagram.
+use Rattle.std.specs.Prelude.{ℕ, ◌+◌, ◌-◌, ◌*◌, ◌<◌, ◌≤◌, ◌≡◌, ◌&&◌, List, length, Bool, true, false, if◌then◌else◌, slice_index, unwrap_or}
+use Rattle.ec_bits.specs.Bits.{bit, within}
+use Rattle.ec_regs.specs.declared.fmmu.FmmuSettings.{FmmuSettings}
+use Rattle.ec_regs.specs.Memory.{ram_start, is_stored}
+use Rattle.ec_frame.specs.declared.command.Command.TheVariants.{Lrd, Lwr, Lrw}
+use Rattle.ec_frame.specs.Datagram.{Datagram, adp_of, ado_of}
+use Rattle.ec_sync.specs.Manager.{Manager, empty_manager}
+use Rattle.ec_fmmu.specs.Applied.{Place}
+use Rattle.ec_slave.specs.Roles.{role_of, is_writing}
+use Rattle.ec_slave.specs.State.{SlaveState, manager_at, station_of, fmmus}
+use Rattle.ec_slave.specs.Sound.{IsSlave}
+use Rattle.ec_slave.specs.Access.{byte_at, touches, is_configured, settings_written}
+use Rattle.ec_slave.specs.Logical.{only_if, place_of, plain_bit, read_bit, value_brought}
+use Rattle.ec_slave.specs.Meeting.{window_of, slave_met, datagram_met}
+
+-- the datagram writes at the slave, by its command and the address that it has
+abbrev pub writes_at : SlaveState → Datagram → Bool
+writes_at s d = is_writing (role_of d.command (adp_of d) (station_of s))
+
+-- A register outside the sync managers and the SII port reads the byte that a writing datagram brings, if it is stored; else
+-- what it read before.
+abbrev pub RegistersAfterWrite : Type 0
+RegistersAfterWrite =
+    (s : SlaveState) (d : Datagram) (a : ℕ) → IsSlave s → writes_at s d ≡ true → a < 0x0800 → within 0x0502 6 a ≡ false
+    → byte_at (slave_met s d) a ≡ (if touches (window_of d) a && is_stored a then slice_index d.data_bytes (a - ado_of d) else byte_at s a)
+
+-- A writing datagram over registers alone: each manager of which it writes a setting has the settings that its bytes then
+-- say, is empty, and is locked or not as it was; every other manager is as it was.
+abbrev pub ManagersAfterWrite : Type 0
+ManagersAfterWrite =
+    (s : SlaveState) (d : Datagram) (n : ℕ) → n < length s.managers → writes_at s d ≡ true → ado_of d + length d.data_bytes ≤ ram_start
+    → let m : Manager = manager_at s.managers n in
+    manager_at (slave_met s d).managers n
+    ≡ (if is_configured (window_of d) n then empty_manager (settings_written (window_of d) n m) m.locked else m)
+
+-- A logical datagram moves bits: a data bit becomes what the read set shows for it, where it may be read, and a bit of the
+-- memory itself what the write set brings it, where no manager governs it. All other bits are as they were.
+pub record MovesBits (reading writing : Bool) (s : SlaveState) (d : Datagram) : Type 0 where
+  pub data_bits : (i : ℕ) → i < 8 * length d.data_bytes
+      → bit (datagram_met s d).data_bytes i
+      ≡ unwrap_or (only_if reading (read_bit s.memory s.managers (fmmus s) (place_of d) i)) (bit d.data_bytes i)
+  pub memory_bits : (q : ℕ) → q < 8 * length s.memory
+      → bit (slave_met s d).memory q
+      ≡ unwrap_or (only_if writing (plain_bit s.managers (fmmus s) (place_of d) d.data_bytes q)) (bit s.memory q)
+
+pub record LogicalBitByBit : Type 0 where
+  pub read : (s : SlaveState) (d : Datagram) → d.command ≡ Lrd → MovesBits true false s d
+  pub write : (s : SlaveState) (d : Datagram) → d.command ≡ Lwr → MovesBits false true s d
+  pub both : (s : SlaveState) (d : Datagram) → d.command ≡ Lrw → s.kind.lrw ≡ true → MovesBits true true s d
+
+-- Of the value that it writes into a manager each bit is what the write set brings there, outside the bytes that
+-- lower-numbered managers govern; all others are 0.
+abbrev pub ValueBitByBit : Type 0
+ValueBitByBit =
+    (lower : List Manager) (fs : List FmmuSettings) (p : Place) (bytes : List ℕ) (start len k : ℕ) → k < 8 * len
+    → bit (value_brought lower fs p bytes start len) k ≡ unwrap_or (plain_bit lower fs p bytes (8 * start + k)) false

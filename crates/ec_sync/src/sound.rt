@@ -1,0 +1,14 @@
+//! What holds of every manager, whatever was done to it.
+
+ghost use Rattle.ec_sync.specs.Sound.{IsManager};
+
+use crate::manager::Manager;
+
+impl Manager {
+    /// Does nothing. Its contract says what holds of every manager: the lengths of its values.
+    pub fn is_sound(&self)
+        ensures { IsManager self.now }
+    {
+        self.buffer.is_sound();
+    }
+}
