@@ -1,3 +1,4 @@
 mod PassLemmas
+mod PlanLemmas
 mod PrintLemmas
 mod RunLemmas

@@ -1,6 +1,7 @@
--- To be believed by reading, in this order: the refusals by number, name and values; what `ecat pass` answers; what is
--- left on the output; and how a run ends.
+-- To be believed by reading, in this order: the refusals by number, name and values; what `ecat pass` and `ecat plan`
+-- answer; what is left on the output; and how a run ends.
 pub mod Refusals
 pub mod Passing
+pub mod Planning
 pub mod Printing
 pub mod Running

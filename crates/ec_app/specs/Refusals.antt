@@ -1,13 +1,19 @@
 -- The refusals of the program by number, name and values, what is told of them and how they end it (this project's
 -- profile).
-use Rattle.std.specs.Prelude.{ℕ, ◌==◌, ◌||◌, List, [], ◌∷◌, ◌++◌, if◌then◌else◌, codes}
+use Rattle.std.specs.Prelude.{ℕ, ◌==◌, ◌||◌, List, [], ◌∷◌, ◌++◌, Option, None, Some, if◌then◌else◌, codes}
 use Rattle.std.specs.Fmt.{decimal}
 use Rattle.std.specs.List.{flat_map}
 use Rattle.ec_frame.specs.Refusals.{refusal_number}
 use Rattle.ec_frame.specs.declared.error.FrameError.{FrameError}
 use Rattle.ec_frame.specs.declared.error.FrameError.TheVariants as frame
+use Rattle.ec_table.specs.declared.fault.Place.{Place}
+use Rattle.ec_table.specs.Faults.{section_number}
+use Rattle.ec_table.specs.Faults as table
+use Rattle.ec_link.specs.Faults as link
+use Rattle.ec_app.specs.declared.refusal.Values.{Values}
+use Rattle.ec_app.specs.declared.refusal.Values.TheVariants.{Empty, One, Two}
 use Rattle.ec_app.specs.declared.refusal.Refusal.{Refusal}
-use Rattle.ec_app.specs.declared.refusal.Refusal.TheVariants.{Memory, Frame, BadHex, Output, Input}
+use Rattle.ec_app.specs.declared.refusal.Refusal.TheVariants.{Memory, Frame, Table, Link, BadHex, Output, Input}
 
 abbrev pub frame_name : FrameError → List ℕ
 frame_name frame.Short = codes "Short"
@@ -20,6 +26,8 @@ frame_name frame.TooLong = codes "TooLong"
 abbrev pub number_of : Refusal → ℕ
 number_of Memory = 1
 number_of (Frame error) = refusal_number error
+number_of (Table error) = table.error_number error
+number_of (Link error) = link.error_number error
 number_of BadHex = 40
 number_of Output = 41
 number_of Input = 42
@@ -27,16 +35,40 @@ number_of Input = 42
 abbrev pub name_of : Refusal → List ℕ
 name_of Memory = codes "Memory"
 name_of (Frame error) = frame_name error
+name_of (Table error) = table.error_name error
+name_of (Link error) = link.error_name error
 name_of BadHex = codes "BadHex"
 name_of Output = codes "Output"
 name_of Input = codes "Input"
 
+-- values as a list
+abbrev pub listed : Values → List ℕ
+listed Empty = []
+listed (One value) = value ∷ []
+listed (Two first second) = first ∷ second ∷ []
+
+-- of a table's fault its section, as a number, and its place in it
+abbrev pub place_values : Option Place → List ℕ
+place_values None = []
+place_values (Some place) = section_number place.section ∷ place.element ∷ []
+
+-- of a plan's fault its place, or how many slaves or parts there are
+abbrev pub link_values : Option ℕ → List ℕ
+link_values None = []
+link_values (Some value) = value ∷ []
+
 abbrev pub values_of : Refusal → List ℕ
-values_of refusal = []
+values_of (Table error) = place_values (table.error_place error)
+values_of (Link error) = link_values (link.error_value error)
+values_of _ = []
+
+-- values in decimal, each with a blank before it
+abbrev pub values_text : List ℕ → List ℕ
+values_text values = flat_map (λ value. 32 ∷ decimal value) values
 
 -- the number, the name and the values, with blanks between
 abbrev pub text_of : Refusal → List ℕ
-text_of refusal = decimal (number_of refusal) ++ 32 ∷ name_of refusal ++ flat_map (λ value. 32 ∷ decimal value) (values_of refusal)
+text_of refusal = decimal (number_of refusal) ++ 32 ∷ name_of refusal ++ values_text (values_of refusal)
 
 -- what is told of a refusal
 abbrev pub line_of : Refusal → List ℕ

@@ -2,13 +2,14 @@
 use Rattle.std.specs.Prelude.{◌≡◌, ℕ, List, Option, Result, Ok, Err}
 use Rattle.std.specs.Io.KnownBytes.{Appends}
 use Rattle.std.specs.String.{string_bytes}
-use Rattle.ec_args.specs.CommandLine.{Command, PassOf, command_of}
+use Rattle.ec_args.specs.CommandLine.{Command, PassOf, PlanOf, command_of}
 use Rattle.ec_args.specs.declared.request.Notice.{Notice}
 use Rattle.ec_args.specs.declared.request.Notice.TheVariants as notice
 use Rattle.ec_args.specs.declared.request.Request.{Request}
 use Rattle.ec_app.specs.declared.refusal.Refusal.{Refusal}
 use Rattle.ec_app.specs.declared.refusal.Refusal.TheVariants.{Memory, Output}
 use Rattle.ec_app.specs.Passing.{RunsPass}
+use Rattle.ec_app.specs.Planning.{RunsPlan}
 use Rattle.ec_app.specs.Printing.{AppendsPart}
 use Rattle.ec_app.specs.Refusals.{line_of, status_of}
 
@@ -17,14 +18,16 @@ pub record Stream : Type 0 where
   pub old : Option (List ℕ)
   pub new : Option (List ℕ)
 
--- what a command does with the output
-abbrev pub Runs : Command → Stream → Result Unit Refusal → Type 0
-Runs (PassOf slaves text) output = RunsPass slaves text output.old output.new
+-- what a command does with the output, by what the input gives, where that is known
+abbrev pub Runs : Command → (given : Option (List ℕ)) → Stream → Result Unit Refusal → Type 0
+Runs (PassOf slaves text) given output = RunsPass slaves text output.old output.new
+Runs (PlanOf explained) given output = RunsPlan explained given output.old output.new
 
 -- what a command leaves alone: one that reads no input leaves it as it is, and one with no simulated application steps
 -- none
 abbrev pub LeavesAlone : {R A : Type 0} → Command → (input_old input_new : R) → (app_old app_new : A) → Type 0
 LeavesAlone (PassOf slaves text) input_old input_new app_old app_new = (input_new ≡ input_old) × (app_new ≡ app_old)
+LeavesAlone (PlanOf explained) input_old input_new app_old app_new = app_new ≡ app_old
 
 -- the exit status of a run, and what is told of it: a refusal's line, or a first part of it where the fault stream takes
 -- no more
@@ -38,11 +41,11 @@ Shows text output (Ok done) = Appends output.old output.new text
 Shows text output (Err refusal) = (refusal ≡ Output) × AppendsPart output.old output.new text
 
 -- how a run ends that was asked for a command, or that has to tell something in place of one
-abbrev pub Ends : Result Request Notice → (output faults : Stream) → ℕ → Type 0
-Ends (Ok request) output faults status = (ended : Result Unit Refusal) × Runs (command_of request) output ended × Tells faults status ended
-Ends (Err notice.Memory) output faults status = (output.new ≡ output.old) × Tells faults status (Err Memory)
-Ends (Err (notice.Help text)) output faults status = (ended : Result Unit Refusal) × Shows (string_bytes text) output ended × Tells faults status ended
-Ends (Err (notice.Usage text)) output faults status = (status ≡ 2) × (output.new ≡ output.old) × AppendsPart faults.old faults.new (string_bytes text)
+abbrev pub Ends : Result Request Notice → (given : Option (List ℕ)) → (output faults : Stream) → ℕ → Type 0
+Ends (Ok request) given output faults status = (ended : Result Unit Refusal) × Runs (command_of request) given output ended × Tells faults status ended
+Ends (Err notice.Memory) given output faults status = (output.new ≡ output.old) × Tells faults status (Err Memory)
+Ends (Err (notice.Help text)) given output faults status = (ended : Result Unit Refusal) × Shows (string_bytes text) output ended × Tells faults status ended
+Ends (Err (notice.Usage text)) given output faults status = (status ≡ 2) × (output.new ≡ output.old) × AppendsPart faults.old faults.new (string_bytes text)
 
 -- what a run leaves alone
 abbrev pub EndsAlone : {R A : Type 0} → Result Request Notice → (input_old input_new : R) → (app_old app_new : A) → Type 0

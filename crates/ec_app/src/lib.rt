@@ -2,14 +2,18 @@
 //! slave; this crate is the program.
 #![tactic(auto)]
 
+mod input;
 mod pass;
+mod plan;
 mod printing;
 mod refusal;
 mod run;
 #[cfg(test)]
 mod tests;
 
+pub use crate::input::read_text;
 pub use crate::pass::{pass_hex, print_pass};
+pub use crate::plan::{print_plan, show_plan};
 pub use crate::printing::{print_text, tell};
-pub use crate::refusal::Refusal;
+pub use crate::refusal::{Refusal, Values};
 pub use crate::run::{App, run_command};

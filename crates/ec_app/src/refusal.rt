@@ -1,5 +1,10 @@
-use arrayvec::{ArrayString, ArrayVec};
+ghost use Rattle.std.specs.Prelude.{◌≡◌};
+ghost use Rattle.ec_app.specs.Refusals.{link_values, listed, place_values};
+
+use arrayvec::ArrayString;
 use ec_frame::FrameError;
+use ec_link::LinkError;
+use ec_table::{Place, TableError};
 use std::alloc::{AllocError, AllocFailed};
 use std::error::Error;
 use std::fmt;
@@ -16,6 +21,10 @@ pub enum Refusal {
     Memory,
     /// A payload that is no frame. Over 1472 bytes are `TooLong` too.
     Frame(FrameError),
+    /// A text that is no link table, with the section and the place of its first fault.
+    Table(TableError),
+    /// A link table that has no plan, with the place of its first fault or how many there are.
+    Link(LinkError),
     /// A text that isn't pairs of hex digits.
     BadHex,
     /// The output took no more.
@@ -24,9 +33,52 @@ pub enum Refusal {
     Input,
 }
 
+/// The values of a refusal, which stand behind its name, each with a blank before it.
+#[derive(Clone, Copy, Debug, PartialEq, Eq)]
+pub enum Values {
+    Empty,
+    One(u64),
+    Two(u64, u64),
+}
+
+impl fmt::Display for Values {
+    ghost use Rattle.std.specs.Prelude.{Some};
+    ghost use Rattle.ec_app.specs.Refusals.{listed, values_text};
+
+    ghost output = { λ values. Some (values_text (listed values)) };
+
+    fn fmt<W: fmt::Write>(&self, f: &mut fmt::Formatter<W>) -> fmt::Result {
+        match *self {
+            Values::Empty => Ok(()),
+            Values::One(value) => write!(f, " {value}"),
+            Values::Two(first, second) => write!(f, " {first} {second}"),
+        }
+    }
+}
+
+/// The section and the place of a table's fault.
+fn values_of_place(place: Option<Place>) -> Values
+    ensures { listed result ≡ place_values place }
+{
+    match place {
+        None => Values::Empty,
+        Some(place) => Values::Two(u64::from(place.section.number()), place.element as u64),
+    }
+}
+
+/// The place of a plan's fault, or how many there are.
+fn values_of_fault(value: Option<usize>) -> Values
+    ensures { listed result ≡ link_values value }
+{
+    match value {
+        None => Values::Empty,
+        Some(value) => Values::One(value as u64),
+    }
+}
+
 impl Refusal {
     ghost use Rattle.std.specs.Prelude.{◌≡◌};
-    ghost use Rattle.ec_app.specs.Refusals.{name_of, number_of, status_of, values_of};
+    ghost use Rattle.ec_app.specs.Refusals.{listed, name_of, number_of, status_of, values_of};
 
     /// The number of the refusal.
     pub fn number(&self) -> u8
@@ -35,6 +87,8 @@ impl Refusal {
         match self {
             Refusal::Memory => 1,
             Refusal::Frame(error) => error.number(),
+            Refusal::Table(error) => error.number(),
+            Refusal::Link(error) => error.number(),
             Refusal::BadHex => 40,
             Refusal::Output => 41,
             Refusal::Input => 42,
@@ -53,6 +107,8 @@ impl Refusal {
             Refusal::Frame(FrameError::BadMore) => "BadMore",
             Refusal::Frame(FrameError::BadCommand) => "BadCommand",
             Refusal::Frame(FrameError::TooLong) => "TooLong",
+            Refusal::Table(error) => error.name(),
+            Refusal::Link(error) => error.name(),
             Refusal::BadHex => "BadHex",
             Refusal::Output => "Output",
             Refusal::Input => "Input",
@@ -60,10 +116,14 @@ impl Refusal {
     }
 
     /// The values that stand behind the name.
-    pub fn values(&self) -> ArrayVec<u64, 4>
-        ensures { result.items ≡ values_of self.now }
+    pub fn values(&self) -> Values
+        ensures { listed result ≡ values_of self.now }
     {
-        ArrayVec::new()
+        match self {
+            Refusal::Table(error) => values_of_place(error.place()),
+            Refusal::Link(error) => values_of_fault(error.value()),
+            _ => Values::Empty,
+        }
     }
 
     /// The exit status that the program ends with: 4 for a fault of a wire, the output, the input or
@@ -100,11 +160,7 @@ impl fmt::Display for Refusal {
 
     fn fmt<W: fmt::Write>(&self, f: &mut fmt::Formatter<W>) -> fmt::Result {
         let (number, name, values) = (self.number(), self.name(), self.values());
-        write!(f, "{number} {name}")?;
-        for value in values.as_slice() {
-            write!(f, " {value}")?;
-        }
-        Ok(())
+        write!(f, "{number} {name}{values}")
     }
 }
 
@@ -118,6 +174,28 @@ impl From<FrameError> for Refusal {
 
     fn from(error: FrameError) -> Refusal {
         Self::Frame(error)
+    }
+}
+
+impl From<TableError> for Refusal {
+    ghost use Rattle.std.specs.Prelude.{◌≡◌};
+    ghost use Rattle.ec_app.specs.declared.refusal.Refusal.TheVariants.{Table};
+
+    ghost from_gives = { λ error refusal. refusal ≡ Table error };
+
+    fn from(error: TableError) -> Refusal {
+        Self::Table(error)
+    }
+}
+
+impl From<LinkError> for Refusal {
+    ghost use Rattle.std.specs.Prelude.{◌≡◌};
+    ghost use Rattle.ec_app.specs.declared.refusal.Refusal.TheVariants.{Link};
+
+    ghost from_gives = { λ error refusal. refusal ≡ Link error };
+
+    fn from(error: LinkError) -> Refusal {
+        Self::Link(error)
     }
 }
 

@@ -7,6 +7,7 @@ ghost use Rattle.ec_app.specs.Running.{Ends, EndsAlone, LeavesAlone, Runs, Tells
 
 use crate::Refusal;
 use crate::pass::print_pass;
+use crate::plan::print_plan;
 use crate::printing::{print_text, tell};
 use ec_args::{Notice, Request, read_args};
 use std::convert::AsStr;
@@ -19,21 +20,22 @@ pub trait App {
     fn step(&mut self, outputs: &[u8], inputs: &mut [u8]);
 }
 
-/// Runs one command. Input, application and sockets are for the commands that read a text, simulate
-/// slaves or serve them.
+/// Runs one command. The application and sockets are for the commands that simulate slaves or serve
+/// them.
 fn run_request<H: AllocGlobal + Net, R: Read, W: Write>(
     rt: &H,
     request: Request<'_>,
-    _input: &mut R,
+    input: &mut R,
     output: &mut W,
     _app: &mut dyn App,
 ) -> Result<(), Refusal>
-    ensures runs { Runs (command_of request.entry)
+    ensures runs { Runs (command_of request.entry) (R.remaining input.old)
         (record { old = W.contents output.old; new = W.contents output.new }) result }
-    ensures alone { LeavesAlone (command_of request.entry) _input.old _input.new _app.old _app.new }
+    ensures alone { LeavesAlone (command_of request.entry) input.old input.new _app.old _app.new }
 {
     match request {
         Request::Pass { slaves, frame } => print_pass(rt.alloc(), slaves.into(), frame, output),
+        Request::Plan { explained } => print_plan(rt.alloc(), explained, input, output),
     }
 }
 
@@ -61,7 +63,7 @@ fn end_run<H: AllocGlobal + Net, R: Read, W: Write, F: Write>(
     faults: &mut F,
     app: &mut dyn App,
 ) -> u8
-    ensures ends { Ends read.entry
+    ensures ends { Ends read.entry (R.remaining input.old)
         (record { old = W.contents output.old; new = W.contents output.new })
         (record { old = F.contents faults.old; new = F.contents faults.new }) result }
     ensures alone { EndsAlone read.entry input.old input.new app.old app.new }
@@ -96,7 +98,7 @@ pub fn run_command<H: AllocGlobal + Net, S: AsStr, R: Read, W: Write, F: Write>(
     // What `clap`'s specification finds in the arguments decides how the run ends, and what it
     // leaves alone.
     ensures ends { (read : Result RequestValue NoticeValue) × Reads (map S.text args.now) read
-        × Ends read
+        × Ends read (R.remaining input.old)
         (record { old = W.contents output.old; new = W.contents output.new })
         (record { old = F.contents faults.old; new = F.contents faults.new }) result
         × EndsAlone read input.old input.new app.old app.new }

@@ -1,5 +1,8 @@
 //! The program's worked rows, over memory.
 
+mod plans;
+mod tables;
+
 use crate::{App, print_text, run_command};
 use std::io;
 use std::io::{ErrorKind, Write};
@@ -280,6 +283,10 @@ fn prints_the_help_that_is_asked_for(rt: HostRuntime) {
         (
             ["ecat", "--help"].as_slice(),
             "3  refused: standard error has a line",
+        ),
+        (
+            ["ecat", "plan", "--help"].as_slice(),
+            "44 SplitVariable PLACE     of an input variable",
         ),
         (
             ["ecat", "pass", "--help"].as_slice(),

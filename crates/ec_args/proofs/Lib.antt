@@ -1,2 +1,3 @@
 mod PassArguments
+mod PlanArguments
 mod RequestLemmas

@@ -45,28 +45,28 @@ after_number d = record { held = record { rows = []; pending = Some (codes "slav
 abbrev pub after_frame : Text → Text → Walk
 after_frame d f = record { held = record { rows = slaves_row d ∷ []; pending = Some (codes "frame", f ∷ []); skip = 0 }; waiting = idle; position = 2; is_trailing = false; stopped = None }
 
-pub flag-word : walked pass_built.rules [] (walk_from nothing_held) (codes "--slaves") ≡ after_flag
+pub flag-argument : walked pass_built.rules [] (walk_from nothing_held) (codes "--slaves") ≡ after_flag
 unfolding walked bundle_met chars encode_utf8
-flag-word = refl
+flag-argument = refl
 
-pub number-word : (d : Text) → IsValue d → walked pass_built.rules [] after_flag d ≡ after_number d
+pub number-step : (d : Text) → IsValue d → walked pass_built.rules [] after_flag d ≡ after_number d
 unfolding walked bundle_met chars encode_utf8
-number-word d is = rw (is.other, is.plain, is.plain) refl
+number-step d is = rw (is.other, is.plain, is.plain) refl
 
-pub frame-word : (d f : Text) → IsValue f → walked pass_built.rules [] (after_number d) f ≡ after_frame d f
+pub frame-step : (d f : Text) → IsValue f → walked pass_built.rules [] (after_number d) f ≡ after_frame d f
 unfolding walked bundle_met chars encode_utf8
-frame-word d f is = rw (is.other, is.plain, is.plain) refl
+frame-step d f is = rw (is.other, is.plain, is.plain) refl
 
-pub walk-words : (d f : Text) → IsValue d → IsValue f → walk pass_built.rules [] nothing_held (codes "--slaves" ∷ d ∷ f ∷ []) ≡ after_frame d f
-walk-words d f is_d is_f = rw (flag-word, number-word d is_d, frame-word d f is_f) refl
+pub walk-pass : (d f : Text) → IsValue d → IsValue f → walk pass_built.rules [] nothing_held (codes "--slaves" ∷ d ∷ f ∷ []) ≡ after_frame d f
+walk-pass d f is_d is_f = rw (flag-argument, number-step d is_d, frame-step d f is_f) refl
 
-pub rows-words : (d f : Text) → IsValue d → IsValue f → rows_after pass_built.rules [] (codes "--slaves" ∷ d ∷ f ∷ []) ≡ slaves_row d ∷ frame_row f ∷ []
-rows-words d f is_d is_f = rw (walk-words d f is_d is_f) refl
+pub rows-pass : (d f : Text) → IsValue d → IsValue f → rows_after pass_built.rules [] (codes "--slaves" ∷ d ∷ f ∷ []) ≡ slaves_row d ∷ frame_row f ∷ []
+rows-pass d f is_d is_f = rw (walk-pass d f is_d is_f) refl
 
-pub subcommand-words : (name d f : Text) → IsValue d → IsValue f
+pub subcommand-pass : (name d f : Text) → IsValue d → IsValue f
     → subcommand_of ecat (name ∷ codes "pass" ∷ codes "--slaves" ∷ d ∷ f ∷ []) ≡ Some (codes "pass", slaves_row d ∷ frame_row f ∷ [])
 unfolding walked bundle_met chars encode_utf8
-subcommand-words name d f is_d is_f = ap (λ rows. Some (codes "pass", rows)) (rows-words d f is_d is_f)
+subcommand-pass name d f is_d is_f = ap (λ rows. Some (codes "pass", rows)) (rows-pass d f is_d is_f)
 
 -- `clap` finds no fault in them
 pub flag-turn : turn_fault pass_built [] (walk_from nothing_held) (codes "--slaves") ≡ []
@@ -84,12 +84,12 @@ frame-turn d f few is = rw (is.other, is.plain, is.plain, few) refl
 pub walk-fault : (d f : Text) → IsValue d → accepts false (Signed (pos 0) (pos 64)) d ≡ true → IsValue f
     → walk_fault pass_built [] (walk_from nothing_held) (codes "--slaves" ∷ d ∷ f ∷ []) ≡ []
 unfolding walk_fault
-walk-fault d f is_d few is_f = rw (flag-turn, flag-word, number-turn d is_d, number-word d is_d, frame-turn d f few is_f) refl
+walk-fault d f is_d few is_f = rw (flag-turn, flag-argument, number-turn d is_d, number-step d is_d, frame-turn d f few is_f) refl
 
 pub level-fault : (d f : Text) → IsValue d → accepts false (Signed (pos 0) (pos 64)) d ≡ true → IsValue f
     → level_fault pass_built [] nothing_held (codes "--slaves" ∷ d ∷ f ∷ []) false [] ≡ []
 unfolding defaults_fault
-level-fault d f is_d few is_f = rw (walk-fault d f is_d few is_f, walk-words d f is_d is_f) refl
+level-fault d f is_d few is_f = rw (walk-fault d f is_d few is_f, walk-pass d f is_d is_f) refl
 
 pub no-fault : (name d f : Text) → IsValue d → accepts false (Signed (pos 0) (pos 64)) d ≡ true → IsValue f
     → fault_of ecat (name ∷ codes "pass" ∷ codes "--slaves" ∷ d ∷ f ∷ []) ≡ []

@@ -1,5 +1,5 @@
 -- What a number that `get_one` read says of the text that it read, and what it says that it read none.
-use Rattle.std.proofs.Common.{◌≡◌, ◌<◌, ◌⊎◌, ℕ, List, [], ◌∷◌, Option, None, Some, inl, inr, Result, Ok, Err, MatchResult, IfNone, codes, unwrap_or, true, false, refl, sym, ap, subst, ◌∙◌, arith}
+use Rattle.std.proofs.Common.{◌≡◌, ◌<◌, ◌⊎◌, ℕ, List, [], ◌∷◌, Option, None, Some, inl, inr, Result, Ok, Err, MatchResult, IfNone, codes, unwrap_or, true, false, refl, sym, ap, subst, ◌∙◌, arith, slice_index, Bool}
 use Rattle.std.specs.Str.Parse.{ExplainsUnsignedError, HasUnsignedDigitsIfOk, IsNumeral, ParsesUnsigned, digits_value, without_leading_plus}
 use Rattle.std.specs.declared.num.ParseIntError.{ParseIntError}
 use Rattle.std.specs.Fmt.{decimal}
@@ -19,9 +19,10 @@ use Rattle.clap.proofs.WalkLemmas.{first_value-rows, one_text-rows}
 use Rattle.ec_args.specs.declared.request.Notice.{Notice}
 use Rattle.ec_args.specs.declared.request.Notice.TheVariants.{Memory, Help, Usage}
 use Rattle.ec_args.specs.declared.request.Request.{Request}
-use Rattle.ec_args.specs.declared.request.Request.TheVariants.{Pass}
-use Rattle.ec_args.specs.CommandLine.{ArePassArguments, Command, IsFault, IsNotice, MeetsCommand, MeetsPass, PassIsRead, PassOf, ecat, is_answer}
-use Rattle.ec_args.proofs.PassArguments.{ecat-is_simple, ecat-simple, frame_row, no-fault, number_argument, slaves_row, subcommand-words, value_argument}
+use Rattle.ec_args.specs.declared.request.Request.TheVariants.{Pass, Plan}
+use Rattle.ec_args.specs.CommandLine.{ArePassArguments, Command, IsFault, IsNotice, MeetsCommand, MeetsPass, MeetsPlan, ArePlanArguments, PassIsRead, PassOf, PlanIsRead, PlanOf, ecat, is_answer}
+use Rattle.ec_args.proofs.PlanArguments.{explain-met, explain-no_fault, explain_row, plan-met, plan-no_fault}
+use Rattle.ec_args.proofs.PassArguments.{ecat-is_simple, ecat-simple, frame_row, no-fault, number_argument, slaves_row, subcommand-pass, value_argument}
 
 -- what `parse` gives at `u8`
 abbrev pub ByteGives : List ℕ → Result ℕ ParseIntError → Type 0
@@ -68,17 +69,33 @@ meets_rows met rows n f h is =
       λ t found. sym h.value ∙ ap (λ d. digits_value 10 (without_leading_plus d)) (same_text h.digits t (sym h.number ∙ (ap (one_of (codes "slaves")) same ∙ found))),
     )
 
+-- `pass` isn't `plan`
+abbrev pub name_in : Option (Text × List Row) → Text
+name_in None = []
+name_in (Some met) = met.0
+
+pub pass_or_plan : codes "pass" ≡ codes "plan" → ⊥
+pass_or_plan h = let bad : 115 ≡ 97 = ap (λ (t : Text). slice_index t 2) h in absurd (omega (arith, bad))
+
+abbrev pub met_as : Text → List Row → Option (Text × List Row)
+met_as name rows = Some (name, rows)
+
+pub other_name : (name : Text) (rows : List Row) → name ≡ codes "pass" → (others : List Row) → met_as name rows ≡ met_as (codes "plan") others → ⊥
+other_name name rows called others met = pass_or_plan (sym called ∙ ap name_in met)
+
 -- where `get_one` read no number, or `get_str` no text, `clap` met no command with all that it needs
-pub meets_no_slaves : (name : Text) (found : Found) (r : Option ℕ) → ((t : List ℕ) → one_text found (codes "slaves") ≡ Some t → ReadsOne ByteGives t r)
+pub meets_no_slaves : (name : Text) (found : Found) (r : Option ℕ) → name ≡ codes "pass" → ((t : List ℕ) → one_text found (codes "slaves") ≡ Some t → ReadsOne ByteGives t r)
     → r ≡ None → MeetsCommand (Some (name, rows_of found)) → ⊥
-meets_no_slaves name found r value is (PassOf n f, h) =
+meets_no_slaves name found r called value is (PlanOf e, h) = other_name name (rows_of found) called h.rows h.command
+meets_no_slaves name found r called value is (PassOf n f, h) =
     let rows : rows_of found ≡ h.rows = ap rows_in h.command in
     let text : one_text found (codes "slaves") ≡ Some h.digits = one_text-rows found (codes "slaves") ∙ (ap (one_of (codes "slaves")) rows ∙ h.number) in
     let byte : digits_value 10 (without_leading_plus h.digits) < 256 = subst (λ k. k < 256) (sym h.value) h.byte in
     no_byte_read (one_text found (codes "slaves")) r h.digits n value is text (record { numeral = h.numeral; value = h.value; byte = byte })
 
-pub meets_no_frame : (name : Text) (found : Found) → first_value found (codes "frame") ≡ None → MeetsCommand (Some (name, rows_of found)) → ⊥
-meets_no_frame name found none (PassOf n f, h) =
+pub meets_no_frame : (name : Text) (found : Found) → name ≡ codes "pass" → first_value found (codes "frame") ≡ None → MeetsCommand (Some (name, rows_of found)) → ⊥
+meets_no_frame name found called none (PlanOf e, h) = other_name name (rows_of found) called h.rows h.command
+meets_no_frame name found called none (PassOf n f, h) =
     let rows : rows_of found ≡ h.rows = ap rows_in h.command in
     let text : first_value found (codes "frame") ≡ Some f = first_value-rows found (codes "frame") ∙ (ap (first_of (codes "frame")) rows ∙ h.text) in
     let bad : Some f ≡ None = sym text ∙ none in
@@ -96,7 +113,7 @@ pub subcommand_of-pass : (args : List Text) (slaves : ℕ) (frame : Text) → Ar
 subcommand_of-pass args slaves frame w =
     let number = number_argument slaves w.few in
     subst (λ (given : List Text). subcommand_of ecat given ≡ Some (codes "pass", slaves_row (decimal slaves) ∷ frame_row frame ∷ [])) (sym w.spelled)
-    (subcommand-words w.name (decimal slaves) frame number.value (value_argument frame w.no_flag))
+    (subcommand-pass w.name (decimal slaves) frame number.value (value_argument frame w.no_flag))
 
 pub meets-pass : (args : List Text) (slaves : ℕ) (frame : Text) → ArePassArguments args slaves frame → MeetsPass (subcommand_of ecat args) slaves frame
 meets-pass args slaves frame w =
@@ -149,5 +166,48 @@ pub pass_is_read : PassIsRead
 pass_is_read args slaves frame (Ok (Pass n f)) w asks =
     let same = meets-same args slaves frame w n f.now asks in
     (λ i. PassOf (same.0 i) (same.1 i))
+pass_is_read args slaves frame (Ok (Plan e)) w asks =
+    absurd (pass_or_plan (ap name_in (sym (subcommand_of-pass args slaves frame w) ∙ asks.command)))
 pass_is_read args slaves frame (Err notice) w (kind, fault, told) =
     memory_notice kind notice (no_other_fault args kind (no_fault-pass args slaves frame w) (PassOf slaves frame, meets-pass args slaves frame w) fault) told
+
+-- ---- `ecat plan`
+
+pub subcommand_of-plan : (args : List Text) (explained : Bool) → ArePlanArguments args explained
+    → subcommand_of ecat args ≡ Some (codes "plan", explain_row explained ∷ [])
+subcommand_of-plan args true w = subst (λ (given : List Text). subcommand_of ecat given ≡ Some (codes "plan", explain_row true ∷ [])) (sym w.spelled) (explain-met w.name)
+subcommand_of-plan args false w = subst (λ (given : List Text). subcommand_of ecat given ≡ Some (codes "plan", explain_row false ∷ [])) (sym w.spelled) (plan-met w.name)
+
+pub no_fault-plan : (args : List Text) (explained : Bool) → ArePlanArguments args explained → fault_of ecat args ≡ []
+no_fault-plan args true w = subst (λ (given : List Text). fault_of ecat given ≡ []) (sym w.spelled) (explain-no_fault w.name)
+no_fault-plan args false w = subst (λ (given : List Text). fault_of ecat given ≡ []) (sym w.spelled) (plan-no_fault w.name)
+
+pub meets-plan : (args : List Text) (explained : Bool) → ArePlanArguments args explained → MeetsPlan (subcommand_of ecat args) explained
+meets-plan args true w = record {
+  rows = explain_row true ∷ [];
+  command = subcommand_of-plan args true w;
+  given = λ is. refl;
+  absent = λ is. let bad : 116 ≡ 102 = ap (λ (t : Text). slice_index t 0) (same_text (codes "true") (codes "false") is) in absurd (omega (arith, bad));
+}
+meets-plan args false w = record {
+  rows = explain_row false ∷ [];
+  command = subcommand_of-plan args false w;
+  given = λ is. let bad : 102 ≡ 116 = ap (λ (t : Text). slice_index t 0) (same_text (codes "false") (codes "true") is) in absurd (omega (arith, bad));
+  absent = λ is. refl;
+}
+
+same_flag : (explained e : Bool) → (one_of (codes "explain") (explain_row explained ∷ []) ≡ Some (codes "true") → e ≡ true)
+    → (one_of (codes "explain") (explain_row explained ∷ []) ≡ Some (codes "false") → e ≡ false) → e ≡ explained
+same_flag true e given absent = given refl
+same_flag false e given absent = absent refl
+
+pub plan_is_read : PlanIsRead
+plan_is_read args explained (Ok (Pass n f)) w asks =
+    absurd (pass_or_plan (sym (ap name_in (sym (subcommand_of-plan args explained w) ∙ asks.command))))
+plan_is_read args explained (Ok (Plan e)) w asks =
+    let rows : asks.rows ≡ explain_row explained ∷ [] = ap rows_in (sym asks.command ∙ subcommand_of-plan args explained w) in
+    ap PlanOf (same_flag explained e
+    (subst (λ (l : List Row). one_of (codes "explain") l ≡ Some (codes "true") → e ≡ true) rows asks.given)
+    (subst (λ (l : List Row). one_of (codes "explain") l ≡ Some (codes "false") → e ≡ false) rows asks.absent))
+plan_is_read args explained (Err notice) w (kind, fault, told) =
+    memory_notice kind notice (no_other_fault args kind (no_fault-plan args explained w) (PlanOf explained, meets-plan args explained w) fault) told

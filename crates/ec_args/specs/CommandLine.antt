@@ -6,19 +6,21 @@ use Rattle.clap.specs.Walk.{Rule, Row, Text, first_of, one_of}
 use Rattle.clap.specs.Simple.{App, Shape, new_app, new_rule, on_top, subcommand_of, with_rule, with_subcommand}
 use Rattle.clap.specs.Faults.{fault_of}
 use Rattle.clap.specs.Kinds.{IsAmong}
-use Rattle.clap.specs.declared.builder.action.ArgAction.TheVariants.{Set}
+use Rattle.clap.specs.declared.builder.action.ArgAction.TheVariants.{Set, SetTrue}
 use Rattle.clap.specs.declared.builder.value_parser.ValueParser.TheVariants.{Signed}
 use Rattle.clap.specs.declared.error.kind.ErrorKind.{ErrorKind}
 use Rattle.clap.specs.declared.error.kind.ErrorKind.TheVariants.{DisplayHelp, DisplayVersion, MissingSubcommand, OutOfMemory}
 use Rattle.ec_args.specs.declared.request.Notice.{Notice}
 use Rattle.ec_args.specs.declared.request.Notice.TheVariants.{Memory, Help, Usage}
 use Rattle.ec_args.specs.declared.request.Request.{Request}
-use Rattle.ec_args.specs.declared.request.Request.TheVariants.{Pass}
+use Rattle.ec_args.specs.declared.request.Request.TheVariants.{Pass, Plan}
 
 -- a command, and what it is given
 pub data Command : Type 0 where
   -- `ecat pass`: the number of slaves, and the text of a frame
   PassOf : ℕ → Text → Command
+  -- `ecat plan`: whether the plan is to be explained
+  PlanOf : Bool → Command
 
 -- ---- the arguments that each command takes
 
@@ -39,9 +41,19 @@ frame_rule = record (new_rule (codes "frame")) { required = true; action = Some 
 abbrev pub pass_shape : Shape
 pass_shape = (with_rule (with_rule (new_app (codes "pass")) slaves_rule) frame_rule).top
 
+-- `--explain`, a flag
+abbrev pub explain_rule : Rule
+explain_rule = record (new_rule (codes "explain")) { long = Some (codes "explain"); action = Some SetTrue }
+
+abbrev pub plan_shape : Shape
+plan_shape = (with_rule (new_app (codes "plan")) explain_rule).top
+
 -- `ecat` and its commands, of which one is wanted; it also has a version
 abbrev pub ecat : App
-ecat = with_subcommand (on_top (λ s. record s { has_version = true; subcommand_required = true }) (new_app (codes "ecat"))) pass_shape
+ecat =
+    with_subcommand
+    (with_subcommand (on_top (λ s. record s { has_version = true; subcommand_required = true }) (new_app (codes "ecat"))) pass_shape)
+    plan_shape
 
 -- ---- what is read of them
 
@@ -56,9 +68,17 @@ pub record MeetsPass (met : Option (Text × List Row)) (slaves : ℕ) (frame : T
   pub value : digits_value 10 (without_leading_plus digits) ≡ slaves
   pub byte : slaves < 256
 
+-- `clap` met `plan`, and found that its flag was given or wasn't
+pub record MeetsPlan (met : Option (Text × List Row)) (explained : Bool) : Type 0 where
+  pub rows : List Row
+  pub command : met ≡ Some (codes "plan", rows)
+  pub given : one_of (codes "explain") rows ≡ Some (codes "true") → explained ≡ true
+  pub absent : one_of (codes "explain") rows ≡ Some (codes "false") → explained ≡ false
+
 -- `clap` met this command, and found what it is given
 abbrev pub MeetsAs : Option (Text × List Row) → Command → Type 0
 MeetsAs met (PassOf slaves frame) = MeetsPass met slaves frame
+MeetsAs met (PlanOf explained) = MeetsPlan met explained
 
 -- `clap` met a command and found all that it needs
 abbrev pub MeetsCommand : Option (Text × List Row) → Type 0
@@ -67,6 +87,7 @@ MeetsCommand met = (command : Command) × MeetsAs met command
 -- the command that is asked for
 abbrev pub command_of : Request → Command
 command_of (Pass slaves frame) = PassOf slaves frame.now
+command_of (Plan explained) = PlanOf explained
 
 abbrev pub Asks : Option (Text × List Row) → Request → Type 0
 Asks met request = MeetsAs met (command_of request)
@@ -94,7 +115,7 @@ abbrev pub Reads : List Text → Result Request Notice → Type 0
 Reads args (Ok request) = Asks (subcommand_of ecat args) request
 Reads args (Err notice) = (kind : ErrorKind) × IsFault args kind × IsNotice kind notice
 
--- ---- one spelling, spelled out
+-- ---- some spellings, spelled out
 
 -- the arguments `NAME pass --slaves N HEX`: N in decimal, 0 to 64, and HEX a text that doesn't begin with a hyphen
 pub record ArePassArguments (args : List Text) (slaves : ℕ) (frame : Text) : Type 0 where
@@ -108,3 +129,17 @@ abbrev pub PassIsRead : Type 0
 PassIsRead = (args : List Text) (slaves : ℕ) (frame : Text) (read : Result Request Notice)
     → ArePassArguments args slaves frame → Reads args read
     → MatchResult read (λ request. command_of request ≡ PassOf slaves frame) (λ notice. notice ≡ Memory)
+
+-- the arguments `NAME plan`, or `NAME plan --explain`
+abbrev pub explain_arguments : Bool → List Text
+explain_arguments true = codes "--explain" ∷ []
+explain_arguments false = []
+
+pub record ArePlanArguments (args : List Text) (explained : Bool) : Type 0 where
+  pub name : Text
+  pub spelled : args ≡ name ∷ codes "plan" ∷ explain_arguments explained
+
+abbrev pub PlanIsRead : Type 0
+PlanIsRead = (args : List Text) (explained : Bool) (read : Result Request Notice)
+    → ArePlanArguments args explained → Reads args read
+    → MatchResult read (λ request. command_of request ≡ PlanOf explained) (λ notice. notice ≡ Memory)

@@ -4,7 +4,7 @@ ghost use Rattle.std.specs.Prelude.{◌≡◌, false, IfOk};
 ghost use Rattle.clap.specs.Walk.{rule_of};
 ghost use Rattle.clap.specs.Simple.{app_of, shape_of};
 ghost use Rattle.clap.specs.declared.builder.command.Command.TheViews.{out-Command as fields_of};
-ghost use Rattle.ec_args.specs.CommandLine.{ecat, frame_rule, pass_shape, slaves_rule};
+ghost use Rattle.ec_args.specs.CommandLine.{ecat, explain_rule, frame_rule, pass_shape, plan_shape, slaves_rule};
 
 use clap::{Arg, ArgAction, Command};
 use std::alloc::{AllocError, Global};
@@ -35,6 +35,43 @@ Refusals:
    5 BadMore     a datagram's bit 15 at offset 6 must be set but in the last datagram
    1 Memory      memory ran out: HEX may be good or bad
   41 Output      the answer couldn't be written; exit status 4";
+
+/// What stands below the arguments of `ecat plan`.
+const PLAN_LINES: &str = "\
+Lines, in this order for each slave, and then for each part:
+  slave S part P out O in I  the slave's part, and how many output and input bits it has
+  sm N BYTES                 a sync manager that is set: its 8 register bytes in hex
+  fmmu N BYTES               an FMMU that is active: its 16 register bytes in hex
+  part P address A bytes B counter C
+                             the part's first logical byte, its bytes, and the working counter
+                             of its LRW; W/R are those of an LWR and an LRD, where a slave of the
+                             part takes no part in LRW. A table of version 2 adds ` unit U`
+
+Refusals of a table; PLACE counts from 0 in file order:
+  11 Toml                    the text is no TOML
+  12 BadKey SECTION PLACE    a key is unknown or missing. SECTION is 0 for the document,
+                             1 type, 2 slave, 3 variable, 4 link
+  13 BadValue SECTION PLACE  a value has the wrong kind, range or number of items
+  14 TwiceNamed SECTION PLACE
+                             a name, or the index of a PDO, stands twice
+  15 UnknownName SECTION PLACE
+                             a name, or the index of a PDO, is unknown
+  16 WrongDirection PLACE    of a link: the slave has that entry in the other direction
+  17 NoEntry PLACE           of a link: the slave assigns no such entry
+  18 OutsideEntry PLACE      of a link: it has bits past the entry or the variable
+  19 LinkedTwice PLACE       of a link: an earlier link gives one of its bits
+  20 EntryTwice PLACE        of a slave: it assigns an entry twice in one direction
+  21 TooManyBits PLACE       of a slave: it has over 2048 bits in a direction
+  22 TooManySlaves COUNT     over 64 slaves
+  23 TooManyParts COUNT      over 32 parts: put slaves into fewer sync units
+  24 AreasOverlap PLACE      of a slave: areas of two of its sync managers overlap; a buffer has
+                             three times its length
+  25 OutsideRam PLACE        of a slave: an area is not within 0x1000 to 0x2fff
+  44 SplitVariable PLACE     of an input variable: it has links from two sync units
+   1 Memory                  memory ran out: the table may be good or bad
+  41 Output                  the plan couldn't be written; exit status 4
+  42 Input                   standard input couldn't be read, is no text in UTF-8, or has over
+                             1048576 bytes; exit status 4";
 
 /// `--slaves N`, the number of slaves of the ring.
 fn slaves_argument<'a>(alloc: Global) -> Arg<'a>
@@ -74,6 +111,28 @@ fn pass_command<'a>(alloc: Global) -> Result<Command<'a>, AllocError>
         .arg(frame_argument(alloc))
 }
 
+/// `--explain`.
+fn explain_argument<'a>(alloc: Global) -> Arg<'a>
+    ensures rule { rule_of result ≡ explain_rule }
+    ensures local { result.global ≡ false }
+{
+    Arg::new(alloc, "explain")
+        .long("explain")
+        .action(ArgAction::SetTrue)
+        .help("Show the plan as tables of bits, for people")
+}
+
+/// `ecat plan [--explain]`.
+fn plan_command<'a>(alloc: Global) -> Result<Command<'a>, AllocError>
+    ensures shape { IfOk result (λ command. shape_of command ≡ plan_shape) }
+    ensures local { IfOk result (λ command. (fields_of command).has_globals ≡ false) }
+{
+    Command::new(alloc, "plan")
+        .about("Reads a link table from standard input and prints its plan")
+        .after_help(PLAN_LINES)
+        .arg(explain_argument(alloc))
+}
+
 /// All commands of `ecat`.
 pub fn command<'a>(alloc: Global) -> Result<Command<'a>, AllocError>
     ensures { IfOk result (λ command. app_of command ≡ ecat) }
@@ -83,5 +142,6 @@ pub fn command<'a>(alloc: Global) -> Result<Command<'a>, AllocError>
         .version("0.1.0")
         .after_help(EXIT_STATUSES)
         .subcommand_required(true)
-        .subcommand(pass_command(alloc)?)
+        .subcommand(pass_command(alloc)?)?
+        .subcommand(plan_command(alloc)?)
 }

@@ -5,5 +5,5 @@ mod commands;
 mod laws;
 mod request;
 
-pub use crate::laws::pass_is_read_as_pass;
+pub use crate::laws::{pass_is_read_as_pass, plan_is_read_as_plan};
 pub use crate::request::{Notice, Request, read_args};

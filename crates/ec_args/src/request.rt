@@ -16,6 +16,8 @@ use std::convert::AsStr;
 pub enum Request<'a> {
     /// Pass the frame that the text spells in hex through this many slaves at power-on.
     Pass { slaves: u8, frame: &'a str },
+    /// Show the plan of the link table on the input, explained for people if it says so.
+    Plan { explained: bool },
 }
 
 /// What stands in place of a request.
@@ -39,6 +41,9 @@ fn read_command<'a>(name: &str, given: &ArgMatches<'a>) -> Option<Request<'a>>
         "pass" => Some(Request::Pass {
             slaves: given.get_one::<u8>("slaves")?,
             frame: given.get_str("frame")?,
+        }),
+        "plan" => Some(Request::Plan {
+            explained: given.get_flag("explain"),
         }),
         _ => None,
     }

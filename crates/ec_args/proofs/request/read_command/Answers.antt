@@ -22,8 +22,19 @@ returns-in_ok-get_str-in-pass-clause-some c =
 
 pub returns-in_err-get_one-in-pass-clause-none : goal.returns-in_err-get_one-in-pass-clause-none
 returns-in_err-get_one-in-pass-clause-none c =
-    any_none _ (meets_no_slaves c.args.name.now (found_of c.args.given.now) c.get_one.result c.get_one.ensures.value c.in_err-get_one-in-pass.was)
+    any_none _ (meets_no_slaves c.args.name.now (found_of c.args.given.now) c.get_one.result c.in-pass.is c.get_one.ensures.value c.in_err-get_one-in-pass.was)
 
 pub returns-in_err-get_str-in-pass-clause-none : goal.returns-in_err-get_str-in-pass-clause-none
 returns-in_err-get_str-in-pass-clause-none c =
-    any_none _ (meets_no_frame c.args.name.now (found_of c.args.given.now) (sym c.in_err-get_str-in-pass.ensures))
+    any_none _ (meets_no_frame c.args.name.now (found_of c.args.given.now) c.in-pass.is (sym c.in_err-get_str-in-pass.ensures))
+
+pub returns-in-plan-clause-some : goal.returns-in-plan-clause-some
+returns-in-plan-clause-some c =
+    let found = found_of c.args.given.now in
+    let same = one_text-rows found (codes "explain") in
+    record {
+      rows = rows_of found;
+      command = ap (λ n. Some (n, rows_of found)) c.in-plan.is;
+      given = λ is. c.get_flag.ensures.value (same ∙ is);
+      absent = λ is. c.get_flag.ensures.other (same ∙ is);
+    }

@@ -1,0 +1,43 @@
+//! `ecat plan`: a link table on the input, and its plan.
+ghost use Rattle.std.specs.Prelude.{IfErr, IfOk};
+ghost use Rattle.std.specs.String.{string_bytes};
+ghost use Rattle.ec_app.specs.Planning.{IsPlanAnswer, IsTableRefusal, RunsPlan};
+
+use crate::Refusal;
+use crate::input::read_text;
+use crate::printing::print_text;
+use ec_link::compile;
+use ec_table::read_table;
+use ec_text::{explain_text, plan_text};
+use std::alloc::Global;
+use std::io::{Read, Write};
+
+/// The plan of the table that the text states, in its fixed form or explained for people.
+#[tactic(auto, using(crate::proofs::PlanLemmas::shown_plain, crate::proofs::PlanLemmas::shown_explained))]
+pub fn show_plan(alloc: Global, explained: bool, text: &str) -> Result<String, Refusal>
+    ensures answer { IfOk result (λ answer. IsPlanAnswer explained text.now (string_bytes answer)) }
+    ensures refused { IfErr result (IsTableRefusal text.now) }
+{
+    let table = read_table(alloc, text)?;
+    let plan = compile(alloc, &table)?;
+    if explained {
+        Ok(explain_text(alloc, &table, &plan)?)
+    } else {
+        Ok(plan_text(alloc, table.version(), &plan)?)
+    }
+}
+
+/// Prints what `show_plan` answers to all that the input gives.
+pub fn print_plan<R: Read, W: Write>(
+    alloc: Global,
+    explained: bool,
+    input: &mut R,
+    output: &mut W,
+) -> Result<(), Refusal>
+    ensures { RunsPlan explained (R.remaining input.old) (W.contents output.old)
+        (W.contents output.new) result }
+{
+    let text = read_text(alloc, input)?;
+    let answer = show_plan(alloc, explained, text.as_str())?;
+    print_text(answer.as_bytes(), output)
+}

@@ -1,0 +1,356 @@
+// The tables of `examples/`, word for word, and what `ecat plan` prints of them, worked out by hand.
+
+/// `examples/three_slaves.toml`.
+pub const THREE_SLAVES: &str =
+    r#"# Three slaves in a row: four digital outputs, four digital inputs, and a terminal
+# with a mailbox that has both a setpoint of 12 bits and a measured value of 16.
+
+# A type of slaves. RxPDOs are what the master writes, from `out_start` on in the
+# slave's memory; an entry is [index, subindex, bits].
+[[type]]
+name = "do4"
+vendor = 0xABCD
+product = 1
+revision = 1
+out_start = 0x1100
+in_start = 0
+rxpdo = [ { index = 0x1600, entries = [[0x7000, 1, 4]] } ]
+
+# TxPDOs are what the master reads, from `in_start` on.
+[[type]]
+name = "di4"
+vendor = 0xABCD
+product = 2
+revision = 1
+out_start = 0
+in_start = 0x1100
+txpdo = [ { index = 0x1A00, entries = [[0x6000, 1, 4]] } ]
+
+# A mailbox is [receive start, receive size, send start, send size], in bytes.
+[[type]]
+name = "mix"
+vendor = 0xABCD
+product = 3
+revision = 1
+mailbox = [0x1000, 128, 0x1080, 128]
+out_start = 0x1100
+in_start = 0x1400
+rxpdo = [ { index = 0x1600, entries = [[0x7010, 1, 12]] } ]
+txpdo = [ { index = 0x1A00, entries = [[0x6010, 1, 16]] } ]
+
+# The slaves, in the order in which a frame passes them.
+[[slave]]
+name = "s0"
+type = "do4"
+[[slave]]
+name = "s1"
+type = "di4"
+[[slave]]
+name = "s2"
+type = "mix"
+
+# The variables of the process image: `out` goes to a slave, `in` comes from one.
+[[variable]]
+name = "a"
+dir = "out"
+bits = 4
+[[variable]]
+name = "b"
+dir = "out"
+bits = 12
+[[variable]]
+name = "c"
+dir = "in"
+bits = 4
+[[variable]]
+name = "d"
+dir = "in"
+bits = 16
+
+# The links: without `bits` a link joins all bits of its variable, from bit 0 on.
+[[link]]
+var = "a"
+slave = "s0"
+index = 0x7000
+sub = 1
+[[link]]
+var = "b"
+slave = "s2"
+index = 0x7010
+sub = 1
+[[link]]
+var = "c"
+slave = "s1"
+index = 0x6000
+sub = 1
+[[link]]
+var = "d"
+slave = "s2"
+index = 0x6010
+sub = 1
+"#;
+
+/// `examples/small_machine.toml`.
+pub const SMALL_MACHINE: &str =
+    r#"# A small machine: a coupler with a few digital inputs and outputs, and an analog
+# terminal with two channels, of which this machine uses one.
+version = 2
+
+# The coupler: four lamps and valves, one bit each, and a gap up to the byte;
+# eight switches. It has no mailbox, so its slaves assign all of its objects.
+[[type]]
+name = "coupler"
+vendor = 0x5A5
+product = 0x0011
+revision = 2
+out_start = 0x1100
+in_start = 0x1180
+rxpdo = [
+    { index = 0x1600, entries = [[0x7000, 1, 1], [0x7000, 2, 1], [0x7000, 3, 1], [0x7000, 4, 1], [0, 0, 4]] },
+]
+txpdo = [
+    { index = 0x1A00, entries = [[0x6000, 1, 8]] },
+]
+
+# The analog terminal: each channel has a setpoint, a status byte with a gap
+# behind it, and a measured value. It takes no part in LRW datagrams.
+[[type]]
+name = "analog2"
+vendor = 0x5A5
+product = 0x0302
+revision = 1
+mailbox = [0x1000, 128, 0x1080, 128]
+out_start = 0x1100
+in_start = 0x1400
+rxpdo = [
+    { index = 0x1600, entries = [[0x7010, 17, 16]] },
+    { index = 0x1601, entries = [[0x7020, 17, 16]] },
+]
+txpdo = [
+    { index = 0x1A00, entries = [[0x6010, 1, 8], [0, 0, 8], [0x6010, 17, 16]] },
+    { index = 0x1A01, entries = [[0x6020, 1, 8], [0, 0, 8], [0x6020, 17, 16]] },
+]
+lrw = false
+
+[[slave]]
+name = "panel"
+type = "coupler"
+
+# The press runs in a sync unit of its own, with its second channel alone.
+[[slave]]
+name = "press"
+type = "analog2"
+out = [0x1601]
+in = [0x1A01]
+serial = 1042
+unit = 1
+
+[[variable]]
+name = "lamp"
+dir = "out"
+bits = 1
+[[variable]]
+name = "valves"
+dir = "out"
+bits = 2
+[[variable]]
+name = "switches"
+dir = "in"
+bits = 8
+[[variable]]
+name = "force_wanted"
+dir = "out"
+bits = 16
+[[variable]]
+name = "force"
+dir = "in"
+bits = 16
+
+[[link]]
+var = "lamp"
+slave = "panel"
+index = 0x7000
+sub = 1
+
+# Both bits of `valves`, each to an entry of one bit: [variable bit, entry bit, count].
+[[link]]
+var = "valves"
+slave = "panel"
+index = 0x7000
+sub = 2
+bits = [0, 0, 1]
+[[link]]
+var = "valves"
+slave = "panel"
+index = 0x7000
+sub = 3
+bits = [1, 0, 1]
+
+[[link]]
+var = "switches"
+slave = "panel"
+index = 0x6000
+sub = 1
+[[link]]
+var = "force_wanted"
+slave = "press"
+index = 0x7020
+sub = 17
+[[link]]
+var = "force"
+slave = "press"
+index = 0x6020
+sub = 17
+"#;
+
+/// The slaves' areas follow each other bit by bit, and the inputs of a slave share its area: slave 1
+/// begins at bit 4 of the first byte.
+pub const THREE_SLAVES_PLAN: &str = "\
+slave 0 part 0 out 4 in 0
+sm 2 0011010024000100
+fmmu 0 00000100010000030011000201000000
+slave 1 part 0 out 0 in 4
+sm 3 0011010020000100
+fmmu 1 00000100010004070011000101000000
+slave 2 part 0 out 12 in 16
+sm 0 0010800026000100
+sm 1 8010800022000100
+sm 2 0011020024000100
+sm 3 0014020020000100
+fmmu 0 01000100020000030011000201000000
+fmmu 1 01000100020000070014000101000000
+part 0 address 65536 bytes 3 counter 6
+";
+
+/// The plan of the same table with slave 1 in a sync unit of its own.
+pub const TWO_UNITS_PLAN: &str = "\
+slave 0 part 0 out 4 in 0
+sm 2 0011010024000100
+fmmu 0 00000100010000030011000201000000
+slave 1 part 1 out 0 in 4
+sm 3 0011010020000100
+fmmu 1 03000100010000030011000101000000
+slave 2 part 0 out 12 in 16
+sm 0 0010800026000100
+sm 1 8010800022000100
+sm 2 0011020024000100
+sm 3 0014020020000100
+fmmu 0 00000100020004070011000201000000
+fmmu 1 00000100030004030014000101000000
+part 0 address 65536 bytes 3 counter 5 unit 0
+part 1 address 65539 bytes 1 counter 1 unit 1
+";
+
+/// A variable that is linked with inputs of two sync units.
+pub const SPLIT_VARIABLE: &str = r#"
+[[variable]]
+name = "e"
+dir = "in"
+bits = 8
+[[link]]
+var = "e"
+slave = "s1"
+index = 0x6000
+sub = 1
+bits = [0, 0, 4]
+[[link]]
+var = "e"
+slave = "s2"
+index = 0x6010
+sub = 1
+bits = [4, 0, 4]
+"#;
+
+pub const SMALL_MACHINE_PLAN: &str = "\
+slave 0 part 0 out 8 in 8
+sm 2 0011010024000100
+sm 3 8011010020000100
+fmmu 0 00000100010000070011000201000000
+fmmu 1 00000100010000078011000101000000
+slave 1 part 1 out 16 in 32
+sm 0 0010800026000100
+sm 1 8010800022000100
+sm 2 0011020024000100
+sm 3 0014040020000100
+fmmu 0 01000100020000070011000201000000
+fmmu 1 01000100040000070014000101000000
+part 0 address 65536 bytes 1 counter 3 unit 0
+part 1 address 65537 bytes 4 counter 1/1 unit 1
+";
+
+pub const LEGEND: &str = "\
+Each line is a run of bits that go the same way. Bits count from 0, the lowest first.
+  object    index in hex and subindex in decimal, as in the table; a gap has neither
+  bits      of the object
+  logical   byte and bit of the logical addresses, over which the part's datagrams go
+  variable  the variable that they are linked with, and its bits
+";
+
+pub const THREE_SLAVES_EXPLAINED: &str = "
+part 0: address 0x00010000, length 3, unit 0
+  an LRW that comes back with counter 6
+
+slave 0  s0  type do4  part 0  unit 0
+  outputs: sync manager 2, address 0x1100, length 1
+    object      bits    logical                       variable
+    0x7000:1    0..3    0x00010000.0 to 0x00010000.3  a 0..3
+
+slave 1  s1  type di4  part 0  unit 0
+  inputs: sync manager 3, address 0x1100, length 1
+    object      bits    logical                       variable
+    0x6000:1    0..3    0x00010000.4 to 0x00010000.7  c 0..3
+
+slave 2  s2  type mix  part 0  unit 0
+  outputs: sync manager 2, address 0x1100, length 2
+    object      bits    logical                       variable
+    0x7010:1    0..11   0x00010001.0 to 0x00010002.3  b 0..11
+  inputs: sync manager 3, address 0x1400, length 2
+    object      bits    logical                       variable
+    0x6010:1    0..15   0x00010001.0 to 0x00010002.7  d 0..15
+";
+
+pub const SMALL_MACHINE_EXPLAINED: &str = "
+part 0: address 0x00010000, length 1, unit 0
+  an LRW that comes back with counter 3
+
+slave 0  panel  type coupler  part 0  unit 0
+  outputs: sync manager 2, address 0x1100, length 1
+    object      bits    logical                       variable
+    0x7000:1    0       0x00010000.0                  lamp 0
+    0x7000:2    0       0x00010000.1                  valves 0
+    0x7000:3    0       0x00010000.2                  valves 1
+    0x7000:4    0       0x00010000.3                  -
+    gap         0..3    0x00010000.4 to 0x00010000.7  -
+  inputs: sync manager 3, address 0x1180, length 1
+    object      bits    logical                       variable
+    0x6000:1    0..7    0x00010000.0 to 0x00010000.7  switches 0..7
+
+part 1: address 0x00010001, length 4, unit 1
+  an LWR that comes back with counter 1, and an LRD with 1
+
+slave 1  press  type analog2  part 1  unit 1
+  outputs: sync manager 2, address 0x1100, length 2
+    object      bits    logical                       variable
+    0x7020:17   0..15   0x00010001.0 to 0x00010002.7  force_wanted 0..15
+  inputs: sync manager 3, address 0x1400, length 4
+    object      bits    logical                       variable
+    0x6020:1    0..7    0x00010001.0 to 0x00010001.7  -
+    gap         0..7    0x00010002.0 to 0x00010002.7  -
+    0x6020:17   0..15   0x00010003.0 to 0x00010004.7  force 0..15
+";
+
+/// Changes to the table of three slaves, and what is told of each: `ANSWER: OLD => NEW`, with NEW in
+/// the place of the first OLD. `|` is the end of a line.
+pub const REFUSED_CHANGES: &str = r#"11 Toml: [[type]] => [[type]
+12 BadKey 0 0: [[type]] => x = 1|[[type]]
+13 BadValue 0 0: [[type]] => version = 3|[[type]]
+14 TwiceNamed 2 1: name = "s1" => name = "s0"
+15 UnknownName 2 2: type = "mix" => type = "mux"
+16 WrongDirection 0: slave = "s0"|index = 0x7000 => slave = "s1"|index = 0x6000
+17 NoEntry 0: index = 0x7000|sub = 1 => index = 0x7000|sub = 2
+18 OutsideEntry 1: index = 0x7010|sub = 1 => index = 0x7010|sub = 1|bits = [0, 10, 4]
+19 LinkedTwice 2: index = 0x7010|sub = 1 => index = 0x7010|sub = 1|bits = [0, 0, 8]|[[link]]|var = "b"|slave = "s2"|index = 0x7010|sub = 1|bits = [0, 4, 8]
+20 EntryTwice 2: [[0x7010, 1, 12]] => [[0x7010, 1, 12], [0x7010, 1, 4]]
+24 AreasOverlap 2: in_start = 0x1400 => in_start = 0x1105
+25 OutsideRam 2: in_start = 0x1400 => in_start = 0x2FFB
+"#;
