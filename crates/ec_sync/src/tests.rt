@@ -243,8 +243,16 @@ fn locked_where_it_is_not_set(rt: HostRuntime) -> Result<(), Fail> {
 fn bounds_of_managers(rt: HostRuntime) -> Result<(), Fail> {
     let rows = [
         (OUTPUTS, 0x1102, 0x1106),
-        (ManagerSettings::of_area(0x2fff, 1, CONTROL_MAILBOX_IN), 0x3000, 0x3000),
-        (ManagerSettings::of_area(0x2fff, 1, CONTROL_INPUTS), 0x3000, 0),
+        (
+            ManagerSettings::of_area(0x2fff, 1, CONTROL_MAILBOX_IN),
+            0x3000,
+            0x3000,
+        ),
+        (
+            ManagerSettings::of_area(0x2fff, 1, CONTROL_INPUTS),
+            0x3000,
+            0,
+        ),
     ];
     let mut manager = Manager::new(rt.alloc())?;
     for (settings, value_end, span_end) in rows {
