@@ -7,4 +7,4 @@ returns-in_err-table-clause-refused c =
 
 pub returns-in_err-plan-clause-refused : goal.returns-in_err-plan-clause-refused
 returns-in_err-plan-clause-refused c =
-    link_refused _ c.args.text.now c.in_err-plan.field-0.0 c.in_ok-table.table c.from_residual.ensures.1 c.in_ok-table.ensures c.in_err-plan.ensures.fault
+    link_refused _ c.args.text.now c.in_err-plan.field-0.0 c.in_ok-table.table c.from_residual-in_err-plan.ensures.1 c.in_ok-table.ensures c.in_err-plan.ensures.fault
