@@ -2,7 +2,6 @@ pub mod Ahead
 pub mod Builds
 pub mod Decoding
 pub mod FrameLaws
-pub mod Kept
 pub mod Numbers
 pub mod Readings
 pub mod Shapes

@@ -14,6 +14,8 @@ pub mod Cursor
 pub mod Parts
 -- Other words for the same, proved.
 pub mod Laws
+-- Facts for those who write a `Handler`: its ghost members, in tests too, may cite what stands in specs alone.
+pub mod Kept
 -- For private code alone: no public clause cites them.
 pub mod Reading
 pub mod Built

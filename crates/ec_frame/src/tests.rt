@@ -4,8 +4,8 @@ ghost use Rattle.std.proofs.Math.Nat.{mod-lt};
 ghost use Rattle.std.proofs.lemmas.List.{length-set};
 ghost use Rattle.ec_frame.specs.Datagram.{adp_of};
 ghost use Rattle.ec_frame.specs.Fields.{with_adp, with_counter, with_data};
-ghost use Rattle.ec_frame.proofs.Kept.{IsDatagram-with_adp, IsDatagram-with_counter};
-ghost use Rattle.ec_frame.proofs.Kept.{IsDatagram-with_data};
+ghost use Rattle.ec_frame.specs.Kept.{IsDatagram-with_adp, IsDatagram-with_counter};
+ghost use Rattle.ec_frame.specs.Kept.{IsDatagram-with_data};
 
 use super::*;
 use std::test::Fail;

@@ -5,7 +5,7 @@ use Rattle.ec_frame.specs.declared.command.Command.{Command}
 use Rattle.ec_frame.specs.declared.command.Command.TheVariants.{Aprd, Apwr, Aprw, Fprd, Fpwr, Fprw}
 use Rattle.ec_frame.specs.Datagram.{Datagram, IsDatagram, adp_of}
 use Rattle.ec_frame.specs.Fields.{with_adp}
-use Rattle.ec_frame.proofs.Kept.{IsDatagram-with_adp}
+use Rattle.ec_frame.specs.Kept.{IsDatagram-with_adp}
 use Rattle.ec_slave.specs.State.{Met, SlaveState, station_of}
 use Rattle.ec_slave.specs.Roles.{adp_after}
 use Rattle.ec_slave.specs.Meeting.{datagram_met, meets, meets_by, meets_physically, slave_met}

@@ -4,7 +4,7 @@ use Rattle.std.proofs.lemmas.List.{length-set}
 use Rattle.ec_frame.specs.declared.datagram.Header.{Header}
 use Rattle.ec_frame.specs.Datagram.{Datagram, adp_of, spelling}
 use Rattle.ec_frame.specs.Fields.{header_of, with_adp, with_counter}
-use Rattle.ec_frame.proofs.Kept.{IsDatagram-with_adp, IsDatagram-with_counter}
+use Rattle.ec_frame.specs.Kept.{IsDatagram-with_adp, IsDatagram-with_counter}
 use Rattle.ec_frame.proofs.Writes.{data_rejoined}
 use Rattle.ec_frame.proofs.tests.MarkerHandler.handle.Goals as goal
 
