@@ -9,3 +9,6 @@ returns-in-Ok-clause-alone g c = subst
 
 pub returns-in-Ok-clause-status : goal.returns-in-Ok-clause-status
 returns-in-Ok-clause-status g c = tells_known _ _ _ c.exit_status.ensures
+
+pub returns-in-Err-Help-clause-status : goal.returns-in-Err-Help-clause-status
+returns-in-Err-Help-clause-status g c = tells_known _ _ _ c.exit_status-in-Err-Help.ensures
