@@ -81,8 +81,8 @@ fn assert_answers(
     in_preop: bool,
     rows: &[(&str, &str)],
 ) -> Result<(), Fail> {
-    let mut counter = 1;
-    for (sent, back) in rows {
+    for (place, (sent, back)) in rows.iter().enumerate() {
+        let counter = (place % 7 + 1) as u8;
         let request = read_message(&bytes_of(rt, sent)?).ok().ok_or("a message")?;
         let reply = dictionary.answer(in_preop, &request, counter);
         let mut mailbox = [0xFF; 20];
@@ -93,7 +93,6 @@ fn assert_answers(
             "{sent}"
         );
         assert_eq!(rt; mailbox.get(16..), Some([0, 0, 0, 0].as_slice()));
-        counter = counter % 7 + 1;
     }
     Ok(())
 }
@@ -343,8 +342,10 @@ fn what_is_no_message(rt: HostRuntime) -> Result<(), Fail> {
     assert_eq!(rt; BadMailbox.number(), 9);
     let message = read_message(&bytes_of(&rt, "0a0000000073 0020 40181001 00000000")?);
     let message: Message = message.ok().ok_or("a message")?;
+    let mut dictionary = mixed(&rt)?;
+    let reply = dictionary.answer(true, &message, 1);
     let mut short = [7; 15];
-    assert_eq!(rt; write_message(&message, &mut short), Err(BadMailbox));
+    assert_eq!(rt; write_message(&reply, &mut short), Err(BadMailbox));
     assert_eq!(rt; short, [7; 15]);
     Ok(())
 }
