@@ -156,18 +156,6 @@ const PASSES: [(&str, &str, &str); 6] = [
 ];
 
 #[test]
-fn prints_the_frame_as_it_comes_back(rt: HostRuntime) -> Result<(), Fail> {
-    for (slaves, sent, back) in PASSES {
-        let sent = digits(&rt, sent)?;
-        let mut printed = digits(&rt, back)?;
-        printed.push('\n')?;
-        let args = ["ecat", "pass", "--slaves", slaves, sent.as_str()];
-        expect_run(&rt, &args, 0, printed.as_str(), "")?;
-    }
-    Ok(())
-}
-
-#[test]
 fn leaves_what_follows_the_datagrams(rt: HostRuntime) -> Result<(), Fail> {
     let zeros = "00".repeat(rt.alloc(), 30)?;
     let hex = format!(in rt.alloc(); "{FRAME}{zeros}")?;
