@@ -116,45 +116,6 @@ fn digits<H: AllocGlobal>(rt: &H, row: &str) -> Result<String, Fail> {
     Ok(digits)
 }
 
-/// What `ecat pass` is given, and what it prints: number of slaves, frame, frame as it comes back.
-const PASSES: [(&str, &str, &str); 6] = [
-    // a broadcast read of the AL status past three slaves, and past none
-    (
-        "3",
-        "0e10 0701 0000 3001 0200 0000 0000 0000",
-        "0e10 0701 0300 3001 0200 0000 0100 0300",
-    ),
-    (
-        "0",
-        "0e10 0701 0000 3001 0200 0000 0000 0000",
-        "0e10 0701 0000 3001 0200 0000 0000 0000",
-    ),
-    // the third slave gets station address 0x1001, by position
-    (
-        "3",
-        "0E10 0201 FEFF 1000 0200 0000 0110 0000",
-        "0e10 0201 0100 1000 0200 0000 0110 0100",
-    ),
-    // the last byte of the memory, and one past it
-    (
-        "1",
-        "0e10 0601 0000 ff2f 0200 0000 aabb 0000",
-        "0e10 0601 0000 ff2f 0200 0000 00bb 0300",
-    ),
-    // the first slave reads, the others write
-    (
-        "3",
-        "0e10 0d01 ffff 0010 0200 0000 5aa5 0000",
-        "0e10 0d01 0200 0010 0200 0000 0000 0300",
-    ),
-    // two datagrams: a station address for the first slave, and its AL status by that address
-    (
-        "3",
-        "1c10 0207 0000 1000 0280 0000 0110 0000 0408 0110 3001 0200 0000 ffff 0000",
-        "1c10 0207 0300 1000 0280 0000 0110 0100 0408 0110 3001 0200 0000 0100 0100",
-    ),
-];
-
 #[test]
 fn leaves_what_follows_the_datagrams(rt: HostRuntime) -> Result<(), Fail> {
     let zeros = "00".repeat(rt.alloc(), 30)?;
