@@ -116,6 +116,67 @@ fn digits<H: AllocGlobal>(rt: &H, row: &str) -> Result<String, Fail> {
     Ok(digits)
 }
 
+/// What `ecat pass` is given, and what it prints: number of slaves, frame, frame as it comes back.
+const PASSES: [(&str, &str, &str); 6] = [
+    // a broadcast read of the AL status past three slaves, and past none
+    (
+        "3",
+        "0e10 0701 0000 3001 0200 0000 0000 0000",
+        "0e10 0701 0300 3001 0200 0000 0100 0300",
+    ),
+    (
+        "0",
+        "0e10 0701 0000 3001 0200 0000 0000 0000",
+        "0e10 0701 0000 3001 0200 0000 0000 0000",
+    ),
+    // the third slave gets station address 0x1001, by position
+    (
+        "3",
+        "0E10 0201 FEFF 1000 0200 0000 0110 0000",
+        "0e10 0201 0100 1000 0200 0000 0110 0100",
+    ),
+    // the last byte of the memory, and one past it
+    (
+        "1",
+        "0e10 0601 0000 ff2f 0200 0000 aabb 0000",
+        "0e10 0601 0000 ff2f 0200 0000 00bb 0300",
+    ),
+    // the first slave reads, the others write
+    (
+        "3",
+        "0e10 0d01 ffff 0010 0200 0000 5aa5 0000",
+        "0e10 0d01 0200 0010 0200 0000 0000 0300",
+    ),
+    // two datagrams: a station address for the first slave, and its AL status by that address
+    (
+        "3",
+        "1c10 0207 0000 1000 0280 0000 0110 0000 0408 0110 3001 0200 0000 ffff 0000",
+        "1c10 0207 0300 1000 0280 0000 0110 0100 0408 0110 3001 0200 0000 0100 0100",
+    ),
+];
+
+/// `ecat pass` of `sent` past `slaves` prints `back`, each a row of hex digits with blanks.
+fn expect_pass<H: AllocGlobal + Net + Abort>(
+    rt: &H,
+    slaves: &str,
+    sent: &str,
+    back: &str,
+) -> Result<(), Fail> {
+    let sent = digits(rt, sent)?;
+    let mut printed = digits(rt, back)?;
+    printed.push('\n')?;
+    let args = ["ecat", "pass", "--slaves", slaves, sent.as_str()];
+    expect_run(rt, &args, 0, printed.as_str(), "")
+}
+
+#[test]
+fn prints_the_frame_as_it_comes_back(rt: HostRuntime) -> Result<(), Fail> {
+    for (slaves, sent, back) in PASSES {
+        expect_pass(&rt, slaves, sent, back)?;
+    }
+    Ok(())
+}
+
 #[test]
 fn leaves_what_follows_the_datagrams(rt: HostRuntime) -> Result<(), Fail> {
     let zeros = "00".repeat(rt.alloc(), 30)?;

@@ -13,6 +13,8 @@ mod plan;
 mod settings;
 mod sizes;
 mod split;
+#[cfg(test)]
+mod tests;
 mod wires;
 
 pub use crate::compiling::compile;

@@ -7,3 +7,6 @@ mod ring;
 
 pub use crate::error::NotAFrame;
 pub use crate::ring::Ring;
+
+#[cfg(test)]
+mod tests;

@@ -18,3 +18,6 @@ mod slave;
 mod sound;
 
 pub use crate::slave::Slave;
+
+#[cfg(test)]
+mod tests;

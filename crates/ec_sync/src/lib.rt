@@ -18,3 +18,6 @@ mod touching;
 pub use crate::bounds::Bounds;
 pub use crate::manager::Manager;
 pub use crate::touching::{Range, Reach, Touching, Writing};
+
+#[cfg(test)]
+mod tests;

@@ -12,6 +12,8 @@ mod read;
 mod rows;
 mod slaves;
 mod table;
+#[cfg(test)]
+mod tests;
 mod types;
 mod variables;
 
