@@ -1,5 +1,5 @@
 -- Lists in which nothing stands twice, read from the front.
-use Rattle.std.proofs.Common.{ℕ, suc, ◌+◌, ◌<◌, ◌≡◌, ◌&&◌, not, Bool, refl, sym, ◌∙◌, ap, List, length, drop, get_or, add-one, drop-cons}
+use Rattle.std.proofs.Common.{ℕ, ◌+◌, ◌<◌, ◌≡◌, ◌&&◌, not, ap, List, length, drop, get_or, add-one, drop-cons}
 use Rattle.ec_coe.specs.Transfers.{contains, distinct}
 
 pub distinct-step : (xs : List ℕ) (i : ℕ) → i < length xs → distinct (drop i xs) ≡ (not (contains (drop (i + 1) xs) (get_or xs i 0)) && distinct (drop (i + 1) xs))

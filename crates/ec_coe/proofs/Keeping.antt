@@ -1,14 +1,12 @@
 -- Assignments stay lists of the type's own PDOs, without a double and of few enough bits.
-use Rattle.std.proofs.Common.{ℕ, zero, suc, ◌+◌, ◌-◌, ◌<◌, ◌≤◌, ◌≡◌, ◌≢◌, ◌==◌, ◌&&◌, Bool, true, false, Option, Some, None, refl, sym, ◌∙◌, ap, subst, inl, inr, arith, List, [], ◌∷◌, length, set, take, get_or, is_some, length-set, get_or-set_same, get_or-set_other}
+use Rattle.std.proofs.Common.{ℕ, ◌-◌, ◌<◌, ◌≤◌, ◌≡◌, ◌==◌, ◌&&◌, Bool, true, false, refl, sym, ◌∙◌, ap, subst, inl, inr, arith, List, [], length, set, take, get_or, is_some, length-set, get_or-set_same, get_or-set_other}
 use Rattle.std.proofs.lemmas.Bool.{cases_eq, eqb-true, leb-true}
 use Rattle.ec_regs.specs.declared.slave_type.Pdo.{Pdo}
 use Rattle.ec_regs.specs.Objects.{pdo_at, bits_assigned}
-use Rattle.ec_coe.specs.declared.message.Message.{Message}
-use Rattle.ec_coe.specs.Objects.{Assignment, Dictionary, assigned}
+use Rattle.ec_coe.specs.Objects.{Assignment, Dictionary}
 use Rattle.ec_coe.specs.Transfers.{distinct, most_bits, takes_count}
-use Rattle.ec_coe.specs.Answers.{answered}
 use Rattle.ec_coe.specs.Laws.{IsAssignment, KeepsAssignments, ChangesInPreopAlone, AnswersKeepAssignments}
-use Rattle.ec_coe.proofs.Effects.{Assigned, Counted, Slotted, Downloaded, Outputs, Inputs, Changed, Same, Done, answered-changed}
+use Rattle.ec_coe.proofs.Effects.{Assigned, Counted, Slotted, Outputs, Inputs, Changed, Same, Done, answered-changed}
 
 both-second : (a b : Bool) → (a && b) ≡ true → b ≡ true
 both-second true b e = e

@@ -1,11 +1,11 @@
 -- A message is read back from its bytes, whatever follows them.
-use Rattle.std.proofs.Common.{ℕ, zero, suc, ◌+◌, ◌-◌, ◌*◌, ◌/◌, ◌%◌, ◌<◌, ◌≤◌, ◌≡◌, ◌==◌, ◌&&◌, not, nat_lt, Bool, true, false, Option, Some, None, refl, sym, ◌∙◌, ap, arith, if◌then◌else◌, List, [], ◌∷◌, ◌++◌, length, slice_index, length-append}
+use Rattle.std.proofs.Common.{ℕ, ◌+◌, ◌*◌, ◌/◌, ◌%◌, ◌<◌, ◌≡◌, ◌==◌, not, nat_lt, true, false, Some, refl, ◌∙◌, ap, arith, List, ◌++◌, length, slice_index, length-append}
 use Rattle.std.proofs.lemmas.Bool.{and_from, eq-eqb, le-ltb}
 use Rattle.ec_bits.proofs.AnyLaws.{if_true}
 use Rattle.ec_coe.specs.declared.message.Message.{Message}
 use Rattle.ec_coe.specs.declared.message.Service.{Service}
 use Rattle.ec_coe.specs.declared.message.Command.{Command}
-use Rattle.ec_coe.specs.Messages.{message_bytes, message_in, message_read, is_message, message_length, service_of, service_number, command_of, command_number, IsMessage}
+use Rattle.ec_coe.specs.Messages.{message_bytes, message_in, message_read, message_length, service_of, service_number, command_of, command_number, IsMessage}
 
 pub length-message : (m : Message) → length (message_bytes m) ≡ 16
 unfolding message_bytes

@@ -1,6 +1,6 @@
 -- A mailbox message with an expedited SDO, and its spelling (ETG.1000.4, "Mailbox structure"; ETG.1000.6, "CoE header",
 -- "SDO services", expedited transfer).
-use Rattle.std.specs.Prelude.{ℕ, ◌+◌, ◌-◌, ◌*◌, ◌/◌, ◌%◌, ◌^◌, ◌<◌, ◌≡◌, ◌==◌, ◌&&◌, not, List, [], ◌∷◌, length, Bool, if◌then◌else◌, nat_lt, slice_index, Option, Some, None}
+use Rattle.std.specs.Prelude.{ℕ, ◌+◌, ◌*◌, ◌/◌, ◌%◌, ◌<◌, ◌≡◌, ◌==◌, ◌&&◌, not, List, [], ◌∷◌, length, Bool, if◌then◌else◌, nat_lt, slice_index, Option, Some, None}
 use Rattle.ec_coe.specs.declared.value.Size.{Size}
 use Rattle.ec_coe.specs.declared.value.Size.TheVariants.{One, Two, Three, Four}
 use Rattle.ec_coe.specs.declared.message.Service.{Service}

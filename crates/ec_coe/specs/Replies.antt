@@ -1,5 +1,5 @@
 -- What a master finds in a mailbox where it waits for the reply to an SDO request (ETG.1000.6, "SDO services").
-use Rattle.std.specs.Prelude.{ℕ, ◌*◌, ◌%◌, ◌^◌, ◌==◌, ◌&&◌, Bool, true, false, if◌then◌else◌, Option, Some, None}
+use Rattle.std.specs.Prelude.{ℕ, ◌==◌, ◌&&◌, if◌then◌else◌, Option, Some, None}
 use Rattle.ec_coe.specs.declared.message.Service.{Service}
 use Rattle.ec_coe.specs.declared.message.Service.TheVariants.{Request, Response, Other as OtherService}
 use Rattle.ec_coe.specs.declared.message.Command.{Command}
@@ -7,7 +7,6 @@ use Rattle.ec_coe.specs.declared.message.Command.TheVariants.{DownloadRequest, D
 use Rattle.ec_coe.specs.declared.message.Message.{Message}
 use Rattle.ec_coe.specs.declared.reply.Reply.{Reply}
 use Rattle.ec_coe.specs.declared.reply.Reply.TheVariants.{Downloaded, Uploaded, Aborted, Unexpected}
-use Rattle.ec_coe.specs.Messages.{size_number}
 use Rattle.ec_coe.specs.Answers.{value_of}
 
 -- A response: done, whatever its data are, or a value of its size, whatever the bytes behind it are.

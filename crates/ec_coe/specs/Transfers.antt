@@ -1,6 +1,6 @@
 -- Uploads from and downloads to the object dictionary (ETG.1000.6, "SDO services", expedited transfer; "Abort SDO transfer",
 -- the table of abort codes; which of several aborts comes is the profile of the simulated slaves).
-use Rattle.std.specs.Prelude.{ℕ, ◌-◌, ◌==◌, ◌&&◌, ◌||◌, not, List, [], ◌∷◌, length, take, Bool, true, false, if◌then◌else◌, nat_le, slice_get, slice_set, Option, Some, None, is_some, Result, Ok, Err}
+use Rattle.std.specs.Prelude.{ℕ, ◌-◌, ◌==◌, ◌&&◌, ◌||◌, not, List, [], ◌∷◌, length, take, Bool, true, if◌then◌else◌, nat_le, slice_get, slice_set, Option, Some, None, is_some, Result, Ok, Err}
 use Rattle.std.specs.List.{list_any}
 use Rattle.ec_regs.specs.declared.slave_type.Pdo.{Pdo}
 use Rattle.ec_regs.specs.Objects.{pdo_at, bits_assigned}

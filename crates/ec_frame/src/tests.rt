@@ -8,21 +8,22 @@ ghost use Rattle.ec_frame.specs.Kept.{IsDatagram-with_adp, IsDatagram-with_count
 ghost use Rattle.ec_frame.specs.Kept.{IsDatagram-with_data};
 
 use super::*;
+use std::process::Abort;
 use std::test::Fail;
 
-// One datagram: BRD of the AL status register, two bytes.
-const STATUS: [u8; 16] = [0x0e, 0x10, 7, 1, 0, 0, 0x30, 1, 2, 0, 0, 0, 0, 0, 0, 0];
+/// One datagram: a broadcast read of the AL status, two bytes.
+const STATUS: &str = "0e10 0701 0000 3001 0200 0000 0000 0000";
 
-// `STATUS` with one byte changed.
-fn status_with(at: usize, byte: u8) -> [u8; 16]
-    requires { at < 16 }
-{
-    let mut frame = STATUS;
-    frame[at] = byte;
-    frame
+/// The bytes of a row of hexadecimal digits, with blanks between fields.
+fn bytes_of(rt: &(impl AllocGlobal + Abort), row: &str) -> Result<Vec<u8>, Fail> {
+    let mut bytes = Vec::new(rt.alloc());
+    for field in row.split_whitespace() {
+        bytes.extend_from_slice(&hex::decode(rt.alloc(), field)?)?;
+    }
+    Ok(bytes)
 }
 
-// 122 NOP datagrams without data.
+/// 122 NOP datagrams without data.
 fn many_nops() -> [u8; 1466] {
     let mut frame = [0; 1466];
     frame[0] = 0xb8;
@@ -34,36 +35,72 @@ fn many_nops() -> [u8; 1466] {
 }
 
 #[test]
-fn frames_are_counted(rt: HostRuntime) {
-    assert_eq!(rt; check(&STATUS), Ok(1));
-    let mut longer = [0; 46];
-    longer[..16].copy_from_slice(&STATUS);
-    assert_eq!(rt; check(&longer), Ok(1));
+fn frames_are_counted(rt: HostRuntime) -> Result<(), Fail> {
+    let rows = [
+        (STATUS, 1),
+        // bytes after the datagrams
+        ("0e10 0701 0000 3001 0200 0000 0000 0000 aabbcc", 1),
+        // a NOP without data before it
+        (
+            "1a10 0001 0000 0000 0080 0000 0000 0701 0000 3001 0200 0000 0000 0000",
+            2,
+        ),
+    ];
+    for (row, count) in rows {
+        assert_eq!(rt; check(&bytes_of(&rt, row)?), Ok(count), "{row}");
+    }
     assert_eq!(rt; check(&many_nops()), Ok(122));
+    Ok(())
 }
 
 #[test]
-fn refusals_are_told(rt: HostRuntime) {
-    for len in 0..16usize {
-        assert_eq!(rt; check(&STATUS[..len]), Err(FrameError::Short), "at {len}");
+fn what_is_cut_off_is_short(rt: HostRuntime) -> Result<(), Fail> {
+    let frame = bytes_of(&rt, STATUS)?;
+    for len in 0..frame.len() {
+        assert_eq!(rt; check(&frame[..len]), Err(FrameError::Short), "at {len}");
     }
-    let type_two = status_with(1, 0x20);
-    let mut too_long = status_with(0, 0xbf);
-    too_long[1] = 0x15;
-    let mut much_data = status_with(8, 0xff);
-    much_data[9] = 0x07;
-    let refused = [
-        (status_with(0, 0x0d), FrameError::BadLength, 4),
-        (much_data, FrameError::BadLength, 4),
-        (status_with(9, 0x80), FrameError::BadMore, 5),
-        (status_with(2, 0x0f), FrameError::BadCommand, 6),
-        (type_two, FrameError::BadType, 3),
-        (too_long, FrameError::TooLong, 7),
+    Ok(())
+}
+
+#[test]
+fn refusals_are_told(rt: HostRuntime) -> Result<(), Fail> {
+    let rows = [
+        (
+            "0e20 0701 0000 3001 0200 0000 0000 0000",
+            FrameError::BadType,
+            3,
+        ),
+        (
+            "0d10 0701 0000 3001 0200 0000 0000 0000",
+            FrameError::BadLength,
+            4,
+        ),
+        (
+            "0e10 0701 0000 3001 ff07 0000 0000 0000",
+            FrameError::BadLength,
+            4,
+        ),
+        (
+            "0e10 0701 0000 3001 0280 0000 0000 0000",
+            FrameError::BadMore,
+            5,
+        ),
+        (
+            "0e10 0f01 0000 3001 0200 0000 0000 0000",
+            FrameError::BadCommand,
+            6,
+        ),
+        (
+            "bf15 0701 0000 3001 0200 0000 0000 0000",
+            FrameError::TooLong,
+            7,
+        ),
     ];
-    for (frame, error, number) in refused {
-        assert_eq!(rt; check(&frame), Err(error));
+    for (row, error, number) in rows {
+        assert_eq!(rt; check(&bytes_of(&rt, row)?), Err(error), "{row}");
         assert_eq!(rt; error.number(), number);
     }
+    Ok(())
 }
 
 #[test]
@@ -71,7 +108,8 @@ fn builder_makes_the_frame(rt: HostRuntime) -> Result<(), Fail> {
     let mut builder = Builder::new();
     builder.add(Command::Brd, 1, 0x0130_0000, &[0, 0])?;
     let frame = builder.finish();
-    assert_eq!(rt; frame.as_slice(), STATUS.as_slice());
+    let expected = bytes_of(&rt, STATUS)?;
+    assert_eq!(rt; frame.as_slice(), expected.as_slice());
     Ok(())
 }
 
@@ -93,8 +131,8 @@ fn builder_is_full_at_the_limit(rt: HostRuntime) -> Result<(), Fail> {
     Ok(())
 }
 
-// What a slave might do to each datagram: adds 1 to ADP and the data's length to the counter, and
-// marks the data's first byte.
+/// What a slave might do to each datagram: adds 1 to ADP and the data's length to the counter, and
+/// marks the data's first byte.
 #[derive(Drop)]
 struct Marker {
     seen: u8,
@@ -138,37 +176,34 @@ impl Handler for Marker {
     }
 }
 
-// NOP with ten bytes of data, BRD of two bytes and LRW of five, as a cycle sends them, and bytes
-// after them.
-const CYCLE: [u8; 57] = [
-    0x35, 0x18, // length 53, the reserved bit set
-    0, 0x64, 0, 0, 0, 0, 0x0a, 0x80, 0, 0, 0x64, 0, 0, 0, 0, 0, 0, 0, 0, 0, 0, 0, // NOP
-    7, 0x64, 0, 0, 0x30, 0x01, 2, 0x80, 0, 0, 0, 0, 0, 0, // BRD
-    0x0c, 0x64, 0xff, 0xff, 1, 0, 5, 0x40, 0x34, 0x12, 0x3a, 0x12, 0, 0, 0, 0xff, 0xff, // LRW
-    0xaa, 0xbb, // after them
-];
+/// A NOP of ten bytes, a broadcast read of two and a logical read-write of five, as a cycle sends
+/// them, the reserved bit of the frame's header set; and two bytes after them.
+const CYCLE: &str = "3518 \
+    0064 0000 0000 0a80 0000 64000000000000000000 0000 \
+    0764 0000 3001 0280 0000 0000 0000 \
+    0c64 ffff 0100 0540 3412 3a12000000 ffff aabb";
 
 #[test]
 fn pass_hands_each_datagram_over(rt: HostRuntime) -> Result<(), Fail> {
-    let mut frame = CYCLE;
+    let mut frame = bytes_of(&rt, CYCLE)?;
     let mut marker = Marker { seen: 0 };
     assert_eq!(rt; check(&frame)?, 3);
     pass(&mut marker, &mut frame);
     assert_eq!(rt; marker.seen, 3);
-    let expected = [
-        0x35, 0x18, //
-        0, 0x64, 1, 0, 0, 0, 0x0a, 0x80, 0, 0, 0x55, 0, 0, 0, 0, 0, 0, 0, 0, 0, 0x0a, 0, //
-        7, 0x64, 1, 0, 0x30, 0x01, 2, 0x80, 0, 0, 0x55, 0, 2, 0, //
-        0x0c, 0x64, 0, 0, 1, 0, 5, 0x40, 0x34, 0x12, 0x55, 0x12, 0, 0, 0, 4, 0, //
-        0xaa, 0xbb, //
-    ];
+    let expected = bytes_of(
+        &rt,
+        "3518 \
+         0064 0100 0000 0a80 0000 55000000000000000000 0a00 \
+         0764 0100 3001 0280 0000 5500 0200 \
+         0c64 0000 0100 0540 3412 5512000000 0400 aabb",
+    )?;
     assert_eq!(rt; frame.as_slice(), expected.as_slice());
     Ok(())
 }
 
 #[test]
 fn fields_are_read_and_written(rt: HostRuntime) -> Result<(), Fail> {
-    let mut frame = CYCLE;
+    let mut frame = bytes_of(&rt, CYCLE)?;
     check(&frame)?;
     let mut places = Places::new(&frame);
     let first = places.next(&frame).ok_or("no datagram")?;

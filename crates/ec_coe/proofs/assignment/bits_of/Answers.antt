@@ -1,4 +1,4 @@
-use Rattle.std.proofs.Common.{◌*◌, ◌≤◌, ◌==◌, length, sym, arith}
+use Rattle.std.proofs.Common.{◌≤◌, ◌==◌, length, sym, arith}
 use Rattle.ec_regs.specs.declared.slave_type.Pdo.{Pdo}
 use Rattle.ec_regs.specs.Types.{pdo_bits}
 use Rattle.ec_coe.proofs.Finding.{find-all}

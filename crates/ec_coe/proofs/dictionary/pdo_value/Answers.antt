@@ -1,4 +1,4 @@
-use Rattle.std.proofs.Common.{ℕ, ◌-◌, ◌≡◌, ◌∙◌, ap, sym, refl, List, Some, length, slice_get}
+use Rattle.std.proofs.Common.{◌-◌, ◌≡◌, ◌∙◌, ap, sym, refl, List, Some, length, slice_get}
 use Rattle.std.proofs.lemmas.Option.{slice_get_read}
 use Rattle.ec_regs.specs.declared.slave_type.Entry.{Entry}
 use Rattle.ec_coe.specs.declared.value.Value.{Value}

@@ -1,4 +1,4 @@
-use Rattle.std.proofs.Common.{◌≡◌, ◌∙◌, ap, sym, length, arith}
+use Rattle.std.proofs.Common.{◌∙◌, ap, sym, length, arith}
 use Rattle.ec_regs.specs.Types.{first_output_index, first_input_index}
 use Rattle.ec_regs.proofs.Limits.{few_bits}
 use Rattle.ec_coe.specs.Objects.{Dictionary}

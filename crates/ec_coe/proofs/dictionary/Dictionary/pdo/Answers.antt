@@ -1,4 +1,4 @@
-use Rattle.std.proofs.Common.{◌≡◌, ◌∙◌, ◌++◌, ap, Some, List}
+use Rattle.std.proofs.Common.{◌∙◌, ap, Some, List}
 use Rattle.ec_regs.specs.declared.slave_type.Pdo.{Pdo}
 use Rattle.ec_regs.specs.Types.{first_output_index, first_input_index}
 use Rattle.ec_regs.specs.Objects.{pdo_at}
