@@ -1,5 +1,5 @@
 -- What a number that `get_one` read says of the text that it read, and what it says that it read none.
-use Rattle.std.proofs.Common.{◌≡◌, ◌<◌, ◌⊎◌, ℕ, List, [], ◌∷◌, Option, None, Some, inl, inr, Result, Ok, Err, MatchResult, IfNone, codes, unwrap_or, true, false, refl, sym, ap, subst, ◌∙◌, arith, slice_index, Bool}
+use Rattle.std.proofs.Common.{◌≡◌, ◌<◌, ◌⊎◌, ℕ, List, [], ◌∷◌, Option, None, Some, inl, inr, Result, Ok, Err, IfNone, codes, unwrap_or, true, false, refl, sym, ap, subst, ◌∙◌, arith, slice_index, Bool}
 use Rattle.std.specs.Str.Parse.{ExplainsUnsignedError, HasUnsignedDigitsIfOk, IsNumeral, ParsesUnsigned, digits_value, without_leading_plus}
 use Rattle.std.specs.declared.num.ParseIntError.{ParseIntError}
 use Rattle.std.specs.Fmt.{decimal}
@@ -18,9 +18,8 @@ use Rattle.clap.specs.declared.parser.matches.Found.{Found}
 use Rattle.clap.proofs.WalkLemmas.{first_value-rows, one_text-rows}
 use Rattle.ec_args.specs.declared.request.Notice.{Notice}
 use Rattle.ec_args.specs.declared.request.Notice.TheVariants.{Memory, Help, Usage}
-use Rattle.ec_args.specs.declared.request.Request.{Request}
 use Rattle.ec_args.specs.declared.request.Request.TheVariants.{Pass, Plan}
-use Rattle.ec_args.specs.CommandLine.{ArePassArguments, Command, IsFault, IsNotice, MeetsCommand, MeetsPass, MeetsPlan, ArePlanArguments, PassIsRead, PassOf, PlanIsRead, PlanOf, ecat, is_answer}
+use Rattle.ec_args.specs.CommandLine.{ArePassArguments, IsFault, IsNotice, MeetsCommand, MeetsPass, MeetsPlan, ArePlanArguments, PassIsRead, PassOf, PlanIsRead, PlanOf, ecat, is_answer}
 use Rattle.ec_args.proofs.PlanArguments.{explain-met, explain-no_fault, explain_row, plan-met, plan-no_fault}
 use Rattle.ec_args.proofs.PassArguments.{ecat-is_simple, ecat-simple, frame_row, no-fault, number_argument, slaves_row, subcommand-pass, value_argument}
 
