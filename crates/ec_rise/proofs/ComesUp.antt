@@ -1,0 +1,123 @@
+-- An undisturbed start-up ends Ready.
+use Rattle.std.proofs.Common.{ℕ, zero, suc, ◌+◌, ◌-◌, ◌*◌, ◌^◌, ◌<◌, ◌≤◌, ◌≡◌, ◌≢◌, ◌==◌, Bool, true, false, Option, Some, None, refl, sym, ◌∙◌, ap, subst, inl, inr, arith, if◌then◌else◌, List, [], ◌∷◌, ◌++◌, length, map, drop, get_or}
+use Rattle.std.proofs.lemmas.List.{length-map}
+use Rattle.ec_regs.specs.declared.slave_type.Device.{Device}
+use Rattle.ec_regs.specs.Types.{SlaveKind, plain_kind}
+use Rattle.ec_slave.specs.State.{SlaveState, power_on}
+use Rattle.ec_frame.specs.Datagram.{Datagram}
+use Rattle.ec_link.specs.declared.settings.Settings.{Settings}
+use Rattle.ec_start.specs.declared.action.Action.{Action}
+use Rattle.ec_start.specs.declared.action.Action.TheVariants.{CountSlaves}
+use Rattle.ec_start.specs.Actions.{datagram_of}
+use Rattle.ec_start.specs.Scripts.{phases, script}
+use Rattle.ec_start.specs.Running.{StartState, begun, type_of}
+use Rattle.ec_start.specs.declared.phase.Phase.TheVariants.{Idle, Ready}
+use Rattle.ec_rise.specs.Stages.{Config, Stage, Before, Up, end_of}
+use Rattle.ec_rise.specs.Standing.{IsOfKind, Stands}
+use Rattle.ec_start.specs.Planned.{IsStartable}
+use Rattle.ec_rise.specs.Complete.{IsComplete, IsIdentity}
+use Rattle.ec_rise.specs.Undisturbed.{IsSpelled, IsDevice, AreDevices, ArePlans, Rising, turned, turns, unplanned, plan_at, slave_of, IsBroughtUp, IsUnderWay, ComesUpLaw}
+use Rattle.ec_rise.proofs.Ends.{script-leads}
+use Rattle.ec_rise.proofs.Sendable.{datagram-good}
+use Rattle.ec_rise.proofs.Commands.{word_of}
+use Rattle.ec_rise.proofs.Passed.{Each}
+use Rattle.ec_rise.proofs.Climbs.{IsPath, IsNow, IsWaiting, Stood, HasRisen, rises, Chained}
+use Rattle.ec_rise.proofs.Chains.{phases-free}
+use Rattle.ec_rise.proofs.Blessings.{phases-blessed}
+use Rattle.ec_rise.proofs.Granting.{is-lively}
+
+-- ---- places and lists
+
+each-from : (P : ℕ → SlaveState → Type 0) (j : ℕ) (ss : List SlaveState) → ((k : ℕ) → k < length ss → P (j + k) (slave_of ss k)) → Each P j ss
+each-from P j [] h = tt
+each-from P j (s ∷ ss) h =
+    let z : j + 0 ≡ j = omega arith in (
+      subst (λ (x : ℕ). P x s) z (h 0 (omega arith)),
+      each-from P (j + 1) ss (λ k l. let w : j + suc k ≡ j + 1 + k = omega arith in subst (λ (x : ℕ). P x (slave_of ss k)) w (h (suc k) (omega (arith, l)))),
+    )
+
+each-at : (P : ℕ → SlaveState → Type 0) (j k : ℕ) (ss : List SlaveState) → k < length ss → Each P j ss → P (j + k) (slave_of ss k)
+each-at P j k [] l h = absurd (omega (arith, l))
+each-at P j zero (s ∷ ss) l h = let z : j ≡ j + 0 = omega arith in subst (λ (x : ℕ). P x s) z h.0
+each-at P j (suc k) (s ∷ ss) l h = let w : j + 1 + k ≡ j + suc k = omega arith in subst (λ (x : ℕ). P x (slave_of ss k)) w (each-at P (j + 1) k ss (omega (arith, l)) h.1)
+
+types-of : (ps : List Settings) (t : ℕ) → t < length ps → type_of ps t ≡ (plan_at ps t).kind.device
+types-of [] t l = absurd (omega (arith, l))
+types-of (p ∷ ps) zero l = refl
+types-of (p ∷ ps) (suc t) l = types-of ps t (omega (arith, l))
+
+big-word : (t : Device) (which : ℕ) → IsIdentity t → word_of t which < 2 ^ 32
+big-word t zero h = h.vendor
+big-word t (suc zero) h = h.product
+big-word t (suc (suc which)) h = h.revision
+
+-- ---- the beginning
+
+abbrev starting : List Settings → ℕ → List SlaveState → Rising
+starting ps from ss = record { start = begun ps from; slaves = ss }
+
+is-path : (p : Settings) (ps : List Settings) → length (p ∷ ps) ≤ 64 → ArePlans (p ∷ ps) → IsPath (p ∷ ps) (λ i. (plan_at (p ∷ ps) i).kind)
+is-path p ps few h = record {
+  some = omega arith;
+  few = few;
+  types = λ t l. types-of (p ∷ ps) t l;
+  big = λ t which l. subst (λ (x : Device). word_of x which < 2 ^ 32) (sym (types-of (p ∷ ps) t l)) (big-word (plan_at (p ∷ ps) t).kind.device which (h.complete t l).identity);
+}
+
+is-now : (p : Settings) (ps : List Settings) (from : ℕ) (ss : List SlaveState) → ArePlans (p ∷ ps) → AreDevices (p ∷ ps) ss
+    → IsNow (p ∷ ps) (λ i. (plan_at (p ∷ ps) i).kind) (λ i. end_of (plan_at (p ∷ ps) i)) (λ i. Before) CountSlaves (phases (p ∷ ps)) (starting (p ∷ ps) from ss)
+unfolding begun
+is-now p ps from ss h d = record {
+  plan_is = refl;
+  idle = refl;
+  ahead = refl;
+  count = d.count;
+  told = tt;
+  inside = tt;
+  sendable = tt;
+  chained = phases-free (p ∷ ps) (λ i l. (h.complete i l).reach) CountSlaves;
+  leads = λ i l. script-leads unplanned p ps i l d.few (h.planned i l);
+  blessed = λ i l. (tt, phases-blessed unplanned i (p ∷ ps) l d.few (h.planned i l) (is-lively (plan_at (p ∷ ps) i) (h.planned i l) (h.complete i l)));
+  each = each-from (λ i s. Stood (plan_at (p ∷ ps) i).kind i Before CountSlaves s) 0 ss
+      (λ k l.
+      let c = d.count in
+      let b : k < length (p ∷ ps) = omega (arith, l, c) in
+      let z : k ≡ 0 + k = omega arith in
+      subst (λ (x : ℕ). Stood (plan_at (p ∷ ps) x).kind x Before CountSlaves (slave_of ss k)) z
+      (record { stands = record { slave = (d.each k b).slave; at = inl tt }; spelled = (d.each k b).spelled; sure = tt }));
+}
+
+brought-up : (p : Settings) (ps : List Settings) (from : ℕ) (ss : List SlaveState) → ArePlans (p ∷ ps) → AreDevices (p ∷ ps) ss
+    → IsBroughtUp (p ∷ ps) from (turns (length (script (p ∷ ps))) (starting (p ∷ ps) from ss)) × ((k : ℕ) → k < length (script (p ∷ ps)) → IsUnderWay (from + k) (turns k (starting (p ∷ ps) from ss)))
+unfolding begun
+brought-up p ps from ss h d =
+    let both : HasRisen (length (p ∷ ps)) (λ i. (plan_at (p ∷ ps) i).kind) (λ i. end_of (plan_at (p ∷ ps) i)) (from + suc (length (phases (p ∷ ps)))) (turns (suc (length (phases (p ∷ ps)))) (starting (p ∷ ps) from ss))
+    × ((k : ℕ) → k < suc (length (phases (p ∷ ps))) → IsWaiting (from + k) (turns k (starting (p ∷ ps) from ss)))
+    = rises (p ∷ ps) (λ i. (plan_at (p ∷ ps) i).kind) (λ i. end_of (plan_at (p ∷ ps) i)) (λ i. Before) CountSlaves (phases (p ∷ ps)) (starting (p ∷ ps) from ss) (is-path p ps d.few h) (is-now p ps from ss h d) in
+    let k = both.0 in (
+      record {
+        ready = k.ready;
+        numbers = k.numbers;
+        count = k.count;
+        slaves = λ i l.
+            let z : 0 + i ≡ i = omega arith in
+            let r : Rising = turns (suc (length (phases (p ∷ ps)))) (starting (p ∷ ps) from ss) in
+            subst (λ (j : ℕ). Stands (plan_at (p ∷ ps) j).kind j (Up (end_of (plan_at (p ∷ ps) j))) false (slave_of (turns (suc (length (phases (p ∷ ps)))) (starting (p ∷ ps) from ss)).slaves i)) z
+            (each-at (λ j s. Stands (plan_at (p ∷ ps) j).kind j (Up (end_of (plan_at (p ∷ ps) j))) false s) 0 i (turns (suc (length (phases (p ∷ ps)))) (starting (p ∷ ps) from ss)).slaves (let c = k.count in omega (arith, l, c)) k.each);
+      },
+      λ n l. let w = both.1 n l in record { idle = w.idle; numbers = w.numbers; good = w.good },
+    )
+
+-- no slaves: one frame
+none-up : (from : ℕ) (ss : List SlaveState) → AreDevices [] ss → IsBroughtUp [] from (turns 1 (starting [] from ss)) × ((k : ℕ) → k < 1 → IsUnderWay (from + k) (turns k (starting [] from ss)))
+unfolding begun
+none-up from [] d = (record { ready = refl; numbers = refl; count = refl; slaves = λ i l. absurd (omega (arith, l)) }, first)
+  where
+    first : (k : ℕ) → k < 1 → IsUnderWay (from + k) (turns k (starting [] from []))
+    first zero l = record { idle = refl; good = datagram-good CountSlaves from tt; numbers = let z : from ≡ from + 0 = omega arith in z }
+    first (suc k) l = absurd (omega (arith, l))
+none-up from (s ∷ ss) d = absurd (let c = d.count in omega (arith, c))
+
+pub comes-up : ComesUpLaw
+comes-up [] h from ss d = none-up from ss d
+comes-up (p ∷ ps) h from ss d = brought-up p ps from ss h d

@@ -1,0 +1,181 @@
+-- Whatever happens to a slave, it stays a device of its type.
+use Rattle.std.proofs.Common.{ℕ, zero, suc, ◌+◌, ◌<◌, ◌≤◌, ◌≡◌, ◌≢◌, Bool, true, false, Option, Some, None, refl, sym, ◌∙◌, ap, subst, inl, inr, arith, if◌then◌else◌, List, [], ◌∷◌, length, get_or, set, unwrap_or}
+use Rattle.ec_regs.specs.Types.{SlaveKind}
+use Rattle.ec_regs.specs.declared.slave_type.Identity.{Identity}
+use Rattle.ec_frame.specs.declared.command.Command.{Command}
+use Rattle.ec_frame.specs.declared.command.Command.TheVariants.{Nop, Aprd, Apwr, Aprw, Fprd, Fpwr, Fprw, Brd, Bwr, Brw, Lrd, Lwr, Lrw, Armw, Frmw}
+use Rattle.ec_frame.specs.Datagram.{Datagram, adp_of, ado_of}
+use Rattle.ec_sii.specs.Port.{Sii, written}
+use Rattle.ec_sii.specs.declared.image.Image.{Image}
+use Rattle.ec_al.specs.Al as al
+use Rattle.ec_sync.specs.Manager.{Manager, app_put}
+use Rattle.ec_sync.specs.Buffer.{Got}
+use Rattle.ec_slave.specs.Roles.{role_of, is_writing}
+use Rattle.ec_slave.specs.State.{SlaveState, Met as Meeting, station_of, power_on, manager_at}
+use Rattle.ec_slave.specs.Access.{meeting, slave_after}
+use Rattle.ec_slave.specs.Logical.{meets_logical}
+use Rattle.ec_slave.specs.Meeting.{meets, meets_by, meets_physically, slave_met}
+use Rattle.std.specs.Prelude.{option_map}
+use Rattle.ec_rise.specs.Standing.{IsOfKind}
+use Rattle.ec_slave.specs.Application.{is_running, with_manager, input_put, output_got, output_taken}
+use Rattle.ec_slave.specs.Serving.{served}
+use Rattle.ec_slave.specs.Faulting.{faulted}
+use Rattle.ec_link.specs.declared.settings.Settings.{Settings}
+use Rattle.ec_rise.specs.Undisturbed.{IsSpelled, IsDevice, AreDevices, ArePlans, plan_at, slave_of}
+use Rattle.ec_rise.proofs.Settles.{either-image, written-image, served-image, served-identity}
+use Rattle.ec_rise.specs.Starting.{Carried, Starting, slave_at}
+use Rattle.ec_rise.specs.Runs.{with_begun, AreStartable, IsNew, Happens, Sends, Passes, Loses, Returns, Strays, Closes, Serves, Puts, Gets, Faults, Resets, Runs, Stops, Steps, Begins}
+use Rattle.ec_rise.specs.ComesUp.{IsTrue, AreTrue, AgainLaw}
+use Rattle.ec_rise.proofs.Composes.{set_one}
+use Rattle.ec_rise.proofs.Theorem.{IsGood, runs-good, happens-plan, begun-plan, new-good}
+
+-- identity and image stay
+pub record Same (s t : SlaveState) : Type 0 where
+  pub identity : t.identity ≡ s.identity
+  pub image : t.sii.image ≡ s.sii.image
+
+same-refl : (s : SlaveState) → Same s s
+same-refl s = record { identity = refl; image = refl }
+
+true-on : (kind : SlaveKind) (s t : SlaveState) → Same s t → IsTrue kind s → IsTrue kind t
+true-on kind s t e h = record {
+  image = ap (λ (i : Image). i.identity) e.image ∙ (h.image ∙ sym e.identity);
+  vendor = ap (λ (i : Identity). i.vendor) e.identity ∙ h.vendor;
+  product = ap (λ (i : Identity). i.product) e.identity ∙ h.product;
+  revision = ap (λ (i : Identity). i.revision) e.identity ∙ h.revision;
+}
+
+-- ---- any datagram
+
+physical-same : (s : SlaveState) (d : Datagram) → Same s (meets_physically s d).slave
+unfolding meeting slave_after
+physical-same s d = record {
+  identity = refl;
+  image = either-image (is_writing (role_of d.command (adp_of d) (station_of s))) (written s.sii (ado_of d) d.data_bytes) s.sii s.sii.image (written-image s.sii (ado_of d) d.data_bytes) refl;
+}
+
+logical-same : (reads writes : Bool) (weight : ℕ) (s : SlaveState) (d : Datagram) → Same s (meets_logical reads writes weight s d).slave
+unfolding meets_logical
+logical-same reads writes weight s d = record { identity = refl; image = refl }
+
+either-same : (s : SlaveState) (b : Bool) (x y : Meeting) → Same s x.slave → Same s y.slave → Same s (if b then x else y).slave
+either-same s true x y h k = h
+either-same s false x y h k = k
+
+by-same : (c : Command) (s : SlaveState) (d : Datagram) → Same s (meets_by c s d).slave
+by-same Nop s d = same-refl s
+by-same Aprd s d = physical-same s d
+by-same Apwr s d = physical-same s d
+by-same Aprw s d = physical-same s d
+by-same Fprd s d = physical-same s d
+by-same Fpwr s d = physical-same s d
+by-same Fprw s d = physical-same s d
+by-same Brd s d = physical-same s d
+by-same Bwr s d = physical-same s d
+by-same Brw s d = physical-same s d
+by-same Lrd s d = logical-same true false 1 s d
+by-same Lwr s d = logical-same false true 1 s d
+by-same Lrw s d = either-same s s.kind.lrw (meets_logical true true 2 s d) (record { slave = s; datagram = d }) (logical-same true true 2 s d) (same-refl s)
+by-same Armw s d = physical-same s d
+by-same Frmw s d = physical-same s d
+
+met-same : (s : SlaveState) (d : Datagram) → Same s (slave_met s d)
+unfolding meets
+met-same s d = by-same d.command s d
+
+-- ---- the other events
+
+served-same : (s : SlaveState) → Same s (served s)
+served-same s = record { identity = served-identity s; image = served-image s }
+
+put-by : (s : SlaveState) (b : Bool) (o : Option Manager) → Same s (unwrap_or (if b then option_map (with_manager s 3) o else None) s)
+put-by s true None = same-refl s
+put-by s true (Some m) = record { identity = refl; image = refl }
+put-by s false o = same-refl s
+
+put-same : (s : SlaveState) (place byte : ℕ) → Same s (unwrap_or (input_put s place byte) s)
+put-same s place byte = put-by s (is_running s.al.state) (app_put (manager_at s.managers 3) place byte)
+
+got-by : (s : SlaveState) (o : Option Got) → Same s (output_taken s o)
+got-by s None = same-refl s
+got-by s (Some got) = record { identity = refl; image = refl }
+
+either-slave : (s : SlaveState) (b : Bool) (x y : SlaveState) → Same s x → Same s y → Same s (if b then x else y)
+either-slave s true x y h k = h
+either-slave s false x y h k = k
+
+fault-same : (s : SlaveState) → Same s (faulted s)
+unfolding faulted
+fault-same s = either-slave s (al.is_operational s.al.state) _ s (record { identity = refl; image = refl }) (same-refl s)
+
+reset-true : (kind : SlaveKind) (s : SlaveState) → IsTrue kind s → IsTrue kind (power_on s.kind s.identity)
+unfolding power_on
+reset-true kind s h = record { image = refl; vendor = h.vendor; product = h.product; revision = h.revision }
+
+-- ---- worlds
+
+-- one slave is set
+set-true : (w : Starting) (k : ℕ) (t : SlaveState) (slaves : length w.slaves ≡ length w.start.plan) → k < length w.start.plan → IsTrue (plan_at w.start.plan k).kind t → AreTrue w
+    → (i : ℕ) → i < length w.start.plan → IsTrue (plan_at w.start.plan i).kind (slave_at (set w.slaves k t) i)
+set-true w k t e l m h i b = set_one (λ n s. IsTrue (plan_at w.start.plan n).kind s) w.slaves k t i (omega (arith, e, l)) (λ q. m) (λ q. h.each i b)
+
+by-slaves : (w v : Starting) → v.start.plan ≡ w.start.plan → ((i : ℕ) → i < length w.start.plan → IsTrue (plan_at w.start.plan i).kind (slave_of v.slaves i)) → AreTrue v
+by-slaves w v e h = record { each = subst (λ (ps : List Settings). (i : ℕ) → i < length ps → IsTrue (plan_at ps i).kind (slave_of v.slaves i)) (sym e) h }
+
+kept : (w v : Starting) (ss : List SlaveState) → v.start.plan ≡ w.start.plan → v.slaves ≡ ss → ((i : ℕ) → i < length w.start.plan → IsTrue (plan_at w.start.plan i).kind (slave_of ss i)) → AreTrue v
+kept w v ss p e h = by-slaves w v p (λ i l. subst (λ (xs : List SlaveState). IsTrue (plan_at w.start.plan i).kind (slave_of xs i)) (sym e) (h i l))
+
+one-on : (w : Starting) (k : ℕ) (t : SlaveState) → length w.slaves ≡ length w.start.plan → k < length w.start.plan → Same (slave_at w.slaves k) t → AreTrue w
+    → (i : ℕ) → i < length w.start.plan → IsTrue (plan_at w.start.plan i).kind (slave_of (set w.slaves k t) i)
+one-on w k t e l q h = set-true w k t e l (true-on (plan_at w.start.plan k).kind (slave_at w.slaves k) t q (h.each k l)) h
+
+happens-true : (w v : Starting) → length w.slaves ≡ length w.start.plan → Happens w v → AreTrue w → AreTrue v
+happens-true w v n (Sends idle good e) h = kept w v w.slaves (happens-plan w v (Sends idle good e)) (ap (λ (x : Starting). x.slaves) e) h.each
+happens-true w v n (Passes c full l e) h = kept w v (set w.slaves c.passed (slave_met (slave_at w.slaves c.passed) c.datagram)) (happens-plan w v (Passes c full l e)) (ap (λ (x : Starting). x.slaves) e)
+    (one-on w c.passed (slave_met (slave_at w.slaves c.passed) c.datagram) n l (met-same (slave_at w.slaves c.passed) c.datagram) h)
+happens-true w v n (Loses c full e) h = kept w v w.slaves (happens-plan w v (Loses c full e)) (ap (λ (x : Starting). x.slaves) e) h.each
+happens-true w v n (Returns c full l sent e) h = kept w v w.slaves (happens-plan w v (Returns c full l sent e)) (ap (λ (x : Starting). x.slaves) e) h.each
+happens-true w v n (Strays c f full failed e) h = kept w v w.slaves (happens-plan w v (Strays c f full failed e)) (ap (λ (x : Starting). x.slaves) e) h.each
+happens-true w v n (Closes number sent e) h = kept w v w.slaves (happens-plan w v (Closes number sent e)) (ap (λ (x : Starting). x.slaves) e) h.each
+happens-true w v n (Serves k l e) h = kept w v (set w.slaves k (served (slave_at w.slaves k))) (happens-plan w v (Serves k l e)) (ap (λ (x : Starting). x.slaves) e)
+    (one-on w k (served (slave_at w.slaves k)) n l (served-same (slave_at w.slaves k)) h)
+happens-true w v n (Puts k place byte l e) h = kept w v (set w.slaves k (unwrap_or (input_put (slave_at w.slaves k) place byte) (slave_at w.slaves k))) (happens-plan w v (Puts k place byte l e)) (ap (λ (x : Starting). x.slaves) e)
+    (one-on w k (unwrap_or (input_put (slave_at w.slaves k) place byte) (slave_at w.slaves k)) n l (put-same (slave_at w.slaves k) place byte) h)
+happens-true w v n (Gets k place l e) h = kept w v (set w.slaves k (output_taken (slave_at w.slaves k) (output_got (slave_at w.slaves k) place))) (happens-plan w v (Gets k place l e)) (ap (λ (x : Starting). x.slaves) e)
+    (one-on w k (output_taken (slave_at w.slaves k) (output_got (slave_at w.slaves k) place)) n l (got-by (slave_at w.slaves k) (output_got (slave_at w.slaves k) place)) h)
+happens-true w v n (Faults k l op e) h = kept w v (set w.slaves k (faulted (slave_at w.slaves k))) (happens-plan w v (Faults k l op e)) (ap (λ (x : Starting). x.slaves) e)
+    (one-on w k (faulted (slave_at w.slaves k)) n l (fault-same (slave_at w.slaves k)) h)
+happens-true w v n (Resets k l e) h = kept w v (set w.slaves k (power_on (slave_at w.slaves k).kind (slave_at w.slaves k).identity)) (happens-plan w v (Resets k l e)) (ap (λ (x : Starting). x.slaves) e)
+    (set-true w k (power_on (slave_at w.slaves k).kind (slave_at w.slaves k).identity) n l (reset-true (plan_at w.start.plan k).kind (slave_at w.slaves k) (h.each k l)) h)
+
+-- the length of the slaves is that of the plan at every instant: by the runs so far
+runs-true : (ps : List Settings) → AreStartable ps → (w v : Starting) → Runs w v → IsGood ps w → AreTrue w → AreTrue v
+runs-true ps planned w v (Stops x) g h = h
+runs-true ps planned w v (Steps x u y e r) g h =
+    runs-true ps planned u v r (runs-good ps planned w u (Steps w u u e (Stops u)) g) (happens-true w u g.starts.slaves.slaves e h)
+runs-true ps planned w v (Begins x y f failed empty r) g h =
+    runs-true ps planned (with_begun w) v r (runs-good ps planned w (with_begun w) (Begins w (with_begun w) f failed empty (Stops (with_begun w))) g) (by-slaves w (with_begun w) (begun-plan w) h.each)
+
+device-of : (kind : SlaveKind) (s : SlaveState) → IsOfKind kind s → IsTrue kind s → IsDevice kind s
+device-of kind s k h = record {
+  slave = k;
+  spelled = record {
+    vendor = ap (λ (i : Identity). i.vendor) h.image ∙ h.vendor;
+    product = ap (λ (i : Identity). i.product) h.image ∙ h.product;
+    revision = ap (λ (i : Identity). i.revision) h.image ∙ h.revision;
+  };
+}
+
+pub again : AgainLaw
+again ps plans w v new first r =
+    let planned : AreStartable ps = record { each = plans.planned } in
+    let g0 : IsGood ps w = new-good ps planned w new in
+    let g : IsGood ps v = runs-good ps planned w v r g0 in
+    let t : AreTrue v = runs-true ps planned w v r g0 first in
+    let sl = g.starts.slaves in
+    record {
+      count = sl.slaves ∙ ap length g.plan_is;
+      few = subst (λ (qs : List Settings). length qs ≤ 64) g.plan_is sl.few;
+      each = subst (λ (qs : List Settings). (i : ℕ) → i < length qs → IsDevice (plan_at qs i).kind (slave_of v.slaves i)) g.plan_is
+          (λ i l. device-of (plan_at v.start.plan i).kind (slave_of v.slaves i) (sl.each i l) (t.each i l));
+    }

@@ -1,0 +1,97 @@
+-- The premises can be met: a segment of one slave with a mailbox and PDOs in both directions comes up.
+use Rattle.std.proofs.Common.{ℕ, zero, suc, ◌+◌, ◌<◌, ◌≤◌, ◌≡◌, ◌≢◌, true, false, Option, Some, None, refl, arith, List, [], ◌∷◌, length, All}
+use Rattle.ec_regs.specs.Managers.{is_set}
+use Rattle.ec_slave.specs.State.{SlaveState, power_on}
+use Rattle.ec_start.specs.Planned.{IsStartable}
+use Rattle.ec_rise.specs.Complete.{IsNumbered, IsComplete}
+use Rattle.ec_regs.specs.declared.slave_type.Entry.{Entry}
+use Rattle.ec_regs.specs.Types.{device_identity}
+use Rattle.ec_start.specs.Scripts.{script}
+use Rattle.ec_start.specs.Running.{begun}
+use Rattle.ec_rise.specs.Undisturbed.{IsDevice, AreDevices, ArePlans, plan_at, slave_of, turns, IsBroughtUp}
+use Rattle.ec_rise.proofs.Resets.{power_on_is}
+use Rattle.ec_rise.proofs.Table.{mix, planned}
+use Rattle.ec_rise.proofs.ComesUp.{comes-up}
+
+one-entry : (e : Entry) → IsNumbered e → All IsNumbered (e ∷ [])
+one-entry e h zero d l = h
+one-entry e h (suc k) d l = absurd (omega (arith, l))
+
+complete : IsComplete mix
+unfolding is_set
+complete = record {
+  identity = record { vendor = omega arith; product = omega arith; revision = omega arith };
+  reach = record { receive = omega arith; receive_few = omega arith; receive_some = omega arith; send = omega arith; send_few = omega arith };
+  outs = record {
+    offered = (
+      record {
+        pdo = record { index = 0x1600; entries = record { index = 0x7010; subindex = 1; bits = 12 } ∷ [] };
+        named = refl;
+        shown = refl;
+        index_is = refl;
+        no_identity = λ e. omega (arith, e);
+        no_outputs = λ e. omega (arith, e);
+        no_inputs = λ e. omega (arith, e);
+        few = omega arith;
+        small = omega arith;
+        entries = one-entry _ (omega arith);
+      },
+      tt,
+    );
+    apart = refl;
+    few = omega arith;
+    short = omega arith;
+    bits = omega arith;
+  };
+  ins = record {
+    offered = (
+      record {
+        pdo = record { index = 0x1A00; entries = record { index = 0x6010; subindex = 1; bits = 16 } ∷ [] };
+        named = refl;
+        shown = refl;
+        index_is = refl;
+        no_identity = λ e. omega (arith, e);
+        no_outputs = λ e. omega (arith, e);
+        no_inputs = λ e. omega (arith, e);
+        few = omega arith;
+        small = omega arith;
+        entries = one-entry _ (omega arith);
+      },
+      tt,
+    );
+    apart = refl;
+    few = omega arith;
+    short = omega arith;
+    bits = omega arith;
+  };
+  out_carried = refl;
+  in_carried = refl;
+}
+
+plans : ArePlans (mix ∷ [])
+plans = record {
+  planned = by-planned;
+  complete = by-complete;
+}
+  where
+    by-planned : (i : ℕ) → i < 1 → IsStartable (plan_at (mix ∷ []) i)
+    by-planned zero l = planned
+    by-planned (suc i) l = absurd (omega (arith, l))
+
+    by-complete : (i : ℕ) → i < 1 → IsComplete (plan_at (mix ∷ []) i)
+    by-complete zero l = complete
+    by-complete (suc i) l = absurd (omega (arith, l))
+
+device : IsDevice mix.kind (power_on mix.kind (device_identity mix.kind.device 0))
+unfolding power_on
+device = record { slave = power_on_is mix.kind (device_identity mix.kind.device 0); spelled = record { vendor = refl; product = refl; revision = refl } }
+
+devices : AreDevices (mix ∷ []) (power_on mix.kind (device_identity mix.kind.device 0) ∷ [])
+devices = record { count = refl; few = omega arith; each = by-each }
+  where
+    by-each : (i : ℕ) → i < 1 → IsDevice (plan_at (mix ∷ []) i).kind (slave_of (power_on mix.kind (device_identity mix.kind.device 0) ∷ []) i)
+    by-each zero l = device
+    by-each (suc i) l = absurd (omega (arith, l))
+
+pub one-comes-up : IsBroughtUp (mix ∷ []) 0 (turns (length (script (mix ∷ []))) (record { start = begun (mix ∷ []) 0; slaves = power_on mix.kind (device_identity mix.kind.device 0) ∷ [] }))
+one-comes-up = (comes-up (mix ∷ []) plans 0 (power_on mix.kind (device_identity mix.kind.device 0) ∷ []) devices).0

@@ -1,0 +1,50 @@
+-- A start-up's frame of two datagrams past all slaves: the first is a NOP, and the frame that comes back is taken.
+use Rattle.std.proofs.Common.{ℕ, zero, suc, ◌+◌, ◌<◌, ◌≡◌, refl, sym, ◌∙◌, ap, subst, List, [], ◌∷◌, length}
+use Rattle.std.specs.Int.{to_le_bytes, w64}
+use Rattle.ec_frame.specs.declared.command.Command.{Command}
+use Rattle.ec_frame.specs.Datagram.{Datagram, IsDatagram}
+use Rattle.ec_slave.specs.State.{SlaveState}
+use Rattle.ec_slave.specs.Meeting.{Passed, meets, slave_met, datagram_met, passes}
+use Rattle.ec_slave.specs.Keeping.{meets-keeps}
+use Rattle.ec_slave.proofs.Bystanders.{heading_stays}
+use Rattle.ec_start.specs.declared.action.Action.{Action}
+use Rattle.ec_start.specs.Actions.{datagram_of, frame_of, numbered}
+use Rattle.ec_start.specs.Running.{StartState, action_of, Shape, shape, number_told, IsStartAnswer}
+use Rattle.ec_rise.specs.Undisturbed.{all_passed, all_met, frame_passed, slaves_passed, IsRound, RoundLaw}
+
+two-pass : (s : SlaveState) (number : ℕ) (d : Datagram) → passes s (numbered number 0 ∷ d ∷ []) ≡ record { slave = slave_met s d; datagrams = numbered number 0 ∷ datagram_met s d ∷ [] }
+unfolding meets
+two-pass s number d = refl
+
+frame-all : (ss : List SlaveState) (number : ℕ) (d : Datagram) → frame_passed ss (numbered number 0 ∷ d ∷ []) ≡ numbered number 0 ∷ all_passed ss d ∷ []
+frame-all [] number d = refl
+frame-all (s ∷ ss) number d = ap (λ (p : Passed). frame_passed ss p.datagrams) (two-pass s number d) ∙ frame-all ss number (datagram_met s d)
+
+slaves-all : (ss : List SlaveState) (number : ℕ) (d : Datagram) → slaves_passed ss (numbered number 0 ∷ d ∷ []) ≡ all_met ss d
+slaves-all [] number d = refl
+slaves-all (s ∷ ss) number d = ap (λ (p : Passed). p.slave ∷ slaves_passed ss p.datagrams) (two-pass s number d) ∙ ap (λ (xs : List SlaveState). slave_met s d ∷ xs) (slaves-all ss number (datagram_met s d))
+
+shape-by : (c1 c2 : Command) (i j n m : ℕ) → c1 ≡ c2 → i ≡ j → n ≡ m → (let x : Shape = record { command = c1; index = i; bytes = n } in let y : Shape = record { command = c2; index = j; bytes = m } in x ≡ y)
+shape-by c1 c2 i j n m a b c =
+    ap (λ (x : Command). record { command = x; index = i; bytes = n }) a
+    ∙ (ap (λ (x : ℕ). record { command = c2; index = x; bytes = n }) b ∙ ap (λ (x : ℕ). record { command = c2; index = j; bytes = x }) c)
+
+shape-stays : (ss : List SlaveState) (d : Datagram) → IsDatagram d → shape (all_passed ss d) ≡ shape d
+shape-stays [] d good = refl
+shape-stays (s ∷ ss) d good =
+    let h = heading_stays s d good in
+    shape-stays ss (datagram_met s d) (meets-keeps s d good).0
+    ∙ shape-by (datagram_met s d).command d.command (datagram_met s d).index d.index (length (datagram_met s d).data_bytes) (length d.data_bytes) h.command h.index h.data_length
+
+pub round : RoundLaw
+round s number ss good =
+    let d : Datagram = datagram_of (action_of s) number in
+    let e = frame-all ss number (datagram_of (action_of s) number) in
+    record {
+      datagrams = e;
+      slaves = slaves-all ss number (datagram_of (action_of s) number);
+      answer = subst (λ (ds : List Datagram). IsStartAnswer s number ds) (sym e) (record {
+        shapes = ap (λ (x : Shape). shape (numbered number 0) ∷ x ∷ []) (shape-stays ss (datagram_of (action_of s) number) good);
+        number_is = refl;
+      });
+    }

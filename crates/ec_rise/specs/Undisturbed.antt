@@ -1,0 +1,124 @@
+-- A start-up that nothing disturbs: each frame passes all slaves in order, each slave serves once, and the frame comes back.
+use Rattle.std.specs.Prelude.{ℕ, zero, suc, ◌+◌, ◌*◌, ◌<◌, ◌≤◌, ◌≡◌, ◌^◌, ◌-◌, List, [], ◌∷◌, length, map, get_or, Bool, true, false}
+use Rattle.ec_regs.specs.declared.slave_type.Device.{Device}
+use Rattle.ec_regs.specs.Types.{SlaveKind, plain_kind, device_identity}
+use Rattle.ec_frame.specs.Datagram.{Datagram, IsDatagram}
+use Rattle.ec_slave.specs.State.{SlaveState, power_on}
+use Rattle.ec_slave.specs.Meeting.{slave_met, datagram_met, passes}
+use Rattle.ec_slave.specs.Serving.{served}
+use Rattle.ec_link.specs.declared.settings.Settings.{Settings}
+use Rattle.ec_link.specs.Meaning as meant
+use Rattle.ec_start.specs.Actions.{datagram_of, frame_of, numbered}
+use Rattle.ec_start.specs.Scripts.{script}
+use Rattle.ec_start.specs.Running.{StartState, action_of, begun, sending, taken, IsStartAnswer}
+use Rattle.ec_start.specs.declared.phase.Phase.TheVariants.{Idle, Ready}
+use Rattle.ec_rise.specs.Stages.{Up, end_of}
+use Rattle.ec_rise.specs.Standing.{IsOfKind, Stands}
+use Rattle.ec_start.specs.Planned.{IsStartable}
+use Rattle.ec_rise.specs.Complete.{IsComplete}
+
+-- ---- which slaves
+
+-- The image of the SII spells the type's vendor, product and revision; the serial number is free.
+pub record IsSpelled (identity : Device) (s : SlaveState) : Type 0 where
+  pub vendor : s.sii.image.identity.vendor ≡ identity.vendor
+  pub product : s.sii.image.identity.product ≡ identity.product
+  pub revision : s.sii.image.identity.revision ≡ identity.revision
+
+-- A device of a type, in any state: nothing is asked of its registers, its managers, its letters, its AL state, an error, a
+-- request or a read that waits. `IsOfKind` has that in INIT no manager is locked, and that without a mailbox the assignment
+-- is that of power-on: every event of a slave keeps both.
+pub record IsDevice (kind : SlaveKind) (s : SlaveState) : Type 0 where
+  pub slave : IsOfKind kind s
+  pub spelled : IsSpelled kind.device s
+
+-- ---- one frame
+
+-- the second datagram of a frame after it passed all slaves in order
+abbrev pub all_passed : List SlaveState → Datagram → Datagram
+all_passed [] d = d
+all_passed (s ∷ ss) d = all_passed ss (datagram_met s d)
+
+-- the slaves after it
+abbrev pub all_met : List SlaveState → Datagram → List SlaveState
+all_met [] d = []
+all_met (s ∷ ss) d = slave_met s d ∷ all_met ss (datagram_met s d)
+
+-- a start-up and the slaves of its segment
+pub record Rising : Type 0 where
+  pub start : StartState
+  pub slaves : List SlaveState
+
+abbrev pub frame_at : Rising → Datagram
+frame_at r = datagram_of (action_of r.start) r.start.next
+
+-- the next frame is sent, passes all slaves, each slave serves once, and the frame is taken back
+abbrev pub turned : Rising → Rising
+turned r = record { start = taken (sending r.start) (all_passed r.slaves (frame_at r)); slaves = map served (all_met r.slaves (frame_at r)) }
+
+abbrev pub turns : ℕ → Rising → Rising
+turns zero r = r
+turns (suc n) r = turns n (turned r)
+
+-- ---- what is promised
+
+abbrev pub unplanned : Settings
+unplanned = meant.no_slave
+
+abbrev pub plan_at : List Settings → ℕ → Settings
+plan_at ps i = get_or ps i unplanned
+
+abbrev pub slave_of : List SlaveState → ℕ → SlaveState
+slave_of ss i = get_or ss i (power_on plain_kind (device_identity plain_kind.device 0))
+
+-- as many slaves as the plan has, each a device of its type
+pub record AreDevices (ps : List Settings) (ss : List SlaveState) : Type 0 where
+  pub count : length ss ≡ length ps
+  pub few : length ps ≤ 64
+  pub each : (i : ℕ) → i < length ps → IsDevice (plan_at ps i).kind (slave_of ss i)
+
+-- what `compile` promises of a plan
+pub record ArePlans (ps : List Settings) : Type 0 where
+  pub planned : (i : ℕ) → i < length ps → IsStartable (plan_at ps i)
+  pub complete : (i : ℕ) → i < length ps → IsComplete (plan_at ps i)
+
+-- Ready, after as many frames as the script has actions, with every slave at the end of the script
+pub record IsBroughtUp (ps : List Settings) (from : ℕ) (r : Rising) : Type 0 where
+  pub ready : r.start.phase ≡ Ready
+  pub numbers : r.start.next ≡ from + length (script ps)
+  pub count : length r.slaves ≡ length ps
+  pub slaves : (i : ℕ) → i < length ps → Stands (plan_at ps i).kind i (Up (end_of (plan_at ps i))) false (slave_of r.slaves i)
+
+-- before that the start-up hasn't ended, no frame is outstanding, each frame took one number, and the next one can be sent
+pub record IsUnderWay (number : ℕ) (r : Rising) : Type 0 where
+  pub idle : r.start.phase ≡ Idle
+  pub numbers : r.start.next ≡ number
+  pub good : IsDatagram (frame_at r)
+
+-- An undisturbed start-up ends Ready: of every plan, from devices of its types in any state, after one frame for each
+-- action of the script. No wait has a second poll.
+abbrev pub ComesUpLaw : Type 0
+ComesUpLaw =
+    (ps : List Settings) → ArePlans ps → (from : ℕ) (ss : List SlaveState) → AreDevices ps ss
+    → let r : Rising = record { start = begun ps from; slaves = ss } in
+    IsBroughtUp ps from (turns (length (script ps)) r) × ((k : ℕ) → k < length (script ps) → IsUnderWay (from + k) (turns k r))
+
+-- ---- whole frames
+
+-- the datagrams of a frame after it passed all slaves, and the slaves
+abbrev pub frame_passed : List SlaveState → List Datagram → List Datagram
+frame_passed [] ds = ds
+frame_passed (s ∷ ss) ds = frame_passed ss (passes s ds).datagrams
+
+abbrev pub slaves_passed : List SlaveState → List Datagram → List SlaveState
+slaves_passed [] ds = []
+slaves_passed (s ∷ ss) ds = (passes s ds).slave ∷ slaves_passed ss (passes s ds).datagrams
+
+-- A start-up's frame past all slaves is an answer, its second datagram is what it is here, and so are the slaves.
+pub record IsRound (s : StartState) (number : ℕ) (ss : List SlaveState) : Type 0 where
+  pub datagrams : frame_passed ss (frame_of (action_of s) number) ≡ numbered number 0 ∷ all_passed ss (datagram_of (action_of s) number) ∷ []
+  pub slaves : slaves_passed ss (frame_of (action_of s) number) ≡ all_met ss (datagram_of (action_of s) number)
+  pub answer : IsStartAnswer s number (frame_passed ss (frame_of (action_of s) number))
+
+abbrev pub RoundLaw : Type 0
+RoundLaw = (s : StartState) (number : ℕ) (ss : List SlaveState) → IsDatagram (datagram_of (action_of s) number) → IsRound s number ss

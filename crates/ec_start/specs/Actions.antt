@@ -1,0 +1,91 @@
+-- What a start-up does, action by action, and the datagram of each (ETG.1000.4, "Register description"; ETG.1000.6, "AL
+-- state machine", "SDO services"; which init commands come is this project's profile). One action is one step: a wait is one
+-- with all its polls.
+use Rattle.std.specs.Prelude.{ℕ, ◌+◌, ◌-◌, ◌*◌, ◌/◌, ◌%◌, List, [], ◌∷◌, ◌++◌, length}
+use Rattle.std.specs.Int.{to_le_bytes, w16, w64}
+use Rattle.ec_bits.specs.Bits.{zeros}
+use Rattle.ec_regs.specs.Memory.{station_address, al_control, al_status, sii_control, fmmus, fmmu_place, sync_managers, manager_place}
+use Rattle.ec_regs.specs.Managers.{manager_bytes}
+use Rattle.ec_regs.specs.Fmmus.{fmmu_bytes}
+use Rattle.ec_frame.specs.declared.command.Command.{Command}
+use Rattle.ec_frame.specs.declared.command.Command.TheVariants.{Nop, Apwr, Fprd, Fpwr, Brd, Bwr}
+use Rattle.ec_frame.specs.Datagram.{Datagram}
+use Rattle.ec_frame.specs.Building.{new_datagram}
+use Rattle.ec_al.specs.States.{state_number}
+use Rattle.ec_sii.specs.Laws.{read_command}
+use Rattle.ec_coe.specs.declared.message.Service.TheVariants.{Request as RequestService}
+use Rattle.ec_coe.specs.declared.message.Command.{Command as SdoCommand}
+use Rattle.ec_coe.specs.declared.message.Command.TheVariants.{DownloadRequest, UploadRequest}
+use Rattle.ec_coe.specs.declared.message.Message.{Message}
+use Rattle.ec_coe.specs.Messages.{message_bytes}
+use Rattle.ec_start.specs.declared.action.Transfer.{Transfer}
+use Rattle.ec_start.specs.declared.action.Transfer.TheVariants.{Download, Upload}
+use Rattle.ec_start.specs.declared.action.Request.{Request}
+use Rattle.ec_start.specs.declared.action.Action.{Action}
+use Rattle.ec_start.specs.declared.action.Action.TheVariants.{CountSlaves, AskInit, AwaitInit, ClearFmmus, ClearManagers, ClearStations, NameSlave, AskWord, AwaitWord, SetManager, SetFmmu, AskState, AwaitState, SendRequest, AwaitReply}
+
+-- the station address of slave i
+abbrev pub station : ℕ → ℕ
+station i = 0x1001 + i
+
+-- an ADP and an ADO
+abbrev pub at : ℕ → ℕ → ℕ
+at adp ado = adp % 65536 + 65536 * ado
+
+-- the SII words of the identity: 0x08 the vendor, 0x0A the product, 0x0C the revision
+abbrev pub word_place : ℕ → ℕ
+word_place which = 0x08 + 2 * which
+
+-- ---- mailbox messages
+
+abbrev pub request_command : Transfer → SdoCommand
+request_command (Download value) = DownloadRequest value.size
+request_command (Upload value) = UploadRequest
+
+abbrev pub request_value : Transfer → ℕ
+request_value (Download value) = value.number
+request_value (Upload value) = 0
+
+-- the message of a request before which so many were sent to the slave: its counter goes from 1 to 7 and begins at 1 again
+abbrev pub request_message : ℕ → Request → Message
+request_message before r = record { counter = before % 7 + 1; service = RequestService; command = request_command r.transfer; index = r.index; subindex = r.subindex; value = request_value r.transfer }
+
+abbrev pub request_bytes : ℕ → Request → List ℕ
+request_bytes before r = message_bytes (request_message before r)
+
+-- a whole mailbox with a message at its front
+abbrev pub filled : ℕ → List ℕ → List ℕ
+filled size bytes = bytes ++ zeros (size - length bytes)
+
+-- ---- datagrams
+
+abbrev pub sent : Command → ℕ → ℕ → List ℕ → ℕ → Datagram
+sent c adp ado bytes number = new_datagram c (number % 256) (at adp ado) bytes
+
+-- the datagram of an action, in the frame of a number
+abbrev pub datagram_of : Action → ℕ → Datagram
+datagram_of CountSlaves number = sent Brd 0 al_status (zeros 2) number
+-- INIT, with the acknowledgement of errors
+datagram_of AskInit number = sent Bwr 0 al_control (0x11 ∷ 0 ∷ []) number
+datagram_of AwaitInit number = sent Brd 0 al_status (zeros 2) number
+datagram_of ClearFmmus number = sent Bwr 0 fmmus (zeros 64) number
+datagram_of ClearManagers number = sent Bwr 0 sync_managers (zeros 32) number
+datagram_of ClearStations number = sent Bwr 0 station_address (zeros 2) number
+-- the slave at position i gets the ADP that i slaves before it have counted up to 0
+datagram_of (NameSlave i) number = sent Apwr (65536 - i) station_address (station i % 256 ∷ station i / 256 ∷ []) number
+datagram_of (AskWord i which) number = sent Fpwr (station i) sii_control (read_command (word_place which)) number
+datagram_of (AwaitWord i which) number = sent Fprd (station i) sii_control (zeros 10) number
+datagram_of (SetManager i n m) number = sent Fpwr (station i) (manager_place n) (manager_bytes m) number
+datagram_of (SetFmmu i n f) number = sent Fpwr (station i) (fmmu_place n) (fmmu_bytes f) number
+datagram_of (AskState i state) number = sent Fpwr (station i) al_control (state_number state ∷ 0 ∷ []) number
+-- status, and behind it the status code
+datagram_of (AwaitState i state) number = sent Fprd (station i) al_status (zeros 6) number
+datagram_of (SendRequest i before b r) number = sent Fpwr (station i) b.receive_start (filled b.receive_size (request_bytes before r)) number
+datagram_of (AwaitReply i b r) number = sent Fprd (station i) b.send_start (zeros b.send_size) number
+
+-- the first datagram of each frame names it: its number and part 0
+abbrev pub numbered : ℕ → ℕ → Datagram
+numbered number part = new_datagram Nop (number % 256) 0 (to_le_bytes w64 number ++ to_le_bytes w16 part)
+
+abbrev pub frame_of : Action → ℕ → List Datagram
+frame_of a number = numbered number 0 ∷ datagram_of a number ∷ []

@@ -1,0 +1,180 @@
+-- A start-up as it runs.
+use Rattle.std.specs.Prelude.{ℕ, ◌+◌, ◌-◌, ◌^◌, ◌≡◌, ◌==◌, ◌↔◌, List, [], ◌∷◌, length, map, take, get_or, Bool, true, false, if◌then◌else◌, nat_lt, slice_get, Option, Some, None}
+use Rattle.std.specs.Int.{to_le_bytes, w64}
+use Rattle.ec_regs.specs.declared.slave_type.Device.{Device}
+use Rattle.ec_regs.specs.Types.{plain_kind}
+use Rattle.ec_frame.specs.declared.command.Command.{Command}
+use Rattle.ec_frame.specs.Datagram.{Datagram}
+use Rattle.ec_frame.specs.Frame.{Payload, IsFrame}
+use Rattle.ec_link.specs.declared.settings.Settings.{Settings}
+use Rattle.ec_start.specs.declared.action.Action.{Action}
+use Rattle.ec_start.specs.declared.action.Action.TheVariants.{CountSlaves, AwaitWord}
+use Rattle.ec_start.specs.declared.error.StartError.{StartError}
+use Rattle.ec_start.specs.declared.error.StartError.TheVariants.{TooSlow, Lost, NumbersSpent}
+use Rattle.ec_start.specs.declared.verdict.Verdict.{Verdict}
+use Rattle.ec_start.specs.declared.verdict.Verdict.TheVariants.{Next, Shows, Again, Fails}
+use Rattle.ec_start.specs.declared.phase.Phase.{Phase}
+use Rattle.ec_start.specs.declared.phase.Phase.TheVariants.{Idle, Sent, Ready, Failed}
+use Rattle.ec_start.specs.declared.phase.NextFrame.{NextFrame}
+use Rattle.ec_start.specs.declared.phase.NextFrame.TheVariants.{Send, Waiting, Ended}
+use Rattle.ec_start.specs.Actions.{frame_of}
+use Rattle.ec_start.specs.Scripts.{script}
+use Rattle.ec_start.specs.Verdicts.{nothing_seen, with_word, verdict}
+
+-- the value of a `Startup`
+pub record StartState : Type 0 where
+  pub plan : List Settings
+  -- the number of the next frame
+  pub next : ℕ
+  -- the place in the script
+  pub place : ℕ
+  -- how many polls of the wait there have been
+  pub polls : ℕ
+  -- what was seen of the identity that is being read
+  pub seen : Device
+  pub phase : Phase
+
+-- as it begins: no frame was sent
+unfoldable pub begun : List Settings → ℕ → StartState
+begun plan number = record { plan = plan; next = number; place = 0; polls = 0; seen = nothing_seen; phase = Idle }
+
+-- the action that it is at
+abbrev pub action_of : StartState → Action
+action_of s = get_or (script s.plan) s.place CountSlaves
+
+-- the device of the type of slave i
+abbrev pub type_of : List Settings → ℕ → Device
+type_of ps i = device_or (slice_get ps i)
+  where
+    device_or : Option Settings → Device
+    device_or None = plain_kind.device
+    device_or (Some p) = p.kind.device
+
+-- ---- sending
+
+-- the number that no frame has: where it is the next one, the numbers are spent
+abbrev pub last_number : ℕ
+last_number = 2 ^ 64 - 1
+
+-- the frame of the next number is sent
+abbrev pub sending : StartState → StartState
+sending s = record s { next = s.next + 1; phase = Sent s.next }
+
+-- a running start-up without an outstanding frame sends one, or has no number left
+abbrev pub asked_by : StartState → Phase → StartState
+asked_by s Idle = if s.next == last_number then record s { phase = Failed NumbersSpent } else sending s
+asked_by s (Sent number) = s
+asked_by s Ready = s
+asked_by s (Failed error) = s
+
+-- what `next` leaves
+abbrev pub asked : StartState → StartState
+asked s = asked_by s s.phase
+
+abbrev pub next_frame_by : StartState → Phase → NextFrame
+next_frame_by s Idle = if s.next == last_number then Ended else Send
+next_frame_by s (Sent number) = Waiting
+next_frame_by s Ready = Ended
+next_frame_by s (Failed error) = Ended
+
+-- and what it answers
+abbrev pub next_frame : StartState → NextFrame
+next_frame s = next_frame_by s s.phase
+
+-- ---- judging
+
+-- the place after an action; behind the last one it is Ready
+abbrev pub advanced : StartState → Device → StartState
+advanced s seen = record s {
+  place = s.place + 1;
+  polls = 0;
+  seen = seen;
+  phase = if nat_lt (s.place + 1) (length (script s.plan)) then Idle else Ready;
+}
+
+abbrev pub with_shown : StartState → Action → ℕ → Device
+with_shown s (AwaitWord i which) value = with_word s.seen which value
+with_shown s _ value = s.seen
+
+-- how often a wait is tried
+abbrev pub most_polls : ℕ
+most_polls = 1000
+
+abbrev pub judged : StartState → Verdict → StartState
+judged s Next = advanced s s.seen
+judged s (Shows value) = advanced s (with_shown s (action_of s) value)
+judged s Again = if s.polls + 1 == most_polls then record s { phase = Failed (TooSlow s.place) } else record s { polls = s.polls + 1; phase = Idle }
+judged s (Fails error) = record s { phase = Failed error }
+
+-- the returned datagram of the outstanding frame is taken
+abbrev pub taken : StartState → Datagram → StartState
+taken s d = judged s (verdict (length s.plan) s.place s.seen (type_of s.plan) (action_of s) d)
+
+-- ---- which payloads are taken
+
+pub record Shape : Type 0 where
+  pub command : Command
+  pub index : ℕ
+  pub bytes : ℕ
+
+abbrev pub shape : Datagram → Shape
+shape d = record { command = d.command; index = d.index; bytes = length d.data_bytes }
+
+abbrev pub number_told : List Datagram → List ℕ
+number_told [] = []
+number_told (d ∷ ds) = take 8 d.data_bytes
+
+-- commands, Idx, lengths and order are those of the frame that was sent, and so is its number
+pub record IsStartAnswer (s : StartState) (number : ℕ) (ds : List Datagram) : Type 0 where
+  pub shapes : map shape ds ≡ map shape (frame_of (action_of s) number)
+  pub number_is : number_told ds ≡ to_le_bytes w64 number
+
+-- the second datagram of a frame
+abbrev pub second : List Datagram → Option Datagram
+second [] = None
+second (d ∷ []) = None
+second (d ∷ e ∷ ds) = Some e
+
+-- the payload answers the outstanding frame
+pub record IsOutstanding (s : StartState) (payload : List ℕ) : Type 0 where
+  pub number : ℕ
+  pub frame : Payload
+  pub sent : s.phase ≡ Sent number
+  pub spelled : IsFrame payload frame
+  pub answer : IsStartAnswer s number frame.datagrams
+
+-- what `take` does: an answer to the outstanding frame is kept and judged by its second datagram; whatever else came changes
+-- nothing
+pub record IsStartTaken (old : StartState) (payload : List ℕ) (is_kept : Bool) (new : StartState) : Type 0 where
+  pub answers : (number : ℕ) (p : Payload) → old.phase ≡ Sent number → IsFrame payload p → (is_kept ≡ true) ↔ IsStartAnswer old number p.datagrams
+  pub only : is_kept ≡ true → IsOutstanding old payload
+  pub kept : (p : Payload) (d : Datagram) → is_kept ≡ true → IsFrame payload p → second p.datagrams ≡ Some d → new ≡ taken old d
+  pub foreign : is_kept ≡ false → new ≡ old
+
+-- ---- the end
+
+abbrev pub given_up_by : StartState → Phase → StartState
+given_up_by s Idle = record s { phase = Failed Lost }
+given_up_by s (Sent number) = record s { phase = Failed Lost }
+given_up_by s Ready = s
+given_up_by s (Failed error) = s
+
+-- a running start-up is given up; an ended one stays
+abbrev pub given_up : StartState → StartState
+given_up s = given_up_by s s.phase
+
+-- after a failure it may begin anew, with the next number
+abbrev pub has_failed : Phase → Bool
+has_failed (Failed error) = true
+has_failed Idle = false
+has_failed (Sent number) = false
+has_failed Ready = false
+
+abbrev pub restarted : StartState → StartState
+restarted s = begun s.plan s.next
+
+abbrev pub is_ended : Phase → Bool
+is_ended Ready = true
+is_ended (Failed error) = true
+is_ended Idle = false
+is_ended (Sent number) = false

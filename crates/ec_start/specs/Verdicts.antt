@@ -1,0 +1,115 @@
+-- What the returned datagram of an action says: the action is done, it is tried again, or the start-up has failed and why.
+use Rattle.std.specs.Prelude.{ℕ, ◌+◌, ◌*◌, ◌%◌, ◌==◌, ◌&&◌, not, List, Bool, if◌then◌else◌, slice_index, Option}
+use Rattle.ec_regs.specs.declared.slave_type.Device.{Device}
+use Rattle.ec_regs.specs.Words.{al_flag, sii_error, sii_busy}
+use Rattle.ec_frame.specs.Datagram.{Datagram}
+use Rattle.ec_al.specs.declared.state.State.{State}
+use Rattle.ec_al.specs.States.{state_number}
+use Rattle.ec_coe.specs.declared.value.Value.{Value}
+use Rattle.ec_coe.specs.declared.message.Message.{Message}
+use Rattle.ec_coe.specs.declared.reply.Reply.{Reply}
+use Rattle.ec_coe.specs.declared.reply.Reply.TheVariants.{Downloaded, Uploaded, Aborted, Unexpected}
+use Rattle.ec_coe.specs.Messages.{size_number, message_read}
+use Rattle.ec_coe.specs.Replies.{reply_of}
+use Rattle.ec_start.specs.declared.action.Transfer.{Transfer}
+use Rattle.ec_start.specs.declared.action.Transfer.TheVariants.{Download, Upload}
+use Rattle.ec_start.specs.declared.action.Request.{Request}
+use Rattle.ec_start.specs.declared.action.Action.{Action}
+use Rattle.ec_start.specs.declared.action.Action.TheVariants.{CountSlaves, AskInit, AwaitInit, ClearFmmus, ClearManagers, ClearStations, NameSlave, AskWord, AwaitWord, SetManager, SetFmmu, AskState, AwaitState, SendRequest, AwaitReply}
+use Rattle.ec_start.specs.declared.error.StartError.{StartError}
+use Rattle.ec_start.specs.declared.error.StartError.TheVariants.{BadMailbox, Count, Identity, Counter, AlError, Abort, Mapping}
+use Rattle.ec_start.specs.declared.verdict.Verdict.{Verdict}
+use Rattle.ec_start.specs.declared.verdict.Verdict.TheVariants.{Next, Shows, Again, Fails}
+
+-- ---- numbers in the data, little-endian
+
+abbrev pub word_at : List ℕ → ℕ → ℕ
+word_at bytes k = slice_index bytes k + 256 * slice_index bytes (k + 1)
+
+abbrev pub long_at : List ℕ → ℕ → ℕ
+long_at bytes k = slice_index bytes k + 256 * slice_index bytes (k + 1) + 65536 * slice_index bytes (k + 2) + 16777216 * slice_index bytes (k + 3)
+
+-- ---- the identity: what its words have shown so far, 0 where one wasn't read yet
+
+abbrev pub nothing_seen : Device
+nothing_seen = record { vendor = 0; product = 0; revision = 0 }
+
+-- word 0 is of another slave than the words before it, so it begins anew
+abbrev pub with_word : Device → ℕ → ℕ → Device
+with_word s which value =
+    if which == 0 then record { vendor = value; product = 0; revision = 0 }
+    else (if which == 1 then record { vendor = s.vendor; product = value; revision = 0 }
+    else record { vendor = s.vendor; product = s.product; revision = value })
+
+-- what this slave has shown before the word `which`
+abbrev pub seen_before : Device → ℕ → Device
+seen_before s which =
+    if which == 0 then nothing_seen else (if which == 1 then record { vendor = s.vendor; product = 0; revision = 0 } else record { vendor = s.vendor; product = s.product; revision = 0 })
+
+abbrev pub differs : ℕ → Device → Verdict
+differs i s = Fails (Identity i s)
+
+abbrev pub is_device : Device → Device → Bool
+is_device t s = (t.vendor == s.vendor) && ((t.product == s.product) && (t.revision == s.revision))
+
+-- the SII's control and status word, the word address, and at 6 the data: an error ends the start-up at once, busy is a poll
+-- more, and the third word is compared with the type
+abbrev pub word_verdict : Device → Device → ℕ → ℕ → List ℕ → Verdict
+word_verdict t s i which bytes =
+    if sii_error (word_at bytes 0) then differs i (seen_before s which)
+    else (if sii_busy (word_at bytes 0) then Again
+    else (if (which == 2) && not (is_device t (with_word s which (long_at bytes 6))) then differs i (with_word s which (long_at bytes 6))
+    else Shows (long_at bytes 6)))
+
+-- ---- states: the AL status, and at 4 its code; the error flag ends the start-up, and it waits for the state without error
+
+abbrev pub state_verdict : ℕ → State → List ℕ → Verdict
+state_verdict i state bytes =
+    if al_flag (slice_index bytes 0) then Fails (AlError i (word_at bytes 4))
+    else (if slice_index bytes 0 % 32 == state_number state then Next else Again)
+
+-- ---- replies
+
+-- a value of the size that was asked for, and the one that the type has
+abbrev pub upload_verdict : ℕ → Request → Value → Value → Verdict
+upload_verdict i r expected seen =
+    if not (size_number seen.size == size_number expected.size) then Fails (BadMailbox i)
+    else (if seen.number == expected.number then Next else Fails (Mapping i r.index r.subindex seen.number))
+
+abbrev pub reply_verdict : ℕ → Request → Transfer → Reply → Verdict
+reply_verdict i r (Download value) Downloaded = Next
+reply_verdict i r (Download value) (Uploaded seen) = Fails (BadMailbox i)
+reply_verdict i r (Download value) (Aborted code) = Fails (Abort i code)
+reply_verdict i r (Download value) Unexpected = Fails (BadMailbox i)
+reply_verdict i r (Upload value) Downloaded = Fails (BadMailbox i)
+reply_verdict i r (Upload value) (Uploaded seen) = upload_verdict i r value seen
+reply_verdict i r (Upload value) (Aborted code) = Fails (Abort i code)
+reply_verdict i r (Upload value) Unexpected = Fails (BadMailbox i)
+
+-- what a mailbox says as the reply to a request
+abbrev pub message_verdict : ℕ → Request → Option Message → Verdict
+message_verdict i r m = reply_verdict i r r.transfer (reply_of r.index r.subindex m)
+
+-- ---- all actions
+
+abbrev pub counted : ℕ → ℕ → ℕ → Verdict → Verdict
+counted seen expected step v = if seen == expected then v else Fails (Counter step)
+
+-- `n` slaves, step number `step`, what was seen of the identity, the device of the slave that is asked; in the waits for a
+-- reply a counter of 0 says that there is none yet
+abbrev pub verdict : ℕ → ℕ → Device → (ℕ → Device) → Action → Datagram → Verdict
+verdict n step s types CountSlaves d = if d.counter == n then Next else Fails (Count d.counter)
+verdict n step s types AskInit d = counted d.counter n step Next
+verdict n step s types AwaitInit d = counted d.counter n step (if word_at d.data_bytes 0 == 1 then Next else Again)
+verdict n step s types ClearFmmus d = counted d.counter n step Next
+verdict n step s types ClearManagers d = counted d.counter n step Next
+verdict n step s types ClearStations d = counted d.counter n step Next
+verdict n step s types (NameSlave i) d = counted d.counter 1 step Next
+verdict n step s types (AskWord i which) d = counted d.counter 1 step Next
+verdict n step s types (AwaitWord i which) d = counted d.counter 1 step (word_verdict (types i) s i which d.data_bytes)
+verdict n step s types (SetManager i k m) d = counted d.counter 1 step Next
+verdict n step s types (SetFmmu i k f) d = counted d.counter 1 step Next
+verdict n step s types (AskState i state) d = counted d.counter 1 step Next
+verdict n step s types (AwaitState i state) d = counted d.counter 1 step (state_verdict i state d.data_bytes)
+verdict n step s types (SendRequest i before b r) d = counted d.counter 1 step Next
+verdict n step s types (AwaitReply i b r) d = if d.counter == 0 then Again else counted d.counter 1 step (message_verdict i r (message_read d.data_bytes))

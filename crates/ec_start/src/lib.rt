@@ -1,0 +1,12 @@
+//! The start-up of a segment by init commands: from a plan, one frame at a time, to slaves in OP (ETG.1000.6, "AL state
+//! machine"; the order of the commands is this project's profile).
+#![tactic(auto)]
+
+mod action;
+mod error;
+mod phase;
+mod verdict;
+
+pub use crate::action::{Action, Request, Transfer};
+pub use crate::error::StartError;
+pub use crate::phase::{NextFrame, Phase, Taken};
