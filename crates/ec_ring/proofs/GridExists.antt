@@ -1,9 +1,9 @@
 -- The grid of any slaves and datagrams.
-use Rattle.std.proofs.Common.{ℕ, zero, suc, ◌+◌, ◌<◌, ◌≡◌, refl, sym, ◌∙◌, ap, arith, List, [], ◌∷◌, length, get_or, slice_get, Some}
+use Rattle.std.proofs.Common.{ℕ, zero, suc, ◌+◌, ◌<◌, ◌≡◌, refl, ◌∙◌, ap, arith, List, [], ◌∷◌, length, get_or, slice_get, Some}
 use Rattle.ec_frame.specs.Datagram.{Datagram}
 use Rattle.ec_slave.specs.State.{SlaveState}
 use Rattle.ec_slave.specs.Meeting.{datagram_met, passes, slave_met}
-use Rattle.ec_ring.specs.Grid.{GridExists, IsGrid}
+use Rattle.ec_ring.specs.Grid.{GridExists}
 use Rattle.ec_ring.proofs.GridLaws.{row_length}
 
 -- a slave after so many of the datagrams

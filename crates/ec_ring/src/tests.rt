@@ -248,6 +248,7 @@ fn full_payload_past_64_slaves(rt: HostRuntime) -> Result<(), Fail> {
     let sent = bytes_of(rt.alloc(), "be15 0701 0000 0010 b205 0000")?;
     let back = bytes_of(rt.alloc(), "be15 0701 4000 0010 b205 0000")?;
     let mut frame = [0; 1472];
+    assert!(rt; sent.len() == 12);
     frame[..12].copy_from_slice(&sent);
     assert_eq!(rt; ring.pass_all(&mut frame), Ok(()));
     assert!(rt; frame[..12] == back[..]);

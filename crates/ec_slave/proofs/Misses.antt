@@ -2,19 +2,21 @@
 use Rattle.std.proofs.Common.{ℕ, ◌+◌, ◌*◌, ◌%◌, ◌<◌, ◌≡◌, ◌&&◌, Bool, false, None, refl, ◌∙◌, ap, arith, is_some, List, [], ◌∷◌, ◌++◌, length, sym, option_map, option_and_then, unwrap_or, mod-eq_of_lt}
 use Rattle.std.specs.Int.{from_bool}
 use Rattle.std.proofs.lemmas.Bool.{and_left, and_right}
-use Rattle.ec_bits.specs.Bits.{bit}
+use Rattle.ec_bits.specs.Bits.{bit, overlay}
 use Rattle.ec_bits.proofs.BitLaws.{overlay_own}
 use Rattle.ec_bits.proofs.AnyLaws.{any_below_none, if_none, if_false}
+use Rattle.ec_regs.specs.declared.fmmu.FmmuSettings.{FmmuSettings}
 use Rattle.ec_regs.specs.Memory.{ram_end}
 use Rattle.ec_frame.specs.Datagram.{Datagram}
 use Rattle.ec_sync.specs.Manager.{Manager, may_read, may_write}
 use Rattle.ec_fmmu.specs.Applied.{Place, leads_into, touched_by_reading, touched_by_writing}
-use Rattle.ec_slave.specs.State.{SlaveState, fmmus}
+use Rattle.ec_slave.specs.State.{SlaveState, fmmus, with_memory}
 use Rattle.ec_slave.specs.Managers.{is_ungoverned, manager_after}
 use Rattle.ec_slave.specs.Logical.{place_of, read_bit, readable_bit, written_bit, plain_bit, brought, value_brought, managers_exchanged, only_if, some_read, some_written, logical_after, meets_logical}
 use Rattle.ec_slave.specs.LogicalLaws.{Misses}
-use Rattle.ec_slave.specs.Ways.{data_after, count_after, is_reading, is_writing, weight}
-use Rattle.ec_slave.specs.declared.mapped.Way.{Way}
+use Rattle.ec_slave.specs.Roles.{is_reading, is_writing}
+use Rattle.ec_slave.specs.Mapped.{data_after, count_after, weight}
+use Rattle.ec_slave.specs.declared.role.Role.{Role}
 
 no_read_bit : (s : SlaveState) (p : Place) (i : ℕ) → Misses s p → i < p.bits → read_bit s.memory s.managers (fmmus s) p i ≡ None
 no_read_bit s p i h l = ap (option_and_then (readable_bit s.memory s.managers (fmmus s) p)) (h.reads i l)
@@ -72,14 +74,26 @@ missed_slave reading writing s p bytes h =
     let managers = managers_kept s [] s.managers reading writing p bytes h in
     rw (memory, managers) refl
 
-pub missed_data : (way : Way) (s : SlaveState) (p : Place) (bytes : List ℕ) → Misses s p → p.bits ≡ 8 * length bytes → bytes ≡ data_after s way p bytes
-missed_data way s p bytes h e =
-    sym (overlay_own bytes (λ i. only_if (is_reading way) (read_bit s.memory s.managers (fmmus s) p i))
-    (λ i l. ap (λ o. unwrap_or o (bit bytes i)) (if_none (is_reading way) _ (no_read_bit s p i h (omega (arith, e))))))
+pub missed_data : (role : Role) (s : SlaveState) (p : Place) (bytes : List ℕ) → Misses s p → p.bits ≡ 8 * length bytes → bytes ≡ data_after s role p bytes
+missed_data role s p bytes h e =
+    sym (overlay_own bytes (λ i. only_if (is_reading role) (read_bit s.memory s.managers (fmmus s) p i))
+    (λ i l. ap (λ o. unwrap_or o (bit bytes i)) (if_none (is_reading role) _ (no_read_bit s p i h (omega (arith, e))))))
 
-pub missed_count : (way : Way) (s : SlaveState) (p : Place) (bytes : List ℕ) → Misses s p → 0 ≡ count_after s way p bytes
-missed_count way s p bytes h =
-    let r : (is_reading way && some_read s.memory s.managers (fmmus s) p) ≡ false = and_right (is_reading way) _ (any_below_none p.bits _ (λ i l. ap is_some (no_read_bit s p i h l))) in
-    let w : (is_writing way && some_written s.managers (fmmus s) p bytes) ≡ false = and_right (is_writing way) _ (any_below_none (8 * ram_end) _ (λ q l. ap is_some (no_written_bit s p bytes q h))) in
-    let z : 0 ≡ 0 + weight way * 0 = omega arith in
+pub missed_count : (role : Role) (s : SlaveState) (p : Place) (bytes : List ℕ) → Misses s p → 0 ≡ count_after s role p bytes
+missed_count role s p bytes h =
+    let r : (is_reading role && some_read s.memory s.managers (fmmus s) p) ≡ false = and_right (is_reading role) _ (any_below_none p.bits _ (λ i l. ap is_some (no_read_bit s p i h l))) in
+    let w : (is_writing role && some_written s.managers (fmmus s) p bytes) ≡ false = and_right (is_writing role) _ (any_below_none (8 * ram_end) _ (λ q l. ap is_some (no_written_bit s p bytes q h))) in
+    let z : 0 ≡ 0 + weight role * 0 = omega arith in
     rw (r, w) z
+
+-- ---- a role that neither reads nor writes
+
+managers_left : (lower ms : List Manager) (fs : List FmmuSettings) (p : Place) (bytes : List ℕ) → ms ≡ managers_exchanged lower false false fs p bytes ms
+managers_left lower [] fs p bytes = refl
+managers_left lower (m ∷ ms) fs p bytes = ap (λ (xs : List Manager). m ∷ xs) (managers_left (lower ++ m ∷ []) ms fs p bytes)
+
+pub slave_left : (s : SlaveState) (p : Place) (bytes : List ℕ) → s ≡ logical_after s false false p bytes
+slave_left s p bytes =
+    let memory = overlay_own s.memory (λ q. only_if false (plain_bit s.managers (fmmus s) p bytes q)) (λ q l. refl) in
+    ap (λ (xs : List ℕ). with_memory s xs s.managers) (sym memory)
+    ∙ ap (λ (ms : List Manager). with_memory s (overlay s.memory (λ q. only_if false (plain_bit s.managers (fmmus s) p bytes q))) ms) (managers_left [] s.managers (fmmus s) p bytes)

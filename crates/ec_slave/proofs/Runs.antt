@@ -1,7 +1,7 @@
 -- Runs of bytes that one sync manager governs, or none.
-use Rattle.std.proofs.Common.{ℕ, zero, suc, ◌+◌, ◌-◌, ◌*◌, ◌/◌, ◌<◌, ◌≤◌, ◌≡◌, ◌⊎◌, ◌&&◌, Bool, true, false, Option, Some, None, is_some, unwrap_or, List, [], ◌∷◌, length, get_or, refl, sym, ◌∙◌, ap, inl, inr, arith}
+use Rattle.std.proofs.Common.{ℕ, suc, ◌+◌, ◌-◌, ◌*◌, ◌/◌, ◌<◌, ◌≤◌, ◌≡◌, ◌⊎◌, ◌&&◌, Bool, true, false, Option, Some, None, is_some, unwrap_or, List, [], ◌∷◌, length, get_or, refl, sym, ◌∙◌, ap, inl, inr, arith}
 use Rattle.std.specs.List.{position_from}
-use Rattle.std.proofs.lemmas.Bool.{cases_lt, cases_Bool, and_from, and_right, ltb-true, lt-ltb}
+use Rattle.std.proofs.lemmas.Bool.{cases_Bool, and_from, and_right, ltb-true, lt-ltb}
 use Rattle.ec_bits.specs.Bits.{bit, within, overlay, any_below, copied, run_told}
 use Rattle.ec_bits.proofs.AnyLaws.{any_below_from, any_below_none, if_true, if_false, within_true, within_below, within_above, within_parts}
 use Rattle.ec_bits.proofs.BitLaws.{overlay_alike, overlay_own}

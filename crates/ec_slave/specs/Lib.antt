@@ -20,7 +20,7 @@ pub mod Exchange
 pub mod AgainstAll
 -- What private functions and the proofs go by: no public contract rests on it.
 pub mod Held
-pub mod Ways
+pub mod Mapped
 pub mod Sights
 pub mod Written
 pub mod Telling

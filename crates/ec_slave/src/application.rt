@@ -1,7 +1,6 @@
 //! What a slave's application reads and writes, and the slave switched off and on.
 
-ghost use Rattle.std.specs.Prelude.{◌≡◌, ◌<◌, ◌≤◌, [], ◌∷◌, length, is_some, option_map, unwrap_or};
-ghost use Rattle.ec_bits.specs.Bits.{zeros};
+ghost use Rattle.std.specs.Prelude.{◌≡◌, ◌<◌, [], ◌∷◌, length, is_some, option_map, unwrap_or};
 ghost use Rattle.ec_sync.specs.Manager.{no_manager};
 ghost use Rattle.ec_slave.specs.State.{power_on};
 ghost use Rattle.ec_slave.specs.Application.{is_running as runs_in, outputs_shown, get_size, put_size, input_put, output_got, output_taken};

@@ -1,9 +1,8 @@
 //! What a slave's firmware does: it decides AL requests, finishes reads of the SII and takes faults.
 
-ghost use Rattle.std.specs.Prelude.{◌≡◌, ◌<◌, ◌^◌, ◌↔◌, length, slice_index, IsTrue};
+ghost use Rattle.std.specs.Prelude.{◌≡◌, ◌<◌, ◌^◌, ◌↔◌, length, IsTrue};
 ghost use Rattle.ec_al.specs.declared.state.State.TheVariants.{Op};
-ghost use Rattle.ec_slave.specs.State.{manager_at};
-ghost use Rattle.ec_slave.specs.Checking.{checks_of, control_word as control_word_of, is_manager as is_manager_of, mailbox_check, process_check, mailbox_out, mailbox_in, outputs_mode, inputs_mode};
+ghost use Rattle.ec_slave.specs.Checking.{checks_of, control_word as control_word_of, is_manager as is_manager_of, mailbox_check, process_check};
 ghost use Rattle.ec_slave.specs.Serving.{managers_entered, replies_entered, read_finished, request_decided, served, unlocked_empty};
 ghost use Rattle.ec_slave.specs.Faulting.{faulted, locked_empty};
 
@@ -131,7 +130,7 @@ impl Slave {
     fn control_word(&self) -> u16
         ensures { result ≡ control_word_of self.now }
     {
-        let at = AL_CONTROL as usize;
+        let at = AL_CONTROL;
         self.memory[at] as u16 + 256 * self.memory[at + 1] as u16
     }
 

@@ -1,15 +1,12 @@
 //! One simulated slave: its memory, and what datagrams do to it and it to them.
 #![tactic(auto)]
 
-mod access;
 mod application;
 mod firmware;
 mod fmmus;
 pub mod laws;
 mod logical;
 mod mailbox;
-mod managers;
-mod mapped;
 mod passing;
 mod physical;
 mod reach;

@@ -4,11 +4,159 @@
 //! A datagram is given by its first logical bit and its data: bit `8 * k + j` of the data is the
 //! logical bit `from + 8 * k + j`. Nothing here takes memory.
 
-mod exchanging;
+ghost use Rattle.std.specs.Prelude.{◌≡◌, ◌+◌, ◌*◌, ◌<◌, ◌^◌, Bool, true, false, length};
+ghost use Rattle.std.specs.Bool.{OnTrue};
+ghost use Rattle.std.specs.Int.{from_bool};
+ghost use Rattle.ec_bits.specs.Bits.{overlay};
+ghost use Rattle.ec_frame.specs.Datagram.{Datagram, IsDatagram, IsSpelling, spelling};
+ghost use Rattle.ec_frame.specs.Fields.{header_of, with_data};
+ghost use Rattle.ec_fmmu.specs.Applied.{Place};
+ghost use Rattle.ec_slave.specs.State.{fmmus};
+ghost use Rattle.ec_slave.specs.LogicalLaws.{Misses};
+ghost use Rattle.ec_slave.specs.Logical.{logical_after, read_bit, some_read, some_written};
+ghost use Rattle.ec_slave.specs.Roles.{is_reading, is_writing};
+ghost use Rattle.ec_slave.specs.Mapped.{data_after, count_after, meets_lrw, meets_mapped};
+
+mod managers;
 mod reading;
 mod runs;
 mod writing;
 
-pub(crate) use crate::logical::exchanging::exchange_managers;
-pub(crate) use crate::logical::reading::read_logical;
-pub(crate) use crate::logical::writing::{some_manager_written, write_logical};
+use crate::logical::managers::access_managers;
+use crate::logical::reading::read_logical;
+use crate::logical::writing::{some_manager_written, write_logical};
+use crate::role::Role;
+use crate::slave::Slave;
+use ec_fmmu::is_missed;
+use ec_frame::{Header, cut_counter, cut_heading, read_counter, write_counter};
+
+/// The data of a datagram have at most so many bytes.
+const MAX_DATA: usize = 2047;
+
+impl Slave {
+    /// A datagram that reads through the FMMUs, and whether a bit was read.
+    fn read_bits(&mut self, from: u64, bytes: &mut [u8]) -> bool
+        requires { from + 8 * length bytes.old < 2 ^ 64 }
+        ensures slave { self.new ≡ logical_after self.old true false (record { from = from; bits = 8 * length bytes.old }) bytes.old }
+        ensures bytes { bytes.new ≡ overlay bytes.old (read_bit self.old.memory self.old.managers (fmmus self.old) (record { from = from; bits = 8 * length bytes.old })) }
+        ensures some { result ≡ some_read self.old.memory self.old.managers (fmmus self.old) (record { from = from; bits = 8 * length bytes.old }) }
+    {
+        let is_read = read_logical(&self.memory, &self.managers, &self.fmmus, from, bytes);
+        access_managers(&mut self.managers, true, false, &self.fmmus, from, bytes);
+        is_read
+    }
+
+    /// A datagram that writes through the FMMUs, and may read as well, and whether a bit was written.
+    fn write_bits(&mut self, reading: bool, from: u64, bytes: &[u8]) -> bool
+        requires { from + 8 * length bytes.now < 2 ^ 64 }
+        ensures slave { self.new ≡ logical_after self.old reading true (record { from = from; bits = 8 * length bytes.now }) bytes.now }
+        ensures some { result ≡ some_written self.old.managers (fmmus self.old) (record { from = from; bits = 8 * length bytes.now }) bytes.now }
+    {
+        let in_manager = some_manager_written(&self.managers, &self.fmmus, from, bytes);
+        let in_memory = write_logical(&mut self.memory, &self.managers, &self.fmmus, from, bytes);
+        access_managers(&mut self.managers, reading, true, &self.fmmus, from, bytes);
+        in_memory | in_manager
+    }
+
+    /// A datagram that reads and writes, of which `received` is a copy of the data.
+    fn read_write_bits(&mut self, from: u64, received: &[u8], bytes: &mut [u8]) -> u16
+        requires small { from + 8 * length bytes.old < 2 ^ 64 }
+        requires same { received.now ≡ bytes.old }
+        ensures slave { self.new ≡ logical_after self.old true true (record { from = from; bits = 8 * length bytes.old }) bytes.old }
+        ensures bytes { bytes.new ≡ overlay bytes.old (read_bit self.old.memory self.old.managers (fmmus self.old) (record { from = from; bits = 8 * length bytes.old })) }
+        ensures added { result ≡ from_bool (some_read self.old.memory self.old.managers (fmmus self.old) (record { from = from; bits = 8 * length bytes.old }))
+            + 2 * from_bool (some_written self.old.managers (fmmus self.old) (record { from = from; bits = 8 * length bytes.old }) bytes.old) }
+    {
+        let is_read = read_logical(&self.memory, &self.managers, &self.fmmus, from, bytes);
+        let is_written = self.write_bits(true, from, received);
+        is_read as u16 + 2 * is_written as u16
+    }
+
+    /// The same, with a copy of its own.
+    fn read_write_copied_bits(&mut self, from: u64, bytes: &mut [u8]) -> u16
+        requires small { from + 8 * length bytes.old < 2 ^ 64 }
+        requires few { length bytes.old < 2048 }
+        ensures slave { self.new ≡ logical_after self.old true true (record { from = from; bits = 8 * length bytes.old }) bytes.old }
+        ensures bytes { bytes.new ≡ overlay bytes.old (read_bit self.old.memory self.old.managers (fmmus self.old) (record { from = from; bits = 8 * length bytes.old })) }
+        ensures added { result ≡ from_bool (some_read self.old.memory self.old.managers (fmmus self.old) (record { from = from; bits = 8 * length bytes.old }))
+            + 2 * from_bool (some_written self.old.managers (fmmus self.old) (record { from = from; bits = 8 * length bytes.old }) bytes.old) }
+    {
+        let mut copy = [0; MAX_DATA];
+        let received = &mut copy[..bytes.len()];
+        received.copy_from_slice(bytes);
+        self.read_write_bits(from, received, bytes)
+    }
+
+    /// Whether no FMMU has one of so many logical bits in its range, so that a datagram over them
+    /// passes at the price of a few compares. False says nothing.
+    fn misses(&self, from: u64, bits: u64) -> bool
+        requires { from + bits < 2 ^ 64 }
+        ensures { OnTrue result (Misses self.now (record { from = from; bits = bits })) }
+    {
+        is_missed(&self.fmmus, from, bits)
+    }
+
+    /// Meets the bits of a datagram in a role, and answers what the working counter grows by.
+    fn access_bits(&mut self, role: Role, from: u64, bytes: &mut [u8]) -> u16
+        requires small { from + 8 * length bytes.old < 2 ^ 64 }
+        requires few { length bytes.old < 2048 }
+        ensures slave { self.new ≡ logical_after self.old (is_reading role) (is_writing role) (record { from = from; bits = 8 * length bytes.old }) bytes.old }
+        ensures bytes { bytes.new ≡ data_after self.old role (record { from = from; bits = 8 * length bytes.old }) bytes.old }
+        ensures added { result ≡ count_after self.old role (record { from = from; bits = 8 * length bytes.old }) bytes.old }
+    {
+        if self.misses(from, 8 * bytes.len() as u64) {
+            return 0;
+        }
+        match role {
+            Role::Nothing => 0,
+            Role::Read | Role::OrRead => self.read_bits(from, bytes) as u16,
+            Role::Write => self.write_bits(false, from, bytes) as u16,
+            Role::ReadWrite | Role::OrReadWrite => self.read_write_copied_bits(from, bytes),
+        }
+    }
+
+    /// Meets the data of a datagram, and leaves its other fields.
+    fn access_logical_data(&mut self, role: Role, address: u32, part: &mut [u8]) -> u16
+        requires { IsSpelling part.old }
+        ensures slave { (more : Bool) (d : Datagram) → IsDatagram d → part.old ≡ spelling more d
+            → self.new ≡ logical_after self.old (is_reading role) (is_writing role) (record { from = 8 * address; bits = 8 * length d.data_bytes }) d.data_bytes }
+        ensures content { (more : Bool) (d : Datagram) → IsDatagram d → part.old ≡ spelling more d
+            → part.new ≡ spelling more (with_data d (data_after self.old role (record { from = 8 * address; bits = 8 * length d.data_bytes }) d.data_bytes)) }
+        ensures added { (more : Bool) (d : Datagram) → IsDatagram d → part.old ≡ spelling more d
+            → result ≡ count_after self.old role (record { from = 8 * address; bits = 8 * length d.data_bytes }) d.data_bytes }
+    {
+        let (_heading, body) = cut_heading(part);
+        let (content, _counter) = cut_counter(body);
+        self.access_bits(role, 8 * u64::from(address), content)
+    }
+
+    /// Answers a logical datagram whose header was read.
+    pub(crate) fn process_logical(&mut self, role: Role, header: Header, part: &mut [u8])
+        requires spelt { IsSpelling part.old }
+        requires read { (more : Bool) (d : Datagram) → IsDatagram d → part.old ≡ spelling more d
+            → header ≡ header_of more d }
+        ensures datagram { (more : Bool) (d : Datagram) → IsDatagram d → part.old ≡ spelling more d
+            → part.new ≡ spelling more (meets_mapped role self.old d).datagram }
+        ensures state { (more : Bool) (d : Datagram) → IsDatagram d → part.old ≡ spelling more d
+            → self.new ≡ (meets_mapped role self.old d).slave }
+    {
+        let counter = read_counter(part);
+        let added = self.access_logical_data(role, header.address, part);
+        write_counter(part, counter.wrapping_add(added));
+    }
+
+    /// Answers a datagram that reads and writes: a slave whose type takes no part in such datagrams lets it pass.
+    pub(crate) fn process_lrw(&mut self, header: Header, part: &mut [u8])
+        requires spelt { IsSpelling part.old }
+        requires read { (more : Bool) (d : Datagram) → IsDatagram d → part.old ≡ spelling more d
+            → header ≡ header_of more d }
+        ensures datagram { (more : Bool) (d : Datagram) → IsDatagram d → part.old ≡ spelling more d
+            → part.new ≡ spelling more (meets_lrw self.old d).datagram }
+        ensures state { (more : Bool) (d : Datagram) → IsDatagram d → part.old ≡ spelling more d
+            → self.new ≡ (meets_lrw self.old d).slave }
+    {
+        if self.dictionary.kind().lrw() {
+            self.process_logical(Role::ReadWrite, header, part);
+        }
+    }
+}

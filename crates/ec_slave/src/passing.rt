@@ -6,7 +6,7 @@ ghost use Rattle.ec_slave.specs.Keeping.{meets-keeps};
 ghost use Rattle.ec_slave.specs.Sound.{IsSlave};
 ghost use Rattle.ec_slave.specs.Meeting.{IsPassed, datagram_met, slave_met};
 
-use crate::mapped::Way;
+use crate::role::Role;
 use crate::slave::Slave;
 use ec_frame::{Command, Handler, Header, pass};
 
@@ -36,10 +36,10 @@ impl Handler for Slave {
         let header = Header::read(part);
         match header.command {
             Command::Nop => {}
-            Command::Lrd => self.answer_mapped(Way::Read, header, part),
-            Command::Lwr => self.answer_mapped(Way::Write, header, part),
-            Command::Lrw => self.answer_exchange(header, part),
-            _ => self.answer(header, part),
+            Command::Lrd => self.process_logical(Role::Read, header, part),
+            Command::Lwr => self.process_logical(Role::Write, header, part),
+            Command::Lrw => self.process_lrw(header, part),
+            _ => self.process_physical(header, part),
         }
     }
 }

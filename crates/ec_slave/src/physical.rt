@@ -11,15 +11,18 @@ ghost use Rattle.ec_slave.specs.Meeting.{meets_physically};
 ghost use Rattle.ec_slave.specs.Access.{Window, byte_read, may_read_byte, meeting, retold, slave_after, some_byte_read, some_byte_written};
 ghost use Rattle.ec_slave.specs.State.{fmmus_of};
 
-use crate::access::{read_over, reads_byte, write_memory};
+mod bytes;
+mod managers;
+
 use crate::fmmus::read_fmmus;
-use crate::managers::meet_managers;
+use crate::physical::bytes::{read_over, reads_byte, write_physical};
+use crate::physical::managers::access_managers;
 use crate::role::{Role, adp_after_slave};
 use crate::slave::Slave;
 use ec_al::Al;
 use ec_fmmu::Fmmu;
 use ec_frame::{Header, cut_counter, cut_heading, read_counter, write_adp, write_counter};
-use ec_regs::registers::{AL_CONTROL, FMMU_COUNT, FMMUS, RAM_START};
+use ec_regs::registers::{AL_CONTROL, FMMUS_END, RAM_START};
 
 /// The data of a datagram have at most so many bytes.
 const MAX_DATA: usize = 2047;
@@ -45,14 +48,14 @@ fn renew_fmmus(fmmus: &mut [Fmmu; 4], memory: &[u8], from: usize)
     requires { length memory.now ≡ 0x3000 }
     ensures { fmmus.new ≡ (if nat_lt from 1600 then fmmus_of memory.now else fmmus.old) }
 {
-    if from < FMMUS as usize + 16 * FMMU_COUNT as usize {
+    if from < FMMUS_END {
         *fmmus = read_fmmus(memory);
     }
 }
 
 impl Slave {
     /// Reads into the bytes of a datagram, and answers whether one was read.
-    fn read(&self, joining: bool, from: usize, bytes: &mut [u8]) -> bool
+    fn read_physical(&self, joining: bool, from: usize, bytes: &mut [u8]) -> bool
         requires { from + length bytes.old < 2 ^ 32 }
         ensures bytes { bytes.new ≡ retold bytes.old (byte_read self.now joining (record { from = from; bytes = bytes.old })) }
         ensures some { result ≡ some_byte_read self.now.managers (record { from = from; bytes = bytes.old }) }
@@ -71,19 +74,16 @@ impl Slave {
 
     /// Writes the bytes of a datagram, and answers whether one was written.
     #[tactic(auto, unfolding(crate::specs::Access::slave_after))]
-    fn write(&mut self, reads: bool, from: usize, bytes: &[u8]) -> bool
+    fn write_bytes(&mut self, reads: bool, from: usize, bytes: &[u8]) -> bool
         requires { from + length bytes.now < 2 ^ 32 }
         ensures slave { self.new ≡ slave_after self.old reads true (record { from = from; bytes = bytes.now }) }
         ensures some { result ≡ some_byte_written self.old.managers self.old.sii.busy (record { from = from; bytes = bytes.now }) }
     {
         let is_busy = self.port.is_busy();
-        let is_some = write_memory(&mut self.memory, &self.managers, is_busy, from, bytes);
-        request_if(
-            &mut self.al,
-            is_touched(from, bytes.len(), AL_CONTROL as usize),
-        );
+        let is_some = write_physical(&mut self.memory, &self.managers, is_busy, from, bytes);
+        request_if(&mut self.al, is_touched(from, bytes.len(), AL_CONTROL));
         self.port.write(from, bytes);
-        meet_managers(&mut self.managers, reads, true, from, bytes);
+        access_managers(&mut self.managers, reads, true, from, bytes);
         renew_fmmus(&mut self.fmmus, &self.memory, from);
         is_some
     }
@@ -102,25 +102,25 @@ impl Slave {
         requires { from + length bytes.now < 2 ^ 32 }
         ensures { self.new ≡ slave_after self.old true false (record { from = from; bytes = bytes.now }) }
     {
-        if from + bytes.len() > RAM_START as usize {
-            meet_managers(&mut self.managers, true, false, from, bytes);
+        if from + bytes.len() > RAM_START {
+            access_managers(&mut self.managers, true, false, from, bytes);
         }
     }
 
     /// A datagram that reads.
-    fn meet_reading(&mut self, joining: bool, from: usize, bytes: &mut [u8]) -> u16
+    fn read_bytes(&mut self, joining: bool, from: usize, bytes: &mut [u8]) -> u16
         requires { from + length bytes.old < 2 ^ 32 }
         ensures slave { self.new ≡ slave_after self.old true false (record { from = from; bytes = bytes.old }) }
         ensures bytes { bytes.new ≡ retold bytes.old (byte_read self.old joining (record { from = from; bytes = bytes.old })) }
         ensures added { result ≡ from_bool (some_byte_read self.old.managers (record { from = from; bytes = bytes.old })) }
     {
-        let is_read = self.read(joining, from, bytes);
+        let is_read = self.read_physical(joining, from, bytes);
         self.after_read(from, bytes);
         is_read as u16
     }
 
     /// A datagram that reads and writes, of which `received` is a copy of the bytes.
-    fn read_and_write(
+    fn read_write_bytes(
         &mut self,
         joining: bool,
         from: usize,
@@ -134,13 +134,13 @@ impl Slave {
         ensures added { result ≡ from_bool (some_byte_read self.old.managers (record { from = from; bytes = bytes.old }))
             + 2 * from_bool (some_byte_written self.old.managers self.old.sii.busy (record { from = from; bytes = bytes.old })) }
     {
-        let is_read = self.read(joining, from, bytes);
-        let is_written = self.write(true, from, received);
+        let is_read = self.read_physical(joining, from, bytes);
+        let is_written = self.write_bytes(true, from, received);
         is_read as u16 + 2 * is_written as u16
     }
 
     /// The same, with a copy of its own.
-    fn meet_exchanging(&mut self, joining: bool, from: usize, bytes: &mut [u8]) -> u16
+    fn read_write_copied_bytes(&mut self, joining: bool, from: usize, bytes: &mut [u8]) -> u16
         requires small { from + length bytes.old < 2 ^ 32 }
         requires few { length bytes.old < 2048 }
         ensures slave { self.new ≡ slave_after self.old true true (record { from = from; bytes = bytes.old }) }
@@ -151,12 +151,12 @@ impl Slave {
         let mut copy = [0; MAX_DATA];
         let received = &mut copy[..bytes.len()];
         received.copy_from_slice(bytes);
-        self.read_and_write(joining, from, received, bytes)
+        self.read_write_bytes(joining, from, received, bytes)
     }
 
     /// Meets the bytes of a datagram in a role, and answers what the working counter grows by.
     #[tactic(auto, using(crate::proofs::Idle::slave_idle), unfolding(crate::specs::Access::meeting))]
-    fn meet(&mut self, role: Role, from: usize, bytes: &mut [u8]) -> u16
+    fn access_bytes(&mut self, role: Role, from: usize, bytes: &mut [u8]) -> u16
         requires small { from + length bytes.old < 2 ^ 32 }
         requires few { length bytes.old < 2048 }
         ensures slave { self.new ≡ (meeting self.old role (record { from = from; bytes = bytes.old })).slave }
@@ -165,16 +165,16 @@ impl Slave {
     {
         match role {
             Role::Nothing => 0,
-            Role::Read => self.meet_reading(false, from, bytes),
-            Role::OrRead => self.meet_reading(true, from, bytes),
-            Role::Write => self.write(false, from, bytes) as u16,
-            Role::ReadWrite => self.meet_exchanging(false, from, bytes),
-            Role::OrReadWrite => self.meet_exchanging(true, from, bytes),
+            Role::Read => self.read_bytes(false, from, bytes),
+            Role::OrRead => self.read_bytes(true, from, bytes),
+            Role::Write => self.write_bytes(false, from, bytes) as u16,
+            Role::ReadWrite => self.read_write_copied_bytes(false, from, bytes),
+            Role::OrReadWrite => self.read_write_copied_bytes(true, from, bytes),
         }
     }
 
     /// Meets the data of a datagram, and leaves its other fields.
-    fn meet_data(&mut self, role: Role, ado: u16, part: &mut [u8]) -> u16
+    fn access_physical_data(&mut self, role: Role, ado: u16, part: &mut [u8]) -> u16
         requires { IsSpelling part.old }
         ensures slave { (more : Bool) (d : Datagram) → IsDatagram d → part.old ≡ spelling more d
             → self.new ≡ (meeting self.old role (record { from = ado; bytes = d.data_bytes })).slave }
@@ -185,11 +185,11 @@ impl Slave {
     {
         let (_heading, body) = cut_heading(part);
         let (content, _counter) = cut_counter(body);
-        self.meet(role, ado as usize, content)
+        self.access_bytes(role, ado as usize, content)
     }
 
     /// Answers a physical datagram whose header was read.
-    pub(crate) fn answer(&mut self, header: Header, part: &mut [u8])
+    pub(crate) fn process_physical(&mut self, header: Header, part: &mut [u8])
         requires spelt { IsSpelling part.old }
         requires read { (more : Bool) (d : Datagram) → IsDatagram d → part.old ≡ spelling more d
             → header ≡ header_of more d }
@@ -199,8 +199,8 @@ impl Slave {
             → self.new ≡ (meets_physically self.old d).slave }
     {
         let counter = read_counter(part);
-        let role = Role::of(header.command, header.adp(), self.station_address());
-        let added = self.meet_data(role, header.ado(), part);
+        let role = Role::of(header.command, header.adp(), self);
+        let added = self.access_physical_data(role, header.ado(), part);
         write_adp(part, adp_after_slave(header.command, header.adp()));
         write_counter(part, counter.wrapping_add(added));
     }

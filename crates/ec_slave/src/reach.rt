@@ -1,14 +1,22 @@
-//! What an access of the ring, physical or logical, does to one manager, where lower-numbered ones may govern bytes of its
-//! value.
+//! Which manager has a byte, and what an access of the ring, physical or logical, does to one manager, where
+//! lower-numbered ones may govern bytes of its value.
 
-ghost use Rattle.std.specs.Prelude.{◌≡◌, ◌+◌, ◌<◌, ◌≤◌, ◌&&◌, if◌then◌else◌};
+ghost use Rattle.std.specs.Prelude.{◌≡◌, ◌+◌, ◌<◌, ◌≤◌, ◌&&◌, if◌then◌else◌, length, IfSome};
 ghost use Rattle.ec_bits.specs.Bits.{any_below};
 ghost use Rattle.ec_regs.specs.Memory.{ram_end};
 ghost use Rattle.ec_sync.specs.Manager.{LiesInRam, ring_read, ring_written};
+ghost use Rattle.ec_sync.specs.Governing.{governor as governor_of};
 ghost use Rattle.ec_slave.specs.Managers.{gets_at, is_read_by, is_ungoverned, is_written_by};
 
-use crate::access::governor;
 use ec_sync::{Manager, Touching, Writing};
+
+/// The number of the sync manager that governs a byte: the lowest one that is set and whose span has it.
+pub(crate) fn governor(managers: &[Manager], address: usize) -> Option<usize>
+    ensures value { result ≡ governor_of managers.now address }
+    ensures within { IfSome result (λ n. n < length managers.now) }
+{
+    managers.iter().position(|manager| manager.governs(address))
+}
 
 /// Whether an access touches a byte that no manager in `lower` governs.
 fn is_own<T: Touching>(access: &T, lower: &[Manager], address: usize) -> bool

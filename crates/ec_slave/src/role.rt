@@ -1,7 +1,9 @@
 ghost use Rattle.std.specs.Prelude.{◌≡◌, if◌then◌else◌};
 ghost use Rattle.ec_slave.specs.Roles.{adp_after, role_of};
+ghost use Rattle.ec_slave.specs.State.{station_of};
 ghost use Rattle.ec_slave.specs.declared.role.Role.TheVariants.{Nothing, Read, Write};
 
+use crate::slave::Slave;
 use ec_frame::Command;
 
 /// What a slave does with the data of a physical datagram.
@@ -22,25 +24,24 @@ pub(crate) enum Role {
 }
 
 impl Role {
-    /// The role of the slave that a datagram with the ADP reaches, by the table of commands (ETG.1000.4, "EtherCAT commands").
-    pub fn of(command: Command, adp: u16, station_address: u16) -> Role
-        ensures { result ≡ role_of command adp station_address }
+    /// The role of a slave that a datagram with the ADP reaches, by the table of commands (ETG.1000.4, "EtherCAT
+    /// commands"). Only a command that names a station asks for the slave's address.
+    pub fn of(command: Command, adp: u16, slave: &Slave) -> Role
+        ensures { result ≡ role_of command adp (station_of slave.now) }
     {
-        let is_first = adp == 0;
-        let is_named = adp == station_address;
         match command {
             Command::Nop | Command::Lrd | Command::Lwr | Command::Lrw => Role::Nothing,
-            Command::Aprd => Role::Read.only_if(is_first),
-            Command::Apwr => Role::Write.only_if(is_first),
-            Command::Aprw => Role::ReadWrite.only_if(is_first),
-            Command::Fprd => Role::Read.only_if(is_named),
-            Command::Fpwr => Role::Write.only_if(is_named),
-            Command::Fprw => Role::ReadWrite.only_if(is_named),
+            Command::Aprd => Role::Read.only_if(adp == 0),
+            Command::Apwr => Role::Write.only_if(adp == 0),
+            Command::Aprw => Role::ReadWrite.only_if(adp == 0),
+            Command::Fprd => Role::Read.only_if(adp == slave.station_address()),
+            Command::Fpwr => Role::Write.only_if(adp == slave.station_address()),
+            Command::Fprw => Role::ReadWrite.only_if(adp == slave.station_address()),
             Command::Brd => Role::OrRead,
             Command::Bwr => Role::Write,
             Command::Brw => Role::OrReadWrite,
-            Command::Armw => Role::read_or_write(is_first),
-            Command::Frmw => Role::read_or_write(is_named),
+            Command::Armw => Role::read_or_write(adp == 0),
+            Command::Frmw => Role::read_or_write(adp == slave.station_address()),
         }
     }
 

@@ -1,20 +1,34 @@
-ghost use Rattle.std.specs.Prelude.{◌≡◌, ◌+◌, ◌*◌, ◌<◌, IfOk, length, if◌then◌else◌, [], ◌∷◌, map, Option, Some, None, nat_lt};
-ghost use Rattle.ec_bits.specs.Bits.{zeros};
+ghost use Rattle.std.specs.Prelude.{◌≡◌, ◌+◌, ◌*◌, ◌<◌, IfOk, if◌then◌else◌, [], ◌∷◌, Option, Some, None, nat_lt};
 ghost use Rattle.ec_sync.specs.Manager.{no_manager};
 ghost use Rattle.ec_slave.specs.Access.{byte_at, register_byte};
 ghost use Rattle.ec_slave.specs.State.{SlaveState, memory_length, power_on, station_of};
 
-use crate::access::governor;
 use crate::fmmus::read_fmmus;
+use crate::reach::governor;
 use ec_al::Al;
 use ec_coe::Dictionary;
 use ec_fmmu::Fmmu;
-use ec_regs::registers::{FMMU_COUNT, MANAGER_COUNT, RAM_END, RAM_KIB, RAM_START, STATION_ADDRESS};
+use ec_regs::registers::{
+    AL_CONTROL, AL_STATUS, AL_STATUS_CODE, FMMU_COUNT, FMMUS, FMMUS_END, MANAGER_COUNT,
+    MANAGER_SIZE, NUMBER_OF_FMMUS, NUMBER_OF_SYNC_MANAGERS, RAM_END, RAM_KIB, RAM_SIZE, RAM_START,
+    SII_CONTROL, SII_DATA, STATION_ADDRESS, SYNC_MANAGERS, SYNC_MANAGERS_END,
+};
 use ec_regs::{Identity, SlaveType};
 use ec_sii::{Image, Port};
 use ec_sync::Manager;
 use std::alloc::{AllocError, Global};
 use std::marker::Model;
+
+/// The high byte of the station address.
+const STATION_ADDRESS_HIGH: usize = STATION_ADDRESS + 1;
+/// The high byte of AL control.
+const AL_CONTROL_HIGH: usize = AL_CONTROL + 1;
+/// The high byte of AL status.
+const AL_STATUS_HIGH: usize = AL_STATUS + 1;
+/// The high byte of the AL status code.
+const AL_STATUS_CODE_HIGH: usize = AL_STATUS_CODE + 1;
+/// The first address after the SII port.
+const SII_END: usize = SII_DATA + 4;
 
 /// A simulated slave.
 #[derive(Drop)]
@@ -58,7 +72,7 @@ fn memory_len() -> usize
     ensures value { result ≡ memory_length }
     ensures is { result ≡ 0x3000 }
 {
-    RAM_END as usize
+    RAM_END
 }
 
 /// Four sync managers as the power comes on.
@@ -103,7 +117,7 @@ impl Slave {
     pub fn station_address(&self) -> u16
         ensures { result ≡ station_of self.now }
     {
-        let at = STATION_ADDRESS as usize;
+        let at = STATION_ADDRESS;
         self.memory[at] as u16 + 256 * self.memory[at + 1] as u16
     }
 
@@ -113,7 +127,7 @@ impl Slave {
         ensures { result ≡ (if nat_lt address 0x3000 then Some (byte_at self.now address) else None) }
     {
         let address = address as usize;
-        if address < RAM_END as usize {
+        if address < RAM_END {
             Some(self.byte_at(address))
         } else {
             None
@@ -126,7 +140,7 @@ impl Slave {
         requires { address < 0x3000 }
         ensures { result ≡ byte_at self.now address }
     {
-        if address < RAM_START as usize {
+        if address < RAM_START {
             return self.register(address);
         }
         match governor(&self.managers, address) {
@@ -142,14 +156,20 @@ impl Slave {
         ensures { result ≡ register_byte self.now address }
     {
         match address {
-            0x0004 => FMMU_COUNT,
-            0x0005 => MANAGER_COUNT,
-            0x0006 => RAM_KIB,
-            0x0010..=0x0011 | 0x0120..=0x0121 | 0x0600..=0x063F => self.memory[address],
-            0x0130..=0x0131 => self.al.status_word().to_le_bytes()[address - 0x0130],
-            0x0134..=0x0135 => self.al.code().to_le_bytes()[address - 0x0134],
-            0x0502..=0x050B => self.port.read(address),
-            0x0800..=0x081F => self.managers[(address - 0x0800) / 8].register(address % 8),
+            NUMBER_OF_FMMUS => FMMU_COUNT,
+            NUMBER_OF_SYNC_MANAGERS => MANAGER_COUNT,
+            RAM_SIZE => RAM_KIB,
+            STATION_ADDRESS | STATION_ADDRESS_HIGH => self.memory[address],
+            AL_CONTROL | AL_CONTROL_HIGH | FMMUS..FMMUS_END => self.memory[address],
+            AL_STATUS => (self.al.status_word() % 256) as u8,
+            AL_STATUS_HIGH => (self.al.status_word() / 256) as u8,
+            AL_STATUS_CODE => (self.al.code() % 256) as u8,
+            AL_STATUS_CODE_HIGH => (self.al.code() / 256) as u8,
+            SII_CONTROL..SII_END => self.port.read(address),
+            SYNC_MANAGERS..SYNC_MANAGERS_END => {
+                let place = (address - SYNC_MANAGERS) / MANAGER_SIZE;
+                self.managers[place].register(address % MANAGER_SIZE)
+            }
             _ => 0,
         }
     }

@@ -1,6 +1,6 @@
 //! What a logical datagram reads.
 
-ghost use Rattle.std.specs.Prelude.{◌≡◌, ◌<◌, ◌≤◌, ◌+◌, ◌-◌, ◌*◌, ◌/◌, ◌^◌, ◌&&◌, ℕ, None, length, is_some};
+ghost use Rattle.std.specs.Prelude.{◌≡◌, ◌<◌, ◌≤◌, ◌+◌, ◌-◌, ◌*◌, ◌/◌, ◌^◌, ◌&&◌, ℕ, None, Some, length, is_some};
 ghost use Rattle.ec_bits.specs.Bits.{any_below, overlay};
 ghost use Rattle.ec_regs.specs.Memory.{ram_end};
 ghost use Rattle.ec_sync.specs.Manager.{may_read};
@@ -10,8 +10,8 @@ ghost use Rattle.ec_fmmu.specs.Applied.{Place, touched_by_reading};
 ghost use Rattle.ec_slave.specs.Logical.{read_bit, some_read};
 ghost use Rattle.ec_slave.specs.Sights.{seen_behind as behind_it, seen_bit as bit_seen};
 
-use crate::access::governor;
 use crate::logical::runs::governor_of_run;
+use crate::reach::governor;
 use ec_bits::{copy_by_words, get};
 use ec_fmmu::{Fmmu, ReadableBits, ReadableRuns, apply_read, is_touched_by_reading, show_by_bits};
 use ec_sync::Manager;
@@ -101,6 +101,44 @@ fn show_plain(sight: &Sight<'_>, physical: u32, count: usize, bytes: &mut [u8], 
     true
 }
 
+/// Brings a run of bits that one manager governs to the data: as a slice where all of them lie in
+/// its value, and else bit by bit.
+fn show_value(
+    sight: &Sight<'_>,
+    place: usize,
+    physical: u32,
+    count: usize,
+    bytes: &mut [u8],
+    to: usize,
+) -> bool
+    requires some { 0 < count }
+    requires room { length sight.now.memory.now ≡ 0x3000 }
+    requires four { length sight.now.managers.now ≡ length sight.now.readable.now }
+    requires governed { (a : ℕ) → physical / 8 ≤ a
+        → a < physical / 8 + ((physical + count - 1) / 8 - physical / 8 + 1)
+        → governor_of sight.now.managers.now a ≡ Some place }
+    requires to_ram { physical + count ≤ 8 * ram_end }
+    requires inside { to + count ≤ 8 * length bytes.old }
+    requires fits { to + count < 2 ^ 64 }
+    ensures any { let shown = bit_seen sight.now.memory.now sight.now.managers.now sight.now.readable.now in
+        result ≡ any_below (8 * length bytes.old) (λ i. is_some (run_shown shown physical to count i)) }
+    ensures bits { let shown = bit_seen sight.now.memory.now sight.now.managers.now sight.now.readable.now in
+        bytes.new ≡ overlay bytes.old (run_shown shown physical to count) }
+{
+    if !sight.readable[place] {
+        return false;
+    }
+    let manager = &sight.managers[place];
+    let start = manager.settings().start as usize;
+    let last = (physical as usize + count - 1) / 8;
+    let value = manager.shown();
+    if !manager.in_first_buffer(last) || last - start >= value.len() {
+        return show_by_bits(sight, physical, count, bytes, to);
+    }
+    copy_by_words(bytes, to, value, physical as usize - 8 * start, count);
+    true
+}
+
 impl ReadableRuns for Sight<'_> {
     fn show_run(&self, physical: u32, count: usize, bytes: &mut [u8], to: usize) -> bool {
         if count == 0 {
@@ -110,7 +148,8 @@ impl ReadableRuns for Sight<'_> {
         let len = (physical as usize + count - 1) / 8 - start + 1;
         match governor_of_run(self.managers, start, len) {
             Some(None) => show_plain(self, physical, count, bytes, to),
-            _ => show_by_bits(self, physical, count, bytes, to),
+            Some(Some(place)) => show_value(self, place, physical, count, bytes, to),
+            None => show_by_bits(self, physical, count, bytes, to),
         }
     }
 }

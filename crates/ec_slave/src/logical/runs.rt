@@ -1,10 +1,10 @@
 //! Runs of bytes that one sync manager governs, or none.
 
-ghost use Rattle.std.specs.Prelude.{◌≡◌, ◌<◌, ◌≤◌, ◌+◌, ◌^◌, ℕ, true, IfSome};
+ghost use Rattle.std.specs.Prelude.{◌≡◌, ◌<◌, ◌≤◌, ◌+◌, ◌^◌, ℕ, IfSome};
 ghost use Rattle.std.specs.Bool.{OnTrue};
 ghost use Rattle.ec_sync.specs.Governing.{governs, governor as governor_of};
 
-use crate::access::governor;
+use crate::reach::governor;
 use ec_sync::Manager;
 
 /// Whether the span of a manager has all of the `len` bytes from `start` on, or none of them.

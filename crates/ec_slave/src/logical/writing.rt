@@ -9,8 +9,8 @@ ghost use Rattle.ec_fmmu.specs.Applied.{Place, data_bit_for, touched_by_writing}
 ghost use Rattle.ec_slave.specs.Logical.{plain_bit};
 ghost use Rattle.ec_slave.specs.Written.{some_brought, some_manager_written as some_written_behind, some_plain_written};
 
-use crate::access::governor;
 use crate::logical::runs::governor_of_run;
+use crate::reach::governor;
 use ec_fmmu::{Fmmu, WritableBytes, apply_write, is_brought, is_touched_by_writing};
 use ec_sync::Manager;
 

@@ -1,4 +1,4 @@
-use Rattle.std.proofs.Common.{ℕ, ◌≡◌, ◌<◌, ◌+◌, arith}
+use Rattle.std.proofs.Common.{◌≡◌, arith}
 use Rattle.ec_slave.specs.Sights.{seen_bit}
 use Rattle.ec_slave.proofs.Runs.{run_nothing}
 use Rattle.ec_slave.proofs.logical.reading.SightReadableRuns.show_run.Goals as goal

@@ -1,0 +1,32 @@
+use Rattle.std.proofs.Common.{ℕ, ◌≡◌, ◌+◌, ◌-◌, ◌*◌, List, ◌++◌, length, take, drop, get_or, set, ◌∙◌, ap, arith}
+use Rattle.ec_sync.specs.Manager.{Manager}
+use Rattle.ec_fmmu.specs.Applied.{Place}
+use Rattle.ec_slave.proofs.Exchanges.{one_exchanged, exchanged_from, exchanged_from-step}
+use Rattle.ec_slave.proofs.logical.managers.access_managers.Goals as goal
+
+pub loop-k-preserved : goal.loop-k-preserved
+loop-k-preserved c =
+    let ms : List Manager = c.args.managers.now in
+    let before : List Manager = c.loop-k.managers in
+    let fs = c.args.fmmus.now in
+    let bytes = c.args.bytes.now in
+    let p : Place = record { from = c.args.from; bits = 8 * length bytes } in
+    let n : ℕ = 3 - c.loop-k.k in
+    let d : Manager = c.index-rest-0.result in
+    let x : Manager = c.access_manager.new.manager in
+    let lower : List Manager = c.split_at_mut-lower.result.0.now in
+    let rest : List Manager = c.split_at_mut-lower.result.1.now in
+    let front : lower ≡ take n before = c.split_at_mut-lower.ensures.front in
+    let back : rest ≡ drop n before = c.split_at_mut-lower.ensures.back in
+    let more : 4 - c.loop-k.k ≡ n + 1 = omega arith in
+    let next : n ≡ 4 - (c.loop-k.k + 1) = omega arith in
+    let was : before ≡ exchanged_from ms (c.args.reading) (c.args.writing) fs p bytes (n + 1)
+    = c.loop-k.invariant ∙ ap (λ i. exchanged_from ms (c.args.reading) (c.args.writing) fs p bytes i) more in
+    let one : x ≡ one_exchanged (take n before) (c.args.reading) (c.args.writing) fs p bytes (get_or (drop n before) 0 d)
+    = c.access_manager.ensures
+    ∙ (ap (λ t. one_exchanged t (c.args.reading) (c.args.writing) fs p bytes (get_or rest 0 d)) front
+    ∙ ap (λ y. one_exchanged (take n before) (c.args.reading) (c.args.writing) fs p bytes (get_or y 0 d)) back) in
+    let after : lower ++ set rest 0 x ≡ take n before ++ set (drop n before) 0 x
+    = ap (λ t. t ++ set rest 0 x) front ∙ ap (λ t. take n before ++ set t 0 x) back in
+    exchanged_from-step ms before (lower ++ set rest 0 x) (c.args.reading) (c.args.writing) fs p bytes n d x (omega arith) was one after
+    ∙ ap (λ i. exchanged_from ms (c.args.reading) (c.args.writing) fs p bytes i) next

@@ -1,0 +1,120 @@
+use Rattle.std.proofs.Common.{ℕ, ◌≡◌, ◌<◌, ◌≤◌, ◌+◌, ◌-◌, ◌*◌, ◌/◌, ◌∙◌, Bool, true, false, Some, is_some, List, length, get_or, sym, ap, arith}
+use Rattle.std.proofs.lemmas.List.{get_or_default}
+use Rattle.ec_bits.specs.Bits.{bit}
+use Rattle.ec_regs.specs.declared.manager.ManagerSettings.{ManagerSettings}
+use Rattle.ec_sync.specs.Manager.{Manager, no_manager, shown}
+use Rattle.ec_sync.specs.Governing.{governor, in_first_buffer}
+use Rattle.ec_slave.specs.State.{manager_at}
+use Rattle.ec_slave.specs.Sights.{seen_bit}
+use Rattle.ec_slave.proofs.Sights.{governor-start, governor-below}
+use Rattle.ec_slave.proofs.Runs.{run_copied, run_counts, run_nothing, unreadable, readable_value}
+use Rattle.ec_slave.proofs.logical.reading.show_value.Goals as goal
+
+pub bounds-sight-place : goal.bounds-sight-place
+bounds-sight-place c =
+    let ms = c.args.sight.now.managers.now in
+    let q : ℕ = c.args.physical in
+    let g : governor ms (q / 8) ≡ Some c.args.place = c.requires.governed (q / 8) (omega arith) (omega arith) in
+    let below : c.args.place < length ms = governor-below ms (q / 8) c.args.place g in
+    omega (arith, below, c.requires.four)
+
+pub returns-then-not-sight-place-clause-any : goal.returns-then-not-sight-place-clause-any
+returns-then-not-sight-place-clause-any c =
+    let s = c.args.sight.now in
+    let r : get_or s.readable.now c.args.place false ≡ false = c.if-not-sight-place.true in
+    (run_nothing c.args.bytes.now (seen_bit s.memory.now s.managers.now s.readable.now) c.args.physical c.args.to c.args.count
+    (λ i a b. unreadable s.memory.now s.managers.now s.readable.now c.args.place (c.args.physical + (i - c.args.to)) r
+    (c.requires.governed ((c.args.physical + (i - c.args.to)) / 8) (omega arith) (omega arith)))).1
+
+pub returns-then-not-sight-place-clause-bits : goal.returns-then-not-sight-place-clause-bits
+returns-then-not-sight-place-clause-bits c =
+    let s = c.args.sight.now in
+    let r : get_or s.readable.now c.args.place false ≡ false = c.if-not-sight-place.true in
+    (run_nothing c.args.bytes.now (seen_bit s.memory.now s.managers.now s.readable.now) c.args.physical c.args.to c.args.count
+    (λ i a b. unreadable s.memory.now s.managers.now s.readable.now c.args.place (c.args.physical + (i - c.args.to)) r
+    (c.requires.governed ((c.args.physical + (i - c.args.to)) / 8) (omega arith) (omega arith)))).0
+
+-- the manager that an index gave is the one of that number, and begins at the run or before it
+begins : (ms : List Manager) (q n : ℕ) (d : Manager) → governor ms (q / 8) ≡ Some n → (get_or ms n d ≡ manager_at ms n) × ((get_or ms n d).settings.start ≤ q / 8)
+begins ms q n d g =
+    let same : get_or ms n d ≡ manager_at ms n = get_or_default ms n d no_manager (governor-below ms (q / 8) n g) in
+    let lo : (manager_at ms n).settings.start ≤ q / 8 = governor-start ms (q / 8) n g in
+    let st : (get_or ms n d).settings.start ≡ (manager_at ms n).settings.start = ap (λ (x : Manager). x.settings.start) same in
+    (same, omega (arith, lo, st))
+
+pub overflow_sub-last-else-not-in_first_buffer : goal.overflow_sub-last-else-not-in_first_buffer
+overflow_sub-last-else-not-in_first_buffer c =
+    let ms = c.args.sight.now.managers.now in
+    let q : ℕ = c.args.physical in
+    let g : governor ms (q / 8) ≡ Some c.args.place = c.requires.governed (q / 8) (omega arith) (omega arith) in
+    let lo = (begins ms q c.args.place c.index-sight-place.result g).1 in
+    let st : c.settings-start.result.start ≡ (get_or ms c.args.place c.index-sight-place.result).settings.start = ap (λ (x : ManagerSettings). x.start) c.settings-start.ensures in
+    let some = c.requires.some in
+    omega (arith, lo, st, some)
+
+pub overflow_sub-physical : goal.overflow_sub-physical
+overflow_sub-physical c =
+    let ms = c.args.sight.now.managers.now in
+    let q : ℕ = c.args.physical in
+    let g : governor ms (q / 8) ≡ Some c.args.place = c.requires.governed (q / 8) (omega arith) (omega arith) in
+    let lo = (begins ms q c.args.place c.index-sight-place.result g).1 in
+    let st : c.settings-start.result.start ≡ (get_or ms c.args.place c.index-sight-place.result).settings.start = ap (λ (x : ManagerSettings). x.start) c.settings-start.ensures in
+    omega (arith, lo, st)
+
+pub copy_by_words-requires-clause-there : goal.copy_by_words-requires-clause-there
+copy_by_words-requires-clause-there c =
+    let ms = c.args.sight.now.managers.now in
+    let q : ℕ = c.args.physical in
+    let g : governor ms (q / 8) ≡ Some c.args.place = c.requires.governed (q / 8) (omega arith) (omega arith) in
+    let lo = (begins ms q c.args.place c.index-sight-place.result g).1 in
+    let st : c.settings-start.result.start ≡ (get_or ms c.args.place c.index-sight-place.result).settings.start = ap (λ (x : ManagerSettings). x.start) c.settings-start.ensures in
+    let some = c.requires.some in
+    omega (arith, lo, st, some)
+
+-- each bit of the run shows a bit of the value
+shows : (memory : List ℕ) (ms : List Manager) (rd : List Bool) (n q0 k start last : ℕ) (m : Manager) (value : List ℕ)
+    → (m ≡ manager_at ms n) → start ≡ m.settings.start → start ≤ q0 / 8 → value ≡ shown m → get_or rd n false ≡ true
+    → governor ms ((q0 + k) / 8) ≡ Some n → true ≡ in_first_buffer m last → (q0 + k) / 8 ≤ last
+    → seen_bit memory ms rd (q0 + k) ≡ Some (bit value (q0 - 8 * start + k))
+shows memory ms rd n q0 k start last m value same st lo v r g front below =
+    let front_2 : in_first_buffer (manager_at ms n) last ≡ true = sym (front ∙ ap (λ (x : Manager). in_first_buffer x last) same) in
+    let st_2 : start ≡ (manager_at ms n).settings.start = st ∙ ap (λ (x : Manager). x.settings.start) same in
+    let v_2 : value ≡ shown (manager_at ms n) = v ∙ ap (λ (x : Manager). shown x) same in
+    let at : q0 + k - 8 * (manager_at ms n).settings.start ≡ q0 - 8 * start + k = omega (arith, st_2, lo) in
+    readable_value memory ms rd n (q0 + k) last r g front_2 below
+    ∙ (ap (λ (i : ℕ). Some (bit (shown (manager_at ms n)) i)) at ∙ ap (λ (xs : List ℕ). Some (bit xs (q0 - 8 * start + k))) (sym v_2))
+
+pub returns-clause-bits : goal.returns-clause-bits
+returns-clause-bits c =
+    let s = c.args.sight.now in
+    let ms = s.managers.now in
+    let q : ℕ = c.args.physical in
+    let n : ℕ = c.args.place in
+    let m : Manager = get_or ms n c.index-sight-place.result in
+    let g : governor ms (q / 8) ≡ Some n = c.requires.governed (q / 8) (omega arith) (omega arith) in
+    let b = begins ms q n c.index-sight-place.result g in
+    let st : c.settings-start.result.start ≡ m.settings.start = ap (λ (x : ManagerSettings). x.start) c.settings-start.ensures in
+    let lo = b.1 in
+    let r : get_or s.readable.now n false ≡ true = c.if-not-sight-place.false in
+    let front : true ≡ in_first_buffer m ((q + c.args.count - 1) / 8) = sym c.if-not-in_first_buffer.false ∙ c.in_first_buffer.ensures in
+    let each : (i : ℕ) → c.args.to ≤ i → i < c.args.to + c.args.count → seen_bit s.memory.now ms s.readable.now (q + (i - c.args.to)) ≡ Some (bit c.shown-value.result.now (q - 8 * c.settings-start.result.start + (i - c.args.to)))
+    = λ i x y. shows s.memory.now ms s.readable.now n q (i - c.args.to) c.settings-start.result.start ((q + c.args.count - 1) / 8) m c.shown-value.result.now
+    b.0 st (omega (arith, lo, st)) c.shown-value.ensures r (c.requires.governed ((q + (i - c.args.to)) / 8) (omega arith) (omega arith)) front (omega arith) in
+    c.copy_by_words.ensures ∙ run_copied c.args.bytes.now (seen_bit s.memory.now ms s.readable.now) q c.args.to c.args.count c.shown-value.result.now (q - 8 * c.settings-start.result.start) each
+
+pub returns-clause-any : goal.returns-clause-any
+returns-clause-any c =
+    let s = c.args.sight.now in
+    let ms = s.managers.now in
+    let q : ℕ = c.args.physical in
+    let n : ℕ = c.args.place in
+    let m : Manager = get_or ms n c.index-sight-place.result in
+    let g : governor ms (q / 8) ≡ Some n = c.requires.governed (q / 8) (omega arith) (omega arith) in
+    let b = begins ms q n c.index-sight-place.result g in
+    let r : get_or s.readable.now n false ≡ true = c.if-not-sight-place.false in
+    let some = c.requires.some in
+    let front : true ≡ in_first_buffer m ((q + c.args.count - 1) / 8) = sym c.if-not-in_first_buffer.false ∙ c.in_first_buffer.ensures in
+    let front_2 : in_first_buffer (manager_at ms n) ((q + c.args.count - 1) / 8) ≡ true = sym (front ∙ ap (λ (x : Manager). in_first_buffer x ((q + c.args.count - 1) / 8)) b.0) in
+    let one : is_some (seen_bit s.memory.now ms s.readable.now q) ≡ true
+    = ap is_some (readable_value s.memory.now ms s.readable.now n q ((q + c.args.count - 1) / 8) r g front_2 (omega (arith, some))) in
+    sym (run_counts (8 * length c.args.bytes.now) (seen_bit s.memory.now ms s.readable.now) q c.args.to c.args.count c.requires.some c.requires.inside one)

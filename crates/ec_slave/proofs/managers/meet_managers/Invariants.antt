@@ -1,6 +1,0 @@
-use Rattle.std.proofs.Common.{◌≡◌, ◌-◌}
-use Rattle.ec_slave.proofs.Meets.{met_from}
-use Rattle.ec_slave.proofs.managers.meet_managers.Given as goal
-
-abbrev pub invariant-loop-k : goal.invariant-loop-k
-invariant-loop-k l = l.managers ≡ met_from l.initial.managers l.reads l.writes (record { from = l.from; bytes = l.bytes }) (4 - l.k)

@@ -1,0 +1,40 @@
+use Rattle.std.proofs.Common.{◌*◌, length, sym, refl, ◌∙◌, ap}
+use Rattle.ec_bits.proofs.BitLaws.{overlay_own}
+use Rattle.ec_fmmu.specs.Applied.{Place}
+use Rattle.ec_slave.specs.Roles.{is_reading, is_writing}
+use Rattle.ec_slave.specs.Mapped.{data_after}
+use Rattle.ec_slave.specs.Logical.{logical_after}
+use Rattle.ec_slave.proofs.Misses.{missed_slave, missed_data, missed_count, slave_left}
+use Rattle.ec_slave.specs.declared.role.Role.{Role}
+use Rattle.ec_slave.proofs.slave.Slave.access_bits.Goals as goal
+
+pub returns-then-misses-clause-slave : goal.returns-then-misses-clause-slave
+returns-then-misses-clause-slave c =
+    let p : Place = record { from = c.args.from; bits = 8 * length c.args.bytes.now } in
+    missed_slave (is_reading c.args.role) (is_writing c.args.role) c.args.self.now p c.args.bytes.now (c.if-misses.ensures)
+
+pub returns-then-misses-clause-bytes : goal.returns-then-misses-clause-bytes
+returns-then-misses-clause-bytes c =
+    let p : Place = record { from = c.args.from; bits = 8 * length c.args.bytes.now } in
+    missed_data c.args.role c.args.self.now p c.args.bytes.now (c.if-misses.ensures) refl
+
+pub returns-then-misses-clause-added : goal.returns-then-misses-clause-added
+returns-then-misses-clause-added c =
+    let p : Place = record { from = c.args.from; bits = 8 * length c.args.bytes.now } in
+    missed_count c.args.role c.args.self.now p c.args.bytes.now (c.if-misses.ensures)
+
+pub returns-in-Write-clause-bytes : goal.returns-in-Write-clause-bytes
+returns-in-Write-clause-bytes c =
+    let p : Place = record { from = c.args.from; bits = 8 * length c.args.bytes.now } in
+    sym (ap (λ (w : Role). data_after c.args.self.now w p c.args.bytes.now) c.in-Write.is ∙ overlay_own c.args.bytes.now _ (λ i l. refl))
+
+pub returns-in-Nothing-clause-slave : goal.returns-in-Nothing-clause-slave
+returns-in-Nothing-clause-slave c =
+    let p : Place = record { from = c.args.from; bits = 8 * length c.args.bytes.now } in
+    slave_left c.args.self.now p c.args.bytes.now
+    ∙ sym (ap (λ (w : Role). logical_after c.args.self.now (is_reading w) (is_writing w) p c.args.bytes.now) c.in-Nothing.is)
+
+pub returns-in-Nothing-clause-bytes : goal.returns-in-Nothing-clause-bytes
+returns-in-Nothing-clause-bytes c =
+    let p : Place = record { from = c.args.from; bits = 8 * length c.args.bytes.now } in
+    sym (ap (λ (w : Role). data_after c.args.self.now w p c.args.bytes.now) c.in-Nothing.is ∙ overlay_own c.args.bytes.now _ (λ i l. refl))

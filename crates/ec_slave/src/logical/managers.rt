@@ -1,0 +1,131 @@
+//! What a logical datagram does to the sync managers.
+
+ghost use Rattle.std.specs.Prelude.{◌≡◌, ◌<◌, ◌+◌, ◌*◌, ◌^◌, length, []};
+ghost use Rattle.ec_fmmu.specs.Applied.{Place, touched_by_reading, touched_by_writing};
+ghost use Rattle.ec_slave.specs.Managers.{is_ungoverned, manager_after};
+ghost use Rattle.ec_slave.specs.Logical.{managers_exchanged, value_brought};
+
+use crate::logical::writing::Ungoverned;
+use crate::reach::{read_manager, write_manager};
+use ec_fmmu::{Fmmu, apply_write, is_touched_by_reading, is_touched_by_writing};
+use ec_sync::{Manager, Touching, Writing};
+
+/// The bits of a logical datagram, as they are read.
+#[derive(Clone, Copy)]
+struct ReadBits<'a> {
+    fmmus: &'a [Fmmu],
+    from: u64,
+    bits: u64,
+}
+
+impl Touching for ReadBits<'_> {
+    ghost use Rattle.ec_fmmu.specs.Applied.{Place, touched_by_reading};
+
+    ghost touched = { λ r a. touched_by_reading r.fmmus.now
+        (record { from = r.from; bits = r.bits }) a };
+
+    fn touches(&self, address: usize) -> bool {
+        is_touched_by_reading(self.fmmus, self.from, self.bits, address as u16)
+    }
+}
+
+/// The bits of a logical datagram, as a manager above these lower-numbered ones takes them.
+#[derive(Clone, Copy)]
+struct Bits<'a> {
+    lower: &'a [Manager],
+    fmmus: &'a [Fmmu],
+    from: u64,
+    bytes: &'a [u8],
+    ghost fits: { from + 8 * length bytes.now < 2 ^ 64 },
+}
+
+impl Touching for Bits<'_> {
+    ghost use Rattle.std.specs.Prelude.{◌*◌, length};
+    ghost use Rattle.ec_fmmu.specs.Applied.{Place, touched_by_writing};
+
+    ghost touched = { λ w a. touched_by_writing w.fmmus.now
+        (record { from = w.from; bits = 8 * length w.bytes.now }) a };
+
+    fn touches(&self, address: usize) -> bool {
+        let bits = 8 * self.bytes.len() as u64;
+        is_touched_by_writing(self.fmmus, self.from, bits, address as u16)
+    }
+}
+
+impl Writing for Bits<'_> {
+    ghost use Rattle.std.specs.Prelude.{◌*◌, length};
+    ghost use Rattle.ec_fmmu.specs.Applied.{Place};
+    ghost use Rattle.ec_slave.specs.Logical.{value_brought};
+    ghost use Rattle.ec_slave.specs.Untouched.{untouched-zero};
+
+    ghost written = { λ w start len. value_brought w.lower.now w.fmmus.now
+        (record { from = w.from; bits = 8 * length w.bytes.now }) w.bytes.now start len };
+
+    ghost zero_untouched = { λ w start len k first last inside untouched.
+        untouched-zero w.lower.now w.fmmus.now
+        (record { from = w.from; bits = 8 * length w.bytes.now }) w.bytes.now start len k inside untouched };
+
+    fn fill(&self, start: usize, value: &mut [u8]) {
+        value.fill(0);
+        let rights = Ungoverned {
+            managers: self.lower,
+        };
+        let origin = 8 * start as u32;
+        let _ = apply_write(self.fmmus, &rights, self.from, self.bytes, origin, value);
+    }
+}
+
+/// One manager meets a datagram: written, or else read, or as it was.
+fn access_manager(
+    lower: &[Manager],
+    manager: &mut Manager,
+    reading: bool,
+    writing: bool,
+    fmmus: &[Fmmu],
+    from: u64,
+    bytes: &[u8],
+)
+    requires { from + 8 * length bytes.now < 2 ^ 64 }
+    ensures { let place : Place = record { from = from; bits = 8 * length bytes.now } in
+        manager.new ≡ manager_after reading writing
+        (touched_by_reading fmmus.now place) (touched_by_writing fmmus.now place)
+        (is_ungoverned lower.now) (value_brought lower.now fmmus.now place bytes.now) manager.old }
+{
+    let access = Bits {
+        lower,
+        fmmus,
+        from,
+        bytes,
+    };
+    if writing && write_manager(lower, manager, &access) {
+        return;
+    }
+    if reading {
+        let bits = 8 * bytes.len() as u64;
+        read_manager(lower, manager, &ReadBits { fmmus, from, bits });
+    }
+}
+
+/// Each of the four managers meets a logical datagram whose first logical bit is `from`, from the
+/// last to the first, so that each finds the lower-numbered ones as they were. One that the
+/// datagram writes takes a whole value: 0 in the bits that aren't brought to it.
+pub(crate) fn access_managers(
+    managers: &mut [Manager],
+    reading: bool,
+    writing: bool,
+    fmmus: &[Fmmu],
+    from: u64,
+    bytes: &[u8],
+)
+    requires four { length managers.old ≡ 4 }
+    requires fits { from + 8 * length bytes.now < 2 ^ 64 }
+    ensures { let place : Place = record { from = from; bits = 8 * length bytes.now } in
+        managers.new
+        ≡ managers_exchanged [] reading writing fmmus.now place bytes.now managers.old }
+{
+    for k in 0..4 {
+        let place = 3 - k;
+        let (lower, rest) = managers.split_at_mut(place);
+        access_manager(lower, &mut rest[0], reading, writing, fmmus, from, bytes);
+    }
+}

@@ -1,0 +1,118 @@
+//! Which bytes a physical datagram reads and writes, and what it leaves in the memory itself.
+
+ghost use Rattle.std.specs.Prelude.{◌≡◌, ◌+◌, ◌<◌, ◌^◌, if◌then◌else◌, bit_or, length, Some, None};
+ghost use Rattle.std.specs.Bool.{OnTrue};
+ghost use Rattle.ec_bits.specs.Bits.{within};
+ghost use Rattle.ec_slave.specs.Access.{Window, byte_from, is_kept, may_read_byte, may_write_byte, memory_written, some_byte_written};
+ghost use Rattle.ec_slave.specs.Telling.{set_told};
+
+use crate::reach::governor;
+use ec_regs::registers::{RAM_END, RAM_START, SYNC_MANAGERS, SYNC_MANAGERS_END};
+use ec_regs::{is_stored, takes_writes};
+use ec_sync::Manager;
+
+/// Whether a datagram over `len` bytes from `from` on reads the byte at an address that it touches.
+#[tactic(auto, unfolding(crate::specs::Access::may_read_byte))]
+pub(crate) fn reads_byte(managers: &[Manager], from: usize, len: usize, address: usize) -> bool
+    ensures value { result ≡ may_read_byte managers.now (within from len) address }
+    ensures inside { OnTrue result (address < 0x3000) }
+{
+    if address < RAM_START {
+        return true;
+    }
+    if RAM_END <= address {
+        return false;
+    }
+    match governor(managers, address) {
+        None => true,
+        Some(place) => {
+            let manager = &managers[place];
+            manager.in_first_buffer(address) && manager.is_covered(from, len) && manager.may_read()
+        }
+    }
+}
+
+/// Whether a datagram over `len` bytes from `from` on writes the byte at an address that it touches.
+#[tactic(auto, unfolding(crate::specs::Access::may_write_byte))]
+pub(crate) fn writes_byte(
+    managers: &[Manager],
+    is_busy: bool,
+    from: usize,
+    len: usize,
+    address: usize,
+) -> bool
+    ensures { result ≡ may_write_byte managers.now is_busy (within from len) address }
+{
+    if address < RAM_START {
+        return takes_writes(address, is_busy);
+    }
+    if RAM_END <= address {
+        return false;
+    }
+    match governor(managers, address) {
+        None => true,
+        Some(place) => {
+            let manager = &managers[place];
+            manager.in_first_buffer(address) && manager.is_covered(from, len) && manager.may_write()
+        }
+    }
+}
+
+/// Whether a byte is kept in the memory itself: a stored register that is no sync manager's, or a byte of the RAM
+/// that no manager governs.
+#[tactic(auto, unfolding(crate::specs::Access::is_kept))]
+fn is_kept(managers: &[Manager], address: usize) -> bool
+    ensures value { result ≡ is_kept managers.now address }
+    ensures inside { OnTrue result (address < 0x3000) }
+{
+    if address < RAM_START {
+        return is_stored(address) && !(SYNC_MANAGERS..SYNC_MANAGERS_END).contains(&address);
+    }
+    address < RAM_END && governor(managers, address).is_none()
+}
+
+/// Stores a byte where the memory itself keeps it.
+fn store_byte(memory: &mut [u8], managers: &[Manager], address: usize, byte: u8)
+    requires { length memory.old ≡ 0x3000 }
+    ensures { memory.new ≡ set_told memory.old address (if is_kept managers.now address then Some byte else None) }
+{
+    if is_kept(managers, address) {
+        memory[address] = byte;
+    }
+}
+
+/// Writes the bytes of a datagram into the memory itself, and answers whether one is written there or behind a manager.
+pub(crate) fn write_physical(
+    memory: &mut [u8],
+    managers: &[Manager],
+    is_busy: bool,
+    from: usize,
+    bytes: &[u8],
+) -> bool
+    requires room { length memory.old ≡ 0x3000 }
+    requires small { from + length bytes.now < 2 ^ 32 }
+    ensures memory { memory.new ≡ memory_written managers.now (record { from = from; bytes = bytes.now }) memory.old }
+    ensures some { result ≡ some_byte_written managers.now is_busy (record { from = from; bytes = bytes.now }) }
+{
+    let mut is_some = false;
+    for (i, byte) in bytes.iter().enumerate() {
+        is_some |= writes_byte(managers, is_busy, from, bytes.len(), from + i);
+        store_byte(memory, managers, from + i, *byte);
+    }
+    is_some
+}
+
+/// The byte that a datagram has for an address.
+pub(crate) fn byte_for(from: usize, bytes: &[u8], address: usize) -> Option<u8>
+    ensures { result ≡ byte_from (record { from = from; bytes = bytes.now }) address }
+{
+    let place = address.checked_sub(from)?;
+    bytes.get(place).copied()
+}
+
+/// What a data byte becomes by a read.
+pub(crate) fn read_over(joining: bool, byte: u8, shown: u8) -> u8
+    ensures { result ≡ (if joining then bit_or byte shown else shown) }
+{
+    if joining { byte | shown } else { shown }
+}

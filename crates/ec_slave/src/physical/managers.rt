@@ -1,0 +1,182 @@
+//! What a physical datagram does to the sync managers.
+
+ghost use Rattle.std.specs.Prelude.{◌≡◌, ◌+◌, ◌-◌, ◌<◌, ◌≤◌, ◌*◌, length, [], unwrap_or, true};
+ghost use Rattle.ec_bits.specs.Bits.{within, zeros};
+ghost use Rattle.ec_regs.specs.Memory.{ram_end};
+ghost use Rattle.ec_sync.specs.Governing.{manager_byte};
+ghost use Rattle.ec_slave.specs.Managers.{is_ungoverned, manager_after};
+ghost use Rattle.ec_slave.specs.Access.{Window, is_configured as is_configured_at, manager_met, managers_met, setting_for, settings_written, touches, value_for};
+
+use crate::physical::bytes::byte_for;
+use crate::reach::{governor, read_manager, write_manager};
+use ec_regs::registers::manager_address;
+use ec_regs::{ManagerSettings, decode_manager, is_stored};
+use ec_sync::{Manager, Reach, Touching, Writing};
+
+/// The bytes of a datagram, as a manager below these lower-numbered ones takes them.
+#[derive(Clone, Copy)]
+struct Bytes<'a> {
+    lower: &'a [Manager],
+    from: usize,
+    bytes: &'a [u8],
+}
+
+impl Touching for Bytes<'_> {
+    ghost use Rattle.std.specs.Prelude.{length};
+    ghost use Rattle.ec_bits.specs.Bits.{within};
+
+    ghost touched = { λ w a. within w.from (length w.bytes.now) a };
+
+    fn touches(&self, address: usize) -> bool {
+        address >= self.from && address - self.from < self.bytes.len()
+    }
+}
+
+impl Writing for Bytes<'_> {
+    ghost use Rattle.std.specs.Prelude.{length};
+    ghost use Rattle.ec_sync.specs.Touching.{all_touched};
+    ghost use Rattle.ec_slave.specs.Access.{Window, value_for};
+
+    ghost written = { λ w start len. value_for w.lower.now (record { from = w.from; bytes = w.bytes.now }) start len };
+
+    ghost zero_untouched = { λ w start len k first last inside untouched.
+        absurd (all_touched w.from (length w.bytes.now) start len k first last inside untouched) };
+
+    fn fill(&self, start: usize, value: &mut [u8]) {
+        value.fill(0);
+        self.fill_zeros(start, value);
+    }
+}
+
+impl Bytes<'_> {
+    /// Fills a value of zeros that begins at `start`: the bytes under a lower-numbered manager stay 0.
+    fn fill_zeros(&self, start: usize, value: &mut [u8])
+        requires some { 0 < length value.old }
+        requires inside { start + length value.old ≤ ram_end }
+        requires zeroed { value.old ≡ zeros (length value.old) }
+        requires first { within self.now.from (length self.now.bytes.now) start ≡ true }
+        requires last { within self.now.from (length self.now.bytes.now) (start + length value.old - 1) ≡ true }
+        ensures { value.new ≡ value_for self.now.lower.now
+            (record { from = self.now.from; bytes = self.now.bytes.now }) start (length value.old) }
+    {
+        for (k, byte) in value.iter_mut().enumerate() {
+            if governor(self.lower, start + k).is_none() {
+                *byte = self.bytes[start + k - self.from];
+            }
+        }
+    }
+}
+
+/// What a datagram stores in byte k of a manager's eight.
+fn setting_for(from: usize, bytes: &[u8], number: usize, k: usize) -> Option<u8>
+    requires manager { number < 4 }
+    requires byte { k < 8 }
+    ensures { result ≡ setting_for (record { from = from; bytes = bytes.now }) number k }
+{
+    let address = manager_address(number) + k;
+    if is_stored(address) {
+        byte_for(from, bytes, address)
+    } else {
+        None
+    }
+}
+
+/// Whether a datagram writes one of the settings of a manager.
+fn is_configured(from: usize, bytes: &[u8], number: usize) -> bool
+    requires { number < 4 }
+    ensures { result ≡ is_configured_at (record { from = from; bytes = bytes.now }) number }
+{
+    let mut is_some = false;
+    for k in 0..8 {
+        is_some |= setting_for(from, bytes, number, k).is_some();
+    }
+    is_some
+}
+
+/// Byte k of a manager's eight after a datagram.
+fn byte_after(manager: &Manager, from: usize, bytes: &[u8], number: usize, k: usize) -> u8
+    requires manager { number < 4 }
+    requires byte { k < 8 }
+    ensures { result ≡ unwrap_or (setting_for (record { from = from; bytes = bytes.now }) number k) (manager_byte manager.now k) }
+{
+    setting_for(from, bytes, number, k).unwrap_or(manager.register(k))
+}
+
+/// The settings of a manager after a datagram.
+fn settings_after(manager: &Manager, from: usize, bytes: &[u8], number: usize) -> ManagerSettings
+    requires { number < 4 }
+    ensures { result ≡ settings_written (record { from = from; bytes = bytes.now }) number manager.now }
+{
+    decode_manager(&[
+        byte_after(manager, from, bytes, number, 0),
+        byte_after(manager, from, bytes, number, 1),
+        byte_after(manager, from, bytes, number, 2),
+        byte_after(manager, from, bytes, number, 3),
+        byte_after(manager, from, bytes, number, 4),
+        byte_after(manager, from, bytes, number, 5),
+        byte_after(manager, from, bytes, number, 6),
+        byte_after(manager, from, bytes, number, 7),
+    ])
+}
+
+/// One manager meets a datagram.
+#[tactic(auto, unfolding(crate::specs::Access::manager_met))]
+fn access_manager(
+    lower: &[Manager],
+    manager: &mut Manager,
+    number: usize,
+    reads: bool,
+    writes: bool,
+    from: usize,
+    bytes: &[u8],
+)
+    requires { number < 4 }
+    ensures { manager.new ≡ manager_met lower.now reads writes (record { from = from; bytes = bytes.now }) number manager.old }
+{
+    if writes && is_configured(from, bytes, number) {
+        let settings = settings_after(manager, from, bytes, number);
+        manager.configure(settings);
+    } else {
+        take_access(lower, manager, reads, writes, from, bytes);
+    }
+}
+
+/// One manager meets a datagram that leaves its settings.
+fn take_access(
+    lower: &[Manager],
+    manager: &mut Manager,
+    reads: bool,
+    writes: bool,
+    from: usize,
+    bytes: &[u8],
+)
+    ensures { manager.new ≡ manager_after reads writes (touches (record { from = from; bytes = bytes.now }))
+        (touches (record { from = from; bytes = bytes.now })) (is_ungoverned lower.now) (value_for lower.now (record { from = from; bytes = bytes.now })) manager.old }
+{
+    if writes && write_manager(lower, manager, &Bytes { lower, from, bytes }) {
+        return;
+    }
+    if reads {
+        let len = bytes.len();
+        read_manager(lower, manager, &Reach { from, len });
+    }
+}
+
+/// Each of the four managers meets a datagram, from the last to the first, so that each finds the lower-numbered ones as
+/// they were.
+pub(crate) fn access_managers(
+    managers: &mut [Manager],
+    reads: bool,
+    writes: bool,
+    from: usize,
+    bytes: &[u8],
+)
+    requires { length managers.old ≡ 4 }
+    ensures { managers.new ≡ managers_met [] reads writes (record { from = from; bytes = bytes.now }) 0 managers.old }
+{
+    for k in 0..4 {
+        let place = 3 - k;
+        let (lower, rest) = managers.split_at_mut(place);
+        access_manager(lower, &mut rest[0], place, reads, writes, from, bytes);
+    }
+}
