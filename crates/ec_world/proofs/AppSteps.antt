@@ -1,0 +1,314 @@
+-- Bytes of a slave's application.
+use Rattle.std.proofs.Common.{ℕ, ◌+◌, ◌<◌, ◌≡◌, ◌≢◌, ◌==◌, ◌&&◌, not, Bool, true, false, Option, Some, None, refl, sym, ◌∙◌, ap, subst, inl, inr, arith, List, length, map, is_some, slice_set, if◌then◌else◌, option_map, unwrap_or, nat_lt, length-set, get_or-set_same, get_or-set_other}
+use Rattle.std.proofs.Math.Seq.{map-set_same}
+use Rattle.std.proofs.lemmas.Bool.{cases_eq, cases_lt, and_left, le-ltb}
+use Rattle.std.proofs.lemmas.List.{length-replicate}
+use Rattle.ec_link.proofs.Listed.{listed}
+use Rattle.ec_bits.specs.Bits.{bytes_of_bits, zeros}
+use Rattle.ec_bits.proofs.AnyLaws.{if_true, if_false}
+use Rattle.ec_regs.specs.Managers.{is_set}
+use Rattle.ec_sync.specs.Buffer.{Buffer, Got, app_written, app_read, drafted, draft_next, view_next}
+use Rattle.ec_sync.specs.Manager.{Manager, no_manager}
+use Rattle.ec_slave.specs.State.{SlaveState, manager_at}
+use Rattle.ec_slave.specs.Application.{is_running, input_put, output_got, output_taken, with_manager}
+use Rattle.ec_link.specs.declared.settings.Settings.{Settings}
+use Rattle.ec_link.specs.Meaning.{slave_at}
+use Rattle.ec_link.specs.Usable.{IsUsable, AreListed}
+use Rattle.ec_world.specs.Plain.{Plain, PlainSlave, Health, Working, Faulted, Reset, plain_slave, is_working, is_reset, at_slave, got_byte}
+use Rattle.ec_world.specs.Plain as plain
+use Rattle.ec_world.specs.World.{WorldState, slave_of, with_slave, Puts, Gets}
+use Rattle.ec_world.specs.SlaveShows.{Holds, IsQuiet, HoldsData, IsAs}
+use Rattle.ec_world.specs.Lengths.{IsOfLength}
+use Rattle.ec_world.specs.Shows.{Shows}
+use Rattle.ec_world.proofs.Settings.{no_bits, unset, outs_enabled, ins_enabled, locked_denies}
+use Rattle.ec_world.proofs.Mapped.{third_held, fourth_held}
+use Rattle.ec_world.proofs.SlaveSteps.{slave_changed, at_there, both_let, here_of, state_on, two_there}
+
+none_some : {X : Type 0} (x : X) → None ≡ Some x → ⊥
+none_some x e = cc
+
+some_same : {X : Type 0} (x y : X) → Some x ≡ Some y → x ≡ y
+some_same x y e = cc
+
+-- ---- a buffer
+
+drafted_length : (n : ℕ) (b : Buffer) (i : ℕ) (d : List ℕ) → IsOfLength n b → length d ≡ n → IsOfLength n (drafted b i d)
+drafted_length n b i d h e = go (i + 1 == length b.published)
+  where
+    go : (c : Bool) → IsOfLength n (if c then record b { published = d; draft = None } else record b { draft = Some d })
+    go true = record { published = e; draft = λ x q. absurd (none_some x q) }
+    go false = record { published = h.published; draft = λ x q. subst (λ (y : List ℕ). length y ≡ n) (some_same d x q) e }
+
+written_length : (n : ℕ) (b : Buffer) (i x : ℕ) (b2 : Buffer) → IsOfLength n b → app_written b i x ≡ Some b2 → IsOfLength n b2
+unfolding app_written
+written_length n b i x b2 h e = go (nat_lt i (length b.published)) (i == 0) e
+  where
+    next : (o : Option (List ℕ)) → ((d : List ℕ) → o ≡ Some d → length d ≡ n) → draft_next b i x o ≡ Some b2 → IsOfLength n b2
+    next None k q = absurd (none_some b2 q)
+    next (Some d) k q = subst (λ (y : Buffer). IsOfLength n y) (some_same _ b2 q) (drafted_length n b i (slice_set d i x) h (length-set d i x ∙ k d refl))
+
+    go : (c z : Bool) → (if c then draft_next b i x (if z then Some (zeros (length b.published)) else b.draft) else None) ≡ Some b2 → IsOfLength n b2
+    go false z q = absurd (none_some b2 q)
+    go true true q = next (Some (zeros (length b.published))) (λ d y. subst (λ (v : List ℕ). length v ≡ n) (some_same _ d y) (length-replicate (length b.published) 0 ∙ h.published)) q
+    go true false q = next b.draft h.draft q
+
+none_written : (b : Buffer) (i x : ℕ) → length b.published ≡ 0 → app_written b i x ≡ None
+unfolding app_written
+none_written b i x e = if_false _ _ _ (le-ltb i (length b.published) (omega arith))
+
+none_read : (b : Buffer) (i : ℕ) → length b.published ≡ 0 → app_read b i ≡ None
+unfolding app_read
+none_read b i e = if_false _ _ _ (le-ltb i (length b.published) (omega arith))
+
+read_length : (n : ℕ) (b : Buffer) (i : ℕ) (g : Got) → IsOfLength n b → app_read b i ≡ Some g → IsOfLength n g.buffer
+unfolding app_read
+read_length n b i g h e = go (nat_lt i (length b.published)) (i == 0) e
+  where
+    next : (o : Option (List ℕ)) → view_next b i o ≡ Some g → IsOfLength n g.buffer
+    next None q = absurd (none_some g q)
+    next (Some v) q = subst (λ (y : Got). IsOfLength n y.buffer) (some_same _ g q) (record { published = h.published; draft = h.draft })
+
+    go : (c z : Bool) → (if c then view_next b i (if z then Some b.published else b.view) else None) ≡ Some g → IsOfLength n g.buffer
+    go false z q = absurd (none_some g q)
+    go true true q = next (Some b.published) q
+    go true false q = next b.view q
+
+-- ---- a slave
+
+mapped_twice : {X Y Z : Type 0} (f : Y → Z) (g : X → Y) (o : Option X) → option_map f (option_map g o) ≡ option_map (λ x. f (g x)) o
+mapped_twice f g None = refl
+mapped_twice f g (Some x) = refl
+
+module _ (i : ℕ) (p : Settings) (s : SlaveState) (q : PlainSlave) (fits : AreListed p) where
+  abbrev m2 : Manager
+  m2 = manager_at s.managers 2
+
+  abbrev m3 : Manager
+  m3 = manager_at s.managers 3
+
+  abbrev put_into : Buffer → SlaveState
+  put_into b = with_manager s 3 (record m3 { buffer = b })
+
+  abbrev got_from : Buffer → SlaveState
+  got_from b = with_manager s 2 (record m2 { buffer = b })
+
+  -- what the application puts is the plain machine's
+  put_is : (k x : ℕ) → Holds i p s → HoldsData p s q → m3.locked ≡ false → is_running s.al.state ≡ true → input_put s k x ≡ option_map put_into (app_written q.inputs k x)
+  put_is k x h d u runs = if_true _ _ _ runs ∙ elim (cases_lt 0 p.share.ins) [
+    | inl l ↦
+        ap (option_map (with_manager s 3)) (if_true _ _ _ (ins_enabled m3 p.share.ins p.kind.in_start l fits.in_fits (fourth_held i p s h fits) u).1)
+        ∙ (mapped_twice (with_manager s 3) (λ (b : Buffer). record m3 { buffer = b }) (app_written m3.buffer k x) ∙ ap (λ b. option_map put_into (app_written b k x)) d.inputs)
+    | inr z ↦
+        let none : p.share.ins ≡ 0 = omega arith in
+        let off : is_set m3.settings ≡ false = ap is_set (fourth_held i p s h fits ∙ no_bits p.share.ins p.kind.in_start 0x20 none) ∙ unset in
+        ap (option_map (with_manager s 3)) (if_false _ _ _ (and_left _ _ (and_left _ _ off)))
+        ∙ sym (ap (option_map put_into) (none_written q.inputs k x (d.in_bytes.published ∙ ap bytes_of_bits none)))
+  ]
+
+  got_is : (k : ℕ) → Holds i p s → HoldsData p s q → m2.locked ≡ false → is_running s.al.state ≡ true → output_got s k ≡ app_read q.outputs k
+  got_is k h d u runs = if_true _ _ _ runs ∙ elim (cases_lt 0 p.share.outs) [
+    | inl l ↦ if_true _ _ _ (outs_enabled m2 p.share.outs p.kind.out_start l fits.out_fits (third_held i p s h fits) u).1 ∙ ap (λ b. app_read b k) d.outputs
+    | inr z ↦
+        let none : p.share.outs ≡ 0 = omega arith in
+        let off : is_set m2.settings ≡ false = ap is_set (third_held i p s h fits ∙ no_bits p.share.outs p.kind.out_start 0x24 none) ∙ unset in
+        if_false _ _ _ (and_left _ _ (and_left _ _ off)) ∙ sym (none_read q.outputs k (d.out_bytes.published ∙ ap bytes_of_bits none))
+  ]
+
+  mapped_let : {X Y : Type 0} (f : X → Y) (o : Option X) → is_some (option_map f o) ≡ is_some o
+  mapped_let f None = refl
+  mapped_let f (Some x) = refl
+
+  pub put_by : (k x : ℕ) (h : Health) → IsAs i p s q h → input_put s k x ≡ (if not (is_reset h) then option_map put_into (app_written q.inputs k x) else None)
+  put_by k x Working w = put_is k x w.holds w.process w.in_unlocked (ap is_running w.state)
+  put_by k x Faulted w = put_is k x w.holds w.process w.in_unlocked (ap is_running w.state)
+  put_by k x Reset w = if_false _ _ _ (ap is_running (state_on i p s q fits w.as_on))
+
+  pub got_by : (k : ℕ) (h : Health) → IsAs i p s q h → output_got s k ≡ (if is_working h then app_read q.outputs k else None)
+  got_by k Working w = got_is k w.holds w.process w.out_unlocked (ap is_running w.state)
+  got_by k Faulted w = if_true _ _ _ (ap is_running w.state) ∙ if_false _ _ _ (locked_denies m2 w.out_locked).1
+  got_by k Reset w = if_false _ _ _ (ap is_running (state_on i p s q fits w.as_on))
+
+  -- ---- the slave with another buffer in a manager
+
+  managers_kept : (n : ℕ) (m : Manager) → (λ (x : Manager). x.settings) m ≡ (manager_at s.managers n).settings → map (λ (x : Manager). x.settings) (slice_set s.managers n m) ≡ map (λ (x : Manager). x.settings) s.managers
+  managers_kept n m e = map-set_same (λ (x : Manager). x.settings) s.managers n m no_manager e
+
+  own_of : (n : ℕ) (m : Manager) → n < 4 → Holds i p s → manager_at (slice_set s.managers n m) n ≡ m
+  own_of n m l h = get_or-set_same s.managers n m no_manager (let x = two_there i p s q fits h in omega arith)
+
+  others_of : (n k : ℕ) (m : Manager) → k ≢ n → manager_at (slice_set s.managers n m) k ≡ manager_at s.managers k
+  others_of n k m ne = get_or-set_other s.managers n k m no_manager ne
+
+  holds_put : (n : ℕ) (m : Manager) → m.settings ≡ (manager_at s.managers n).settings → Holds i p s → Holds i p (with_manager s n m)
+  holds_put n m e h = record {
+    kind = h.kind;
+    station = h.station;
+    fmmus = h.fmmus;
+    managers = managers_kept n m e ∙ h.managers;
+    outputs = h.outputs;
+    inputs = h.inputs;
+  }
+
+  quiet_put : (n : ℕ) (m : Manager) → n < 4 → m.mail ≡ (manager_at s.managers n).mail → Holds i p s → IsQuiet s → IsQuiet (with_manager s n m)
+  quiet_put n m l e h w = record {
+    no_request = w.no_request;
+    no_read = w.no_read;
+    no_message = λ k. elim (cases_eq k n) [
+      | inl z ↦ subst (λ (j : ℕ). (manager_at (slice_set s.managers n m) j).mail ≡ None) (sym z) (ap (λ (x : Manager). x.mail) (own_of n m l h) ∙ (e ∙ w.no_message n))
+      | inr ne ↦ ap (λ (x : Manager). x.mail) (others_of n k m ne) ∙ w.no_message k
+    ];
+  }
+
+  put_data : (b : Buffer) → IsOfLength (bytes_of_bits p.share.ins) b → Holds i p s → HoldsData p s q → HoldsData p (put_into b) (record q { inputs = b })
+  put_data b len h d = record {
+    outputs = ap (λ (x : Manager). x.buffer) (others_of 3 2 (record m3 { buffer = b }) (omega arith)) ∙ d.outputs;
+    inputs = ap (λ (x : Manager). x.buffer) (own_of 3 (record m3 { buffer = b }) (omega arith) h);
+    out_bytes = d.out_bytes;
+    in_bytes = len;
+  }
+
+  put_shows : (h : Health) (k x : ℕ) (b : Buffer) → app_written q.inputs k x ≡ Some b → is_reset h ≡ false → IsAs i p s q h → IsAs i p (put_into b) (record q { inputs = b }) h
+  put_shows Working k x b e z w = record {
+    holds = holds_put 3 (record m3 { buffer = b }) refl w.holds;
+    quiet = quiet_put 3 (record m3 { buffer = b }) (omega arith) refl w.holds w.quiet;
+    process = put_data b (written_length (bytes_of_bits p.share.ins) q.inputs k x b w.process.in_bytes e) w.holds w.process;
+    state = w.state;
+    no_error = w.no_error;
+    out_unlocked = ap (λ (x : Manager). x.locked) (others_of 3 2 (record m3 { buffer = b }) (omega arith)) ∙ w.out_unlocked;
+    in_unlocked = ap (λ (x : Manager). x.locked) (own_of 3 (record m3 { buffer = b }) (omega arith) w.holds) ∙ w.in_unlocked;
+  }
+  put_shows Faulted k x b e z w = record {
+    holds = holds_put 3 (record m3 { buffer = b }) refl w.holds;
+    quiet = quiet_put 3 (record m3 { buffer = b }) (omega arith) refl w.holds w.quiet;
+    process = put_data b (written_length (bytes_of_bits p.share.ins) q.inputs k x b w.process.in_bytes e) w.holds w.process;
+    state = w.state;
+    error = w.error;
+    out_locked = ap (λ (x : Manager). x.locked) (others_of 3 2 (record m3 { buffer = b }) (omega arith)) ∙ w.out_locked;
+    in_unlocked = ap (λ (x : Manager). x.locked) (own_of 3 (record m3 { buffer = b }) (omega arith) w.holds) ∙ w.in_unlocked;
+  }
+  put_shows Reset k x b e z w = absurd (let y : true ≡ false = z in cc)
+
+  got_shows : (h : Health) (k : ℕ) (g : Got) → app_read q.outputs k ≡ Some g → is_working h ≡ true → IsAs i p s q h → IsAs i p (got_from g.buffer) (record q { outputs = g.buffer }) h
+  got_shows Working k g e z w = record {
+    holds = holds_put 2 (record m2 { buffer = g.buffer }) refl w.holds;
+    quiet = quiet_put 2 (record m2 { buffer = g.buffer }) (omega arith) refl w.holds w.quiet;
+    process = record {
+      outputs = ap (λ (x : Manager). x.buffer) (own_of 2 (record m2 { buffer = g.buffer }) (omega arith) w.holds);
+      inputs = ap (λ (x : Manager). x.buffer) (others_of 2 3 (record m2 { buffer = g.buffer }) (omega arith)) ∙ w.process.inputs;
+      out_bytes = read_length (bytes_of_bits p.share.outs) q.outputs k g w.process.out_bytes e;
+      in_bytes = w.process.in_bytes;
+    };
+    state = w.state;
+    no_error = w.no_error;
+    out_unlocked = ap (λ (x : Manager). x.locked) (own_of 2 (record m2 { buffer = g.buffer }) (omega arith) w.holds) ∙ w.out_unlocked;
+    in_unlocked = ap (λ (x : Manager). x.locked) (others_of 2 3 (record m2 { buffer = g.buffer }) (omega arith)) ∙ w.in_unlocked;
+  }
+  got_shows Faulted k g e z w = absurd (let y : false ≡ true = z in cc)
+  got_shows Reset k g e z w = absurd (let y : false ≡ true = z in cc)
+
+-- ---- the events
+
+abbrev put_plain : Plain → ℕ → ℕ → ℕ → PlainSlave → Option Plain
+put_plain p t i x q = if not (is_reset q.health) then option_map (λ b. plain.with_slave p t (record q { inputs = b })) (app_written q.inputs i x) else None
+
+guarded_let : {X Y Z : Type 0} (c : Bool) (f : X → Y) (g : X → Z) (o : Option X) → is_some (if c then option_map f o else None) ≡ is_some (if c then option_map g o else None)
+guarded_let true f g None = refl
+guarded_let true f g (Some x) = refl
+guarded_let false f g o = refl
+
+pub put_can : (w : WorldState) (p : Plain) (t i x : ℕ) → IsUsable w.plan → Shows w p
+    → (nat_lt t (length w.slaves) && is_some (input_put (slave_of w t) i x)) ≡ is_some (at_slave p t (put_plain p t i x))
+put_can w p t i x sound s = both_let w p t (is_some (input_put (slave_of w t) i x)) (put_plain p t i x) s (λ l.
+    let q = plain_slave p t in
+    ap is_some (put_by t (slave_at w.plan t) (slave_of w t) q (listed w.plan sound t l) i x q.health (s.slaves t l))
+    ∙ guarded_let (not (is_reset q.health)) _ _ (app_written q.inputs i x))
+
+-- where it is let, both have put the same
+pub record PutBoth (s : SlaveState) (q : PlainSlave) (i x : ℕ) (b : Buffer) : Type 0 where
+  pub written : app_written q.inputs i x ≡ Some b
+  pub lives : is_reset q.health ≡ false
+
+pub put_shows_both : (w : WorldState) (p : Plain) (t i x : ℕ) (w2 : WorldState) → IsUsable w.plan → Shows w p
+    → (nat_lt t (length w.slaves) && is_some (input_put (slave_of w t) i x)) ≡ true → Puts w t i x w2 → Shows w2 (unwrap_or (at_slave p t (put_plain p t i x)) p)
+put_shows_both w p t i x w2 sound s can puts =
+    let l = here_of w p t (is_some (input_put (slave_of w t) i x)) s can in
+    let q = plain_slave p t in
+    let a = slave_of w t in
+    let pl = slave_at w.plan t in
+    let by = put_by t pl a q (listed w.plan sound t l) i x q.health (s.slaves t l) in
+    subst (λ (y : WorldState). Shows y (unwrap_or (at_slave p t (put_plain p t i x)) p)) (sym puts.is)
+    (subst (λ (o : Option Plain). Shows (with_slave w t puts.slave) (unwrap_or o p)) (sym (at_there w p t (put_plain p t i x) s l))
+    (go l (is_reset q.health) refl (app_written q.inputs i x) refl (sym puts.put ∙ by)))
+  where
+    go : t < length w.plan.slaves → (r : Bool) → is_reset (plain_slave p t).health ≡ r → (o : Option Buffer) → app_written (plain_slave p t).inputs i x ≡ o
+        → Some puts.slave ≡ (if not (is_reset (plain_slave p t).health) then option_map (λ b. with_manager (slave_of w t) 3 (record (manager_at (slave_of w t).managers 3) { buffer = b })) (app_written (plain_slave p t).inputs i x) else None)
+        → Shows (with_slave w t puts.slave) (unwrap_or (put_plain p t i x (plain_slave p t)) p)
+    go l true e o h is = absurd (none_some puts.slave (sym (is ∙ if_false _ _ _ (ap not e))))
+    go l false e None h is = absurd (none_some puts.slave (sym (is ∙ (if_true _ _ _ (ap not e) ∙ ap (option_map _) h))))
+    go l false e (Some b) h is =
+        let q = plain_slave p t in
+        let a = slave_of w t in
+        let pl = slave_at w.plan t in
+        let put : SlaveState = with_manager a 3 (record (manager_at a.managers 3) { buffer = b }) in
+        let same : puts.slave ≡ put = some_same puts.slave put (is ∙ (if_true _ _ _ (ap not e) ∙ ap (option_map _) h)) in
+        let made : put_plain p t i x q ≡ Some (plain.with_slave p t (record q { inputs = b })) = if_true _ _ _ (ap not e) ∙ ap (option_map _) h in
+        subst (λ (y : SlaveState). Shows (with_slave w t y) (unwrap_or (put_plain p t i x q) p)) (sym same)
+        (subst (λ (o : Option Plain). Shows (with_slave w t put) (unwrap_or o p)) (sym made)
+        (slave_changed w p t put (record q { inputs = b }) s (put_shows t pl a q (listed w.plan sound t l) q.health i x b h e (s.slaves t l)) l))
+
+abbrev get_plain : Plain → ℕ → ℕ → PlainSlave → Option Plain
+get_plain p t i q = if is_working q.health then option_map (got_byte p t q) (app_read q.outputs i) else None
+
+guarded_same : {X Y : Type 0} (c : Bool) (f : X → Y) (o : Option X) → is_some (if c then o else None) ≡ is_some (if c then option_map f o else None)
+guarded_same true f None = refl
+guarded_same true f (Some x) = refl
+guarded_same false f o = refl
+
+pub get_can : (w : WorldState) (p : Plain) (t i : ℕ) → IsUsable w.plan → Shows w p
+    → (nat_lt t (length w.slaves) && is_some (output_got (slave_of w t) i)) ≡ is_some (at_slave p t (get_plain p t i))
+get_can w p t i sound s = both_let w p t (is_some (output_got (slave_of w t) i)) (get_plain p t i) s (λ l.
+    let q = plain_slave p t in
+    ap is_some (got_by t (slave_at w.plan t) (slave_of w t) q (listed w.plan sound t l) i q.health (s.slaves t l))
+    ∙ guarded_same (is_working q.health) (got_byte p t q) (app_read q.outputs i))
+
+pub get_shows_both : (w : WorldState) (p : Plain) (t i : ℕ) (w2 : WorldState) → IsUsable w.plan → Shows w p
+    → (nat_lt t (length w.slaves) && is_some (output_got (slave_of w t) i)) ≡ true → Gets w t i w2 → Shows w2 (unwrap_or (at_slave p t (get_plain p t i)) p)
+get_shows_both w p t i w2 sound s can gets =
+    let l = here_of w p t (is_some (output_got (slave_of w t) i)) s can in
+    let q = plain_slave p t in
+    let a = slave_of w t in
+    let pl = slave_at w.plan t in
+    let by = got_by t pl a q (listed w.plan sound t l) i q.health (s.slaves t l) in
+    subst (λ (y : WorldState). Shows y (unwrap_or (at_slave p t (get_plain p t i)) p)) (sym gets.is)
+    (subst (λ (o : Option Plain). Shows (record (with_slave w t (output_taken a (Some gets.got))) { got = Some gets.got.byte }) (unwrap_or o p)) (sym (at_there w p t (get_plain p t i) s l))
+    (go l (is_working q.health) refl (sym gets.read ∙ by)))
+  where
+    go : t < length w.plan.slaves → (r : Bool) → is_working (plain_slave p t).health ≡ r
+        → Some gets.got ≡ (if is_working (plain_slave p t).health then app_read (plain_slave p t).outputs i else None)
+        → Shows (record (with_slave w t (output_taken (slave_of w t) (Some gets.got))) { got = Some gets.got.byte }) (unwrap_or (get_plain p t i (plain_slave p t)) p)
+    go l false e is = absurd (none_some gets.got (sym (is ∙ if_false _ _ _ e)))
+    go l true e is =
+        let q = plain_slave p t in
+        let a = slave_of w t in
+        let pl = slave_at w.plan t in
+        let g = gets.got in
+        let h : app_read q.outputs i ≡ Some g = sym (is ∙ if_true _ _ _ e) in
+        let made : get_plain p t i q ≡ Some (got_byte p t q g) = if_true _ _ _ e ∙ ap (option_map (got_byte p t q)) h in
+        let c = slave_changed w p t (output_taken a (Some g)) (record q { outputs = g.buffer }) s (got_shows t pl a q (listed w.plan sound t l) q.health i g h e (s.slaves t l)) l in
+        subst (λ (o : Option Plain). Shows (record (with_slave w t (output_taken a (Some g))) { got = Some g.byte }) (unwrap_or o p)) (sym made) (record {
+          started = c.started;
+          no_start = c.no_start;
+          is_ready = c.is_ready;
+          same_plan = c.same_plan;
+          outputs = c.outputs;
+          inputs = c.inputs;
+          next = c.next;
+          got = refl;
+          cycle = c.cycle;
+          report = c.report;
+          count = c.count;
+          plain_count = c.plain_count;
+          slaves = c.slaves;
+          progress = c.progress;
+          frames = c.frames;
+        })

@@ -1,0 +1,131 @@
+-- Closing a cycle: a master that goes by counters takes what the plain machine takes by its notes.
+use Rattle.std.proofs.Common.{ℕ, ◌+◌, ◌-◌, ◌*◌, ◌<◌, ◌≡◌, ◌≢◌, ◌==◌, true, false, Option, Some, None, refl, sym, ◌∙◌, ap, subst, inl, inr, arith, List, [], length, map, get_or, is_some, slice_get, if◌then◌else◌, option_and_then, option_map, unwrap_or}
+use Rattle.std.proofs.lemmas.Bool.{cases_Bool, eq-eqb, eqb-true, and_parts}
+use Rattle.std.proofs.lemmas.List.{length-map, get_or-map}
+use Rattle.std.proofs.lemmas.Option.{slice_get-get_or}
+use Rattle.ec_link.proofs.LinkLaws.{ins_linked}
+use Rattle.ec_bits.specs.Bits.{bit}
+use Rattle.ec_bits.proofs.BitLaws.{overlay_alike}
+use Rattle.ec_bits.proofs.AnyLaws.{if_true, if_false}
+use Rattle.ec_link.specs.declared.settings.Share.{Share}
+use Rattle.ec_link.specs.declared.plan.Predicted.{Predicted}
+use Rattle.ec_link.specs.declared.plan.Predicted.TheVariants.{Lrw, Split}
+use Rattle.ec_link.specs.Shares.{same_counters, unit_of_part, predicted}
+use Rattle.ec_link.specs.Meaning.{share_of, Linked, slave_at, area_at, meaning, in_source}
+use Rattle.ec_link.specs.Plan.{PlanState, part_at, no_part}
+use Rattle.ec_link.specs.declared.plan.PartPlan.{PartPlan}
+use Rattle.ec_link.specs.Usable.{IsUsable}
+use Rattle.ec_cycle.specs.Closing.{KeptPart, is_good, unit_taken, bytes_of, returned_bit, inputs_closed, report_of, nones}
+use Rattle.ec_cycle.specs.Master.{OpenCycle}
+use Rattle.ec_world.specs.Plain.{Note, Other, Short, Full, Cycle, is_full, all_full, unit_full, noted_bit, notes_of_part, taken_bit, inputs_taken}
+use Rattle.ec_world.specs.FrameShows.{note_at}
+use Rattle.ec_world.specs.Shows.{CycleShows, said, CountersPredicted}
+use Rattle.ec_world.proofs.Settings.{get_or-mapped}
+use Rattle.ec_world.proofs.Knowing.{share_is}
+use Rattle.ec_world.proofs.Lists.{all_from-each, all_from-alike, nones-alike, there_too, map-alike, all_each}
+use Rattle.ec_world.proofs.CountLaws.{good_is_full}
+
+unit_is : (plan : PlanState) (k : ℕ) → unit_of_part (meaning plan) k ≡ (part_at plan.parts k).unit
+unit_is plan k = get_or-mapped (λ (x : PartPlan). x.unit) plan.parts k no_part
+
+pub taken_is_full : (plan : PlanState) (c : OpenCycle) (q : Cycle) (u : ℕ) → CycleShows plan c q → unit_taken plan c.kept u ≡ unit_full (meaning plan) q u
+taken_is_full plan c q u h = all_from-alike
+    (λ k o. if (part_at plan.parts k).unit == u then is_good plan k o else true)
+    (λ k o. if unit_of_part (meaning plan) k == u then all_full o else true) 0 c.kept q.kept h.same_parts
+    (λ n. ap (λ v. if v == u then false else true) (sym (unit_is plan n)))
+    (λ i x y a b.
+    let z : 0 + i ≡ i = omega arith in
+    subst (λ (n : ℕ). (if (part_at plan.parts n).unit == u then is_good plan n (Some x) else true) ≡ (if unit_of_part (meaning plan) n == u then all_full (Some y) else true)) (sym z)
+    (ap (λ v. if v == u then is_good plan i (Some x) else true) (sym (unit_is plan i)) ∙ ap (λ v. if unit_of_part (meaning plan) i == u then v else true) (good_is_full plan i y x (h.kept i x y a b))))
+
+full_or : (n : Note) → is_full n ≡ true → n ≢ Other → (v : List ℕ) × (n ≡ Full v)
+full_or Other e ne = absurd (ne refl)
+full_or Short e ne = absurd (let z : false ≡ true = e in cc)
+full_or (Full v) e ne = (v, refl)
+
+all_full_kept : (o : Option (List Note)) → all_full o ≡ true → (ns : List Note) × (o ≡ Some ns)
+all_full_kept None e = absurd (let z : false ≡ true = e in cc)
+all_full_kept (Some ns) e = (ns, refl)
+
+-- one linked input bit
+returned_is_taken : (plan : PlanState) (c : OpenCycle) (q : Cycle) (i : Linked) → IsUsable plan → CycleShows plan c q
+    → i.slave < length plan.slaves → i.bit_of < (area_at plan i.slave).ins → returned_bit plan c.kept i ≡ taken_bit (meaning plan) q i
+returned_is_taken plan c q i sound h l b =
+    let m = meaning plan in
+    let k = (slave_at plan i.slave).share.part in
+    let u = (part_at plan.parts k).unit in
+    let part : (share_of m i.slave).part ≡ k = ap (λ (x : Share). x.part) (share_is plan i.slave) in
+    let unit : unit_of_part m k ≡ u = unit_is plan k in
+    let same : unit_taken plan c.kept u ≡ unit_full m q u = taken_is_full plan c q u h in
+    let len : length c.kept ≡ length q.kept = sym (length-map c.kept (λ o. is_some o)) ∙ (ap length h.same_parts ∙ length-map q.kept (λ o. is_some o)) in
+    let inside : k < length q.kept = let x = h.each_part in let y = sound.in_parts i.slave l in omega arith in
+    let plain : taken_bit m q i ≡ (if unit_full m q u then noted_bit (slice_get (notes_of_part q k) i.slave) i.bit_of else None)
+    = ap (λ j. if unit_full m q (unit_of_part m j) then noted_bit (slice_get (notes_of_part q j) i.slave) i.bit_of else None) part
+    ∙ ap (λ v. if unit_full m q v then noted_bit (slice_get (notes_of_part q k) i.slave) i.bit_of else None) unit in
+    elim (cases_Bool (unit_full m q u)) as (λ _. returned_bit plan c.kept i ≡ taken_bit m q i) [
+      | inr off ↦ if_false _ _ _ (same ∙ off) ∙ sym (plain ∙ if_false _ _ _ off)
+      | inl on ↦
+          let z : 0 + k ≡ k = omega arith in
+          let own : all_full (get_or q.kept k None) ≡ true
+          = sym (if_true (unit_of_part m k == u) (all_full (get_or q.kept k None)) true (eq-eqb _ _ unit))
+          ∙ subst (λ (n : ℕ). (if unit_of_part m n == u then all_full (get_or q.kept k None) else true) ≡ true) z
+          (all_from-each (λ j o. if unit_of_part m j == u then all_full o else true) 0 q.kept k None on inside) in
+          let notes = all_full_kept (get_or q.kept k None) own in
+          let kept = there_too c.kept q.kept k notes.0 h.same_parts notes.1 in
+          let shows = h.kept k kept.0 notes.0 kept.1 notes.1 in
+          let few : i.slave < length notes.0 = let x = shows.all in omega arith in
+          let full = all_each is_full notes.0 i.slave Other (sym (ap all_full notes.1) ∙ own) few in
+          let note = full_or (note_at notes.0 i.slave) full (shows.in_part i.slave few part) in
+          let bits = shows.noted i.slave i.bit_of note.0 few note.1 b in
+          if_true _ _ _ (same ∙ on)
+          ∙ (ap (λ o. Some (bit (bytes_of o) ((area_at plan i.slave).in_at + i.bit_of - 8 * (part_at plan.parts k).address))) kept.1
+          ∙ (ap (λ x. Some x) bits
+          ∙ sym (plain ∙ (if_true _ _ _ on
+          ∙ (ap (λ o. noted_bit (slice_get (unwrap_or o []) i.slave) i.bit_of) notes.1
+          ∙ (ap (λ o. noted_bit o i.bit_of) (slice_get-get_or notes.0 i.slave Other few)
+          ∙ ap (λ n. noted_bit (Some n) i.bit_of) note.1))))))
+    ]
+
+pub inputs_same : (plan : PlanState) (c : OpenCycle) (q : Cycle) (image : List ℕ) → IsUsable plan → CycleShows plan c q
+    → inputs_closed plan c.kept image ≡ inputs_taken (meaning plan) q image
+inputs_same plan c q image sound h = overlay_alike image _ _ (λ b l. ap (λ o. unwrap_or o (bit image b)) (go b (in_source plan.in_links b) refl))
+  where
+    go : (b : ℕ) (o : Option Linked) → in_source plan.in_links b ≡ o → option_and_then (returned_bit plan c.kept) (in_source plan.in_links b) ≡ option_and_then (taken_bit (meaning plan) q) (in_source plan.in_links b)
+    go b None e = ap (option_and_then (returned_bit plan c.kept)) e ∙ sym (ap (option_and_then (taken_bit (meaning plan) q)) e)
+    go b (Some i) e =
+        let linked = ins_linked plan plan.in_links b i sound.in_links e in
+        let few : i.slave < length plan.slaves = let x = length-map plan.slaves (λ s. s.share) in let y = linked.0 in omega arith in
+        let inside : i.bit_of < (area_at plan i.slave).ins = let x = sound.laid.ins i.slave in let y = linked.1 in omega arith in
+        ap (option_and_then (returned_bit plan c.kept)) e ∙ (returned_is_taken plan c q i sound h few inside ∙ sym (ap (option_and_then (taken_bit (meaning plan) q)) e))
+
+pub report_said : (plan : PlanState) (c : OpenCycle) (q : Cycle) → CycleShows plan c q
+    → said (report_of plan c.kept) ≡ record { taken = map (unit_full (meaning plan) q) plan.units; missing = nones q.kept }
+report_said plan c q h =
+    ap (λ ts. record { taken = ts; missing = nones c.kept }) (map-alike (unit_taken plan c.kept) (unit_full (meaning plan) q) plan.units (λ u. taken_is_full plan c q u h))
+    ∙ ap (λ n. record { taken = map (unit_full (meaning plan) q) plan.units; missing = n }) (nones-alike c.kept q.kept h.same_parts)
+
+-- ---- counters
+
+counters_equal : (a b : Predicted) → same_counters a b ≡ true → a ≡ b
+counters_equal (Lrw n) (Lrw m) e = ap (λ x. Lrw x) (eqb-true n m e)
+counters_equal (Lrw n) (Split w r) e = absurd (let z : false ≡ true = e in cc)
+counters_equal (Split w r) (Lrw n) e = absurd (let z : false ≡ true = e in cc)
+counters_equal (Split w r) (Split v q) e =
+    let both = and_parts (w == v) (r == q) e in
+    ap (λ x. Split x r) (eqb-true w v both.0) ∙ ap (λ x. Split v x) (eqb-true r q both.1)
+
+good_counters : (plan : PlanState) (k : ℕ) (o : Option KeptPart) → is_good plan k o ≡ true → option_map (λ (q : KeptPart). q.counters) o ≡ Some (predicted plan k)
+good_counters plan k None e = absurd (let z : false ≡ true = e in cc)
+good_counters plan k (Some q) e = ap (λ x. Some x) (counters_equal q.counters (predicted plan k) (and_parts (q.broadcast == length plan.slaves) (same_counters q.counters (predicted plan k)) e).1)
+
+-- a taken unit has the predicted counters
+pub counters_predicted : (plan : PlanState) (kept : List (Option KeptPart)) → length kept ≡ length plan.parts → CountersPredicted plan (report_of plan kept)
+counters_predicted plan kept len i k b taken there unit =
+    let u = get_or plan.units i 0 in
+    let on : unit_taken plan kept u ≡ true = sym (get_or-map (unit_taken plan kept) plan.units i 0 false b) ∙ taken in
+    let z : 0 + k ≡ k = omega arith in
+    let own : is_good plan k (get_or kept k None) ≡ true
+    = sym (if_true ((part_at plan.parts k).unit == u) (is_good plan k (get_or kept k None)) true (eq-eqb _ _ unit))
+    ∙ subst (λ (n : ℕ). (if (part_at plan.parts n).unit == u then is_good plan n (get_or kept k None) else true) ≡ true) z
+    (all_from-each (λ j o. if (part_at plan.parts j).unit == u then is_good plan j o else true) 0 kept k None on (omega arith)) in
+    get_or-mapped (λ (o : Option KeptPart). option_map (λ q. q.counters) o) kept k None ∙ good_counters plan k (get_or kept k None) own

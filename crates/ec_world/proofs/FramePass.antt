@@ -1,0 +1,121 @@
+-- A cyclic frame passes the next slave.
+use Rattle.std.proofs.Common.{ℕ, ◌+◌, ◌*◌, ◌%◌, ◌<◌, ◌≤◌, ◌≡◌, Some, refl, sym, ◌∙◌, ap, subst, arith, List, [], ◌∷◌, ◌++◌, length, slice_index, bit_or, mod-eq_of_lt}
+use Rattle.std.proofs.lemmas.List.{length_push, length-map}
+use Rattle.ec_frame.specs.Datagram.{Datagram, adp_of, ado_of}
+use Rattle.ec_frame.specs.Frame.{with_datagrams}
+use Rattle.ec_slave.specs.State.{SlaveState, with_answer}
+use Rattle.ec_slave.specs.Access.{byte_at, retold}
+use Rattle.ec_slave.specs.Keeping.{length-retold}
+use Rattle.ec_slave.specs.Meeting.{meets, passes, Passed, IsPassed}
+use Rattle.ec_slave.proofs.Broadcast.{broadcast_read}
+use Rattle.ec_link.specs.Plan.{PlanState, part_at}
+use Rattle.ec_link.specs.Meaning.{slave_at, area_at, place_of_part, meaning}
+use Rattle.ec_link.specs.Usable.{IsUsable}
+use Rattle.ec_cycle.specs.Frames.{name_datagram, status_datagram, process_datagrams}
+use Rattle.ec_world.specs.Plain.{PlainSlave, PlainFrame, met_note, met_slave, with_note}
+use Rattle.ec_world.specs.SlaveShows.{SlaveShows}
+use Rattle.ec_world.specs.FrameShows.{DatagramsShow, FrameShows}
+use Rattle.ec_world.specs.Exchanging.{given_in, slave_left}
+use Rattle.ec_world.proofs.ProcessPass.{ProcessPassed, process_pass, passes_first}
+use Rattle.ec_world.proofs.Knowing.{knows, left_shows}
+
+nop_meets : (s : SlaveState) (number k : ℕ) → meets s (name_datagram number k) ≡ record { slave = s; datagram = name_datagram number k }
+unfolding meets
+nop_meets s number k = refl
+
+-- the AL status word after the slave
+pub record StatusMet (s : SlaveState) (number n : ℕ) (al : List ℕ) : Type 0 where
+  pub al2 : List ℕ
+  pub word : length al2 ≡ 2
+  pub is : meets s (status_datagram number n al) ≡ record { slave = s; datagram = status_datagram number (n + 1) al2 }
+
+pub status_meets : (s : SlaveState) (number n : ℕ) (al : List ℕ) → length al ≡ 2 → n < 64 → StatusMet s number n al
+status_meets s number n al two few =
+    let d = status_datagram number n al in
+    let ado : ado_of d ≡ 0x0130 = omega arith in
+    let adp : adp_of d ≡ n = omega arith in
+    let al2 = retold al (λ k. Some (bit_or (slice_index al k) (byte_at s (ado_of d + k)))) in
+    let met = broadcast_read s d refl (omega arith) (omega arith) in
+    let wraps : (n + 1) % 65536 ≡ n + 1 = mod-eq_of_lt (omega arith) in
+    record {
+      al2 = al2;
+      word = length-retold 0 al _ ∙ two;
+      is = met ∙ ap (λ x. record { slave = s; datagram = x }) (answer d al2 ado adp wraps);
+    }
+  where
+    answer : (d : Datagram) (al2 : List ℕ) → ado_of d ≡ 0x0130 → adp_of d ≡ n → (n + 1) % 65536 ≡ n + 1 → with_answer (status_datagram number n al) ((adp_of d + 1) % 65536 + 65536 * ado_of d) al2 1 ≡ status_datagram number (n + 1) al2
+    answer d al2 ado adp wraps = rw (ado, adp, wraps) refl
+
+-- the datagrams of a cyclic frame after one more slave
+pub record DatagramsPassed (plan : PlanState) (f : PlainFrame) (q : PlainSlave) (s : SlaveState) (after : Passed) : Type 0 where
+  pub slave : after.slave ≡ slave_left (meaning plan) (length f.notes) f q s
+  pub shows : DatagramsShow plan (with_note f (met_note (meaning plan) (length f.notes) f q)) after.datagrams
+
+pub datagrams_pass : (plan : PlanState) (f : PlainFrame) (q : PlainSlave) (s : SlaveState) (ds : List Datagram)
+    → IsUsable plan → length f.notes < length plan.slaves → SlaveShows (length f.notes) (slave_at plan (length f.notes)) s q
+    → DatagramsShow plan f ds → DatagramsPassed plan f q s (passes s ds)
+datagrams_pass plan f q s ds sound l h shows =
+    let m = meaning plan in
+    let t = length f.notes in
+    let part = part_at plan.parts f.part in
+    let n = met_note m t f q in
+    let g = given_in m t f q in
+    let few : length plan.slaves ≤ 64 = sound.few_slaves in
+    let many : length m.slaves ≡ length plan.slaves = length-map plan.slaves (λ s. s.share) in
+    let st = status_meets s f.number t shows.al shows.al_word (omega arith) in
+    let on : ProcessPassed m (area_at plan) (place_of_part plan f.part) part f q s shows.gave (passes s (process_datagrams part f.number shows.sent shows.returned shows.gave))
+    = process_pass m (area_at plan) (place_of_part plan) part f q s shows.sent shows.returned shows.gave sound.laid (omega arith) (omega arith) refl shows.process shows.one_datagram (knows plan t f q s sound l h) in
+    let more : length (f.notes ++ (n ∷ [])) ≡ t + 1 = length_push f.notes n in
+    let s3 = slave_left m t f q s in
+    let gs = shows.gave ++ (g ∷ []) in
+    let process = process_datagrams part f.number on.sent on.returned gs in
+    let name = name_datagram f.number f.part in
+    let status = status_datagram f.number t shows.al in
+    let status2 = status_datagram f.number (t + 1) st.al2 in
+    let first = process_datagrams part f.number shows.sent shows.returned shows.gave in
+    let whole : passes s ds ≡ record { slave = s3; datagrams = name ∷ status2 ∷ process }
+    = ap (passes s) shows.is
+    ∙ (passes_first s s name name (status ∷ first) (nop_meets s f.number f.part)
+    ∙ (ap (λ (x : Passed). record { slave = x.slave; datagrams = name ∷ x.datagrams }) (passes_first s s status status2 first st.is)
+    ∙ ap (λ (x : Passed). record { slave = x.slave; datagrams = name ∷ status2 ∷ x.datagrams }) on.is)) in
+    subst (λ (x : Passed). DatagramsPassed plan f q s x) (sym whole) (record {
+      slave = refl;
+      shows = record {
+        al = st.al2;
+        al_word = st.word;
+        sent = on.sent;
+        returned = on.returned;
+        gave = gs;
+        is = ap (λ k. name ∷ status_datagram f.number k st.al2 ∷ process) (sym more);
+        one_datagram = on.one_datagram;
+        process = on.shows;
+        part_there = shows.part_there;
+        number_fits = shows.number_fits;
+        not_more = omega (arith, more);
+      };
+    })
+
+-- what a pass owes
+pub record FramePassed (plan : PlanState) (f : PlainFrame) (q : PlainSlave) (s s2 : SlaveState) (bytes2 : List ℕ) : Type 0 where
+  pub slave : s2 ≡ slave_left (meaning plan) (length f.notes) f q s
+  pub shows : SlaveShows (length f.notes) (slave_at plan (length f.notes)) s2 (met_slave (meaning plan) (length f.notes) f q)
+  pub frame : FrameShows plan (with_note f (met_note (meaning plan) (length f.notes) f q)) bytes2
+
+pub frame_pass : (plan : PlanState) (f : PlainFrame) (q : PlainSlave) (s s2 : SlaveState) (bytes bytes2 : List ℕ)
+    → IsUsable plan → length f.notes < length plan.slaves → SlaveShows (length f.notes) (slave_at plan (length f.notes)) s q
+    → FrameShows plan f bytes → IsPassed s bytes s2 bytes2 → FramePassed plan f q s s2 bytes2
+frame_pass plan f q s s2 bytes bytes2 sound l h shows passed =
+    let m = meaning plan in
+    let t = length f.notes in
+    let p = shows.payload in
+    let on = datagrams_pass plan f q s p.datagrams sound l h shows.shows in
+    let left : s2 ≡ slave_left m t f q s = passed.slave p shows.spelled ∙ on.slave in
+    record {
+      slave = left;
+      shows = subst (λ (x : SlaveState). SlaveShows t (slave_at plan t) x (met_slave m t f q)) (sym left) (left_shows plan t f q s sound l h);
+      frame = record {
+        payload = with_datagrams p (passes s p.datagrams).datagrams;
+        spelled = passed.frame p shows.spelled;
+        shows = on.shows;
+      };
+    }

@@ -1,0 +1,257 @@
+-- Events of the master: a variable set, a cycle begun, a frame that comes back, a cycle closed.
+use Rattle.std.proofs.Common.{ℕ, zero, suc, ◌+◌, ◌-◌, ◌^◌, ◌<◌, ◌≡◌, ◌&&◌, Bool, true, false, Option, Some, None, refl, sym, ◌∙◌, ap, subst, arith, List, [], ◌∷◌, length, map, get_or, is_some, is_none, slice_get, if◌then◌else◌, option_map, unwrap_or, nat_lt, nat_le}
+use Rattle.std.proofs.lemmas.Bool.{and_parts, ltb-true}
+use Rattle.std.proofs.lemmas.List.{length-map}
+use Rattle.ec_link.specs.Wires.{is_out}
+use Rattle.ec_bits.specs.Bits.{with_number}
+use Rattle.ec_bits.proofs.AnyLaws.{if_true}
+use Rattle.ec_frame.specs.Frame.{IsFrame}
+use Rattle.ec_frame.specs.Building.{bare_payload}
+use Rattle.ec_link.specs.declared.image.Variable.{Variable}
+use Rattle.ec_link.specs.Plan.{PlanState}
+use Rattle.ec_link.specs.Meaning.{meaning}
+use Rattle.ec_link.specs.Usable.{IsUsable}
+use Rattle.ec_cycle.specs.Closing.{KeptPart, nones, inputs_closed, report_of, ReportState}
+use Rattle.ec_cycle.specs.Frames.{sent_datagrams}
+use Rattle.ec_cycle.specs.Master.{MasterState, OpenCycle, closed, cycle_limit, holds_value, value_put, variable_set}
+use Rattle.ec_world.specs.Plain.{Plain, PlainFrame, Note, Cycle, progress_of, all_progress, filled, new_frames, setting, beginning, closing}
+use Rattle.ec_world.specs.World.{WorldState, Flight, flight_progress, flights_progress, flights_from, can_begin, Begins, Closes}
+use Rattle.ec_world.specs.Shows.{Shows, CyclesShow, CycleShows, said, CountersPredicted}
+use Rattle.ec_world.specs.FrameShows.{FrameShows}
+use Rattle.ec_world.proofs.Lists.{theres, nones-alike}
+use Rattle.ec_world.proofs.Slots.{same_slots}
+use Rattle.ec_world.proofs.Filling.{filled-map, filled-both}
+use Rattle.ec_world.proofs.Fresh.{fresh, fresh_shows}
+use Rattle.ec_world.proofs.CloseLaws.{inputs_same, report_said, counters_predicted}
+
+none_some : {X : Type 0} (x : X) → None ≡ Some x → ⊥
+none_some x e = cc
+
+some_same : {X : Type 0} (x y : X) → Some x ≡ Some y → x ≡ y
+some_same x y e = cc
+
+-- ---- cycles
+
+pub record OpenBoth (plan : PlanState) (c : OpenCycle) (o : Option Cycle) : Type 0 where
+  pub cycle : Cycle
+  pub is : o ≡ Some cycle
+  pub shows : CycleShows plan c cycle
+
+pub open_both : (plan : PlanState) (c : OpenCycle) (o : Option Cycle) → CyclesShow plan (Some c) o → OpenBoth plan c o
+open_both plan c None h = absurd h
+open_both plan c (Some q) h = record { cycle = q; is = refl; shows = h }
+
+pub cycles_alike : (plan : PlanState) (o : Option OpenCycle) (p : Option Cycle) → CyclesShow plan o p → is_some o ≡ is_some p
+cycles_alike plan None None h = refl
+cycles_alike plan None (Some q) h = absurd h
+cycles_alike plan (Some c) None h = absurd h
+cycles_alike plan (Some c) (Some q) h = refl
+
+-- ---- a variable set
+
+set_made : (p : Plain) (value : ℕ) (o : Option Variable) → holds_value value o ≡ is_some (setting p value o)
+set_made p value None = refl
+set_made p value (Some v) = go (is_out v.direction && nat_lt value (2 ^ v.bits))
+  where
+    go : (b : Bool) → b ≡ is_some (if b then Some (record p { outputs = with_number p.outputs v.from v.bits value }) else None)
+    go true = refl
+    go false = refl
+
+set_is : (p : Plain) (value : ℕ) (o : Option Variable) → holds_value value o ≡ true → unwrap_or (setting p value o) p ≡ record p { outputs = value_put p.outputs value o }
+set_is p value None e = refl
+set_is p value (Some v) e = ap (λ x. unwrap_or x p) (if_true _ _ _ e)
+
+variables_same : (w : WorldState) (p : Plain) (v : ℕ) → Shows w p → slice_get w.master.plan.variables v ≡ slice_get w.plan.variables v
+variables_same w p v s = ap (λ (x : PlanState). slice_get x.variables v) s.same_plan
+
+pub set_can : (w : WorldState) (p : Plain) (v x : ℕ) → Shows w p → holds_value x (slice_get w.master.plan.variables v) ≡ is_some (setting p x (slice_get (meaning w.plan).variables v))
+set_can w p v x s = ap (holds_value x) (variables_same w p v s) ∙ set_made p x (slice_get w.plan.variables v)
+
+pub set_shows : (w : WorldState) (p : Plain) (v x : ℕ) → Shows w p → holds_value x (slice_get w.master.plan.variables v) ≡ true
+    → Shows (record w { master = variable_set w.master v x }) (unwrap_or (setting p x (slice_get (meaning w.plan).variables v)) p)
+set_shows w p v x s can =
+    subst (λ (q : Plain). Shows (record w { master = variable_set w.master v x }) q) (sym (set_is p x (slice_get w.plan.variables v) (sym (ap (holds_value x) (variables_same w p v s)) ∙ can))) (record {
+      started = s.started;
+      no_start = s.no_start;
+      is_ready = s.is_ready;
+      same_plan = s.same_plan;
+      outputs = ap (value_put w.master.outputs x) (variables_same w p v s) ∙ ap (λ image. value_put image x (slice_get w.plan.variables v)) s.outputs;
+      inputs = s.inputs;
+      next = s.next;
+      got = s.got;
+      cycle = s.cycle;
+      report = s.report;
+      count = s.count;
+      plain_count = s.plain_count;
+      slaves = s.slaves;
+      progress = s.progress;
+      frames = s.frames;
+    })
+
+-- ---- a cycle begun
+
+begin_made : (w : WorldState) (p : Plain) → Shows w p
+    → (is_none p.cycle && (nat_le (length (meaning w.plan).parts) (nones p.slots) && nat_lt p.next (2 ^ 64 - 1))) ≡ can_begin w
+begin_made w p s =
+    let opened : is_none p.cycle ≡ is_none w.master.cycle = not_same w.master.cycle p.cycle s.cycle in
+    let parts : length (meaning w.plan).parts ≡ length w.plan.parts = length-map w.plan.parts (λ k. k.unit) in
+    let free : nones p.slots ≡ nones w.slots = sym (nones-alike w.slots p.slots (same_slots w.slots p.slots s.progress)) in
+    ap (λ b. b && (nat_le (length (meaning w.plan).parts) (nones p.slots) && nat_lt p.next (2 ^ 64 - 1))) opened
+    ∙ (ap (λ n. is_none w.master.cycle && (nat_le n (nones p.slots) && nat_lt p.next (2 ^ 64 - 1))) parts
+    ∙ (ap (λ n. is_none w.master.cycle && (nat_le (length w.plan.parts) n && nat_lt p.next (2 ^ 64 - 1))) free
+    ∙ (ap (λ n. is_none w.master.cycle && (nat_le (length w.plan.parts) (nones w.slots) && nat_lt n (2 ^ 64 - 1))) (sym s.next)
+    ∙ ap (λ b. b && (is_none w.master.cycle && (nat_le (length w.plan.parts) (nones w.slots) && nat_lt w.master.next cycle_limit))) (sym s.is_ready))))
+  where
+    not_same : (o : Option OpenCycle) (q : Option Cycle) → CyclesShow w.plan o q → is_none q ≡ is_none o
+    not_same None None h = refl
+    not_same None (Some q) h = absurd h
+    not_same (Some c) None h = absurd h
+    not_same (Some c) (Some q) h = refl
+
+abbrev begun_plain : WorldState → Plain → Plain
+begun_plain w p = record p {
+  next = p.next + 1;
+  cycle = Some (record { number = p.next; kept = map (λ u. None) (meaning w.plan).parts });
+  slots = filled (new_frames p.next p.outputs 0 (meaning w.plan).parts) p.slots;
+}
+
+pub begin_can : (w : WorldState) (p : Plain) → Shows w p → can_begin w ≡ is_some (beginning (meaning w.plan) p)
+begin_can w p s = sym (begin_made w p s) ∙ go (is_none p.cycle && (nat_le (length (meaning w.plan).parts) (nones p.slots) && nat_lt p.next (2 ^ 64 - 1)))
+  where
+    go : (b : Bool) → b ≡ is_some (if b then Some (begun_plain w p) else None)
+    go true = refl
+    go false = refl
+
+none_of : {X Y : Type 0} (xs : List X) (k : ℕ) (y : Y) → get_or (map (λ x. None) xs) k None ≡ Some y → ⊥
+none_of [] k y e = none_some y e
+none_of (x ∷ xs) zero y e = none_some y e
+none_of (x ∷ xs) (suc k) y e = none_of xs k y e
+
+abbrev nothing : (Z : Type 0) → {X : Type 0} → X → Option Z
+nothing Z x = None
+
+none_there : {X Y : Type 0} (Z W : Type 0) (xs : List X) (ys : List Y) → length xs ≡ length ys → theres (map (nothing Z) xs) ≡ theres (map (nothing W) ys)
+none_there Z W [] [] e = refl
+none_there Z W [] (y ∷ ys) e = absurd (omega arith)
+none_there Z W (x ∷ xs) [] e = absurd (omega arith)
+none_there Z W (x ∷ xs) (y ∷ ys) e = ap (λ bs. false ∷ bs) (none_there Z W xs ys (omega arith))
+
+same_start : (number k : ℕ) (image : List ℕ) (bs : List (List ℕ)) (us : List ℕ) → length bs ≡ length us → map flight_progress (flights_from number k bs) ≡ map progress_of (new_frames number image k us)
+same_start number k image [] [] e = refl
+same_start number k image [] (u ∷ us) e = absurd (omega arith)
+same_start number k image (b ∷ bs) [] e = absurd (omega arith)
+same_start number k image (b ∷ bs) (u ∷ us) e = ap (λ ps. record { number = number; part = k; passed = 0 } ∷ ps) (same_start number (k + 1) image bs us (omega arith))
+
+many_flights : (number k : ℕ) (image : List ℕ) (bs : List (List ℕ)) (us : List ℕ) → length bs ≡ length us → length (flights_from number k bs) ≡ length (new_frames number image k us)
+many_flights number k image bs us e = sym (length-map (flights_from number k bs) flight_progress) ∙ (ap length (same_start number k image bs us e) ∙ length-map (new_frames number image k us) progress_of)
+
+-- what holds of each new frame
+new_both : (R : Flight → PlainFrame → Type 0) (number k : ℕ) (image : List ℕ) (bs : List (List ℕ)) (us : List ℕ)
+    → ((i : ℕ) → i < length bs → R (record { bytes = get_or bs i []; number = number; part = k + i; passed = 0 }) (fresh number (k + i) image))
+    → (i : ℕ) (x : Flight) (y : PlainFrame) → slice_get (flights_from number k bs) i ≡ Some x → slice_get (new_frames number image k us) i ≡ Some y → R x y
+new_both R number k image [] us h i x y a b = absurd (none_some x a)
+new_both R number k image (c ∷ bs) [] h i x y a b = absurd (none_some y b)
+new_both R number k image (c ∷ bs) (u ∷ us) h zero x y a b =
+    let z : k + 0 ≡ k = omega arith in
+    let r : R (record { bytes = c; number = number; part = k; passed = 0 }) (fresh number k image) = subst (λ (n : ℕ). R (record { bytes = c; number = number; part = n; passed = 0 }) (fresh number n image)) z (h 0 (omega arith)) in
+    subst (λ (x : Flight). R x y) (some_same _ x a) (subst (λ (y : PlainFrame). R (record { bytes = c; number = number; part = k; passed = 0 }) y) (some_same _ y b) r)
+new_both R number k image (c ∷ bs) (u ∷ us) h (suc i) x y a b =
+    new_both R number (k + 1) image bs us (λ j l. let z : k + suc j ≡ k + 1 + j = omega arith in subst (λ (n : ℕ). R (record { bytes = get_or bs j []; number = number; part = n; passed = 0 }) (fresh number n image)) z (h (suc j) (omega arith))) i x y a b
+
+pub begin_shows : (w : WorldState) (p : Plain) (w2 : WorldState) → IsUsable w.plan → Shows w p → can_begin w ≡ true → Begins w w2 → Shows w2 (unwrap_or (beginning (meaning w.plan) p) p)
+begin_shows w p w2 sound s can begins =
+    let m = meaning w.plan in
+    let c = begins.cycle in
+    let b = begins.master in
+    let slots = filled (flights_from w.master.next 0 c.frames) w.slots in
+    let begun : MasterState = record w.master { next = w.master.next + 1; cycle = Some c } in
+    let w3 : WorldState = record w { master = begun; slots = slots } in
+    let is : w2 ≡ w3 = begins.is ∙ ap (λ x. record w { master = x; slots = slots }) b.is in
+    let p2 : Plain = record p {
+      next = p.next + 1;
+      cycle = Some (record { number = p.next; kept = map (λ u. None) m.parts });
+      slots = filled (new_frames p.next p.outputs 0 m.parts) p.slots;
+    } in
+    let made : beginning m p ≡ Some p2 = if_true _ _ _ (begin_made w p s ∙ can) in
+    let parts : length m.parts ≡ length w.plan.parts = length-map w.plan.parts (λ k. k.unit) in
+    let plan_parts : length w.master.plan.parts ≡ length w.plan.parts = ap (λ (x : PlanState). length x.parts) s.same_plan in
+    let as_many : length c.frames ≡ length m.parts = b.count ∙ (plan_parts ∙ sym parts) in
+    let fits : w.master.next < 2 ^ 64 - 1 = ltb-true _ _ (and_parts (nat_le (length w.plan.parts) (nones w.slots)) _ (and_parts (is_none w.master.cycle) _ (and_parts w.master.is_ready _ can).1).1).1 in
+    subst (λ (x : WorldState). Shows x (unwrap_or (beginning m p) p)) (sym is) (subst (λ (o : Option Plain). Shows w3 (unwrap_or o p)) (sym made) (record {
+      started = s.started;
+      no_start = s.no_start;
+      is_ready = s.is_ready;
+      same_plan = s.same_plan;
+      outputs = s.outputs;
+      inputs = s.inputs;
+      next = ap (λ n. n + 1) s.next;
+      got = s.got;
+      cycle = record {
+        number = b.number ∙ s.next;
+        number_fits = let e = s.next in omega arith;
+        each_part = ap length b.kept ∙ (length-map w.master.plan.parts (nothing KeptPart) ∙ plan_parts);
+        same_parts = ap theres b.kept ∙ none_there KeptPart (List Note) w.master.plan.parts m.parts (plan_parts ∙ sym parts);
+        kept = λ k part notes a z. absurd (none_of m.parts k notes z);
+      };
+      report = s.report;
+      count = s.count;
+      plain_count = s.plain_count;
+      slaves = s.slaves;
+      progress =
+          filled-map flight_progress (flights_from w.master.next 0 c.frames) w.slots
+          ∙ (ap (λ fs. filled fs (flights_progress w.slots)) (same_start w.master.next 0 p.outputs c.frames m.parts as_many)
+          ∙ (ap (λ os. filled (map progress_of (new_frames w.master.next p.outputs 0 m.parts)) os) s.progress
+          ∙ (ap (λ n. filled (map progress_of (new_frames n p.outputs 0 m.parts)) (all_progress p.slots)) s.next
+          ∙ sym (filled-map progress_of (new_frames p.next p.outputs 0 m.parts) p.slots))));
+      frames = filled-both (λ x f. FrameShows w.plan f x.bytes) (flights_from w.master.next 0 c.frames) (new_frames p.next p.outputs 0 m.parts) w.slots p.slots
+          (many_flights w.master.next 0 p.outputs c.frames m.parts as_many ∙ ap (λ n. length (new_frames n p.outputs 0 m.parts)) s.next)
+          (same_slots w.slots p.slots s.progress)
+          (subst (λ (n : ℕ). (i : ℕ) (x : Flight) (y : PlainFrame) → slice_get (flights_from w.master.next 0 c.frames) i ≡ Some x → slice_get (new_frames n p.outputs 0 m.parts) i ≡ Some y → FrameShows w.plan y x.bytes) s.next
+          (new_both (λ x f. FrameShows w.plan f x.bytes) w.master.next 0 p.outputs c.frames m.parts (λ i l.
+          let k : 0 + i ≡ i = omega arith in
+          subst (λ (n : ℕ). FrameShows w.plan (fresh w.master.next n p.outputs) (get_or c.frames i [])) (sym k)
+          (fresh_shows w.plan w.master.next i p.outputs (get_or c.frames i []) sound (omega arith) (omega arith)
+          (subst (λ (x : PlanState). IsFrame (get_or c.frames i []) (bare_payload (sent_datagrams x w.master.next i p.outputs))) s.same_plan
+          (subst (λ (image : List ℕ). IsFrame (get_or c.frames i []) (bare_payload (sent_datagrams w.master.plan w.master.next i image))) s.outputs
+          (b.frames i (let e = b.count in omega arith))))))))
+          s.frames;
+    }))
+
+-- ---- a cycle closed
+
+pub close_can : (w : WorldState) (p : Plain) → Shows w p → is_some w.master.cycle ≡ is_some (option_map (closing (meaning w.plan) p) p.cycle)
+close_can w p s = cycles_alike w.plan w.master.cycle p.cycle s.cycle ∙ sym (mapped (closing (meaning w.plan) p) p.cycle)
+  where
+    mapped : (f : Cycle → Plain) (o : Option Cycle) → is_some (option_map f o) ≡ is_some o
+    mapped f None = refl
+    mapped f (Some q) = refl
+
+pub close_shows : (w : WorldState) (p : Plain) (w2 : WorldState) → IsUsable w.plan → Shows w p → Closes w w2 → Shows w2 (unwrap_or (option_map (closing (meaning w.plan) p) p.cycle) p)
+close_shows w p w2 sound s closes =
+    let m = meaning w.plan in
+    let c = closes.cycle in
+    let both = open_both w.plan c p.cycle (subst (λ (o : Option OpenCycle). CyclesShow w.plan o p.cycle) closes.is_open s.cycle) in
+    let q = both.cycle in
+    let w3 : WorldState = record w { master = closed w.master c; report = Some (report_of w.master.plan c.kept) } in
+    subst (λ (x : WorldState). Shows x (unwrap_or (option_map (closing m p) p.cycle) p)) (sym closes.is)
+    (subst (λ (o : Option Cycle). Shows w3 (unwrap_or (option_map (closing m p) o) p)) (sym both.is) (record {
+      started = s.started;
+      no_start = s.no_start;
+      is_ready = s.is_ready;
+      same_plan = s.same_plan;
+      outputs = s.outputs;
+      inputs = ap (λ x. inputs_closed x c.kept w.master.inputs) s.same_plan ∙ (ap (inputs_closed w.plan c.kept) s.inputs ∙ inputs_same w.plan c q p.inputs sound both.shows);
+      next = s.next;
+      got = s.got;
+      cycle = tt;
+      report = record {
+        same = ap (λ x. Some x) (ap (λ x. said (report_of x c.kept)) s.same_plan ∙ report_said w.plan c q both.shows);
+        counters = λ r e. subst (λ (x : ReportState). CountersPredicted w.plan x) (some_same _ r e)
+            (subst (λ (x : PlanState). CountersPredicted w.plan (report_of x c.kept)) (sym s.same_plan) (counters_predicted w.plan c.kept both.shows.each_part));
+      };
+      count = s.count;
+      plain_count = s.plain_count;
+      slaves = s.slaves;
+      progress = s.progress;
+      frames = s.frames;
+    }))

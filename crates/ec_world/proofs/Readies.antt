@@ -1,0 +1,208 @@
+-- A world whose start-up is ready shows a plain state.
+use Rattle.std.proofs.Common.{ℕ, zero, suc, ◌<◌, ◌≡◌, ◌⊎◌, Bool, true, false, Option, Some, None, refl, sym, ◌∙◌, ap, subst, inl, inr, arith, List, [], ◌∷◌, length, map, get_or, option_map}
+use Rattle.std.proofs.lemmas.Bool.{cases_lt, and_from, and_left}
+use Rattle.std.proofs.lemmas.List.{get_or_past, get_or-map, length-map}
+use Rattle.ec_bits.specs.Bits.{bytes_of_bits}
+use Rattle.ec_bits.proofs.AnyLaws.{if_true, if_false}
+use Rattle.ec_regs.specs.declared.manager.ManagerSettings.{ManagerSettings}
+use Rattle.ec_regs.specs.Managers.{no_settings}
+use Rattle.ec_regs.specs.Fmmus.{no_fmmu}
+use Rattle.ec_sync.specs.Manager.{Manager, no_manager, buffer_length}
+use Rattle.ec_al.specs.declared.state.State.TheVariants.{Init}
+use Rattle.ec_slave.specs.State.{SlaveState, manager_at, power_on}
+use Rattle.ec_link.specs.declared.settings.Settings.{Settings}
+use Rattle.ec_link.specs.Meaning.{slave_at as settings_of}
+use Rattle.ec_link.specs.Usable.{AreListed, IsUsable, input_manager}
+use Rattle.ec_link.proofs.Listed.{listed, four_of}
+use Rattle.ec_start.specs.Planned.{IsStartable}
+use Rattle.ec_rise.specs.Stages.{end_of}
+use Rattle.ec_start.specs.declared.phase.Phase.{Phase}
+use Rattle.ec_start.specs.declared.phase.Phase.TheVariants.{Idle, Sent, Ready, Failed}
+use Rattle.ec_rise.specs.Standing.{IsOfKind}
+use Rattle.ec_rise.specs.Stages.{Config}
+use Rattle.ec_start.specs.declared.error.StartError.{StartError}
+use Rattle.ec_cycle.specs.Master.{OpenCycle}
+use Rattle.ec_cycle.specs.Closing.{ReportState}
+use Rattle.ec_rise.proofs.Decodes.{fmmus-held}
+use Rattle.ec_rise.specs.Starting.{Starting, Starts, Instant, Between, UnderWay, Adrift, Over, IsReady, trouble_at, no_plan, kind_at}
+use Rattle.ec_rise.specs.Runs as rise
+use Rattle.ec_rise.specs.Runs.{AreStartable, ends_of, HoldsAll, Shown}
+use Rattle.ec_rise.proofs.Theorem.{ready-shown}
+use Rattle.ec_world.specs.Plain.{PlainSlave, Health, Working, Faulted, Reset, no_plain_slave, plain_slave, all_progress}
+use Rattle.ec_world.specs.World.{WorldState, Flight, no_slave, slave_of, flights_progress, is_up, phase_ready, phase_awaits}
+use Rattle.ec_world.specs.SlaveShows.{Holds, IsQuiet, HoldsData, IsAs, SlaveShows}
+use Rattle.ec_world.specs.Shows.{CyclesShow, said}
+use Rattle.ec_world.specs.Lengths.{AllFit}
+use Rattle.ec_world.specs.Rising.{SlotsHold, seen_of, Rising}
+use Rattle.ec_world.specs.Whole.{health_of, plain_slave_of, plain_of, IsReadyWorld}
+use Rattle.ec_world.proofs.Settings.{get_or-mapped, some_bits, no_bits, set_for_ins, unset}
+use Rattle.ec_world.proofs.Mapped.{third_held, fourth_held}
+use Rattle.ec_world.proofs.SlaveSteps.{out_length}
+
+none_some : {X : Type 0} (x : X) → None ≡ Some x → ⊥
+none_some x e = cc
+
+in_length : (p : Settings) → AreListed p → buffer_length (input_manager p) ≡ bytes_of_bits p.share.ins
+in_length p a = elim (cases_lt 0 p.share.ins) [
+  | inl l ↦ ap buffer_length (some_bits p.share.ins p.kind.in_start 0x20 l) ∙ if_true _ _ _ (and_from _ _ (set_for_ins p.share.ins p.kind.in_start l a.in_fits) refl)
+  | inr z ↦
+      let none : p.share.ins ≡ 0 = omega arith in
+      ap buffer_length (no_bits p.share.ins p.kind.in_start 0x20 none) ∙ (if_false _ _ _ (and_left _ _ unset) ∙ ap bytes_of_bits (sym none))
+]
+
+-- ---- one slave
+
+end-fmmus : (p : Settings) → (end_of p).fmmus ≡ p.fmmus
+end-fmmus p = refl
+
+end-managers : (p : Settings) → (end_of p).managers ≡ p.managers
+end-managers p = refl
+
+module _ (i : ℕ) (p : Settings) (s : SlaveState) (listed : AreListed p) (good : IsStartable p) (slave : IsOfKind p.kind s) (fit : AllFit s) where
+  four-managers : length p.managers ≡ 4
+  four-managers = ap length listed.managers
+
+  four-fmmus : length p.fmmus ≡ 4
+  four-fmmus = ap length listed.fmmus
+
+  held : HoldsAll i p s → Holds i p s
+  held h =
+      let c = h.configured in
+      let own : (n : ℕ) → n < 4 → get_or (map (λ (m : Manager). m.settings) s.managers) n no_settings ≡ get_or p.managers n no_settings
+      = λ n l. get_or-mapped (λ (m : Manager). m.settings) s.managers n no_manager ∙ c.settings n l in
+      let of4 : (a b d e : ManagerSettings) → get_or (map (λ (m : Manager). m.settings) s.managers) 0 no_settings ≡ a → get_or (map (λ (m : Manager). m.settings) s.managers) 1 no_settings ≡ b
+      → get_or (map (λ (m : Manager). m.settings) s.managers) 2 no_settings ≡ d → get_or (map (λ (m : Manager). m.settings) s.managers) 3 no_settings ≡ e
+      → get_or (map (λ (m : Manager). m.settings) s.managers) 0 no_settings ∷ get_or (map (λ (m : Manager). m.settings) s.managers) 1 no_settings ∷ get_or (map (λ (m : Manager). m.settings) s.managers) 2 no_settings ∷ get_or (map (λ (m : Manager). m.settings) s.managers) 3 no_settings ∷ [] ≡ a ∷ b ∷ d ∷ e ∷ []
+      = λ a b d e x y z u. cc in
+      record {
+        kind = slave.kind_is;
+        station = c.station_is;
+        fmmus = fmmus-held i (end_of p) s good.readable c ∙ sym (four_of p.fmmus no_fmmu four-fmmus);
+        managers = four_of (map (λ (m : Manager). m.settings) s.managers) no_settings (length-map s.managers (λ (m : Manager). m.settings) ∙ slave.four)
+            ∙ (of4 _ _ _ _ (own 0 (omega arith)) (own 1 (omega arith)) (own 2 (omega arith)) (own 3 (omega arith)) ∙ sym (four_of p.managers no_settings four-managers));
+        outputs = h.outs;
+        inputs = h.ins;
+      }
+
+  no-mail : HoldsAll i p s → (n : ℕ) → (manager_at s.managers n).mail ≡ None
+  no-mail h zero = h.silent.no_letter
+  no-mail h (suc zero) = h.silent.no_reply
+  no-mail h (suc (suc zero)) = h.configured.no_letters 2 (omega arith) (omega arith)
+  no-mail h (suc (suc (suc zero))) = h.configured.no_letters 3 (omega arith) (omega arith)
+  no-mail h (suc (suc (suc (suc n)))) = ap (λ (m : Manager). m.mail) (get_or_past s.managers (suc (suc (suc (suc n)))) no_manager (omega (arith, slave.four)))
+
+  quiet-of : HoldsAll i p s → s.al.requested ≡ false → IsQuiet s
+  quiet-of h e = record { no_request = e; no_read = h.no_read; no_message = no-mail h }
+
+  values : HoldsAll i p s → HoldsData p s (plain_slave_of s)
+  values h =
+      let outs : buffer_length (manager_at s.managers 2).settings ≡ bytes_of_bits p.share.outs = ap buffer_length (third_held i p s (held h) listed) ∙ out_length p listed in
+      let ins : buffer_length (manager_at s.managers 3).settings ≡ bytes_of_bits p.share.ins = ap buffer_length (fourth_held i p s (held h) listed) ∙ in_length p listed in
+      let f = fit 2 in
+      let g = fit 3 in
+      record {
+        outputs = refl;
+        inputs = refl;
+        out_bytes = record { published = f.published ∙ outs; draft = λ d e. f.draft d e ∙ outs };
+        in_bytes = record { published = g.published ∙ ins; draft = λ d e. g.draft d e ∙ ins };
+      }
+
+  state_on : s ≡ power_on s.kind s.identity → s.al.state ≡ Init
+  unfolding power_on
+  state_on e = ap (λ (x : SlaveState). x.al.state) e
+
+  shown-as : (h : Health) → health_of s.al.state ≡ h → IsAs i p s (plain_slave_of s) h → SlaveShows i p s (plain_slave_of s)
+  shown-as h e q = subst (λ (x : Health). IsAs i p s (plain_slave_of s) x) (sym e) q
+
+  pub slave-shows : (flag : Bool) → Shown i p flag s → SlaveShows i p s (plain_slave_of s)
+  slave-shows flag (rise.Working h) = shown-as Working (ap health_of h.in_op.state_is) (record {
+    holds = held h.holds;
+    quiet = quiet-of h.holds h.in_op.no_request;
+    process = values h.holds;
+    state = h.in_op.state_is;
+    no_error = h.in_op.no_error;
+    out_unlocked = h.unlocked 2 (omega arith);
+    in_unlocked = h.unlocked 3 (omega arith);
+  })
+  slave-shows flag (rise.Faulted t h) = shown-as Faulted (ap health_of h.state) (record {
+    holds = held h.holds;
+    quiet = quiet-of h.holds h.no_request;
+    process = values h.holds;
+    state = h.state;
+    error = h.error;
+    out_locked = h.locked;
+    in_unlocked = h.unlocked 3 (omega arith) (omega arith);
+  })
+  slave-shows flag (rise.WasReset t h) = shown-as Reset (ap health_of (state_on h)) (record { kind = slave.kind_is; as_on = h })
+
+  pub slave-told : (flag : Bool) → Shown i p flag s → (health_of s.al.state ≡ Working) ⊎ (flag ≡ true)
+  slave-told flag (rise.Working h) = inl (ap health_of h.in_op.state_is)
+  slave-told flag (rise.Faulted t h) = inr t
+  slave-told flag (rise.WasReset t h) = inr t
+
+-- ---- the world
+
+no-frames : (os : List (Option Flight)) → ((k : ℕ) → get_or os k None ≡ None) → flights_progress os ≡ all_progress (map (λ o. None) os)
+no-frames [] h = refl
+no-frames (None ∷ os) h = ap (λ xs. None ∷ xs) (no-frames os (λ k. h (suc k)))
+no-frames (Some f ∷ os) h = absurd (none_some f (sym (h 0)))
+
+up-ready : (p : Phase) → phase_ready p ≡ true → p ≡ Ready
+up-ready Idle e = absurd (let z : false ≡ true = e in cc)
+up-ready (Sent n) e = absurd (let z : false ≡ true = e in cc)
+up-ready Ready e = refl
+up-ready (Failed f) e = absurd (let z : false ≡ true = e in cc)
+
+ready-slot : (ends : ℕ → Config) (v : Starting) → Starts ends v → v.start.phase ≡ Ready → v.slot ≡ None
+ready-slot ends v h e = by h.instant
+  where
+    idle-ready : Idle ≡ Ready → ⊥
+    idle-ready q = cc
+
+    sent-ready : (n : ℕ) → Sent n ≡ Ready → ⊥
+    sent-ready n q = cc
+
+    failed-ready : (f : StartError) → Failed f ≡ Ready → ⊥
+    failed-ready f q = cc
+
+    by : Instant ends v → v.slot ≡ None
+    by (Between b) = b.empty
+    by (UnderWay b) = absurd (sent-ready b.carried.number (sym b.sent ∙ e))
+    by (Adrift b) = b.empty
+    by (Over b) = absurd (failed-ready b.failure (sym b.failed ∙ e))
+    by (IsReady b) = b.empty
+
+pub ready-world : (flags : List Bool) (w : WorldState) → IsUsable w.plan → AreStartable w.plan.slaves → Rising flags w → is_up w.start ≡ true → IsReadyWorld flags w
+ready-world flags w sound planned r up =
+    let ready : w.start.phase ≡ Ready = up-ready w.start.phase up in
+    let none : (k : ℕ) → get_or w.slots k None ≡ None = subst (SlotsHold w.slots) (ready-slot (ends_of w.plan.slaves) (seen_of w flags r.slot) r.starts ready) r.slots in
+    let as_many : length w.slaves ≡ length w.plan.slaves = r.starts.slaves.slaves ∙ ap length r.same_plan in
+    let shown : (i : ℕ) → i < length w.plan.slaves → Shown i (settings_of w.plan i) (trouble_at flags i) (slave_of w i)
+    = λ i l. subst (λ (ps : List Settings). Shown i (get_or ps i no_plan) (trouble_at flags i) (slave_of w i)) r.same_plan
+    (ready-shown (seen_of w flags r.slot) (subst AreStartable (sym r.same_plan) planned) (subst (λ (ps : List Settings). Starts (ends_of ps) (seen_of w flags r.slot)) (sym r.same_plan) r.starts) ready i (omega (arith, l, ap length r.same_plan))) in
+    let kind : (i : ℕ) → i < length w.plan.slaves → IsOfKind (settings_of w.plan i).kind (slave_of w i)
+    = λ i l. subst (λ (ps : List Settings). IsOfKind (kind_at ps i) (slave_of w i)) r.same_plan (r.starts.slaves.each i (omega (arith, l, ap length r.same_plan))) in
+    let at : (i : ℕ) → i < length w.plan.slaves → plain_slave (plain_of w) i ≡ plain_slave_of (slave_of w i)
+    = λ i l. get_or-map plain_slave_of w.slaves i no_slave no_plain_slave (omega (arith, l, as_many)) in
+    record {
+      shows = record {
+        started = up;
+        no_start = ap (λ (p : Phase). phase_awaits p) ready;
+        is_ready = r.master_ready ∙ up;
+        same_plan = r.master_plan;
+        outputs = refl;
+        inputs = refl;
+        next = refl;
+        got = refl;
+        cycle = subst (λ (o : Option OpenCycle). CyclesShow w.plan o None) (sym r.no_cycle) tt;
+        report = record { same = ap (λ (o : Option ReportState). option_map said o) r.no_report; counters = λ x e. absurd (none_some x (sym r.no_report ∙ e)) };
+        count = as_many;
+        plain_count = length-map w.slaves plain_slave_of ∙ as_many;
+        slaves = λ i l. subst (SlaveShows i (settings_of w.plan i) (slave_of w i)) (sym (at i l))
+            (slave-shows i (settings_of w.plan i) (slave_of w i) (listed w.plan sound i l) (planned.each i l) (kind i l) (r.fit i) (trouble_at flags i) (shown i l));
+        progress = no-frames w.slots none;
+        frames = λ k flight f e q. absurd (none_some flight (sym (none k) ∙ e));
+      };
+      told = λ i l. subst (λ (q : PlainSlave). (q.health ≡ Working) ⊎ (trouble_at flags i ≡ true)) (sym (at i l))
+          (slave-told i (settings_of w.plan i) (slave_of w i) (listed w.plan sound i l) (planned.each i l) (kind i l) (r.fit i) (trouble_at flags i) (shown i l));
+    }

@@ -1,0 +1,180 @@
+-- From a new world to the plain machine.
+use Rattle.std.proofs.Common.{ℕ, zero, suc, ◌+◌, ◌<◌, ◌≤◌, ◌≡◌, Bool, true, false, Option, None, refl, sym, ◌∙◌, ap, subst, inl, inr, arith, if◌then◌else◌, List, [], ◌∷◌, length, get_or, replicate}
+use Rattle.std.proofs.lemmas.Bool.{cases_Bool, both_ways}
+use Rattle.std.proofs.lemmas.List.{length-replicate}
+use Rattle.ec_regs.specs.declared.slave_type.Identity.{Identity}
+use Rattle.ec_regs.specs.Types.{plain_kind, device_identity}
+use Rattle.ec_link.specs.declared.settings.Settings.{Settings}
+use Rattle.ec_link.specs.Plan.{PlanState, plan_of}
+use Rattle.ec_link.proofs.Soundness.{plan_sound}
+use Rattle.ec_link.proofs.UsableLaws.{plan_usable}
+use Rattle.ec_rise.proofs.StartableLaws.{slave_startable}
+use Rattle.ec_link.specs.Usable.{IsUsable}
+use Rattle.ec_start.specs.Running.{begun}
+use Rattle.ec_rise.specs.Standing.{IsOfKind}
+use Rattle.ec_rise.proofs.Resets.{power_on_is}
+use Rattle.ec_rise.specs.Starting.{Starts, AreSlaves, kind_at}
+use Rattle.ec_rise.specs.Runs.{AreStartable, ends_of}
+use Rattle.ec_rise.proofs.Theorem.{begun-starts}
+use Rattle.ec_world.specs.declared.event.Event.{Event}
+use Rattle.ec_world.specs.World.{WorldState, Flight, no_slave, is_up, IsStep}
+use Rattle.ec_world.specs.Laws.{IsRun}
+use Rattle.ec_world.specs.Lengths.{AllFit}
+use Rattle.ec_world.specs.Whole.{flags_after, plain_of, IsReadyWorld, slot_count, switched_on, new_world, HasStarted, Told, NotYet, Started, WholeLaw, CompiledLaw}
+use Rattle.ec_world.specs.Rising.{seen_of, Rising}
+use Rattle.ec_world.proofs.Lengths.{on-fits}
+use Rattle.ec_world.proofs.RisingSteps.{event-rises, event-plan}
+use Rattle.ec_world.proofs.Readies.{ready-world}
+use Rattle.ec_world.proofs.Runs.{runs_show}
+
+-- ---- a new world
+
+no-identity : Identity
+no-identity = record { vendor = 0; product = 0; revision = 0; serial = 0 }
+
+on-count : (ps : List Settings) (is : List Identity) → length is ≡ length ps → length (switched_on ps is) ≡ length ps
+on-count [] is e = refl
+on-count (p ∷ ps) [] e = absurd (omega (arith, e))
+on-count (p ∷ ps) (i ∷ is) e = ap (λ (n : ℕ). suc n) (on-count ps is (omega (arith, e)))
+
+on-slave : (ps : List Settings) (is : List Identity) (k : ℕ) → length is ≡ length ps → k < length ps → IsOfKind (kind_at ps k) (get_or (switched_on ps is) k no_slave)
+on-slave [] is k e l = absurd (omega (arith, l))
+on-slave (p ∷ ps) [] k e l = absurd (omega (arith, e))
+on-slave (p ∷ ps) (i ∷ is) zero e l = power_on_is p.kind i
+on-slave (p ∷ ps) (i ∷ is) (suc k) e l = on-slave ps is k (omega (arith, e)) (omega (arith, l))
+
+on-fit : (ps : List Settings) (is : List Identity) (k : ℕ) → AllFit (get_or (switched_on ps is) k no_slave)
+on-fit [] is k = on-fits plain_kind (device_identity plain_kind.device 0)
+on-fit (p ∷ ps) [] k = on-fits plain_kind (device_identity plain_kind.device 0)
+on-fit (p ∷ ps) (i ∷ is) zero = on-fits p.kind i
+on-fit (p ∷ ps) (i ∷ is) (suc k) = on-fit ps is k
+
+none-yet : (n k : ℕ) → (let o : Option Flight = None in get_or (replicate n o) k o) ≡ None
+none-yet zero k = refl
+none-yet (suc n) zero = refl
+none-yet (suc n) (suc k) = none-yet n k
+
+abbrev no-flags : PlanState → List Bool
+no-flags plan = replicate (length plan.slaves) false
+
+new-slaves : (plan : PlanState) (is : List Identity) → length plan.slaves ≤ 64 → length is ≡ length plan.slaves → AreSlaves (seen_of (new_world plan is) (no-flags plan) None)
+unfolding begun
+new-slaves plan is few e = record {
+  slaves = on-count plan.slaves is e;
+  troubles = length-replicate {A = Bool} (length plan.slaves) false;
+  few = few;
+  each = λ i l. on-slave plan.slaves is i e l;
+}
+
+new-starts : (plan : PlanState) (is : List Identity) → AreStartable plan.slaves → AreSlaves (seen_of (new_world plan is) (no-flags plan) None) → Starts (ends_of plan.slaves) (seen_of (new_world plan is) (no-flags plan) None)
+unfolding begun
+new-starts plan is planned h = begun-starts (seen_of (new_world plan is) (no-flags plan) None) h planned
+
+new-low : (plan : PlanState) (is : List Identity) → is_up (new_world plan is).start ≡ false
+unfolding begun
+new-low plan is = refl
+
+new-plan : (plan : PlanState) (is : List Identity) → (new_world plan is).start.plan ≡ plan.slaves
+unfolding begun
+new-plan plan is = refl
+
+new-rises : (plan : PlanState) (is : List Identity) → IsUsable plan → AreStartable plan.slaves → length is ≡ length plan.slaves → Rising (no-flags plan) (new_world plan is)
+new-rises plan is sound planned e = record {
+  same_plan = new-plan plan is;
+  slot = None;
+  starts = new-starts plan is planned (new-slaves plan is sound.few_slaves e);
+  slots = none-yet slot_count;
+  some_slots = omega (arith, length-replicate {A = Option Flight} slot_count None);
+  fit = on-fit plan.slaves is;
+  master_plan = refl;
+  no_cycle = refl;
+  master_ready = sym (new-low plan is);
+  no_report = refl;
+}
+
+-- ---- a step
+
+step-rises : (flags : List Bool) (old : WorldState) (e : Event) (new : WorldState) (one : Bool) → AreStartable old.plan.slaves → Rising flags old → is_up old.start ≡ false → IsStep old e new one
+    → Rising (if one then flags_after old e flags else flags) new
+step-rises flags old e new true planned r low h = event-rises flags old r low e new planned (sym h.can) (h.happens refl)
+step-rises flags old e new false planned r low h = subst (Rising flags) (sym (h.refused refl)) r
+
+step-plan : (flags : List Bool) (old : WorldState) (e : Event) (new : WorldState) (one : Bool) → Rising flags old → is_up old.start ≡ false → IsStep old e new one → new.plan ≡ old.plan
+step-plan flags old e new true r low h = event-plan flags old r low e new (sym h.can) (h.happens refl)
+step-plan flags old e new false r low h = ap (λ (w : WorldState). w.plan) (h.refused refl)
+
+-- ---- a run
+
+-- an event before a run that starts on its way
+later : (old : WorldState) (e : Event) (es : List Event) (mid new : WorldState) (one : Bool) (rest made : ℕ) (flags : List Bool) → (step : IsStep old e mid one) → mid.plan ≡ old.plan
+    → made ≡ (if one then 1 else 0) + rest → HasStarted mid es new rest (if one then flags_after old e flags else flags) → HasStarted old (e ∷ es) new made flags
+later old e es mid new one rest made flags step same count h = record {
+  before = e ∷ h.before;
+  event = h.event;
+  after = h.after;
+  split = ap (λ xs. e ∷ xs) h.split;
+  mid = h.mid;
+  first = (if one then 1 else 0) + h.first;
+  to_mid = (mid, one, h.first, step, h.to_mid, refl);
+  not_yet = h.not_yet;
+  ready = h.ready;
+  step = h.step;
+  plan_is = h.plan_is ∙ same;
+  is_ready = h.is_ready;
+  shown = h.shown;
+  made_is = omega (arith, count, h.made_is);
+}
+
+-- the event that makes it ready
+now : (old : WorldState) (e : Event) (es : List Event) (mid new : WorldState) (one : Bool) (rest made : ℕ) (flags : List Bool) → IsUsable old.plan → AreStartable old.plan.slaves → Rising flags old → is_up old.start ≡ false
+    → IsStep old e mid one → is_up mid.start ≡ true → IsRun mid es new rest → made ≡ (if one then 1 else 0) + rest → HasStarted old (e ∷ es) new made flags
+now old e es mid new false rest made flags sound planned r low h up tail count = absurd (both_ways _ (ap (λ (w : WorldState). is_up w.start) (h.refused refl) ∙ low) up)
+now old e es mid new true rest made flags sound planned r low h up tail count =
+    let same : mid.plan ≡ old.plan = step-plan flags old e mid true r low h in
+    let usable : IsUsable mid.plan = subst IsUsable (sym same) sound in
+    let startable : AreStartable mid.plan.slaves = subst (λ (p : PlanState). AreStartable p.slaves) (sym same) planned in
+    let ready : IsReadyWorld (flags_after old e flags) mid = ready-world (flags_after old e flags) mid usable startable (step-rises flags old e mid true planned r low h) up in
+    let shows = runs_show mid es new rest usable tail in
+    record {
+      before = [];
+      event = e;
+      after = es;
+      split = refl;
+      mid = old;
+      first = 0;
+      to_mid = (refl, refl);
+      not_yet = low;
+      ready = mid;
+      step = h;
+      plan_is = same;
+      is_ready = ready;
+      shown = shows.shown (plain_of mid) ready.shows;
+      made_is = omega (arith, count, shows.made_is (plain_of mid) ready.shows);
+    }
+
+run-told : (es : List Event) (old new : WorldState) (made : ℕ) (flags : List Bool) → IsUsable old.plan → AreStartable old.plan.slaves → Rising flags old → is_up old.start ≡ false → IsRun old es new made → Told old es new made flags
+run-told [] old new made flags sound planned r low h =
+    let still : is_up new.start ≡ false = ap (λ (w : WorldState). is_up w.start) h.0 ∙ low in
+    NotYet still (λ p s. both_ways _ still s.started)
+run-told (e ∷ es) old new made flags sound planned r low h =
+    let mid = h.0 in
+    let one = h.1 in
+    let same : mid.plan ≡ old.plan = step-plan flags old e mid one r low h.3 in
+    let rises : Rising (if one then flags_after old e flags else flags) mid = step-rises flags old e mid one planned r low h.3 in
+    elim (cases_Bool (is_up mid.start)) as (λ _. Told old (e ∷ es) new made flags) [
+      | inl up ↦ Started (now old e es mid new one h.2 made flags sound planned r low h.3 up h.4 h.5)
+      | inr still ↦ by (run-told es mid new h.2 (if one then flags_after old e flags else flags) (subst IsUsable (sym same) sound) (subst (λ (p : PlanState). AreStartable p.slaves) (sym same) planned) rises still h.4)
+    ]
+  where
+    by : Told h.0 es new h.2 (if h.1 then flags_after old e flags else flags) → Told old (e ∷ es) new made flags
+    by (NotYet z n) = NotYet z n
+    by (Started t) = Started (later old e es h.0 new h.1 h.2 made flags h.3 (step-plan flags old e h.0 h.1 r low h.3) h.5 t)
+
+pub whole : WholeLaw
+whole plan is sound planned e es w made h = run-told es (new_world plan is) w made (no-flags plan) sound planned (new-rises plan is sound planned e) (new-low plan is) h
+
+-- ---- of a table that `compile` accepts
+
+pub compiled : CompiledLaw
+compiled t is sound free e es w made h =
+    whole (plan_of t) is (plan_usable t sound free) (record { each = λ i l. slave_startable t sound free i l }) (omega (arith, e, (plan_sound t sound free).as_many)) es w made h

@@ -1,0 +1,20 @@
+-- What a world is and what is promised of it. These are to be believed by reading, in this order:
+
+-- the plain machine: what a segment under a master does, told without addresses, FMMUs, registers and counters
+pub mod Plain
+-- the world as a value, when each event can be made, and what it does
+pub mod World
+-- when a slave, a frame, a world shows what the plain machine says
+pub mod Lengths
+pub mod SlaveShows
+pub mod FrameShows
+pub mod Shows
+-- what is promised to a user, in words of the image, the links and the slaves' values
+pub mod Promises
+-- the laws under it: of one frame, of a step and a run, of a world from its making on
+pub mod Exchanging
+pub mod Laws
+pub mod Whole
+pub mod NewWorld
+-- This serves the proofs alone: what holds of a world that starts up.
+pub mod Rising

@@ -1,0 +1,101 @@
+-- What a user is promised, in words of the image, the links and the values of slaves. It is proved of every world that shows a
+-- plain state, so of every world from the step on that makes it Ready.
+use Rattle.std.specs.Prelude.{ℕ, ◌*◌, ◌<◌, ◌≡◌, ◌≢◌, ◌⊎◌, ◌==◌, ◌&&◌, ◌||◌, List, length, map, get_or, Bool, true, false, if◌then◌else◌, Some, None, slice_get}
+use Rattle.ec_bits.specs.Bits.{bit, bytes_of_bits}
+use Rattle.ec_slave.specs.Exchange.{with_outputs}
+use Rattle.ec_link.specs.Shares.{has_outs, has_ins, unit_of_part}
+use Rattle.ec_link.specs.Meaning.{Meaning, Linked, share_of, meaning}
+use Rattle.ec_link.specs.Usable.{IsUsable}
+use Rattle.ec_cycle.specs.Closing.{ReportState}
+use Rattle.ec_world.specs.declared.event.Event.TheVariants.{Pass, Close}
+use Rattle.ec_world.specs.Plain.{Plain, PlainSlave, PlainFrame, Note, Short, Full, Cycle, Working, Faulted, Reset, unit_full, met_note, plain_slave, frame_at}
+use Rattle.ec_world.specs.World.{WorldState, IsStep, slave_of}
+use Rattle.ec_world.specs.FrameShows.{out_bit}
+use Rattle.ec_world.specs.Shows.{Shows, CountersPredicted}
+
+-- ---- a cyclic frame passes a slave in OP
+
+-- the outputs of slave s for an image, in whole bytes: each linked bit is the image's, and every other bit is 0
+pub record AreLinked (m : Meaning) (s : ℕ) (image bytes : List ℕ) : Type 0 where
+  pub size : length bytes ≡ bytes_of_bits (share_of m s).outs
+  pub each : (b : ℕ) → b < 8 * length bytes → bit bytes b ≡ out_bit m s image b
+
+-- the slave that a frame passes next
+abbrev pub next_slave : PlainFrame → ℕ
+next_slave f = length f.notes
+
+-- the frame carries outputs of the slave
+abbrev pub has_outputs_for : Meaning → PlainFrame → ℕ → Bool
+has_outputs_for m f s = ((share_of m s).part == f.part) && has_outs (share_of m s)
+
+-- A frame passed the slave. Where it carries its outputs, the slave publishes them: they are exactly the linked bits of the
+-- image that the frame was made of, and 0 elsewhere. Nothing else of the slave changes, and no other slave, nor the image.
+pub record IsPublished (old : WorldState) (f : PlainFrame) (new : WorldState) : Type 0 where
+  pub value : List ℕ
+  pub linked : AreLinked (meaning old.plan) (next_slave f) f.snapshot value
+  pub slave : slave_of new (next_slave f)
+      ≡ (if has_outputs_for (meaning old.plan) f (next_slave f) then with_outputs (slave_of old (next_slave f)) value else slave_of old (next_slave f))
+  pub others : (t : ℕ) → t ≢ next_slave f → slave_of new t ≡ slave_of old t
+  pub rest : new ≡ record old { slaves = new.slaves; slots = new.slots }
+
+abbrev pub OutputsLaw : Type 0
+OutputsLaw =
+    (old : WorldState) (p : Plain) (k : ℕ) (f : PlainFrame) (new : WorldState) → IsUsable old.plan → Shows old p → frame_at p k ≡ Some f
+    → (plain_slave p (next_slave f)).health ≡ Working → IsStep old (Pass k) new true → IsPublished old f new
+
+-- ---- what a frame notes of a slave
+
+-- the slave has so many bits and such a health that it gives less than its share
+abbrev pub FallsShort : Meaning → ℕ → PlainSlave → Type 0
+FallsShort m s q =
+    ((q.health ≡ Reset) × ((has_outs (share_of m s) || has_ins (share_of m s)) ≡ true))
+    ⊎ ((q.health ≡ Faulted) × (has_outs (share_of m s) ≡ true))
+
+-- Only a slave that was reset and has bits, or one that had a fault and has outputs, falls short; and what is noted of every
+-- other slave of the part is what it publishes as the frame passes.
+pub record IsNotedAs (m : Meaning) (s : ℕ) (f : PlainFrame) (q : PlainSlave) : Type 0 where
+  pub short : met_note m s f q ≡ Short → ((share_of m s).part ≡ f.part) × FallsShort m s q
+  pub full : (v : List ℕ) → met_note m s f q ≡ Full v → v ≡ q.inputs.published
+
+abbrev pub NotesLaw : Type 0
+NotesLaw = (m : Meaning) (s : ℕ) (f : PlainFrame) (q : PlainSlave) → IsNotedAs m s f q
+
+-- ---- a cycle is closed
+
+-- the frame of part k came back, and slave s published v as it passed
+pub record IsNoted (c : Cycle) (k s : ℕ) (v : List ℕ) : Type 0 where
+  pub notes : List Note
+  pub back : get_or c.kept k None ≡ Some notes
+  pub note : slice_get notes s ≡ Some (Full v)
+
+-- why a unit isn't taken: the frame of one of its parts was lost or isn't back, or it passed a slave that fell short
+pub data IsMissed (m : Meaning) (c : Cycle) (u : ℕ) : Type 0 where
+  NotBack : (k : ℕ) → k < length c.kept → unit_of_part m k ≡ u → get_or c.kept k None ≡ None → IsMissed m c u
+  FellShort : (k s : ℕ) (notes : List Note) → unit_of_part m k ≡ u → get_or c.kept k None ≡ Some notes → slice_get notes s ≡ Some Short → IsMissed m c u
+
+-- the unit of a slave
+abbrev pub unit_of_slave : Meaning → ℕ → ℕ
+unit_of_slave m s = unit_of_part m (share_of m s).part
+
+-- A cycle was closed. Of a unit that is taken each linked bit of the inputs is the one that its slave published as the frame
+-- passed it; of another unit no bit changes, nor does a bit without a link. The report says which units were taken, and the
+-- working counters of those are the predicted ones. Nothing else of the world changes.
+pub record IsClosedAs (old : WorldState) (c : Cycle) (new : WorldState) : Type 0 where
+  pub taken : (b : ℕ) (i : Linked) → b < 8 * length old.master.inputs → (meaning old.plan).in_source b ≡ Some i
+      → unit_full (meaning old.plan) c (unit_of_slave (meaning old.plan) i.slave) ≡ true
+      → (v : List ℕ) × IsNoted c (share_of (meaning old.plan) i.slave).part i.slave v × (bit new.master.inputs b ≡ bit v i.bit_of)
+  pub untaken : (b : ℕ) (i : Linked) → b < 8 * length old.master.inputs → (meaning old.plan).in_source b ≡ Some i
+      → unit_full (meaning old.plan) c (unit_of_slave (meaning old.plan) i.slave) ≡ false → bit new.master.inputs b ≡ bit old.master.inputs b
+  pub unlinked : (b : ℕ) → b < 8 * length old.master.inputs → (meaning old.plan).in_source b ≡ None → bit new.master.inputs b ≡ bit old.master.inputs b
+  pub size : length new.master.inputs ≡ length old.master.inputs
+  pub missed : (u : ℕ) → unit_full (meaning old.plan) c u ≡ false → IsMissed (meaning old.plan) c u
+  pub report : ReportState
+  pub reported : new.report ≡ Some report
+  pub says : report.taken ≡ map (unit_full (meaning old.plan) c) (meaning old.plan).units
+  pub counters : CountersPredicted old.plan report
+  pub rest : new ≡ record old { master = record old.master { inputs = new.master.inputs; cycle = None }; report = new.report }
+
+abbrev pub InputsLaw : Type 0
+InputsLaw =
+    (old : WorldState) (p : Plain) (c : Cycle) (new : WorldState) → IsUsable old.plan → Shows old p → p.cycle ≡ Some c
+    → IsStep old Close new true → IsClosedAs old c new

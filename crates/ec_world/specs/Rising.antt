@@ -1,0 +1,37 @@
+-- What holds of a world that starts up: the start-up's own invariant, its frame in the lowest slot, and a master that waits.
+use Rattle.std.specs.Prelude.{ℕ, ◌<◌, ◌≡◌, ◌≢◌, List, length, get_or, Bool, Option, Some, None}
+use Rattle.ec_rise.specs.Starting.{Starting, Carried, Starts}
+use Rattle.ec_rise.specs.Slots.{IsCarried}
+use Rattle.ec_rise.specs.Runs.{ends_of}
+use Rattle.ec_world.specs.World.{WorldState, Flight, is_up, slave_of}
+use Rattle.ec_world.specs.Lengths.{AllFit}
+
+-- one frame in the lowest slot, or none in any
+pub record IsInSlot (slots : List (Option Flight)) (c : Carried) : Type 0 where
+  pub flight : Flight
+  pub first : get_or slots 0 None ≡ Some flight
+  pub others : (k : ℕ) → k ≢ 0 → get_or slots k None ≡ None
+  pub number : flight.number ≡ c.number
+  pub part : flight.part ≡ 0
+  pub passed : flight.passed ≡ c.passed
+  pub carried : IsCarried flight.bytes c
+
+abbrev pub SlotsHold : List (Option Flight) → Option Carried → Type 0
+SlotsHold slots None = (k : ℕ) → get_or slots k None ≡ None
+SlotsHold slots (Some c) = IsInSlot slots c
+
+-- what the start-up's invariant sees of a world
+abbrev pub seen_of : WorldState → List Bool → Option Carried → Starting
+seen_of w flags slot = record { start = w.start; slaves = w.slaves; troubles = flags; slot = slot }
+
+pub record Rising (flags : List Bool) (w : WorldState) : Type 0 where
+  pub same_plan : w.start.plan ≡ w.plan.slaves
+  pub slot : Option Carried
+  pub starts : Starts (ends_of w.plan.slaves) (seen_of w flags slot)
+  pub slots : SlotsHold w.slots slot
+  pub some_slots : 0 < length w.slots
+  pub fit : (i : ℕ) → AllFit (slave_of w i)
+  pub master_plan : w.master.plan ≡ w.plan
+  pub no_cycle : w.master.cycle ≡ None
+  pub master_ready : w.master.is_ready ≡ is_up w.start
+  pub no_report : w.report ≡ None

@@ -1,0 +1,144 @@
+-- A world from its making on: a start-up until it is Ready, and from then on the plain machine.
+use Rattle.std.specs.Prelude.{ℕ, ◌+◌, ◌<◌, ◌≡◌, ◌⊎◌, List, [], ◌∷◌, ◌++◌, length, map, set, replicate, Bool, true, false, if◌then◌else◌, None}
+use Rattle.ec_regs.specs.declared.slave_type.Identity.{Identity}
+use Rattle.ec_cycle.specs.Master.{new_master}
+use Rattle.ec_al.specs.declared.state.State.{State}
+use Rattle.ec_al.specs.declared.state.State.TheVariants.{Init, PreOp, SafeOp, Op}
+use Rattle.ec_slave.specs.State.{SlaveState, manager_at, power_on}
+use Rattle.ec_link.specs.declared.settings.Settings.{Settings}
+use Rattle.ec_table.specs.Contents.{Contents}
+use Rattle.ec_link.specs.Faults.{compile_fault}
+use Rattle.ec_link.specs.Plan.{PlanState, plan_of}
+use Rattle.ec_link.specs.Meaning.{meaning}
+use Rattle.ec_link.specs.Usable.{IsUsable}
+use Rattle.ec_start.specs.declared.phase.Phase.{Phase}
+use Rattle.ec_start.specs.declared.phase.Phase.TheVariants.{Idle, Sent, Ready, Failed}
+use Rattle.ec_start.specs.Running.{begun}
+use Rattle.ec_rise.specs.Starting.{trouble_at}
+use Rattle.ec_rise.specs.Runs.{AreStartable}
+use Rattle.ec_world.specs.declared.event.Event.{Event}
+use Rattle.ec_world.specs.declared.event.Event.TheVariants.{StartNext, Set, Begin, Pass, Lose, Return, Close, Serve, AppPut, AppGet, Fault, Reset as ResetSlave}
+use Rattle.ec_world.specs.Plain.{Plain, PlainSlave, Health, Working, Faulted, Reset, plain_slave, run}
+use Rattle.ec_world.specs.World.{WorldState, is_up, IsStep}
+use Rattle.ec_world.specs.Shows.{Shows}
+use Rattle.ec_world.specs.Laws.{IsRun}
+use Rattle.ec_table.specs.Sound as table
+
+-- ---- the flags
+
+-- A start-up that begins anew after a failure clears them, and a fault or a reset sets its slave's.
+abbrev pub flags_cleared : ℕ → List Bool → Phase → List Bool
+flags_cleared n flags Idle = flags
+flags_cleared n flags (Sent number) = flags
+flags_cleared n flags Ready = flags
+flags_cleared n flags (Failed failure) = replicate n false
+
+-- the flags after an event that was made
+abbrev pub flags_after : WorldState → Event → List Bool → List Bool
+flags_after w StartNext flags = flags_cleared (length w.start.plan) flags w.start.phase
+flags_after w (Set v x) flags = flags
+flags_after w Begin flags = flags
+flags_after w (Pass k) flags = flags
+flags_after w (Lose k) flags = flags
+flags_after w (Return k) flags = flags
+flags_after w Close flags = flags
+flags_after w (Serve s) flags = flags
+flags_after w (AppPut s i x) flags = flags
+flags_after w (AppGet s i) flags = flags
+flags_after w (Fault s) flags = set flags s true
+flags_after w (ResetSlave s) flags = set flags s true
+
+-- ---- what a world is when its start-up is ready
+
+abbrev pub health_of : State → Health
+health_of Init = Reset
+health_of PreOp = Reset
+health_of SafeOp = Faulted
+health_of Op = Working
+
+abbrev pub plain_slave_of : SlaveState → PlainSlave
+plain_slave_of s = record { health = health_of s.al.state; outputs = (manager_at s.managers 2).buffer; inputs = (manager_at s.managers 3).buffer }
+
+-- its image and its number, no cycle, no report, no frame, and each slave's own values
+abbrev pub plain_of : WorldState → Plain
+plain_of w = record {
+  outputs = w.master.outputs;
+  inputs = w.master.inputs;
+  next = w.master.next;
+  cycle = None;
+  closed = None;
+  got = w.got;
+  slaves = map plain_slave_of w.slaves;
+  slots = map (λ o. None) w.slots;
+}
+
+-- it shows this, and who doesn't work had a fault or a reset in that start-up
+pub record IsReadyWorld (flags : List Bool) (w : WorldState) : Type 0 where
+  pub shows : Shows w (plain_of w)
+  pub told : (i : ℕ) → i < length w.plan.slaves → ((plain_slave (plain_of w) i).health ≡ Working) ⊎ (trouble_at flags i ≡ true)
+
+-- ---- a new world
+
+abbrev pub slot_count : ℕ
+slot_count = 64
+
+-- slave after slave as it is switched on, with these identities
+abbrev pub switched_on : List Settings → List Identity → List SlaveState
+switched_on [] is = []
+switched_on (p ∷ ps) [] = []
+switched_on (p ∷ ps) (i ∷ is) = power_on p.kind i ∷ switched_on ps is
+
+abbrev pub new_world : PlanState → List Identity → WorldState
+new_world plan identities = record {
+  plan = plan;
+  start = begun plan.slaves 0;
+  master = new_master plan;
+  slaves = switched_on plan.slaves identities;
+  slots = replicate slot_count None;
+  got = None;
+  report = None;
+}
+
+-- ---- a whole run
+
+-- the flags at the end of a run
+abbrev pub flags_of : (old : WorldState) (es : List Event) (new : WorldState) (made : ℕ) → IsRun old es new made → List Bool → List Bool
+flags_of old [] new made h flags = flags
+flags_of old (e ∷ es) new made h flags = flags_of h.0 es new h.2 h.4 (if h.1 then flags_after old e flags else flags)
+
+-- the event that makes it ready, the world then, and the run from there on
+pub record HasStarted (old : WorldState) (es : List Event) (new : WorldState) (made : ℕ) (flags : List Bool) : Type 0 where
+  pub before : List Event
+  pub event : Event
+  pub after : List Event
+  pub split : es ≡ before ++ (event ∷ after)
+  pub mid : WorldState
+  pub first : ℕ
+  pub to_mid : IsRun old before mid first
+  pub not_yet : is_up mid.start ≡ false
+  pub ready : WorldState
+  pub step : IsStep mid event ready true
+  pub plan_is : ready.plan ≡ old.plan
+  pub is_ready : IsReadyWorld (flags_after mid event (flags_of old before mid first to_mid flags)) ready
+  pub shown : Shows new (run (meaning ready.plan) (plain_of ready) after).plain
+  pub made_is : made ≡ first + 1 + (run (meaning ready.plan) (plain_of ready) after).made
+
+-- a run up to its last event: still starting, or it started on the way
+pub data Told (old : WorldState) (es : List Event) (new : WorldState) (made : ℕ) (flags : List Bool) : Type 0 where
+  NotYet : is_up new.start ≡ false → ((p : Plain) → Shows new p → ⊥) → Told old es new made flags
+  Started : HasStarted old es new made flags → Told old es new made flags
+
+-- From a new world of a plan, over every list of events: until the start-up is ready nothing is shown. From then on the
+-- world shows the run of the plain machine, from the state that it is ready in.
+abbrev pub WholeLaw : Type 0
+WholeLaw =
+    (plan : PlanState) (identities : List Identity) → IsUsable plan → AreStartable plan.slaves → length identities ≡ length plan.slaves
+    → (es : List Event) (w : WorldState) (made : ℕ) → IsRun (new_world plan identities) es w made
+    → Told (new_world plan identities) es w made (replicate (length plan.slaves) false)
+
+-- The same of a table that `compile` accepts.
+abbrev pub CompiledLaw : Type 0
+CompiledLaw =
+    (t : Contents) (identities : List Identity) → table.IsSound t → compile_fault t ≡ None → length identities ≡ length t.slaves
+    → (es : List Event) (w : WorldState) (made : ℕ) → IsRun (new_world (plan_of t) identities) es w made
+    → Told (new_world (plan_of t) identities) es w made (replicate (length (plan_of t).slaves) false)

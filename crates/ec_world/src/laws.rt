@@ -1,0 +1,75 @@
+//! What is promised of a world, and laws of the definitions. Each function does nothing: its contract is the law.
+ghost use Rattle.ec_world.specs.Laws.{RoundTrip, CycleLaw, StepsShow, RunsShow};
+ghost use Rattle.ec_world.specs.Whole.{WholeLaw, CompiledLaw};
+ghost use Rattle.ec_world.specs.NewWorld.{NewUpLaw, NewRunLaw};
+ghost use Rattle.ec_world.specs.Promises.{OutputsLaw, NotesLaw, InputsLaw};
+
+/// A cyclic frame that passes a slave in OP gives its outputs exactly the linked bits of the image that it was made of, and 0
+/// elsewhere; it changes nothing else of the slave, no other slave and nothing of the image.
+#[tactic(auto, using(crate::proofs::Promising::outputs_law))]
+pub fn outputs_are_linked()
+    ensures { OutputsLaw }
+{}
+
+/// What a frame notes of a slave of its part is what the slave publishes as the frame passes. Only a slave that was reset and
+/// has bits, or one that had a fault and has outputs, falls short.
+#[tactic(auto, using(crate::proofs::Promising::notes_law))]
+pub fn notes_are_published()
+    ensures { NotesLaw }
+{}
+
+/// A closed cycle sets the linked inputs of a unit to exactly the bits that were published as its frames passed, with the
+/// working counters as predicted, or it changes none of them: then a frame of the unit was lost or isn't back, or it passed a
+/// slave that fell short.
+#[tactic(auto, using(crate::proofs::Promising::inputs_law))]
+pub fn inputs_are_linked()
+    ensures { InputsLaw }
+{}
+
+/// A cyclic frame that goes round leaves in every slave, working or not, and brings back, what the plain machine says.
+pub fn round_trips()
+    ensures { RoundTrip }
+{}
+
+/// Past slaves in OP a cyclic frame publishes the linked outputs, and brings back the inputs and the predicted counters.
+#[tactic(auto, using(crate::proofs::RoundTrips::cycle_law))]
+pub fn cycles_exchange()
+    ensures { CycleLaw }
+{}
+
+/// From a world that shows a plain state, an event is made exactly where the plain machine makes it, and the world then
+/// shows the plain machine's next state.
+#[tactic(auto, using(crate::proofs::StepLaws::steps_show))]
+pub fn steps_show()
+    ensures { StepsShow }
+{}
+
+/// The same of every list of events, with the number of events that were made.
+#[tactic(auto, using(crate::proofs::Runs::runs_show))]
+pub fn runs_show()
+    ensures { RunsShow }
+{}
+
+/// From a new world of a plan, over every list of events: until the start-up is ready nothing is shown, and from then on
+/// the world shows the run of the plain machine. Each slave that doesn't work when it is ready had a fault or a reset since
+/// that start-up began.
+pub fn whole_runs()
+    ensures { WholeLaw }
+{}
+
+/// The same of the plan that the link compiler makes of a table.
+pub fn compiled_runs()
+    ensures { CompiledLaw }
+{}
+
+/// A new world of a table that the compiler accepts, with devices of its types: where each frame passes all slaves, each
+/// slave serves once and the frame comes back, the start-up is Ready after as many frames as its script has actions.
+#[tactic(auto, using(crate::proofs::NewWorlds::new_up))]
+pub fn new_up()
+    ensures { NewUpLaw }
+{}
+
+/// The same in events of a world: StartNext, Pass 0 for each slave, Return 0, Serve of each slave, and so on.
+pub fn new_run()
+    ensures { NewRunLaw }
+{}
