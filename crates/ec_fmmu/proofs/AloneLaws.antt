@@ -1,17 +1,17 @@
 -- Of an FMMU whose range no other one's meets: its pairs alone decide there.
-use Rattle.std.proofs.Common.{ℕ, zero, suc, ◌+◌, ◌-◌, ◌*◌, ◌<◌, ◌≤◌, ◌≡◌, ◌≢◌, List, [], ◌∷◌, length, get_or, Bool, true, false, Option, Some, None, option_and_then, refl, sym, ◌∙◌, ap, subst, inl, inr, arith, max, min, if◌then◌else◌}
+use Rattle.std.proofs.Common.{ℕ, zero, suc, ◌+◌, ◌-◌, ◌<◌, ◌≤◌, ◌≡◌, List, [], ◌∷◌, length, get_or, Bool, true, false, Option, Some, None, option_and_then, sym, ◌∙◌, ap, subst, inl, inr, arith, max, min}
 use Rattle.std.specs.Option.{option_or}
-use Rattle.std.proofs.lemmas.Bool.{cases_eq, cases_lt, cases_Bool, both_ways, and_from, and_left, and_right}
+use Rattle.std.proofs.lemmas.Bool.{cases_eq, cases_lt, cases_Bool, and_from, and_left, and_right}
 use Rattle.ec_bits.specs.Bits.{within}
-use Rattle.ec_bits.proofs.AnyLaws.{if_true, if_false, within_true, within_below, within_above, within_parts}
+use Rattle.ec_bits.proofs.AnyLaws.{if_true, if_false, within_true, within_below, within_above}
 use Rattle.ec_regs.specs.declared.fmmu.FmmuSettings.{FmmuSettings}
 use Rattle.ec_regs.specs.Fmmus.{no_fmmu}
-use Rattle.ec_fmmu.specs.Pairs.{Pair, mapped, reaches}
+use Rattle.ec_fmmu.specs.Pairs.{mapped, reaches}
 use Rattle.ec_fmmu.specs.Sets.{target, readers}
 use Rattle.ec_fmmu.specs.Applied.{read_told}
 use Rattle.ec_fmmu.specs.Ranges.{reads_to, range_read_told}
 use Rattle.ec_fmmu.specs.Alone.{IsAlone, run_mapped, run_shown}
-use Rattle.ec_fmmu.proofs.PairLaws.{none_or_some, none_is_not_some, pair_from_mapped, mapped_from_pair, pair_reaches}
+use Rattle.ec_fmmu.proofs.PairLaws.{none_or_some, none_is_not_some, mapped_from_pair, pair_reaches}
 use Rattle.ec_fmmu.proofs.RangeLaws.{reading_pair}
 
 -- an FMMU that reads and maps a bit leads it somewhere

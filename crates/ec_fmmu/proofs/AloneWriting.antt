@@ -9,7 +9,7 @@ use Rattle.ec_regs.specs.declared.fmmu.FmmuSettings.{FmmuSettings}
 use Rattle.ec_regs.specs.Fmmus.{no_fmmu}
 use Rattle.ec_fmmu.specs.Pairs.{Pair, first_logical, first_physical, mapped, unmapped, reaches_physical}
 use Rattle.ec_fmmu.specs.Sets.{target, source, source_after, unless_mapped, writers}
-use Rattle.ec_fmmu.specs.Applied.{Place, inside_place, write_told}
+use Rattle.ec_fmmu.specs.Applied.{inside_place, write_told}
 use Rattle.ec_fmmu.specs.Ranges.{writes_to}
 use Rattle.ec_fmmu.specs.Alone.{IsAloneWriting, run_unmapped, run_written}
 use Rattle.ec_fmmu.proofs.PairLaws.{none_or_some, none_is_not_some, pair_from_mapped, pair_from_unmapped, unmapped_from_pair, pair_reaches, pair_reaches_physical}

@@ -8,3 +8,4 @@ pub mod RunSettings
 pub mod AloneLaws
 pub mod AloneWriting
 pub mod Missing
+pub mod ApartLaws

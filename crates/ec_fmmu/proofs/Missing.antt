@@ -1,5 +1,5 @@
 -- A datagram of which no FMMU has a bit in its range neither reads nor writes.
-use Rattle.std.proofs.Common.{ℕ, ◌+◌, ◌-◌, ◌<◌, ◌≡◌, List, [], length, get_or, true, false, Option, Some, None, ◌∙◌, ap, inl, inr, arith}
+use Rattle.std.proofs.Common.{ℕ, ◌+◌, ◌-◌, ◌<◌, ◌≡◌, List, [], length, get_or, true, Some, None, ◌∙◌, ap, inl, inr, arith}
 use Rattle.std.proofs.lemmas.Bool.{cases_Bool}
 use Rattle.ec_bits.specs.Bits.{within}
 use Rattle.ec_bits.proofs.AnyLaws.{if_false, within_true}

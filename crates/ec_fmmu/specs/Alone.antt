@@ -1,9 +1,10 @@
 -- An FMMU whose range no other one's meets, and runs of bits.
-use Rattle.std.specs.Prelude.{ℕ, ◌+◌, ◌-◌, ◌*◌, ◌/◌, ◌<◌, ◌≡◌, ◌≢◌, List, length, get_or, Bool, true, if◌then◌else◌, Option, Some, None}
+use Rattle.std.specs.Prelude.{ℕ, ◌+◌, ◌-◌, ◌/◌, ◌<◌, ◌≡◌, ◌≢◌, List, length, get_or, Bool, true, if◌then◌else◌, Option, Some, None}
 use Rattle.ec_bits.specs.Bits.{bit, within}
 use Rattle.ec_regs.specs.declared.fmmu.FmmuSettings.{FmmuSettings}
 use Rattle.ec_regs.specs.Fmmus.{no_fmmu}
 use Rattle.ec_fmmu.specs.Pairs.{reaches, reaches_physical}
+use Rattle.ec_fmmu.specs.Sets.{readers, source, target, writers}
 
 -- no other FMMU that reads has a logical bit of the range of FMMU k
 abbrev pub IsAlone : List FmmuSettings → ℕ → Type 0
@@ -15,6 +16,15 @@ abbrev pub IsAloneWriting : List FmmuSettings → ℕ → Type 0
 IsAloneWriting fs k = (j : ℕ) → j < length fs → j ≢ k → (get_or fs j no_fmmu).writes ≡ true
     → ((l : ℕ) → reaches (get_or fs j no_fmmu) l ≡ true → reaches (get_or fs k no_fmmu) l ≡ true → ⊥)
     × ((q : ℕ) → reaches_physical (get_or fs j no_fmmu) q ≡ true → reaches_physical (get_or fs k no_fmmu) q ≡ true → ⊥)
+
+-- no FMMU that writes has a physical bit of the range of one
+abbrev pub IsUnwritten : List FmmuSettings → FmmuSettings → Type 0
+IsUnwritten fs f = (k : ℕ) → k < length fs → (get_or fs k no_fmmu).writes ≡ true
+    → (q : ℕ) → reaches_physical (get_or fs k no_fmmu) q ≡ true → reaches_physical f q ≡ true → ⊥
+
+-- a physical bit that is read is not written
+abbrev pub AreApart : List FmmuSettings → Type 0
+AreApart fs = (l q : ℕ) → target (readers fs) l ≡ Some q → source (writers fs) q ≡ None
 
 -- the physical bit of a logical bit in a run
 abbrev pub run_mapped : ℕ → ℕ → ℕ → ℕ → Option ℕ

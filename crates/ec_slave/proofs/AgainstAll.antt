@@ -94,7 +94,7 @@ retold_alike k (x ∷ xs) f g h =
     ∙ ap (λ ys. unwrap_or (g k) x ∷ ys) (retold_alike (k + 1) xs f g (λ i l. h i (omega arith)))
 
 -- an access gets at a manager by the bytes of its value that are its own, and by no other
-gets_at-alike : (t own their : ℕ → Bool) (m : Manager) → ((k : ℕ) → k < m.settings.length → own (m.settings.start + k) ≡ their (m.settings.start + k))
+pub gets_at-alike : (t own their : ℕ → Bool) (m : Manager) → ((k : ℕ) → k < m.settings.length → own (m.settings.start + k) ≡ their (m.settings.start + k))
     → gets_at t own m ≡ gets_at t their m
 gets_at-alike t own their m h =
     ap (λ (b : Bool). covers t m && b)

@@ -1,8 +1,9 @@
 -- A logical datagram by its role (ETG.1000.4, LRD, LWR and LRW).
-use Rattle.std.specs.Prelude.{ℕ, ◌+◌, ◌*◌, ◌&&◌, List, if◌then◌else◌}
+use Rattle.std.specs.Prelude.{ℕ, ◌+◌, ◌*◌, ◌&&◌, ◌≡◌, List, length, if◌then◌else◌}
 use Rattle.std.specs.Int.{from_bool}
 use Rattle.ec_bits.specs.Bits.{overlay}
 use Rattle.ec_frame.specs.Datagram.{Datagram}
+use Rattle.ec_fmmu.specs.Alone.{AreApart}
 use Rattle.ec_fmmu.specs.Applied.{Place}
 use Rattle.ec_slave.specs.declared.role.Role.{Role}
 use Rattle.ec_slave.specs.declared.role.Role.TheVariants.{ReadWrite}
@@ -30,3 +31,8 @@ meets_mapped role s d = meets_logical (is_reading role) (is_writing role) (weigh
 -- LRW at a slave whose type takes part in it, and at one whose type doesn't
 abbrev pub meets_lrw : SlaveState → Datagram → Met
 meets_lrw s d = if s.kind.lrw then meets_mapped ReadWrite s d else record { slave = s; datagram = d }
+
+-- nothing that is read of the memory is written there, so that a datagram that does both may write first
+pub record MayWriteFirst (s : SlaveState) : Type 0 where
+  pub room : length s.memory ≡ 0x3000
+  pub apart : AreApart (fmmus s)

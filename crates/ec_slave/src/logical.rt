@@ -15,7 +15,7 @@ ghost use Rattle.ec_slave.specs.State.{fmmus};
 ghost use Rattle.ec_slave.specs.LogicalLaws.{Misses};
 ghost use Rattle.ec_slave.specs.Logical.{logical_after, read_bit, some_read, some_written};
 ghost use Rattle.ec_slave.specs.Roles.{is_reading, is_writing};
-ghost use Rattle.ec_slave.specs.Mapped.{data_after, count_after, meets_lrw, meets_mapped};
+ghost use Rattle.ec_slave.specs.Mapped.{MayWriteFirst, data_after, count_after, meets_lrw, meets_mapped};
 
 mod managers;
 mod reading;
@@ -27,7 +27,7 @@ use crate::logical::reading::read_logical;
 use crate::logical::writing::{some_manager_written, write_logical};
 use crate::role::Role;
 use crate::slave::Slave;
-use ec_fmmu::is_missed;
+use ec_fmmu::{are_apart, is_missed};
 use ec_frame::{Header, cut_counter, cut_heading, read_counter, write_counter};
 
 /// The data of a datagram have at most so many bytes.
@@ -87,6 +87,44 @@ impl Slave {
         self.read_write_bits(from, received, bytes)
     }
 
+    /// Whether no bit of the memory that is read is one that is written, so that a datagram may
+    /// write first. False says nothing.
+    fn may_write_first(&self) -> bool
+        ensures { OnTrue result (MayWriteFirst self.now) }
+    {
+        are_apart(&self.fmmus)
+    }
+
+    /// A datagram that reads and writes, where it may write first: its data need no copy.
+    fn write_and_read_bits(&mut self, from: u64, bytes: &mut [u8]) -> u16
+        requires small { from + 8 * length bytes.old < 2 ^ 64 }
+        requires first { MayWriteFirst self.old }
+        ensures slave { self.new ≡ logical_after self.old true true (record { from = from; bits = 8 * length bytes.old }) bytes.old }
+        ensures bytes { bytes.new ≡ overlay bytes.old (read_bit self.old.memory self.old.managers (fmmus self.old) (record { from = from; bits = 8 * length bytes.old })) }
+        ensures added { result ≡ from_bool (some_read self.old.memory self.old.managers (fmmus self.old) (record { from = from; bits = 8 * length bytes.old }))
+            + 2 * from_bool (some_written self.old.managers (fmmus self.old) (record { from = from; bits = 8 * length bytes.old }) bytes.old) }
+    {
+        let is_written = self.write_bits(false, from, bytes);
+        self.read_bits(from, bytes) as u16 + 2 * is_written as u16
+    }
+
+    /// A datagram that reads and writes: its data are copied only where a bit that is read may also
+    /// be written.
+    fn exchange_bits(&mut self, from: u64, bytes: &mut [u8]) -> u16
+        requires small { from + 8 * length bytes.old < 2 ^ 64 }
+        requires few { length bytes.old < 2048 }
+        ensures slave { self.new ≡ logical_after self.old true true (record { from = from; bits = 8 * length bytes.old }) bytes.old }
+        ensures bytes { bytes.new ≡ overlay bytes.old (read_bit self.old.memory self.old.managers (fmmus self.old) (record { from = from; bits = 8 * length bytes.old })) }
+        ensures added { result ≡ from_bool (some_read self.old.memory self.old.managers (fmmus self.old) (record { from = from; bits = 8 * length bytes.old }))
+            + 2 * from_bool (some_written self.old.managers (fmmus self.old) (record { from = from; bits = 8 * length bytes.old }) bytes.old) }
+    {
+        if self.may_write_first() {
+            self.write_and_read_bits(from, bytes)
+        } else {
+            self.read_write_copied_bits(from, bytes)
+        }
+    }
+
     /// Whether no FMMU has one of so many logical bits in its range, so that a datagram over them
     /// passes at the price of a few compares. False says nothing.
     fn misses(&self, from: u64, bits: u64) -> bool
@@ -111,7 +149,7 @@ impl Slave {
             Role::Nothing => 0,
             Role::Read | Role::OrRead => self.read_bits(from, bytes) as u16,
             Role::Write => self.write_bits(false, from, bytes) as u16,
-            Role::ReadWrite | Role::OrReadWrite => self.read_write_copied_bits(from, bytes),
+            Role::ReadWrite | Role::OrReadWrite => self.exchange_bits(from, bytes),
         }
     }
 

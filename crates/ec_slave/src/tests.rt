@@ -282,10 +282,16 @@ fn exchange_through_one_fmmu(rt: HostRuntime) -> Result<(), Fail> {
 // A type may take no part in LRW; LWR and LRD still reach it.
 #[test]
 fn slave_without_lrw(rt: HostRuntime) -> Result<(), Fail> {
-    let outputs = Listed::new(rt.alloc());
-    let inputs = Listed::new(rt.alloc());
-    assert!(rt; SlaveType::is_within_limits(None, outputs.as_slice(), inputs.as_slice()));
-    let kind = SlaveType::new(IDENTITY.device(), None, 0, 0, outputs, inputs, false);
+    let none = Listed::new(rt.alloc());
+    let kind = SlaveType::new(
+        IDENTITY.device(),
+        None,
+        0,
+        0,
+        none,
+        Listed::new(rt.alloc()),
+        false,
+    );
     let mut slave = Slave::new(rt.alloc(), kind, IDENTITY)?;
     write(&rt, &mut slave, 0x0810, &OUTPUTS)?;
     write(&rt, &mut slave, 0x0600, &WRITES_OUTPUTS)?;

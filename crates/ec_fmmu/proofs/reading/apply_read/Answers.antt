@@ -1,9 +1,7 @@
 use Rattle.std.proofs.Common.{ℕ, List, ap, ◌+◌, ◌*◌, ◌≡◌, ◌⊎◌, ◌∙◌, sym, subst, arith, None, inl, inr, length, true, if◌then◌else◌, get_or, ◌||◌, is_some}
 use Rattle.std.proofs.lemmas.Bool.{cases_Bool}
-use Rattle.std.proofs.lemmas.List.{get_or_default}
 use Rattle.ec_bits.specs.Bits.{any_below}
 use Rattle.ec_bits.proofs.Overlays.{Telling, telling_none, telling_end, telling_overlay, telling_fewer, counted_none, counted_part, counted_fewer, counted_end}
-use Rattle.ec_regs.specs.declared.fmmu.FmmuSettings.{FmmuSettings}
 use Rattle.ec_regs.specs.Fmmus.{no_fmmu}
 use Rattle.ec_fmmu.specs.Applied.{read_told}
 use Rattle.ec_fmmu.specs.Ranges.{reads_to}

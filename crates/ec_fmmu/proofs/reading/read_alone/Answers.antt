@@ -1,4 +1,4 @@
-use Rattle.std.proofs.Common.{ℕ, List, ap, ◌+◌, ◌-◌, ◌*◌, ◌<◌, ◌≤◌, ◌≡◌, ◌∙◌, sym, subst, arith, Option, Bool, None, length, get_or, unwrap_or, is_some, max, min}
+use Rattle.std.proofs.Common.{ℕ, ap, ◌+◌, ◌-◌, ◌*◌, ◌<◌, ◌≡◌, ◌∙◌, sym, subst, arith, Option, Bool, None, length, get_or, unwrap_or, is_some, max, min}
 use Rattle.std.proofs.lemmas.List.{get_or_default}
 use Rattle.ec_bits.specs.Bits.{bit}
 use Rattle.ec_bits.proofs.BitLaws.{overlay_own, overlay_alike}

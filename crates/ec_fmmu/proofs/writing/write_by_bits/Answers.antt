@@ -1,6 +1,6 @@
 use Rattle.std.proofs.Common.{ℕ, List, ap, ◌+◌, ◌-◌, ◌*◌, ◌/◌, ◌<◌, ◌≡◌, ◌∙◌, sym, subst, arith, Some, None, Bool, inl, inr, length, ◌||◌, if◌then◌else◌}
 use Rattle.std.proofs.lemmas.Bool.{cases_lt}
-use Rattle.ec_bits.specs.Bits.{bit, within}
+use Rattle.ec_bits.specs.Bits.{bit}
 use Rattle.ec_bits.proofs.AnyLaws.{if_true, if_false, within_true, within_below, within_above}
 use Rattle.ec_bits.proofs.Overlays.{Telling, telling_none, telling_next, telling_end, Counted, counted_none, counted_next, counted_end}
 use Rattle.ec_fmmu.specs.Alone.{run_written}
