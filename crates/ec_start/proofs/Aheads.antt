@@ -1,21 +1,19 @@
 -- The actions ahead of a cursor: what the steps of the cursor do to them.
-use Rattle.std.proofs.Common.{◌≡◌, ◌≢◌, ℕ, zero, suc, ◌+◌, ◌*◌, ◌-◌, ◌/◌, ◌%◌, ◌<◌, ◌≤◌, ◌==◌, ◌&&◌, List, [], ◌∷◌, ◌++◌, length, drop, get_or, slice_get, Option, Some, None, Bool, true, false, not, if◌then◌else◌, nat_lt, option_map, refl, sym, ap, ◌∙◌, arith, append_assoc, append-nil, All}
+use Rattle.std.proofs.Common.{◌≡◌, ◌≢◌, ℕ, zero, suc, ◌+◌, ◌/◌, ◌%◌, ◌<◌, ◌≤◌, ◌==◌, ◌&&◌, List, [], ◌∷◌, ◌++◌, length, drop, get_or, slice_get, Option, Some, None, Bool, true, false, not, if◌then◌else◌, nat_lt, option_map, refl, sym, ap, ◌∙◌, arith, append_assoc, append-nil}
 use Rattle.std.proofs.Common.{inl, inr}
 use Rattle.std.proofs.lemmas.Bool.{cases_Bool, ltb-false, ltb-true}
 use Rattle.std.proofs.lemmas.List.{drop_all}
-use Rattle.ec_bits.proofs.AnyLaws.{if_true, if_false}
 use Rattle.ec_regs.specs.declared.slave_type.Mailbox.{Mailbox}
 use Rattle.ec_link.specs.declared.settings.Settings.{Settings}
 use Rattle.ec_start.specs.declared.action.Request.{Request}
 use Rattle.ec_start.specs.declared.action.Action.{Action}
-use Rattle.ec_start.specs.declared.action.Action.TheVariants.{CountSlaves, SendRequest, AwaitReply}
+use Rattle.ec_start.specs.declared.action.Action.TheVariants.{SendRequest, AwaitReply}
 use Rattle.ec_start.specs.declared.script.Stretch.{Stretch}
 use Rattle.ec_start.specs.declared.script.Stretch.TheVariants.{Opening, Naming, Identifying, Mailboxes, ToPreOp, Talking, Mapping, ToSafeOp, ToOp}
 use Rattle.ec_start.specs.declared.script.Cursor.{Cursor}
-use Rattle.ec_start.specs.declared.script.Step.{Step}
 use Rattle.ec_start.specs.Plans.{settings_at, fmmu_at}
 use Rattle.ec_start.specs.Scripts.{each_slave, script, requests, exchanged, talked, mapped, manager_set, fmmu_set}
-use Rattle.ec_start.specs.Ahead.{share, opening, share_of, is_for_all, share_at, following, whole, later, beyond, ahead, behind, rank, shares_left, IsSettled, Settles, somes, manager_chosen, fmmu_chosen}
+use Rattle.ec_start.specs.Ahead.{share, share_of, is_for_all, share_at, following, whole, later, beyond, ahead, behind, rank, shares_left, somes, manager_chosen, fmmu_chosen}
 
 not_left : (a b : Bool) → not a && b ≡ true → a ≡ false
 not_left true b e = absurd (let f : false ≡ true = e in cc)

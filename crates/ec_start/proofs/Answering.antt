@@ -1,7 +1,6 @@
 -- A payload of two datagrams, and whether it answers an action.
-use Rattle.std.proofs.Common.{◌≡◌, ◌≤◌, ◌↔◌, ℕ, ◌+◌, ◌%◌, List, [], ◌∷◌, ◌++◌, length, map, take, slice_range, Bool, true, false, refl, sym, ap, subst, ◌∙◌, arith}
+use Rattle.std.proofs.Common.{◌≡◌, ◌≤◌, ℕ, ◌%◌, List, [], ◌∷◌, length, map, take, slice_range, Bool, true, false, refl, sym, ap, ◌∙◌, arith}
 use Rattle.std.specs.Int.{to_le_bytes, w64}
-use Rattle.std.specs.List.{AllByRecursion}
 use Rattle.ec_frame.specs.declared.command.Command.{Command}
 use Rattle.ec_frame.specs.declared.command.Command.TheVariants.{Nop}
 use Rattle.ec_frame.specs.declared.cursor.Span.{Span}
@@ -11,7 +10,7 @@ use Rattle.ec_frame.specs.Datagram.{Datagram, IsDatagram, is_followed, spelling}
 use Rattle.ec_frame.specs.Frame.{Payload, IsFrame}
 use Rattle.ec_frame.proofs.Verdict.{one_payload}
 use Rattle.ec_start.specs.declared.action.Action.{Action}
-use Rattle.ec_start.specs.Actions.{datagram_of, frame_of, numbered}
+use Rattle.ec_start.specs.Actions.{datagram_of, frame_of}
 use Rattle.ec_start.specs.Running.{Shape, shape, number_told}
 use Rattle.ec_start.specs.Answered.{Answers, IsAnswerAt}
 use Rattle.ec_start.proofs.Shaping.{datagram_is}

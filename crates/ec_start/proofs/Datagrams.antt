@@ -1,10 +1,10 @@
 -- The datagrams of actions: their lengths, and what of them a number leaves alone.
-use Rattle.std.proofs.Common.{◌≡◌, ℕ, ◌+◌, ◌-◌, ◌≤◌, ◌%◌, ◌++◌, length, refl, sym, ap, ◌∙◌, arith, length-append}
+use Rattle.std.proofs.Common.{◌≡◌, ℕ, ◌-◌, ◌≤◌, length, refl, arith, length-append}
 use Rattle.std.proofs.lemmas.List.{length-replicate}
 use Rattle.ec_bits.specs.Bits.{zeros}
 use Rattle.ec_coe.specs.Messages.{message_bytes}
 use Rattle.ec_start.specs.declared.action.Request.{Request}
-use Rattle.ec_start.specs.Actions.{request_message, request_bytes, filled}
+use Rattle.ec_start.specs.Actions.{request_bytes, filled}
 
 bytes_length : (before : ℕ) (r : Request) → length (request_bytes before r) ≡ 16
 unfolding message_bytes

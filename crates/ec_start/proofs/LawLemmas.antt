@@ -1,14 +1,12 @@
 -- The laws.
-use Rattle.std.proofs.Common.{◌≡◌, ◌≢◌, ◌↔◌, ℕ, zero, suc, ◌+◌, ◌%◌, ◌<◌, ◌≤◌, ◌==◌, List, [], ◌∷◌, ◌++◌, length, Bool, true, false, if◌then◌else◌, Option, Some, None, refl, sym, ap, subst, ◌∙◌, arith, append_assoc}
+use Rattle.std.proofs.Common.{◌≡◌, ℕ, ◌+◌, ◌<◌, ◌==◌, List, [], ◌∷◌, ◌++◌, Bool, true, false, Option, Some, None, refl, sym, subst, arith, append_assoc}
 use Rattle.std.proofs.Common.{inl, inr}
 use Rattle.std.specs.List.{flat_map}
 use Rattle.std.proofs.lemmas.Bool.{cases_Bool, ne_eqb, eq-eqb, eqb-false}
-use Rattle.ec_bits.proofs.AnyLaws.{if_true, if_false}
 use Rattle.ec_regs.specs.declared.slave_type.Entry.{Entry}
 use Rattle.ec_regs.specs.declared.slave_type.Pdo.{Pdo}
 use Rattle.ec_regs.specs.Objects.{pdo_at}
 use Rattle.ec_coe.specs.Objects.{output_assignment, input_assignment, has_some}
-use Rattle.ec_link.specs.declared.settings.Settings.{Settings}
 use Rattle.ec_start.specs.declared.action.Request.{Request}
 use Rattle.ec_start.specs.declared.verdict.Verdict.{Verdict}
 use Rattle.ec_start.specs.declared.verdict.Verdict.TheVariants.{Next, Shows, Again, Fails}
@@ -16,10 +14,10 @@ use Rattle.ec_start.specs.declared.phase.Phase.{Phase}
 use Rattle.ec_start.specs.declared.phase.Phase.TheVariants.{Idle, Sent, Ready, Failed}
 use Rattle.ec_start.specs.declared.phase.NextFrame.TheVariants.{Ended}
 use Rattle.ec_start.specs.declared.error.StartError.TheVariants.{TooSlow}
-use Rattle.ec_start.specs.Scripts.{entries_read, pdo_read, slots_written, count_written, assignment_written, requests}
-use Rattle.ec_start.specs.Running.{StartState, is_ended, asked, asked_by, next_frame, next_frame_by, given_up, given_up_by, judged, most_polls, IsOutstanding, IsStartTaken}
+use Rattle.ec_start.specs.Scripts.{entries_read, pdo_read, slots_written, count_written, assignment_written}
+use Rattle.ec_start.specs.Running.{StartState, is_ended, asked_by, next_frame_by, given_up_by, judged, most_polls, IsStartTaken}
 use Rattle.ec_start.specs.Seeking.{uploads_of, downloads_of}
-use Rattle.ec_start.specs.Laws.{IsScriptOfThree, AreUploads, AreDownloads, IsUploadsFirst, UploadsComeFirst, CountersRunToSeven, StaysEnded, EndedStays, PollsEnd}
+use Rattle.ec_start.specs.Laws.{IsScriptOfThree, AreUploads, AreDownloads, UploadsComeFirst, CountersRunToSeven, EndedStays, PollsEnd, ForeignChangesNothing, FramesAreAnswered}
 
 pub script_of_three : IsScriptOfThree
 script_of_three = record { steps = refl; ninth = refl; tenth = refl }
@@ -117,3 +115,9 @@ more_polls s lt = let f : (s.polls + 1 == most_polls) ≡ false = ne_eqb (s.poll
 
 pub polls_end : PollsEnd
 polls_end = record { few = few_polls; last = last_poll; more = more_polls }
+
+pub foreign_changes_nothing : ForeignChangesNothing
+foreign_changes_nothing s new payload h = h.foreign refl
+
+pub frames_are_answered : FramesAreAnswered
+frames_are_answered s = record { shapes = refl; number_is = refl }

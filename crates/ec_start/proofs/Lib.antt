@@ -5,3 +5,4 @@ pub mod Startups
 pub mod Shaping
 pub mod Answering
 pub mod LawLemmas
+pub mod Assigned

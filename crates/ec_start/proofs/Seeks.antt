@@ -1,5 +1,5 @@
 -- Where a place lies in runs of requests.
-use Rattle.std.proofs.Common.{◌≡◌, ◌≢◌, ℕ, zero, suc, ◌+◌, ◌-◌, ◌<◌, ◌≤◌, List, [], ◌∷◌, ◌++◌, length, drop, get_or, slice_get, slice_index, Option, Some, None, Bool, true, false, not, refl, sym, ap, ◌∙◌, arith, append_assoc, ◌==◌}
+use Rattle.std.proofs.Common.{◌≡◌, ◌≢◌, ℕ, zero, suc, ◌+◌, ◌-◌, ◌<◌, ◌≤◌, List, [], ◌∷◌, ◌++◌, length, drop, get_or, slice_get, slice_index, Some, true, not, refl, sym, ap, ◌∙◌, arith, append_assoc, ◌==◌}
 use Rattle.std.specs.List.{flat_map}
 use Rattle.std.proofs.lemmas.Bool.{ne_eqb}
 use Rattle.ec_regs.specs.declared.slave_type.Entry.{Entry}
@@ -10,7 +10,7 @@ use Rattle.ec_coe.specs.Objects.{byte_value, word_value, long_value, entry_numbe
 use Rattle.ec_start.specs.declared.action.Request.{Request}
 use Rattle.ec_start.specs.declared.requests.Seek.{Seek}
 use Rattle.ec_start.specs.declared.requests.Seek.TheVariants.{Found, Past}
-use Rattle.ec_start.specs.Scripts.{downloads, uploads, entries_read, pdo_read, slots_written, count_written, assignment_written, requests}
+use Rattle.ec_start.specs.Scripts.{downloads, uploads, entries_read, pdo_read, slots_written, assignment_written, requests}
 use Rattle.ec_start.specs.Seeking.{seek, seek_on, found, uploads_of, downloads_of}
 
 pub seek_append : (xs ys : List Request) (k : ℕ) → seek (xs ++ ys) k ≡ seek_on (seek xs k) ys

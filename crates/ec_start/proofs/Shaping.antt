@@ -1,6 +1,6 @@
 -- The frame of an action, and the datagram in it.
-use Rattle.std.proofs.Common.{◌≡◌, ℕ, false, ◌+◌, ◌%◌, ◌<◌, ◌≤◌, List, [], ◌∷◌, ◌++◌, length, refl, sym, ap, ◌∙◌, arith, length-append}
-use Rattle.std.proofs.Common.{Result, Ok, Err, OnOk, OnErr, subst}
+use Rattle.std.proofs.Common.{◌≡◌, ℕ, false, ◌+◌, ◌%◌, ◌<◌, ◌≤◌, List, [], ◌∷◌, ◌++◌, length, refl, sym, ap, ◌∙◌, arith}
+use Rattle.std.proofs.Common.{Result, Ok, Err, OnOk, OnErr}
 use Rattle.std.specs.Int.{to_le_bytes, w16, w64}
 use Rattle.ec_frame.specs.declared.builder.Full.{Full}
 use Rattle.ec_frame.specs.declared.command.Command.{Command}

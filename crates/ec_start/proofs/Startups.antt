@@ -1,9 +1,8 @@
 -- The step of a start-up and its place in the script.
-use Rattle.std.proofs.Common.{◌≡◌, ◌≢◌, ◌↔◌, ℕ, zero, suc, ◌+◌, ◌<◌, ◌≤◌, List, [], ◌∷◌, ◌++◌, length, drop, map, take, get_or, slice_get, Option, Some, None, Bool, true, false, nat_lt, refl, sym, ap, subst, ◌∙◌, arith}
+use Rattle.std.proofs.Common.{◌≡◌, ℕ, zero, suc, ◌+◌, ◌<◌, ◌≤◌, List, [], ◌∷◌, length, drop, map, get_or, slice_get, Some, Bool, true, false, nat_lt, refl, sym, ap, subst, ◌∙◌, arith}
 use Rattle.std.proofs.lemmas.Bool.{lt-ltb, le-ltb}
-use Rattle.std.specs.Int.{to_le_bytes, w64}
 use Rattle.ec_coe.specs.Objects.{has_some}
-use Rattle.ec_frame.specs.Datagram.{Datagram, IsDatagram, spelling}
+use Rattle.ec_frame.specs.Datagram.{Datagram}
 use Rattle.ec_frame.specs.Frame.{Payload, IsFrame}
 use Rattle.ec_frame.specs.declared.cursor.Span.{Span}
 use Rattle.ec_frame.proofs.Verdict.{one_payload}
@@ -17,8 +16,8 @@ use Rattle.ec_start.specs.declared.script.Step.{Step}
 use Rattle.ec_start.specs.Actions.{frame_of}
 use Rattle.ec_start.specs.Scripts.{script}
 use Rattle.ec_start.specs.Verdicts.{verdict}
-use Rattle.ec_start.specs.Running.{StartState, is_sent, is_ended, with_shown, action_of, type_of, judged, taken, shape, IsStartAnswer, IsOutstanding, IsStartTaken, second}
-use Rattle.ec_start.specs.Ahead.{opening, share_at, ahead, IsSettled}
+use Rattle.ec_start.specs.Running.{StartState, is_sent, is_ended, with_shown, action_of, type_of, judged, shape, IsStartAnswer, IsStartTaken, second}
+use Rattle.ec_start.specs.Ahead.{opening, ahead, IsSettled}
 use Rattle.ec_start.specs.Answered.{answered, Answers, IsAnswerAt}
 use Rattle.ec_start.specs.Held.{first_step, IsAtStep}
 use Rattle.ec_start.proofs.Aheads.{ahead_here, script_ahead}

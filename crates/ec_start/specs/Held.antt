@@ -1,16 +1,15 @@
 -- What a start-up holds beside its value: where it is in the script, which isn't stored. It serves private code and its
 -- proofs alone.
-use Rattle.std.specs.Prelude.{ℕ, ◌+◌, ◌<◌, ◌≤◌, ◌≡◌, List, length, drop, slice_get, All, Bool, true, false, Some}
+use Rattle.std.specs.Prelude.{ℕ, ◌<◌, ◌≤◌, ◌≡◌, List, length, drop, slice_get, All, true, false, Some}
 use Rattle.ec_link.specs.declared.settings.Settings.{Settings}
 use Rattle.ec_start.specs.declared.action.Action.TheVariants.{CountSlaves}
 use Rattle.ec_start.specs.declared.phase.Phase.{Phase}
-use Rattle.ec_start.specs.declared.phase.Phase.TheVariants.{Sent}
 use Rattle.ec_start.specs.declared.script.Stretch.TheVariants.{Opening}
 use Rattle.ec_start.specs.declared.script.Step.{Step}
 use Rattle.ec_start.specs.Planned.{HasFewAssigned}
 use Rattle.ec_start.specs.Doable.{IsDoable}
 use Rattle.ec_start.specs.Scripts.{script}
-use Rattle.ec_start.specs.Running.{is_ended, is_sent, last_number, most_polls}
+use Rattle.ec_start.specs.Running.{is_ended, is_sent, most_polls}
 use Rattle.ec_start.specs.Ahead.{share_at, ahead}
 
 abbrev pub first_step : Step

@@ -1,5 +1,5 @@
 -- What the definitions of this crate say together.
-use Rattle.std.specs.Prelude.{ℕ, ◌+◌, ◌<◌, ◌≤◌, ◌≡◌, List, [], ◌∷◌, ◌++◌, length, get_or, Bool, true, false}
+use Rattle.std.specs.Prelude.{ℕ, ◌+◌, ◌<◌, ◌≤◌, ◌≡◌, List, [], ◌∷◌, ◌++◌, length, get_or, Bool, true, false, All}
 use Rattle.ec_link.specs.declared.settings.Settings.{Settings}
 use Rattle.ec_start.specs.declared.action.Transfer.{Transfer}
 use Rattle.ec_start.specs.declared.action.Transfer.TheVariants.{Download, Upload}
@@ -10,9 +10,10 @@ use Rattle.ec_start.specs.declared.verdict.Verdict.{Verdict}
 use Rattle.ec_start.specs.declared.verdict.Verdict.TheVariants.{Again}
 use Rattle.ec_start.specs.declared.phase.Phase.TheVariants.{Failed}
 use Rattle.ec_start.specs.declared.phase.NextFrame.TheVariants.{Ended}
-use Rattle.ec_start.specs.Actions.{request_message}
+use Rattle.ec_start.specs.Actions.{request_message, frame_of}
+use Rattle.ec_start.specs.Planned.{IsStartable, HasFewAssigned}
 use Rattle.ec_start.specs.Scripts.{script, requests}
-use Rattle.ec_start.specs.Running.{StartState, is_ended, asked, next_frame, judged, given_up, most_polls, IsStartTaken}
+use Rattle.ec_start.specs.Running.{StartState, IsStartAnswer, sending, action_of, is_ended, asked, next_frame, judged, given_up, most_polls, IsStartTaken}
 use Rattle.ec_start.specs.ThreeSlaves.{three_slaves}
 
 -- ---- the script
@@ -70,3 +71,16 @@ pub record PollsEnd : Type 0 where
   pub few : (s : StartState) (v : Verdict) → s.polls < most_polls → (judged s v).polls < most_polls
   pub last : (s : StartState) → s.polls + 1 ≡ most_polls → (judged s Again).phase ≡ Failed (TooSlow s.place)
   pub more : (s : StartState) → s.polls + 1 < most_polls → (judged s Again).polls ≡ s.polls + 1
+
+-- A foreign payload changes nothing.
+abbrev pub ForeignChangesNothing : Type 0
+ForeignChangesNothing = (s new : StartState) (payload : List ℕ) → IsStartTaken s payload false new → new ≡ s
+
+-- A frame that comes back as it was sent is an answer, and so is one whose addresses, data and counters have changed: an answer
+-- is told by commands, indices, lengths, order and number.
+abbrev pub FramesAreAnswered : Type 0
+FramesAreAnswered = (s : StartState) → IsStartAnswer (sending s) s.next (frame_of (action_of s) s.next)
+
+-- `Startup::new` takes each plan that can be started up.
+abbrev pub StartablesAreTaken : Type 0
+StartablesAreTaken = (ps : List Settings) → All IsStartable ps → All HasFewAssigned ps

@@ -1,6 +1,5 @@
 -- The plan of the example's three slaves: 4 output bits; 4 input bits; a mailbox, 12 output bits and 16 input bits.
-use Rattle.std.specs.Prelude.{ℕ, List, [], ◌∷◌, true, false, Option, Some, None}
-use Rattle.ec_regs.specs.declared.fmmu.FmmuSettings.{FmmuSettings}
+use Rattle.std.specs.Prelude.{ℕ, List, [], ◌∷◌, true, Option, Some, None}
 use Rattle.ec_regs.specs.declared.slave_type.Pdo.{Pdo}
 use Rattle.ec_regs.specs.declared.slave_type.Mailbox.{Mailbox}
 use Rattle.ec_regs.specs.Types.{SlaveKind}

@@ -1,6 +1,6 @@
 //! What the definitions of this crate say together. The functions do nothing: their contracts are the laws.
 
-ghost use Rattle.ec_start.specs.Laws.{IsScriptOfThree, UploadsComeFirst, CountersRunToSeven, EndedStays, PollsEnd};
+ghost use Rattle.ec_start.specs.Laws.{IsScriptOfThree, UploadsComeFirst, CountersRunToSeven, EndedStays, PollsEnd, ForeignChangesNothing, FramesAreAnswered, StartablesAreTaken};
 
 /// The script of the example's three slaves has 75 steps, and step 10 is the first wait for slave 0's SII.
 #[tactic(auto, using(crate::proofs::LawLemmas::script_of_three))]
@@ -30,4 +30,21 @@ pub fn ended_stays()
 #[tactic(auto, using(crate::proofs::LawLemmas::polls_end))]
 pub fn polls_end()
     ensures { PollsEnd }
+{}
+
+/// A foreign payload changes nothing.
+#[tactic(auto, using(crate::proofs::LawLemmas::foreign_changes_nothing))]
+pub fn foreign_changes_nothing()
+    ensures { ForeignChangesNothing }
+{}
+
+/// A frame that comes back as it was sent is an answer to it.
+#[tactic(auto, using(crate::proofs::LawLemmas::frames_are_answered))]
+pub fn frames_are_answered()
+    ensures { FramesAreAnswered }
+{}
+
+/// `Startup::new` takes each plan that can be started up.
+pub fn startables_are_taken()
+    ensures { StartablesAreTaken }
 {}

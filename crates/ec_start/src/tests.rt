@@ -1,6 +1,6 @@
 //! The calls of a start-up, with payloads written by hand.
 
-use crate::tests::rows::{ROWS, Row};
+use crate::tests::rows::STEPS;
 use crate::{NextFrame, Phase, StartError, Startup, Taken};
 use ec_frame::Frame;
 use ec_link::{Plan, compile};
@@ -100,10 +100,32 @@ fn startup_of(rt: &(impl AllocGlobal + Abort), text: &str, from: u64) -> Result<
     Ok(Startup::new(rt.alloc(), &plan, from)?)
 }
 
-/// The frame of a row.
-fn sent_of(alloc: Global, row: &Row) -> Result<Vec<u8>, Fail> {
+/// A step as the table of steps has it.
+#[derive(Clone, Copy)]
+struct Row<'a> {
+    sent: &'a str,
+    back: &'a str,
+    counter: u8,
+}
+
+fn row_of(alloc: Global, line: &str) -> Result<Row<'_>, Fail> {
+    let mut words = line.split_whitespace();
+    let sent = words.next().ok_or("a frame")?;
+    let back = words.next().ok_or("what comes back")?;
+    let counter = hex::decode(alloc, words.next().ok_or("a counter")?)?;
+    Ok(Row {
+        sent,
+        back: if back == "-" { "" } else { back },
+        counter: *counter.first().ok_or("a counter")?,
+    })
+}
+
+/// The frame of a step, with zeros up to the length that it says.
+fn sent_of(alloc: Global, row: &Row<'_>) -> Result<Vec<u8>, Fail> {
     let mut bytes = hex::decode(alloc, row.sent)?;
-    for _ in 0..row.zeros {
+    let low = *bytes.first().ok_or("a header")? as usize;
+    let high = *bytes.get(1).ok_or("a header")? as usize;
+    for _ in bytes.len()..2 + low + 256 * (high % 8) {
         bytes.push(0)?;
     }
     Ok(bytes)
@@ -136,7 +158,8 @@ fn make_steps(
     startup: &mut Startup,
     count: usize,
 ) -> Result<(), Fail> {
-    for row in ROWS.iter().take(count) {
+    for line in STEPS.lines().take(count) {
+        let row = row_of(rt.alloc(), line)?;
         let frame = next_of(rt, startup)?;
         let payload = returned(rt.alloc(), frame.as_slice(), row.back, row.counter)?;
         assert_eq!(rt; startup.take(&payload), Taken::Kept);
@@ -164,10 +187,11 @@ fn end_at(
 fn three_slaves_get_ready(rt: HostRuntime) -> Result<(), Fail> {
     let mut startup = startup_of(&rt, THREE_SLAVES, 0)?;
     let mut frame = Frame::new();
-    for (step, row) in ROWS.iter().enumerate() {
+    for (step, line) in STEPS.lines().enumerate() {
+        let row = row_of(rt.alloc(), line)?;
         assert_eq!(rt; startup.outcome(), None);
         assert_eq!(rt; startup.next(&mut frame), NextFrame::Send);
-        let sent = sent_of(rt.alloc(), row)?;
+        let sent = sent_of(rt.alloc(), &row)?;
         assert_eq!(rt; frame.as_slice(), sent.as_slice(), "step {step}");
         assert_eq!(rt; startup.next(&mut frame), NextFrame::Waiting);
         let payload = returned(rt.alloc(), &sent, row.back, row.counter)?;

@@ -1,4 +1,3 @@
-use Rattle.std.proofs.Common.{not, ap}
 use Rattle.ec_start.proofs.Seeks.{first_download, second_download}
 use Rattle.ec_start.proofs.requests.download_in.Goals as goal
 

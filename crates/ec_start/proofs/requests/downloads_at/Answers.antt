@@ -1,4 +1,4 @@
-use Rattle.std.proofs.Common.{◌∙◌, ap, sym, arith, length}
+use Rattle.std.proofs.Common.{◌∙◌, ap, sym, arith}
 use Rattle.ec_start.specs.declared.requests.Seek.TheVariants.{Found}
 use Rattle.ec_start.specs.Scripts.{downloads}
 use Rattle.ec_start.proofs.Seeks.{seek_slot, seek_count, seek_past_assignment}

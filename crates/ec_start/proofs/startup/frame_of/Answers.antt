@@ -1,4 +1,4 @@
-use Rattle.std.proofs.Common.{List, ◌∙◌, ap, subst, arith, length}
+use Rattle.std.proofs.Common.{List, ap, subst, arith, length}
 use Rattle.ec_frame.specs.Building.{bare_payload}
 use Rattle.ec_frame.specs.Datagram.{Datagram}
 use Rattle.ec_frame.specs.Frame.{IsFrame}

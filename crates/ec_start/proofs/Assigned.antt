@@ -1,0 +1,50 @@
+-- A plan that can be started up is taken by `Startup::new`.
+use Rattle.std.proofs.Common.{◌≡◌, ℕ, ◌+◌, ◌<◌, ◌≤◌, List, [], ◌∷◌, ◌++◌, length, Bool, true, false, refl, sym, subst, arith}
+use Rattle.std.specs.List.{flat_map}
+use Rattle.ec_regs.specs.Objects.{pdo_at}
+use Rattle.ec_coe.specs.Objects.{byte_value, output_assignment, input_assignment, has_some}
+use Rattle.ec_link.specs.declared.settings.Settings.{Settings}
+use Rattle.ec_start.specs.declared.action.Request.{Request}
+use Rattle.ec_start.specs.Scripts.{downloads, pdo_read, slots_written, assignment_written}
+use Rattle.ec_start.specs.Laws.{StartablesAreTaken}
+use Rattle.ec_start.specs.Planned.{AreRequests, IsStartable, HasFewAssigned}
+
+back_half : (xs ys : List Request) → AreRequests (xs ++ ys) → AreRequests ys
+back_half [] ys h = h
+back_half (x ∷ xs) ys h = back_half xs ys h.1
+
+front_half : (xs ys : List Request) → AreRequests (xs ++ ys) → AreRequests xs
+front_half [] ys h = tt
+front_half (x ∷ xs) ys h = (h.0, front_half xs ys h.1)
+
+few_slots : (object k : ℕ) (xs : List ℕ) → k ≤ 256 → AreRequests (slots_written object k xs) → k + length xs ≤ 256
+few_slots object k [] le h = omega (arith, le)
+few_slots object k (x ∷ xs) le h =
+    let small = h.0.subindex in
+    let rest = few_slots object (k + 1) xs (omega (arith, small)) h.1 in
+    omega (arith, rest)
+
+few_written : (object : ℕ) (xs : List ℕ) → AreRequests (assignment_written object xs true) → length xs < 256
+few_written object [] h = omega arith
+few_written object (x ∷ xs) h =
+    let few = few_slots object 1 (x ∷ xs) (omega arith) (front_half (slots_written object 1 (x ∷ xs)) (downloads object 0 (byte_value (length (x ∷ xs))) ∷ []) h.1) in
+    omega (arith, few)
+
+few_assigned : (object : ℕ) (xs : List ℕ) (b : Bool) → (b ≡ false → xs ≡ []) → AreRequests (assignment_written object xs b) → length xs < 256
+few_assigned object xs true none h = few_written object xs h
+few_assigned object xs false none h = subst (λ (ys : List ℕ). length ys < 256) (sym (none refl)) (omega arith)
+
+pub has_few : (p : Settings) → IsStartable p → HasFewAssigned p
+has_few p h =
+    let outs : List Request = flat_map (λ index. pdo_read (pdo_at p.kind.outputs index)) p.outputs in
+    let ins : List Request = flat_map (λ index. pdo_read (pdo_at p.kind.inputs index)) p.inputs in
+    let written : List Request = assignment_written output_assignment p.outputs (has_some p.kind.outputs) in
+    let last : List Request = assignment_written input_assignment p.inputs (has_some p.kind.inputs) in
+    let downs : AreRequests (written ++ last) = back_half ins (written ++ last) (back_half outs (ins ++ (written ++ last)) h.requests) in
+    record {
+      outputs = few_assigned output_assignment p.outputs (has_some p.kind.outputs) h.no_outs (front_half written last downs);
+      inputs = few_assigned input_assignment p.inputs (has_some p.kind.inputs) h.no_ins (back_half written last downs);
+    }
+
+pub startable_is_taken : StartablesAreTaken
+startable_is_taken ps h = λ k d lt. has_few _ (h k d lt)
