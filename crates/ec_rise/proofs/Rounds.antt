@@ -1,16 +1,14 @@
 -- A start-up's frame of two datagrams past all slaves: the first is a NOP, and the frame that comes back is taken.
-use Rattle.std.proofs.Common.{ℕ, zero, suc, ◌+◌, ◌<◌, ◌≡◌, refl, sym, ◌∙◌, ap, subst, List, [], ◌∷◌, length}
-use Rattle.std.specs.Int.{to_le_bytes, w64}
+use Rattle.std.proofs.Common.{ℕ, ◌≡◌, refl, sym, ◌∙◌, ap, subst, List, [], ◌∷◌, length}
 use Rattle.ec_frame.specs.declared.command.Command.{Command}
 use Rattle.ec_frame.specs.Datagram.{Datagram, IsDatagram}
 use Rattle.ec_slave.specs.State.{SlaveState}
 use Rattle.ec_slave.specs.Meeting.{Passed, meets, slave_met, datagram_met, passes}
 use Rattle.ec_slave.specs.Keeping.{meets-keeps}
 use Rattle.ec_slave.proofs.Bystanders.{heading_stays}
-use Rattle.ec_start.specs.declared.action.Action.{Action}
-use Rattle.ec_start.specs.Actions.{datagram_of, frame_of, numbered}
-use Rattle.ec_start.specs.Running.{StartState, action_of, Shape, shape, number_told, IsStartAnswer}
-use Rattle.ec_rise.specs.Undisturbed.{all_passed, all_met, IsRound, RoundLaw}
+use Rattle.ec_start.specs.Actions.{datagram_of, numbered}
+use Rattle.ec_start.specs.Running.{action_of, Shape, shape, IsStartAnswer}
+use Rattle.ec_rise.specs.Undisturbed.{all_passed, all_met, RoundLaw}
 use Rattle.ec_ring.specs.Rings.{passes_ring}
 
 two-pass : (s : SlaveState) (number : ℕ) (d : Datagram) → passes s (numbered number 0 ∷ d ∷ []) ≡ record { slave = slave_met s d; datagrams = numbered number 0 ∷ datagram_met s d ∷ [] }

@@ -1,5 +1,5 @@
 -- A start-up that is brought up over a ring, whatever its slaves are: turn after turn, until it has ended.
-use Rattle.std.specs.Prelude.{ℕ, ◌≡◌, ◌≢◌, List, length, true}
+use Rattle.std.specs.Prelude.{◌≡◌, ◌≢◌, List, true}
 use Rattle.ec_start.specs.declared.phase.Phase.TheVariants.{Idle, Failed}
 use Rattle.ec_start.specs.declared.error.StartError.TheVariants.{NumbersSpent}
 use Rattle.ec_slave.specs.State.{SlaveState}

@@ -1,5 +1,5 @@
 -- A start-up that nothing disturbs: each frame passes all slaves in order, each slave serves once, and the frame comes back.
-use Rattle.std.specs.Prelude.{ℕ, zero, suc, ◌+◌, ◌*◌, ◌<◌, ◌≤◌, ◌≡◌, ◌^◌, ◌-◌, List, [], ◌∷◌, length, map, get_or, Bool, true, false}
+use Rattle.std.specs.Prelude.{ℕ, zero, suc, ◌+◌, ◌<◌, ◌≤◌, ◌≡◌, List, [], ◌∷◌, length, map, get_or, false}
 use Rattle.ec_regs.specs.declared.slave_type.Device.{Device}
 use Rattle.ec_regs.specs.Types.{SlaveKind, plain_kind, device_identity}
 use Rattle.ec_frame.specs.Datagram.{Datagram, IsDatagram}

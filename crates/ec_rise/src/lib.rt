@@ -2,5 +2,7 @@
 //! ring of slaves.
 #![tactic(auto)]
 
-mod bring_up;
 pub mod laws;
+mod turns;
+
+pub use crate::turns::bring_up;

@@ -1,9 +1,9 @@
-use Rattle.std.proofs.Common.{◌≡◌, ◌∙◌, ap, sym, length, slice_set, arith}
+use Rattle.std.proofs.Common.{◌∙◌, ap, sym, slice_set, arith}
 use Rattle.std.proofs.lemmas.List.Edits.{map_over_more}
 use Rattle.std.proofs.lemmas.Option.{get_or_from_slice_get}
 use Rattle.ec_slave.specs.State.{SlaveState}
 use Rattle.ec_slave.specs.Serving.{served}
-use Rattle.ec_rise.proofs.bring_up.serve_all.Goals as goal
+use Rattle.ec_rise.proofs.turns.serve_all.Goals as goal
 
 pub loop-place-preserved : goal.loop-place-preserved
 loop-place-preserved c =

@@ -1,6 +1,6 @@
 use Rattle.std.proofs.Common.{◌≡◌, map, take, drop, ◌++◌, length}
 use Rattle.ec_slave.specs.Serving.{served}
-use Rattle.ec_rise.proofs.bring_up.serve_all.Given as goal
+use Rattle.ec_rise.proofs.turns.serve_all.Given as goal
 
 -- the slaves before the place have served, the others not yet
 abbrev pub invariant-loop-place : goal.invariant-loop-place
