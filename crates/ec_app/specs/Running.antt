@@ -1,8 +1,8 @@
 -- How a run of `ecat` ends, whatever it was asked for (this project's profile).
-use Rattle.std.specs.Prelude.{◌≡◌, ℕ, List, Option, Result, Ok, Err}
+use Rattle.std.specs.Prelude.{◌≡◌, ◌⊎◌, ℕ, List, [], ◌∷◌, ◌++◌, Option, Result, Ok, Err, codes}
 use Rattle.std.specs.Io.KnownBytes.{Appends}
 use Rattle.std.specs.String.{string_bytes}
-use Rattle.ec_args.specs.CommandLine.{Command, PassOf, PlanOf, command_of}
+use Rattle.ec_args.specs.CommandLine.{Command, PassOf, PlanOf, Reads, command_of}
 use Rattle.ec_args.specs.declared.request.Notice.{Notice}
 use Rattle.ec_args.specs.declared.request.Notice.TheVariants as notice
 use Rattle.ec_args.specs.declared.request.Request.{Request}
@@ -51,3 +51,14 @@ Ends (Err (notice.Usage text)) given output faults status = (status ≡ 2) × (o
 abbrev pub EndsAlone : {R A : Type 0} → Result Request Notice → (input_old input_new : R) → (app_old app_new : A) → Type 0
 EndsAlone (Ok request) input_old input_new app_old app_new = LeavesAlone (command_of request) input_old input_new app_old app_new
 EndsAlone (Err told) input_old input_new app_old app_new = (input_new ≡ input_old) × (app_new ≡ app_old)
+
+-- what is told where an argument isn't text
+abbrev pub not_text : List ℕ
+not_text = codes "error: an argument of the command line isn't text" ++ 10 ∷ []
+
+-- how a run ends whose arguments the system gives: as with some arguments; or, where they can't be read, with nothing
+-- printed, and what is told in its place
+abbrev pub EndsSomehow : (given : Option (List ℕ)) → (output faults : Stream) → ℕ → Type 0
+EndsSomehow given output faults status =
+    ((args : List (List ℕ)) × (read : Result Request Notice) × Reads args read × Ends read given output faults status)
+    ⊎ ((output.new ≡ output.old) × (Tells faults status (Err Memory) ⊎ ((status ≡ 2) × AppendsPart faults.old faults.new not_text)))

@@ -6,6 +6,7 @@ mod input;
 mod pass;
 mod plan;
 mod printing;
+mod program;
 mod refusal;
 mod run;
 #[cfg(test)]
@@ -15,5 +16,6 @@ pub use crate::input::read_text;
 pub use crate::pass::{pass_hex, print_pass};
 pub use crate::plan::{print_plan, show_plan};
 pub use crate::printing::{print_text, tell};
+pub use crate::program::run_program;
 pub use crate::refusal::{Refusal, Values};
 pub use crate::run::{App, run_command};

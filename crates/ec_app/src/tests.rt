@@ -1,6 +1,7 @@
 //! The program's worked rows, over memory.
 
 mod plans;
+mod programs;
 mod tables;
 
 use crate::{App, print_text, run_command};
