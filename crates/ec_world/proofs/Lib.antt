@@ -28,3 +28,5 @@ pub mod Whole
 pub mod NewWorlds
 pub mod Turning
 pub mod Promising
+pub mod Tracing
+pub mod Histories
