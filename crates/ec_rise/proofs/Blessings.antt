@@ -1,7 +1,7 @@
 -- The script as a walk: each step up passes its checks, and each request is answered as it should be.
-use Rattle.std.proofs.Common.{ℕ, zero, suc, ◌+◌, ◌-◌, ◌*◌, ◌<◌, ◌≤◌, ◌≡◌, ◌≢◌, ◌==◌, Bool, true, false, Option, Some, None, refl, sym, ◌∙◌, ap, subst, inl, inr, arith, if◌then◌else◌, List, [], ◌∷◌, ◌++◌, length, get_or}
+use Rattle.std.proofs.Common.{ℕ, suc, ◌+◌, ◌-◌, ◌<◌, ◌≤◌, ◌≡◌, ◌≢◌, ◌==◌, Bool, true, false, Option, Some, None, refl, sym, ◌∙◌, ap, subst, inl, inr, arith, if◌then◌else◌, List, [], ◌∷◌, ◌++◌, length, get_or}
 use Rattle.std.proofs.lemmas.Bool.{cases_eq, eq-eqb}
-use Rattle.ec_bits.proofs.AnyLaws.{if_true, if_false}
+use Rattle.ec_bits.proofs.AnyLaws.{if_true}
 use Rattle.ec_regs.specs.declared.manager.ManagerSettings.{ManagerSettings}
 use Rattle.ec_regs.specs.declared.slave_type.Mailbox.{Mailbox}
 use Rattle.ec_regs.specs.Managers.{no_settings}
@@ -13,13 +13,13 @@ use Rattle.ec_start.specs.Plans.{settings_at, fmmu_at}
 use Rattle.ec_start.specs.declared.action.Action.{Action}
 use Rattle.ec_start.specs.declared.action.Action.TheVariants.{CountSlaves, AskInit, AwaitInit, ClearFmmus, ClearManagers, ClearStations, NameSlave, AskWord, AwaitWord, SetManager, SetFmmu, AskState, AwaitState, SendRequest, AwaitReply}
 use Rattle.ec_start.specs.declared.action.Request.{Request}
-use Rattle.ec_start.specs.Scripts.{named, identified, mailbox_set, raised, exchanged, talked, manager_set, fmmu_set, mapped, each_slave, cleared, phases, script, requests}
-use Rattle.ec_rise.specs.Stages.{Rise, Stays, Climbs, Config, Stage, Before, Called, Down, Up, fresh, told, answered, after, if_mine, told_at, Fits, Leads, IsLow, talked_over, asked_all, prepared, end_of}
-use Rattle.ec_start.specs.Planned.{AreMailboxes, IsStartable, AreRequests}
-use Rattle.ec_rise.proofs.Leading.{leads-append, IsFor, AreFor, others-lead, each-leads, for-append}
+use Rattle.ec_start.specs.Scripts.{named, identified, mailbox_set, raised, exchanged, talked, manager_set, fmmu_set, mapped, each_slave, cleared, phases, requests}
+use Rattle.ec_rise.specs.Stages.{Rise, Stays, Config, Stage, Before, Down, Up, fresh, told, answered, after, Leads, IsLow, asked_all, prepared}
+use Rattle.ec_start.specs.Planned.{AreMailboxes, IsStartable}
+use Rattle.ec_rise.proofs.Leading.{IsFor, AreFor}
 use Rattle.ec_rise.proofs.Ends.{SameFrame, answered-frame, asked-frame, phase-leads, named-leads, identified-tells, identity_known, boxed, mailbox-tells, mailbox-for, raised-for, raised-tells, talked-for, talked-tells, mapped-for, mapped-tells, mapped_to, others-of}
 use Rattle.ec_rise.proofs.Requests.{Answers}
-use Rattle.ec_rise.proofs.Next.{Grants, Talkable, Bears, Bless}
+use Rattle.ec_rise.proofs.Next.{Grants, Bears, Bless}
 use Rattle.ec_rise.proofs.Climbs.{Blessed}
 
 -- ---- runs of actions

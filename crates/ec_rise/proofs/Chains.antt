@@ -1,14 +1,14 @@
 -- The script as a walk: each wait stands right behind what it waits for.
-use Rattle.std.proofs.Common.{ℕ, zero, suc, ◌+◌, ◌-◌, ◌*◌, ◌<◌, ◌≤◌, ◌≡◌, ◌≢◌, ◌==◌, Bool, true, false, Option, Some, None, refl, sym, ◌∙◌, ap, subst, arith, if◌then◌else◌, List, [], ◌∷◌, ◌++◌, length, get_or}
+use Rattle.std.proofs.Common.{ℕ, suc, ◌+◌, ◌<◌, ◌≤◌, ◌==◌, Bool, true, false, Option, Some, None, refl, arith, if◌then◌else◌, List, [], ◌∷◌, ◌++◌, length}
 use Rattle.ec_regs.specs.declared.slave_type.Mailbox.{Mailbox}
 use Rattle.ec_al.specs.declared.state.State.{State}
-use Rattle.ec_al.specs.declared.state.State.TheVariants.{Init, PreOp, SafeOp, Op}
+use Rattle.ec_al.specs.declared.state.State.TheVariants.{PreOp, SafeOp, Op}
 use Rattle.ec_link.specs.declared.settings.Settings.{Settings}
 use Rattle.ec_start.specs.Plans.{settings_at, fmmu_at}
 use Rattle.ec_start.specs.declared.action.Action.{Action}
-use Rattle.ec_start.specs.declared.action.Action.TheVariants.{CountSlaves, AskInit, AwaitInit, ClearFmmus, ClearManagers, ClearStations, NameSlave, AskWord, AwaitWord, SetManager, SetFmmu, AskState, AwaitState, SendRequest, AwaitReply}
+use Rattle.ec_start.specs.declared.action.Action.TheVariants.{SetManager, AwaitReply}
 use Rattle.ec_start.specs.declared.action.Request.{Request}
-use Rattle.ec_start.specs.Scripts.{named, identified, mailbox_set, raised, exchanged, talked, manager_set, fmmu_set, mapped, each_slave, cleared, phases, script, requests}
+use Rattle.ec_start.specs.Scripts.{named, identified, mailbox_set, raised, exchanged, talked, fmmu_set, mapped, each_slave, cleared, phases, requests}
 use Rattle.ec_rise.specs.Undisturbed.{plan_at}
 use Rattle.ec_rise.specs.Complete.{IsReachable, CanReach}
 use Rattle.ec_rise.proofs.Climbs.{Chained}

@@ -1,5 +1,5 @@
 -- A reply that fits says that its request was done.
-use Rattle.std.proofs.Common.{ℕ, ◌+◌, ◌-◌, ◌*◌, ◌%◌, ◌^◌, ◌<◌, ◌≤◌, ◌≡◌, ◌≢◌, ◌==◌, ◌&&◌, ◌||◌, not, Bool, true, false, Option, Some, None, Result, Ok, Err, refl, sym, ◌∙◌, ap, subst, inl, inr, arith, if◌then◌else◌, List, [], ◌∷◌, ◌++◌, length, take, set}
+use Rattle.std.proofs.Common.{ℕ, ◌+◌, ◌-◌, ◌*◌, ◌%◌, ◌^◌, ◌<◌, ◌≤◌, ◌≡◌, ◌≢◌, ◌==◌, ◌&&◌, Bool, true, false, Option, Some, None, Result, Ok, Err, refl, sym, ◌∙◌, ap, subst, inl, inr, arith, if◌then◌else◌, List, [], ◌∷◌, ◌++◌, length, take, set}
 use Rattle.std.proofs.lemmas.Bool.{cases_Bool, cases_eq, eq-eqb, ne_eqb}
 use Rattle.std.proofs.Math.Nat.{mod-eq_of_lt}
 use Rattle.ec_bits.proofs.AnyLaws.{if_true, if_false}
@@ -20,7 +20,7 @@ use Rattle.ec_coe.specs.Objects.{Assignment, Dictionary, output_assignment, inpu
 use Rattle.ec_coe.specs.Transfers.{uploaded, written_over, downloaded}
 use Rattle.ec_coe.specs.Answers.{Answer, answered as answer_of, answer_by, download_answer, value_of}
 use Rattle.ec_coe.proofs.ReadBack.{reads-as-message, command-read}
-use Rattle.ec_coe.proofs.Written.{StandsThere, outs-stand, ins-stand}
+use Rattle.ec_coe.proofs.Written.{outs-stand, ins-stand}
 use Rattle.ec_coe.proofs.Effects.{Assigned, Counted, Slotted, Downloaded, Outputs, Inputs, download-effect, good}
 use Rattle.ec_start.specs.declared.action.Request.{Request}
 use Rattle.ec_start.specs.declared.action.Transfer.{Transfer}

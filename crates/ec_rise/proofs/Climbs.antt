@@ -1,29 +1,26 @@
 -- From one frame to the next, and from the first to the last: an undisturbed start-up goes on as its script says.
-use Rattle.std.proofs.Common.{ℕ, zero, suc, ◌+◌, ◌-◌, ◌*◌, ◌/◌, ◌%◌, ◌^◌, ◌<◌, ◌≤◌, ◌≡◌, ◌≢◌, ◌⊎◌, ◌==◌, ◌&&◌, ◌||◌, not, Bool, true, false, Option, Some, None, refl, sym, ◌∙◌, ap, subst, inl, inr, arith, if◌then◌else◌, List, [], ◌∷◌, length, map, drop, get_or, slice_get, nat_lt}
-use Rattle.std.proofs.lemmas.Bool.{eq-eqb, both_ways, cases_eq, lt-ltb, le-ltb}
+use Rattle.std.proofs.Common.{ℕ, zero, suc, ◌+◌, ◌^◌, ◌<◌, ◌≤◌, ◌≡◌, true, false, refl, sym, ◌∙◌, ap, subst, arith, List, [], ◌∷◌, length, map, drop, get_or, nat_lt}
+use Rattle.std.proofs.lemmas.Bool.{lt-ltb, le-ltb}
 use Rattle.std.proofs.lemmas.List.{length-map}
 use Rattle.ec_bits.proofs.AnyLaws.{if_true, if_false}
 use Rattle.ec_regs.specs.declared.slave_type.Device.{Device}
 use Rattle.ec_regs.specs.Types.{SlaveKind}
 use Rattle.ec_frame.specs.Datagram.{Datagram, IsDatagram}
 use Rattle.ec_slave.specs.State.{SlaveState}
-use Rattle.ec_slave.specs.Meeting.{slave_met, datagram_met}
+use Rattle.ec_slave.specs.Meeting.{datagram_met}
 use Rattle.ec_slave.specs.Serving.{served}
 use Rattle.ec_link.specs.declared.settings.Settings.{Settings}
 use Rattle.ec_start.specs.declared.action.Action.{Action}
 use Rattle.ec_start.specs.declared.action.Action.TheVariants.{CountSlaves, AskInit, AwaitInit, ClearFmmus, ClearManagers, ClearStations, NameSlave, AskWord, AwaitWord, SetManager, SetFmmu, AskState, AwaitState, SendRequest, AwaitReply}
 use Rattle.ec_start.specs.Actions.{datagram_of}
 use Rattle.ec_start.specs.Scripts.{script}
-use Rattle.ec_start.specs.declared.verdict.Verdict.{Verdict}
-use Rattle.ec_start.specs.declared.verdict.Verdict.TheVariants.{Next, Shows}
 use Rattle.ec_start.specs.Verdicts.{with_word, verdict}
-use Rattle.ec_start.specs.Running.{StartState, action_of, type_of, sending, advanced, with_shown, judged, taken}
-use Rattle.ec_start.specs.declared.phase.Phase.{Phase}
+use Rattle.ec_start.specs.Running.{StartState, action_of, type_of, sending, advanced, with_shown, judged}
 use Rattle.ec_start.specs.declared.phase.Phase.TheVariants.{Idle, Ready}
-use Rattle.ec_rise.specs.Stages.{Stage, Before, Up, Config, after, Fits, Leads}
+use Rattle.ec_rise.specs.Stages.{Stage, Up, Config, after, Leads}
 use Rattle.ec_rise.specs.Standing.{Stands}
 use Rattle.ec_rise.specs.Frames.{MayEnd}
-use Rattle.ec_rise.specs.Undisturbed.{IsSpelled, all_passed, all_met, Rising, frame_at, turned, turns, plan_at}
+use Rattle.ec_rise.specs.Undisturbed.{IsSpelled, all_passed, all_met, Rising, frame_at, turned, turns}
 use Rattle.ec_rise.proofs.PassLaws.{take-law}
 use Rattle.ec_rise.proofs.Messages.{stands-served}
 use Rattle.ec_rise.proofs.Sendable.{IsSendable, datagram-good}

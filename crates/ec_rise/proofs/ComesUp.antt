@@ -1,27 +1,20 @@
 -- An undisturbed start-up ends Ready.
-use Rattle.std.proofs.Common.{ℕ, zero, suc, ◌+◌, ◌-◌, ◌*◌, ◌^◌, ◌<◌, ◌≤◌, ◌≡◌, ◌≢◌, ◌==◌, Bool, true, false, Option, Some, None, refl, sym, ◌∙◌, ap, subst, inl, inr, arith, if◌then◌else◌, List, [], ◌∷◌, ◌++◌, length, map, drop, get_or}
-use Rattle.std.proofs.lemmas.List.{length-map}
+use Rattle.std.proofs.Common.{ℕ, zero, suc, ◌+◌, ◌^◌, ◌<◌, ◌≤◌, ◌≡◌, false, refl, sym, subst, inl, arith, List, [], ◌∷◌, length}
 use Rattle.ec_regs.specs.declared.slave_type.Device.{Device}
-use Rattle.ec_regs.specs.Types.{SlaveKind, plain_kind}
-use Rattle.ec_slave.specs.State.{SlaveState, power_on}
-use Rattle.ec_frame.specs.Datagram.{Datagram}
+use Rattle.ec_slave.specs.State.{SlaveState}
 use Rattle.ec_link.specs.declared.settings.Settings.{Settings}
-use Rattle.ec_start.specs.declared.action.Action.{Action}
 use Rattle.ec_start.specs.declared.action.Action.TheVariants.{CountSlaves}
-use Rattle.ec_start.specs.Actions.{datagram_of}
 use Rattle.ec_start.specs.Scripts.{phases, script}
-use Rattle.ec_start.specs.Running.{StartState, begun, type_of}
-use Rattle.ec_start.specs.declared.phase.Phase.TheVariants.{Idle, Ready}
-use Rattle.ec_rise.specs.Stages.{Config, Stage, Before, Up, end_of}
-use Rattle.ec_rise.specs.Standing.{IsOfKind, Stands}
-use Rattle.ec_start.specs.Planned.{IsStartable}
-use Rattle.ec_rise.specs.Complete.{IsComplete, IsIdentity}
-use Rattle.ec_rise.specs.Undisturbed.{IsSpelled, IsDevice, AreDevices, ArePlans, Rising, turned, turns, unplanned, plan_at, slave_of, IsBroughtUp, IsUnderWay, ComesUpLaw}
+use Rattle.ec_start.specs.Running.{begun, type_of}
+use Rattle.ec_rise.specs.Stages.{Before, Up, end_of}
+use Rattle.ec_rise.specs.Standing.{Stands}
+use Rattle.ec_rise.specs.Complete.{IsIdentity}
+use Rattle.ec_rise.specs.Undisturbed.{AreDevices, ArePlans, Rising, turns, unplanned, plan_at, slave_of, IsBroughtUp, IsUnderWay, ComesUpLaw}
 use Rattle.ec_rise.proofs.Ends.{script-leads}
 use Rattle.ec_rise.proofs.Sendable.{datagram-good}
 use Rattle.ec_rise.proofs.Commands.{word_of}
 use Rattle.ec_rise.proofs.Passed.{Each}
-use Rattle.ec_rise.proofs.Climbs.{IsPath, IsNow, IsWaiting, Stood, HasRisen, rises, Chained}
+use Rattle.ec_rise.proofs.Climbs.{IsPath, IsNow, IsWaiting, Stood, HasRisen, rises}
 use Rattle.ec_rise.proofs.Chains.{phases-free}
 use Rattle.ec_rise.proofs.Blessings.{phases-blessed}
 use Rattle.ec_rise.proofs.Granting.{is-lively}

@@ -1,18 +1,14 @@
 -- The commands of a start-up at their slave: each counts 1, and what the firmware step after it makes of it.
-use Rattle.std.proofs.Common.{ℕ, zero, suc, ◌+◌, ◌-◌, ◌*◌, ◌/◌, ◌%◌, ◌<◌, ◌≤◌, ◌≡◌, ◌≢◌, ◌⊎◌, ◌==◌, ◌&&◌, ◌||◌, not, Bool, true, false, Option, Some, None, Result, Ok, Err, refl, sym, ◌∙◌, ap, subst, inl, inr, arith, if◌then◌else◌, List, [], ◌∷◌, length, slice_index, nat_lt, nat_le}
-use Rattle.std.specs.Int.{to_le_bytes, from_le_bytes, w32, from_bool}
-use Rattle.std.proofs.lemmas.Bool.{cases_Bool, both_ways, eq-eqb, or_left, or_right, and_from, lt-ltb, and_left}
-use Rattle.ec_bits.specs.Bits.{within, zeros}
+use Rattle.std.proofs.Common.{ℕ, zero, suc, ◌+◌, ◌*◌, ◌/◌, ◌%◌, ◌<◌, ◌≡◌, ◌&&◌, not, Bool, true, false, Ok, refl, sym, ◌∙◌, ap, subst, arith, [], ◌∷◌, length}
+use Rattle.std.proofs.lemmas.Bool.{or_left, or_right, and_left}
 use Rattle.ec_bits.proofs.AnyLaws.{if_true, if_false, within_true}
 use Rattle.ec_regs.specs.declared.manager.ManagerSettings.{ManagerSettings}
 use Rattle.ec_regs.specs.declared.fmmu.FmmuSettings.{FmmuSettings}
 use Rattle.ec_regs.specs.declared.slave_type.Device.{Device}
-use Rattle.ec_regs.specs.Types.{SlaveKind, device_of}
-use Rattle.ec_regs.specs.Memory.{ram_start, is_stored, takes_writes}
+use Rattle.ec_regs.specs.Types.{device_of}
+use Rattle.ec_regs.specs.Memory.{is_stored, takes_writes}
 use Rattle.ec_regs.specs.Managers.{manager_bytes}
 use Rattle.ec_regs.specs.Fmmus.{fmmu_bytes}
-use Rattle.ec_frame.specs.declared.command.Command.TheVariants.{Apwr, Fprd, Fpwr}
-use Rattle.ec_frame.specs.Datagram.{Datagram, adp_of, ado_of}
 use Rattle.ec_al.specs.declared.state.State.{State}
 use Rattle.ec_al.specs.declared.state.State.TheVariants.{Init, PreOp, SafeOp, Op}
 use Rattle.ec_al.specs.declared.transition.Checks.{Checks}
@@ -25,12 +21,11 @@ use Rattle.ec_sii.specs.Port.{Sii, written, two_words, last_address}
 use Rattle.ec_sii.specs.Port as port
 use Rattle.ec_sii.specs.Laws.{read_command}
 use Rattle.ec_slave.specs.State.{SlaveState, station_of}
-use Rattle.ec_slave.specs.Meeting.{slave_met, datagram_met}
+use Rattle.ec_slave.specs.Meeting.{datagram_met}
 use Rattle.ec_slave.specs.Checking.{control_word, checks_of}
-use Rattle.ec_slave.specs.Serving.{request_decided, served}
-use Rattle.ec_start.specs.declared.action.Action.{Action}
+use Rattle.ec_slave.specs.Serving.{served}
 use Rattle.ec_start.specs.declared.action.Action.TheVariants.{AskWord, SetManager, SetFmmu, AskState}
-use Rattle.ec_start.specs.Actions.{station, at, sent, datagram_of, word_place}
+use Rattle.ec_start.specs.Actions.{station, datagram_of, word_place}
 use Rattle.ec_rise.specs.Stages.{IsStepUp}
 use Rattle.ec_rise.specs.Standing.{IsAsked}
 use Rattle.ec_rise.specs.Undisturbed.{IsSpelled}

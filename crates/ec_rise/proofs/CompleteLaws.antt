@@ -1,8 +1,7 @@
 -- The plan of a table without faults is complete: an undisturbed start-up of it ends Ready.
-use Rattle.std.proofs.Common.{◌≡◌, ◌≢◌, ℕ, zero, suc, ◌+◌, ◌%◌, ◌<◌, ◌≤◌, ◌==◌, ◌&&◌, ◌||◌, ◌⊎◌, Bool, true, false, if◌then◌else◌, List, [], ◌∷◌, ◌++◌, length, get_or, refl, sym, ap, ◌∙◌, subst, arith, inl, inr, Some, None, Option, slice_get, eqb, unwrap_or, All}
-use Rattle.std.specs.List.{flat_map, Contains, sum_by}
-use Rattle.std.proofs.lemmas.Bool.{cases_Bool, false≢true, eq-eqb, ne_eqb}
-use Rattle.std.proofs.lemmas.List.Sums.{sum_by-append}
+use Rattle.std.proofs.Common.{◌≡◌, ◌≢◌, ℕ, zero, suc, ◌%◌, ◌<◌, ◌≤◌, ◌==◌, ◌&&◌, ◌⊎◌, true, false, List, [], ◌∷◌, length, get_or, refl, sym, ap, ◌∙◌, subst, arith, inl, inr, Some, None, Option, slice_get, eqb, All}
+use Rattle.std.specs.List.{Contains}
+use Rattle.std.proofs.lemmas.Bool.{cases_Bool, eq-eqb, ne_eqb}
 use Rattle.std.proofs.lemmas.Option.{slice_get_within, get_or_from_slice_get}
 use Rattle.ec_bits.specs.Bits.{bytes_of_bits}
 use Rattle.ec_regs.specs.declared.manager.ManagerSettings.{ManagerSettings}
@@ -24,16 +23,16 @@ use Rattle.ec_link.specs.declared.settings.Share.{Share}
 use Rattle.ec_link.specs.Settings.{process_manager}
 use Rattle.ec_link.specs.Sound.{manager_of, AreManagers, IsSound}
 use Rattle.ec_link.specs.Faults.{compile_fault}
-use Rattle.ec_link.specs.Plan.{plan_of, kind_of}
+use Rattle.ec_link.specs.Plan.{plan_of}
 use Rattle.ec_link.specs.Meaning.{slave_at}
 use Rattle.ec_link.proofs.PlanSound.{share_is}
 use Rattle.ec_link.proofs.SlavesSound.{has_type}
 use Rattle.ec_link.proofs.Soundness.{plan_sound}
 use Rattle.ec_link.proofs.UsableLaws.{row_at}
-use Rattle.ec_regs.specs.Objects.{pdo_at, bits_at, bits_assigned, bits_of, assigned_entries}
+use Rattle.ec_regs.specs.Objects.{pdo_at, bits_assigned, bits_of, assigned_entries}
 use Rattle.ec_regs.proofs.Objects.{bits_assigned_law}
 use Rattle.ec_coe.specs.Transfers.{contains, distinct}
-use Rattle.ec_rise.specs.Complete.{IsNumbered, IsReachable, CanReach, IsOffered, AreOffered, IsAssignable, IsIdentity, IsComplete, carries}
+use Rattle.ec_rise.specs.Complete.{IsNumbered, CanReach, IsOffered, AreOffered, IsAssignable, IsIdentity, IsComplete, carries}
 use Rattle.ec_rise.specs.Undisturbed.{ArePlans}
 use Rattle.ec_rise.proofs.Sound.{offers-output, offers-input}
 use Rattle.ec_rise.proofs.StartableLaws.{kind_told, few-once, length-indices, type_there, slave_startable}

@@ -1,18 +1,17 @@
 -- The working counter and the data of a start-up's datagram, at the slave that it is for.
-use Rattle.std.proofs.Common.{ℕ, zero, suc, ◌+◌, ◌-◌, ◌*◌, ◌/◌, ◌%◌, ◌<◌, ◌≤◌, ◌≡◌, ◌≢◌, ◌⊎◌, ◌==◌, ◌&&◌, ◌||◌, Bool, true, false, Option, Some, None, refl, sym, ◌∙◌, ap, subst, inl, inr, arith, if◌then◌else◌, List, [], ◌∷◌, length, slice_index}
+use Rattle.std.proofs.Common.{ℕ, ◌+◌, ◌*◌, ◌%◌, ◌<◌, ◌≡◌, ◌&&◌, Bool, true, false, refl, ◌∙◌, ap, arith, if◌then◌else◌, List, length}
 use Rattle.std.specs.Int.{from_bool}
 use Rattle.std.proofs.lemmas.Bool.{eq-eqb, or_left, lt-ltb}
-use Rattle.ec_bits.specs.Bits.{any_below}
-use Rattle.ec_bits.proofs.AnyLaws.{if_true, if_false, any_below_from}
+use Rattle.ec_bits.proofs.AnyLaws.{if_true, any_below_from}
 use Rattle.ec_regs.specs.Memory.{ram_start, takes_writes}
 use Rattle.ec_frame.specs.declared.command.Command.{Command}
-use Rattle.ec_frame.specs.declared.command.Command.TheVariants.{Apwr, Fprd, Fpwr, Brd, Bwr}
-use Rattle.ec_frame.specs.Datagram.{Datagram, IsDatagram, adp_of, ado_of}
-use Rattle.ec_slave.specs.Roles.{role_of, adp_after, is_reading, is_writing}
+use Rattle.ec_frame.specs.declared.command.Command.TheVariants.{Apwr, Fprd, Fpwr, Bwr}
+use Rattle.ec_frame.specs.Datagram.{Datagram, adp_of}
+use Rattle.ec_slave.specs.Roles.{role_of, is_reading, is_writing}
 use Rattle.ec_slave.specs.State.{SlaveState, station_of}
 use Rattle.ec_slave.specs.Access.{Window, touches, meeting, may_read_byte, may_write_byte, some_byte_read, some_byte_written}
 use Rattle.ec_slave.specs.Meeting.{window_of, meets, meets_by, meets_physically, datagram_met}
-use Rattle.ec_start.specs.Actions.{station, at, sent}
+use Rattle.ec_start.specs.Actions.{station, sent}
 use Rattle.ec_rise.proofs.Owns.{window-sent}
 
 -- what a physical command adds

@@ -1,11 +1,11 @@
 -- Whatever happens to a slave, it stays a device of its type.
-use Rattle.std.proofs.Common.{ℕ, zero, suc, ◌+◌, ◌<◌, ◌≤◌, ◌≡◌, ◌≢◌, Bool, true, false, Option, Some, None, refl, sym, ◌∙◌, ap, subst, inl, inr, arith, if◌then◌else◌, List, [], ◌∷◌, length, get_or, set, unwrap_or}
+use Rattle.std.proofs.Common.{ℕ, ◌<◌, ◌≤◌, ◌≡◌, Bool, true, false, Option, Some, None, refl, sym, ◌∙◌, ap, subst, arith, if◌then◌else◌, List, length, set, unwrap_or}
 use Rattle.ec_regs.specs.Types.{SlaveKind}
 use Rattle.ec_regs.specs.declared.slave_type.Identity.{Identity}
 use Rattle.ec_frame.specs.declared.command.Command.{Command}
 use Rattle.ec_frame.specs.declared.command.Command.TheVariants.{Nop, Aprd, Apwr, Aprw, Fprd, Fpwr, Fprw, Brd, Bwr, Brw, Lrd, Lwr, Lrw, Armw, Frmw}
 use Rattle.ec_frame.specs.Datagram.{Datagram, adp_of, ado_of}
-use Rattle.ec_sii.specs.Port.{Sii, written}
+use Rattle.ec_sii.specs.Port.{written}
 use Rattle.ec_sii.specs.declared.image.Image.{Image}
 use Rattle.ec_al.specs.Al as al
 use Rattle.ec_sync.specs.Manager.{Manager, app_put}
@@ -21,10 +21,10 @@ use Rattle.ec_slave.specs.Application.{is_running, with_manager, input_put, outp
 use Rattle.ec_slave.specs.Serving.{served}
 use Rattle.ec_slave.specs.Faulting.{faulted}
 use Rattle.ec_link.specs.declared.settings.Settings.{Settings}
-use Rattle.ec_rise.specs.Undisturbed.{IsSpelled, IsDevice, AreDevices, ArePlans, plan_at, slave_of}
+use Rattle.ec_rise.specs.Undisturbed.{IsDevice, plan_at, slave_of}
 use Rattle.ec_rise.proofs.Settles.{either-image, written-image, served-image, served-identity}
-use Rattle.ec_rise.specs.Starting.{Carried, Starting, slave_at}
-use Rattle.ec_rise.specs.Runs.{with_begun, AreStartable, IsNew, Happens, Sends, Passes, Loses, Returns, Strays, Closes, Serves, Puts, Gets, Faults, Resets, Runs, Stops, Steps, Begins}
+use Rattle.ec_rise.specs.Starting.{Starting, slave_at}
+use Rattle.ec_rise.specs.Runs.{with_begun, AreStartable, Happens, Sends, Passes, Loses, Returns, Strays, Closes, Serves, Puts, Gets, Faults, Resets, Runs, Stops, Steps, Begins}
 use Rattle.ec_rise.specs.ComesUp.{IsTrue, AreTrue, AgainLaw}
 use Rattle.ec_rise.proofs.Composes.{set_one}
 use Rattle.ec_rise.proofs.Theorem.{IsGood, runs-good, happens-plan, begun-plan, new-good}

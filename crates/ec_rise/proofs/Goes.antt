@@ -1,28 +1,26 @@
 -- The verdict on a frame that passed all slaves undisturbed: the action is done, at the first frame.
-use Rattle.std.proofs.Common.{ℕ, zero, suc, ◌+◌, ◌-◌, ◌*◌, ◌/◌, ◌%◌, ◌^◌, ◌<◌, ◌≤◌, ◌≡◌, ◌≢◌, ◌⊎◌, ◌==◌, ◌&&◌, ◌||◌, not, Bool, true, false, Option, Some, None, refl, sym, ◌∙◌, ap, subst, inl, inr, arith, if◌then◌else◌, List, [], ◌∷◌, length, slice_index}
-use Rattle.std.proofs.lemmas.Bool.{eq-eqb, both_ways, cases_eq}
-use Rattle.ec_bits.proofs.AnyLaws.{if_true, if_false}
-use Rattle.ec_bits.specs.Bits.{zeros}
+use Rattle.std.proofs.Common.{ℕ, ◌+◌, ◌-◌, ◌*◌, ◌%◌, ◌^◌, ◌<◌, ◌≤◌, ◌≡◌, ◌==◌, Option, None, refl, sym, ◌∙◌, ap, subst, arith, if◌then◌else◌, List, ◌∷◌, length}
+use Rattle.std.proofs.lemmas.Bool.{eq-eqb}
+use Rattle.ec_bits.proofs.AnyLaws.{if_true}
 use Rattle.ec_regs.specs.declared.slave_type.Device.{Device}
 use Rattle.ec_regs.specs.declared.slave_type.Mailbox.{Mailbox}
 use Rattle.ec_regs.specs.Types.{SlaveKind}
 use Rattle.ec_frame.specs.Datagram.{Datagram, IsDatagram}
 use Rattle.ec_al.specs.declared.state.State.{State}
-use Rattle.ec_slave.specs.State.{SlaveState, station_of, manager_at}
+use Rattle.ec_slave.specs.State.{SlaveState}
 use Rattle.ec_slave.specs.Meeting.{datagram_met}
 use Rattle.ec_start.specs.declared.action.Action.{Action}
 use Rattle.ec_start.specs.declared.action.Action.TheVariants.{CountSlaves, AskInit, AwaitInit, ClearFmmus, ClearManagers, ClearStations, NameSlave, AskWord, AwaitWord, SetManager, SetFmmu, AskState, AwaitState, SendRequest, AwaitReply}
 use Rattle.ec_start.specs.declared.action.Request.{Request}
-use Rattle.ec_start.specs.Actions.{station, datagram_of}
+use Rattle.ec_start.specs.Actions.{datagram_of}
 use Rattle.ec_start.specs.declared.verdict.Verdict.{Verdict}
 use Rattle.ec_start.specs.declared.verdict.Verdict.TheVariants.{Next, Shows}
-use Rattle.ec_start.specs.Verdicts.{with_word, word_at, verdict}
-use Rattle.ec_rise.specs.Stages.{Stage, Before, Called, Down, Up, Config, Talk, after, Fits, IsUp}
-use Rattle.ec_start.specs.Planned.{AreMailboxes}
-use Rattle.ec_rise.specs.Standing.{IsOfKind, IsUpAt, IsSilent, Talks}
+use Rattle.ec_start.specs.Verdicts.{word_at, verdict}
+use Rattle.ec_rise.specs.Stages.{Stage, Before, Called, Down, Up, Config, Talk}
+use Rattle.ec_rise.specs.Standing.{IsUpAt, IsSilent, Talks}
 use Rattle.ec_rise.specs.Frames.{Arrives, Untouched}
 use Rattle.ec_rise.specs.Undisturbed.{all_passed}
-use Rattle.ec_rise.proofs.Passing.{IsOne, one-ask-word, one-await-word, one-set-manager, one-set-fmmu, one-ask-state, one-await-state, one-send, one-await-reply}
+use Rattle.ec_rise.proofs.Passing.{one-ask-word, one-await-word, one-set-manager, one-set-fmmu, one-ask-state, one-await-state, one-send, one-await-reply}
 use Rattle.ec_rise.proofs.Receives.{boxes-of}
 use Rattle.ec_rise.proofs.Commands.{word_of, HasFound, ask-state-goes, ask-word-goes, set-fmmu-goes, set-manager-goes}
 use Rattle.ec_rise.proofs.Shown.{Tells, await-state-ends, await-word-ends, await-reply-ends}

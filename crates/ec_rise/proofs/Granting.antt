@@ -1,29 +1,26 @@
 -- The checks of the AL state machine pass at a slave that was set as the plan says.
-use Rattle.std.proofs.Common.{ℕ, zero, suc, ◌+◌, ◌-◌, ◌*◌, ◌/◌, ◌%◌, ◌^◌, ◌<◌, ◌≤◌, ◌≡◌, ◌≢◌, ◌⊎◌, ◌==◌, ◌&&◌, ◌||◌, not, Bool, true, false, Option, Some, None, refl, sym, ◌∙◌, ap, subst, inl, inr, arith, if◌then◌else◌, List, [], ◌∷◌, length, take}
-use Rattle.std.proofs.lemmas.Bool.{cases_Bool, both_ways, eq-eqb, eqb-true, and_from, and_parts}
+use Rattle.std.proofs.Common.{ℕ, ◌/◌, ◌%◌, ◌<◌, ◌≡◌, ◌==◌, ◌&&◌, not, true, false, Option, Some, None, refl, sym, ◌∙◌, ap, subst, inl, inr, arith, List, [], ◌∷◌, take}
+use Rattle.std.proofs.lemmas.Bool.{cases_Bool, eq-eqb, eqb-true, and_from, and_parts}
 use Rattle.ec_bits.specs.Bits.{bytes_of_bits}
 use Rattle.ec_bits.proofs.AnyLaws.{if_true, if_false}
 use Rattle.ec_regs.specs.declared.manager.ManagerSettings.{ManagerSettings}
 use Rattle.ec_regs.specs.declared.slave_type.Mailbox.{Mailbox}
-use Rattle.ec_regs.specs.declared.slave_type.Pdo.{Pdo}
 use Rattle.ec_regs.specs.Managers.{no_settings, is_set, is_mailbox, is_ring_written, is_ring_read}
 use Rattle.ec_regs.specs.Types.{SlaveKind}
-use Rattle.ec_al.specs.declared.state.State.TheVariants.{Init, PreOp, SafeOp, Op}
-use Rattle.ec_sync.specs.Manager.{Manager, is_enabled}
+use Rattle.ec_al.specs.declared.state.State.TheVariants.{PreOp, SafeOp}
+use Rattle.ec_sync.specs.Manager.{Manager}
 use Rattle.ec_slave.specs.State.{SlaveState, manager_at}
-use Rattle.ec_coe.specs.Objects.{Assignment, assigned}
 use Rattle.ec_regs.specs.Objects.{bits_assigned}
 use Rattle.ec_slave.specs.Checking.{is_manager, mailbox_check, process_check, checks_of}
-use Rattle.ec_slave.specs.Serving.{dictionary_of}
 use Rattle.ec_link.specs.declared.settings.Settings.{Settings}
 use Rattle.ec_start.specs.Plans.{settings_at}
-use Rattle.ec_rise.specs.Stages.{Config, prepared, asked_all}
+use Rattle.ec_rise.specs.Stages.{prepared, asked_all}
 use Rattle.ec_start.specs.Planned.{AreMailboxes, IsStartable}
-use Rattle.ec_rise.specs.Standing.{IsOfKind, IsAssigned}
+use Rattle.ec_rise.specs.Standing.{IsAssigned}
 use Rattle.ec_rise.specs.Complete.{IsComplete, carries}
 use Rattle.ec_rise.proofs.Assigns.{assignment-held}
 use Rattle.ec_rise.proofs.Ends.{boxed, mapped_to}
-use Rattle.ec_rise.proofs.Next.{Holds, Grants}
+use Rattle.ec_rise.proofs.Next.{Grants}
 use Rattle.ec_rise.proofs.Blessings.{IsLively}
 use Rattle.ec_rise.proofs.Offers.{requests-answered}
 

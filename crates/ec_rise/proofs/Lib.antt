@@ -46,3 +46,4 @@ pub mod Theorem
 pub mod Carrying
 pub mod Up
 pub mod Devices
+pub mod BringUp

@@ -1,7 +1,7 @@
 -- The premises can be met: a segment of one slave with a mailbox and PDOs in both directions comes up.
-use Rattle.std.proofs.Common.{ℕ, zero, suc, ◌+◌, ◌<◌, ◌≤◌, ◌≡◌, ◌≢◌, true, false, Option, Some, None, refl, arith, List, [], ◌∷◌, length, All}
+use Rattle.std.proofs.Common.{ℕ, zero, suc, ◌<◌, refl, arith, [], ◌∷◌, length, All}
 use Rattle.ec_regs.specs.Managers.{is_set}
-use Rattle.ec_slave.specs.State.{SlaveState, power_on}
+use Rattle.ec_slave.specs.State.{power_on}
 use Rattle.ec_start.specs.Planned.{IsStartable}
 use Rattle.ec_rise.specs.Complete.{IsNumbered, IsComplete}
 use Rattle.ec_regs.specs.declared.slave_type.Entry.{Entry}

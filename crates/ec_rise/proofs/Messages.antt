@@ -1,5 +1,5 @@
 -- A firmware step of a slave that stands at a stage: its mailbox.
-use Rattle.std.proofs.Common.{ℕ, zero, suc, ◌+◌, ◌-◌, ◌*◌, ◌%◌, ◌<◌, ◌≤◌, ◌≡◌, ◌⊎◌, ◌&&◌, not, Bool, true, false, Option, Some, None, refl, sym, ◌∙◌, ap, subst, inl, inr, arith, if◌then◌else◌, List, length, set, slice_index, is_some, length-set, get_or-set_same, get_or-set_other, length-append, option_and_then}
+use Rattle.std.proofs.Common.{ℕ, zero, suc, ◌+◌, ◌-◌, ◌*◌, ◌<◌, ◌≤◌, ◌≡◌, ◌⊎◌, ◌&&◌, not, Bool, true, Option, Some, None, refl, sym, ◌∙◌, ap, subst, inl, inr, arith, List, length, set, slice_index, is_some, length-set, get_or-set_same, get_or-set_other, length-append, option_and_then}
 use Rattle.std.proofs.lemmas.Bool.{cases_Bool, both_ways, and_parts, and_from, and_left, and_right, le-leb, le-ltb}
 use Rattle.std.proofs.lemmas.List.{length-replicate}
 use Rattle.ec_bits.specs.Bits.{zeros}
@@ -16,7 +16,6 @@ use Rattle.ec_coe.specs.declared.value.Size.{Size}
 use Rattle.ec_coe.specs.declared.value.Size.TheVariants.{One, Two, Three, Four}
 use Rattle.ec_coe.specs.declared.message.Command.TheVariants.{DownloadRequest}
 use Rattle.ec_coe.specs.Messages.{message_bytes, message_read, message_length, command_of, command_number}
-use Rattle.ec_coe.specs.Objects.{Assignment}
 use Rattle.ec_coe.proofs.Effects.{answered-slots}
 use Rattle.ec_coe.proofs.ReadBack.{reads_back, length-message}
 use Rattle.ec_slave.specs.Application.{with_manager}

@@ -1,37 +1,32 @@
 -- What the firmware steps after a frame prepare for the next action.
-use Rattle.std.proofs.Common.{ℕ, zero, suc, ◌+◌, ◌-◌, ◌*◌, ◌/◌, ◌%◌, ◌^◌, ◌<◌, ◌≤◌, ◌≡◌, ◌≢◌, ◌⊎◌, ◌==◌, ◌&&◌, ◌||◌, not, Bool, true, false, Option, Some, None, refl, sym, ◌∙◌, ap, subst, inl, inr, arith, if◌then◌else◌, List, [], ◌∷◌, length, slice_index}
-use Rattle.std.proofs.lemmas.Bool.{cases_Bool, both_ways, eq-eqb}
-use Rattle.ec_bits.proofs.AnyLaws.{if_true, if_false}
+use Rattle.std.proofs.Common.{ℕ, zero, suc, ◌+◌, ◌*◌, ◌%◌, ◌<◌, ◌≡◌, ◌==◌, true, false, Option, Some, None, refl, sym, ◌∙◌, ap, subst, inl, inr, arith, if◌then◌else◌, List, [], ◌∷◌, length}
+use Rattle.std.proofs.lemmas.Bool.{both_ways, eq-eqb}
+use Rattle.ec_bits.proofs.AnyLaws.{if_true}
 use Rattle.ec_regs.specs.declared.slave_type.Mailbox.{Mailbox}
-use Rattle.ec_regs.specs.declared.slave_type.Device.{Device}
 use Rattle.ec_regs.specs.Types.{SlaveKind}
-use Rattle.ec_regs.specs.Memory.{ram_start}
 use Rattle.ec_frame.specs.declared.command.Command.TheVariants.{Fpwr}
-use Rattle.ec_frame.specs.Datagram.{Datagram, IsDatagram, adp_of, ado_of}
+use Rattle.ec_frame.specs.Datagram.{Datagram}
 use Rattle.ec_al.specs.declared.state.State.{State}
-use Rattle.ec_al.specs.declared.state.State.TheVariants.{Init, PreOp, SafeOp, Op}
+use Rattle.ec_al.specs.declared.state.State.TheVariants.{Init, PreOp}
 use Rattle.ec_al.specs.States.{state_number}
 use Rattle.ec_al.specs.Al.{Al, requesting}
-use Rattle.ec_sii.specs.Port.{Sii, written}
 use Rattle.ec_sii.specs.Laws.{read_command}
-use Rattle.ec_sync.specs.Manager.{Manager}
 use Rattle.ec_slave.specs.State.{SlaveState, station_of, manager_at}
 use Rattle.ec_slave.specs.Access.{Window, touches, slave_after}
-use Rattle.ec_slave.specs.Meeting.{window_of, slave_met, datagram_met}
-use Rattle.ec_slave.specs.Checking.{control_word, checks_of}
+use Rattle.ec_slave.specs.Meeting.{slave_met}
+use Rattle.ec_slave.specs.Checking.{checks_of}
 use Rattle.ec_slave.specs.Serving.{served}
 use Rattle.ec_start.specs.Plans.{settings_at}
 use Rattle.ec_start.specs.declared.action.Action.{Action}
 use Rattle.ec_start.specs.declared.action.Action.TheVariants.{CountSlaves, AskInit, AwaitInit, ClearFmmus, ClearManagers, ClearStations, NameSlave, AskWord, AwaitWord, SetManager, SetFmmu, AskState, AwaitState, SendRequest, AwaitReply}
 use Rattle.ec_start.specs.declared.action.Request.{Request}
-use Rattle.ec_start.specs.Actions.{station, at, sent, datagram_of, word_place, filled, request_bytes}
-use Rattle.ec_rise.specs.Stages.{Rise, Stays, Climbs, Config, Stage, Before, Called, Down, Up, Talk, told, climbing, after, Fits, FitsMine, CanTell, CanClimb, IsStepUp, IsUp}
-use Rattle.ec_start.specs.Planned.{AreMailboxes, IsRequest}
-use Rattle.ec_rise.specs.Standing.{IsOfKind, IsConfigured, IsIn, IsInInit, IsAsked, Rises, Claims, IsSent, IsSilent, Talks, IsUpAt, Reached, Stands}
+use Rattle.ec_start.specs.Actions.{station, sent, datagram_of, word_place, filled, request_bytes}
+use Rattle.ec_rise.specs.Stages.{Rise, Stays, Climbs, Config, Stage, Before, Called, Down, Up, Talk, told, climbing, after, Fits, CanClimb}
+use Rattle.ec_rise.specs.Standing.{IsOfKind, IsIn, Rises, Claims, IsSent, IsSilent, Talks, IsUpAt, Reached, Stands}
 use Rattle.ec_rise.specs.Frames.{Arrives, Untouched}
 use Rattle.ec_rise.specs.Undisturbed.{IsSpelled}
 use Rattle.ec_rise.proofs.Owns.{own-write, window-sent}
-use Rattle.ec_rise.proofs.Writes.{Wrote, wrote}
+use Rattle.ec_rise.proofs.Writes.{wrote}
 use Rattle.ec_rise.proofs.Sends.{sending, delivered}
 use Rattle.ec_rise.proofs.Messages.{stands-served}
 use Rattle.ec_rise.proofs.Settles.{served-asks, served-idle}

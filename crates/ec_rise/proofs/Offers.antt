@@ -1,7 +1,7 @@
 -- A slave of the type answers each request of the script as it should: its mapping is the type's, and each download is done.
-use Rattle.std.proofs.Common.{ℕ, zero, suc, ◌+◌, ◌-◌, ◌*◌, ◌/◌, ◌%◌, ◌^◌, ◌<◌, ◌≤◌, ◌≡◌, ◌≢◌, ◌⊎◌, ◌==◌, ◌&&◌, ◌||◌, not, Bool, true, false, Option, Some, None, Result, Ok, Err, refl, sym, ◌∙◌, ap, subst, inl, inr, arith, if◌then◌else◌, List, [], ◌∷◌, ◌++◌, length, map, take, slice_get, slice_set, nat_le, is_some, option_map, All, append_assoc, length-append}
+use Rattle.std.proofs.Common.{ℕ, zero, suc, ◌+◌, ◌-◌, ◌*◌, ◌%◌, ◌^◌, ◌<◌, ◌≤◌, ◌≡◌, ◌≢◌, ◌==◌, not, Bool, true, false, Option, Some, None, Result, refl, sym, ◌∙◌, ap, subst, arith, if◌then◌else◌, List, [], ◌∷◌, ◌++◌, length, map, take, slice_get, slice_set, nat_le, is_some, option_map, All, append_assoc, length-append}
 use Rattle.std.specs.List.{flat_map}
-use Rattle.std.proofs.lemmas.Bool.{cases_Bool, both_ways, eq-eqb, ne_eqb, and_from, or_right, le-leb}
+use Rattle.std.proofs.lemmas.Bool.{eq-eqb, ne_eqb, and_from, or_right, le-leb}
 use Rattle.std.proofs.lemmas.Option.{slice_get-map}
 use Rattle.ec_bits.proofs.AnyLaws.{if_true, if_false}
 use Rattle.ec_regs.specs.declared.slave_type.Entry.{Entry}
@@ -9,28 +9,26 @@ use Rattle.ec_regs.specs.declared.slave_type.Pdo.{Pdo}
 use Rattle.ec_regs.specs.Types.{SlaveKind}
 use Rattle.ec_coe.specs.declared.message.Message.{Message}
 use Rattle.ec_coe.specs.declared.value.Size.{Size}
-use Rattle.ec_coe.specs.declared.value.Size.TheVariants.{One, Two, Four}
+use Rattle.ec_coe.specs.declared.value.Size.TheVariants.{One, Two}
 use Rattle.ec_coe.specs.declared.value.Value.{Value}
 use Rattle.ec_coe.specs.declared.abort_code.AbortCode.{AbortCode}
 use Rattle.ec_coe.specs.declared.message.Service.TheVariants.{Response}
 use Rattle.ec_coe.specs.declared.message.Command.{Command as Sdo}
 use Rattle.ec_coe.specs.declared.message.Command.TheVariants.{DownloadRequest, DownloadResponse, UploadRequest, UploadResponse}
 use Rattle.ec_coe.specs.Messages.{size_number}
-use Rattle.ec_coe.specs.Answers.{Answer, answered as answer_of, answer_by, upload_answer, download_answer, reply_to, value_of}
+use Rattle.ec_coe.specs.Answers.{answered as answer_of, answer_by, upload_answer, download_answer, reply_to, value_of}
 use Rattle.ec_coe.specs.Objects.{Dictionary, Assignment, identity_object, output_assignment, input_assignment, has_some, entry_number, byte_value, word_value, long_value, assignment_values, pdo_values, object_values}
 use Rattle.ec_regs.specs.Objects.{pdo_at, bits_assigned}
 use Rattle.ec_coe.specs.Transfers.{value_or_abort, value_at, uploaded, distinct, takes_value, is_open, assignment_written, with_value, with_outs, with_ins, written_over, downloaded}
 use Rattle.ec_coe.proofs.Effects.{good}
 use Rattle.ec_link.specs.declared.settings.Settings.{Settings}
 use Rattle.ec_start.specs.declared.action.Request.{Request}
-use Rattle.ec_start.specs.declared.action.Transfer.{Transfer}
-use Rattle.ec_start.specs.declared.action.Transfer.TheVariants.{Download, Upload}
-use Rattle.ec_start.specs.Scripts.{requests, uploads, downloads, entries_read, pdo_read, slots_written, count_written, assignment_written as assignment_requests}
+use Rattle.ec_start.specs.Scripts.{requests, uploads, downloads, entries_read, pdo_read, slots_written, assignment_written as assignment_requests}
 use Rattle.ec_rise.specs.Stages.{Claim, Config, answered, claimed, talked_over, prepared}
 use Rattle.ec_rise.specs.Standing.{Claims}
 use Rattle.ec_rise.specs.Complete.{IsNumbered, IsOffered, AreOffered, IsAssignable, IsComplete}
-use Rattle.ec_rise.proofs.Assigns.{claim_at, object_at, own-claim, talked-append}
-use Rattle.ec_rise.proofs.Requests.{IsWanted, Asks, Knows, Answers}
+use Rattle.ec_rise.proofs.Assigns.{claim_at, object_at, own-claim}
+use Rattle.ec_rise.proofs.Requests.{IsWanted, Knows, Answers}
 use Rattle.ec_rise.proofs.Blessings.{AllAnswers}
 
 -- ---- uploads

@@ -1,5 +1,5 @@
 -- A frame of a start-up at a slave: all actions.
-use Rattle.std.proofs.Common.{ℕ, ◌+◌, ◌%◌, ◌<◌, ◌≡◌, ◌≢◌, ◌==◌, ◌&&◌, ◌||◌, not, Bool, true, false, Option, Some, None, refl, sym, ◌∙◌, subst, inl, inr, arith, if◌then◌else◌, List, slice_index}
+use Rattle.std.proofs.Common.{ℕ, ◌+◌, ◌%◌, ◌<◌, ◌≡◌, ◌≢◌, ◌==◌, Bool, true, false, Option, refl, sym, ◌∙◌, subst, inl, inr, arith, if◌then◌else◌, List, slice_index}
 use Rattle.std.specs.Int.{bit_at}
 use Rattle.std.proofs.lemmas.Bool.{cases_Bool, cases_eq, eq-eqb, ne_eqb}
 use Rattle.ec_bits.proofs.AnyLaws.{if_true, if_false}
@@ -24,7 +24,6 @@ use Rattle.ec_start.specs.declared.action.Transfer.TheVariants.{Download, Upload
 use Rattle.ec_start.specs.declared.verdict.Verdict.{Verdict}
 use Rattle.ec_start.specs.declared.verdict.Verdict.TheVariants.{Next, Shows, Again, Fails}
 use Rattle.ec_start.specs.declared.error.StartError.{StartError}
-use Rattle.ec_start.specs.declared.error.StartError.TheVariants.{BadMailbox, Abort}
 use Rattle.ec_start.specs.Verdicts.{verdict, counted, word_verdict, state_verdict, message_verdict, reply_verdict, upload_verdict, word_at}
 use Rattle.ec_rise.specs.Stages.{Stage, Before, Called, Down, Up, Config, Fits, IsUp}
 use Rattle.ec_rise.specs.Standing.{Stands}

@@ -1,43 +1,40 @@
 -- A frame of a start-up past all slaves: where each stands, and what comes back.
-use Rattle.std.proofs.Common.{ℕ, zero, suc, ◌+◌, ◌-◌, ◌*◌, ◌/◌, ◌%◌, ◌^◌, ◌<◌, ◌≤◌, ◌≡◌, ◌≢◌, ◌⊎◌, ◌==◌, ◌&&◌, ◌||◌, not, Bool, true, false, Option, Some, None, refl, sym, ◌∙◌, ap, subst, inl, inr, arith, if◌then◌else◌, List, [], ◌∷◌, length, slice_index, map}
+use Rattle.std.proofs.Common.{ℕ, zero, suc, ◌+◌, ◌-◌, ◌*◌, ◌/◌, ◌%◌, ◌<◌, ◌≤◌, ◌≡◌, ◌≢◌, Bool, true, false, refl, ◌∙◌, ap, subst, inl, inr, arith, List, [], ◌∷◌, length, slice_index}
 use Rattle.std.specs.Prelude.{bit_or}
 use Rattle.std.specs.Int.{from_bool, to_le_bytes, w16}
-use Rattle.std.proofs.lemmas.Bool.{cases_Bool, cases_eq, both_ways, eq-eqb, or_left}
+use Rattle.std.proofs.lemmas.Bool.{cases_eq, or_left}
 use Rattle.ec_bits.specs.Bits.{zeros}
-use Rattle.ec_bits.proofs.AnyLaws.{if_true, if_false}
 use Rattle.ec_regs.specs.declared.slave_type.Device.{Device}
-use Rattle.ec_regs.specs.declared.slave_type.Mailbox.{Mailbox}
 use Rattle.ec_regs.specs.Types.{SlaveKind}
 use Rattle.ec_regs.specs.Memory.{ram_start, is_stored}
 use Rattle.ec_frame.specs.declared.command.Command.{Command}
-use Rattle.ec_frame.specs.declared.command.Command.TheVariants.{Apwr, Fprd, Fpwr, Brd, Bwr}
+use Rattle.ec_frame.specs.declared.command.Command.TheVariants.{Apwr, Bwr}
 use Rattle.ec_frame.specs.Datagram.{Datagram, IsDatagram, adp_of, ado_of}
 use Rattle.ec_frame.specs.Fields.{with_adp}
 use Rattle.ec_al.specs.declared.state.State.{State}
 use Rattle.ec_al.specs.declared.state.State.TheVariants.{Init, PreOp, SafeOp, Op}
 use Rattle.ec_al.specs.States.{state_number}
-use Rattle.ec_sii.specs.Port.{Sii, written}
+use Rattle.ec_sii.specs.Port.{written}
 use Rattle.ec_sii.specs.declared.image.Image.{Image}
 use Rattle.ec_slave.specs.Roles.{role_of, is_writing}
-use Rattle.ec_slave.specs.State.{SlaveState, Met as Meeting, station_of, manager_at}
+use Rattle.ec_slave.specs.State.{SlaveState, Met as Meeting, station_of}
 use Rattle.ec_slave.specs.Access.{Window, byte_at, register_byte, meeting, slave_after}
 use Rattle.ec_slave.specs.Meeting.{window_of, meets, meets_by, meets_physically, slave_met, datagram_met}
 use Rattle.ec_slave.specs.Keeping.{meets-keeps}
 use Rattle.ec_slave.proofs.Bystanders.{other_position_passes}
 use Rattle.ec_start.specs.declared.action.Action.{Action}
 use Rattle.ec_start.specs.declared.action.Action.TheVariants.{CountSlaves, AskInit, AwaitInit, ClearFmmus, ClearManagers, ClearStations, NameSlave, AskWord, AwaitWord, SetManager, SetFmmu, AskState, AwaitState, SendRequest, AwaitReply}
-use Rattle.ec_start.specs.declared.action.Request.{Request}
-use Rattle.ec_start.specs.Actions.{station, at, sent, datagram_of}
-use Rattle.ec_rise.specs.Stages.{Stage, Before, Called, Down, Up, Config, after, Fits, IsUp}
+use Rattle.ec_start.specs.Actions.{station, datagram_of}
+use Rattle.ec_rise.specs.Stages.{Stage, after}
 use Rattle.ec_rise.specs.Standing.{Stands}
-use Rattle.ec_rise.specs.Frames.{Arrives, MayEnd, MayRepeat, Met, Untouched, ReadsOn, IsBroadcast, IsWriting}
+use Rattle.ec_rise.specs.Frames.{Arrives, Met, IsBroadcast, IsWriting}
 use Rattle.ec_rise.specs.Undisturbed.{IsSpelled, all_passed, all_met}
 use Rattle.ec_slave.specs.Serving.{served}
 use Rattle.ec_rise.proofs.Passing.{IsOne, one-passes}
 use Rattle.ec_rise.proofs.PassLaws.{pass-law, later-law}
-use Rattle.ec_rise.proofs.Settles.{image_of, either-image, written-image, served-image}
+use Rattle.ec_rise.proofs.Settles.{either-image, written-image, served-image}
 use Rattle.ec_rise.proofs.Counts.{broadcast-counts, position-counts, register-writes}
-use Rattle.ec_rise.proofs.Looks.{look, looked, look-byte}
+use Rattle.ec_rise.proofs.Looks.{look, look-byte}
 use Rattle.ec_rise.proofs.Broadcasts.{window-is, fmmus-cleared, managers-cleared, stations-cleared, init-asked}
 use Rattle.ec_rise.proofs.Names.{naming}
 use Rattle.ec_rise.proofs.Owns.{window-sent}

@@ -1,8 +1,8 @@
 -- A request at its slave in PREOP: it counts 1, and after the firmware step the reply that is wanted lies in manager 1.
-use Rattle.std.proofs.Common.{ℕ, zero, suc, ◌+◌, ◌-◌, ◌*◌, ◌/◌, ◌%◌, ◌^◌, ◌<◌, ◌≤◌, ◌≡◌, ◌≢◌, ◌⊎◌, ◌==◌, ◌&&◌, ◌||◌, not, Bool, true, false, Option, Some, None, refl, sym, ◌∙◌, ap, subst, inl, inr, arith, if◌then◌else◌, List, [], ◌∷◌, ◌++◌, length, slice_index, nat_lt, is_some, is_none, option_and_then}
-use Rattle.std.proofs.lemmas.Bool.{cases_Bool, both_ways, eq-eqb, and_from, and_right, and_left, le-ltb, lt-ltb, or_right}
+use Rattle.std.proofs.Common.{ℕ, ◌+◌, ◌-◌, ◌*◌, ◌%◌, ◌^◌, ◌<◌, ◌≤◌, ◌≡◌, not, Bool, true, false, Option, Some, None, refl, sym, ◌∙◌, ap, subst, arith, List, ◌++◌, length, nat_lt, is_some, is_none, option_and_then}
+use Rattle.std.proofs.lemmas.Bool.{eq-eqb, and_from, le-ltb, lt-ltb}
 use Rattle.std.proofs.Math.Nat.{mod-eq_of_lt}
-use Rattle.ec_bits.specs.Bits.{within, zeros}
+use Rattle.ec_bits.specs.Bits.{zeros}
 use Rattle.ec_bits.proofs.AnyLaws.{if_true, if_false, within_true}
 use Rattle.ec_regs.specs.declared.manager.ManagerSettings.{ManagerSettings}
 use Rattle.ec_regs.specs.declared.slave_type.Mailbox.{Mailbox}
@@ -10,15 +10,14 @@ use Rattle.ec_regs.specs.Types.{SlaveKind}
 use Rattle.ec_regs.specs.Memory.{ram_start, ram_end}
 use Rattle.ec_regs.specs.Managers.{is_set, is_mailbox, is_ring_written, is_ring_read, span}
 use Rattle.ec_frame.specs.declared.command.Command.TheVariants.{Fpwr}
-use Rattle.ec_frame.specs.Datagram.{Datagram, adp_of, ado_of}
 use Rattle.ec_al.specs.declared.state.State.{State}
-use Rattle.ec_al.specs.declared.state.State.TheVariants.{Init, PreOp, SafeOp, Op}
-use Rattle.ec_sync.specs.Manager.{Manager, may_write, is_enabled, message_in as letter_in, padded}
-use Rattle.ec_sync.specs.Governing.{governor, governs, covers, in_first_buffer}
+use Rattle.ec_al.specs.declared.state.State.TheVariants.{PreOp}
+use Rattle.ec_sync.specs.Manager.{Manager, may_write, is_enabled, message_in as letter_in}
+use Rattle.ec_sync.specs.Governing.{governor, covers, in_first_buffer}
 use Rattle.ec_slave.specs.State.{SlaveState, station_of, manager_at}
 use Rattle.ec_slave.specs.Managers.{writes_under}
-use Rattle.ec_slave.specs.Access.{Window, touches, may_write_byte}
-use Rattle.ec_slave.specs.Meeting.{window_of, slave_met, datagram_met}
+use Rattle.ec_slave.specs.Access.{touches, may_write_byte}
+use Rattle.ec_slave.specs.Meeting.{datagram_met}
 use Rattle.ec_coe.specs.declared.message.Message.{Message}
 use Rattle.ec_coe.specs.declared.value.Size.{Size}
 use Rattle.ec_coe.specs.declared.value.Size.TheVariants.{One, Two, Three, Four}
@@ -28,24 +27,20 @@ use Rattle.ec_coe.specs.declared.message.Command.{Command as Sdo}
 use Rattle.ec_coe.specs.declared.message.Command.TheVariants.{DownloadResponse, UploadResponse}
 use Rattle.ec_coe.specs.Messages.{message_bytes, message_in, message_read, message_length, size_number, service_of, service_number, command_of, command_number}
 use Rattle.ec_coe.specs.Replies.{reply_in, reply_by, response_in}
-use Rattle.ec_coe.specs.Answers.{Answer, answered as answer_of}
+use Rattle.ec_coe.specs.Answers.{answered as answer_of}
 use Rattle.ec_coe.specs.Objects.{Dictionary}
 use Rattle.ec_coe.proofs.ReadBack.{reads-as-message, length-message, command-read, service-read, index-read, subindex-read, value-read}
-use Rattle.ec_slave.specs.Serving.{dictionary_of, is_init, is_preop, has_mailbox, takes_reply, is_served, request_for, request_in, reply_counter, answer_to, replied as replied_to, reply_given, message_served, read_finished, request_decided, served}
-use Rattle.ec_start.specs.Plans.{settings_at}
-use Rattle.ec_start.specs.declared.action.Action.{Action}
+use Rattle.ec_slave.specs.Serving.{dictionary_of, is_init, is_preop, has_mailbox, takes_reply, request_for, request_in, reply_counter, answer_to, replied as replied_to, reply_given, message_served, read_finished, request_decided, served}
 use Rattle.ec_start.specs.declared.action.Action.TheVariants.{SendRequest}
 use Rattle.ec_start.specs.declared.action.Request.{Request}
 use Rattle.ec_start.specs.declared.action.Transfer.{Transfer}
 use Rattle.ec_start.specs.declared.action.Transfer.TheVariants.{Download, Upload}
-use Rattle.ec_start.specs.Actions.{filled, request_bytes, request_command, request_value, station, at, sent, datagram_of}
-use Rattle.ec_start.specs.declared.verdict.Verdict.{Verdict}
-use Rattle.ec_start.specs.declared.verdict.Verdict.TheVariants.{Next, Fails}
-use Rattle.ec_start.specs.declared.error.StartError.TheVariants.{BadMailbox}
+use Rattle.ec_start.specs.Actions.{filled, request_bytes, request_command, request_value, station, datagram_of}
+use Rattle.ec_start.specs.declared.verdict.Verdict.TheVariants.{Next}
 use Rattle.ec_start.specs.Verdicts.{reply_verdict, message_verdict}
 use Rattle.ec_rise.specs.Stages.{Config, Talk, Claim}
-use Rattle.ec_start.specs.Planned.{AreMailboxes, IsRequest}
-use Rattle.ec_rise.specs.Standing.{IsOfKind, IsIn, IsUpAt, IsConfigured, IsSent, Claims, Talks}
+use Rattle.ec_start.specs.Planned.{AreMailboxes}
+use Rattle.ec_rise.specs.Standing.{IsOfKind, IsIn, IsUpAt, IsConfigured, IsSent, Claims}
 use Rattle.ec_rise.proofs.Owns.{window-sent}
 use Rattle.ec_rise.proofs.Sends.{sending, sending-length, set-lies, four-of}
 use Rattle.ec_rise.proofs.Serves.{waits-none, finished-same}

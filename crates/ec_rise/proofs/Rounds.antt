@@ -1,28 +1,27 @@
 -- A start-up's frame of two datagrams past all slaves: the first is a NOP, and the frame that comes back is taken.
-use Rattle.std.proofs.Common.{ℕ, zero, suc, ◌+◌, ◌<◌, ◌≡◌, refl, sym, ◌∙◌, ap, subst, List, [], ◌∷◌, length}
-use Rattle.std.specs.Int.{to_le_bytes, w64}
+use Rattle.std.proofs.Common.{ℕ, ◌≡◌, refl, sym, ◌∙◌, ap, subst, List, [], ◌∷◌, length}
 use Rattle.ec_frame.specs.declared.command.Command.{Command}
 use Rattle.ec_frame.specs.Datagram.{Datagram, IsDatagram}
 use Rattle.ec_slave.specs.State.{SlaveState}
 use Rattle.ec_slave.specs.Meeting.{Passed, meets, slave_met, datagram_met, passes}
 use Rattle.ec_slave.specs.Keeping.{meets-keeps}
 use Rattle.ec_slave.proofs.Bystanders.{heading_stays}
-use Rattle.ec_start.specs.declared.action.Action.{Action}
-use Rattle.ec_start.specs.Actions.{datagram_of, frame_of, numbered}
-use Rattle.ec_start.specs.Running.{StartState, action_of, Shape, shape, number_told, IsStartAnswer}
-use Rattle.ec_rise.specs.Undisturbed.{all_passed, all_met, frame_passed, slaves_passed, IsRound, RoundLaw}
+use Rattle.ec_start.specs.Actions.{datagram_of, numbered}
+use Rattle.ec_start.specs.Running.{action_of, Shape, shape, IsStartAnswer}
+use Rattle.ec_rise.specs.Undisturbed.{all_passed, all_met, RoundLaw}
+use Rattle.ec_ring.specs.Rings.{passes_ring}
 
 two-pass : (s : SlaveState) (number : ℕ) (d : Datagram) → passes s (numbered number 0 ∷ d ∷ []) ≡ record { slave = slave_met s d; datagrams = numbered number 0 ∷ datagram_met s d ∷ [] }
 unfolding meets
 two-pass s number d = refl
 
-frame-all : (ss : List SlaveState) (number : ℕ) (d : Datagram) → frame_passed ss (numbered number 0 ∷ d ∷ []) ≡ numbered number 0 ∷ all_passed ss d ∷ []
+frame-all : (ss : List SlaveState) (number : ℕ) (d : Datagram) → (passes_ring ss (numbered number 0 ∷ d ∷ [])).datagrams ≡ numbered number 0 ∷ all_passed ss d ∷ []
 frame-all [] number d = refl
-frame-all (s ∷ ss) number d = ap (λ (p : Passed). frame_passed ss p.datagrams) (two-pass s number d) ∙ frame-all ss number (datagram_met s d)
+frame-all (s ∷ ss) number d = ap (λ (p : Passed). (passes_ring ss p.datagrams).datagrams) (two-pass s number d) ∙ frame-all ss number (datagram_met s d)
 
-slaves-all : (ss : List SlaveState) (number : ℕ) (d : Datagram) → slaves_passed ss (numbered number 0 ∷ d ∷ []) ≡ all_met ss d
+slaves-all : (ss : List SlaveState) (number : ℕ) (d : Datagram) → (passes_ring ss (numbered number 0 ∷ d ∷ [])).slaves ≡ all_met ss d
 slaves-all [] number d = refl
-slaves-all (s ∷ ss) number d = ap (λ (p : Passed). p.slave ∷ slaves_passed ss p.datagrams) (two-pass s number d) ∙ ap (λ (xs : List SlaveState). slave_met s d ∷ xs) (slaves-all ss number (datagram_met s d))
+slaves-all (s ∷ ss) number d = ap (λ (p : Passed). p.slave ∷ (passes_ring ss p.datagrams).slaves) (two-pass s number d) ∙ ap (λ (xs : List SlaveState). slave_met s d ∷ xs) (slaves-all ss number (datagram_met s d))
 
 shape-by : (c1 c2 : Command) (i j n m : ℕ) → c1 ≡ c2 → i ≡ j → n ≡ m → (let x : Shape = record { command = c1; index = i; bytes = n } in let y : Shape = record { command = c2; index = j; bytes = m } in x ≡ y)
 shape-by c1 c2 i j n m a b c =

@@ -1,15 +1,9 @@
 -- What a firmware step settles, whatever the slave was: no request waits, the SII isn't busy, and its image stays.
-use Rattle.std.proofs.Common.{ℕ, zero, suc, ◌+◌, ◌*◌, ◌%◌, ◌/◌, ◌<◌, ◌≤◌, ◌≡◌, ◌≢◌, ◌⊎◌, ◌==◌, ◌&&◌, not, Bool, true, false, Option, Some, None, Result, Ok, Err, refl, sym, ◌∙◌, ap, subst, inl, inr, arith, if◌then◌else◌, List, [], ◌∷◌, length, slice_index, nat_le}
-use Rattle.std.proofs.lemmas.Bool.{both_ways, cases_Bool, and_left}
-use Rattle.ec_bits.proofs.AnyLaws.{if_true, if_false}
-use Rattle.ec_frame.specs.declared.command.Command.{Command}
-use Rattle.ec_frame.specs.Datagram.{Datagram}
-use Rattle.ec_regs.specs.declared.slave_type.Identity.{Identity}
+use Rattle.std.proofs.Common.{ℕ, ◌%◌, ◌≡◌, ◌==◌, ◌&&◌, not, Bool, true, false, Option, Some, None, Result, Ok, Err, refl, ◌∙◌, ap, inl, inr, if◌then◌else◌, List, nat_le}
+use Rattle.std.proofs.lemmas.Bool.{cases_Bool}
 use Rattle.ec_al.specs.declared.state.State.{State}
-use Rattle.ec_al.specs.declared.state.State.TheVariants.{Init, PreOp, SafeOp, Op}
 use Rattle.ec_al.specs.declared.status_code.StatusCode.{StatusCode}
 use Rattle.ec_al.specs.declared.transition.Checks.{Checks}
-use Rattle.ec_al.specs.States.{state_number}
 use Rattle.ec_al.specs.Transitions.{answer, requested_by, acknowledges}
 use Rattle.ec_al.specs.Al.{Al}
 use Rattle.ec_al.specs.Al as al
@@ -18,8 +12,8 @@ use Rattle.ec_sii.specs.Port as port
 use Rattle.ec_sii.specs.declared.image.Image.{Image}
 use Rattle.ec_slave.specs.State.{SlaveState}
 use Rattle.ec_slave.specs.Checking.{control_word, checks_of}
-use Rattle.ec_slave.specs.Serving.{dictionary_of, is_preop, reply_counter, with_al, request_decided, read_finished, message_served, reply_given, served}
-use Rattle.ec_rise.proofs.Serves.{decided-is, waits-none, sii-idle, finished-al, busy_of}
+use Rattle.ec_slave.specs.Serving.{dictionary_of, is_preop, reply_counter, request_decided, read_finished, message_served, reply_given, served}
+use Rattle.ec_rise.proofs.Serves.{decided-is, waits-none, sii-idle, finished-al}
 use Rattle.ec_rise.proofs.Messages.{taken_out, mailed, Mailed, Unmoved, Moved, given-al}
 use Rattle.ec_coe.proofs.Effects.{answered-slots}
 

@@ -1,40 +1,33 @@
 -- The polls of a start-up at a slave that has what is waited for: one poll ends the wait.
-use Rattle.std.proofs.Common.{ℕ, zero, suc, ◌+◌, ◌-◌, ◌*◌, ◌/◌, ◌%◌, ◌^◌, ◌<◌, ◌≤◌, ◌≡◌, ◌≢◌, ◌⊎◌, ◌==◌, ◌&&◌, ◌||◌, not, Bool, true, false, Option, Some, None, refl, sym, ◌∙◌, ap, subst, inl, inr, arith, if◌then◌else◌, List, [], ◌∷◌, length, slice_index, nat_lt, is_some}
-use Rattle.std.specs.Int.{bit_at, to_le_bytes, from_le_bytes, w32, from_bool}
+use Rattle.std.proofs.Common.{ℕ, zero, suc, ◌+◌, ◌*◌, ◌%◌, ◌^◌, ◌<◌, ◌≤◌, ◌≡◌, ◌==◌, ◌&&◌, not, Bool, true, false, Some, refl, sym, ◌∙◌, ap, arith, List, length, slice_index, is_some}
+use Rattle.std.specs.Int.{bit_at, to_le_bytes, w32, from_bool}
 use Rattle.std.proofs.lemmas.Nat.{from_le_bytes-to_le_bytes_4}
-use Rattle.std.proofs.lemmas.Bool.{cases_Bool, both_ways, eq-eqb, and_from, and_right}
+use Rattle.std.proofs.lemmas.Bool.{eq-eqb, and_from}
 use Rattle.std.proofs.lemmas.List.{length-replicate}
-use Rattle.ec_bits.specs.Bits.{within, zeros}
+use Rattle.ec_bits.specs.Bits.{zeros}
 use Rattle.ec_bits.proofs.AnyLaws.{if_true, if_false}
 use Rattle.ec_regs.specs.declared.slave_type.Device.{Device}
 use Rattle.ec_regs.specs.declared.slave_type.Mailbox.{Mailbox}
-use Rattle.ec_regs.specs.Types.{SlaveKind}
 use Rattle.ec_regs.specs.Memory.{ram_start}
 use Rattle.ec_frame.specs.declared.command.Command.TheVariants.{Fprd}
-use Rattle.ec_frame.specs.Datagram.{Datagram, adp_of, ado_of}
+use Rattle.ec_frame.specs.Datagram.{Datagram, adp_of}
 use Rattle.ec_al.specs.declared.state.State.{State}
 use Rattle.ec_al.specs.declared.state.State.TheVariants.{Init, PreOp, SafeOp, Op}
 use Rattle.ec_al.specs.States.{state_number}
-use Rattle.ec_sii.specs.Port.{Sii, sii_byte}
-use Rattle.ec_sync.specs.Manager.{Manager, may_read}
+use Rattle.ec_sii.specs.Port.{sii_byte}
+use Rattle.ec_sync.specs.Manager.{may_read}
 use Rattle.ec_slave.specs.State.{SlaveState, station_of, manager_at}
 use Rattle.ec_slave.specs.Access.{Window, byte_at, register_byte, byte_read, retold, some_byte_read}
-use Rattle.ec_slave.specs.Meeting.{window_of, slave_met, datagram_met}
+use Rattle.ec_slave.specs.Meeting.{window_of, datagram_met}
 use Rattle.ec_coe.specs.Messages.{message_read}
-use Rattle.ec_link.specs.declared.settings.Settings.{Settings}
-use Rattle.ec_start.specs.declared.action.Action.{Action}
 use Rattle.ec_start.specs.declared.action.Action.TheVariants.{AwaitWord, AwaitState, AwaitReply}
 use Rattle.ec_start.specs.declared.action.Request.{Request}
-use Rattle.ec_start.specs.Actions.{station, at, sent, datagram_of}
-use Rattle.ec_start.specs.declared.verdict.Verdict.{Verdict}
-use Rattle.ec_start.specs.declared.verdict.Verdict.TheVariants.{Next, Shows, Again, Fails}
-use Rattle.ec_start.specs.Verdicts.{with_word, seen_before, is_device, differs, word_at, long_at, word_verdict, state_verdict, message_verdict, counted, verdict}
-use Rattle.ec_rise.specs.Stages.{Config, Talk}
-use Rattle.ec_start.specs.Planned.{AreMailboxes}
-use Rattle.ec_rise.specs.Standing.{IsOfKind, IsUpAt, Talks}
+use Rattle.ec_start.specs.Actions.{station, sent, datagram_of}
+use Rattle.ec_start.specs.declared.verdict.Verdict.TheVariants.{Next, Shows}
+use Rattle.ec_start.specs.Verdicts.{with_word, is_device, word_at, long_at, word_verdict, state_verdict, message_verdict, verdict}
 use Rattle.ec_rise.proofs.Owns.{window-sent}
 use Rattle.ec_rise.proofs.Polls.{status-at, read-byte, read-bytes, control-at, command-at}
-use Rattle.ec_rise.proofs.Receives.{Boxes, boxes-of, asking, read-counter, some-read, raw-read}
+use Rattle.ec_rise.proofs.Receives.{Boxes, asking, read-counter, some-read, raw-read}
 use Rattle.ec_rise.proofs.Counts.{register-shows}
 use Rattle.ec_rise.proofs.Commands.{IsThere, HasFound, word_of}
 

@@ -1,13 +1,12 @@
 -- A type within its limits offers each PDO that an index names: no PDO of the other direction, and no other object, hides it.
-use Rattle.std.proofs.Common.{ℕ, zero, suc, ◌+◌, ◌<◌, ◌≤◌, ◌≡◌, ◌≢◌, ◌⊎◌, ◌==◌, Bool, true, false, Option, Some, None, refl, sym, ◌∙◌, ap, subst, inl, inr, arith, if◌then◌else◌, List, [], ◌∷◌, ◌++◌, length}
+use Rattle.std.proofs.Common.{ℕ, suc, ◌≡◌, ◌≢◌, ◌==◌, Option, Some, None, refl, sym, ◌∙◌, ap, subst, inl, inr, arith, List, [], ◌∷◌, ◌++◌}
 use Rattle.std.specs.Prelude.{All}
 use Rattle.std.proofs.lemmas.Bool.{cases_Bool, eqb-true, ne_eqb}
 use Rattle.ec_bits.proofs.AnyLaws.{if_true, if_false}
 use Rattle.ec_regs.specs.declared.slave_type.Pdo.{Pdo}
-use Rattle.ec_regs.specs.Types.{SlaveKind, IsPdo, ArePdos, IsWithinLimits, first_output_index, first_input_index}
-use Rattle.ec_coe.specs.Objects.{identity_object, output_assignment, input_assignment}
+use Rattle.ec_regs.specs.Types.{SlaveKind, IsPdo, IsWithinLimits, first_output_index, first_input_index}
 use Rattle.ec_regs.specs.Objects.{pdo_at}
-use Rattle.ec_rise.specs.Complete.{IsNumbered, IsOffered, AreOffered}
+use Rattle.ec_rise.specs.Complete.{IsNumbered, IsOffered}
 
 all-tail : (P : Pdo → Type 0) (q : Pdo) (ps : List Pdo) → All P (q ∷ ps) → All P ps
 all-tail P q ps h = λ k d l. h (suc k) d (omega (arith, l))

@@ -14,7 +14,6 @@ use Rattle.ec_regs.specs.Managers.{no_settings, area_settings, is_set, span, mai
 use Rattle.ec_regs.specs.Fmmus.{no_fmmu}
 use Rattle.ec_regs.specs.Types.{SlaveKind, IsMailbox, IsPdo, ArePdos, first_output_index, first_input_index, plain_kind}
 use Rattle.ec_fmmu.specs.Runs.{run_settings}
-use Rattle.ec_table.specs.declared.rows.Direction.{Direction}
 use Rattle.ec_table.specs.declared.rows.Direction.TheVariants.{Out, In}
 use Rattle.ec_table.specs.declared.rows.SlaveRow.{SlaveRow}
 use Rattle.ec_table.specs.declared.rows.TypeRow.{TypeRow}

@@ -1,5 +1,5 @@
 -- A table of three slaves: the premises can be met, and the script has 75 actions.
-use Rattle.std.proofs.Common.{ℕ, zero, suc, ◌<◌, ◌≡◌, true, false, Option, Some, None, refl, subst, inl, inr, arith, [], ◌∷◌, length}
+use Rattle.std.proofs.Common.{ℕ, zero, suc, ◌<◌, ◌≡◌, true, false, Option, Some, None, refl, subst, inl, arith, [], ◌∷◌, length}
 use Rattle.ec_regs.specs.declared.manager.ManagerSettings.{ManagerSettings}
 use Rattle.ec_regs.specs.declared.fmmu.FmmuSettings.{FmmuSettings}
 use Rattle.ec_regs.specs.declared.slave_type.Mailbox.{Mailbox}

@@ -1,12 +1,9 @@
 -- An undisturbed start-up ends Ready, in the words of a world.
-use Rattle.std.proofs.Common.{ℕ, ◌+◌, ◌<◌, ◌≡◌, Bool, true, false, refl, sym, inl, inr, List, length}
+use Rattle.std.proofs.Common.{ℕ, false, refl}
 use Rattle.std.proofs.lemmas.Bool.{both_ways}
 use Rattle.ec_slave.specs.State.{SlaveState}
 use Rattle.ec_link.specs.declared.settings.Settings.{Settings}
-use Rattle.ec_rise.specs.Stages.{Up, end_of}
-use Rattle.ec_rise.specs.Standing.{Stands}
-use Rattle.ec_start.specs.Planned.{IsStartable}
-use Rattle.ec_rise.specs.Undisturbed.{plan_at, slave_of}
+use Rattle.ec_rise.specs.Undisturbed.{plan_at}
 use Rattle.ec_rise.proofs.ComesUp.{comes-up as start-comes-up}
 use Rattle.ec_rise.specs.Runs.{Works, Shown, Working, Faulted, WasReset}
 use Rattle.ec_link.specs.Plan.{plan_of}

@@ -1,11 +1,10 @@
 -- What a slave becomes by a datagram that writes registers.
-use Rattle.std.proofs.Common.{ℕ, zero, suc, ◌+◌, ◌-◌, ◌*◌, ◌%◌, ◌<◌, ◌≤◌, ◌≡◌, ◌⊎◌, ◌==◌, ◌&&◌, ◌||◌, not, Bool, true, false, refl, sym, ◌∙◌, ap, inl, inr, arith, if◌then◌else◌, List, [], ◌∷◌, ◌++◌, length, slice_index, nat_lt, nat_le, is_some}
-use Rattle.std.proofs.lemmas.Bool.{cases_Bool, and_left, and_right, and_parts, and_from, lt-ltb, leb-true}
+use Rattle.std.proofs.Common.{ℕ, zero, suc, ◌+◌, ◌-◌, ◌*◌, ◌<◌, ◌≤◌, ◌≡◌, ◌⊎◌, not, Bool, true, false, refl, sym, ◌∙◌, ap, inl, inr, arith, if◌then◌else◌, List, [], ◌∷◌, ◌++◌, length, slice_index, is_some}
+use Rattle.std.proofs.lemmas.Bool.{cases_Bool, and_left, and_right, and_from, lt-ltb}
 use Rattle.ec_bits.specs.Bits.{within}
 use Rattle.ec_bits.proofs.AnyLaws.{if_true, if_false, within_above, any_below_none}
-use Rattle.ec_regs.specs.declared.manager.ManagerSettings.{ManagerSettings}
 use Rattle.ec_regs.specs.Memory.{ram_start, is_stored}
-use Rattle.ec_regs.specs.Managers.{is_set, is_mailbox, is_buffered, is_ring_written, is_ring_read}
+use Rattle.ec_regs.specs.Managers.{is_set}
 use Rattle.ec_regs.specs.Types.{SlaveKind}
 use Rattle.ec_sync.specs.Manager.{Manager, empty_manager, may_write}
 use Rattle.ec_slave.specs.Managers.{is_ungoverned, is_written_by}

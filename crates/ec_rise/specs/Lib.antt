@@ -10,5 +10,7 @@ pub mod Starting
 pub mod Runs
 pub mod Slots
 pub mod ComesUp
+-- Bringing up a ring.
+pub mod BringUp
 -- What a frame under way is at each slave: the proofs' own.
 pub mod Frames

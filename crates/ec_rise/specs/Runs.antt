@@ -1,5 +1,5 @@
 -- The runs of a world that starts up, and what its slaves are when it is ready.
-use Rattle.std.specs.Prelude.{ℕ, ◌+◌, ◌<◌, ◌≡◌, ◌≢◌, List, length, take, set, get_or, replicate, Bool, true, false, Some, None, unwrap_or}
+use Rattle.std.specs.Prelude.{ℕ, ◌+◌, ◌<◌, ◌≡◌, ◌≢◌, List, length, set, get_or, replicate, Bool, true, false, Some, None, unwrap_or}
 use Rattle.ec_frame.specs.Datagram.{IsDatagram}
 use Rattle.ec_al.specs.declared.state.State.TheVariants.{Op, SafeOp}
 use Rattle.ec_slave.specs.State.{SlaveState, power_on, manager_at}

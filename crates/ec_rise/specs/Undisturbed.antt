@@ -1,10 +1,11 @@
 -- A start-up that nothing disturbs: each frame passes all slaves in order, each slave serves once, and the frame comes back.
-use Rattle.std.specs.Prelude.{ℕ, zero, suc, ◌+◌, ◌*◌, ◌<◌, ◌≤◌, ◌≡◌, ◌^◌, ◌-◌, List, [], ◌∷◌, length, map, get_or, Bool, true, false}
+use Rattle.std.specs.Prelude.{ℕ, zero, suc, ◌+◌, ◌<◌, ◌≤◌, ◌≡◌, List, [], ◌∷◌, length, map, get_or, false}
 use Rattle.ec_regs.specs.declared.slave_type.Device.{Device}
 use Rattle.ec_regs.specs.Types.{SlaveKind, plain_kind, device_identity}
 use Rattle.ec_frame.specs.Datagram.{Datagram, IsDatagram}
 use Rattle.ec_slave.specs.State.{SlaveState, power_on}
-use Rattle.ec_slave.specs.Meeting.{slave_met, datagram_met, passes}
+use Rattle.ec_slave.specs.Meeting.{slave_met, datagram_met}
+use Rattle.ec_ring.specs.Rings.{passes_ring}
 use Rattle.ec_slave.specs.Serving.{served}
 use Rattle.ec_link.specs.declared.settings.Settings.{Settings}
 use Rattle.ec_link.specs.Meaning as meant
@@ -105,20 +106,11 @@ ComesUpLaw =
 
 -- ---- whole frames
 
--- the datagrams of a frame after it passed all slaves, and the slaves
-abbrev pub frame_passed : List SlaveState → List Datagram → List Datagram
-frame_passed [] ds = ds
-frame_passed (s ∷ ss) ds = frame_passed ss (passes s ds).datagrams
-
-abbrev pub slaves_passed : List SlaveState → List Datagram → List SlaveState
-slaves_passed [] ds = []
-slaves_passed (s ∷ ss) ds = (passes s ds).slave ∷ slaves_passed ss (passes s ds).datagrams
-
 -- A start-up's frame past all slaves is an answer, its second datagram is what it is here, and so are the slaves.
 pub record IsRound (s : StartState) (number : ℕ) (ss : List SlaveState) : Type 0 where
-  pub datagrams : frame_passed ss (frame_of (action_of s) number) ≡ numbered number 0 ∷ all_passed ss (datagram_of (action_of s) number) ∷ []
-  pub slaves : slaves_passed ss (frame_of (action_of s) number) ≡ all_met ss (datagram_of (action_of s) number)
-  pub answer : IsStartAnswer s number (frame_passed ss (frame_of (action_of s) number))
+  pub datagrams : (passes_ring ss (frame_of (action_of s) number)).datagrams ≡ numbered number 0 ∷ all_passed ss (datagram_of (action_of s) number) ∷ []
+  pub slaves : (passes_ring ss (frame_of (action_of s) number)).slaves ≡ all_met ss (datagram_of (action_of s) number)
+  pub answer : IsStartAnswer s number (passes_ring ss (frame_of (action_of s) number)).datagrams
 
 abbrev pub RoundLaw : Type 0
 RoundLaw = (s : StartState) (number : ℕ) (ss : List SlaveState) → IsDatagram (datagram_of (action_of s) number) → IsRound s number ss

@@ -6,4 +6,13 @@ pub mod Actions
 pub mod Scripts
 pub mod Verdicts
 pub mod Running
+pub mod Errors
 pub mod Planned
+pub mod ThreeSlaves
+pub mod Laws
+-- These serve private code and its proofs alone:
+pub mod Doable
+pub mod Seeking
+pub mod Ahead
+pub mod Answered
+pub mod Held

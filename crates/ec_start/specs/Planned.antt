@@ -76,3 +76,8 @@ pub record IsStartable (p : Settings) : Type 0 where
   pub all_assigned : p.kind.mailbox ≡ None → (p.outputs ≡ indices p.kind.outputs) × (p.inputs ≡ indices p.kind.inputs)
   pub no_outs : has_some p.kind.outputs ≡ false → p.outputs ≡ []
   pub no_ins : has_some p.kind.inputs ≡ false → p.inputs ≡ []
+
+-- Each slot of the two assignments has a subindex of one byte.
+pub record HasFewAssigned (p : Settings) : Type 0 where
+  pub outputs : length p.outputs < 256
+  pub inputs : length p.inputs < 256

@@ -1,5 +1,5 @@
 -- A start-up as it runs.
-use Rattle.std.specs.Prelude.{ℕ, ◌+◌, ◌-◌, ◌^◌, ◌≡◌, ◌==◌, ◌↔◌, List, [], ◌∷◌, length, map, take, get_or, Bool, true, false, if◌then◌else◌, nat_lt, slice_get, Option, Some, None}
+use Rattle.std.specs.Prelude.{ℕ, ◌+◌, ◌-◌, ◌^◌, ◌≡◌, ◌==◌, ◌↔◌, List, [], ◌∷◌, length, map, take, get_or, Bool, true, false, if◌then◌else◌, nat_lt, slice_get, Option, Some, None, Result, Ok, Err}
 use Rattle.std.specs.Int.{to_le_bytes, w64}
 use Rattle.ec_regs.specs.declared.slave_type.Device.{Device}
 use Rattle.ec_regs.specs.Types.{plain_kind}
@@ -17,6 +17,8 @@ use Rattle.ec_start.specs.declared.phase.Phase.{Phase}
 use Rattle.ec_start.specs.declared.phase.Phase.TheVariants.{Idle, Sent, Ready, Failed}
 use Rattle.ec_start.specs.declared.phase.NextFrame.{NextFrame}
 use Rattle.ec_start.specs.declared.phase.NextFrame.TheVariants.{Send, Waiting, Ended}
+use Rattle.ec_start.specs.declared.phase.Taken.{Taken}
+use Rattle.ec_start.specs.declared.phase.Taken.TheVariants.{Kept, Foreign}
 use Rattle.ec_start.specs.Actions.{frame_of}
 use Rattle.ec_start.specs.Scripts.{script}
 use Rattle.ec_start.specs.Verdicts.{nothing_seen, with_word, verdict}
@@ -143,6 +145,10 @@ pub record IsOutstanding (s : StartState) (payload : List ℕ) : Type 0 where
   pub spelled : IsFrame payload frame
   pub answer : IsStartAnswer s number frame.datagrams
 
+abbrev pub is_kept : Taken → Bool
+is_kept Kept = true
+is_kept Foreign = false
+
 -- what `take` does: an answer to the outstanding frame is kept and judged by its second datagram; whatever else came changes
 -- nothing
 pub record IsStartTaken (old : StartState) (payload : List ℕ) (is_kept : Bool) (new : StartState) : Type 0 where
@@ -178,3 +184,16 @@ is_ended Ready = true
 is_ended (Failed error) = true
 is_ended Idle = false
 is_ended (Sent number) = false
+
+abbrev pub is_sent : Phase → Bool
+is_sent (Sent number) = true
+is_sent Idle = false
+is_sent Ready = false
+is_sent (Failed error) = false
+
+-- how a start-up ended, if it has
+abbrev pub outcome_of : Phase → Option (Result Unit StartError)
+outcome_of Idle = None
+outcome_of (Sent number) = None
+outcome_of Ready = Some (Ok tt)
+outcome_of (Failed error) = Some (Err error)

@@ -1,8 +1,24 @@
-//! What a start-up does, one action after another.
+//! What a start-up does, one action after another, and the datagram of each.
+
+ghost use Rattle.std.specs.Prelude.{◌≡◌, ◌≤◌, ◌-◌, ◌%◌, ◌/◌, length};
+ghost use Rattle.ec_start.specs.Actions.{station, word_place, request_message, datagram_of};
+ghost use Rattle.ec_start.specs.Scripts.{downloads, uploads};
+ghost use Rattle.ec_start.specs.Doable.{IsDoable};
 
 use ec_al::State;
-use ec_coe::Value;
-use ec_regs::{FmmuSettings, Mailbox, ManagerSettings};
+use ec_coe::{Command as SdoCommand, MESSAGE_LENGTH, Message, Service, Value, write_message};
+use ec_frame::{Command, physical};
+use ec_regs::registers::{
+    AL_CONTROL, AL_STATUS, FMMUS, SII_CONTROL, STATION_ADDRESS, SYNC_MANAGERS, fmmu_address,
+    manager_address,
+};
+use ec_regs::{FmmuSettings, Mailbox, ManagerSettings, encode_fmmu, encode_manager};
+
+/// The most data of an action: a mailbox.
+pub const MAX_DATA: usize = 1024;
+
+/// The station address of slave 0; the others follow.
+const FIRST_STATION: u16 = 0x1001;
 
 /// What an SDO request transfers.
 #[derive(Clone, Copy, Debug, PartialEq, Eq)]
@@ -89,4 +105,194 @@ pub enum Action {
         mailbox: Mailbox,
         request: Request,
     },
+}
+
+/// The station address of a slave.
+fn station(slave: usize) -> u16
+    requires { slave ≤ 64 }
+    ensures { result ≡ station slave }
+{
+    FIRST_STATION + slave as u16
+}
+
+/// The SII word where a number of the identity stands.
+fn word_place(which: usize) -> u32
+    requires { which ≤ 2 }
+    ensures { result ≡ word_place which }
+{
+    0x08 + 2 * which as u32
+}
+
+/// The ADP with which an auto increment datagram acts at a slave: each slave before it adds 1, and it gets 0.
+fn position(slave: usize) -> u16
+    requires { slave ≤ 64 }
+    ensures { result ≡ (65536 - slave) % 65536 }
+{
+    (0 as u16).wrapping_sub(slave as u16)
+}
+
+impl Request {
+    /// A download.
+    pub(crate) fn download(index: u16, subindex: u8, value: Value) -> Self
+        ensures { result ≡ downloads index subindex value }
+    {
+        Request {
+            index,
+            subindex,
+            transfer: Transfer::Download(value),
+        }
+    }
+
+    /// An upload that has to bring a value back.
+    pub(crate) fn upload(index: u16, subindex: u8, value: Value) -> Self
+        ensures { result ≡ uploads index subindex value }
+    {
+        Request {
+            index,
+            subindex,
+            transfer: Transfer::Upload(value),
+        }
+    }
+
+    /// Its message, before which so many were sent to the slave.
+    fn message(&self, before: usize) -> Message
+        ensures { result ≡ request_message before self.now }
+    {
+        let (command, value) = match self.transfer {
+            Transfer::Download(value) => (SdoCommand::DownloadRequest(value.size), value.number),
+            Transfer::Upload(_) => (SdoCommand::UploadRequest, 0),
+        };
+        Message {
+            counter: (before % 7) as u8 + 1,
+            service: Service::Request,
+            command,
+            index: self.index,
+            subindex: self.subindex,
+            value,
+        }
+    }
+}
+
+impl Action {
+    /// The command of its datagram.
+    pub fn command(&self) -> Command
+        ensures { result ≡ (datagram_of self.now 0).command }
+    {
+        match self {
+            Action::CountSlaves | Action::AwaitInit => Command::Brd,
+            Action::AskInit | Action::ClearFmmus | Action::ClearManagers | Action::ClearStations =>
+                Command::Bwr,
+            Action::NameSlave { .. } => Command::Apwr,
+            Action::AwaitWord { .. } | Action::AwaitState { .. } | Action::AwaitReply { .. } => {
+                Command::Fprd
+            }
+            Action::AskWord { .. }
+            | Action::SetManager { .. }
+            | Action::SetFmmu { .. }
+            | Action::AskState { .. }
+            | Action::SendRequest { .. } => Command::Fpwr,
+        }
+    }
+
+    /// The ADP of its datagram.
+    fn adp(&self) -> u16
+        requires { IsDoable self.now }
+        ensures { result ≡ (datagram_of self.now 0).address % 65536 }
+    {
+        match *self {
+            Action::NameSlave { slave } => position(slave),
+            Action::AskWord { slave, .. }
+            | Action::AwaitWord { slave, .. }
+            | Action::SetManager { slave, .. }
+            | Action::SetFmmu { slave, .. }
+            | Action::AskState { slave, .. }
+            | Action::AwaitState { slave, .. }
+            | Action::SendRequest { slave, .. }
+            | Action::AwaitReply { slave, .. } => station(slave),
+            _ => 0,
+        }
+    }
+
+    /// The ADO of its datagram.
+    fn ado(&self) -> u16
+        requires { IsDoable self.now }
+        ensures { result ≡ (datagram_of self.now 0).address / 65536 }
+    {
+        match *self {
+            Action::CountSlaves | Action::AwaitInit | Action::AwaitState { .. } => AL_STATUS as u16,
+            Action::AskInit | Action::AskState { .. } => AL_CONTROL as u16,
+            Action::ClearFmmus => FMMUS as u16,
+            Action::ClearManagers => SYNC_MANAGERS as u16,
+            Action::ClearStations | Action::NameSlave { .. } => STATION_ADDRESS as u16,
+            Action::AskWord { .. } | Action::AwaitWord { .. } => SII_CONTROL as u16,
+            Action::SetManager { number, .. } => manager_address(number) as u16,
+            Action::SetFmmu { number, .. } => fmmu_address(number) as u16,
+            Action::SendRequest { mailbox, .. } => mailbox.receive_start,
+            Action::AwaitReply { mailbox, .. } => mailbox.send_start,
+        }
+    }
+
+    /// The address of its datagram.
+    pub fn address(&self) -> u32
+        requires { IsDoable self.now }
+        ensures { result ≡ (datagram_of self.now 0).address }
+    {
+        physical(self.adp(), self.ado())
+    }
+
+    /// How many bytes of data its datagram has.
+    pub fn data_length(&self) -> usize
+        requires { IsDoable self.now }
+        ensures value { result ≡ length (datagram_of self.now 0).data_bytes }
+        ensures few { result ≤ 1024 }
+    {
+        match *self {
+            Action::CountSlaves
+            | Action::AskInit
+            | Action::AwaitInit
+            | Action::ClearStations
+            | Action::NameSlave { .. }
+            | Action::AskState { .. } => 2,
+            Action::ClearFmmus => 64,
+            Action::ClearManagers => 32,
+            Action::AskWord { .. } | Action::AwaitState { .. } => 6,
+            Action::AwaitWord { .. } => 10,
+            Action::SetManager { .. } => 8,
+            Action::SetFmmu { .. } => 16,
+            Action::SendRequest { mailbox, .. } => mailbox.receive_size as usize,
+            Action::AwaitReply { mailbox, .. } => mailbox.send_size as usize,
+        }
+    }
+
+    /// Writes the data of its datagram.
+    pub fn write_data(&self, bytes: &mut [u8])
+        requires doable { IsDoable self.now }
+        requires length { length bytes.old ≡ length (datagram_of self.now 0).data_bytes }
+        ensures { bytes.new ≡ (datagram_of self.now 0).data_bytes }
+    {
+        bytes.fill(0);
+        match self {
+            Action::AskInit => bytes.copy_from_slice(&[0x11, 0]),
+            Action::NameSlave { slave } => {
+                bytes.copy_from_slice(&station(*slave).to_le_bytes());
+            }
+            Action::AskWord { which, .. } => {
+                bytes[1] = 1;
+                bytes[2..].copy_from_slice(&word_place(*which).to_le_bytes());
+            }
+            Action::SetManager { settings, .. } => {
+                bytes.copy_from_slice(&encode_manager(settings));
+            }
+            Action::SetFmmu { settings, .. } => bytes.copy_from_slice(&encode_fmmu(settings)),
+            Action::AskState { state, .. } => bytes[0] = state.number() as u8,
+            Action::SendRequest {
+                before,
+                request,
+                ..
+            } => {
+                let _ = write_message(&request.message(*before), bytes);
+            }
+            _ => {}
+        }
+    }
 }

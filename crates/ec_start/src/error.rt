@@ -1,7 +1,14 @@
 //! Why a start-up fails.
 
+ghost use Rattle.std.specs.Prelude.{◌≡◌, ◌≤◌, length};
+ghost use Rattle.ec_start.specs.Errors.{error_number, error_name, error_values};
+
+use arrayvec::ArrayVec;
 use ec_regs::Device;
 use thiserror::Error;
+
+/// How many values an error has at most.
+const MOST_VALUES: usize = 4;
 
 /// Why a start-up failed. Slaves are counted from 0 in the order of the table, steps from 0 in the order of the script.
 #[derive(Clone, Copy, Debug, PartialEq, Eq, Error)]
@@ -58,4 +65,78 @@ pub enum StartError {
         subindex: u8,
         seen: u32,
     },
+}
+
+fn listed(values: &[u64]) -> ArrayVec<u64, MOST_VALUES>
+    requires { length values.now ≤ 4 }
+    ensures { result.items ≡ values.now }
+{
+    let mut listed = ArrayVec::new();
+    let _ = listed.try_extend_from_slice(values);
+    listed
+}
+
+impl StartError {
+    /// The number of the refusal: 9, 26 to 32, 36 or 38.
+    pub fn number(self) -> u8
+        ensures { result ≡ error_number self }
+    {
+        match self {
+            StartError::BadMailbox { .. } => 9,
+            StartError::Count { .. } => 26,
+            StartError::Identity { .. } => 27,
+            StartError::Counter { .. } => 28,
+            StartError::AlError { .. } => 29,
+            StartError::Abort { .. } => 30,
+            StartError::TooSlow { .. } => 31,
+            StartError::Lost => 32,
+            StartError::NumbersSpent => 36,
+            StartError::Mapping { .. } => 38,
+        }
+    }
+
+    /// The name of the refusal, one word.
+    pub fn name(self) -> &'static str
+        ensures { result.now ≡ error_name self }
+    {
+        match self {
+            StartError::BadMailbox { .. } => "BadMailbox",
+            StartError::Count { .. } => "Count",
+            StartError::Identity { .. } => "Identity",
+            StartError::Counter { .. } => "Counter",
+            StartError::AlError { .. } => "AlError",
+            StartError::Abort { .. } => "Abort",
+            StartError::TooSlow { .. } => "TooSlow",
+            StartError::Lost => "Lost",
+            StartError::NumbersSpent => "NumbersSpent",
+            StartError::Mapping { .. } => "Mapping",
+        }
+    }
+
+    /// Its values in the order in which they are printed: a slave or a step first, an identity as vendor, product and revision.
+    pub fn values(self) -> ArrayVec<u64, 4>
+        ensures { result.items ≡ error_values self }
+    {
+        match self {
+            StartError::BadMailbox { slave } => listed(&[slave as u64]),
+            StartError::Count { seen } => listed(&[seen as u64]),
+            StartError::Identity { slave, seen } => listed(&[
+                slave as u64,
+                seen.vendor as u64,
+                seen.product as u64,
+                seen.revision as u64,
+            ]),
+            StartError::Counter { step } => listed(&[step as u64]),
+            StartError::AlError { slave, code } => listed(&[slave as u64, code as u64]),
+            StartError::Abort { slave, code } => listed(&[slave as u64, code as u64]),
+            StartError::TooSlow { step } => listed(&[step as u64]),
+            StartError::Lost | StartError::NumbersSpent => ArrayVec::new(),
+            StartError::Mapping {
+                slave,
+                index,
+                subindex,
+                seen,
+            } => listed(&[slave as u64, index as u64, subindex as u64, seen as u64]),
+        }
+    }
 }

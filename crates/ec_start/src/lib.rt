@@ -3,10 +3,18 @@
 #![tactic(auto)]
 
 mod action;
+mod answer;
 mod error;
+pub mod laws;
 mod phase;
+mod requests;
+mod script;
+mod startup;
+#[cfg(test)]
+mod tests;
 mod verdict;
 
 pub use crate::action::{Action, Request, Transfer};
 pub use crate::error::StartError;
 pub use crate::phase::{NextFrame, Phase, Taken};
+pub use crate::startup::Startup;

@@ -1,6 +1,20 @@
 //! What the answer to a step says.
 
+ghost use Rattle.std.specs.Prelude.{◌≡◌, ◌+◌, ◌≤◌, length};
+ghost use Rattle.ec_regs.specs.declared.slave_type.Device.{Device};
+ghost use Rattle.ec_start.specs.Actions.{datagram_of};
+ghost use Rattle.ec_start.specs.Doable.{IsDoable};
+ghost use Rattle.ec_start.specs.Running.{type_of};
+ghost use Rattle.ec_start.specs.Answered.{answered, init_verdict};
+ghost use Rattle.ec_start.specs.Verdicts.{word_at, long_at, nothing_seen, with_word, seen_before, is_device, differs, word_verdict, state_verdict, upload_verdict, reply_verdict, counted, verdict};
+
+use crate::action::{Action, Request, Transfer};
 use crate::error::StartError;
+use byteorder::{ByteOrder, LittleEndian};
+use ec_al::State;
+use ec_coe::{Reply, Value, read_reply};
+use ec_link::Settings;
+use ec_regs::{AlWord, Device, SiiControl};
 
 /// What a returned datagram says of the action that it was sent for.
 #[derive(Clone, Copy, Debug, PartialEq, Eq)]
@@ -13,4 +27,207 @@ pub enum Verdict {
     Again,
     /// The start-up fails.
     Fails(StartError),
+}
+
+/// The identity before any word of it was read.
+pub fn nothing_seen() -> Device
+    ensures { result ≡ nothing_seen }
+{
+    Device {
+        vendor: 0,
+        product: 0,
+        revision: 0,
+    }
+}
+
+/// The identity with one word more: 0 the vendor, of a slave that hasn't shown any yet, 1 the product, 2 the revision.
+pub fn with_word(seen: Device, which: usize, value: u32) -> Device
+    ensures { result ≡ with_word seen which value }
+{
+    let Device {
+        vendor,
+        product,
+        ..
+    } = seen;
+    match which {
+        0 => Device {
+            vendor: value,
+            product: 0,
+            revision: 0,
+        },
+        1 => Device {
+            vendor,
+            product: value,
+            revision: 0,
+        },
+        _ => Device {
+            vendor,
+            product,
+            revision: value,
+        },
+    }
+}
+
+/// The words before one, as far as they are of the same slave.
+fn seen_before(seen: Device, which: usize) -> Device
+    ensures { result ≡ seen_before seen which }
+{
+    match which {
+        0 => nothing_seen(),
+        1 => Device {
+            vendor: seen.vendor,
+            product: 0,
+            revision: 0,
+        },
+        _ => Device {
+            vendor: seen.vendor,
+            product: seen.product,
+            revision: 0,
+        },
+    }
+}
+
+fn is_device(kind: Device, seen: Device) -> bool
+    ensures { result ≡ is_device kind seen }
+{
+    kind.vendor == seen.vendor && kind.product == seen.product && kind.revision == seen.revision
+}
+
+/// The device of a slave's type.
+fn type_of(slaves: &[Settings], slave: usize) -> Device
+    ensures { result ≡ type_of slaves.now slave }
+{
+    if slave < slaves.len() {
+        slaves[slave].kind.device()
+    } else {
+        nothing_seen()
+    }
+}
+
+fn differs(slave: usize, seen: Device) -> Verdict
+    ensures { result ≡ differs slave seen }
+{
+    Verdict::Fails(StartError::Identity { slave, seen })
+}
+
+fn word_verdict(kind: Device, seen: Device, slave: usize, which: usize, bytes: &[u8]) -> Verdict
+    requires { 10 ≤ length bytes.now }
+    ensures { result ≡ word_verdict kind seen slave which bytes.now }
+{
+    let control = SiiControl(LittleEndian::read_u16(&bytes[0..2]));
+    if control.has_error() {
+        return differs(slave, seen_before(seen, which));
+    }
+    if control.is_busy() {
+        return Verdict::Again;
+    }
+    let value = LittleEndian::read_u32(&bytes[6..10]);
+    let shown = with_word(seen, which, value);
+    if which == 2 && !is_device(kind, shown) {
+        return differs(slave, shown);
+    }
+    Verdict::Shows(value)
+}
+
+fn state_verdict(slave: usize, state: State, bytes: &[u8]) -> Verdict
+    requires { 6 ≤ length bytes.now }
+    ensures { result ≡ state_verdict slave state bytes.now }
+{
+    let status = bytes[0] as u16;
+    if AlWord(status).has_error() {
+        let code = LittleEndian::read_u16(&bytes[4..6]);
+        return Verdict::Fails(StartError::AlError { slave, code });
+    }
+    if status % 32 == state.number() {
+        Verdict::Next
+    } else {
+        Verdict::Again
+    }
+}
+
+fn upload_verdict(slave: usize, request: &Request, expected: Value, seen: Value) -> Verdict
+    ensures { result ≡ upload_verdict slave request.now expected seen }
+{
+    if seen.size.number() != expected.size.number() {
+        return Verdict::Fails(StartError::BadMailbox { slave });
+    }
+    if seen.number == expected.number {
+        return Verdict::Next;
+    }
+    Verdict::Fails(StartError::Mapping {
+        slave,
+        index: request.index,
+        subindex: request.subindex,
+        seen: seen.number,
+    })
+}
+
+fn reply_verdict(slave: usize, request: &Request, reply: Reply) -> Verdict
+    ensures { result ≡ reply_verdict slave request.now request.now.transfer reply }
+{
+    match (request.transfer, reply) {
+        (_, Reply::Aborted(code)) => Verdict::Fails(StartError::Abort { slave, code }),
+        (Transfer::Download(_), Reply::Downloaded) => Verdict::Next,
+        (Transfer::Upload(expected), Reply::Uploaded(seen)) => {
+            upload_verdict(slave, request, expected, seen)
+        }
+        _ => Verdict::Fails(StartError::BadMailbox { slave }),
+    }
+}
+
+/// A verdict that holds only where the working counter is the one that it must be.
+fn counted(counter: u16, expected: usize, step: usize, verdict: Verdict) -> Verdict
+    ensures { result ≡ counted counter expected step verdict }
+{
+    if counter as usize == expected {
+        verdict
+    } else {
+        Verdict::Fails(StartError::Counter { step })
+    }
+}
+
+/// What the counter and the data of a returned datagram say of the action that it was sent for.
+pub fn verdict_on(
+    slaves: &[Settings],
+    step: usize,
+    seen: Device,
+    action: &Action,
+    counter: u16,
+    bytes: &[u8],
+) -> Verdict
+    requires { length bytes.now ≡ length (datagram_of action.now 0).data_bytes }
+    ensures { result ≡ verdict (length slaves.now) step seen (type_of slaves.now) action.now (answered counter bytes.now) }
+{
+    match *action {
+        Action::CountSlaves if counter as usize == slaves.len() => Verdict::Next,
+        Action::CountSlaves => Verdict::Fails(StartError::Count { seen: counter }),
+        Action::AskInit | Action::ClearFmmus | Action::ClearManagers | Action::ClearStations =>
+            counted(counter, slaves.len(), step, Verdict::Next),
+        Action::AwaitInit => counted(counter, slaves.len(), step, init_verdict(bytes)),
+        Action::AwaitWord { slave, which } => {
+            let kind = type_of(slaves, slave);
+            let shown = word_verdict(kind, seen, slave, which, bytes);
+            counted(counter, 1, step, shown)
+        }
+        Action::AwaitState { slave, state } => {
+            counted(counter, 1, step, state_verdict(slave, state, bytes))
+        }
+        Action::AwaitReply { .. } if counter == 0 => Verdict::Again,
+        Action::AwaitReply { slave, request, .. } => {
+            let reply = read_reply(bytes, request.index, request.subindex);
+            counted(counter, 1, step, reply_verdict(slave, &request, reply))
+        }
+        _ => counted(counter, 1, step, Verdict::Next),
+    }
+}
+
+fn init_verdict(bytes: &[u8]) -> Verdict
+    requires { 2 ≤ length bytes.now }
+    ensures { result ≡ init_verdict bytes.now }
+{
+    if LittleEndian::read_u16(&bytes[0..2]) == 1 {
+        Verdict::Next
+    } else {
+        Verdict::Again
+    }
 }

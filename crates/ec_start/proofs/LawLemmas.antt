@@ -1,0 +1,119 @@
+-- The laws.
+use Rattle.std.proofs.Common.{◌≡◌, ◌≢◌, ◌↔◌, ℕ, zero, suc, ◌+◌, ◌%◌, ◌<◌, ◌≤◌, ◌==◌, List, [], ◌∷◌, ◌++◌, length, Bool, true, false, if◌then◌else◌, Option, Some, None, refl, sym, ap, subst, ◌∙◌, arith, append_assoc}
+use Rattle.std.proofs.Common.{inl, inr}
+use Rattle.std.specs.List.{flat_map}
+use Rattle.std.proofs.lemmas.Bool.{cases_Bool, ne_eqb, eq-eqb, eqb-false}
+use Rattle.ec_bits.proofs.AnyLaws.{if_true, if_false}
+use Rattle.ec_regs.specs.declared.slave_type.Entry.{Entry}
+use Rattle.ec_regs.specs.declared.slave_type.Pdo.{Pdo}
+use Rattle.ec_regs.specs.Objects.{pdo_at}
+use Rattle.ec_coe.specs.Objects.{output_assignment, input_assignment, has_some}
+use Rattle.ec_link.specs.declared.settings.Settings.{Settings}
+use Rattle.ec_start.specs.declared.action.Request.{Request}
+use Rattle.ec_start.specs.declared.verdict.Verdict.{Verdict}
+use Rattle.ec_start.specs.declared.verdict.Verdict.TheVariants.{Next, Shows, Again, Fails}
+use Rattle.ec_start.specs.declared.phase.Phase.{Phase}
+use Rattle.ec_start.specs.declared.phase.Phase.TheVariants.{Idle, Sent, Ready, Failed}
+use Rattle.ec_start.specs.declared.phase.NextFrame.TheVariants.{Ended}
+use Rattle.ec_start.specs.declared.error.StartError.TheVariants.{TooSlow}
+use Rattle.ec_start.specs.Scripts.{entries_read, pdo_read, slots_written, count_written, assignment_written, requests}
+use Rattle.ec_start.specs.Running.{StartState, is_ended, asked, asked_by, next_frame, next_frame_by, given_up, given_up_by, judged, most_polls, IsOutstanding, IsStartTaken}
+use Rattle.ec_start.specs.Seeking.{uploads_of, downloads_of}
+use Rattle.ec_start.specs.Laws.{IsScriptOfThree, AreUploads, AreDownloads, IsUploadsFirst, UploadsComeFirst, CountersRunToSeven, StaysEnded, EndedStays, PollsEnd}
+
+pub script_of_three : IsScriptOfThree
+script_of_three = record { steps = refl; ninth = refl; tenth = refl }
+
+-- ---- uploads, then downloads
+
+both_uploads : (xs ys : List Request) → AreUploads xs → AreUploads ys → AreUploads (xs ++ ys)
+both_uploads [] ys a b = b
+both_uploads (x ∷ xs) ys a b = (a.0, both_uploads xs ys a.1 b)
+
+both_downloads : (xs ys : List Request) → AreDownloads xs → AreDownloads ys → AreDownloads (xs ++ ys)
+both_downloads [] ys a b = b
+both_downloads (x ∷ xs) ys a b = (a.0, both_downloads xs ys a.1 b)
+
+entries_up : (index k : ℕ) (es : List Entry) → AreUploads (entries_read index k es)
+entries_up index k [] = tt
+entries_up index k (e ∷ es) = (refl, entries_up index (k + 1) es)
+
+pdo_up : (o : Option Pdo) → AreUploads (pdo_read o)
+pdo_up None = tt
+pdo_up (Some p) = (refl, entries_up p.index 1 p.entries)
+
+pdos_up : (ps : List Pdo) (xs : List ℕ) → AreUploads (flat_map (λ index. pdo_read (pdo_at ps index)) xs)
+pdos_up ps [] = tt
+pdos_up ps (x ∷ xs) = both_uploads (pdo_read (pdo_at ps x)) (flat_map (λ index. pdo_read (pdo_at ps index)) xs) (pdo_up (pdo_at ps x)) (pdos_up ps xs)
+
+slots_down : (object k : ℕ) (xs : List ℕ) → AreDownloads (slots_written object k xs)
+slots_down object k [] = tt
+slots_down object k (x ∷ xs) = (refl, slots_down object (k + 1) xs)
+
+count_down : (object : ℕ) (xs : List ℕ) → AreDownloads (count_written object xs)
+count_down object [] = tt
+count_down object (x ∷ xs) = both_downloads (slots_written object 1 (x ∷ xs)) _ (slots_down object 1 (x ∷ xs)) (refl, tt)
+
+assignment_down : (object : ℕ) (xs : List ℕ) (b : Bool) → AreDownloads (assignment_written object xs b)
+assignment_down object xs false = tt
+assignment_down object xs true = (refl, count_down object xs)
+
+pub uploads_come_first : UploadsComeFirst
+uploads_come_first p = record {
+  first = uploads_of p;
+  then_downloads = downloads_of p;
+  all = sym (append_assoc (flat_map (λ index. pdo_read (pdo_at p.kind.outputs index)) p.outputs) (flat_map (λ index. pdo_read (pdo_at p.kind.inputs index)) p.inputs) (downloads_of p));
+  uploads = both_uploads (flat_map (λ index. pdo_read (pdo_at p.kind.outputs index)) p.outputs) (flat_map (λ index. pdo_read (pdo_at p.kind.inputs index)) p.inputs) (pdos_up p.kind.outputs p.outputs) (pdos_up p.kind.inputs p.inputs);
+  downloads = both_downloads (assignment_written output_assignment p.outputs (has_some p.kind.outputs)) (assignment_written input_assignment p.inputs (has_some p.kind.inputs))
+      (assignment_down output_assignment p.outputs (has_some p.kind.outputs)) (assignment_down input_assignment p.inputs (has_some p.kind.inputs));
+}
+
+-- ---- counters
+
+pub counters_run_to_seven : CountersRunToSeven
+counters_run_to_seven = record {
+  begins = λ r. refl;
+  rises = λ before r lt. omega (arith, lt);
+  again = λ before r e. omega (arith, e);
+  most = λ before r. omega arith;
+}
+
+-- ---- the end
+
+ended_by : (s : StartState) (p : Phase) → s.phase ≡ p → is_ended p ≡ true → (next_frame_by s p ≡ Ended) × (asked_by s p ≡ s) × (given_up_by s p ≡ s)
+ended_by s Idle is e = absurd (let f : false ≡ true = e in cc)
+ended_by s (Sent number) is e = absurd (let f : false ≡ true = e in cc)
+ended_by s Ready is e = (refl, refl, refl)
+ended_by s (Failed error) is e = (refl, refl, refl)
+
+no_frame : (p : Phase) (number : ℕ) → is_ended p ≡ true → p ≡ Sent number → ⊥
+no_frame p number e is = let f : is_ended (Sent number) ≡ true = subst (λ (q : Phase). is_ended q ≡ true) is e in absurd (let g : false ≡ true = f in cc)
+
+stays_taken : (s new : StartState) (payload : List ℕ) (b : Bool) → is_ended s.phase ≡ true → IsStartTaken s payload b new → new ≡ s
+stays_taken s new payload true e h = let o = h.only refl in absurd (no_frame s.phase o.number e o.sent)
+stays_taken s new payload false e h = h.foreign refl
+
+pub ended_stays : EndedStays
+ended_stays s e =
+    let h = ended_by s s.phase refl e in
+    record { next_is = h.0; next_leaves = h.1; give_up_leaves = h.2; take_leaves = λ payload b new t. stays_taken s new payload b e t }
+
+-- ---- polls
+
+few_polls : (s : StartState) (v : Verdict) → s.polls < most_polls → (judged s v).polls < most_polls
+few_polls s Next lt = omega arith
+few_polls s (Shows value) lt = omega arith
+few_polls s (Fails error) lt = lt
+few_polls s Again lt = elim (cases_Bool (s.polls + 1 == most_polls)) [
+  | inl t ↦ rw t lt
+  | inr f ↦ rw f (let ne = eqb-false (s.polls + 1) most_polls f in omega (arith, ne, lt))
+]
+
+last_poll : (s : StartState) → s.polls + 1 ≡ most_polls → (judged s Again).phase ≡ Failed (TooSlow s.place)
+last_poll s e = let t : (s.polls + 1 == most_polls) ≡ true = eq-eqb (s.polls + 1) most_polls e in rw t refl
+
+more_polls : (s : StartState) → s.polls + 1 < most_polls → (judged s Again).polls ≡ s.polls + 1
+more_polls s lt = let f : (s.polls + 1 == most_polls) ≡ false = ne_eqb (s.polls + 1) most_polls (λ e. omega (arith, e, lt)) in rw f refl
+
+pub polls_end : PollsEnd
+polls_end = record { few = few_polls; last = last_poll; more = more_polls }

@@ -1,0 +1,181 @@
+-- The step of a start-up and its place in the script.
+use Rattle.std.proofs.Common.{◌≡◌, ◌≢◌, ◌↔◌, ℕ, zero, suc, ◌+◌, ◌<◌, ◌≤◌, List, [], ◌∷◌, ◌++◌, length, drop, map, take, get_or, slice_get, Option, Some, None, Bool, true, false, nat_lt, refl, sym, ap, subst, ◌∙◌, arith}
+use Rattle.std.proofs.lemmas.Bool.{lt-ltb, le-ltb}
+use Rattle.std.specs.Int.{to_le_bytes, w64}
+use Rattle.ec_coe.specs.Objects.{has_some}
+use Rattle.ec_frame.specs.Datagram.{Datagram, IsDatagram, spelling}
+use Rattle.ec_frame.specs.Frame.{Payload, IsFrame}
+use Rattle.ec_frame.specs.declared.cursor.Span.{Span}
+use Rattle.ec_frame.proofs.Verdict.{one_payload}
+use Rattle.ec_regs.specs.declared.slave_type.Device.{Device}
+use Rattle.ec_link.specs.declared.settings.Settings.{Settings}
+use Rattle.ec_start.specs.declared.action.Action.{Action}
+use Rattle.ec_start.specs.declared.action.Action.TheVariants.{CountSlaves, AskInit, AwaitInit, ClearFmmus, ClearManagers, ClearStations, NameSlave, AskWord, AwaitWord, SetManager, SetFmmu, AskState, AwaitState, SendRequest, AwaitReply}
+use Rattle.ec_start.specs.declared.phase.Phase.{Phase}
+use Rattle.ec_start.specs.declared.phase.Phase.TheVariants.{Idle, Sent, Ready, Failed}
+use Rattle.ec_start.specs.declared.script.Step.{Step}
+use Rattle.ec_start.specs.Actions.{frame_of}
+use Rattle.ec_start.specs.Scripts.{script}
+use Rattle.ec_start.specs.Verdicts.{verdict}
+use Rattle.ec_start.specs.Running.{StartState, is_sent, is_ended, with_shown, action_of, type_of, judged, taken, shape, IsStartAnswer, IsOutstanding, IsStartTaken, second}
+use Rattle.ec_start.specs.Ahead.{opening, share_at, ahead, IsSettled}
+use Rattle.ec_start.specs.Answered.{answered, Answers, IsAnswerAt}
+use Rattle.ec_start.specs.Held.{first_step, IsAtStep}
+use Rattle.ec_start.proofs.Aheads.{ahead_here, script_ahead}
+
+-- ---- lists
+
+get_of_drop : {X : Type 0} (xs : List X) (k : ℕ) (x : X) (ys : List X) (d : X) → drop k xs ≡ x ∷ ys → get_or xs k d ≡ x
+get_of_drop [] zero x ys d e = absurd (let f : [] ≡ x ∷ ys = e in cc)
+get_of_drop [] (suc k) x ys d e = absurd (let f : [] ≡ x ∷ ys = e in cc)
+get_of_drop (z ∷ zs) zero x ys d e = let f : z ∷ zs ≡ x ∷ ys = e in cc
+get_of_drop (z ∷ zs) (suc k) x ys d e = get_of_drop zs k x ys d e
+
+rest_of_drop : {X : Type 0} (xs : List X) (k : ℕ) (x : X) (ys : List X) → drop k xs ≡ x ∷ ys → drop (k + 1) xs ≡ ys
+rest_of_drop [] zero x ys e = absurd (let f : [] ≡ x ∷ ys = e in cc)
+rest_of_drop [] (suc k) x ys e = absurd (let f : [] ≡ x ∷ ys = e in cc)
+rest_of_drop (z ∷ zs) zero x ys e = let f : z ∷ zs ≡ x ∷ ys = e in cc
+rest_of_drop (z ∷ zs) (suc k) x ys e = let n : suc k + 1 ≡ suc (k + 1) = omega arith in rw n (rest_of_drop zs k x ys e)
+
+some_of_drop : {X : Type 0} (xs : List X) (k : ℕ) (x : X) (ys : List X) → drop k xs ≡ x ∷ ys → k < length xs
+some_of_drop [] zero x ys e = absurd (let f : [] ≡ x ∷ ys = e in cc)
+some_of_drop [] (suc k) x ys e = absurd (let f : [] ≡ x ∷ ys = e in cc)
+some_of_drop (z ∷ zs) zero x ys e = omega arith
+some_of_drop (z ∷ zs) (suc k) x ys e = let h = some_of_drop zs k x ys e in omega (arith, h)
+
+none_of_drop : {X : Type 0} (xs : List X) (k : ℕ) → drop k xs ≡ [] → length xs ≤ k
+none_of_drop [] k e = omega arith
+none_of_drop (z ∷ zs) zero e = absurd (let f : z ∷ zs ≡ [] = e in cc)
+none_of_drop (z ∷ zs) (suc k) e = let h = none_of_drop zs k e in omega (arith, h)
+
+-- ---- the step
+
+first_here : (b : Bool) → slice_get (opening b) 0 ≡ Some CountSlaves
+first_here true = refl
+first_here false = refl
+
+pub begins : (ps : List Settings) → IsAtStep ps 0 first_step
+begins ps = record { ahead_is = sym (script_ahead ps); here = first_here (has_some ps); doable = tt; low = omega arith; small = omega arith }
+
+stands : (ps : List Settings) (place : ℕ) (s : Step) → IsAtStep ps place s → drop place (script ps) ≡ s.action ∷ ahead ps (record s.cursor { place = s.cursor.place + 1 })
+stands ps place s h = sym h.ahead_is ∙ ahead_here ps s.cursor s.action h.here
+
+pub action_is : (ps : List Settings) (place : ℕ) (s : Step) → IsAtStep ps place s → get_or (script ps) place CountSlaves ≡ s.action
+action_is ps place s h = get_of_drop (script ps) place s.action _ CountSlaves (stands ps place s h)
+
+pub record Advances (ps : List Settings) (place : ℕ) (s : Step) : Type 0 where
+  pub more : nat_lt (place + 1) (length (script ps)) ≡ true
+  pub at_step : IsAtStep ps (place + 1) s
+
+pub advances : (ps : List Settings) (place : ℕ) (s t : Step) → IsAtStep ps place s → IsSettled ps (record s.cursor { place = s.cursor.place + 1 }) t → Advances ps place t
+advances ps place s t h g =
+    let rest : drop (place + 1) (script ps) ≡ ahead ps (record s.cursor { place = s.cursor.place + 1 }) = rest_of_drop (script ps) place s.action _ (stands ps place s h) in
+    let there : drop (place + 1) (script ps) ≡ ahead ps t.cursor = rest ∙ g.same in
+    let lt = some_of_drop (script ps) (place + 1) t.action _ (there ∙ ahead_here ps t.cursor t.action g.here) in
+    let small = h.small in
+    let low = g.place in
+    record {
+      more = lt-ltb (place + 1) (length (script ps)) lt;
+      at_step = record { ahead_is = sym there; here = g.here; doable = g.doable; low = g.low; small = omega (arith, small, low) };
+    }
+
+pub ends : (ps : List Settings) (place : ℕ) (s : Step) → IsAtStep ps place s → ahead ps (record s.cursor { place = s.cursor.place + 1 }) ≡ [] → nat_lt (place + 1) (length (script ps)) ≡ false
+ends ps place s h e =
+    let rest : drop (place + 1) (script ps) ≡ ahead ps (record s.cursor { place = s.cursor.place + 1 }) = rest_of_drop (script ps) place s.action _ (stands ps place s h) in
+    le-ltb (place + 1) (length (script ps)) (none_of_drop (script ps) (place + 1) (rest ∙ e))
+
+pub sent_runs : (p : Phase) → is_sent p ≡ true → is_ended p ≡ false
+sent_runs Idle e = refl
+sent_runs (Sent number) e = refl
+sent_runs Ready e = absurd (let f : false ≡ true = e in cc)
+sent_runs (Failed error) e = absurd (let f : false ≡ true = e in cc)
+
+-- what a read shows, where another action isn't one
+pub shown_else : (s : StartState) (a : Action) (value : ℕ) → ((i which : ℕ) → a ≡ AwaitWord i which → ⊥) → with_shown s a value ≡ s.seen
+shown_else s CountSlaves value ne = refl
+shown_else s AskInit value ne = refl
+shown_else s AwaitInit value ne = refl
+shown_else s ClearFmmus value ne = refl
+shown_else s ClearManagers value ne = refl
+shown_else s ClearStations value ne = refl
+shown_else s (NameSlave i) value ne = refl
+shown_else s (AskWord i which) value ne = refl
+shown_else s (AwaitWord i which) value ne = absurd (ne i which refl)
+shown_else s (SetManager i k m) value ne = refl
+shown_else s (SetFmmu i k f) value ne = refl
+shown_else s (AskState i state) value ne = refl
+shown_else s (AwaitState i state) value ne = refl
+shown_else s (SendRequest i before b r) value ne = refl
+shown_else s (AwaitReply i b r) value ne = refl
+
+-- ---- what is taken
+
+-- a verdict looks at the counter and the data alone
+verdict_of : (n step : ℕ) (s : Device) (types : ℕ → Device) (a : Action) (d : Datagram) → verdict n step s types a (answered d.counter d.data_bytes) ≡ verdict n step s types a d
+verdict_of n step s types CountSlaves d = refl
+verdict_of n step s types AskInit d = refl
+verdict_of n step s types AwaitInit d = refl
+verdict_of n step s types ClearFmmus d = refl
+verdict_of n step s types ClearManagers d = refl
+verdict_of n step s types ClearStations d = refl
+verdict_of n step s types (NameSlave i) d = refl
+verdict_of n step s types (AskWord i which) d = refl
+verdict_of n step s types (AwaitWord i which) d = refl
+verdict_of n step s types (SetManager i k m) d = refl
+verdict_of n step s types (SetFmmu i k f) d = refl
+verdict_of n step s types (AskState i state) d = refl
+verdict_of n step s types (AwaitState i state) d = refl
+verdict_of n step s types (SendRequest i before b r) d = refl
+verdict_of n step s types (AwaitReply i b r) d = refl
+
+answer_of : (s : StartState) (a : Action) (number : ℕ) (ds : List Datagram) → action_of s ≡ a → Answers a number ds → IsStartAnswer s number ds
+answer_of s a number ds is h = record { shapes = h.shapes ∙ ap (λ (b : Action). map shape (frame_of b number)) (sym is); number_is = h.number_is }
+
+of_answer : (s : StartState) (a : Action) (number : ℕ) (ds : List Datagram) → action_of s ≡ a → IsStartAnswer s number ds → Answers a number ds
+of_answer s a number ds is h = record { shapes = h.shapes ∙ ap (λ (b : Action). map shape (frame_of b number)) is; number_is = h.number_is }
+
+pub take_foreign : (s : StartState) (payload : List ℕ) → ((number : ℕ) (p : Payload) → s.phase ≡ Sent number → IsFrame payload p → IsStartAnswer s number p.datagrams → ⊥) → IsStartTaken s payload false s
+take_foreign s payload none = record {
+  answers = λ number p at f. (λ e. absurd (let g : false ≡ true = e in cc), λ h. absurd (none number p at f h));
+  only = λ e. absurd (let g : false ≡ true = e in cc);
+  kept = λ p d e f g. absurd (let h : false ≡ true = e in cc);
+  foreign = λ e. refl;
+}
+
+-- where no frame is outstanding
+pub take_idle : (s : StartState) (payload : List ℕ) → ((number : ℕ) → s.phase ≡ Sent number → ⊥) → IsStartTaken s payload false s
+take_idle s payload none = take_foreign s payload (λ number p at f h. none number at)
+
+-- where the payload answers another frame, or none
+pub take_other : (s : StartState) (payload : List ℕ) (a : Action) (number : ℕ) → s.phase ≡ Sent number → action_of s ≡ a
+    → ((p : Payload) → IsFrame payload p → Answers a number p.datagrams → ⊥) → IsStartTaken s payload false s
+take_other s payload a number sent is none =
+    take_foreign s payload (λ n p at f h.
+    let e : Sent n ≡ Sent number = sym at ∙ sent in
+    let same : n ≡ number = cc in
+    none p f (of_answer s a number p.datagrams is (subst (λ (m : ℕ). IsStartAnswer s m p.datagrams) same h)))
+
+pub take_kept : (s new : StartState) (payload : List ℕ) (a : Action) (number : ℕ) (span : Span) (counter : ℕ) (bytes : List ℕ) (at : IsAnswerAt payload a number span)
+    → s.phase ≡ Sent number → action_of s ≡ a → counter ≡ at.datagram.counter → bytes ≡ at.datagram.data_bytes
+    → new ≡ judged s (verdict (length s.plan) s.place s.seen (type_of s.plan) a (answered counter bytes)) → IsStartTaken s payload true new
+take_kept s new payload a number span counter bytes at sent is count told e =
+    let answer : IsStartAnswer s number at.frame.datagrams = answer_of s a number at.frame.datagrams is at.answer in
+    record {
+      answers = λ n p here f.
+          let g : Sent number ≡ Sent n = sym sent ∙ here in
+          let same : number ≡ n = cc in
+          let one : at.frame ≡ p = one_payload payload at.frame p at.spelled f in
+          (λ x. subst (λ (m : ℕ). IsStartAnswer s m p.datagrams) same (subst (λ (q : Payload). IsStartAnswer s number q.datagrams) one answer), λ x. refl);
+      only = λ x. record { number = number; frame = at.frame; sent = sent; spelled = at.spelled; answer = answer };
+      kept = λ p d x f g.
+          let one : p ≡ at.frame = one_payload payload p at.frame f at.spelled in
+          let there : Some d ≡ Some at.datagram = sym g ∙ (ap (λ (q : Payload). second q.datagrams) one ∙ ap second at.both) in
+          let same : d ≡ at.datagram = cc in
+          e
+          ∙ (ap (λ (k : ℕ). judged s (verdict (length s.plan) s.place s.seen (type_of s.plan) a (answered k bytes))) count
+          ∙ (ap (λ (b : List ℕ). judged s (verdict (length s.plan) s.place s.seen (type_of s.plan) a (answered at.datagram.counter b))) told
+          ∙ (ap (judged s) (verdict_of (length s.plan) s.place s.seen (type_of s.plan) a at.datagram)
+          ∙ (ap (λ (b : Action). judged s (verdict (length s.plan) s.place s.seen (type_of s.plan) b at.datagram)) (sym is)
+          ∙ ap (λ (b : Datagram). judged s (verdict (length s.plan) s.place s.seen (type_of s.plan) (action_of s) b)) (sym same)))));
+      foreign = λ x. absurd (let g : true ≡ false = x in cc);
+    }

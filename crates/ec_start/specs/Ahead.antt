@@ -1,0 +1,134 @@
+-- A place in the script by stretch, slave and place, and the actions ahead of it. It serves private code and its proofs
+-- alone: what the script is stands in Scripts.
+use Rattle.std.specs.Prelude.{ℕ, ◌+◌, ◌*◌, ◌-◌, ◌≡◌, ◌≤◌, ◌==◌, ◌&&◌, not, List, [], ◌∷◌, ◌++◌, length, drop, Bool, true, false, if◌then◌else◌, nat_lt, slice_get, Option, Some, None, option_map}
+use Rattle.ec_al.specs.declared.state.State.TheVariants.{PreOp, SafeOp, Op}
+use Rattle.ec_link.specs.declared.settings.Settings.{Settings}
+use Rattle.ec_start.specs.declared.action.Action.{Action}
+use Rattle.ec_start.specs.declared.action.Action.TheVariants.{CountSlaves, SetManager, SetFmmu}
+use Rattle.ec_start.specs.declared.script.Stretch.{Stretch}
+use Rattle.ec_start.specs.declared.script.Stretch.TheVariants.{Opening, Naming, Identifying, Mailboxes, ToPreOp, Talking, Mapping, ToSafeOp, ToOp}
+use Rattle.ec_start.specs.declared.script.Cursor.{Cursor}
+use Rattle.ec_start.specs.declared.script.Step.{Step}
+use Rattle.ec_start.specs.Plans.{settings_at, fmmu_at}
+use Rattle.ec_start.specs.Scripts.{named, identified, mailbox_set, raised, talked, mapped, cleared, each_slave}
+use Rattle.ec_coe.specs.Objects.{has_some}
+use Rattle.ec_start.specs.Doable.{IsDoable}
+
+-- a slave's share of a stretch
+abbrev pub share : Stretch → ℕ → Settings → List Action
+share Opening = λ i p. []
+share Naming = named
+share Identifying = identified
+share Mailboxes = λ i p. mailbox_set i p p.kind.mailbox
+share ToPreOp = raised PreOp
+share Talking = λ i p. talked i p p.kind.mailbox
+share Mapping = mapped
+share ToSafeOp = raised SafeOp
+share ToOp = raised Op
+
+-- with no slaves, counting them is all
+abbrev pub opening : Bool → List Action
+opening false = CountSlaves ∷ []
+opening true = CountSlaves ∷ cleared
+
+abbrev pub share_of : (ℕ → Settings → List Action) → ℕ → Option Settings → List Action
+share_of f i None = []
+share_of f i (Some p) = f i p
+
+abbrev pub is_for_all : Stretch → Bool
+is_for_all Opening = true
+is_for_all Naming = false
+is_for_all Identifying = false
+is_for_all Mailboxes = false
+is_for_all ToPreOp = false
+is_for_all Talking = false
+is_for_all Mapping = false
+is_for_all ToSafeOp = false
+is_for_all ToOp = false
+
+abbrev pub share_at : Stretch → List Settings → ℕ → List Action
+share_at st ps i = if is_for_all st then opening (has_some ps) else share_of (share st) i (slice_get ps i)
+
+abbrev pub following : Stretch → Option Stretch
+following Opening = Some Naming
+following Naming = Some Identifying
+following Identifying = Some Mailboxes
+following Mailboxes = Some ToPreOp
+following ToPreOp = Some Talking
+following Talking = Some Mapping
+following Mapping = Some ToSafeOp
+following ToSafeOp = Some ToOp
+following ToOp = None
+
+-- a whole stretch, and all that are behind one
+abbrev pub whole : Stretch → List Settings → List Action
+whole st ps = each_slave (share st) 0 ps
+
+abbrev pub later : Stretch → List Settings → List Action
+later ToOp ps = []
+later ToSafeOp ps = whole ToOp ps
+later Mapping ps = whole ToSafeOp ps ++ whole ToOp ps
+later Talking ps = whole Mapping ps ++ (whole ToSafeOp ps ++ whole ToOp ps)
+later ToPreOp ps = whole Talking ps ++ (whole Mapping ps ++ (whole ToSafeOp ps ++ whole ToOp ps))
+later Mailboxes ps = whole ToPreOp ps ++ (whole Talking ps ++ (whole Mapping ps ++ (whole ToSafeOp ps ++ whole ToOp ps)))
+later Identifying ps = whole Mailboxes ps ++ (whole ToPreOp ps ++ (whole Talking ps ++ (whole Mapping ps ++ (whole ToSafeOp ps ++ whole ToOp ps))))
+later Naming ps = whole Identifying ps ++ (whole Mailboxes ps ++ (whole ToPreOp ps ++ (whole Talking ps ++ (whole Mapping ps ++ (whole ToSafeOp ps ++ whole ToOp ps)))))
+later Opening ps = whole Naming ps ++ (whole Identifying ps ++ (whole Mailboxes ps ++ (whole ToPreOp ps ++ (whole Talking ps ++ (whole Mapping ps ++ (whole ToSafeOp ps ++ whole ToOp ps))))))
+
+-- what is behind a slave's share, or behind the opening
+abbrev pub beyond : Stretch → List Settings → ℕ → List Action
+beyond st ps i = (if is_for_all st then [] else each_slave (share st) (i + 1) (drop (i + 1) ps)) ++ later st ps
+
+-- the actions ahead, from the one here on
+abbrev pub ahead : List Settings → Cursor → List Action
+ahead ps c = drop c.place (share_at c.stretch ps c.slave) ++ beyond c.stretch ps c.slave
+
+-- where the next share begins
+abbrev pub behind : ℕ → Cursor → Option Cursor
+behind n c =
+    if not (is_for_all c.stretch) && nat_lt (c.slave + 1) n then Some (record { stretch = c.stretch; slave = c.slave + 1; place = 0 })
+    else option_map (λ st. record { stretch = st; slave = 0; place = 0 }) (following c.stretch)
+
+-- how many shares are behind at most
+abbrev pub rank : Stretch → ℕ
+rank Opening = 8
+rank Naming = 7
+rank Identifying = 6
+rank Mailboxes = 5
+rank ToPreOp = 4
+rank Talking = 3
+rank Mapping = 2
+rank ToSafeOp = 1
+rank ToOp = 0
+
+abbrev pub shares_left : Cursor → ℕ
+shares_left c = 66 * rank c.stretch + (65 - c.slave)
+
+-- ---- the first step from a cursor on
+
+pub record IsSettled (ps : List Settings) (c : Cursor) (s : Step) : Type 0 where
+  pub same : ahead ps c ≡ ahead ps s.cursor
+  pub here : slice_get (share_at s.cursor.stretch ps s.cursor.slave) s.cursor.place ≡ Some s.action
+  pub doable : IsDoable s.action
+  pub low : s.cursor.slave ≤ 64
+  pub place : s.cursor.place ≤ c.place
+
+abbrev pub Settles : List Settings → Cursor → Option Step → Type 0
+Settles ps c None = ahead ps c ≡ []
+Settles ps c (Some s) = IsSettled ps c s
+
+-- ---- a share of actions that may be left out
+
+abbrev pub set_manager_of : ℕ → Settings → ℕ → Action
+set_manager_of i p n = SetManager i n (settings_at p.managers n)
+
+abbrev pub manager_chosen : ℕ → Settings → ℕ → Option Action
+manager_chosen i p n = if (settings_at p.managers n).activate == 0 then None else Some (set_manager_of i p n)
+
+abbrev pub fmmu_chosen : ℕ → Settings → ℕ → Option Action
+fmmu_chosen i p n = if (fmmu_at p.fmmus n).active then Some (SetFmmu i n (fmmu_at p.fmmus n)) else None
+
+abbrev pub somes : List (Option Action) → List Action
+somes [] = []
+somes (None ∷ xs) = somes xs
+somes (Some a ∷ xs) = a ∷ somes xs

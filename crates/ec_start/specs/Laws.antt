@@ -1,0 +1,72 @@
+-- What the definitions of this crate say together.
+use Rattle.std.specs.Prelude.{ℕ, ◌+◌, ◌<◌, ◌≤◌, ◌≡◌, List, [], ◌∷◌, ◌++◌, length, get_or, Bool, true, false}
+use Rattle.ec_link.specs.declared.settings.Settings.{Settings}
+use Rattle.ec_start.specs.declared.action.Transfer.{Transfer}
+use Rattle.ec_start.specs.declared.action.Transfer.TheVariants.{Download, Upload}
+use Rattle.ec_start.specs.declared.action.Request.{Request}
+use Rattle.ec_start.specs.declared.action.Action.TheVariants.{CountSlaves, AskWord, AwaitWord}
+use Rattle.ec_start.specs.declared.error.StartError.TheVariants.{TooSlow}
+use Rattle.ec_start.specs.declared.verdict.Verdict.{Verdict}
+use Rattle.ec_start.specs.declared.verdict.Verdict.TheVariants.{Again}
+use Rattle.ec_start.specs.declared.phase.Phase.TheVariants.{Failed}
+use Rattle.ec_start.specs.declared.phase.NextFrame.TheVariants.{Ended}
+use Rattle.ec_start.specs.Actions.{request_message}
+use Rattle.ec_start.specs.Scripts.{script, requests}
+use Rattle.ec_start.specs.Running.{StartState, is_ended, asked, next_frame, judged, given_up, most_polls, IsStartTaken}
+use Rattle.ec_start.specs.ThreeSlaves.{three_slaves}
+
+-- ---- the script
+
+-- Of the three slaves of the example the script has 75 actions, and step 10 is the first wait for slave 0's SII.
+pub record IsScriptOfThree : Type 0 where
+  pub steps : length (script three_slaves) ≡ 75
+  pub ninth : get_or (script three_slaves) 9 CountSlaves ≡ AskWord 0 0
+  pub tenth : get_or (script three_slaves) 10 CountSlaves ≡ AwaitWord 0 0
+
+abbrev pub is_upload : Transfer → Bool
+is_upload (Upload value) = true
+is_upload (Download value) = false
+
+abbrev pub AreUploads : List Request → Type 0
+AreUploads [] = Unit {0}
+AreUploads (r ∷ rs) = (is_upload r.transfer ≡ true) × AreUploads rs
+
+abbrev pub AreDownloads : List Request → Type 0
+AreDownloads [] = Unit {0}
+AreDownloads (r ∷ rs) = (is_upload r.transfer ≡ false) × AreDownloads rs
+
+pub record IsUploadsFirst (rs : List Request) : Type 0 where
+  pub first : List Request
+  pub then_downloads : List Request
+  pub all : rs ≡ first ++ then_downloads
+  pub uploads : AreUploads first
+  pub downloads : AreDownloads then_downloads
+
+-- A slave's mappings are read back before anything is written.
+abbrev pub UploadsComeFirst : Type 0
+UploadsComeFirst = (p : Settings) → IsUploadsFirst (requests p)
+
+-- The mailbox counter begins at 1, goes up by 1, and after 7 begins again.
+pub record CountersRunToSeven : Type 0 where
+  pub begins : (r : Request) → (request_message 0 r).counter ≡ 1
+  pub rises : (before : ℕ) (r : Request) → (request_message before r).counter < 7 → (request_message (before + 1) r).counter ≡ (request_message before r).counter + 1
+  pub again : (before : ℕ) (r : Request) → (request_message before r).counter ≡ 7 → (request_message (before + 1) r).counter ≡ 1
+  pub most : (before : ℕ) (r : Request) → (request_message before r).counter ≤ 7
+
+-- ---- a start-up as it runs
+
+-- Whatever is called, an ended start-up stays as it is.
+pub record StaysEnded (s : StartState) : Type 0 where
+  pub next_is : next_frame s ≡ Ended
+  pub next_leaves : asked s ≡ s
+  pub give_up_leaves : given_up s ≡ s
+  pub take_leaves : (payload : List ℕ) (is_kept : Bool) (new : StartState) → IsStartTaken s payload is_kept new → new ≡ s
+
+abbrev pub EndedStays : Type 0
+EndedStays = (s : StartState) → is_ended s.phase ≡ true → StaysEnded s
+
+-- A wait is polled at most 1000 times: the last of these polls ends the start-up.
+pub record PollsEnd : Type 0 where
+  pub few : (s : StartState) (v : Verdict) → s.polls < most_polls → (judged s v).polls < most_polls
+  pub last : (s : StartState) → s.polls + 1 ≡ most_polls → (judged s Again).phase ≡ Failed (TooSlow s.place)
+  pub more : (s : StartState) → s.polls + 1 < most_polls → (judged s Again).polls ≡ s.polls + 1

@@ -1,0 +1,83 @@
+//! Whether a payload answers the outstanding frame.
+
+ghost use Rattle.std.specs.Prelude.{◌≡◌, ◌↔◌, Bool, true, length, take, MatchOption};
+ghost use Rattle.std.specs.Int.{to_le_bytes, w64};
+ghost use Rattle.ec_frame.specs.Datagram.{Datagram, IsDatagram, IsSpelling, spelling};
+ghost use Rattle.ec_frame.specs.Frame.{Payload, IsFrame};
+ghost use Rattle.ec_start.specs.Doable.{IsDoable};
+ghost use Rattle.ec_start.specs.Running.{shape};
+ghost use Rattle.ec_start.specs.Answered.{Answers, IsAnswerAt};
+
+use crate::action::Action;
+use ec_frame::{Command, Header, Places, Span, check, read_data};
+
+/// How many datagrams a frame of a start-up has: the one that names it, and the action's.
+const DATAGRAMS: usize = 2;
+
+/// How many bytes name a frame: its number, and part 0.
+const NAME_LENGTH: usize = 10;
+
+/// Whether a datagram has this command, this index and so many bytes of data.
+fn has_shape(part: &[u8], command: Command, index: u8, bytes: usize) -> bool
+    requires { IsSpelling part.now }
+    ensures { (more : Bool) (d : Datagram) → IsDatagram d → part.now ≡ spelling more d
+        → (result ≡ true) ↔ (shape d ≡ record { command = command; index = index; bytes = bytes }) }
+{
+    let header = Header::read(part);
+    header.command == command && header.index == index && header.data_length as usize == bytes
+}
+
+/// Whether the data of a datagram begin with a number.
+fn tells(part: &[u8], number: u64) -> bool
+    requires { IsSpelling part.now }
+    ensures { (more : Bool) (d : Datagram) → IsDatagram d → part.now ≡ spelling more d
+        → (result ≡ true) ↔ (take 8 d.data_bytes ≡ to_le_bytes w64 number) }
+{
+    let data = read_data(part);
+    let bytes = number.to_le_bytes();
+    data.len() >= 8 && &data[..8] == bytes.as_slice()
+}
+
+/// Whether a payload is a frame of two datagrams.
+fn is_pair(payload: &[u8]) -> bool
+    ensures { (result ≡ true) ↔ ((p : Payload) × IsFrame payload.now p × (length p.datagrams ≡ 2)) }
+{
+    match check(payload) {
+        Ok(count) => count == DATAGRAMS,
+        Err(_) => false,
+    }
+}
+
+/// Where the datagram stands that answers an action, in a payload that answers the action's frame of this number.
+pub fn answer_in(payload: &[u8], action: &Action, number: u64) -> Option<Span>
+    requires { IsDoable action.now }
+    ensures { MatchOption result
+        ((p : Payload) → IsFrame payload.now p → Answers action.now number p.datagrams → ⊥)
+        (λ span. IsAnswerAt payload.now action.now number span) }
+{
+    let has_two = is_pair(payload);
+    if !has_two {
+        return None;
+    }
+    let mut places = Places::new(payload);
+    let name = places.next(payload)?;
+    let answer = places.next(payload)?;
+    let command = action.command();
+    let bytes = action.data_length();
+    let index = (number % 256) as u8;
+    let first = &payload[name.from..name.to];
+    let second = &payload[answer.from..answer.to];
+    let is_named = has_shape(first, Command::Nop, index, NAME_LENGTH);
+    let is_numbered = tells(first, number);
+    let is_answer = has_shape(second, command, index, bytes);
+    if !is_named {
+        return None;
+    }
+    if !is_numbered {
+        return None;
+    }
+    if !is_answer {
+        return None;
+    }
+    Some(answer)
+}

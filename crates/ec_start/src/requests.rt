@@ -1,0 +1,146 @@
+//! The SDO requests of a start-up to one slave, each found by its place: none of them is stored.
+
+ghost use Rattle.std.specs.Prelude.{◌≡◌, ◌≤◌, ◌<◌, length, All, Some, slice_get};
+ghost use Rattle.std.specs.List.{flat_map};
+ghost use Rattle.std.specs.Option.{option_copied};
+ghost use Rattle.ec_regs.specs.Types.{pdo_bits};
+ghost use Rattle.ec_regs.specs.Objects.{pdo_at};
+ghost use Rattle.ec_coe.specs.Objects.{entry_number as number_of_entry};
+ghost use Rattle.ec_start.specs.Scripts.{pdo_read, assignment_written, requests};
+ghost use Rattle.ec_start.specs.Planned.{HasFewAssigned};
+ghost use Rattle.ec_start.specs.Seeking.{seek, uploads_of, downloads_of};
+
+use crate::action::Request;
+use ec_coe::{INPUT_ASSIGNMENT, OUTPUT_ASSIGNMENT, Value};
+use ec_link::Settings;
+use ec_regs::{Entry, Pdo};
+
+/// What a place is in a run of requests.
+#[derive(Clone, Copy, Debug, PartialEq, Eq)]
+pub enum Seek {
+    /// The place of this request.
+    Found(Request),
+    /// So many places past the run.
+    Past(usize),
+}
+
+/// The number of an entry in a mapping object.
+fn entry_number(entry: &Entry) -> u32
+    ensures { result ≡ number_of_entry entry.now }
+{
+    0x1_0000 * entry.index as u32 + 0x100 * entry.subindex as u32 + entry.bits as u32
+}
+
+fn find_pdo(pdos: &[Pdo], index: u16) -> Option<&Pdo>
+    ensures { option_copied result ≡ pdo_at pdos.now index }
+{
+    pdos.iter().find(|pdo| pdo.index == index)
+}
+
+/// The upload with a place among those of one PDO: how many entries it has, and each of them.
+fn pdo_upload(pdo: &Pdo, place: usize) -> Seek
+    requires { length pdo.now.entries ≤ 64 }
+    ensures { result ≡ seek (pdo_read (Some pdo.now)) place }
+{
+    let entries = pdo.entries.as_slice();
+    if place == 0 {
+        let count = Value::byte(entries.len() as u8);
+        return Seek::Found(Request::upload(pdo.index, 0, count));
+    }
+    if place <= entries.len() {
+        let entry = Value::long(entry_number(&entries[place - 1]));
+        return Seek::Found(Request::upload(pdo.index, place as u8, entry));
+    }
+    Seek::Past(place - 1 - entries.len())
+}
+
+/// The upload with a place among those of the PDO with an index.
+fn upload_at(pdos: &[Pdo], index: u16, place: usize) -> Seek
+    requires { All (λ p. (length p.entries ≤ 64) × (pdo_bits p ≤ 4096)) pdos.now }
+    ensures { result ≡ seek (pdo_read (pdo_at pdos.now index)) place }
+{
+    match find_pdo(pdos, index) {
+        Some(pdo) => pdo_upload(pdo, place),
+        None => Seek::Past(place),
+    }
+}
+
+/// The upload with a place among those of the PDOs with these indices.
+fn uploads_at(pdos: &[Pdo], indices: &[u16], place: usize) -> Seek
+    requires { All (λ p. (length p.entries ≤ 64) × (pdo_bits p ≤ 4096)) pdos.now }
+    ensures { result ≡ seek (flat_map (λ index. pdo_read (pdo_at pdos.now index)) indices.now) place }
+{
+    let mut left = place;
+    for index in indices {
+        match upload_at(pdos, *index, left) {
+            Seek::Found(request) => return Seek::Found(request),
+            Seek::Past(past) => left = past,
+        }
+    }
+    Seek::Past(left)
+}
+
+/// The download with a place among those of one assignment object: count 0, each index, the count.
+fn downloads_at(object: u16, indices: &[u16], has_pdos: bool, place: usize) -> Seek
+    requires { length indices.now < 256 }
+    ensures { result ≡ seek (assignment_written object indices.now has_pdos) place }
+{
+    let count = indices.len();
+    if !has_pdos {
+        return Seek::Past(place);
+    }
+    if place == 0 {
+        return Seek::Found(Request::download(object, 0, Value::byte(0)));
+    }
+    if count == 0 {
+        return Seek::Past(place - 1);
+    }
+    if place <= count {
+        let slot = Value::word(indices[place - 1]);
+        return Seek::Found(Request::download(object, place as u8, slot));
+    }
+    if place == count + 1 {
+        return Seek::Found(Request::download(object, 0, Value::byte(count as u8)));
+    }
+    Seek::Past(place - 2 - count)
+}
+
+/// The upload with a place among all of a slave.
+fn upload_in(settings: &Settings, place: usize) -> Seek
+    ensures { result ≡ seek (uploads_of settings.now) place }
+{
+    let kind = &settings.kind;
+    match uploads_at(kind.outputs(), settings.outputs.as_slice(), place) {
+        Seek::Found(request) => Seek::Found(request),
+        Seek::Past(past) => uploads_at(kind.inputs(), settings.inputs.as_slice(), past),
+    }
+}
+
+/// The download with a place among all of a slave.
+fn download_in(settings: &Settings, place: usize) -> Seek
+    requires { HasFewAssigned settings.now }
+    ensures { result ≡ seek (downloads_of settings.now) place }
+{
+    let has_outputs = !settings.kind.outputs().is_empty();
+    let has_inputs = !settings.kind.inputs().is_empty();
+    let outputs = settings.outputs.as_slice();
+    let inputs = settings.inputs.as_slice();
+    match downloads_at(OUTPUT_ASSIGNMENT, outputs, has_outputs, place) {
+        Seek::Found(request) => Seek::Found(request),
+        Seek::Past(past) => downloads_at(INPUT_ASSIGNMENT, inputs, has_inputs, past),
+    }
+}
+
+/// The request with a place among all of a slave.
+pub fn request_at(settings: &Settings, place: usize) -> Option<Request>
+    requires { HasFewAssigned settings.now }
+    ensures { result ≡ slice_get (requests settings.now) place }
+{
+    match upload_in(settings, place) {
+        Seek::Found(request) => Some(request),
+        Seek::Past(past) => match download_in(settings, past) {
+            Seek::Found(request) => Some(request),
+            Seek::Past(_) => None,
+        },
+    }
+}

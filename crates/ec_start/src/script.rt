@@ -1,0 +1,331 @@
+//! Where a start-up is in its script: no step of it is stored.
+
+ghost use Rattle.std.specs.Prelude.{◌≡◌, ◌≤◌, ◌<◌, Bool, length, All, Option, Some, None, IfSome, slice_get, slice_index};
+ghost use Rattle.ec_start.specs.Planned.{HasFewAssigned};
+ghost use Rattle.ec_start.specs.Plans.{settings_at, fmmu_at};
+ghost use Rattle.ec_start.specs.Scripts.{named, identified, mailbox_set, raised, talked, mapped};
+ghost use Rattle.ec_start.specs.Doable.{IsDoable};
+ghost use Rattle.ec_start.specs.Ahead.{share, opening, share_at, is_for_all, following, behind, set_manager_of, manager_chosen, fmmu_chosen, somes, Settles};
+
+use crate::action::Action;
+use crate::requests::request_at;
+use ec_al::State;
+use ec_link::Settings;
+
+/// A run of actions for each slave, slave after slave; the opening is for all slaves at once.
+#[derive(Clone, Copy, Debug, PartialEq, Eq)]
+pub enum Stretch {
+    /// The slaves are counted, asked for INIT and cleared.
+    Opening,
+    /// Each gets its station address.
+    Naming,
+    /// Each shows what it is.
+    Identifying,
+    /// Mailboxes are set.
+    Mailboxes,
+    /// Each is led to PREOP.
+    ToPreOp,
+    /// Mappings are read back, and assignments written.
+    Talking,
+    /// Process data managers and FMMUs are set.
+    Mapping,
+    /// Each is led to SAFEOP.
+    ToSafeOp,
+    /// Each is led to OP.
+    ToOp,
+}
+
+/// A place in the script.
+#[derive(Clone, Copy, Debug, PartialEq, Eq)]
+pub struct Cursor {
+    /// The stretch.
+    pub stretch: Stretch,
+    /// The slave, counted from 0; 0 in the opening.
+    pub slave: usize,
+    /// The place in the slave's share of the stretch, or in the opening.
+    pub place: usize,
+}
+
+/// A step of the script: where it is, and its action.
+#[derive(Clone, Copy, Debug, PartialEq, Eq)]
+pub struct Step {
+    pub cursor: Cursor,
+    pub action: Action,
+}
+
+/// The action with a place in the opening.
+fn opening_action(has_slaves: bool, place: usize) -> Option<Action>
+    ensures value { result ≡ slice_get (opening has_slaves) place }
+    ensures doable { IfSome result IsDoable }
+{
+    match place {
+        0 => Some(Action::CountSlaves),
+        1 if has_slaves => Some(Action::AskInit),
+        2 if has_slaves => Some(Action::AwaitInit),
+        3 if has_slaves => Some(Action::ClearFmmus),
+        4 if has_slaves => Some(Action::ClearManagers),
+        5 if has_slaves => Some(Action::ClearStations),
+        _ => None,
+    }
+}
+
+fn naming(slave: usize, settings: &Settings, place: usize) -> Option<Action>
+    requires { slave < 64 }
+    ensures value { result ≡ slice_get (named slave settings.now) place }
+    ensures doable { IfSome result IsDoable }
+{
+    match place {
+        0 => Some(Action::NameSlave { slave }),
+        _ => None,
+    }
+}
+
+fn identifying(slave: usize, settings: &Settings, place: usize) -> Option<Action>
+    requires { slave < 64 }
+    ensures value { result ≡ slice_get (identified slave settings.now) place }
+    ensures doable { IfSome result IsDoable }
+{
+    match place {
+        0 => Some(Action::AskWord { slave, which: 0 }),
+        1 => Some(Action::AwaitWord { slave, which: 0 }),
+        2 => Some(Action::AskWord { slave, which: 1 }),
+        3 => Some(Action::AwaitWord { slave, which: 1 }),
+        4 => Some(Action::AskWord { slave, which: 2 }),
+        5 => Some(Action::AwaitWord { slave, which: 2 }),
+        _ => None,
+    }
+}
+
+fn raising(state: State, slave: usize, settings: &Settings, place: usize) -> Option<Action>
+    requires { slave < 64 }
+    ensures value { result ≡ slice_get (raised state slave settings.now) place }
+    ensures doable { IfSome result IsDoable }
+{
+    match place {
+        0 => Some(Action::AskState { slave, state }),
+        1 => Some(Action::AwaitState { slave, state }),
+        _ => None,
+    }
+}
+
+/// Sets one of the managers that the plan has of a slave.
+fn set_manager(slave: usize, settings: &Settings, number: usize) -> Action
+    requires low { slave < 64 }
+    requires there { number < 4 }
+    ensures value { result ≡ set_manager_of slave settings.now number }
+    ensures doable { IsDoable result }
+{
+    Action::SetManager {
+        slave,
+        number,
+        settings: settings.managers[number],
+    }
+}
+
+fn setting_mailboxes(slave: usize, settings: &Settings, place: usize) -> Option<Action>
+    requires { slave < 64 }
+    ensures value { result ≡ slice_get (mailbox_set slave settings.now settings.now.kind.mailbox) place }
+    ensures doable { IfSome result IsDoable }
+{
+    if settings.kind.mailbox().is_none() {
+        return None;
+    }
+    match place {
+        0 => Some(set_manager(slave, settings, 0)),
+        1 => Some(set_manager(slave, settings, 1)),
+        _ => None,
+    }
+}
+
+/// The requests of a slave, each with the wait for its reply.
+fn talking(slave: usize, settings: &Settings, place: usize) -> Option<Action>
+    requires low { slave < 64 }
+    requires few { HasFewAssigned settings.now }
+    ensures value { result ≡ slice_get (talked slave settings.now settings.now.kind.mailbox) place }
+    ensures doable { IfSome result IsDoable }
+{
+    let mailbox = settings.kind.mailbox()?;
+    let before = place / 2;
+    let request = request_at(settings, before)?;
+    Some(if place % 2 == 0 {
+        Action::SendRequest {
+            slave,
+            before,
+            mailbox,
+            request,
+        }
+    } else {
+        Action::AwaitReply {
+            slave,
+            mailbox,
+            request,
+        }
+    })
+}
+
+fn manager_chosen(slave: usize, settings: &Settings, number: usize) -> Option<Action>
+    requires low { slave < 64 }
+    requires there { number < 4 }
+    ensures value { result ≡ manager_chosen slave settings.now number }
+    ensures doable { IfSome result IsDoable }
+{
+    if settings.managers[number].activate == 0 {
+        None
+    } else {
+        Some(set_manager(slave, settings, number))
+    }
+}
+
+fn fmmu_chosen(slave: usize, settings: &Settings, number: usize) -> Option<Action>
+    requires low { slave < 64 }
+    requires there { number < 4 }
+    ensures value { result ≡ fmmu_chosen slave settings.now number }
+    ensures doable { IfSome result IsDoable }
+{
+    let fmmu = settings.fmmus[number];
+    if fmmu.active {
+        Some(Action::SetFmmu {
+            slave,
+            number,
+            settings: fmmu,
+        })
+    } else {
+        None
+    }
+}
+
+/// The one with a place among the actions that are there.
+fn chosen_at(choices: &[Option<Action>], place: usize) -> Option<Action>
+    requires { All (λ a. IfSome a IsDoable) choices.now }
+    ensures value { result ≡ slice_get (somes choices.now) place }
+    ensures doable { IfSome result IsDoable }
+{
+    let mut left = place;
+    for choice in choices {
+        if choice.is_some() {
+            if left == 0 {
+                return *choice;
+            }
+            left -= 1;
+        }
+    }
+    None
+}
+
+fn mapping(slave: usize, settings: &Settings, place: usize) -> Option<Action>
+    requires { slave < 64 }
+    ensures value { result ≡ slice_get (mapped slave settings.now) place }
+    ensures doable { IfSome result IsDoable }
+{
+    let choices = [
+        manager_chosen(slave, settings, 2),
+        manager_chosen(slave, settings, 3),
+        fmmu_chosen(slave, settings, 0),
+        fmmu_chosen(slave, settings, 1),
+    ];
+    chosen_at(&choices, place)
+}
+
+impl Stretch {
+    /// Whether it is for all slaves at once.
+    fn is_for_all(self) -> bool
+        ensures { result ≡ is_for_all self }
+    {
+        match self {
+            Stretch::Opening => true,
+            _ => false,
+        }
+    }
+
+    /// The stretch behind it.
+    fn following(self) -> Option<Stretch>
+        ensures { result ≡ following self }
+    {
+        Some(match self {
+            Stretch::Opening => Stretch::Naming,
+            Stretch::Naming => Stretch::Identifying,
+            Stretch::Identifying => Stretch::Mailboxes,
+            Stretch::Mailboxes => Stretch::ToPreOp,
+            Stretch::ToPreOp => Stretch::Talking,
+            Stretch::Talking => Stretch::Mapping,
+            Stretch::Mapping => Stretch::ToSafeOp,
+            Stretch::ToSafeOp => Stretch::ToOp,
+            Stretch::ToOp => return None,
+        })
+    }
+
+    /// The action with a place in a slave's share.
+    fn action_in(self, slave: usize, settings: &Settings, place: usize) -> Option<Action>
+        requires low { slave < 64 }
+        requires few { HasFewAssigned settings.now }
+        ensures value { result ≡ slice_get (share self slave settings.now) place }
+        ensures doable { IfSome result IsDoable }
+    {
+        match self {
+            Stretch::Opening => None,
+            Stretch::Naming => naming(slave, settings, place),
+            Stretch::Identifying => identifying(slave, settings, place),
+            Stretch::Mailboxes => setting_mailboxes(slave, settings, place),
+            Stretch::ToPreOp => raising(State::PreOp, slave, settings, place),
+            Stretch::Talking => talking(slave, settings, place),
+            Stretch::Mapping => mapping(slave, settings, place),
+            Stretch::ToSafeOp => raising(State::SafeOp, slave, settings, place),
+            Stretch::ToOp => raising(State::Op, slave, settings, place),
+        }
+    }
+}
+
+impl Cursor {
+    /// The action here, none past the end of the slave's share.
+    fn action(self, slaves: &[Settings]) -> Option<Action>
+        requires few { length slaves.now ≤ 64 }
+        requires assigned { All HasFewAssigned slaves.now }
+        ensures value { result ≡ slice_get (share_at self.stretch slaves.now self.slave) self.place }
+        ensures doable { IfSome result IsDoable }
+    {
+        if self.stretch.is_for_all() {
+            return opening_action(!slaves.is_empty(), self.place);
+        }
+        if self.slave >= slaves.len() {
+            return None;
+        }
+        self.stretch
+            .action_in(self.slave, &slaves[self.slave], self.place)
+    }
+
+    /// Where the share behind this one begins.
+    fn behind(self, count: usize) -> Option<Cursor>
+        requires { self.slave ≤ 64 }
+        ensures { result ≡ behind count self }
+    {
+        if !self.stretch.is_for_all() && self.slave + 1 < count {
+            return Some(Cursor {
+                stretch: self.stretch,
+                slave: self.slave + 1,
+                place: 0,
+            });
+        }
+        Some(Cursor {
+            stretch: self.stretch.following()?,
+            slave: 0,
+            place: 0,
+        })
+    }
+
+    /// The first step from here on, which may be some shares behind; none at the script's end.
+    pub fn settle(self, slaves: &[Settings]) -> Option<Step>
+        requires few { length slaves.now ≤ 64 }
+        requires assigned { All HasFewAssigned slaves.now }
+        requires low { self.slave ≤ 64 }
+        ensures { Settles slaves.now self result }
+    {
+        let mut cursor = self;
+        loop {
+            let found = cursor.action(slaves);
+            if let Some(action) = found {
+                return Some(Step { cursor, action });
+            }
+            cursor = cursor.behind(slaves.len())?;
+        }
+    }
+}

@@ -1,0 +1,325 @@
+//! A start-up as it runs.
+
+ghost use Rattle.std.specs.Prelude.{◌≡◌, ◌≢◌, ◌++◌, ◌≤◌, ◌<◌, ◌+◌, true, false, ◌↔◌, length, All, IfOk, IsTrue};
+ghost use Rattle.std.specs.Int.{to_le_bytes, w16, w64};
+ghost use Rattle.ec_frame.specs.Building.{bare_payload};
+ghost use Rattle.ec_frame.specs.Frame.{IsFrame};
+ghost use Rattle.ec_start.specs.declared.verdict.Verdict.TheVariants.{Again};
+ghost use Rattle.ec_start.specs.Held.{first_step};
+ghost use Rattle.ec_start.specs.declared.phase.NextFrame.TheVariants.{Send};
+ghost use Rattle.ec_start.specs.Actions.{frame_of};
+ghost use Rattle.ec_start.specs.Planned.{HasFewAssigned};
+ghost use Rattle.ec_start.specs.Doable.{IsDoable};
+ghost use Rattle.ec_start.specs.Running.{begun, action_of, has_failed, asked, next_frame, IsStartTaken, is_kept, advanced, judged, given_up, restarted, outcome_of, is_sent, with_shown};
+
+use crate::action::{Action, MAX_DATA};
+use crate::answer::answer_in;
+use crate::error::StartError;
+use crate::phase::{NextFrame, Phase, Taken};
+use crate::script::{Cursor, Step, Stretch};
+use crate::verdict::{Verdict, nothing_seen, verdict_on, with_word};
+use ec_frame::{Builder, Command, Frame, read_counter, read_data};
+use ec_link::{Plan, Settings};
+use ec_regs::{Device, Listed};
+use std::alloc::{AllocError, Global};
+use std::marker::Model;
+
+/// How often a wait is tried.
+const MOST_POLLS: u16 = 1000;
+
+/// A start-up of a segment by init commands (ETG.1000.6, "AL state machine"), one frame at a time: `next` writes a frame, which
+/// is then outstanding until `take` keeps its answer. It ends Ready, with all slaves in OP, or by a failure.
+#[derive(Drop)]
+pub struct Startup {
+    slaves: Listed<Settings>,
+    next: u64,
+    place: usize,
+    polls: u16,
+    seen: Device,
+    phase: Phase,
+    // where it is in the script, which is not stored
+    step: Step,
+}
+
+impl Model for Startup {
+    ghost use Rattle.ec_start.specs.Running.{StartState};
+    ghost use Rattle.ec_start.specs.Held.{IsHeld};
+
+    ghost Value = { StartState };
+
+    ghost view = { λ s. record {
+      plan = s.slaves;
+      next = s.next;
+      place = s.place;
+      polls = s.polls;
+      seen = s.seen;
+      phase = s.phase;
+    } };
+
+    ghost invariant = { λ s. IsHeld s.slaves s.next s.place s.polls s.phase s.step };
+}
+
+/// The first step of each script.
+fn first_step() -> Step
+    ensures { result ≡ first_step }
+{
+    Step {
+        cursor: Cursor {
+            stretch: Stretch::Opening,
+            slave: 0,
+            place: 0,
+        },
+        action: Action::CountSlaves,
+    }
+}
+
+/// Whether each slot of a slave's assignments has a subindex of one byte.
+fn has_few_assigned(settings: &Settings) -> bool
+    ensures { IsTrue result ↔ HasFewAssigned settings.now }
+{
+    settings.outputs.len() < 256 && settings.inputs.len() < 256
+}
+
+/// A copy of a slave's settings.
+fn copied(alloc: Global, settings: &Settings) -> Result<Settings, AllocError>
+    ensures { IfOk result (λ x. x ≡ settings.now) }
+{
+    Ok(Settings {
+        kind: settings.kind.copied(alloc)?,
+        outputs: Listed::copied(alloc, settings.outputs.as_slice())?,
+        inputs: Listed::copied(alloc, settings.inputs.as_slice())?,
+        managers: settings.managers,
+        fmmus: settings.fmmus,
+        from: settings.from,
+        share: settings.share,
+    })
+}
+
+/// A copy of the settings of all slaves.
+fn copied_all(alloc: Global, slaves: &[Settings]) -> Result<Listed<Settings>, AllocError>
+    ensures { IfOk result (λ xs. xs ≡ slaves.now) }
+{
+    let mut all = Listed::new(alloc);
+    for settings in slaves {
+        all.push(copied(alloc, settings)?)?;
+    }
+    Ok(all)
+}
+
+/// What names a frame: its number, and part 0.
+fn name_of(number: u64) -> [u8; 10]
+    ensures { result ≡ to_le_bytes w64 number ++ to_le_bytes w16 0 }
+{
+    let [a, b, c, d, e, f, g, h] = number.to_le_bytes();
+    [a, b, c, d, e, f, g, h, 0, 0]
+}
+
+/// The frame of an action with a number: the datagram that names it, and the action's.
+fn frame_of(action: &Action, number: u64) -> Frame
+    requires { IsDoable action.now }
+    ensures { IsFrame result.items (bare_payload (frame_of action.now number)) }
+{
+    let index = (number % 256) as u8;
+    let mut builder = Builder::new();
+    let _ = builder.add(Command::Nop, index, 0, &name_of(number));
+    let mut buffer = [0; MAX_DATA];
+    let data = &mut buffer[..action.data_length()];
+    action.write_data(data);
+    let _ = builder.add(action.command(), index, action.address(), data);
+    builder.finish()
+}
+
+impl Startup {
+    /// Whether `new` takes a plan: at most 255 PDOs are assigned in a direction. It takes each that the link compiler makes.
+    pub fn can_start(plan: &Plan) -> bool
+        ensures { IsTrue result ↔ All HasFewAssigned plan.now.slaves }
+    {
+        plan.slaves()
+            .iter()
+            .all(|settings| has_few_assigned(settings))
+    }
+
+    /// A start-up of a plan whose first frame has this number. It copies what it needs of the plan; no later call takes memory.
+    ///
+    /// # Errors
+    ///
+    /// `AllocError` where there is no memory.
+    #[tactic(auto, unfolding(crate::specs::Running::begun))]
+    pub fn new(alloc: Global, plan: &Plan, from_number: u64) -> Result<Startup, AllocError>
+        requires { All HasFewAssigned plan.now.slaves }
+        ensures { IfOk result (λ s. s ≡ begun plan.now.slaves from_number) }
+    {
+        let slaves = copied_all(alloc, plan.slaves())?;
+        Ok(Startup {
+            slaves,
+            next: from_number,
+            place: 0,
+            polls: 0,
+            seen: nothing_seen(),
+            phase: Phase::Idle,
+            step: first_step(),
+        })
+    }
+
+    /// Where it stands.
+    pub fn phase(&self) -> Phase
+        ensures { result ≡ self.now.phase }
+    {
+        self.phase
+    }
+
+    /// Whether it failed, and may begin anew.
+    pub fn has_failed(&self) -> bool
+        ensures { result ≡ has_failed self.now.phase }
+    {
+        match self.phase {
+            Phase::Failed(_) => true,
+            _ => false,
+        }
+    }
+
+    /// How it ended, if it has.
+    pub fn outcome(&self) -> Option<Result<(), StartError>>
+        ensures { result ≡ outcome_of self.now.phase }
+    {
+        match self.phase {
+            Phase::Idle | Phase::Sent(_) => None,
+            Phase::Ready => Some(Ok(())),
+            Phase::Failed(error) => Some(Err(error)),
+        }
+    }
+
+    /// The number of the next frame: the one behind the last that it sent.
+    pub fn next_number(&self) -> u64
+        ensures { result ≡ self.now.next }
+    {
+        self.next
+    }
+
+    /// Writes the next frame, in place of what was in `frame`. `Waiting` where the last one is still outstanding, `Ended` where
+    /// the start-up has ended, or ends now since no number is left; then `frame` stays as it was.
+    pub fn next(&mut self, frame: &mut Frame) -> NextFrame
+        ensures answer { result ≡ next_frame self.old }
+        ensures state { self.new ≡ asked self.old }
+        ensures written { result ≡ Send → IsFrame frame.new.items (bare_payload (frame_of (action_of self.old) self.old.next)) }
+        ensures kept { result ≢ Send → frame.new ≡ frame.old }
+    {
+        match self.phase {
+            Phase::Sent(_) => return NextFrame::Waiting,
+            Phase::Ready | Phase::Failed(_) => return NextFrame::Ended,
+            Phase::Idle => {}
+        }
+        if self.next == u64::MAX {
+            self.phase = Phase::Failed(StartError::NumbersSpent);
+            return NextFrame::Ended;
+        }
+        *frame = frame_of(&self.step.action, self.next);
+        self.phase = Phase::Sent(self.next);
+        self.next += 1;
+        NextFrame::Send
+    }
+
+    /// Takes a payload that came. It is kept where it answers the outstanding frame: the commands, the indices, the lengths,
+    /// the order and the number are that frame's. What it says then decides: the next step, one poll more, or the end. Any
+    /// other payload is foreign, and changes nothing.
+    pub fn take(&mut self, payload: &[u8]) -> Taken
+        ensures { IsStartTaken self.old payload.now (is_kept result) self.new }
+    {
+        let Phase::Sent(number) = self.phase else {
+            return Taken::Foreign;
+        };
+        let Some(span) = answer_in(payload, &self.step.action, number) else {
+            return Taken::Foreign;
+        };
+        let answer = &payload[span.from..span.to];
+        let verdict = verdict_on(
+            self.slaves.as_slice(),
+            self.place,
+            self.seen,
+            &self.step.action,
+            read_counter(answer),
+            read_data(answer),
+        );
+        self.judge(verdict);
+        Taken::Kept
+    }
+
+    /// Ends a start-up that runs, as lost. One that has ended stays as it is.
+    pub fn give_up(&mut self)
+        ensures { self.new ≡ given_up self.old }
+    {
+        match self.phase {
+            Phase::Idle | Phase::Sent(_) => self.phase = Phase::Failed(StartError::Lost),
+            Phase::Ready | Phase::Failed(_) => {}
+        }
+    }
+
+    /// Begins anew after a failure, with the next number.
+    #[tactic(auto, unfolding(crate::specs::Running::begun))]
+    pub fn restart(&mut self)
+        requires { has_failed self.old.phase ≡ true }
+        ensures { self.new ≡ restarted self.old }
+    {
+        self.place = 0;
+        self.polls = 0;
+        self.seen = nothing_seen();
+        self.phase = Phase::Idle;
+        self.step = first_step();
+    }
+
+    /// Goes by what the answer to the outstanding frame says.
+    fn judge(&mut self, verdict: Verdict)
+        requires { is_sent self.old.phase ≡ true }
+        ensures { self.new ≡ judged self.old verdict }
+    {
+        match verdict {
+            Verdict::Next => self.advance(self.seen),
+            Verdict::Shows(value) => self.advance(self.with_shown(value)),
+            Verdict::Again => self.poll(),
+            Verdict::Fails(error) => self.phase = Phase::Failed(error),
+        }
+    }
+
+    /// What was seen of the identity, with what a read of the SII showed.
+    fn with_shown(&self, value: u32) -> Device
+        requires { is_sent self.now.phase ≡ true }
+        ensures { result ≡ with_shown self.now (action_of self.now) value }
+    {
+        match self.step.action {
+            Action::AwaitWord { which, .. } => with_word(self.seen, which, value),
+            _ => self.seen,
+        }
+    }
+
+    /// Tries a wait again, unless it was tried often enough.
+    fn poll(&mut self)
+        requires { is_sent self.old.phase ≡ true }
+        ensures { self.new ≡ judged self.old Again }
+    {
+        if self.polls + 1 == MOST_POLLS {
+            self.phase = Phase::Failed(StartError::TooSlow { step: self.place });
+        } else {
+            self.polls += 1;
+            self.phase = Phase::Idle;
+        }
+    }
+
+    /// Goes to the next step of the script; behind the last one it is Ready.
+    fn advance(&mut self, seen: Device)
+        requires { is_sent self.old.phase ≡ true }
+        ensures { self.new ≡ advanced self.old seen }
+    {
+        self.place += 1;
+        self.polls = 0;
+        self.seen = seen;
+        let mut cursor = self.step.cursor;
+        cursor.place += 1;
+        match cursor.settle(self.slaves.as_slice()) {
+            Some(step) => {
+                self.step = step;
+                self.phase = Phase::Idle;
+            }
+            None => self.phase = Phase::Ready,
+        }
+    }
+}
