@@ -30,3 +30,4 @@ pub mod Turning
 pub mod Promising
 pub mod Tracing
 pub mod Histories
+pub mod Accepted

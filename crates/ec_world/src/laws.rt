@@ -1,6 +1,7 @@
 //! What is promised of a world, and laws of the definitions. Each function does nothing: its contract is the law.
 ghost use Rattle.ec_world.specs.Laws.{RoundTrip, CycleLaw, StepsShow, RunsShow};
 ghost use Rattle.ec_world.specs.Whole.{WholeLaw, CompiledLaw};
+ghost use Rattle.ec_world.specs.Example.{AcceptedLaw};
 ghost use Rattle.ec_world.specs.NewWorld.{NewUpLaw, NewRunLaw};
 ghost use Rattle.ec_world.specs.Promises.{OutputsLaw, SnapshotsLaw, NotesLaw, InputsLaw, WorkingLaw, TakenLaw};
 
@@ -88,4 +89,9 @@ pub fn new_up()
 /// The same in events of a world: StartNext, Pass 0 for each slave, Return 0, Serve of each slave, and so on.
 pub fn new_run()
     ensures { NewRunLaw }
+{}
+
+/// The compiler accepts a table: what is promised of the worlds of accepted tables is not empty.
+pub fn a_table_is_accepted()
+    ensures { AcceptedLaw }
 {}
