@@ -9,7 +9,7 @@ use Rattle.ec_sync.specs.Buffer.{publishing, app_written, app_read}
 use Rattle.ec_cycle.specs.Closing.{nones}
 use Rattle.ec_world.specs.declared.event.Event.{Event}
 use Rattle.ec_world.specs.declared.event.Event.TheVariants.{StartNext, Set, Begin, Pass, Lose, Return, Close, Serve, AppPut, AppGet, Fault, Reset as ResetSlave}
-use Rattle.ec_world.specs.Plain.{Plain, PlainSlave, PlainFrame, Note, Cycle, step, frame_at, setting, beginning, passing, moved, losing, returning, keeping, closing, filled, new_frames, is_working, is_reset, at_slave, got_byte, failing, restarting, plain_slave, no_plain_slave, linked_outputs, may_pass, all_progress, progress_of, met_slave, taking, Health, Working, Faulted, Reset}
+use Rattle.ec_world.specs.Plain.{Plain, PlainSlave, PlainFrame, step, frame_at, setting, moved, keeping, closing, filled, new_frames, is_working, is_reset, got_byte, failing, restarting, plain_slave, no_plain_slave, linked_outputs, may_pass, all_progress, progress_of, met_slave, taking, Health, Working, Faulted, Reset}
 use Rattle.ec_world.specs.Plain as plain
 
 none_some : {X : Type 0} (x : X) → None ≡ Some x → ⊥
