@@ -1,0 +1,13 @@
+pub mod Stepping
+pub mod Copying
+pub mod Placing
+pub mod Answering
+pub mod Comparing
+pub mod Matches
+pub mod Makes
+pub mod Lists
+pub mod States
+pub mod Counting
+pub mod Places
+pub mod Runs
+pub mod Judging

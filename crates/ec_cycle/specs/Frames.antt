@@ -1,0 +1,69 @@
+-- The cyclic frame of a part, a choice of this project: a NOP that names it, a broadcast read of the AL status, and the
+-- part's process data by an LRW, or by an LWR and an LRD where the part is split.
+use Rattle.std.specs.Prelude.{ℕ, ◌+◌, ◌-◌, ◌*◌, ◌%◌, ◌==◌, ◌&&◌, List, [], ◌∷◌, ◌++◌, if◌then◌else◌, Option, None, option_map}
+use Rattle.std.specs.Int.{to_le_bytes, w16, w64}
+use Rattle.ec_bits.specs.Bits.{bit, overlay, zeros, within}
+use Rattle.ec_frame.specs.declared.command.Command.{Command}
+use Rattle.ec_frame.specs.declared.command.Command.TheVariants.{Nop, Brd, Lrd, Lwr, Lrw}
+use Rattle.ec_frame.specs.Datagram.{Datagram}
+use Rattle.ec_frame.specs.Fields.{with_counter}
+use Rattle.ec_frame.specs.Building.{new_datagram}
+use Rattle.ec_link.specs.Shares.{Gave, sum_of, lwr_count, lrd_count, lrw_count}
+use Rattle.ec_link.specs.declared.plan.Link.{Link}
+use Rattle.ec_link.specs.Plan.{PlanState, part_at}
+use Rattle.ec_link.specs.declared.settings.Settings.{Settings}
+use Rattle.ec_link.specs.declared.plan.PartPlan.{PartPlan}
+use Rattle.ec_link.specs.Meaning.{area_of, out_source}
+
+-- ---- process data
+
+-- The image bit that stands at a logical bit: the one that is linked to the output bit there, of the slaves of part k from
+-- number s on.
+abbrev pub image_bit : List Link → ℕ → ℕ → List Settings → ℕ → Option ℕ
+image_bit ls k s [] logical = None
+image_bit ls k s (p ∷ ps) logical =
+    if (p.share.part == k) && within (area_of p).out_at p.share.outs logical
+    then out_source ls s (logical - (area_of p).out_at)
+    else image_bit ls k (s + 1) ps logical
+
+-- The data of part k for an image of the outputs: each linked bit in its place, all others 0.
+abbrev pub process_bytes : PlanState → ℕ → List ℕ → List ℕ
+process_bytes p k image =
+    overlay (zeros (part_at p.parts k).bytes) (λ i. option_map (bit image) (image_bit p.out_links k 0 p.slaves (8 * (part_at p.parts k).address + i)))
+
+-- ---- datagrams on their way: the counters say what the slaves gave so far
+
+-- names the frame, by the cycle's number and the part
+abbrev pub name_datagram : ℕ → ℕ → Datagram
+name_datagram number part = new_datagram Nop (number % 256) 0 (to_le_bytes w64 number ++ to_le_bytes w16 part)
+
+-- the AL status of all slaves (register 0x0130), joined by OR, after so many of them; a broadcast counts them in its ADP and
+-- in its working counter (ETG.1000.4, "BRD")
+abbrev pub status_datagram : ℕ → ℕ → List ℕ → Datagram
+status_datagram number passed al = with_counter (new_datagram Brd (number % 256) (passed % 65536 + 65536 * 0x0130) al) passed
+
+abbrev pub process_datagram : Command → ℕ → ℕ → List ℕ → ℕ → Datagram
+process_datagram command number address bytes counter = with_counter (new_datagram command (number % 256) address bytes) counter
+
+-- Those of a part, none where it has no process data. `sent` holds the outputs of the slaves to come and `returned` the
+-- inputs of those that are passed; an LRW has both in one.
+abbrev pub process_datagrams : PartPlan → ℕ → List ℕ → List ℕ → List Gave → List Datagram
+process_datagrams part number sent returned gave =
+    if part.bytes == 0 then []
+    else (if part.split
+    then process_datagram Lwr number part.address sent (sum_of lwr_count gave) ∷ process_datagram Lrd number part.address returned (sum_of lrd_count gave) ∷ []
+    else process_datagram Lrw number part.address returned (sum_of lrw_count gave) ∷ [])
+
+-- The whole frame after so many slaves.
+abbrev pub cyclic_datagrams : PartPlan → ℕ → ℕ → ℕ → List ℕ → List ℕ → List ℕ → List Gave → List Datagram
+cyclic_datagrams part number k passed al sent returned gave =
+    name_datagram number k ∷ status_datagram number passed al ∷ process_datagrams part number sent returned gave
+
+-- what an LRD or an LRW brings before any slave is passed: zeros, or the outputs
+abbrev pub returned_first : PartPlan → List ℕ → List ℕ
+returned_first part sent = if part.split then zeros part.bytes else sent
+
+-- The frame of part k as a master sends it, for an image of the outputs.
+abbrev pub sent_datagrams : PlanState → ℕ → ℕ → List ℕ → List Datagram
+sent_datagrams p number k image =
+    cyclic_datagrams (part_at p.parts k) number k 0 (zeros 2) (process_bytes p k image) (returned_first (part_at p.parts k) (process_bytes p k image)) []

@@ -1,0 +1,53 @@
+-- What the definitions of this crate amount to, in other words than theirs.
+use Rattle.std.specs.Prelude.{ℕ, ◌+◌, ◌-◌, ◌*◌, ◌<◌, ◌≤◌, ◌≡◌, ◌↔◌, List, length, map, get_or, Bool, true, false, Option, Some, None}
+use Rattle.ec_bits.specs.Bits.{bit, zeros}
+use Rattle.ec_frame.specs.Datagram.{Datagram}
+use Rattle.ec_link.specs.declared.settings.Settings.{Settings}
+use Rattle.ec_link.specs.Shares.{Gave, nothing_given, counters_of, predicted, share_in, same_counters, lwr_count, lrd_count}
+use Rattle.ec_link.specs.Meaning.{Linked, slave_at, area_at, out_source, in_source}
+use Rattle.ec_link.specs.Plan.{PlanState, part_at}
+use Rattle.ec_link.specs.Usable.{IsUsable}
+use Rattle.ec_cycle.specs.Closing.{KeptPart, is_good, unit_taken, returned_bit, inputs_closed, bytes_of, part_of_slave}
+use Rattle.ec_cycle.specs.Copies.{outputs_copied, inputs_copied}
+use Rattle.ec_cycle.specs.Frames.{process_bytes, sent_datagrams}
+use Rattle.ec_cycle.specs.Master.{MasterState, Answers, shape, name_of, process_addresses, variable_set, frame_of}
+
+-- ---- one copy a link
+
+-- the data of a frame, from zeros by one copy a link of outputs
+abbrev pub ProcessByLinks : Type 0
+ProcessByLinks = (p : PlanState) (k : ℕ) (image : List ℕ) → IsUsable p → outputs_copied p k image p.out_links (zeros (part_at p.parts k).bytes) ≡ process_bytes p k image
+
+-- the inputs after a closing, by one copy a link of inputs
+abbrev pub InputsByLinks : Type 0
+InputsByLinks = (p : PlanState) (kept : List (Option KeptPart)) (image : List ℕ) → IsUsable p → inputs_copied p kept p.in_links image ≡ inputs_closed p kept image
+
+-- ---- answers
+
+-- datagrams answer part k exactly where they have the shapes, the name and the process addresses of the frame that was sent,
+-- whatever image it was sent with
+abbrev pub AnswersBySent : Type 0
+AnswersBySent =
+    (p : PlanState) (number k : ℕ) (image : List ℕ) (ds : List Datagram)
+    → Answers p number k ds
+    ↔ ((map shape ds ≡ map shape (sent_datagrams p number k image)) × (name_of ds ≡ name_of (sent_datagrams p number k image)) × (process_addresses ds ≡ process_addresses (sent_datagrams p number k image)))
+
+-- ---- counters
+
+-- slaves of which none gives more than its share of part k
+abbrev pub GaveAtMost : PlanState → ℕ → List Gave → Type 0
+GaveAtMost p k gave =
+    (length gave ≡ length p.slaves)
+    × ((s : ℕ) → s < length p.slaves → (lwr_count (get_or gave s nothing_given) ≤ lwr_count (share_in k (slave_at p s).share)) × (lrd_count (get_or gave s nothing_given) ≤ lrd_count (share_in k (slave_at p s).share)))
+
+-- Predicted counters mean that every slave gave its whole share.
+abbrev pub PredictedMeansWhole : Type 0
+PredictedMeansWhole =
+    (p : PlanState) (k : ℕ) (gave : List Gave) → GaveAtMost p k gave → same_counters (counters_of (part_at p.parts k).split gave) (predicted p k) ≡ true
+    → (s : ℕ) → s < length p.slaves → get_or gave s nothing_given ≡ share_in k (slave_at p s).share
+
+-- ---- variables and frames
+
+-- to set a variable changes no frame that was made
+abbrev pub SetKeepsFrames : Type 0
+SetKeepsFrames = (m : MasterState) (variable value k : ℕ) → frame_of (variable_set m variable value).cycle k ≡ frame_of m.cycle k

@@ -1,0 +1,95 @@
+//! The frames of a cycle.
+ghost use Rattle.std.specs.Prelude.{◌≡◌, ◌≤◌, ◌<◌, ◌+◌, ◌*◌, ◌∷◌, ◌++◌, [], List, length, if◌then◌else◌};
+ghost use Rattle.std.specs.Int.{to_le_bytes, w16, w64};
+ghost use Rattle.ec_bits.specs.Bits.{zeros};
+ghost use Rattle.ec_frame.specs.Building.{bare_payload, new_datagram};
+ghost use Rattle.ec_frame.specs.Datagram.{Datagram, joined};
+ghost use Rattle.ec_frame.specs.Frame.{IsFrame};
+ghost use Rattle.ec_cycle.specs.Frames.{cyclic_datagrams, process_datagrams, returned_first};
+
+use ec_frame::{Builder, Command, Frame, physical};
+use ec_link::PartPlan;
+use ec_regs::registers;
+
+/// The most that one has which goes by an LWR and an LRD.
+const MOST_SPLIT: usize = 705;
+
+/// Appends a datagram that has room.
+fn append(builder: &mut Builder, command: Command, index: u8, address: u32, content: &[u8])
+    requires { length (joined builder.old) + 12 + length content.now ≤ 1470 }
+    ensures { builder.new ≡ builder.old ++ new_datagram command index address content.now ∷ [] }
+{
+    let _ = builder.add(command, index, address, content);
+}
+
+/// The bytes that name a frame: the cycle's number and the part.
+fn name_of(number: u64, part: usize) -> [u8; 10]
+    requires { part < 65536 }
+    ensures { result ≡ to_le_bytes w64 number ++ to_le_bytes w16 part }
+{
+    let mut name = [0; 10];
+    name[..8].copy_from_slice(&number.to_le_bytes());
+    name[8..].copy_from_slice(&(part as u16).to_le_bytes());
+    name
+}
+
+/// What an LRD brings, as much as the longest has.
+fn nothing() -> [u8; MOST_SPLIT]
+    ensures { result ≡ zeros 705 }
+{
+    [0; MOST_SPLIT]
+}
+
+/// Appends the process datagrams of a part, with these outputs.
+fn append_process(builder: &mut Builder, part: &PartPlan, number: u64, sent: &[u8])
+    requires room { length (joined builder.old) ≤ 36 }
+    requires size { length sent.now ≡ part.now.bytes }
+    requires small { (if part.now.split then 2 * part.now.bytes + 12 else part.now.bytes) ≤ 1422 }
+    ensures { builder.new ≡ builder.old ++ process_datagrams part.now number sent.now (returned_first part.now sent.now) [] }
+{
+    let index = (number % 256) as u8;
+    if part.bytes == 0 {
+        return;
+    }
+    if part.split {
+        let nothing = nothing();
+        append(builder, Command::Lwr, index, part.address, sent);
+        append(
+            builder,
+            Command::Lrd,
+            index,
+            part.address,
+            &nothing[..part.bytes],
+        );
+    } else {
+        append(builder, Command::Lrw, index, part.address, sent);
+    }
+}
+
+/// The cyclic frame of a part, with these outputs.
+#[tactic(auto, using(ec_frame::proofs::Builds::joined_push))]
+pub fn build(part: &PartPlan, number: u64, place: usize, sent: &[u8]) -> Frame
+    requires place { place < 65536 }
+    requires size { length sent.now ≡ part.now.bytes }
+    requires small { (if part.now.split then 2 * part.now.bytes + 12 else part.now.bytes) ≤ 1422 }
+    ensures { IsFrame result.items (bare_payload (cyclic_datagrams part.now number place 0 (zeros 2) sent.now (returned_first part.now sent.now) [])) }
+{
+    let index = (number % 256) as u8;
+    let mut builder = Builder::new();
+    append(
+        &mut builder,
+        Command::Nop,
+        index,
+        0,
+        &name_of(number, place),
+    );
+    append(
+        &mut builder,
+        Command::Brd,
+        index,
+        physical(0, registers::AL_STATUS as u16),
+        &[0, 0],
+    );
+    append_process(&mut builder, part, number, sent);
+    builder.finish()
+}

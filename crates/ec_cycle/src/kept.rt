@@ -1,0 +1,201 @@
+//! What a master keeps of a part.
+ghost use Rattle.std.specs.Prelude.{◌≡◌, ◌≤◌, ◌+◌, ◌*◌, Bool, List, Option, Some, None, true, false, is_some, option_map, length, slice_index, if◌then◌else◌};
+ghost use Rattle.ec_frame.specs.Datagram.{Datagram};
+ghost use Rattle.ec_link.specs.declared.plan.Predicted.{Predicted};
+ghost use Rattle.ec_link.specs.declared.plan.Predicted.TheVariants.{Lrw, Split};
+ghost use Rattle.ec_link.specs.Shares.{same_counters};
+ghost use Rattle.ec_cycle.specs.Closing.{KeptPart, bytes_at, bytes_of, came_back_as, counters_by, input_place, kept_by, word_of_kept};
+ghost use Rattle.ec_cycle.specs.Matching.{FirstStand};
+
+use crate::matching::{counter_at, data_at};
+use arrayvec::ArrayVec;
+use byteorder::{ByteOrder, LittleEndian};
+use ec_frame::{Frame, Span};
+use ec_link::Predicted;
+use std::marker::Model;
+
+/// The frame of a part, as it was sent.
+#[derive(Drop)]
+pub struct SentFrame {
+    frame: Frame,
+}
+
+impl Model for SentFrame {
+    ghost use Rattle.std.specs.Prelude.{ℕ, List};
+
+    ghost Value = { List ℕ };
+
+    ghost view = { λ s. s.frame.items };
+}
+
+impl SentFrame {
+    pub fn new(frame: Frame) -> SentFrame
+        ensures { result ≡ frame.items }
+    {
+        SentFrame { frame }
+    }
+
+    pub fn bytes(&self) -> &[u8]
+        ensures { result.now ≡ self.now }
+    {
+        self.frame.as_slice()
+    }
+}
+
+/// What came back of a part, if its frame did: what is read of it, in memory of its own.
+#[derive(Drop)]
+pub struct Returned {
+    is_kept: bool,
+    broadcast: u16,
+    al_word: u16,
+    counters: Predicted,
+    content: ArrayVec<u8, 1422>,
+}
+
+impl Model for Returned {
+    ghost use Rattle.std.specs.Prelude.{Option, Some, None, if◌then◌else◌};
+    ghost use Rattle.ec_cycle.specs.Closing.{KeptPart};
+
+    ghost Value = { Option KeptPart };
+
+    ghost view = { λ r. if r.is_kept then Some (record { broadcast = r.broadcast; al_word = r.al_word; counters = r.counters; bytes = r.content.items }) else None };
+}
+
+/// Whether counters are the same, each by itself.
+fn same_counters(one: Predicted, other: Predicted) -> bool
+    ensures { result ≡ same_counters one other }
+{
+    match (one, other) {
+        (Predicted::Lrw(n), Predicted::Lrw(m)) => n == m,
+        (Predicted::Split { write, read }, Predicted::Split { write: v, read: q }) => {
+            write == v && read == q
+        }
+        _ => false,
+    }
+}
+
+/// The word of two bytes; a byte that isn't there is 0.
+fn word_of(bytes: &[u8]) -> u16
+    ensures { result ≡ slice_index bytes.now 0 + 256 * slice_index bytes.now 1 }
+{
+    let low = bytes.first().copied().unwrap_or(0);
+    let high = bytes.get(1).copied().unwrap_or(0);
+    u16::from(low) + 256 * u16::from(high)
+}
+
+/// The working counters of the process datagrams of a frame whose first datagrams stand at these places.
+#[tactic(auto, using(crate::proofs::Places::place_steps))]
+fn counters_in(split: bool, payload: &[u8], spans: &[Span; 4]) -> Predicted
+    requires { (ds : List Datagram) × FirstStand payload.now spans.now ds }
+    ensures { (ds : List Datagram) → FirstStand payload.now spans.now ds → result ≡ counters_by split ds }
+{
+    let first = usize::from(counter_at(payload, spans[2]));
+    if split {
+        let read = usize::from(counter_at(payload, spans[3]));
+        Predicted::Split { write: first, read }
+    } else {
+        Predicted::Lrw(first)
+    }
+}
+
+/// Puts bytes in place of what is there.
+fn replace(content: &mut ArrayVec<u8, 1422>, bytes: &[u8])
+    requires { length bytes.now ≤ 1422 }
+    ensures { content.new.items ≡ bytes.now }
+{
+    content.clear();
+    let _ = content.try_extend_from_slice(bytes);
+}
+
+/// The data that brings the inputs, in a frame whose first datagrams stand at these places.
+#[tactic(auto, using(crate::proofs::Places::place_steps))]
+fn inputs_in<'a>(split: bool, payload: &'a [u8], spans: &[Span; 4]) -> &'a [u8]
+    requires { (ds : List Datagram) × FirstStand payload.now spans.now ds }
+    ensures { (ds : List Datagram) → FirstStand payload.now spans.now ds → result.now ≡ bytes_at ds (input_place split) }
+{
+    if split {
+        data_at(payload, spans[3])
+    } else {
+        data_at(payload, spans[2])
+    }
+}
+
+impl Returned {
+    /// Nothing came back.
+    pub fn new() -> Returned
+        ensures { result ≡ None }
+    {
+        Returned {
+            is_kept: false,
+            broadcast: 0,
+            al_word: 0,
+            counters: Predicted::Lrw(0),
+            content: ArrayVec::new(),
+        }
+    }
+
+    /// Forgets what came back.
+    pub fn forget(&mut self)
+        ensures { self.new ≡ None }
+    {
+        self.is_kept = false;
+    }
+
+    /// Whether the part is kept.
+    pub fn is_kept(&self) -> bool
+        ensures { result ≡ is_some self.now }
+    {
+        self.is_kept
+    }
+
+    /// Keeps what a frame brought back, whose first datagrams stand at these places.
+    pub fn keep(&mut self, split: bool, payload: &[u8], spans: &[Span; 4])
+        requires { (ds : List Datagram) × FirstStand payload.now spans.now ds × (length (bytes_at ds (input_place split)) ≤ 1422) }
+        ensures { (ds : List Datagram) → FirstStand payload.now spans.now ds → self.new ≡ Some (kept_by split ds) }
+    {
+        let content = inputs_in(split, payload, spans);
+        replace(&mut self.content, content);
+        self.broadcast = counter_at(payload, spans[1]);
+        self.al_word = word_of(data_at(payload, spans[1]));
+        self.counters = counters_in(split, payload, spans);
+        self.is_kept = true;
+    }
+
+    /// Whether so many slaves answered the broadcast, and the working counters are these.
+    pub fn came_back_as(&self, slaves: usize, counters: Predicted) -> bool
+        ensures { result ≡ came_back_as slaves counters self.now }
+    {
+        self.is_kept
+            && usize::from(self.broadcast) == slaves
+            && same_counters(self.counters, counters)
+    }
+
+    /// The data that holds the inputs; none of a part that isn't kept.
+    pub fn bytes(&self) -> &[u8]
+        ensures { result.now ≡ bytes_of self.now }
+    {
+        if self.is_kept {
+            self.content.as_slice()
+        } else {
+            &[]
+        }
+    }
+
+    /// The working counters.
+    pub fn counters(&self) -> Option<Predicted>
+        ensures { result ≡ option_map (λ (q : KeptPart). q.counters) self.now }
+    {
+        if self.is_kept {
+            Some(self.counters)
+        } else {
+            None
+        }
+    }
+
+    /// The AL word; 0 of a part that isn't kept.
+    pub fn al_word(&self) -> u16
+        ensures { result ≡ word_of_kept self.now }
+    {
+        if self.is_kept { self.al_word } else { 0 }
+    }
+}

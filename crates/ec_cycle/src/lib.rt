@@ -1,0 +1,21 @@
+//! The master of the cyclic frames of a plan: it sends the outputs of its process image, and takes the inputs of a sync unit
+//! all at once, where all of the unit's frames came back with the predicted working counters, or not at all.
+//!
+//! Nothing here knows a wire: [`Master::frame`] lends the frames to send, and [`Master::take`] is given whatever came in.
+#![tactic(auto)]
+
+mod answered;
+mod building;
+mod error;
+mod kept;
+pub mod laws;
+mod master;
+mod matching;
+mod report;
+mod run;
+#[cfg(test)]
+mod tests;
+
+pub use crate::error::CycleError;
+pub use crate::master::{Master, Taken};
+pub use crate::report::Report;

@@ -1,0 +1,457 @@
+ghost use Rattle.std.specs.Prelude.{◌&&◌, set, false, if◌then◌else◌, ◌≡◌, ◌≤◌, ◌<◌, ◌+◌, ◌*◌, ◌^◌, ◌↔◌, ℕ, Bool, List, [], Option, Some, None, length, map, replicate, slice_get, get_or, true, false, is_some, IfOk, IfSome, IsErr, IfErr, OnOk, OnErr};
+ghost use Rattle.ec_bits.specs.Bits.{zeros, bytes_of_bits};
+ghost use Rattle.ec_frame.specs.Building.{bare_payload};
+ghost use Rattle.ec_frame.specs.Frame.{Payload, IsFrame};
+ghost use Rattle.ec_link.specs.declared.plan.Predicted.{Predicted};
+ghost use Rattle.ec_link.specs.Plan.{part_at};
+ghost use Rattle.ec_link.specs.Shares.{predicted};
+ghost use Rattle.ec_link.specs.Usable.{IsUsable};
+ghost use Rattle.ec_cycle.specs.Closing.{KeptPart, bytes_of, is_good, unit_taken, inputs_closed};
+ghost use Rattle.ec_cycle.specs.Copies.{FitsRun, part_runs, input_run, run_copied};
+ghost use Rattle.ec_cycle.specs.Frames.{process_bytes, sent_datagrams};
+ghost use Rattle.ec_cycle.specs.Kept.{AreLinked, AreImages, IsUnderWay};
+ghost use Rattle.ec_cycle.specs.Master.{OpenCycle, MasterState, Begun, IsTaken, IsClosed, new_master, readied, holds_value, value_put, variable_set, value_at, begin_refusal, refused_by, frame_of};
+ghost use Rattle.ec_cycle.specs.declared.error.CycleError.{CycleError};
+ghost use Rattle.ec_cycle.specs.declared.error.CycleError.TheVariants.{NotOpen};
+ghost use Rattle.ec_cycle.specs.Taking.{is_kept};
+
+use crate::answered::answered;
+use crate::building::build;
+use crate::error::CycleError;
+use crate::kept::{Returned, SentFrame};
+use crate::matching::first_places;
+use crate::report::Report;
+use crate::run::{InputRun, Run, copy_runs, runs_by_part, runs_of_inputs};
+use ec_bits::{copy_by_words, read_bits, write_bits};
+use ec_frame::{Frame, check};
+use ec_link::{Plan, Predicted};
+use ec_regs::Listed;
+use ec_table::Direction;
+use std::alloc::{AllocError, Global};
+use std::marker::Model;
+
+/// Whether a payload was kept.
+#[derive(Clone, Copy, Debug, PartialEq, Eq, Drop)]
+pub enum Taken {
+    /// It answers a frame of the open cycle.
+    Kept,
+    /// It is something else; nothing changed.
+    Foreign,
+}
+
+/// A master of the cyclic frames of a plan. All memory that it needs is found when it is made.
+#[derive(Drop)]
+pub struct Master<'p> {
+    plan: &'p Plan,
+    is_ready: bool,
+    next: u64,
+    outputs: Vec<u8>,
+    inputs: Vec<u8>,
+    // what is looked up in the plan once
+    runs: Listed<Listed<Run>>,
+    input_runs: Listed<InputRun>,
+    expected: Listed<Predicted>,
+    // the number of the open cycle
+    number: Option<u64>,
+    // of each part
+    frames: Vec<SentFrame>,
+    kept: Vec<Returned>,
+}
+
+impl<'p> Model for Master<'p> {
+    ghost use Rattle.std.specs.Prelude.{option_map};
+    ghost use Rattle.ec_cycle.specs.Master.{MasterState};
+    ghost use Rattle.ec_cycle.specs.Kept.{IsMaster};
+
+    ghost Value = { MasterState };
+
+    ghost view = { λ m. record {
+      plan = m.plan.now;
+      is_ready = m.is_ready;
+      next = m.next;
+      outputs = m.outputs.items;
+      inputs = m.inputs.items;
+      cycle = option_map (λ n. record { number = n; frames = m.frames.items; kept = m.kept.items }) m.number;
+    } };
+
+    ghost invariant = { λ m. IsMaster m.plan.now m.runs m.input_runs m.expected m.outputs.items m.inputs.items m.frames.items m.kept.items m.number };
+}
+
+/// So many bytes as have room for bits, all 0.
+fn image_of(alloc: Global, bits: usize) -> Result<Vec<u8>, AllocError>
+    ensures { IfOk result (λ v. v.items ≡ zeros (bytes_of_bits bits)) }
+{
+    vec![in alloc; 0; bits / 8 + (bits % 8 + 7) / 8]
+}
+
+/// The predicted counters of each part.
+fn counters_of(alloc: Global, plan: &Plan) -> Result<Listed<Predicted>, AllocError>
+    ensures count { IfOk result (λ ps. length ps ≡ length plan.now.parts) }
+    ensures each { IfOk result (λ ps. (k : ℕ) (d : Predicted) → k < length plan.now.parts → get_or ps k d ≡ predicted plan.now k) }
+{
+    let mut expected = Listed::new(alloc);
+    for part in 0..plan.parts().len() {
+        expected.push(plan.predicted(part))?;
+    }
+    Ok(expected)
+}
+
+/// Room for so many frames.
+fn frames_of(alloc: Global, count: usize) -> Result<Vec<SentFrame>, AllocError>
+    ensures { IfOk result (λ v. length v.items ≡ count) }
+{
+    let mut frames = Vec::new(alloc);
+    for n in 0..count {
+        frames.push(SentFrame::new(Frame::new()))?;
+    }
+    Ok(frames)
+}
+
+/// Room for what comes back of so many parts.
+fn nothing_kept(alloc: Global, count: usize) -> Result<Vec<Returned>, AllocError>
+    ensures { IfOk result (λ v. length v.items ≡ count) }
+{
+    let mut kept = Vec::new(alloc);
+    for n in 0..count {
+        kept.push(Returned::new())?;
+    }
+    Ok(kept)
+}
+
+/// Every unit is taken, as long as no part of it is judged.
+fn all_taken() -> [bool; 256]
+    ensures { result ≡ replicate 256 true }
+{
+    [true; 256]
+}
+
+/// Whether a part was kept and is good.
+#[tactic(auto, using(crate::proofs::Judging::good_is))]
+fn is_good(plan: &Plan, expected: &[Predicted], kept: &[Returned], part: usize) -> bool
+    requires there { part < length plan.now.parts }
+    requires kept { length kept.now ≡ length plan.now.parts }
+    requires count { length expected.now ≡ length plan.now.parts }
+    requires counters { (k : ℕ) (d : Predicted) → k < length plan.now.parts → get_or expected.now k d ≡ predicted plan.now k }
+    ensures { result ≡ is_good plan.now part (get_or kept.now part None) }
+{
+    let slaves = plan.slaves().len();
+    kept[part].came_back_as(slaves, expected[part])
+}
+
+/// A unit isn't taken any more where one of its parts isn't good.
+fn judge(taken: &mut [bool; 256], unit: u8, is_good: bool)
+    ensures judged { taken.new ≡ set taken.old unit (get_or taken.old unit false && is_good) }
+    ensures small { unit < 256 }
+{
+    let unit = usize::from(unit);
+    taken[unit] = taken[unit] && is_good;
+}
+
+/// Whether each unit's parts were all kept and are good, by the number of the unit.
+fn judged(plan: &Plan, expected: &[Predicted], kept: &[Returned]) -> [bool; 256]
+    requires kept { length kept.now ≡ length plan.now.parts }
+    requires count { length expected.now ≡ length plan.now.parts }
+    requires counters { (k : ℕ) (d : Predicted) → k < length plan.now.parts → get_or expected.now k d ≡ predicted plan.now k }
+    ensures size { length result ≡ 256 }
+    ensures judged { (u : ℕ) → u < 256 → get_or result u false ≡ unit_taken plan.now kept.now u }
+{
+    let mut taken = all_taken();
+    for k in 0..plan.parts().len() {
+        let is_good = is_good(plan, expected, kept, k);
+        judge(&mut taken, plan.unit_of_part(k), is_good);
+    }
+    taken
+}
+
+/// Copies the input bits of a link out of what its part brought back.
+fn copy_input(input: InputRun, kept: &[Returned], inputs: &mut [u8])
+    requires there { input.part < length kept.now }
+    requires fits { FitsRun (length inputs.old) (length (bytes_of (get_or kept.now input.part None))) input.run }
+    ensures { inputs.new ≡ run_copied (bytes_of (get_or kept.now input.part None)) input.run inputs.old }
+{
+    let run = input.run;
+    let bytes = kept[input.part].bytes();
+    copy_by_words(inputs, run.to, bytes, run.from, run.count);
+}
+
+/// Copies the input bits of a link, if the unit is taken.
+fn take_input(input: InputRun, taken: &[bool; 256], kept: &[Returned], inputs: &mut [u8])
+    requires { get_or taken.now input.unit false ≡ true → (input.part < length kept.now) × FitsRun (length inputs.old) (length (bytes_of (get_or kept.now input.part None))) input.run }
+    ensures copied { inputs.new ≡ (if get_or taken.now input.unit false then run_copied (bytes_of (get_or kept.now input.part None)) input.run inputs.old else inputs.old) }
+    ensures small { input.unit < 256 }
+{
+    if taken[usize::from(input.unit)] {
+        copy_input(input, kept, inputs);
+    }
+}
+
+/// Copies the linked input bits of each unit that is taken out of what its parts brought back.
+fn take_inputs(
+    plan: &Plan,
+    runs: &[InputRun],
+    taken: &[bool; 256],
+    kept: &[Returned],
+    inputs: &mut [u8],
+)
+    requires usable { IsUsable plan.now }
+    requires runs { runs.now ≡ map (input_run plan.now) plan.now.in_links }
+    requires size { length taken.now ≡ 256 }
+    requires taken { (u : ℕ) → u < 256 → get_or taken.now u false ≡ unit_taken plan.now kept.now u }
+    requires kept { length kept.now ≡ length plan.now.parts }
+    requires sizes { (k : ℕ) (q : KeptPart) → get_or kept.now k None ≡ Some q → length q.bytes ≡ (part_at plan.now.parts k).bytes }
+    requires room { length inputs.old ≡ bytes_of_bits plan.now.in_bits }
+    requires few { plan.now.in_bits < 2 ^ 64 }
+    ensures { inputs.new ≡ inputs_closed plan.now kept.now inputs.old }
+{
+    for input in runs {
+        take_input(*input, taken, kept, inputs);
+    }
+}
+
+/// The process data of a part, for an image of the outputs.
+#[tactic(auto, using(crate::proofs::Runs::fill_steps))]
+fn fill(plan: &Plan, part: usize, runs: &[Run], image: &[u8], sent: &mut [u8])
+    requires usable { IsUsable plan.now }
+    requires runs { runs.now ≡ part_runs plan.now part }
+    requires image { length image.now ≡ bytes_of_bits plan.now.out_bits }
+    requires few { plan.now.out_bits < 2 ^ 64 }
+    requires blank { sent.old ≡ zeros (part_at plan.now.parts part).bytes }
+    ensures { sent.new ≡ process_bytes plan.now part image.now }
+{
+    copy_runs(sent, image, runs);
+}
+
+/// Room for the process data of a part, all 0.
+fn blank() -> [u8; 1422]
+    ensures { result ≡ zeros 1422 }
+{
+    [0; 1422]
+}
+
+/// The frame of a part, for an image of the outputs.
+fn frame_for(plan: &Plan, part: usize, runs: &[Run], number: u64, image: &[u8]) -> Frame
+    requires usable { IsUsable plan.now }
+    requires there { part < length plan.now.parts }
+    requires runs { runs.now ≡ part_runs plan.now part }
+    requires image { length image.now ≡ bytes_of_bits plan.now.out_bits }
+    requires few { plan.now.out_bits < 2 ^ 64 }
+    ensures { IsFrame result.items (bare_payload (sent_datagrams plan.now number part image.now)) }
+{
+    let place = plan.parts()[part];
+    let mut room = blank();
+    let sent = &mut room[..place.bytes];
+    fill(plan, part, runs, image, sent);
+    build(&place, number, part, sent)
+}
+
+/// The frame of each part, for an image of the outputs.
+fn make_frames(
+    plan: &Plan,
+    runs: &[Listed<Run>],
+    number: u64,
+    image: &[u8],
+    frames: &mut [SentFrame],
+)
+    requires usable { IsUsable plan.now }
+    requires count { length runs.now ≡ length plan.now.parts }
+    requires runs { (k : ℕ) → k < length plan.now.parts → get_or runs.now k [] ≡ part_runs plan.now k }
+    requires image { length image.now ≡ bytes_of_bits plan.now.out_bits }
+    requires few { plan.now.out_bits < 2 ^ 64 }
+    requires frames { length frames.old ≡ length plan.now.parts }
+    ensures { (k : ℕ) → k < length plan.now.parts → IsFrame (get_or frames.new k []) (bare_payload (sent_datagrams plan.now number k image.now)) }
+{
+    for part in 0..frames.len() {
+        let frame = frame_for(plan, part, runs[part].as_slice(), number, image);
+        frames[part] = SentFrame::new(frame);
+    }
+}
+
+/// Forgets what came back.
+fn forget(kept: &mut [Returned])
+    ensures { (k : ℕ) → k < length kept.new → get_or kept.new k None ≡ None }
+{
+    for part in kept.iter_mut() {
+        part.forget();
+    }
+}
+
+/// Writes the bits of a variable of the outputs.
+fn write_variable(image: &mut [u8], plan: &Plan, variable: usize, value: u64)
+    requires usable { IsUsable plan.now }
+    requires image { length image.old ≡ bytes_of_bits plan.now.out_bits }
+    requires few { plan.now.out_bits < 2 ^ 64 }
+    requires holds { holds_value value (slice_get plan.now.variables variable) ≡ true }
+    ensures { image.new ≡ value_put image.old value (slice_get plan.now.variables variable) }
+{
+    let place = plan.variables()[variable];
+    write_bits(image, place.from, usize::from(place.bits), value);
+}
+
+impl<'p> Master<'p> {
+    /// A master of a plan. It isn't ready, and all bits of its process image are 0. No later call takes memory.
+    ///
+    /// # Errors
+    ///
+    /// `AllocError` where memory was refused.
+    pub fn new(alloc: Global, plan: &'p Plan) -> Result<Master<'p>, AllocError>
+        requires { IsUsable plan.now }
+        ensures { IfOk result (λ m. m ≡ new_master plan.now) }
+    {
+        let count = plan.parts().len();
+        Ok(Master {
+            plan,
+            is_ready: false,
+            next: 0,
+            outputs: image_of(alloc, plan.out_bits())?,
+            inputs: image_of(alloc, plan.in_bits())?,
+            runs: runs_by_part(alloc, plan)?,
+            input_runs: runs_of_inputs(alloc, plan)?,
+            expected: counters_of(alloc, plan)?,
+            number: None,
+            frames: frames_of(alloc, count)?,
+            kept: nothing_kept(alloc, count)?,
+        })
+    }
+
+    /// A start-up of the plan ended Ready, with this as its next number.
+    fn become_ready(&mut self, next: u64)
+        ensures { self.new ≡ readied self.old next }
+    {
+        self.is_ready = true;
+        self.next = self.next.max(next);
+    }
+
+    /// Whether a start-up of the plan has ended Ready.
+    pub fn is_ready(&self) -> bool
+        ensures { result ≡ self.now.is_ready }
+    {
+        self.is_ready
+    }
+
+    /// Whether a cycle is open.
+    pub fn is_open(&self) -> bool
+        ensures { result ≡ is_some self.now.cycle }
+    {
+        self.number.is_some()
+    }
+
+    /// The number of the next cycle.
+    pub fn next_number(&self) -> u64
+        ensures { result ≡ self.now.next }
+    {
+        self.next
+    }
+
+    /// A variable of the outputs becomes a value; no other bit changes, and no frame that was made.
+    pub fn set(&mut self, variable: usize, value: u64)
+        requires { holds_value value (slice_get self.old.plan.variables variable) ≡ true }
+        ensures { self.new ≡ variable_set self.old variable value }
+    {
+        write_variable(&mut self.outputs, self.plan, variable, value);
+    }
+
+    /// What a variable is now.
+    pub fn get(&self, variable: usize) -> u64
+        requires { variable < length self.now.plan.variables }
+        ensures { result ≡ value_at self.now (slice_get self.now.plan.variables variable) }
+    {
+        let place = self.plan.variables()[variable];
+        let image = match place.direction {
+            Direction::Out => self.outputs.as_slice(),
+            Direction::In => self.inputs.as_slice(),
+        };
+        read_bits(image, place.from, usize::from(place.bits))
+    }
+
+    /// Begins a cycle: one frame for each part, of the outputs as they are. The cycle takes the next number.
+    ///
+    /// # Errors
+    ///
+    /// `NotReady`, `Open` or `NumbersSpent`, the first that fits; nothing changes.
+    pub fn begin(&mut self) -> Result<(), CycleError>
+        ensures answer { result ≡ refused_by (begin_refusal self.old) }
+        ensures begun { OnOk result ((c : OpenCycle) × Begun self.old self.new c) }
+        ensures kept { OnErr result (self.new ≡ self.old) }
+    {
+        if !self.is_ready {
+            return Err(CycleError::NotReady);
+        }
+        if self.number.is_some() {
+            return Err(CycleError::Open);
+        }
+        if self.next == u64::MAX {
+            return Err(CycleError::NumbersSpent);
+        }
+        let number = self.next;
+        make_frames(
+            self.plan,
+            self.runs.as_slice(),
+            number,
+            &self.outputs,
+            &mut self.frames,
+        );
+        forget(&mut self.kept);
+        self.next = number + 1;
+        self.number = Some(number);
+        Ok(())
+    }
+
+    /// The frame of a part of the open cycle, as `begin` made it.
+    pub fn frame(&self, part: usize) -> &[u8]
+        requires opened { is_some self.now.cycle ≡ true }
+        requires there { part < length self.now.plan.parts }
+        ensures { result.now ≡ frame_of self.now.cycle part }
+    {
+        self.frames[part].bytes()
+    }
+
+    /// Takes a payload that came in: it is kept exactly where it answers the frame of a part of the open cycle that isn't
+    /// kept yet, whatever slaves made of its data, its counters and the broadcast's address. All else is foreign and changes
+    /// nothing.
+    pub fn take(&mut self, payload: &[u8]) -> Taken
+        ensures { IsTaken self.old payload.now (is_kept result) self.new }
+    {
+        if self.number.is_none() {
+            return Taken::Foreign;
+        }
+        let Ok(count) = check(payload) else {
+            return Taken::Foreign;
+        };
+        let spans = first_places(payload);
+        let frames = self.frames.as_slice();
+        let Some(part) = answered(payload, count, &spans, frames, self.kept.as_slice()) else {
+            return Taken::Foreign;
+        };
+        let place = self.plan.parts()[part];
+        self.kept[part].keep(place.split, payload, &spans);
+        Taken::Kept
+    }
+
+    /// Closes the cycle: the inputs of each unit whose own parts were all kept and are good are taken, all at once; the
+    /// others stay as they are.
+    ///
+    /// # Errors
+    ///
+    /// `NotOpen`; nothing changes.
+    pub fn close(&mut self) -> Result<Report, CycleError>
+        ensures not_open { IsErr result ↔ (self.old.cycle ≡ None) }
+        ensures cause { IfErr result (λ e. e ≡ NotOpen) }
+        ensures closed { IfOk result (λ r. IsClosed self.old self.new r) }
+        ensures kept { OnErr result (self.new ≡ self.old) }
+    {
+        if self.number.is_none() {
+            return Err(CycleError::NotOpen);
+        }
+        let taken = judged(self.plan, self.expected.as_slice(), &self.kept);
+        let report = Report::new(self.plan.units(), &taken, &self.kept);
+        take_inputs(
+            self.plan,
+            self.input_runs.as_slice(),
+            &taken,
+            &self.kept,
+            &mut self.inputs,
+        );
+        self.number = None;
+        Ok(report)
+    }
+}

@@ -1,0 +1,120 @@
+//! Whether a payload answers a frame that was sent, and where its datagrams stand.
+ghost use Rattle.std.specs.Prelude.{◌≡◌, ◌≤◌, ◌<◌, ◌↔◌, [], Bool, List, Option, length, true};
+ghost use Rattle.std.specs.Option.{option_map_or};
+ghost use Rattle.ec_frame.specs.Cursor.{IsAhead};
+ghost use Rattle.ec_frame.specs.Datagram.{Datagram, IsDatagram, IsSpelling, spelling};
+ghost use Rattle.ec_frame.specs.Frame.{Payload, IsFrame};
+ghost use Rattle.ec_cycle.specs.Matching.{SameAt, SameFrom, StandsFor, FirstStand, StepsOn, NextAre, Names};
+
+use ec_frame::{Header, Places, Span, read_counter, read_data};
+
+/// Whether datagram `n` of what came in is datagram `n` of what was sent.
+fn is_same(n: usize, part: &[u8], sent: &[u8]) -> bool
+    requires part { IsSpelling part.now }
+    requires sent { IsSpelling sent.now }
+    ensures { (m : Bool) (d : Datagram) (k : Bool) (e : Datagram) → IsDatagram d → IsDatagram e → part.now ≡ spelling m d
+        → sent.now ≡ spelling k e → (result ≡ true) ↔ SameAt n d e }
+{
+    let (ours, theirs) = (Header::read(sent), Header::read(part));
+    theirs.command.number() == ours.command.number()
+        && theirs.index == ours.index
+        && theirs.data_length == ours.data_length
+        && (n > 0 || read_data(part) == read_data(sent))
+        && (n < 2 || theirs.address == ours.address)
+}
+
+/// The place of the next datagram; no place after the last.
+fn next_place(places: &mut Places, payload: &[u8]) -> Span
+    requires { (ds : List Datagram) × IsAhead payload.now places.old ds }
+    ensures { (ds : List Datagram) → IsAhead payload.now places.old ds → StepsOn payload.now places.new result ds }
+{
+    match places.next(payload) {
+        Some(span) => span,
+        None => Span { from: 0, to: 0 },
+    }
+}
+
+/// Where the first four datagrams of a frame stand.
+pub fn first_places(payload: &[u8]) -> [Span; 4]
+    requires { (p : Payload) × IsFrame payload.now p }
+    ensures { (p : Payload) → IsFrame payload.now p → FirstStand payload.now result p.datagrams }
+{
+    let mut places = Places::new(payload);
+    let mut spans = [Span { from: 0, to: 0 }; 4];
+    for n in 0..4 {
+        spans[n] = next_place(&mut places, payload);
+    }
+    spans
+}
+
+/// Whether the next datagrams of two frames are the same.
+fn next_is_same(
+    n: usize,
+    places: &mut Places,
+    payload: &[u8],
+    sent_places: &mut Places,
+    sent: &[u8],
+) -> bool
+    requires payload { (ds : List Datagram) × IsAhead payload.now places.old ds }
+    requires sent { (es : List Datagram) × IsAhead sent.now sent_places.old es }
+    ensures { (ds : List Datagram) (es : List Datagram) → IsAhead payload.now places.old ds → IsAhead sent.now sent_places.old es
+        → NextAre n payload.now places.new sent.now sent_places.new ds es result }
+{
+    let here = next_place(places, payload);
+    let there = next_place(sent_places, sent);
+    if here.to == 0 || there.to == 0 {
+        return false;
+    }
+    is_same(n, &payload[here.from..here.to], &sent[there.from..there.to])
+}
+
+/// Whether a frame of `count` datagrams answers a frame that was sent: as many datagrams, of the same commands, indices and
+/// lengths, the first with the same data, and those behind the second with the same addresses.
+pub fn answers(payload: &[u8], count: usize, sent: &[u8]) -> bool
+    requires payload { (p : Payload) × IsFrame payload.now p × (count ≡ length p.datagrams) }
+    requires sent { (q : Payload) × IsFrame sent.now q }
+    ensures { (p : Payload) (q : Payload) → IsFrame payload.now p → IsFrame sent.now q → (result ≡ true) ↔ SameFrom 0 p.datagrams q.datagrams }
+{
+    let mut places = Places::new(payload);
+    let mut sent_places = Places::new(sent);
+    for n in 0..count {
+        if !next_is_same(n, &mut places, payload, &mut sent_places, sent) {
+            return false;
+        }
+    }
+    next_place(&mut sent_places, sent).to == 0
+}
+
+/// The data of the datagram that stands at a place; none where none does.
+pub fn data_at(payload: &[u8], span: Span) -> &[u8]
+    requires { (o : Option Datagram) × StandsFor payload.now span o }
+    ensures { (o : Option Datagram) → StandsFor payload.now span o → result.now ≡ option_map_or (λ (d : Datagram). d.data_bytes) o [] }
+{
+    if span.to == 0 {
+        return &[];
+    }
+    read_data(&payload[span.from..span.to])
+}
+
+/// The working counter of the datagram that stands at a place; 0 where none does.
+pub fn counter_at(payload: &[u8], span: Span) -> u16
+    requires { (o : Option Datagram) × StandsFor payload.now span o }
+    ensures { (o : Option Datagram) → StandsFor payload.now span o → result ≡ option_map_or (λ (d : Datagram). d.counter) o 0 }
+{
+    if span.to == 0 {
+        return 0;
+    }
+    read_counter(&payload[span.from..span.to])
+}
+
+/// The part that a frame's first datagram names.
+pub fn named_part(payload: &[u8], span: Span) -> Option<usize>
+    requires { (o : Option Datagram) × StandsFor payload.now span o }
+    ensures named { (o : Option Datagram) → StandsFor payload.now span o → Names o result }
+{
+    let name = data_at(payload, span);
+    if name.len() != 10 {
+        return None;
+    }
+    Some(usize::from(name[8]) + 256 * usize::from(name[9]))
+}

@@ -1,0 +1,123 @@
+ghost use Rattle.std.specs.Prelude.{◌≡◌, ◌<◌, ◌≤◌, ◌^◌, [], ℕ, IfOk, length, map, get_or, true};
+ghost use Rattle.std.specs.List.{AllByRecursion};
+ghost use Rattle.ec_link.specs.Usable.{IsUsable, IsOutLink, IsInLink};
+ghost use Rattle.ec_cycle.specs.Copies.{FitsRun, is_of_part, runs_copied, output_run, input_run, part_runs};
+
+use ec_bits::copy_by_words;
+use ec_link::{Link, Plan};
+use ec_regs::Listed;
+use std::alloc::{AllocError, Global};
+
+/// Bits that are copied for one link: those of the source from `from` on go to `to`.
+#[derive(Clone, Copy, Debug, PartialEq, Eq, Drop)]
+pub struct Run {
+    pub to: usize,
+    pub from: usize,
+    pub count: usize,
+}
+
+/// A run from the data that a part brought back to the image of the inputs.
+#[derive(Clone, Copy, Debug, PartialEq, Eq, Drop)]
+pub struct InputRun {
+    /// The part that brings it.
+    pub part: usize,
+    /// The sync unit of that part.
+    pub unit: u8,
+    pub run: Run,
+}
+
+/// Copies run after run.
+#[tactic(auto, using(crate::proofs::Runs::copy_steps))]
+pub fn copy_runs(dst: &mut [u8], src: &[u8], runs: &[Run])
+    requires { AllByRecursion (FitsRun (length dst.old) (length src.now)) runs.now }
+    ensures { dst.new ≡ runs_copied src.now runs.now dst.old }
+{
+    for run in runs {
+        copy_by_words(dst, run.to, src, run.from, run.count);
+    }
+}
+
+/// Whether a link's slave stands in a part.
+fn is_of_part(plan: &Plan, part: usize, link: &Link) -> bool
+    requires { IsOutLink plan.now link.now }
+    ensures { result ≡ is_of_part plan.now part link.now }
+{
+    plan.part_of(link.slave) == part
+}
+
+/// Where the output bits of a link stand in the data of its part, and where in the image.
+fn output_run(plan: &Plan, part: usize, link: &Link) -> Run
+    requires usable { IsUsable plan.now }
+    requires linked { IsOutLink plan.now link.now }
+    requires there { part < length plan.now.parts }
+    requires own { is_of_part plan.now part link.now ≡ true }
+    ensures { result ≡ output_run plan.now part link.now }
+{
+    Run {
+        to: plan.settings(link.slave).from + link.object_bit
+            - 8 * plan.parts()[part].address as usize,
+        from: link.image,
+        count: link.count,
+    }
+}
+
+/// The runs of the outputs of a part, in the order of the links.
+#[tactic(auto, using(crate::proofs::Runs::filter_steps))]
+fn runs_of_part(alloc: Global, plan: &Plan, part: usize) -> Result<Listed<Run>, AllocError>
+    requires usable { IsUsable plan.now }
+    requires there { part < length plan.now.parts }
+    ensures { IfOk result (λ rs. rs ≡ part_runs plan.now part) }
+{
+    let mut runs = Listed::new(alloc);
+    for link in plan.out_links() {
+        if is_of_part(plan, part, link) {
+            runs.push(output_run(plan, part, link))?;
+        }
+    }
+    Ok(runs)
+}
+
+/// The runs of the outputs of each part.
+pub fn runs_by_part(alloc: Global, plan: &Plan) -> Result<Listed<Listed<Run>>, AllocError>
+    requires { IsUsable plan.now }
+    ensures count { IfOk result (λ rs. length rs ≡ length plan.now.parts) }
+    ensures each { IfOk result (λ rs. (k : ℕ) → k < length plan.now.parts → get_or rs k [] ≡ part_runs plan.now k) }
+{
+    let mut runs = Listed::new(alloc);
+    for part in 0..plan.parts().len() {
+        runs.push(runs_of_part(alloc, plan, part)?)?;
+    }
+    Ok(runs)
+}
+
+/// Where the input bits of a link stand in the data that its part brings back, and where in the image.
+fn input_run(plan: &Plan, link: &Link) -> InputRun
+    requires usable { IsUsable plan.now }
+    requires linked { IsInLink plan.now link.now }
+    ensures { result ≡ input_run plan.now link.now }
+{
+    let settings = plan.settings(link.slave);
+    let part = settings.share.part;
+    let place = plan.parts()[part];
+    InputRun {
+        part,
+        unit: place.unit,
+        run: Run {
+            to: link.image,
+            from: settings.from + link.object_bit - 8 * place.address as usize,
+            count: link.count,
+        },
+    }
+}
+
+/// The runs of the inputs, in the order of the links.
+pub fn runs_of_inputs(alloc: Global, plan: &Plan) -> Result<Listed<InputRun>, AllocError>
+    requires { IsUsable plan.now }
+    ensures { IfOk result (λ rs. rs ≡ map (input_run plan.now) plan.now.in_links) }
+{
+    let mut runs = Listed::new(alloc);
+    for link in plan.in_links() {
+        runs.push(input_run(plan, link))?;
+    }
+    Ok(runs)
+}
