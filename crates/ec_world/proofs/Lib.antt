@@ -28,3 +28,6 @@ pub mod Whole
 pub mod NewWorlds
 pub mod Turning
 pub mod Promising
+pub mod Tracing
+pub mod Histories
+pub mod Accepted

@@ -16,5 +16,6 @@ pub mod Exchanging
 pub mod Laws
 pub mod Whole
 pub mod NewWorld
+pub mod Example
 -- This serves the proofs alone: what holds of a world that starts up.
 pub mod Rising

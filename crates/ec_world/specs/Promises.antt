@@ -1,14 +1,16 @@
 -- What a user is promised, in words of the image, the links and the values of slaves. It is proved of every world that shows a
 -- plain state, so of every world from the step on that makes it Ready.
-use Rattle.std.specs.Prelude.{ℕ, ◌*◌, ◌<◌, ◌≡◌, ◌≢◌, ◌⊎◌, ◌==◌, ◌&&◌, ◌||◌, List, length, map, get_or, Bool, true, false, if◌then◌else◌, Some, None, slice_get}
+use Rattle.std.specs.Prelude.{ℕ, not, ◌*◌, ◌<◌, ◌≡◌, ◌≢◌, ◌⊎◌, ◌==◌, ◌&&◌, ◌||◌, List, length, map, get_or, Bool, true, false, if◌then◌else◌, Some, None, slice_get}
+use Rattle.std.specs.List.{list_all}
 use Rattle.ec_bits.specs.Bits.{bit, bytes_of_bits}
 use Rattle.ec_slave.specs.Exchange.{with_outputs}
 use Rattle.ec_link.specs.Shares.{has_outs, has_ins, unit_of_part}
 use Rattle.ec_link.specs.Meaning.{Meaning, Linked, share_of, meaning}
 use Rattle.ec_link.specs.Usable.{IsUsable}
 use Rattle.ec_cycle.specs.Closing.{ReportState}
-use Rattle.ec_world.specs.declared.event.Event.TheVariants.{Pass, Close}
-use Rattle.ec_world.specs.Plain.{Plain, PlainSlave, PlainFrame, Note, Short, Full, Cycle, Working, Faulted, Reset, unit_full, met_note, plain_slave, frame_at}
+use Rattle.ec_world.specs.declared.event.Event.{Event}
+use Rattle.ec_world.specs.declared.event.Event.TheVariants.{StartNext, Set, Begin, Pass, Lose, Return, Close, Serve, AppPut, AppGet, Fault, Reset as ResetSlave}
+use Rattle.ec_world.specs.Plain.{Plain, PlainSlave, PlainFrame, Note, Short, Full, Cycle, Working, Faulted, Reset, unit_full, met_note, plain_slave, frame_at, step, run}
 use Rattle.ec_world.specs.World.{WorldState, IsStep, slave_of}
 use Rattle.ec_world.specs.FrameShows.{out_bit}
 use Rattle.ec_world.specs.Shows.{Shows, CountersPredicted}
@@ -99,3 +101,54 @@ abbrev pub InputsLaw : Type 0
 InputsLaw =
     (old : WorldState) (p : Plain) (c : Cycle) (new : WorldState) → IsUsable old.plan → Shows old p → p.cycle ≡ Some c
     → IsStep old Close new true → IsClosedAs old c new
+
+-- ---- over a run
+
+-- no frame is on its way
+abbrev pub HasNoFrame : Plain → Type 0
+HasNoFrame p = (k : ℕ) → frame_at p k ≡ None
+
+-- a cycle is begun after some events, of which the first found no frame on its way
+pub record IsBegun (m : Meaning) (p begun : Plain) : Type 0 where
+  pub first : Plain
+  pub no_frame : HasNoFrame first
+  pub before : List Event
+  pub reached : p ≡ (run m first before).plain
+  pub begins : step m p Begin ≡ Some begun
+
+-- The frames of a cycle, wherever they are and whatever happened since, carry the image as it was when the cycle began.
+abbrev pub SnapshotsLaw : Type 0
+SnapshotsLaw =
+    (m : Meaning) (p begun : Plain) (after : List Event) → IsBegun m p begun
+    → (k : ℕ) (f : PlainFrame) → frame_at (run m begun after).plain k ≡ Some f → f.number ≡ p.next → f.snapshot ≡ p.outputs
+
+-- A slave in OP stays there until it has a fault or is reset.
+abbrev pub WorkingLaw : Type 0
+WorkingLaw =
+    (m : Meaning) (p : Plain) (e : Event) (q : Plain) (s : ℕ) → step m p e ≡ Some q → e ≢ Fault s → e ≢ ResetSlave s
+    → (plain_slave p s).health ≡ Working → (plain_slave q s).health ≡ Working
+
+-- a loss, a fault or a reset
+abbrev pub disturbs : Event → Bool
+disturbs StartNext = false
+disturbs (Set v x) = false
+disturbs Begin = false
+disturbs (Pass k) = false
+disturbs (Lose k) = true
+disturbs (Return k) = false
+disturbs Close = false
+disturbs (Serve s) = false
+disturbs (AppPut s i x) = false
+disturbs (AppGet s i) = false
+disturbs (Fault s) = true
+disturbs (ResetSlave s) = true
+
+-- Only a loss, a fault, a reset or an early close can keep a unit from being taken: where all slaves are in OP as a cycle
+-- begins, no event disturbs, and all its frames are back, a close takes every unit.
+abbrev pub TakenLaw : Type 0
+TakenLaw =
+    (m : Meaning) (p begun : Plain) (after : List Event) (c : Cycle) → IsBegun m p begun
+    → ((s : ℕ) → s < length p.slaves → (plain_slave p s).health ≡ Working) → list_all (λ e. not (disturbs e)) after ≡ true
+    → (run m begun after).plain.cycle ≡ Some c → c.number ≡ p.next
+    → ((k : ℕ) (f : PlainFrame) → frame_at (run m begun after).plain k ≡ Some f → f.number ≢ p.next)
+    → (u : ℕ) → unit_full m c u ≡ true

@@ -1,14 +1,20 @@
 //! What is promised of a world, and laws of the definitions. Each function does nothing: its contract is the law.
 ghost use Rattle.ec_world.specs.Laws.{RoundTrip, CycleLaw, StepsShow, RunsShow};
 ghost use Rattle.ec_world.specs.Whole.{WholeLaw, CompiledLaw};
+ghost use Rattle.ec_world.specs.Example.{AcceptedLaw};
 ghost use Rattle.ec_world.specs.NewWorld.{NewUpLaw, NewRunLaw};
-ghost use Rattle.ec_world.specs.Promises.{OutputsLaw, NotesLaw, InputsLaw};
+ghost use Rattle.ec_world.specs.Promises.{OutputsLaw, SnapshotsLaw, NotesLaw, InputsLaw, WorkingLaw, TakenLaw};
 
 /// A cyclic frame that passes a slave in OP gives its outputs exactly the linked bits of the image that it was made of, and 0
 /// elsewhere; it changes nothing else of the slave, no other slave and nothing of the image.
 #[tactic(auto, using(crate::proofs::Promising::outputs_law))]
 pub fn outputs_are_linked()
     ensures { OutputsLaw }
+{}
+
+/// The frames of a cycle, wherever they are and whatever happened since, carry the image as it was when the cycle began.
+pub fn frames_keep_their_image()
+    ensures { SnapshotsLaw }
 {}
 
 /// What a frame notes of a slave of its part is what the slave publishes as the frame passes. Only a slave that was reset and
@@ -24,6 +30,17 @@ pub fn notes_are_published()
 #[tactic(auto, using(crate::proofs::Promising::inputs_law))]
 pub fn inputs_are_linked()
     ensures { InputsLaw }
+{}
+
+/// A slave in OP stays there until it has a fault or is reset.
+#[tactic(auto, using(crate::proofs::Histories::working_law))]
+pub fn slaves_stay_in_op()
+    ensures { WorkingLaw }
+{}
+
+/// Only a loss, a fault, a reset or an early close can keep a unit from being taken.
+pub fn quiet_cycles_are_taken()
+    ensures { TakenLaw }
 {}
 
 /// A cyclic frame that goes round leaves in every slave, working or not, and brings back, what the plain machine says.
@@ -72,4 +89,9 @@ pub fn new_up()
 /// The same in events of a world: StartNext, Pass 0 for each slave, Return 0, Serve of each slave, and so on.
 pub fn new_run()
     ensures { NewRunLaw }
+{}
+
+/// The compiler accepts a table: what is promised of the worlds of accepted tables is not empty.
+pub fn a_table_is_accepted()
+    ensures { AcceptedLaw }
 {}

@@ -1,0 +1,96 @@
+-- A table of one slave with four output bits, one variable and one link: it is sound, and no fault is in it.
+use Rattle.std.proofs.Common.{◌≡◌, ℕ, zero, suc, ◌<◌, [], ◌∷◌, length, get_or, refl, subst, arith, Some, None}
+use Rattle.std.specs.List.{All, Contains}
+use Rattle.ec_regs.specs.declared.slave_type.Pdo.{Pdo}
+use Rattle.ec_regs.specs.Types.{IsEntry, IsPdo, ArePdos, first_output_index, first_input_index}
+use Rattle.ec_table.specs.declared.rows.Version.TheVariants.{One}
+use Rattle.ec_table.specs.declared.rows.Direction.TheVariants.{Out, In}
+use Rattle.ec_table.specs.declared.rows.Direction.{Direction}
+use Rattle.ec_regs.specs.declared.slave_type.Mailbox.{Mailbox}
+use Rattle.ec_table.specs.Sound as table
+use Rattle.ec_table.specs.Pdos.{indices_of}
+use Rattle.ec_table.specs.declared.rows.TypeRow.{TypeRow}
+use Rattle.ec_table.specs.Contents.{pdos_toward, assigned_toward}
+use Rattle.ec_table.specs.Objects.{entries_of}
+use Rattle.ec_link.specs.Wires.{run_of, wire_of}
+use Rattle.ec_link.specs.Settings.{managers_of}
+use Rattle.ec_link.specs.Layout.{layout, units_below, unit_count, seated, joined, opened, with_slave, joins}
+use Rattle.ec_link.specs.Faults.{compile_fault, link_fault, slave_fault, part_fault, memory_fault, variable_fault, managers_at}
+use Rattle.ec_world.specs.Example.{small_type, small_slave, small_variable, small_link, small_table, AcceptedLaw}
+
+pub accepted : compile_fault small_table ≡ None
+unfolding compile_fault link_fault slave_fault part_fault memory_fault variable_fault managers_at entries_of run_of wire_of managers_of layout units_below unit_count seated joined opened with_slave joins
+accepted = refl
+
+-- ---- it is sound
+
+none_box : (m : Mailbox) → None ≡ Some m → ⊥
+none_box m e = cc
+
+-- of a list of one
+one : {X : Type 0} (P : X → Type 0) (x : X) → P x → (k : ℕ) (d : X) → k < length (x ∷ []) → P (get_or (x ∷ []) k d)
+one P x h zero d l = h
+one P x h (suc k) d l = absurd (omega (arith, l))
+
+entry_small : IsEntry (record { index = 0x7000; subindex = 1; bits = 4 })
+entry_small = record { some = omega arith; few = omega arith; gap = λ e. absurd (omega (arith, e)) }
+
+outputs_small : ArePdos first_output_index small_type.process.outputs
+outputs_small = record {
+  few = omega arith;
+  each = one (IsPdo first_output_index) _ (record { from = omega arith; below = omega arith; few = omega arith; entries = one IsEntry _ entry_small });
+  apart = λ i j d a b. absurd (omega (arith, a, b));
+}
+
+inputs_small : ArePdos first_input_index small_type.process.inputs
+inputs_small = record { few = omega arith; each = λ k d l. absurd (omega (arith, l)); apart = λ i j d a b. absurd (omega (arith, a, b)) }
+
+entries_named : (d : Direction) → All (λ (q : Pdo). All table.HasName q.entries) (pdos_toward d small_type)
+entries_named Out = one (λ (q : Pdo). All table.HasName q.entries) _ (one table.HasName _ (record { index = omega arith; subindex = omega arith }))
+entries_named In = λ k d l. absurd (omega (arith, l))
+
+type_sound : table.IsType small_type
+type_sound = record {
+  name = refl;
+  device = record { vendor = omega arith; product = omega arith; revision = omega arith };
+  limits = record { mailbox = λ m e. absurd (none_box m e); outputs = outputs_small; inputs = inputs_small };
+  mailbox = λ m e. absurd (none_box m e);
+  out_start = omega arith;
+  in_start = omega arith;
+  entries = entries_named;
+}
+
+same_type : (t : TypeRow) → Some small_type ≡ Some t → small_type ≡ t
+same_type t e = cc
+
+assigned : (d : Direction) → table.IsAssignment None (pdos_toward d small_type) (assigned_toward d small_slave)
+assigned Out = record { known = one (Contains (indices_of small_type.process.outputs)) 0x1600 (0, omega arith, refl); once = λ i j d a b. absurd (omega (arith, a, b)); fixed = λ e. refl }
+assigned In = record { known = λ k d l. absurd (omega (arith, l)); once = λ i j d a b. absurd (omega (arith, a, b)); fixed = λ e. refl }
+
+pub sound : table.IsSound small_table
+sound = record {
+  types = record { each = one table.IsType small_type type_sound; once = λ i j d a b. absurd (omega (arith, a, b)) };
+  slaves = record {
+    each = one (table.IsSlave One (small_type ∷ [])) small_slave (record {
+      name = refl;
+      known = omega arith;
+      assigned = λ t d e. subst (λ (x : TypeRow). table.IsAssignment x.mailbox (pdos_toward d x) (assigned_toward d small_slave)) (same_type t e) (assigned d);
+      serial = omega arith;
+      unit = omega arith;
+      one_unit = λ e. refl;
+    });
+    once = λ i j d a b. absurd (omega (arith, a, b));
+  };
+  variables = record { each = one table.IsVariable small_variable (record { name = refl; least = omega arith; most = omega arith }); once = λ i j d a b. absurd (omega (arith, a, b)) };
+  links = one (table.IsLink (small_slave ∷ []) (small_variable ∷ [])) small_link (record {
+    variable = omega arith;
+    slave = omega arith;
+    least = omega arith;
+    most = omega arith;
+    subindex = omega arith;
+    bits = record { variable_bit = omega arith; entry_bit = omega arith; least = omega arith; most = omega arith };
+  });
+}
+
+pub accepted_law : AcceptedLaw
+accepted_law = (sound, accepted)

@@ -1,0 +1,164 @@
+-- What each event of the plain machine leaves of frames, of the open cycle and of slaves.
+use Rattle.std.proofs.Common.{ℕ, zero, suc, ◌+◌, ◌-◌, ◌^◌, ◌<◌, ◌≤◌, ◌≡◌, ◌==◌, ◌&&◌, not, Bool, true, false, Option, Some, None, refl, sym, ◌∙◌, ap, subst, List, [], ◌∷◌, length, map, get_or, set, is_none, if◌then◌else◌, option_map, option_and_then, nat_lt, nat_le, slice_get}
+use Rattle.std.proofs.lemmas.Bool.{and_parts, leb-true, ltb-true}
+use Rattle.ec_link.specs.declared.image.Variable.{Variable}
+use Rattle.ec_link.specs.Meaning.{Meaning, share_of}
+use Rattle.ec_link.specs.Shares.{has_outs}
+use Rattle.ec_bits.specs.Bits.{with_number}
+use Rattle.ec_sync.specs.Buffer.{publishing, app_written, app_read}
+use Rattle.ec_cycle.specs.Closing.{nones}
+use Rattle.ec_world.specs.declared.event.Event.{Event}
+use Rattle.ec_world.specs.declared.event.Event.TheVariants.{StartNext, Set, Begin, Pass, Lose, Return, Close, Serve, AppPut, AppGet, Fault, Reset as ResetSlave}
+use Rattle.ec_world.specs.Plain.{Plain, PlainSlave, PlainFrame, step, frame_at, setting, moved, keeping, closing, filled, new_frames, is_working, is_reset, got_byte, failing, restarting, plain_slave, no_plain_slave, linked_outputs, may_pass, all_progress, progress_of, met_slave, taking, Health, Working, Faulted, Reset}
+use Rattle.ec_world.specs.Plain as plain
+
+none_some : {X : Type 0} (x : X) → None ≡ Some x → ⊥
+none_some x e = cc
+
+some_same : {X : Type 0} (x y : X) → Some x ≡ Some y → x ≡ y
+some_same x y e = cc
+
+pub guarded : {X : Type 0} (b : Bool) (x q : X) → (if b then Some x else None) ≡ Some q → x ≡ q
+guarded true x q e = some_same x q e
+guarded false x q e = absurd (none_some q e)
+
+pub record Mapped {X Y : Type 0} (f : X → Y) (o : Option X) (q : Y) : Type 0 where
+  pub value : X
+  pub there : o ≡ Some value
+  pub is : f value ≡ q
+
+pub mapped : {X Y : Type 0} (f : X → Y) (o : Option X) (q : Y) → option_map f o ≡ Some q → Mapped f o q
+mapped f None q e = absurd (none_some q e)
+mapped f (Some x) q e = record { value = x; there = refl; is = some_same (f x) q e }
+
+pub chained : {X Y : Type 0} (f : X → Option Y) (o : Option X) (q : Y) → option_and_then f o ≡ Some q → Mapped f o (Some q)
+chained f None q e = absurd (none_some q e)
+chained f (Some x) q e = record { value = x; there = refl; is = e }
+
+guarded_map : {X : Type 0} (b : Bool) (f : X → Plain) (o : Option X) (q : Plain) → (if b then option_map f o else None) ≡ Some q → Mapped f o q
+guarded_map true f o q e = mapped f o q e
+guarded_map false f o q e = absurd (none_some q e)
+
+-- What an event leaves of the frames, the next number and the open cycle.
+pub data Leaves (m : Meaning) (p : Plain) (e : Event) (q : Plain) : Type 0 where
+  Stays : q.slots ≡ p.slots → q.next ≡ p.next → q.cycle ≡ p.cycle → Leaves m p e q
+  Begins : q.slots ≡ filled (new_frames p.next p.outputs 0 m.parts) p.slots → q.next ≡ p.next + 1
+      → q.cycle ≡ Some (record { number = p.next; kept = map (λ u. None) m.parts }) → q.slaves ≡ p.slaves → length m.parts ≤ nones p.slots → Leaves m p e q
+  Moves : (k : ℕ) (f : PlainFrame) → frame_at p k ≡ Some f → length f.notes < length p.slaves → q ≡ moved m p k f → Leaves m p e q
+  Loses : (k : ℕ) → e ≡ Lose k → q ≡ record p { slots = set p.slots k None } → Leaves m p e q
+  Returns : (k : ℕ) (f : PlainFrame) → frame_at p k ≡ Some f → q ≡ record p { cycle = option_map (keeping f) p.cycle; slots = set p.slots k None } → Leaves m p e q
+  Closes : q.slots ≡ p.slots → q.next ≡ p.next → q.cycle ≡ None → Leaves m p e q
+
+-- where only the slaves and the byte read last differ
+stays_by : (m : Meaning) (p : Plain) (e : Event) (q : Plain) (r : Plain) → r ≡ q → r.slots ≡ p.slots → r.next ≡ p.next → r.cycle ≡ p.cycle → Leaves m p e q
+stays_by m p e q r same a b c = subst (λ (x : Plain). Leaves m p e x) same (Stays a b c)
+
+set_leaves : (m : Meaning) (p : Plain) (v x : ℕ) (o : Option Variable) (q : Plain) → setting p x o ≡ Some q → Leaves m p (Set v x) q
+set_leaves m p v x None q e = absurd (none_some q e)
+set_leaves m p v x (Some w) q e = stays_by m p (Set v x) q (record p { outputs = with_number p.outputs w.from w.bits x }) (guarded _ _ q e) refl refl refl
+
+pub leaves : (m : Meaning) (p : Plain) (e : Event) (q : Plain) → step m p e ≡ Some q → Leaves m p e q
+leaves m p StartNext q e = absurd (none_some q e)
+leaves m p (Set v x) q e = set_leaves m p v x (slice_get m.variables v) q e
+leaves m p Begin q e =
+    let r : Plain = record p {
+      next = p.next + 1;
+      cycle = Some (record { number = p.next; kept = map (λ u. None) m.parts });
+      slots = filled (new_frames p.next p.outputs 0 m.parts) p.slots;
+    } in
+    subst (λ (x : Plain). Leaves m p Begin x) (guarded _ r q e) (Begins refl refl refl refl (room _ refl e))
+  where
+    room : (b : Bool) → (is_none p.cycle && (nat_le (length m.parts) (nones p.slots) && nat_lt p.next (2 ^ 64 - 1))) ≡ b
+        → (if b then Some (record p { next = p.next + 1; cycle = Some (record { number = p.next; kept = map (λ u. None) m.parts }); slots = filled (new_frames p.next p.outputs 0 m.parts) p.slots }) else None) ≡ Some q → length m.parts ≤ nones p.slots
+    room true on h = leb-true _ _ (and_parts (nat_le (length m.parts) (nones p.slots)) _ (and_parts (is_none p.cycle) _ on).1).0
+    room false off h = absurd (none_some q h)
+leaves m p (Pass k) q e =
+    let r = guarded_map _ (moved m p k) (frame_at p k) q e in
+    Moves k r.value r.there (inside (may_pass (length p.slaves) (all_progress p.slots) (option_map progress_of (frame_at p k))) refl e r.value r.there) (sym r.is)
+  where
+    inside : (b : Bool) → may_pass (length p.slaves) (all_progress p.slots) (option_map progress_of (frame_at p k)) ≡ b
+        → (if b then option_map (moved m p k) (frame_at p k) else None) ≡ Some q → (f : PlainFrame) → frame_at p k ≡ Some f → length f.notes < length p.slaves
+    inside true on h f at =
+        ltb-true _ _ (and_parts (nat_lt (length f.notes) (length p.slaves)) _ (sym (ap (λ o. may_pass (length p.slaves) (all_progress p.slots) (option_map progress_of o)) at) ∙ on)).0
+    inside false off h f at = absurd (none_some q h)
+leaves m p (Lose k) q e = Loses k refl (sym (guarded _ _ q e))
+leaves m p (Return k) q e =
+    let r = guarded_map _ (λ f. record p { cycle = option_map (keeping f) p.cycle; slots = set p.slots k None }) (frame_at p k) q e in
+    Returns k r.value r.there (sym r.is)
+leaves m p Close q e = let r = mapped (closing m p) p.cycle q e in subst (λ (x : Plain). Leaves m p Close x) r.is (Closes refl refl refl)
+leaves m p (Serve s) q e = let r = chained (λ x. Some p) (slice_get p.slaves s) q e in stays_by m p (Serve s) q p (some_same p q r.is) refl refl refl
+leaves m p (AppPut s i x) q e =
+    let r = chained (λ y. if not (is_reset y.health) then option_map (λ b. plain.with_slave p s (record y { inputs = b })) (app_written y.inputs i x) else None) (slice_get p.slaves s) q e in
+    let t = guarded_map (not (is_reset r.value.health)) (λ b. plain.with_slave p s (record r.value { inputs = b })) (app_written r.value.inputs i x) q r.is in
+    stays_by m p (AppPut s i x) q (plain.with_slave p s (record r.value { inputs = t.value })) t.is refl refl refl
+leaves m p (AppGet s i) q e =
+    let r = chained (λ y. if is_working y.health then option_map (got_byte p s y) (app_read y.outputs i) else None) (slice_get p.slaves s) q e in
+    let t = guarded_map (is_working r.value.health) (got_byte p s r.value) (app_read r.value.outputs i) q r.is in
+    stays_by m p (AppGet s i) q (got_byte p s r.value t.value) t.is refl refl refl
+leaves m p (Fault s) q e =
+    let r = chained (λ y. if is_working y.health then Some (plain.with_slave p s (failing y)) else None) (slice_get p.slaves s) q e in
+    stays_by m p (Fault s) q (plain.with_slave p s (failing r.value)) (guarded (is_working r.value.health) _ q r.is) refl refl refl
+leaves m p (ResetSlave s) q e =
+    let r = chained (λ y. Some (plain.with_slave p s (restarting y))) (slice_get p.slaves s) q e in
+    stays_by m p (ResetSlave s) q (plain.with_slave p s (restarting r.value)) (some_same _ q r.is) refl refl refl
+
+-- ---- slaves
+
+-- what an event leaves of slaves: all as they are, or one other
+pub data Treats (m : Meaning) (p : Plain) (e : Event) (q : Plain) : Type 0 where
+  Same : q.slaves ≡ p.slaves → Treats m p e q
+  Uses : (t : ℕ) (y : PlainSlave) → q.slaves ≡ set p.slaves t y → y.health ≡ (plain_slave p t).health → Treats m p e q
+  Fails : (t : ℕ) (y : PlainSlave) → e ≡ Fault t → q.slaves ≡ set p.slaves t y → Treats m p e q
+  Resets : (t : ℕ) (y : PlainSlave) → e ≡ ResetSlave t → q.slaves ≡ set p.slaves t y → Treats m p e q
+
+had : {X : Type 0} (xs : List X) (k : ℕ) (x d : X) → slice_get xs k ≡ Some x → get_or xs k d ≡ x
+had [] k x d e = absurd (none_some x e)
+had (y ∷ xs) zero x d e = some_same y x e
+had (y ∷ xs) (suc k) x d e = had xs k x d e
+
+taking_health : (m : Meaning) (s : ℕ) (f : PlainFrame) (q : PlainSlave) (h : Health) → (taking m s f q h).health ≡ q.health
+taking_health m s f q Faulted = refl
+taking_health m s f q Reset = refl
+taking_health m s f q Working = by (has_outs (share_of m s))
+  where
+    by : (b : Bool) → (if b then record q { outputs = publishing q.outputs (linked_outputs m s f.snapshot) } else q).health ≡ q.health
+    by true = refl
+    by false = refl
+
+met_health : (m : Meaning) (s : ℕ) (f : PlainFrame) (q : PlainSlave) → (met_slave m s f q).health ≡ q.health
+met_health m s f q = by ((share_of m s).part == f.part)
+  where
+    by : (b : Bool) → (if b then taking m s f q q.health else q).health ≡ q.health
+    by true = taking_health m s f q q.health
+    by false = refl
+
+set_treats : (m : Meaning) (p : Plain) (v x : ℕ) (o : Option Variable) (q : Plain) → setting p x o ≡ Some q → q.slaves ≡ p.slaves
+set_treats m p v x None q e = absurd (none_some q e)
+set_treats m p v x (Some w) q e = sym (ap (λ (y : Plain). y.slaves) (guarded _ _ q e))
+
+pub treats : (m : Meaning) (p : Plain) (e : Event) (q : Plain) → step m p e ≡ Some q → Treats m p e q
+treats m p StartNext q e = absurd (none_some q e)
+treats m p (Set v x) q e = Same (set_treats m p v x (slice_get m.variables v) q e)
+treats m p Begin q e = Same (sym (ap (λ (y : Plain). y.slaves) (guarded _ _ q e)))
+treats m p (Pass k) q e =
+    let r = guarded_map _ (moved m p k) (frame_at p k) q e in
+    let t = length r.value.notes in
+    Uses t (met_slave m t r.value (plain_slave p t)) (sym (ap (λ (y : Plain). y.slaves) r.is)) (met_health m t r.value (plain_slave p t))
+treats m p (Lose k) q e = Same (sym (ap (λ (y : Plain). y.slaves) (guarded _ _ q e)))
+treats m p (Return k) q e = let r = guarded_map _ (λ f. record p { cycle = option_map (keeping f) p.cycle; slots = set p.slots k None }) (frame_at p k) q e in Same (sym (ap (λ (y : Plain). y.slaves) r.is))
+treats m p Close q e = let r = mapped (closing m p) p.cycle q e in Same (sym (ap (λ (y : Plain). y.slaves) r.is))
+treats m p (Serve s) q e = let r = chained (λ x. Some p) (slice_get p.slaves s) q e in Same (sym (ap (λ (y : Plain). y.slaves) (some_same p q r.is)))
+treats m p (AppPut s i x) q e =
+    let r = chained (λ y. if not (is_reset y.health) then option_map (λ b. plain.with_slave p s (record y { inputs = b })) (app_written y.inputs i x) else None) (slice_get p.slaves s) q e in
+    let t = guarded_map (not (is_reset r.value.health)) (λ b. plain.with_slave p s (record r.value { inputs = b })) (app_written r.value.inputs i x) q r.is in
+    Uses s (record r.value { inputs = t.value }) (sym (ap (λ (y : Plain). y.slaves) t.is)) (ap (λ (y : PlainSlave). y.health) (sym (had p.slaves s r.value no_plain_slave r.there)))
+treats m p (AppGet s i) q e =
+    let r = chained (λ y. if is_working y.health then option_map (got_byte p s y) (app_read y.outputs i) else None) (slice_get p.slaves s) q e in
+    let t = guarded_map (is_working r.value.health) (got_byte p s r.value) (app_read r.value.outputs i) q r.is in
+    Uses s (record r.value { outputs = t.value.buffer }) (sym (ap (λ (y : Plain). y.slaves) t.is)) (ap (λ (y : PlainSlave). y.health) (sym (had p.slaves s r.value no_plain_slave r.there)))
+treats m p (Fault s) q e =
+    let r = chained (λ y. if is_working y.health then Some (plain.with_slave p s (failing y)) else None) (slice_get p.slaves s) q e in
+    Fails s (failing r.value) refl (sym (ap (λ (y : Plain). y.slaves) (guarded (is_working r.value.health) _ q r.is)))
+treats m p (ResetSlave s) q e =
+    let r = chained (λ y. Some (plain.with_slave p s (restarting y))) (slice_get p.slaves s) q e in
+    Resets s (restarting r.value) refl (sym (ap (λ (y : Plain). y.slaves) (some_same _ q r.is)))
