@@ -53,7 +53,7 @@ pub fn bytes_of(rt: &(impl AllocGlobal + Abort), row: &str) -> Result<Vec<u8>, F
 /// The bytes of a mailbox of 128 bytes: a message and zeros.
 fn mailbox_of(rt: &(impl AllocGlobal + Abort), row: &str) -> Result<Vec<u8>, Fail> {
     let mut bytes = bytes_of(rt, row)?;
-    while bytes.len() < 128 {
+    for _ in bytes.len()..128 {
         bytes.push(0)?;
     }
     Ok(bytes)
