@@ -13,8 +13,6 @@ mod master;
 mod matching;
 mod report;
 mod run;
-#[cfg(test)]
-mod tests;
 
 pub use crate::error::CycleError;
 pub use crate::master::{Master, Taken};

@@ -1,4 +1,4 @@
-ghost use Rattle.std.specs.Prelude.{◌&&◌, set, false, if◌then◌else◌, ◌≡◌, ◌≤◌, ◌<◌, ◌+◌, ◌*◌, ◌^◌, ◌↔◌, ℕ, Bool, List, [], Option, Some, None, length, map, replicate, slice_get, get_or, true, false, is_some, IfOk, IfSome, IsErr, IfErr, OnOk, OnErr};
+ghost use Rattle.std.specs.Prelude.{◌&&◌, nat_lt, set, false, if◌then◌else◌, ◌≡◌, ◌≤◌, ◌<◌, ◌+◌, ◌*◌, ◌^◌, ◌↔◌, ℕ, Bool, List, [], Option, Some, None, length, map, replicate, slice_get, get_or, true, false, is_some, IfOk, IfSome, IsErr, IfErr, OnOk, OnErr};
 ghost use Rattle.ec_bits.specs.Bits.{zeros, bytes_of_bits};
 ghost use Rattle.ec_frame.specs.Building.{bare_payload};
 ghost use Rattle.ec_frame.specs.Frame.{Payload, IsFrame};
@@ -275,6 +275,30 @@ fn forget(kept: &mut [Returned])
     }
 }
 
+/// Whether a number has at most so many bits.
+fn is_short(value: u64, bits: u8) -> bool
+    requires some { 1 ≤ bits }
+    requires few { bits ≤ 64 }
+    ensures { result ≡ nat_lt value (2 ^ bits) }
+{
+    bits == 64 || value < 1u64 << bits
+}
+
+/// Whether a variable is an output that holds the value.
+fn can_hold(plan: &Plan, variable: usize, value: u64) -> bool
+    requires { IsUsable plan.now }
+    ensures { result ≡ holds_value value (slice_get plan.now.variables variable) }
+{
+    if variable >= plan.variables().len() {
+        return false;
+    }
+    let place = plan.variables()[variable];
+    match place.direction {
+        Direction::Out => is_short(value, place.bits),
+        Direction::In => false,
+    }
+}
+
 /// Writes the bits of a variable of the outputs.
 fn write_variable(image: &mut [u8], plan: &Plan, variable: usize, value: u64)
     requires usable { IsUsable plan.now }
@@ -314,7 +338,7 @@ impl<'p> Master<'p> {
     }
 
     /// A start-up of the plan ended Ready, with this as its next number.
-    fn become_ready(&mut self, next: u64)
+    pub(crate) fn become_ready(&mut self, next: u64)
         ensures { self.new ≡ readied self.old next }
     {
         self.is_ready = true;
@@ -340,6 +364,27 @@ impl<'p> Master<'p> {
         ensures { result ≡ self.now.next }
     {
         self.next
+    }
+
+    /// How many parts a cycle has.
+    pub fn parts(&self) -> usize
+        ensures { result ≡ length self.now.plan.parts }
+    {
+        self.plan.parts().len()
+    }
+
+    /// How many variables there are.
+    pub fn variables(&self) -> usize
+        ensures { result ≡ length self.now.plan.variables }
+    {
+        self.plan.variables().len()
+    }
+
+    /// Whether a variable is there, is one of the outputs and holds the value: what `set` asks.
+    pub fn can_set(&self, variable: usize, value: u64) -> bool
+        ensures { result ≡ holds_value value (slice_get self.now.plan.variables variable) }
+    {
+        can_hold(self.plan, variable, value)
     }
 
     /// A variable of the outputs becomes a value; no other bit changes, and no frame that was made.
