@@ -14,6 +14,7 @@ ghost use Rattle.ec_cycle.specs.Master.{OpenCycle, MasterState, Begun, IsTaken, 
 ghost use Rattle.ec_cycle.specs.declared.error.CycleError.{CycleError};
 ghost use Rattle.ec_cycle.specs.declared.error.CycleError.TheVariants.{NotOpen};
 ghost use Rattle.ec_cycle.specs.Taking.{is_kept};
+ghost use Rattle.ec_start.specs.declared.phase.Phase.TheVariants.{Ready};
 
 use crate::answered::answered;
 use crate::building::build;
@@ -26,6 +27,7 @@ use ec_bits::{copy_by_words, read_bits, write_bits};
 use ec_frame::{Frame, check};
 use ec_link::{Plan, Predicted};
 use ec_regs::Listed;
+use ec_start::Startup;
 use ec_table::Direction;
 use std::alloc::{AllocError, Global};
 use std::marker::Model;
@@ -335,6 +337,15 @@ impl<'p> Master<'p> {
             frames: frames_of(alloc, count)?,
             kept: nothing_kept(alloc, count)?,
         })
+    }
+
+    /// Cycles can begin: a start-up of the plan has ended Ready. The numbers of the cycles follow those of its frames, unless
+    /// they are past them already.
+    pub fn ready(&mut self, startup: &Startup)
+        requires ready { startup.now.phase ≡ Ready }
+        ensures { self.new ≡ readied self.old startup.now.next }
+    {
+        self.become_ready(startup.next_number());
     }
 
     /// A start-up of the plan ended Ready, with this as its next number.
