@@ -13,6 +13,8 @@ mod master;
 mod matching;
 mod report;
 mod run;
+#[cfg(test)]
+mod tests;
 
 pub use crate::error::CycleError;
 pub use crate::master::{Master, Taken};
