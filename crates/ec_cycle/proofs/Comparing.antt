@@ -3,7 +3,7 @@ use Rattle.std.proofs.Common.{ℕ, ◌+◌, ◌*◌, ◌^◌, ◌<◌, ◌≤◌
 use Rattle.std.specs.Int.{to_le_bytes, w16, w64}
 use Rattle.ec_frame.specs.Datagram.{Datagram}
 use Rattle.ec_cycle.specs.Master.{shape, name_of, process_addresses}
-use Rattle.ec_cycle.specs.Matching.{SameAt, SameFrom, Names}
+use Rattle.ec_cycle.specs.Matching.{SameFrom, Names}
 
 tail_same : (n : ℕ) (ds es : List Datagram) → 2 ≤ n → SameFrom n ds es → (map shape ds ≡ map shape es) × (map (λ (d : Datagram). d.address) ds ≡ map (λ (d : Datagram). d.address) es)
 tail_same n [] [] l h = (refl, refl)

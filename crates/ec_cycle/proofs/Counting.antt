@@ -1,5 +1,5 @@
 -- No slave gives more than its share, so predicted counters mean that each gave the whole of it.
-use Rattle.std.proofs.Common.{ℕ, zero, suc, ◌+◌, ◌<◌, ◌≤◌, ◌≡◌, ◌==◌, refl, sym, ◌∙◌, ap, subst, arith, length, List, [], ◌∷◌, map, get_or, Bool, true, false}
+use Rattle.std.proofs.Common.{ℕ, zero, suc, ◌<◌, ◌≤◌, ◌≡◌, ◌==◌, refl, sym, ◌∙◌, ap, subst, arith, length, List, [], ◌∷◌, map, get_or, Bool, true, false}
 use Rattle.std.specs.Int.{from_bool}
 use Rattle.std.proofs.lemmas.Bool.{eqb-true, and_parts}
 use Rattle.std.proofs.lemmas.List.{length-map, get_or-map}

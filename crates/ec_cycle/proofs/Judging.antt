@@ -1,5 +1,5 @@
 -- Loops over what is kept.
-use Rattle.std.proofs.Common.{ℕ, zero, suc, ◌+◌, ◌-◌, ◌<◌, ◌≤◌, ◌≡◌, ◌==◌, ◌&&◌, Bool, true, false, Option, Some, None, refl, sym, ◌∙◌, ap, subst, inl, inr, arith, List, [], ◌∷◌, length, map, get_or, set, take, drop, if◌then◌else◌, is_some, bit_or, add-one, get_or-set_same, get_or-set_other}
+use Rattle.std.proofs.Common.{ℕ, zero, suc, ◌+◌, ◌-◌, ◌<◌, ◌≤◌, ◌≡◌, ◌==◌, ◌&&◌, Bool, true, false, Option, Some, None, refl, sym, ◌∙◌, ap, inl, inr, arith, List, [], ◌∷◌, length, map, get_or, set, take, drop, if◌then◌else◌, is_some, bit_or, get_or-set_same, get_or-set_other}
 use Rattle.std.proofs.lemmas.Bool.{cases_eq, eq-eqb, ne_eqb}
 use Rattle.std.proofs.lemmas.List.{take_all, drop_all, get_or_default}
 use Rattle.ec_link.specs.declared.plan.Predicted.{Predicted}

@@ -1,9 +1,9 @@
 -- The process datagrams of a split part.
-use Rattle.std.proofs.Common.{ℕ, ◌+◌, ◌*◌, ◌%◌, ◌≤◌, ◌≡◌, ◌==◌, Bool, true, false, refl, sym, ◌∙◌, ap, subst, arith, List, [], ◌∷◌, ◌++◌, length, if◌then◌else◌, append_assoc, None, Some, Option}
+use Rattle.std.proofs.Common.{ℕ, ◌+◌, ◌*◌, ◌%◌, ◌≤◌, ◌≡◌, ◌==◌, Bool, true, sym, ◌∙◌, ap, subst, arith, List, [], ◌∷◌, ◌++◌, length, if◌then◌else◌, append_assoc, Some, Option}
 use Rattle.std.proofs.lemmas.Bool.{ne_eqb}
 use Rattle.ec_bits.specs.Bits.{zeros}
 use Rattle.ec_bits.proofs.AnyLaws.{if_true, if_false}
-use Rattle.ec_frame.specs.declared.command.Command.TheVariants.{Lrd, Lwr, Lrw}
+use Rattle.ec_frame.specs.declared.command.Command.TheVariants.{Lrd, Lwr}
 use Rattle.ec_frame.specs.Building.{new_datagram}
 use Rattle.ec_frame.specs.Datagram.{Datagram, joined}
 use Rattle.ec_frame.proofs.Builds.{joined_push}

@@ -1,5 +1,5 @@
 -- What `take` does, from what was compared.
-use Rattle.std.proofs.Common.{ℕ, ◌+◌, ◌<◌, ◌≤◌, ◌≡◌, ◌^◌, Bool, true, false, Option, Some, None, refl, sym, ◌∙◌, ap, subst, arith, List, [], ◌∷◌, length, map, get_or, set, slice_get, if◌then◌else◌, ◌==◌, ◌-◌, inl, inr, get_or-set_same, get_or-set_other}
+use Rattle.std.proofs.Common.{ℕ, ◌<◌, ◌≤◌, ◌≡◌, ◌^◌, Bool, true, false, Option, Some, None, refl, sym, ◌∙◌, ap, subst, arith, List, [], ◌∷◌, length, map, get_or, set, slice_get, if◌then◌else◌, ◌==◌, ◌-◌, inl, inr, get_or-set_same, get_or-set_other}
 use Rattle.std.proofs.lemmas.Bool.{cases_eq, eqb-true}
 use Rattle.ec_bits.specs.Bits.{zeros}
 use Rattle.ec_frame.specs.Building.{bare_payload}
@@ -15,7 +15,7 @@ use Rattle.ec_cycle.specs.Closing.{KeptPart, bytes_at, input_place, kept_of}
 use Rattle.ec_cycle.specs.Master.{MasterState, OpenCycle, Shape, shape, Answers, IsAnswer, IsTaken, with_kept}
 use Rattle.ec_cycle.specs.Matching.{SameFrom, AnswersPart, Answered, Names}
 use Rattle.ec_cycle.specs.Kept.{IsUnderWay}
-use Rattle.ec_cycle.proofs.Answering.{answers_by_sent, sent_by_answers, length-process_bytes, length-returned_first}
+use Rattle.ec_cycle.proofs.Answering.{answers_by_sent, sent_by_answers, length-returned_first}
 use Rattle.ec_cycle.proofs.Comparing.{same_answers, answers_same, names_part, named_of}
 
 -- ---- the data that holds the inputs is as long as the part

@@ -1,5 +1,5 @@
 -- What stands at the first places is what the definitions count out.
-use Rattle.std.proofs.Common.{ℕ, ◌≡◌, refl, List, [], ◌∷◌, slice_get}
+use Rattle.std.proofs.Common.{◌≡◌, refl, List, [], ◌∷◌, slice_get}
 use Rattle.std.specs.Option.{option_map_or}
 use Rattle.ec_frame.specs.Datagram.{Datagram}
 use Rattle.ec_cycle.specs.Closing.{counter_at, bytes_at}

@@ -1,11 +1,11 @@
 -- Copies run after run, and where the runs lie.
-use Rattle.std.proofs.Common.{ℕ, zero, suc, ◌+◌, ◌-◌, ◌*◌, ◌/◌, ◌^◌, ◌<◌, ◌≤◌, ◌≡◌, ◌==◌, ◌&&◌, Bool, true, false, Option, Some, None, refl, sym, ◌∙◌, ap, subst, inl, inr, arith, List, [], ◌∷◌, length, map, filter, get_or, take, drop, ◌++◌, append-nil, if◌then◌else◌}
+use Rattle.std.proofs.Common.{ℕ, zero, suc, ◌+◌, ◌*◌, ◌^◌, ◌<◌, ◌≤◌, ◌≡◌, ◌==◌, Bool, true, false, Option, Some, None, refl, sym, ◌∙◌, ap, subst, inl, inr, arith, List, [], ◌∷◌, length, map, filter, get_or, take, drop, ◌++◌, append-nil, if◌then◌else◌}
 use Rattle.std.specs.List.{AllByRecursion}
 use Rattle.std.proofs.lemmas.Bool.{cases_lt, eq-eqb, eqb-true, and_parts}
 use Rattle.std.proofs.lemmas.List.{drop_more, drop_all, length-map, length-replicate, take_more, take_all, map-append, get_or_past}
 use Rattle.std.proofs.lemmas.List.Elements.{filter-append}
 use Rattle.ec_bits.specs.Bits.{zeros, copied, bytes_of_bits}
-use Rattle.ec_bits.proofs.AnyLaws.{if_true, if_false}
+use Rattle.ec_bits.proofs.AnyLaws.{if_true}
 use Rattle.ec_link.specs.declared.plan.Link.{Link}
 use Rattle.ec_link.specs.Plan.{PlanState, part_at}
 use Rattle.ec_link.specs.Meaning.{slave_at, area_at}
@@ -13,7 +13,7 @@ use Rattle.ec_link.specs.Usable.{IsUsable, IsOutLink, IsInLink}
 use Rattle.ec_cycle.specs.declared.run.Run.{Run}
 use Rattle.ec_cycle.specs.declared.run.InputRun.{InputRun}
 use Rattle.ec_cycle.specs.Closing.{KeptPart, all_from, is_good, unit_taken, bytes_of, part_of_slave, inputs_closed}
-use Rattle.ec_cycle.specs.Copies.{output_run, run_copied, runs_copied, output_copied, outputs_copied, is_of_part, part_runs, FitsRun, input_run, input_copied, inputs_copied}
+use Rattle.ec_cycle.specs.Copies.{output_run, run_copied, runs_copied, outputs_copied, is_of_part, part_runs, FitsRun, input_run, inputs_copied}
 use Rattle.ec_cycle.specs.Frames.{process_bytes}
 use Rattle.ec_cycle.proofs.Copying.{area_inside, inputs_by_links}
 use Rattle.ec_cycle.proofs.Placing.{process_by_links}

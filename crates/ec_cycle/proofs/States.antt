@@ -2,7 +2,6 @@
 use Rattle.std.proofs.Common.{ℕ, zero, suc, ◌+◌, ◌<◌, ◌≤◌, ◌≡◌, Bool, true, false, not, Option, Some, None, is_some, option_map, refl, sym, ◌∙◌, ap, subst, arith, List, [], ◌∷◌, length, map, get_or, set, replicate}
 use Rattle.ec_frame.specs.Building.{bare_payload}
 use Rattle.ec_frame.specs.Frame.{Payload, IsFrame}
-use Rattle.ec_link.specs.declared.plan.Predicted.{Predicted}
 use Rattle.ec_link.specs.Plan.{PlanState, part_at}
 use Rattle.ec_cycle.specs.Frames.{sent_datagrams}
 use Rattle.ec_cycle.specs.Closing.{KeptPart, ReportState, kept_of, nones, or_words, unit_taken, inputs_closed, report_of}

@@ -1,13 +1,12 @@
 -- Cursors over the datagrams of two frames.
-use Rattle.std.proofs.Common.{ℕ, zero, suc, ◌+◌, ◌<◌, ◌≤◌, ◌≡◌, ◌↔◌, ◌⊎◌, Bool, true, false, Option, Some, None, refl, sym, ◌∙◌, ap, subst, inl, inr, arith, List, [], ◌∷◌, length, get_or, set, take, drop, slice_get, slice_range, nat_eq, add-one, eq-eqb, get_or-set_same, get_or-set_other}
+use Rattle.std.proofs.Common.{ℕ, zero, suc, ◌+◌, ◌<◌, ◌≤◌, ◌≡◌, ◌↔◌, ◌⊎◌, Bool, true, false, Option, Some, None, refl, sym, ◌∙◌, ap, subst, inl, inr, arith, List, [], ◌∷◌, length, get_or, set, drop, slice_get, slice_range, nat_eq, add-one, eq-eqb, get_or-set_same, get_or-set_other}
 use Rattle.std.proofs.lemmas.Bool.{cases_eq, eqb-true}
 use Rattle.std.proofs.lemmas.List.{drop_all}
 use Rattle.ec_frame.specs.declared.cursor.Places.{Places}
 use Rattle.ec_frame.specs.declared.cursor.Span.{Span}
 use Rattle.ec_frame.specs.Cursor.{IsAhead, StepsTo}
 use Rattle.ec_frame.specs.Datagram.{Datagram, IsDatagram, IsSpelling, is_followed, spelling}
-use Rattle.ec_frame.specs.Frame.{Payload, IsFrame}
-use Rattle.ec_cycle.specs.Matching.{SameAt, SameFrom, nowhere, StandsAt, StandsFor, StepsOn, NextAre, FirstStand}
+use Rattle.ec_cycle.specs.Matching.{SameAt, SameFrom, nowhere, StandsFor, StepsOn, NextAre}
 
 -- ---- a list from place n on
 

@@ -1,10 +1,10 @@
 -- The images and the data of frames by one copy of a run of bits a link, as code goes. The laws `ProcessByLinks` and
 -- `InputsByLinks` say that this makes what `process_bytes` and `inputs_closed` say.
-use Rattle.std.specs.Prelude.{ℕ, ◌+◌, ◌-◌, ◌*◌, ◌^◌, ◌<◌, ◌≤◌, ◌≡◌, ◌==◌, List, [], ◌∷◌, length, map, filter, get_or, if◌then◌else◌, Bool, Option, None}
+use Rattle.std.specs.Prelude.{ℕ, ◌+◌, ◌-◌, ◌*◌, ◌^◌, ◌<◌, ◌≤◌, ◌==◌, List, [], ◌∷◌, map, filter, get_or, if◌then◌else◌, Bool, Option, None}
 use Rattle.ec_bits.specs.Bits.{copied}
 use Rattle.ec_link.specs.declared.plan.Link.{Link}
 use Rattle.ec_link.specs.Plan.{PlanState, part_at}
-use Rattle.ec_link.specs.Meaning.{slave_at, area_at}
+use Rattle.ec_link.specs.Meaning.{area_at}
 use Rattle.ec_cycle.specs.declared.run.Run.{Run}
 use Rattle.ec_cycle.specs.declared.run.InputRun.{InputRun}
 use Rattle.ec_cycle.specs.Closing.{KeptPart, unit_taken, bytes_of, part_of_slave}

@@ -1,5 +1,5 @@
 -- What a master keeps true of its fields.
-use Rattle.std.specs.Prelude.{ℕ, ◌+◌, ◌^◌, ◌<◌, ◌≤◌, ◌≡◌, List, [], length, map, get_or, Option, Some, None}
+use Rattle.std.specs.Prelude.{ℕ, ◌^◌, ◌<◌, ◌≡◌, List, [], length, map, get_or, Option, Some, None}
 use Rattle.ec_bits.specs.Bits.{bytes_of_bits}
 use Rattle.ec_frame.specs.Frame.{IsFrame}
 use Rattle.ec_frame.specs.Building.{bare_payload}

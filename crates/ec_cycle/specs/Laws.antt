@@ -1,13 +1,12 @@
 -- What the definitions of this crate amount to, in other words than theirs.
-use Rattle.std.specs.Prelude.{ℕ, ◌+◌, ◌-◌, ◌*◌, ◌<◌, ◌≤◌, ◌≡◌, ◌↔◌, List, length, map, get_or, Bool, true, false, Option, Some, None}
-use Rattle.ec_bits.specs.Bits.{bit, zeros}
+use Rattle.std.specs.Prelude.{ℕ, ◌<◌, ◌≤◌, ◌≡◌, ◌↔◌, List, length, map, get_or, true, Option}
+use Rattle.ec_bits.specs.Bits.{zeros}
 use Rattle.ec_frame.specs.Datagram.{Datagram}
-use Rattle.ec_link.specs.declared.settings.Settings.{Settings}
 use Rattle.ec_link.specs.Shares.{Gave, nothing_given, counters_of, predicted, share_in, same_counters, lwr_count, lrd_count}
-use Rattle.ec_link.specs.Meaning.{Linked, slave_at, area_at, out_source, in_source}
+use Rattle.ec_link.specs.Meaning.{slave_at}
 use Rattle.ec_link.specs.Plan.{PlanState, part_at}
 use Rattle.ec_link.specs.Usable.{IsUsable}
-use Rattle.ec_cycle.specs.Closing.{KeptPart, is_good, unit_taken, returned_bit, inputs_closed, bytes_of, part_of_slave}
+use Rattle.ec_cycle.specs.Closing.{KeptPart, inputs_closed}
 use Rattle.ec_cycle.specs.Copies.{outputs_copied, inputs_copied}
 use Rattle.ec_cycle.specs.Frames.{process_bytes, sent_datagrams}
 use Rattle.ec_cycle.specs.Master.{MasterState, Answers, shape, name_of, process_addresses, variable_set, frame_of}

@@ -9,7 +9,7 @@ use Rattle.ec_frame.specs.Building.{bare_payload}
 use Rattle.ec_link.specs.declared.image.Variable.{Variable}
 use Rattle.ec_link.specs.Plan.{PlanState, part_at}
 use Rattle.ec_cycle.specs.declared.error.CycleError.{CycleError}
-use Rattle.ec_cycle.specs.declared.error.CycleError.TheVariants.{NotReady, Open, NotOpen, NumbersSpent}
+use Rattle.ec_cycle.specs.declared.error.CycleError.TheVariants.{NotReady, Open, NumbersSpent}
 use Rattle.ec_cycle.specs.Frames.{sent_datagrams}
 use Rattle.ec_cycle.specs.Closing.{KeptPart, ReportState, kept_of, inputs_closed, report_of}
 

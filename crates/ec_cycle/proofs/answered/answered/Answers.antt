@@ -1,7 +1,6 @@
 use Rattle.std.proofs.Common.{◌<◌, ◌≡◌, ◌∙◌, List, ℕ, [], arith, get_or, length, subst, sym, true, false}
 use Rattle.std.proofs.lemmas.List.{get_or_default}
-use Rattle.ec_frame.specs.Frame.{Payload, IsFrame}
-use Rattle.ec_cycle.specs.Matching.{AnswersPart}
+use Rattle.ec_frame.specs.Frame.{IsFrame}
 use Rattle.ec_cycle.proofs.Comparing.{names_one}
 use Rattle.ec_cycle.proofs.answered.answered.Goals as goal
 

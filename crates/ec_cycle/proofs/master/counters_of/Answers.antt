@@ -1,4 +1,4 @@
-use Rattle.std.proofs.Common.{ℕ, ◌<◌, ◌≡◌, ◌∙◌, sym}
+use Rattle.std.proofs.Common.{◌∙◌, sym}
 use Rattle.ec_link.proofs.CounterLaws.{predicted_is}
 use Rattle.ec_link.specs.Shares.{predicted}
 use Rattle.ec_cycle.proofs.Lists.{pushed_count, pushed_each}

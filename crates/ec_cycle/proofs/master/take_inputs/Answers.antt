@@ -1,4 +1,4 @@
-use Rattle.std.proofs.Common.{ℕ, ◌<◌, ◌≡◌, ◌∙◌, Bool, List, None, ap, arith, false, get_or, length, if◌then◌else◌}
+use Rattle.std.proofs.Common.{◌<◌, ◌∙◌, Bool, None, ap, get_or, length, if◌then◌else◌}
 use Rattle.std.proofs.lemmas.List.{get_or_default}
 use Rattle.ec_cycle.specs.Closing.{bytes_of}
 use Rattle.ec_cycle.specs.Copies.{run_copied}

@@ -1,5 +1,4 @@
-use Rattle.std.proofs.Common.{◌<◌, ◌≡◌, Bool, List, arith, ap, drop, length, subst}
-use Rattle.ec_frame.specs.Datagram.{Datagram}
+use Rattle.std.proofs.Common.{◌<◌, Bool, arith, ap, drop, length, subst}
 use Rattle.ec_frame.specs.Frame.{Payload}
 use Rattle.ec_frame.proofs.Verdict.{one_payload}
 use Rattle.ec_cycle.specs.Matching.{NextAre}

@@ -1,4 +1,4 @@
-use Rattle.std.proofs.Common.{rules, ◌<◌, ◌≤◌, arith, inl, inr, length}
+use Rattle.std.proofs.Common.{rules, ◌<◌, arith, inl, inr}
 use Rattle.ec_cycle.proofs.Stepping.{next_are, next_ends, spells}
 use Rattle.ec_cycle.proofs.matching.next_is_same.Goals as goal
 
