@@ -6,7 +6,7 @@ mod steps;
 use self::steps::Step::{
     Answers, Gets, Outputs, Passes, Puts, Resets, Shows, Sizes, Station, Writes, WritesInVain,
 };
-use self::steps::{Step, bytes_of, pass_frame, take_all};
+use self::steps::{Step, pass_frame, take_all};
 use crate::Slave;
 use ec_frame::Command::{Aprd, Aprw, Brd, Lrd, Lrw, Lwr};
 use ec_frame::check;

@@ -6,7 +6,7 @@ ghost use Rattle.ec_start.specs.Scripts.{downloads, uploads};
 ghost use Rattle.ec_start.specs.Doable.{IsDoable};
 
 use ec_al::State;
-use ec_coe::{Command as SdoCommand, MESSAGE_LENGTH, Message, Service, Value, write_message};
+use ec_coe::{Command as SdoCommand, Message, Service, Value, write_message};
 use ec_frame::{Command, physical};
 use ec_regs::registers::{
     AL_CONTROL, AL_STATUS, FMMUS, SII_CONTROL, STATION_ADDRESS, SYNC_MANAGERS, fmmu_address,

@@ -1,8 +1,7 @@
 //! Where a start-up is in its script: no step of it is stored.
 
-ghost use Rattle.std.specs.Prelude.{◌≡◌, ◌≤◌, ◌<◌, Bool, length, All, Option, Some, None, IfSome, slice_get, slice_index};
+ghost use Rattle.std.specs.Prelude.{◌≡◌, ◌≤◌, ◌<◌, length, All, Option, Some, None, IfSome, slice_get};
 ghost use Rattle.ec_start.specs.Planned.{HasFewAssigned};
-ghost use Rattle.ec_start.specs.Plans.{settings_at, fmmu_at};
 ghost use Rattle.ec_start.specs.Scripts.{named, identified, mailbox_set, raised, talked, mapped};
 ghost use Rattle.ec_start.specs.Doable.{IsDoable};
 ghost use Rattle.ec_start.specs.Ahead.{share, opening, share_at, is_for_all, following, behind, set_manager_of, manager_chosen, fmmu_chosen, somes, Settles};

@@ -1,12 +1,11 @@
 //! What the answer to a step says.
 
-ghost use Rattle.std.specs.Prelude.{◌≡◌, ◌+◌, ◌≤◌, length};
+ghost use Rattle.std.specs.Prelude.{◌≡◌, ◌≤◌, length};
 ghost use Rattle.ec_regs.specs.declared.slave_type.Device.{Device};
 ghost use Rattle.ec_start.specs.Actions.{datagram_of};
-ghost use Rattle.ec_start.specs.Doable.{IsDoable};
 ghost use Rattle.ec_start.specs.Running.{type_of};
 ghost use Rattle.ec_start.specs.Answered.{answered, init_verdict};
-ghost use Rattle.ec_start.specs.Verdicts.{word_at, long_at, nothing_seen, with_word, seen_before, is_device, differs, word_verdict, state_verdict, upload_verdict, reply_verdict, counted, verdict};
+ghost use Rattle.ec_start.specs.Verdicts.{nothing_seen, with_word, seen_before, is_device, differs, word_verdict, state_verdict, upload_verdict, reply_verdict, counted, verdict};
 
 use crate::action::{Action, Request, Transfer};
 use crate::error::StartError;
