@@ -36,7 +36,7 @@ impl Model for Assignment {
 }
 
 /// The PDO with an index.
-pub(crate) fn find_pdo(pdos: &[Pdo], index: u16) -> Option<&Pdo>
+pub fn find_pdo(pdos: &[Pdo], index: u16) -> Option<&Pdo>
     ensures { option_copied result ≡ pdo_at pdos.now index }
 {
     pdos.iter().find(|pdo| pdo.index == index)

@@ -45,8 +45,9 @@ impl Model for Dictionary {
     ghost invariant = { λ d. HasSlots d.kind d.outs d.ins };
 }
 
-/// The number of an entry in a mapping object.
-fn entry_number(entry: &Entry) -> u32
+/// The number of an entry in a mapping object: its index, its subindex and its bits, from the high bytes down (ETG.1000.6,
+/// "PDO mapping").
+pub fn entry_number(entry: &Entry) -> u32
     ensures { result ≡ number_of_entry entry.now }
 {
     0x1_0000 * entry.index as u32 + 0x100 * entry.subindex as u32 + entry.bits as u32

@@ -11,8 +11,10 @@ mod reply;
 mod value;
 
 pub use crate::abort_code::AbortCode;
-pub use crate::assignment::{Assignment, MAX_BITS};
-pub use crate::dictionary::{Dictionary, IDENTITY_OBJECT, INPUT_ASSIGNMENT, OUTPUT_ASSIGNMENT};
+pub use crate::assignment::{Assignment, MAX_BITS, find_pdo};
+pub use crate::dictionary::{
+    Dictionary, IDENTITY_OBJECT, INPUT_ASSIGNMENT, OUTPUT_ASSIGNMENT, entry_number,
+};
 pub use crate::message::{
     BadMailbox, Command, MESSAGE_LENGTH, Message, Service, read_message, write_message,
 };

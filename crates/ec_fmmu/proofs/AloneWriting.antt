@@ -225,3 +225,19 @@ written_none xs allowed physical bytes at to n h =
       sym (overlay_own xs (run_written allowed physical bytes at to n) (λ k l. ap (λ (o : Option Bool). unwrap_or o (bit xs k)) (none k))),
       sym (any_below_none (8 * length xs) (λ k. is_some (run_written allowed physical bytes at to n k)) (λ k l. ap is_some (none k))),
     )
+
+-- ---- a run that is brought as a whole
+
+-- each bit of the run of an FMMU that is alone is brought the data bit that its pair names
+pub alone_wholly : (fs : List FmmuSettings) (k from bits q logical physical n : ℕ) → k < length fs → (get_or fs k no_fmmu).writes ≡ true → IsAloneWriting fs k
+    → ((p : ℕ) → unmapped (get_or fs k no_fmmu) p ≡ run_unmapped logical physical n p)
+    → physical ≤ q → q < physical + n → from ≤ logical + (q - physical) → logical + (q - physical) < from + bits
+    → is_some (inside_place (record { from = from; bits = bits }) (source (writers fs) q)) ≡ true
+alone_wholly fs k from bits q logical physical n h w alone u a b c d =
+    let f = get_or fs k no_fmmu in
+    let l : ℕ = logical + (q - physical) in
+    let one : unmapped f q ≡ Some l = u q ∙ if_true (within physical n q) (Some l) None (within_true physical n q a b) in
+    let there : reaches_physical f q ≡ true = pair_reaches_physical f l q (pair_from_unmapped f l q one) in
+    let from_it : source (writers fs) q ≡ Some l = alone_source fs k q h w alone there ∙ one in
+    ap (λ (o : Option ℕ). is_some (inside_place (record { from = from; bits = bits }) o)) from_it
+    ∙ ap is_some (if_true (within from bits l) (Some (l - from)) None (within_true from bits l c d))

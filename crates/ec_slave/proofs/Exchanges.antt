@@ -1,5 +1,5 @@
 -- The managers meet a logical datagram from the last to the first, and are searched from the first on.
-use Rattle.std.proofs.Common.{ℕ, ◌+◌, ◌<◌, ◌≡◌, ◌&&◌, ◌||◌, List, [], ◌∷◌, ◌++◌, length, take, drop, get_or, set, Bool, true, false, refl, sym, ◌∙◌, ap, arith, append_assoc}
+use Rattle.std.proofs.Common.{ℕ, ◌+◌, ◌<◌, ◌≡◌, ◌&&◌, ◌||◌, List, [], ◌∷◌, ◌++◌, length, take, drop, get_or, set, Bool, refl, sym, ◌∙◌, ap, arith, append_assoc}
 use Rattle.std.proofs.lemmas.List.{take_more, drop_more, length-take-le}
 use Rattle.std.proofs.Math.Seq.{take-append_seam, drop-append_seam}
 use Rattle.ec_regs.specs.declared.fmmu.FmmuSettings.{FmmuSettings}
@@ -71,13 +71,3 @@ pub written_from-next : (ms : List Manager) (fs : List FmmuSettings) (p : Place)
 written_from-next ms fs p bytes n d l =
     ap (some_manager_written (take n ms) fs p bytes) (drop_more ms n d l)
     ∙ ap (λ t. one_written (take n ms) fs p bytes (get_or ms n d) || some_manager_written t fs p bytes (drop (n + 1) ms)) (sym (take_more ms n d l))
-
-pub written_from-hit : (ms : List Manager) (fs : List FmmuSettings) (p : Place) (bytes : List ℕ) (n : ℕ) (d : Manager) → n < length ms
-    → one_written (take n ms) fs p bytes (get_or ms n d) ≡ true → written_from ms fs p bytes n ≡ true
-written_from-hit ms fs p bytes n d l h =
-    written_from-next ms fs p bytes n d l ∙ ap (λ b. b || written_from ms fs p bytes (n + 1)) h
-
-pub written_from-miss : (ms : List Manager) (fs : List FmmuSettings) (p : Place) (bytes : List ℕ) (n : ℕ) (d : Manager) → n < length ms
-    → one_written (take n ms) fs p bytes (get_or ms n d) ≡ false → written_from ms fs p bytes n ≡ written_from ms fs p bytes (n + 1)
-written_from-miss ms fs p bytes n d l h =
-    written_from-next ms fs p bytes n d l ∙ ap (λ b. b || written_from ms fs p bytes (n + 1)) h

@@ -19,7 +19,7 @@ use Rattle.ec_slave.proofs.Governors.{governor-take, position_from-first}
 use Rattle.ec_slave.proofs.AgainstAll.{governs-value, writable-set}
 use Rattle.ec_slave.proofs.Sights.{governor-start, governor-below}
 
-same_truth : (a b : Bool) → (a ≡ true → b ≡ true) → (b ≡ true → a ≡ true) → a ≡ b
+pub same_truth : (a b : Bool) → (a ≡ true → b ≡ true) → (b ≡ true → a ≡ true) → a ≡ b
 same_truth a b f g = elim (cases_Bool a) [
   | inl t ↦ t ∙ sym (f t)
   | inr h ↦ elim (cases_Bool b) as (λ _. a ≡ b) [

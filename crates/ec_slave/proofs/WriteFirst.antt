@@ -1,8 +1,8 @@
 -- Where nothing that is read of the memory is written there, a datagram that reads and writes may write first.
-use Rattle.std.proofs.Common.{ℕ, zero, suc, ◌+◌, ◌-◌, ◌*◌, ◌/◌, ◌%◌, ◌<◌, ◌≡◌, ◌&&◌, Bool, true, false, Option, Some, None, is_some, is_none, option_map, option_and_then, unwrap_or, refl, sym, ◌∙◌, ap, subst, inl, inr, arith, if◌then◌else◌, nat_lt, List, [], ◌∷◌, ◌++◌, length, get_or, map}
+use Rattle.std.proofs.Common.{ℕ, zero, suc, ◌+◌, ◌-◌, ◌*◌, ◌/◌, ◌%◌, ◌<◌, ◌≡◌, ◌&&◌, Bool, true, false, Option, Some, None, is_some, is_none, option_map, option_and_then, unwrap_or, refl, sym, ◌∙◌, ap, subst, inl, inr, arith, if◌then◌else◌, nat_lt, List, [], ◌∷◌, ◌++◌, length, map}
 use Rattle.std.specs.List.{position_from}
 use Rattle.std.proofs.lemmas.Bool.{cases_Bool, and_left, and_right, and_parts, eqb-true}
-use Rattle.ec_bits.specs.Bits.{bit, overlay, any_below, within}
+use Rattle.ec_bits.specs.Bits.{bit, overlay, within}
 use Rattle.ec_bits.proofs.AnyLaws.{any_below-alike, if_true, if_false, if_none}
 use Rattle.ec_bits.proofs.BitLaws.{bit-overlay, overlay_alike, overlay_own}
 use Rattle.ec_regs.specs.declared.fmmu.FmmuSettings.{FmmuSettings}
@@ -18,7 +18,7 @@ use Rattle.ec_fmmu.proofs.PairLaws.{none_or_some}
 use Rattle.ec_fmmu.proofs.RangeLaws.{reading_pair}
 use Rattle.ec_slave.specs.State.{SlaveState, fmmus, manager_at, with_memory}
 use Rattle.ec_slave.specs.Managers.{gets_at, is_read_by, is_ungoverned, is_written_by, manager_after, reads_under, shown_under}
-use Rattle.ec_slave.specs.Logical.{brought, logical_after, managers_exchanged, only_if, plain_bit, read_bit, readable_bit, some_read, value_brought}
+use Rattle.ec_slave.specs.Logical.{logical_after, managers_exchanged, only_if, plain_bit, read_bit, readable_bit, some_read, value_brought}
 use Rattle.ec_slave.specs.Mapped.{MayWriteFirst}
 use Rattle.ec_slave.proofs.AgainstAll.{gets_at-alike}
 use Rattle.ec_slave.proofs.Moves.{decoded-mapped}

@@ -1,12 +1,19 @@
 -- What a firmware step does, and what it does not.
-use Rattle.std.specs.Prelude.{ℕ, ◌≡◌, ◌≢◌, true, false, None}
+use Rattle.std.specs.Prelude.{ℕ, ◌≡◌, ◌≢◌, ◌≤◌, List, AllPairs, Some, true, false, None}
 use Rattle.ec_al.specs.States.{state_number}
 use Rattle.ec_al.specs.Transitions.{requested_number}
 use Rattle.ec_al.specs.declared.state.State.{State}
 use Rattle.ec_al.specs.declared.state.State.TheVariants.{Init, PreOp, SafeOp, Op}
+use Rattle.ec_regs.specs.declared.slave_type.Identity.{Identity}
+use Rattle.ec_regs.specs.declared.slave_type.Pdo.{Pdo}
+use Rattle.ec_regs.specs.Types.{SlaveKind, pdos_bits}
+use Rattle.ec_frame.specs.Datagram.{Datagram}
+use Rattle.ec_coe.specs.Transfers.{most_bits}
 use Rattle.ec_coe.specs.Laws.{IsAssignment}
-use Rattle.ec_slave.specs.State.{SlaveState, manager_at, station_of, fmmus}
-use Rattle.ec_slave.specs.Application.{is_running}
+use Rattle.ec_slave.specs.State.{SlaveState, manager_at, station_of, fmmus, power_on}
+use Rattle.ec_slave.specs.Meeting.{slave_met}
+use Rattle.ec_slave.specs.Application.{is_running, input_put, output_got, output_taken}
+use Rattle.ec_slave.specs.Faulting.{faulted}
 use Rattle.ec_slave.specs.Checking.{checks_of, control_word}
 use Rattle.ec_slave.specs.Serving.{served, request_decided, reply_counter}
 
@@ -68,3 +75,30 @@ pub record KeepsAssigned (s t : SlaveState) : Type 0 where
 -- bits.
 abbrev pub ServesKeepAssignments : Type 0
 ServesKeepAssignments = (s : SlaveState) → KeepsAssigned s (served s)
+
+-- both assignments are lists of the type's own PDOs, with none of them twice and with at most 2048 bits
+pub record IsAssigned (s : SlaveState) : Type 0 where
+  pub outputs : IsAssignment s.kind.outputs s.outs
+  pub inputs : IsAssignment s.kind.inputs s.ins
+
+-- PDOs of a direction that can all be assigned at once: no two with one index, and at most 2048 bits together
+pub record FitTogether (ps : List Pdo) : Type 0 where
+  pub apart : AllPairs (λ p q. p.index ≢ q.index) ps
+  pub bits : pdos_bits ps ≤ most_bits
+
+-- Where the power comes on all PDOs are assigned; so the assignments are of that kind where a type's PDOs fit together, and
+-- only there.
+abbrev pub PowerOnAssigns : Type 0
+PowerOnAssigns = (kind : SlaveKind) (identity : Identity) → FitTogether kind.outputs → FitTogether kind.inputs → IsAssigned (power_on kind identity)
+
+-- what can happen to a slave between two resets
+pub record StaysAssigned (s : SlaveState) : Type 0 where
+  pub served : IsAssigned (served s)
+  pub met : (d : Datagram) → IsAssigned (slave_met s d)
+  pub faulted : IsAssigned (faulted s)
+  pub put : (place byte : ℕ) (t : SlaveState) → input_put s place byte ≡ Some t → IsAssigned t
+  pub taken : (place : ℕ) → IsAssigned (output_taken s (output_got s place))
+
+-- Whatever firmware, datagrams and application do, the assignments stay of that kind.
+abbrev pub AssignmentsStay : Type 0
+AssignmentsStay = (s : SlaveState) → IsAssigned s → StaysAssigned s

@@ -4,7 +4,7 @@ ghost use Rattle.std.specs.Prelude.{◌≡◌, ◌+◌, ◌*◌, ◌<◌, length
 ghost use Rattle.ec_regs.specs.Fmmus.{fmmu_of};
 ghost use Rattle.ec_slave.specs.State.{fmmus_of};
 
-use ec_fmmu::Fmmu;
+use ec_fmmu::{Fmmu, FmmuTable};
 use ec_regs::decode_fmmu;
 use ec_regs::registers::fmmu_address;
 
@@ -21,14 +21,14 @@ fn fmmu_at(memory: &[u8], number: usize) -> Fmmu
 }
 
 /// The four FMMUs as their registers stand.
-pub(crate) fn read_fmmus(memory: &[u8]) -> [Fmmu; 4]
+pub(crate) fn read_fmmus(memory: &[u8]) -> FmmuTable
     requires { length memory.now ≡ 0x3000 }
     ensures { result ≡ fmmus_of memory.now }
 {
-    [
+    FmmuTable::new([
         fmmu_at(memory, 0),
         fmmu_at(memory, 1),
         fmmu_at(memory, 2),
         fmmu_at(memory, 3),
-    ]
+    ])
 }

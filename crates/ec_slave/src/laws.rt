@@ -7,7 +7,7 @@ ghost use Rattle.ec_slave.specs.Laws.{CountsWhatItChanges, HeadingStays, WritesB
 ghost use Rattle.ec_slave.specs.MeetingLaws.{LogicalBitByBit, ManagersAfterWrite, RegistersAfterWrite, ValueBitByBit};
 ghost use Rattle.ec_slave.specs.AgainstAll.{LogicalAgainstAll, PhysicalAgainstAll};
 ghost use Rattle.ec_slave.specs.LogicalLaws.{BroadcastLaw, ExchangeLaw, MappedLaw, MissesLaw};
-ghost use Rattle.ec_slave.specs.FirmwareLaws.{FirstReplyIsOne, RestsQuietly, ServesKeepAssignments, ServesKeepBuffers, ServesKeepSettings, StatesAreEntered};
+ghost use Rattle.ec_slave.specs.FirmwareLaws.{AssignmentsStay, FirstReplyIsOne, PowerOnAssigns, RestsQuietly, ServesKeepAssignments, ServesKeepBuffers, ServesKeepSettings, StatesAreEntered};
 
 /// A datagram for another station address passes, and changes nothing.
 pub fn other_station_passes()
@@ -132,4 +132,12 @@ pub fn first_reply_is_one()
 #[tactic(auto, using(crate::proofs::Assignments::assignments_served))]
 pub fn serves_keep_assignments()
     ensures { ServesKeepAssignments }
+{}
+
+/// The assignments of a slave that was just switched on are lists of the type's own PDOs, with none of them twice and with
+/// at most 2048 bits, where the type has at most 2048 bits each way; and whatever firmware, datagrams and application do,
+/// they stay so. A reset makes the slave as the power comes on, so they are so again then.
+pub fn assignments_are_proper()
+    ensures power_on { PowerOnAssigns }
+    ensures stay { AssignmentsStay }
 {}

@@ -24,10 +24,9 @@ mod writing;
 
 use crate::logical::managers::access_managers;
 use crate::logical::reading::read_logical;
-use crate::logical::writing::{some_manager_written, write_logical};
+use crate::logical::writing::write_logical;
 use crate::role::Role;
 use crate::slave::Slave;
-use ec_fmmu::{are_apart, is_missed};
 use ec_frame::{Header, cut_counter, cut_heading, read_counter, write_counter};
 
 /// The data of a datagram have at most so many bytes.
@@ -41,8 +40,21 @@ impl Slave {
         ensures bytes { bytes.new ≡ overlay bytes.old (read_bit self.old.memory self.old.managers (fmmus self.old) (record { from = from; bits = 8 * length bytes.old })) }
         ensures some { result ≡ some_read self.old.memory self.old.managers (fmmus self.old) (record { from = from; bits = 8 * length bytes.old }) }
     {
-        let is_read = read_logical(&self.memory, &self.managers, &self.fmmus, from, bytes);
-        access_managers(&mut self.managers, true, false, &self.fmmus, from, bytes);
+        let is_read = read_logical(
+            &self.memory,
+            &self.managers,
+            self.fmmus.as_slice(),
+            from,
+            bytes,
+        );
+        access_managers(
+            &mut self.managers,
+            true,
+            false,
+            self.fmmus.as_slice(),
+            from,
+            bytes,
+        );
         is_read
     }
 
@@ -52,9 +64,9 @@ impl Slave {
         ensures slave { self.new ≡ logical_after self.old reading true (record { from = from; bits = 8 * length bytes.now }) bytes.now }
         ensures some { result ≡ some_written self.old.managers (fmmus self.old) (record { from = from; bits = 8 * length bytes.now }) bytes.now }
     {
-        let in_manager = some_manager_written(&self.managers, &self.fmmus, from, bytes);
-        let in_memory = write_logical(&mut self.memory, &self.managers, &self.fmmus, from, bytes);
-        access_managers(&mut self.managers, reading, true, &self.fmmus, from, bytes);
+        let fmmus = self.fmmus.as_slice();
+        let in_memory = write_logical(&mut self.memory, &self.managers, fmmus, from, bytes);
+        let in_manager = access_managers(&mut self.managers, reading, true, fmmus, from, bytes);
         in_memory | in_manager
     }
 
@@ -67,7 +79,13 @@ impl Slave {
         ensures added { result ≡ from_bool (some_read self.old.memory self.old.managers (fmmus self.old) (record { from = from; bits = 8 * length bytes.old }))
             + 2 * from_bool (some_written self.old.managers (fmmus self.old) (record { from = from; bits = 8 * length bytes.old }) bytes.old) }
     {
-        let is_read = read_logical(&self.memory, &self.managers, &self.fmmus, from, bytes);
+        let is_read = read_logical(
+            &self.memory,
+            &self.managers,
+            self.fmmus.as_slice(),
+            from,
+            bytes,
+        );
         let is_written = self.write_bits(true, from, received);
         is_read as u16 + 2 * is_written as u16
     }
@@ -92,7 +110,7 @@ impl Slave {
     fn may_write_first(&self) -> bool
         ensures { OnTrue result (MayWriteFirst self.now) }
     {
-        are_apart(&self.fmmus)
+        self.fmmus.is_apart()
     }
 
     /// A datagram that reads and writes, where it may write first: its data need no copy.
@@ -131,7 +149,7 @@ impl Slave {
         requires { from + bits < 2 ^ 64 }
         ensures { OnTrue result (Misses self.now (record { from = from; bits = bits })) }
     {
-        is_missed(&self.fmmus, from, bits)
+        self.fmmus.is_missed(from, bits)
     }
 
     /// Meets the bits of a datagram in a role, and answers what the working counter grows by.

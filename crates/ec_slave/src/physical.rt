@@ -20,7 +20,7 @@ use crate::physical::managers::access_managers;
 use crate::role::{Role, adp_after_slave};
 use crate::slave::Slave;
 use ec_al::Al;
-use ec_fmmu::Fmmu;
+use ec_fmmu::FmmuTable;
 use ec_frame::{Header, cut_counter, cut_heading, read_counter, write_adp, write_counter};
 use ec_regs::registers::{AL_CONTROL, FMMUS_END, RAM_START};
 
@@ -44,7 +44,7 @@ fn request_if(al: &mut Al, is_written: bool)
 }
 
 /// Decodes the FMMUs again after a write from an address on that their registers don't all lie below.
-fn renew_fmmus(fmmus: &mut [Fmmu; 4], memory: &[u8], from: usize)
+fn renew_fmmus(fmmus: &mut FmmuTable, memory: &[u8], from: usize)
     requires { length memory.now ≡ 0x3000 }
     ensures { fmmus.new ≡ (if nat_lt from 1600 then fmmus_of memory.now else fmmus.old) }
 {

@@ -1,7 +1,7 @@
 //! Which manager has a byte, and what an access of the ring, physical or logical, does to one manager, where
 //! lower-numbered ones may govern bytes of its value.
 
-ghost use Rattle.std.specs.Prelude.{◌≡◌, ◌+◌, ◌<◌, ◌≤◌, ◌&&◌, if◌then◌else◌, length, IfSome};
+ghost use Rattle.std.specs.Prelude.{◌≡◌, ◌+◌, ◌<◌, ◌≤◌, ◌&&◌, if◌then◌else◌, length, IfSome, true};
 ghost use Rattle.ec_bits.specs.Bits.{any_below};
 ghost use Rattle.ec_regs.specs.Memory.{ram_end};
 ghost use Rattle.ec_sync.specs.Manager.{LiesInRam, ring_read, ring_written};
@@ -26,8 +26,7 @@ fn is_own<T: Touching>(access: &T, lower: &[Manager], address: usize) -> bool
     access.touches(address) && governor(lower, address).is_none()
 }
 
-/// Whether it touches such a byte among the `len` from `start` on. Where it touches the first one, and no manager in
-/// `lower` is set, that one decides.
+/// Whether it touches such a byte among the `len` from `start` on.
 fn some_is_own<T: Touching>(access: &T, lower: &[Manager], start: usize, len: usize) -> bool
     requires { start + len ≤ ram_end }
     ensures { result ≡ any_below len (λ k. T.touched access.now (start + k) && is_ungoverned lower.now (start + k)) }
@@ -40,6 +39,19 @@ fn some_is_own<T: Touching>(access: &T, lower: &[Manager], start: usize, len: us
     false
 }
 
+/// The same of an access that touches the first one, which most often decides.
+fn has_own<T: Touching>(access: &T, lower: &[Manager], start: usize, len: usize) -> bool
+    requires some { 0 < len }
+    requires inside { start + len ≤ ram_end }
+    requires first { T.touched access.now start ≡ true }
+    ensures { result ≡ any_below len (λ k. T.touched access.now (start + k) && is_ungoverned lower.now (start + k)) }
+{
+    if governor(lower, start).is_none() {
+        return true;
+    }
+    some_is_own(access, lower, start, len)
+}
+
 /// Whether an access gets at a manager: at its first and its last byte, and at a byte that no manager in `lower` governs.
 fn reaches<T: Touching>(access: &T, lower: &[Manager], manager: &Manager) -> bool
     requires { LiesInRam manager.now.settings }
@@ -47,9 +59,7 @@ fn reaches<T: Touching>(access: &T, lower: &[Manager], manager: &Manager) -> boo
 {
     let start = manager.settings().start as usize;
     let len = manager.settings().length as usize;
-    access.touches(start)
-        && access.touches(start + len - 1)
-        && some_is_own(access, lower, start, len)
+    access.touches(start) && access.touches(start + len - 1) && has_own(access, lower, start, len)
 }
 
 /// An access that writes: a manager that it gets at takes its value, if it is let. Answers whether.
@@ -63,15 +73,19 @@ pub(crate) fn write_manager<W: Writing>(
         manager.new ≡ (if is_written_by (W.touched access.now) (is_ungoverned lower.now) m
         then ring_written m (W.written access.now m.settings.start m.settings.length) else m) }
 {
-    manager.may_write() && reaches(access, lower, manager) && manager.ring_write(access)
+    if !manager.may_write() || !reaches(access, lower, manager) {
+        return false;
+    }
+    manager.store(access);
+    true
 }
 
-/// An access that reads: it empties a mailbox that it gets at, if it is let.
+/// An access that reads: it empties a mailbox that it gets at, if it is let. It does nothing to another manager.
 pub(crate) fn read_manager<T: Touching>(lower: &[Manager], manager: &mut Manager, access: &T)
     ensures { let m = manager.old in
         manager.new ≡ (if is_read_by (T.touched access.now) (is_ungoverned lower.now) m then ring_read m else m) }
 {
-    if manager.may_read() && reaches(access, lower, manager) {
+    if manager.settings().is_mailbox() && manager.may_read() && reaches(access, lower, manager) {
         let _ = manager.ring_read(access);
     }
 }

@@ -7,7 +7,7 @@ use crate::fmmus::read_fmmus;
 use crate::reach::governor;
 use ec_al::Al;
 use ec_coe::Dictionary;
-use ec_fmmu::Fmmu;
+use ec_fmmu::FmmuTable;
 use ec_regs::registers::{
     AL_CONTROL, AL_STATUS, AL_STATUS_CODE, FMMU_COUNT, FMMUS, FMMUS_END, MANAGER_COUNT,
     MANAGER_SIZE, NUMBER_OF_FMMUS, NUMBER_OF_SYNC_MANAGERS, RAM_END, RAM_KIB, RAM_SIZE, RAM_START,
@@ -37,7 +37,7 @@ pub struct Slave {
     pub(crate) dictionary: Dictionary,
     pub(crate) memory: Vec<u8>,
     // as the registers in `memory` say them
-    pub(crate) fmmus: [Fmmu; 4],
+    pub(crate) fmmus: FmmuTable,
     pub(crate) managers: Vec<Manager>,
     pub(crate) al: Al,
     pub(crate) port: Port,

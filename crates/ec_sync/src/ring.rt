@@ -24,9 +24,12 @@ impl Manager {
         true
     }
 
-    /// Stores the value that an access writes, where it may.
+    /// Stores the value that an access writes, whatever rights it has: what [`ring_write`] does
+    /// where it is granted, for a caller that has asked for the rights itself.
+    ///
+    /// [`ring_write`]: Manager::ring_write
     #[tactic(auto, using(crate::proofs::Lengths::buffer_length_set))]
-    fn store<W: Writing>(&mut self, writing: &W)
+    pub fn store<W: Writing>(&mut self, writing: &W)
         requires set { is_set self.old.settings ≡ true }
         requires inside { LiesInRam self.old.settings }
         requires covered { covers (W.touched writing.now) self.old ≡ true }

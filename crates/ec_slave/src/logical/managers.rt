@@ -1,13 +1,17 @@
 //! What a logical datagram does to the sync managers.
 
-ghost use Rattle.std.specs.Prelude.{◌≡◌, ◌<◌, ◌+◌, ◌*◌, ◌^◌, length, []};
+ghost use Rattle.std.specs.Prelude.{◌≡◌, ◌<◌, ◌≤◌, ◌+◌, ◌*◌, ◌^◌, ◌&&◌, ℕ, length, [], is_some, true, slice_index};
+ghost use Rattle.std.specs.Bool.{OnTrue};
+ghost use Rattle.ec_regs.specs.Memory.{ram_end};
 ghost use Rattle.ec_fmmu.specs.Applied.{Place, touched_by_reading, touched_by_writing};
-ghost use Rattle.ec_slave.specs.Managers.{is_ungoverned, manager_after};
-ghost use Rattle.ec_slave.specs.Logical.{managers_exchanged, value_brought};
+ghost use Rattle.ec_slave.specs.Managers.{is_ungoverned, is_written_by, manager_after};
+ghost use Rattle.ec_slave.specs.Logical.{managers_exchanged, plain_bit, value_brought};
+ghost use Rattle.ec_slave.specs.Written.{some_manager_written};
 
+use crate::logical::runs::governor_of_run;
 use crate::logical::writing::Ungoverned;
 use crate::reach::{read_manager, write_manager};
-use ec_fmmu::{Fmmu, apply_write, is_touched_by_reading, is_touched_by_writing};
+use ec_fmmu::{Fmmu, apply_write, is_touched_by_reading, is_touched_by_writing, is_wholly_brought};
 use ec_sync::{Manager, Touching, Writing};
 
 /// The bits of a logical datagram, as they are read.
@@ -66,7 +70,35 @@ impl Writing for Bits<'_> {
         (record { from = w.from; bits = 8 * length w.bytes.now }) w.bytes.now start len k inside untouched };
 
     fn fill(&self, start: usize, value: &mut [u8]) {
-        value.fill(0);
+        self.bring(start, value);
+    }
+}
+
+impl Bits<'_> {
+    /// Whether each bit of the `len` bytes from `start` on is brought a data bit, and no lower manager governs one of
+    /// them, so that none of what they held stays. False says nothing.
+    fn is_whole(&self, start: usize, len: usize) -> bool
+        requires { start + len ≤ ram_end }
+        ensures { OnTrue result ((k : ℕ) → k < 8 * len → is_some (plain_bit self.now.lower.now self.now.fmmus.now
+            (record { from = self.now.from; bits = 8 * length self.now.bytes.now }) self.now.bytes.now (8 * start + k)) ≡ true) }
+    {
+        let bits = 8 * self.bytes.len() as u64;
+        let (first, count) = (8 * start as u32, 8 * len as u32);
+        matches!(governor_of_run(self.lower, start, len), Some(None))
+            && is_wholly_brought(self.fmmus, self.from, bits, first, count)
+    }
+
+    /// Fills a value that begins at `start`: 0 in each bit that isn't brought. Zeros are written first only where
+    /// something of what it held might stay.
+    fn bring(&self, start: usize, value: &mut [u8])
+        requires inside { start + length value.old ≤ ram_end }
+        requires small { (k : ℕ) → slice_index value.old k < 256 }
+        ensures { value.new ≡ value_brought self.now.lower.now self.now.fmmus.now
+            (record { from = self.now.from; bits = 8 * length self.now.bytes.now }) self.now.bytes.now start (length value.old) }
+    {
+        if !self.is_whole(start, value.len()) {
+            value.fill(0);
+        }
         let rights = Ungoverned {
             managers: self.lower,
         };
@@ -75,7 +107,7 @@ impl Writing for Bits<'_> {
     }
 }
 
-/// One manager meets a datagram: written, or else read, or as it was.
+/// One manager meets a datagram: written, or else read, or as it was. Answers whether it is written.
 fn access_manager(
     lower: &[Manager],
     manager: &mut Manager,
@@ -84,9 +116,11 @@ fn access_manager(
     fmmus: &[Fmmu],
     from: u64,
     bytes: &[u8],
-)
+) -> bool
     requires { from + 8 * length bytes.now < 2 ^ 64 }
-    ensures { let place : Place = record { from = from; bits = 8 * length bytes.now } in
+    ensures written { let place : Place = record { from = from; bits = 8 * length bytes.now } in
+        result ≡ (writing && is_written_by (touched_by_writing fmmus.now place) (is_ungoverned lower.now) manager.old) }
+    ensures after { let place : Place = record { from = from; bits = 8 * length bytes.now } in
         manager.new ≡ manager_after reading writing
         (touched_by_reading fmmus.now place) (touched_by_writing fmmus.now place)
         (is_ungoverned lower.now) (value_brought lower.now fmmus.now place bytes.now) manager.old }
@@ -98,17 +132,19 @@ fn access_manager(
         bytes,
     };
     if writing && write_manager(lower, manager, &access) {
-        return;
+        return true;
     }
     if reading {
         let bits = 8 * bytes.len() as u64;
         read_manager(lower, manager, &ReadBits { fmmus, from, bits });
     }
+    false
 }
 
 /// Each of the four managers meets a logical datagram whose first logical bit is `from`, from the
 /// last to the first, so that each finds the lower-numbered ones as they were. One that the
-/// datagram writes takes a whole value: 0 in the bits that aren't brought to it.
+/// datagram writes takes a whole value: 0 in the bits that aren't brought to it. Answers whether one
+/// is written.
 pub(crate) fn access_managers(
     managers: &mut [Manager],
     reading: bool,
@@ -116,16 +152,20 @@ pub(crate) fn access_managers(
     fmmus: &[Fmmu],
     from: u64,
     bytes: &[u8],
-)
+) -> bool
     requires four { length managers.old ≡ 4 }
     requires fits { from + 8 * length bytes.now < 2 ^ 64 }
-    ensures { let place : Place = record { from = from; bits = 8 * length bytes.now } in
+    ensures any { let place : Place = record { from = from; bits = 8 * length bytes.now } in
+        result ≡ (writing && some_manager_written [] fmmus.now place bytes.now managers.old) }
+    ensures after { let place : Place = record { from = from; bits = 8 * length bytes.now } in
         managers.new
         ≡ managers_exchanged [] reading writing fmmus.now place bytes.now managers.old }
 {
+    let mut is_written = false;
     for k in 0..4 {
         let place = 3 - k;
         let (lower, rest) = managers.split_at_mut(place);
-        access_manager(lower, &mut rest[0], reading, writing, fmmus, from, bytes);
+        is_written |= access_manager(lower, &mut rest[0], reading, writing, fmmus, from, bytes);
     }
+    is_written
 }

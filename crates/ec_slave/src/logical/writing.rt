@@ -1,17 +1,14 @@
-//! What a logical datagram writes: into the memory itself, and whether into a manager.
+//! What a logical datagram writes into the memory itself.
 
-ghost use Rattle.std.specs.Prelude.{◌≡◌, ◌<◌, ◌≤◌, ◌+◌, ◌*◌, ◌/◌, ◌^◌, ◌&&◌, length, is_some, is_none, []};
+ghost use Rattle.std.specs.Prelude.{◌≡◌, ◌<◌, ◌+◌, ◌*◌, ◌^◌, length};
 ghost use Rattle.ec_bits.specs.Bits.{overlay};
-ghost use Rattle.ec_regs.specs.Memory.{ram_end};
-ghost use Rattle.ec_sync.specs.Manager.{may_write};
-ghost use Rattle.ec_sync.specs.Governing.{covers, governor as governor_of};
-ghost use Rattle.ec_fmmu.specs.Applied.{Place, data_bit_for, touched_by_writing};
+ghost use Rattle.ec_fmmu.specs.Applied.{Place};
 ghost use Rattle.ec_slave.specs.Logical.{plain_bit};
-ghost use Rattle.ec_slave.specs.Written.{some_brought, some_manager_written as some_written_behind, some_plain_written};
+ghost use Rattle.ec_slave.specs.Written.{some_plain_written};
 
 use crate::logical::runs::governor_of_run;
 use crate::reach::governor;
-use ec_fmmu::{Fmmu, WritableBytes, apply_write, is_brought, is_touched_by_writing};
+use ec_fmmu::{Fmmu, WritableBytes, apply_write};
 use ec_sync::Manager;
 
 /// The bytes that no manager governs.
@@ -58,78 +55,4 @@ pub(crate) fn write_logical(
         result ≡ some_plain_written managers.now fmmus.now place bytes.now }
 {
     apply_write(fmmus, &Ungoverned { managers }, from, bytes, 0, memory)
-}
-
-/// Whether the write set brings a data bit to a physical bit outside the bytes that these managers
-/// govern.
-fn is_plain(lower: &[Manager], fmmus: &[Fmmu], from: u64, bits: u64, physical: u32) -> bool
-    ensures { let place : Place = record { from = from; bits = bits } in
-        result ≡ (is_none (governor_of lower.now (physical / 8))
-        && is_some (data_bit_for fmmus.now place physical)) }
-{
-    governor(lower, physical as usize / 8).is_none() && is_brought(fmmus, from, bits, physical)
-}
-
-/// Whether a bit is brought to the value of so many bytes from an address on, outside the bytes
-/// that `lower` govern. Where the datagram touches the first byte, one of the first bits nearly
-/// always decides.
-fn is_value_brought(
-    lower: &[Manager],
-    fmmus: &[Fmmu],
-    from: u64,
-    bytes: &[u8],
-    start: u16,
-    len: u16,
-) -> bool
-    requires inside { start + len ≤ ram_end }
-    requires fits { from + 8 * length bytes.now < 2 ^ 64 }
-    ensures { let place : Place = record { from = from; bits = 8 * length bytes.now } in
-        result ≡ some_brought lower.now fmmus.now place bytes.now start len }
-{
-    let bits = 8 * bytes.len() as u64;
-    for k in 0..8 * len as u32 {
-        if is_plain(lower, fmmus, from, bits, 8 * start as u32 + k) {
-            return true;
-        }
-    }
-    false
-}
-
-/// Whether a datagram that writes gets at a manager, and brings it a bit that it takes.
-fn is_written(lower: &[Manager], manager: &Manager, fmmus: &[Fmmu], from: u64, bytes: &[u8]) -> bool
-    requires { from + 8 * length bytes.now < 2 ^ 64 }
-    ensures { let place : Place = record { from = from; bits = 8 * length bytes.now } in
-        let m = manager.now.settings in
-        result ≡ (covers (touched_by_writing fmmus.now place) manager.now && (may_write manager.now
-        && some_brought lower.now fmmus.now place bytes.now m.start m.length)) }
-{
-    if !manager.may_write() {
-        return false;
-    }
-    let bits = 8 * bytes.len() as u64;
-    let first = manager.settings().start;
-    let len = manager.settings().length;
-    is_touched_by_writing(fmmus, from, bits, first)
-        && is_touched_by_writing(fmmus, from, bits, first + len - 1)
-        && is_value_brought(lower, fmmus, from, bytes, first, len)
-}
-
-/// Whether a logical datagram whose first logical bit is `from` writes a bit of some manager's
-/// value, outside the bytes that lower-numbered managers govern.
-pub(crate) fn some_manager_written(
-    managers: &[Manager],
-    fmmus: &[Fmmu],
-    from: u64,
-    bytes: &[u8],
-) -> bool
-    requires { from + 8 * length bytes.now < 2 ^ 64 }
-    ensures { let place : Place = record { from = from; bits = 8 * length bytes.now } in
-        result ≡ some_written_behind [] fmmus.now place bytes.now managers.now }
-{
-    for (place, manager) in managers.iter().enumerate() {
-        if is_written(&managers[..place], manager, fmmus, from, bytes) {
-            return true;
-        }
-    }
-    false
 }

@@ -1,4 +1,4 @@
-use Rattle.std.proofs.Common.{ℕ, ◌≡◌, ◌<◌, ◌+◌, ◌-◌, ◌*◌, ◌/◌, ◌∙◌, true, false, length, arith}
+use Rattle.std.proofs.Common.{ℕ, ◌≡◌, ◌<◌, ◌+◌, ◌*◌, ◌/◌, ◌∙◌, true, false, length, arith}
 use Rattle.ec_fmmu.proofs.AloneWriting.{written_some, written_none}
 use Rattle.ec_fmmu.proofs.writing.write_run.Goals as goal
 

@@ -8,8 +8,8 @@ use Rattle.ec_slave.proofs.Reached.{manager-read}
 use Rattle.ec_slave.proofs.logical.managers.access_manager.Goals as goal
 use Rattle.ec_slave.proofs.logical.managers.access_manager.Goals.{else-writing-via-then-writing+else-write_manager, else-writing-via-else-writing}
 
-pub returns-then-reading : goal.returns-then-reading
-returns-then-reading c =
+pub returns-then-reading-clause-after : goal.returns-then-reading-clause-after
+returns-then-reading-clause-after c =
     let p : Place = record { from = c.args.from; bits = 8 * length c.args.bytes.now } in
     let rt = touched_by_reading c.args.fmmus.now p in
     let wt = touched_by_writing c.args.fmmus.now p in
@@ -22,4 +22,11 @@ returns-then-reading c =
       | else-writing-via-else-writing w ↦
           manager-read c.args.reading c.args.writing rt wt (is_ungoverned c.args.lower.now) value c.args.manager.now _ _ c.if-reading.true
           (and_left _ _ w.if-writing.false) w.manager-is c.read_manager.ensures
+    ]
+
+pub returns-then-reading-clause-written : goal.returns-then-reading-clause-written
+returns-then-reading-clause-written c =
+    elim c.else-writing.branch [
+      | else-writing-via-then-writing+else-write_manager w ↦ sym (and_right _ _ (sym w.write_manager.ensures.written ∙ w.if-write_manager.false))
+      | else-writing-via-else-writing w ↦ sym (and_left _ _ w.if-writing.false)
     ]

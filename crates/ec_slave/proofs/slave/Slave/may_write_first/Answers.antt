@@ -12,7 +12,7 @@ returns c =
     let fs : List FmmuSettings = c.self.inside.fmmus in
     let memory = ap (λ (x : SlaveState). x.memory) c.self.view_is in
     let same : fs ≡ fmmus s = c.self.invariant.decoded ∙ ap fmmus_of memory in
-    OnTrue_from c.are_apart.result (MayWriteFirst s) (λ t. record {
+    OnTrue_from c.is_apart.result (MayWriteFirst s) (λ t. record {
       room = sym (ap length memory) ∙ c.self.invariant.room;
-      apart = subst (λ (gs : List FmmuSettings). AreApart gs) same (OnTrue_at t c.are_apart.ensures);
+      apart = subst (λ (gs : List FmmuSettings). AreApart gs) same (OnTrue_at t c.is_apart.ensures);
     })

@@ -24,7 +24,7 @@ invariant_of-self c =
       room = ap length front ∙ (long ∙ (ap length own ∙ c.self.invariant.room));
       four = grind (arith, common_steps);
       decoded = c.self.invariant.decoded ∙ (ap fmmus_of (sym own)
-          ∙ (decoded-mapped c.deref-2.result.now c.self.inside.fmmus p c.args.bytes.now old
+          ∙ (decoded-mapped c.deref.result.now c.as_slice-fmmus.result.now p c.args.bytes.now old
           ∙ ap fmmus_of (sym (front ∙ c.write_logical-in_memory.ensures.memory))));
       image = c.self.invariant.image;
     }
@@ -33,7 +33,7 @@ pub returns-clause-slave : goal.returns-clause-slave
 returns-clause-slave c =
     let s : SlaveState = c.args.self.now in
     let p : Place = record { from = c.args.from; bits = 8 * length c.args.bytes.now } in
-    let fs : List FmmuSettings = c.self.inside.fmmus in
+    let fs : List FmmuSettings = c.as_slice-fmmus.result.now in
     let memory = ap (λ (x : SlaveState). x.memory) c.self.view_is in
     let managers = ap (λ (x : SlaveState). x.managers) c.self.view_is in
     let new : List ℕ = c.write_logical-in_memory.new.memory in
@@ -42,28 +42,29 @@ returns-clause-slave c =
     let long = c.write_logical-in_memory.auto.memory in
     let front : take c.self.inside.memory.len (new ++ drop (length new) c.self.inside.memory.items) ≡ new
     = take_front new _ c.self.inside.memory.len (omega (arith, ap length own, ok, long)) in
-    let met : List Manager = c.access_managers.new.managers in
+    let met : List Manager = c.access_managers-in_manager.new.managers in
     let own_2 = c.deref_mut-2.ensures.value in
     let ok_2 = c.self.inside.managers.ok in
-    let long_2 = c.access_managers.auto.managers in
+    let long_2 = c.access_managers-in_manager.auto.managers in
     let front_2 : take c.self.inside.managers.len (met ++ drop (length met) c.self.inside.managers.items) ≡ met
     = take_front met _ c.self.inside.managers.len (omega (arith, ap length own_2, ok_2, long_2)) in
     ap (λ (x : SlaveState). with_memory x (take c.self.inside.memory.len (new ++ drop (length new) c.self.inside.memory.items))
     (take c.self.inside.managers.len (met ++ drop (length met) c.self.inside.managers.items))) c.self.view_is
     ∙ slave_written s c.args.reading _ _ fs p c.args.bytes.now
     (front ∙ (c.write_logical-in_memory.ensures.memory
-    ∙ (ap (λ (xs : List ℕ). overlay xs (plain_bit c.deref-2.result.now fs p c.args.bytes.now)) (own ∙ memory)
-    ∙ ap (λ (ms : List Manager). overlay s.memory (plain_bit ms fs p c.args.bytes.now)) (c.deref-2.ensures.value ∙ managers))))
-    (c.self.invariant.decoded ∙ ap fmmus_of memory)
-    (front_2 ∙ (c.access_managers.ensures ∙ ap (λ (ms : List Manager). managers_exchanged [] c.args.reading true fs p c.args.bytes.now ms) (own_2 ∙ managers)))
+    ∙ (ap (λ (xs : List ℕ). overlay xs (plain_bit c.deref.result.now fs p c.args.bytes.now)) (own ∙ memory)
+    ∙ ap (λ (ms : List Manager). overlay s.memory (plain_bit ms fs p c.args.bytes.now)) (c.deref.ensures.value ∙ managers))))
+    (c.as_slice-fmmus.ensures ∙ (c.self.invariant.decoded ∙ ap fmmus_of memory))
+    (front_2 ∙ (c.access_managers-in_manager.ensures.after ∙ ap (λ (ms : List Manager). managers_exchanged [] c.args.reading true fs p c.args.bytes.now ms) (own_2 ∙ managers)))
 
 pub returns-clause-some : goal.returns-clause-some
 returns-clause-some c =
     let s : SlaveState = c.args.self.now in
     let p : Place = record { from = c.args.from; bits = 8 * length c.args.bytes.now } in
-    let fs : List FmmuSettings = c.self.inside.fmmus in
+    let fs : List FmmuSettings = c.as_slice-fmmus.result.now in
     let b : List ℕ = c.args.bytes.now in
     let memory = ap (λ (x : SlaveState). x.memory) c.self.view_is in
     let managers = ap (λ (x : SlaveState). x.managers) c.self.view_is in
-    some_found s.managers c.deref-2.result.now c.deref.result.now fs _ p b _ _ c.write_logical-in_memory.ensures.any (c.deref-2.ensures.value ∙ managers)
-    c.some_manager_written-in_manager.ensures (c.deref.ensures.value ∙ managers) (c.self.invariant.decoded ∙ ap fmmus_of memory)
+    let own_2 = c.deref_mut-2.ensures.value in
+    some_found s.managers c.deref.result.now c.deref_mut-2.result.now fs _ p b _ _ c.write_logical-in_memory.ensures.any (c.deref.ensures.value ∙ managers)
+    c.access_managers-in_manager.ensures.any (own_2 ∙ managers) (c.as_slice-fmmus.ensures ∙ (c.self.invariant.decoded ∙ ap fmmus_of memory))

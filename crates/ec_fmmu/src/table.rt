@@ -1,0 +1,120 @@
+//! The FMMUs of a slave together, with what was found of all of them once.
+
+ghost use Rattle.std.specs.Prelude.{◌≡◌, ◌+◌, ◌<◌, ◌^◌, ℕ, None, true};
+ghost use Rattle.std.specs.Bool.{OnTrue};
+ghost use Rattle.ec_fmmu.specs.Alone.{AreApart};
+ghost use Rattle.ec_fmmu.specs.Applied.{data_bit_for};
+ghost use Rattle.ec_fmmu.specs.Pairs.{reaches};
+ghost use Rattle.ec_fmmu.specs.Sets.{target, readers};
+ghost use Rattle.ec_fmmu.specs.Stretches.{Has, IsAround};
+
+use crate::crossing::are_apart;
+use crate::mapping::Fmmu;
+use std::marker::Model;
+
+/// Logical bits from one on and below another.
+#[derive(Clone, Copy, Debug)]
+struct Stretch {
+    first: u64,
+    end: u64,
+}
+
+/// The logical bits in the range of an FMMU.
+fn stretch_of(fmmu: &Fmmu) -> Stretch
+    ensures { (l : ℕ) → reaches fmmu.now l ≡ true → Has result l }
+{
+    let count = fmmu.bit_count();
+    if count == 0 {
+        return Stretch {
+            first: u64::MAX,
+            end: 0,
+        };
+    }
+    let first = fmmu.first_logical();
+    Stretch {
+        first,
+        end: first + count,
+    }
+}
+
+/// The bits of both, and those between them.
+fn join(one: Stretch, other: Stretch) -> Stretch
+    ensures one { (l : ℕ) → Has one l → Has result l }
+    ensures other { (l : ℕ) → Has other l → Has result l }
+{
+    Stretch {
+        first: one.first.min(other.first),
+        end: one.end.max(other.end),
+    }
+}
+
+/// The logical bits in the ranges of four FMMUs, and those between them.
+fn around(fmmus: &[Fmmu; 4]) -> Stretch
+    ensures { IsAround result fmmus.now }
+{
+    let low = join(stretch_of(&fmmus[0]), stretch_of(&fmmus[1]));
+    let high = join(stretch_of(&fmmus[2]), stretch_of(&fmmus[3]));
+    join(low, high)
+}
+
+/// The four FMMUs of a slave. What is asked of each datagram is found once: where their ranges lie
+/// in the logical space, and whether any bit that is read may be written as well.
+#[derive(Debug, Drop)]
+pub struct FmmuTable {
+    fmmus: [Fmmu; 4],
+    stretch: Stretch,
+    is_apart: bool,
+}
+
+impl Model for FmmuTable {
+    ghost use Rattle.std.specs.Prelude.{List};
+    ghost use Rattle.std.specs.Bool.{OnTrue};
+    ghost use Rattle.ec_regs.specs.declared.fmmu.FmmuSettings.{FmmuSettings};
+    ghost use Rattle.ec_fmmu.specs.Alone.{AreApart};
+    ghost use Rattle.ec_fmmu.specs.Stretches.{IsAround};
+
+    ghost Value = { List FmmuSettings };
+
+    ghost view = { λ t. t.fmmus };
+
+    ghost invariant = { λ t. (IsAround t.stretch t.fmmus) × OnTrue t.is_apart (AreApart t.fmmus) };
+}
+
+impl FmmuTable {
+    /// These four, the lowest first.
+    pub fn new(fmmus: [Fmmu; 4]) -> FmmuTable
+        ensures { result ≡ fmmus }
+    {
+        FmmuTable {
+            stretch: around(&fmmus),
+            is_apart: are_apart(&fmmus),
+            fmmus,
+        }
+    }
+
+    /// The FMMUs, the lowest first.
+    pub fn as_slice(&self) -> &[Fmmu]
+        ensures { result.now ≡ self.now }
+    {
+        &self.fmmus
+    }
+
+    /// Whether no physical bit is in the range of an FMMU that reads and of one that writes, as
+    /// [`are_apart`] finds it. False says nothing.
+    pub fn is_apart(&self) -> bool
+        ensures { OnTrue result (AreApart self.now) }
+    {
+        self.is_apart
+    }
+
+    /// Whether the `bits` logical bits from `from` on lie before the first range or behind the last
+    /// one, so that a datagram over them neither reads nor writes. False says nothing.
+    #[tactic(auto, using(crate::proofs::Missing::none_read, crate::proofs::Missing::none_brought))]
+    pub fn is_missed(&self, from: u64, bits: u64) -> bool
+        requires { from + bits < 2 ^ 64 }
+        ensures reads { OnTrue result ((i : ℕ) → i < bits → target (readers self.now) (from + i) ≡ None) }
+        ensures writes { OnTrue result ((q : ℕ) → data_bit_for self.now (record { from = from; bits = bits }) q ≡ None) }
+    {
+        self.stretch.end <= from || from + bits <= self.stretch.first
+    }
+}
