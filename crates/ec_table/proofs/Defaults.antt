@@ -16,7 +16,7 @@ use Rattle.ec_table.specs.Fields.{must, keys_are, number_in, name_in, mailbox_in
 use Rattle.ec_table.specs.InOrder.{rows_after}
 use Rattle.ec_table.specs.Names.{is_named, place_named}
 use Rattle.ec_table.specs.Pdos.{pdos_in, numbers_in, indices_of, has_twice}
-use Rattle.ec_table.specs.Reading.{device_in, process_in, process_twice, type_at, type_element, slave_at, slave_element, variable_element, all_bits, link_at, link_element, top, table_of_document}
+use Rattle.ec_table.specs.Reading.{device_in, process_in, process_twice, type_at, type_named, type_element, slave_at, slave_named, slave_of_type, slave_element, variable_element, all_bits, link_at, link_element, top, table_of_document, table_of_sections}
 use Rattle.ec_table.specs.Laws.{TypeDefaults, SlaveDefaults, LinkDefaults, DocumentDefaults, LeftOutIsDefault}
 use Rattle.ec_table.proofs.Meets.{Meets, meets_ok, meets_then, any_met, ok_or_met}
 use Rattle.ec_table.proofs.SoundRows.{Fits, assigned_met, number_or_0_met}
@@ -75,7 +75,7 @@ no_process p ms =
     meets_ok (NoPdos ms) (record { out_start = a; in_start = b; outputs = os; inputs = is }) (hos, his)))))
 
 type_defaults : (v : Version) (p : Place) (ms : Members) (found : List TypeRow) → Meets (type_at v p ms found) (TypeDefaults ms)
-unfolding type_at
+unfolding type_at type_named
 type_defaults v p ms found =
     meets_then _ (TypeDefaults ms) _ _ (any_met (must (keys_are shape.Type v ms) (BadKey p))) (λ u _.
     meets_then _ (TypeDefaults ms) _ _ (any_met (name_in p (get_member (codes "name") ms))) (λ name _.
@@ -88,7 +88,7 @@ type_defaults v p ms found =
     (record { mailbox = hmailbox; outputs = hprocess.0; inputs = hprocess.1; lrw = hlrw }))))))))
 
 slave_defaults : (v : Version) (ts : List TypeRow) (p : Place) (ms : Members) (found : List SlaveRow) → Meets (slave_at v ts p ms found) (SlaveDefaults ts ms)
-unfolding slave_at
+unfolding slave_at slave_named slave_of_type
 slave_defaults v ts p ms found =
     meets_then _ (SlaveDefaults ts ms) _ _ (any_met (must (keys_are shape.Slave v ms) (BadKey p))) (λ u _.
     meets_then _ (SlaveDefaults ts ms) _ _ (any_met (name_in p (get_member (codes "name") ms))) (λ name _.
@@ -128,7 +128,7 @@ link_defaults v ss ws p ms =
     (record { bits = λ none x at. let none_written : bits ≡ None = hbits none in let same : w ≡ x = cc in rw (none_written, same) refl }))))))))))
 
 document_defaults : (ms : Members) → Meets (table_of_document ms) (DocumentDefaults ms)
-unfolding table_of_document
+unfolding table_of_document table_of_sections
 document_defaults ms =
     meets_then _ (DocumentDefaults ms) _ _ (first_version top (get_member (codes "version") ms)) (λ v hv.
     meets_then _ (DocumentDefaults ms) _ _ (any_met (must (keys_are shape.Document v ms) (BadKey top))) (λ u _.

@@ -15,7 +15,7 @@ use Rattle.ec_table.specs.Faults.{fault_place}
 use Rattle.ec_table.specs.Fields.{◌>>=◌, must, in_range, magnitude, is_name, number_in, name_in, mailbox_of, mailbox_in, direction_in, link_bits_of, link_bits_in, number_or_0, truth_in}
 use Rattle.ec_table.specs.InOrder.{members_in, rows_after}
 use Rattle.ec_table.specs.Pdos.{entry_of, entry_row, array_of, array_in, pdo_of, pdo_row, pdos_in, number_row, number_list, numbers_in, indices_of, has_twice}
-use Rattle.ec_table.specs.Reading.{device_in, process_in, type_at, assigned_in, all_in, same_list, slave_at, variable_at, link_at}
+use Rattle.ec_table.specs.Reading.{device_in, process_in, type_at, type_named, assigned_in, all_in, same_list, slave_at, slave_named, slave_of_type, variable_at, link_at}
 use Rattle.ec_table.specs.Names.{is_named, place_named}
 use Rattle.ec_table.specs.Laws.{FaultsHaveTheirPlace}
 
@@ -161,7 +161,7 @@ fails_assigned p t s =
     fails_then p _ _ (fails_must p (is_some t.mailbox || (same_list s.outputs (indices_of t.process.outputs) && same_list s.inputs (indices_of t.process.inputs))) (BadValue p) refl) (λ w. fails_ok p s))
 
 pub fails_type : (v : Version) (p : Place) (ms : Members) (found : List TypeRow) → FailsAt p (type_at v p ms found)
-unfolding type_at
+unfolding type_at type_named
 fails_type v p ms found =
     fails_then p _ _ (fails_must p _ (BadKey p) refl) (λ u.
     fails_then p _ _ (fails_name p (get_member (codes "name") ms)) (λ name.
@@ -172,7 +172,7 @@ fails_type v p ms found =
     fails_then p _ _ (fails_must p _ (TwiceNamed p) refl) (λ w. fails_ok p _)))))))
 
 pub fails_slave : (v : Version) (ts : List TypeRow) (p : Place) (ms : Members) (found : List SlaveRow) → FailsAt p (slave_at v ts p ms found)
-unfolding slave_at
+unfolding slave_at slave_named slave_of_type
 fails_slave v ts p ms found =
     fails_then p _ _ (fails_must p _ (BadKey p) refl) (λ u.
     fails_then p _ _ (fails_name p (get_member (codes "name") ms)) (λ name.

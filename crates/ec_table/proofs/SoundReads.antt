@@ -25,7 +25,7 @@ use Rattle.ec_table.specs.Contents.{pdos_toward}
 use Rattle.ec_table.specs.Fields.{◌>>=◌, must, keys_are, mailbox_of, mailbox_in, direction_in, truth_in}
 use Rattle.ec_table.specs.InOrder.{members_in, rows_after}
 use Rattle.ec_table.specs.Pdos.{entry_of, entry_row, array_of, array_in, pdo_of, pdo_row, pdos_in, indices_of, has_twice}
-use Rattle.ec_table.specs.Reading.{device_in, process_in, process_twice, type_at, type_element, variable_at, variable_element}
+use Rattle.ec_table.specs.Reading.{device_in, process_in, process_twice, type_at, type_named, type_element, variable_at, variable_element}
 use Rattle.ec_table.specs.Names.{is_named}
 use Rattle.ec_table.specs.Sound.{IsOnce, IsDevice, IsType, AreTypes, IsVariable, AreVariables, first_index}
 use Rattle.ec_table.proofs.Ranges.{ReadMailbox, ReadEntry, ReadPdo, ReadPdos, last_index, type_read}
@@ -148,7 +148,7 @@ pub record NewType (found : List TypeRow) (t : TypeRow) : Type 0 where
   pub fresh : (k : ℕ) (d : TypeRow) → k < length found → (get_or found k d).name ≢ t.name
 
 pub type_met : (v : Version) (p : Place) (ms : Members) (found : List TypeRow) → Meets (type_at v p ms found) (NewType found)
-unfolding type_at
+unfolding type_at type_named
 type_met v p ms found =
     meets_then _ (NewType found) _ _ (any_met (must (keys_are shape.Type v ms) (BadKey p))) (λ u _.
     meets_then _ (NewType found) _ _ (name_met p (get_member (codes "name") ms)) (λ name hname.

@@ -34,7 +34,7 @@ use Rattle.ec_table.specs.Contents.{pdos_toward, assigned_toward}
 use Rattle.ec_table.specs.Fields.{must, each_key, is_key, has_required, keys_are, link_bits_of, link_bits_in, number_or_0, version_in, section_in}
 use Rattle.ec_table.specs.InOrder.{rows_after}
 use Rattle.ec_table.specs.Pdos.{indices_of, has_twice, numbers_in}
-use Rattle.ec_table.specs.Reading.{all_in, same_list, assigned_in, slave_at, slave_element, all_bits, link_at, link_element, type_element, variable_element, top, table_of_document, table_of}
+use Rattle.ec_table.specs.Reading.{all_in, same_list, assigned_in, slave_at, slave_named, slave_of_type, slave_element, all_bits, link_at, link_element, type_element, variable_element, top, table_of_document, table_of_sections, table_of}
 use Rattle.ec_table.specs.Names.{is_named, place_named}
 use Rattle.ec_table.specs.Sound.{IsOnce, IsType, AreTypes, IsAssignment, IsSlave, AreSlaves, IsVariable, AreVariables, IsBits, IsLink, IsSound, IsName}
 use Rattle.ec_table.proofs.Ranges.{pdos_toward_read}
@@ -139,7 +139,7 @@ slave_sound v ts k t s types is place fits once name serial unit one = record {
 }
 
 pub slave_met : (v : Version) (ts : List TypeRow) (p : Place) (ms : Members) (found : List SlaveRow) → AreTypes ts → Meets (slave_at v ts p ms found) (NewSlave v ts found)
-unfolding slave_at
+unfolding slave_at slave_named slave_of_type
 slave_met v ts p ms found types =
     meets_then _ (NewSlave v ts found) _ _ (must_met (keys_are shape.Slave v ms) (BadKey p)) (λ u keys.
     meets_then _ (NewSlave v ts found) _ _ (name_met p (get_member (codes "name") ms)) (λ name hname.
@@ -236,7 +236,7 @@ read_sound v type_items slave_items variable_items link_items ts ss ws ls it is 
     record { types = types; slaves = (slaves_met v ts slave_items types).all ss is; variables = variables; links = (links_met v ss ws link_items variables).all ls il }
 
 pub document_met : (ms : Members) → Meets (table_of_document ms) IsSound
-unfolding table_of_document
+unfolding table_of_document table_of_sections
 document_met ms =
     meets_then _ IsSound _ _ (any_met (version_in top (get_member (codes "version") ms))) (λ v _.
     meets_then _ IsSound _ _ (any_met (must (keys_are shape.Document v ms) (BadKey top))) (λ u _.

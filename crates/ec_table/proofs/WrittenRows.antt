@@ -17,7 +17,7 @@ use Rattle.ec_table.specs.declared.rows.VariableRow.{VariableRow}
 use Rattle.ec_table.specs.Fields.{mailbox_in}
 use Rattle.ec_table.specs.InOrder.{rows_after}
 use Rattle.ec_table.specs.Pdos.{indices_of, has_twice}
-use Rattle.ec_table.specs.Reading.{device_in, process_in, process_twice, type_at, type_element, variable_element}
+use Rattle.ec_table.specs.Reading.{device_in, process_in, process_twice, type_at, type_named, type_element, variable_element}
 use Rattle.ec_table.specs.Names.{is_named}
 use Rattle.ec_table.specs.Sound.{IsOnce, IsDevice, IsType, AreTypes, IsVariable, AreVariables}
 use Rattle.ec_table.proofs.Ranges.{pdos_toward_read, mailbox_read}
@@ -62,7 +62,7 @@ no_process_twice : (name : List ℕ) (device : Device) (o : Option Mailbox) (pro
 no_process_twice name device o process lrw h = or_from _ _ (test_from_once (indices_of process.outputs) (pdos_toward_read (row name device o process lrw) h Out).once) (test_from_once (indices_of process.inputs) (pdos_toward_read (row name device o process lrw) h In).once)
 
 fields_read : (v : Version) (p : Place) (name : List ℕ) (device : Device) (o : Option Mailbox) (process : ProcessData) (lrw : Bool) (found : List TypeRow) → IsType (row name device o process lrw) → is_named (λ (t : TypeRow). t.name) name found ≡ false → type_at v p (type_members (row name device o process lrw)) found ≡ Ok (row name device o process lrw)
-unfolding type_at mailbox_in
+unfolding type_at type_named mailbox_in
 fields_read v p name device None process lrw found h fresh =
     let r = row name device None process lrw in
     rw (name_reads p name h.name, device_reads p name device None process lrw h.device, process_reads p name device None process lrw h, fresh, no_process_twice name device None process lrw h) refl

@@ -26,7 +26,7 @@ use Rattle.ec_table.specs.Contents.{Contents, pdos_toward, assigned_toward}
 use Rattle.ec_table.specs.Fields.{number_in, section_in, are_tables, version_in}
 use Rattle.ec_table.specs.InOrder.{rows_after}
 use Rattle.ec_table.specs.Pdos.{indices_of, has_twice}
-use Rattle.ec_table.specs.Reading.{all_in, same_list, assigned_in, slave_at, slave_element, link_at, link_element, table_of_document, top}
+use Rattle.ec_table.specs.Reading.{all_in, same_list, assigned_in, slave_at, slave_named, slave_of_type, slave_element, link_at, link_element, table_of_document, table_of_sections, top}
 use Rattle.ec_table.specs.Names.{is_named}
 use Rattle.ec_table.specs.Sound.{IsName, IsType, AreTypes, IsAssignment, IsSlave, AreSlaves, IsVariable, AreVariables, IsLink, IsSound, first_index}
 use Rattle.ec_table.proofs.Ranges.{ReadPdo, last_index, pdos_toward_read}
@@ -103,7 +103,7 @@ no_double : (s : SlaveRow) (t : TypeRow) (found : List SlaveRow) → ((d : Direc
 no_double s t found h fresh = or_from (is_named (λ (s : SlaveRow). s.name) s.name found) (has_twice s.outputs || has_twice s.inputs) fresh (or_from (has_twice s.outputs) (has_twice s.inputs) (test_from_once s.outputs (h Out).once) (test_from_once s.inputs (h In).once))
 
 pub slave_reads : (v : Version) (ts : List TypeRow) (p : Place) (s : SlaveRow) (found : List SlaveRow) (t : TypeRow) → AreTypes ts → IsSlave v ts s → slice_get ts s.type_place ≡ Some t → is_named (λ (s : SlaveRow). s.name) s.name found ≡ false → slave_at v ts p (slave_members v ts s) found ≡ Ok s
-unfolding slave_at
+unfolding slave_at slave_named slave_of_type
 slave_reads One ts p s found t types h is fresh =
     let kind : IsType t = type_at_place ts s.type_place t types is in
     let fits : (d : Direction) → IsAssignment t.mailbox (pdos_toward d t) (assigned_toward d s) = λ d. h.assigned t d is in
@@ -191,7 +191,7 @@ version_reads p One = refl
 version_reads p Two = refl
 
 pub document_reads : (c : Contents) → IsSound c → table_of_document (document_of c) ≡ Ok c
-unfolding table_of_document document_of
+unfolding table_of_document table_of_sections document_of
 document_reads c h =
     rw (
       version_reads top c.version,

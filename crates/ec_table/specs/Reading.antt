@@ -3,7 +3,7 @@ use Rattle.std.specs.Prelude.{List, [], ℕ, ◌==◌, Bool, not, ◌&&◌, ◌|
 use Rattle.std.specs.List.{list_any, list_all}
 use Rattle.std.specs.Str.{bytes_eq}
 use Rattle.std.specs.Option.{ok_or}
-use Rattle.toml.specs.Data.{Data, Members, get_member}
+use Rattle.toml.specs.Data.{Data, Items, Members, get_member}
 use Rattle.toml.specs.Parse.{parse_document}
 use Rattle.ec_table.specs.declared.fault.Fault.{Fault}
 use Rattle.ec_table.specs.declared.fault.Fault.TheVariants.{Toml, BadKey, BadValue, TwiceNamed, UnknownName}
@@ -18,6 +18,7 @@ use Rattle.ec_table.specs.declared.rows.VariableRow.{VariableRow}
 use Rattle.ec_table.specs.declared.rows.LinkBits.{LinkBits}
 use Rattle.ec_table.specs.declared.rows.LinkRow.{LinkRow}
 use Rattle.ec_table.specs.declared.fields.Shape.TheVariants as shape
+use Rattle.ec_table.specs.declared.slaves.Written.{Written}
 use Rattle.ec_table.specs.Contents.{Contents}
 use Rattle.ec_table.specs.InOrder.{members_in, rows_after}
 use Rattle.ec_table.specs.Names.{is_named, place_named}
@@ -47,17 +48,22 @@ process_in p ms = do
 abbrev pub process_twice : ProcessData → Bool
 process_twice d = has_twice (indices_of d.outputs) || has_twice (indices_of d.inputs)
 
+-- the type of this name that an element states; whether another type has the name
+unfoldable pub type_named : Place → Members → List ℕ → Bool → Result TypeRow Fault
+type_named p ms name is_taken = do
+  device ← device_in p ms
+  mailbox ← mailbox_in p (get_member (codes "mailbox") ms)
+  process ← process_in p ms
+  lrw ← truth_in p (get_member (codes "lrw") ms)
+  _ ← must (not (is_taken || process_twice process)) (TwiceNamed p)
+  Ok (record { name = name; device = device; mailbox = mailbox; process = process; lrw = lrw })
+
 -- the type that an element states, after those found
 unfoldable pub type_at : Version → Place → Members → List TypeRow → Result TypeRow Fault
 type_at v p ms found = do
   _ ← must (keys_are shape.Type v ms) (BadKey p)
   name ← name_in p (get_member (codes "name") ms)
-  device ← device_in p ms
-  mailbox ← mailbox_in p (get_member (codes "mailbox") ms)
-  process ← process_in p ms
-  lrw ← truth_in p (get_member (codes "lrw") ms)
-  _ ← must (not (is_named (λ (t : TypeRow). t.name) name found || process_twice process)) (TwiceNamed p)
-  Ok (record { name = name; device = device; mailbox = mailbox; process = process; lrw = lrw })
+  type_named p ms name (is_named (λ (t : TypeRow). t.name) name found)
 
 abbrev pub type_element : Version → ℕ → Data → List TypeRow → Result TypeRow Fault
 type_element v n d found =
@@ -79,20 +85,30 @@ assigned_in p t s = do
   _ ← must (is_some t.mailbox || (same_list s.outputs (indices_of t.process.outputs) && same_list s.inputs (indices_of t.process.inputs))) (BadValue p)
   Ok s
 
--- the slave that an element states, after those found; left out, `out` and `in` are all objects of the type in order
-unfoldable pub slave_at : Version → List TypeRow → Place → Members → List SlaveRow → Result SlaveRow Fault
-slave_at v types p ms found = do
-  _ ← must (keys_are shape.Slave v ms) (BadKey p)
-  name ← name_in p (get_member (codes "name") ms)
+-- the slave of this name and type, with what its element writes; left out, `out` and `in` are all objects of the type in order
+unfoldable pub slave_of_type : List TypeRow → Place → List ℕ → List ℕ → Written → Result SlaveRow Fault
+slave_of_type types p name type_name w = do
+  at ← ok_or (place_named (λ (t : TypeRow). t.name) type_name types) (UnknownName p)
+  t ← ok_or (slice_get types at) (UnknownName p)
+  assigned_in p t (record { name = name; type_place = at; outputs = unwrap_or w.outputs (indices_of t.process.outputs); inputs = unwrap_or w.inputs (indices_of t.process.inputs); serial = w.serial; unit = w.unit })
+
+-- the slave of this name that an element states; whether another slave has the name
+unfoldable pub slave_named : List TypeRow → Place → Members → List ℕ → Bool → Result SlaveRow Fault
+slave_named types p ms name is_taken = do
   type_name ← name_in p (get_member (codes "type") ms)
   outputs ← numbers_in p 0x1600 0x17FF (get_member (codes "out") ms)
   inputs ← numbers_in p 0x1A00 0x1BFF (get_member (codes "in") ms)
   serial ← number_or_0 p 4294967295 (get_member (codes "serial") ms)
   unit ← number_or_0 p 63 (get_member (codes "unit") ms)
-  _ ← must (not (is_named (λ (s : SlaveRow). s.name) name found || (has_twice (unwrap_or outputs []) || has_twice (unwrap_or inputs [])))) (TwiceNamed p)
-  at ← ok_or (place_named (λ (t : TypeRow). t.name) type_name types) (UnknownName p)
-  t ← ok_or (slice_get types at) (UnknownName p)
-  assigned_in p t (record { name = name; type_place = at; outputs = unwrap_or outputs (indices_of t.process.outputs); inputs = unwrap_or inputs (indices_of t.process.inputs); serial = serial; unit = unit })
+  _ ← must (not (is_taken || (has_twice (unwrap_or outputs []) || has_twice (unwrap_or inputs [])))) (TwiceNamed p)
+  slave_of_type types p name type_name (record { outputs = outputs; inputs = inputs; serial = serial; unit = unit })
+
+-- the slave that an element states, after those found
+unfoldable pub slave_at : Version → List TypeRow → Place → Members → List SlaveRow → Result SlaveRow Fault
+slave_at v types p ms found = do
+  _ ← must (keys_are shape.Slave v ms) (BadKey p)
+  name ← name_in p (get_member (codes "name") ms)
+  slave_named types p ms name (is_named (λ (s : SlaveRow). s.name) name found)
 
 abbrev pub slave_element : Version → List TypeRow → ℕ → Data → List SlaveRow → Result SlaveRow Fault
 slave_element v types n d found =
@@ -146,6 +162,15 @@ link_element v slaves variables n d found =
 abbrev pub top : Place
 top = record { section = section.Top; element = 0 }
 
+-- the table that the elements of the sections state
+unfoldable pub table_of_sections : Version → Items → Items → Items → Items → Result Contents Fault
+table_of_sections version type_items slave_items variable_items link_items = do
+  types ← rows_after (type_element version) [] 0 type_items
+  slaves ← rows_after (slave_element version types) [] 0 slave_items
+  variables ← rows_after (variable_element version) [] 0 variable_items
+  links ← rows_after (link_element version slaves variables) [] 0 link_items
+  Ok (record { version = version; types = types; slaves = slaves; variables = variables; links = links })
+
 -- the table that a document states: its version, its keys, its sections, then each section's elements
 unfoldable pub table_of_document : Members → Result Contents Fault
 table_of_document ms = do
@@ -155,11 +180,7 @@ table_of_document ms = do
   slave_items ← section_in top (get_member (codes "slave") ms)
   variable_items ← section_in top (get_member (codes "variable") ms)
   link_items ← section_in top (get_member (codes "link") ms)
-  types ← rows_after (type_element version) [] 0 type_items
-  slaves ← rows_after (slave_element version types) [] 0 slave_items
-  variables ← rows_after (variable_element version) [] 0 variable_items
-  links ← rows_after (link_element version slaves variables) [] 0 link_items
-  Ok (record { version = version; types = types; slaves = slaves; variables = variables; links = links })
+  table_of_sections version type_items slave_items variable_items link_items
 
 -- the table that a text states
 unfoldable pub table_of : List ℕ → Result Contents Fault

@@ -1,15 +1,43 @@
-ghost use Rattle.toml.specs.View.{table_view};
+ghost use Rattle.toml.specs.View.{items_view, table_view};
 ghost use Rattle.ec_table.specs.InOrder.{Gives};
-ghost use Rattle.ec_table.specs.Reading.{table_of_document, table_of};
+ghost use Rattle.ec_table.specs.Reading.{table_of_document, table_of_sections, table_of};
 
 use crate::fault::{Fault, Place, Section, TableError};
 use crate::fields::{Shape, keys_are, member, section_in, version_in};
 use crate::links::links_of;
+use crate::rows::Version;
 use crate::slaves::slaves_of;
 use crate::table::Table;
 use crate::types::types_of;
 use crate::variables::variables_of;
 use std::alloc::Global;
+use toml::Value;
+
+/// The table that the elements of the sections state.
+#[tactic(auto, unfolding(crate::specs::Reading::table_of_sections))]
+fn table_of_sections(
+    alloc: Global,
+    version: Version,
+    types: &[Value],
+    slaves: &[Value],
+    variables: &[Value],
+    links: &[Value],
+) -> Result<Table, TableError>
+    ensures { Gives result (table_of_sections version (items_view types.now)
+        (items_view slaves.now) (items_view variables.now) (items_view links.now)) }
+{
+    let types = types_of(alloc, version, types)?;
+    let slaves = slaves_of(alloc, version, &types, slaves)?;
+    let variables = variables_of(alloc, version, variables)?;
+    let links = links_of(alloc, version, &slaves, &variables, links)?;
+    Ok(Table::new(
+        version,
+        types.into_rows(),
+        slaves.into_rows(),
+        variables.into_rows(),
+        links,
+    ))
+}
 
 /// The table that a document states.
 #[tactic(auto, unfolding(crate::specs::Reading::table_of_document))]
@@ -28,17 +56,7 @@ fn table_of_document(alloc: Global, document: &toml::Table) -> Result<Table, Tab
     let slaves = section_in(top, member(document, "slave"))?;
     let variables = section_in(top, member(document, "variable"))?;
     let links = section_in(top, member(document, "link"))?;
-    let types = types_of(alloc, version, types)?;
-    let slaves = slaves_of(alloc, version, &types, slaves)?;
-    let variables = variables_of(alloc, version, variables)?;
-    let links = links_of(alloc, version, &slaves, &variables, links)?;
-    Ok(Table::new(
-        version,
-        types.into_rows(),
-        slaves.into_rows(),
-        variables.into_rows(),
-        links,
-    ))
+    table_of_sections(alloc, version, types, slaves, variables, links)
 }
 
 /// The table that a text states, or the first fault of the text.

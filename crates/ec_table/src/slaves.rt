@@ -1,8 +1,8 @@
-ghost use Rattle.std.specs.Prelude.{◌≡◌, ◌||◌, [], IfOk, unwrap_or};
+ghost use Rattle.std.specs.Prelude.{◌≡◌, ◌||◌, [], IfOk, OnOk, false, unwrap_or};
 ghost use Rattle.toml.specs.View.{view, table_view, items_view};
 ghost use Rattle.ec_table.specs.Pdos.{has_twice, indices_of};
 ghost use Rattle.ec_table.specs.InOrder.{Gives, one_more, rows_after};
-ghost use Rattle.ec_table.specs.Reading.{all_in, assigned_in, slave_at, slave_element};
+ghost use Rattle.ec_table.specs.Reading.{all_in, assigned_in, slave_at, slave_element, slave_named, slave_of_type};
 
 use crate::fault::{Fault, Place, Section, TableError};
 use crate::fields::{Shape, keys_are, member, name_in, number_or_0};
@@ -74,23 +74,61 @@ fn assigned_in(
     Ok(row)
 }
 
-/// The slaves found, and the one that an element states behind them.
-#[tactic(auto, unfolding(crate::specs::Reading::slave_at))]
-fn with_slave<'a>(
+/// What a slave's element writes beside names.
+#[derive(Drop)]
+pub struct Written {
+    pub outputs: Option<Listed<u16>>,
+    pub inputs: Option<Listed<u16>>,
+    pub serial: u32,
+    pub unit: u8,
+}
+
+/// The slave of this name and type, with what its element writes.
+#[tactic(auto, unfolding(crate::specs::Reading::slave_of_type))]
+fn slave_of_type(
     alloc: Global,
-    version: Version,
     types: &NamedRows<'_, TypeRow>,
     place: Place,
-    members: &'a toml::Table,
-    found: NamedRows<'a, SlaveRow>,
-) -> Result<NamedRows<'a, SlaveRow>, TableError>
-    ensures { Gives result
-        (one_more found.entry (slave_at version types.now place (table_view members.now) found.entry)) }
+    name: &str,
+    type_name: &str,
+    written: Written,
+) -> Result<SlaveRow, TableError>
+    ensures value { Gives result (slave_of_type types.now place name.now type_name.now written) }
+    ensures name { IfOk result (λ s. s.name ≡ name.now) }
 {
-    if !keys_are(Shape::Slave, version, members) {
-        return Err(TableError::Refused(Fault::BadKey(place)));
-    }
-    let name = name_in(place, member(members, "name"))?;
+    let Some(at) = types.place_of(type_name) else {
+        return Err(TableError::Refused(Fault::UnknownName(place)));
+    };
+    let Some(slave_type) = types.as_slice().get(at) else {
+        return Err(TableError::Refused(Fault::UnknownName(place)));
+    };
+    let process = &slave_type.process;
+    let row = SlaveRow {
+        name: Name::new(alloc, name)?,
+        type_place: at,
+        outputs: written_or_all(alloc, written.outputs, process.outputs.as_slice())?,
+        inputs: written_or_all(alloc, written.inputs, process.inputs.as_slice())?,
+        serial: written.serial,
+        unit: written.unit,
+    };
+    assigned_in(alloc, place, slave_type, row)
+}
+
+/// The slave of this name that an element states; whether another slave has the name.
+#[tactic(auto, unfolding(crate::specs::Reading::slave_named))]
+fn slave_named(
+    alloc: Global,
+    types: &NamedRows<'_, TypeRow>,
+    place: Place,
+    members: &toml::Table,
+    name: &str,
+    is_taken: bool,
+) -> Result<SlaveRow, TableError>
+    ensures value { Gives result
+        (slave_named types.now place (table_view members.now) name.now is_taken) }
+    ensures name { IfOk result (λ s. s.name ≡ name.now) }
+    ensures fresh { OnOk result (is_taken ≡ false) }
+{
     let type_name = name_in(place, member(members, "type"))?;
     let outputs = numbers_in(
         alloc,
@@ -108,24 +146,37 @@ fn with_slave<'a>(
     )?;
     let serial = number_or_0(place, member(members, "serial"), u32::MAX)?;
     let unit = number_or_0(place, member(members, "unit"), 63)?;
-    if found.has(name) || (twice_in(&outputs) || twice_in(&inputs)) {
+    if is_taken || (twice_in(&outputs) || twice_in(&inputs)) {
         return Err(TableError::Refused(Fault::TwiceNamed(place)));
     }
-    let Some(at) = types.place_of(type_name) else {
-        return Err(TableError::Refused(Fault::UnknownName(place)));
-    };
-    let Some(slave_type) = types.as_slice().get(at) else {
-        return Err(TableError::Refused(Fault::UnknownName(place)));
-    };
-    let row = SlaveRow {
-        name: Name::new(alloc, name)?,
-        type_place: at,
-        outputs: written_or_all(alloc, outputs, slave_type.process.outputs.as_slice())?,
-        inputs: written_or_all(alloc, inputs, slave_type.process.inputs.as_slice())?,
+    let written = Written {
+        outputs,
+        inputs,
         serial,
         unit: unit as u8,
     };
-    let row = assigned_in(alloc, place, slave_type, row)?;
+    slave_of_type(alloc, types, place, name, type_name, written)
+}
+
+/// The slaves found, and the one that an element states behind them.
+#[tactic(auto, unfolding(crate::specs::Reading::slave_at))]
+fn with_slave<'a>(
+    alloc: Global,
+    version: Version,
+    types: &NamedRows<'_, TypeRow>,
+    place: Place,
+    members: &'a toml::Table,
+    found: NamedRows<'a, SlaveRow>,
+) -> Result<NamedRows<'a, SlaveRow>, TableError>
+    ensures { Gives result
+        (one_more found.entry (slave_at version types.now place (table_view members.now) found.entry)) }
+{
+    if !keys_are(Shape::Slave, version, members) {
+        return Err(TableError::Refused(Fault::BadKey(place)));
+    }
+    let name = name_in(place, member(members, "name"))?;
+    let is_taken = found.has(name);
+    let row = slave_named(alloc, types, place, members, name, is_taken)?;
     Ok(found.with(name, row)?)
 }
 

@@ -1,19 +1,16 @@
-ghost use Rattle.std.specs.Prelude.{◌<◌, length};
-
 use crate::tests::changes::{
     IN_LINKS, IN_ORDER, IN_SLAVES, IN_THE_DOCUMENT, IN_TYPES, IN_VARIABLES, IN_VERSION_2, LEFT_OUT,
     SMALL_TEXTS,
 };
+use crate::tests::described::{push_ends, push_table};
 use crate::tests::examples::{DO4, SMALL_MACHINE, THREE_SLAVES};
-use crate::{
-    Direction, Fault, LinkRow, Place, Section, SlaveRow, Table, TableError, TypeRow, read_table,
-};
-use ec_regs::{Entry, Pdo};
+use crate::{Fault, Place, Section, TableError, read_table};
 use std::alloc::{AllocError, Global};
 use std::process::Abort;
 use std::test::Fail;
 
 mod changes;
+mod described;
 mod examples;
 
 const THREE_SLAVES_READ: &str = "One
@@ -51,122 +48,6 @@ link 3 1 28704 17 0 0 16
 link 4 1 24608 17 0 0 16
 ";
 
-fn push_entries(alloc: Global, text: &mut String, entries: &[Entry]) -> Result<(), AllocError> {
-    for entry in entries {
-        let entry = format!(in alloc; " {}.{}.{}", entry.index, entry.subindex, entry.bits)?;
-        text.push_str(entry.as_str())?;
-    }
-    Ok(())
-}
-
-fn push_pdos(alloc: Global, text: &mut String, pdos: &[Pdo]) -> Result<(), AllocError> {
-    for pdo in pdos {
-        text.push_str(format!(in alloc; " {}:", pdo.index)?.as_str())?;
-        push_entries(alloc, text, pdo.entries.as_slice())?;
-    }
-    Ok(())
-}
-
-fn push_numbers(alloc: Global, text: &mut String, numbers: &[u16]) -> Result<(), AllocError> {
-    for number in numbers {
-        text.push_str(format!(in alloc; " {number}")?.as_str())?;
-    }
-    Ok(())
-}
-
-fn push_type(alloc: Global, text: &mut String, row: &TypeRow) -> Result<(), AllocError> {
-    let device = row.device;
-    let name = row.name.as_str();
-    let head = format!(in alloc;
-        "type {name} {} {} {} ",
-        device.vendor, device.product, device.revision
-    )?;
-    text.push_str(head.as_str())?;
-    let mailbox = match row.mailbox {
-        None => String::from_str(alloc, "None")?,
-        Some(m) => {
-            format!(in alloc;
-                "{}.{}.{}.{}",
-                m.receive_start, m.receive_size, m.send_start, m.send_size
-            )?
-        }
-    };
-    text.push_str(mailbox.as_str())?;
-    let process = &row.process;
-    let starts = format!(in alloc;
-        " {} {} {} out",
-        process.out_start, process.in_start, row.lrw
-    )?;
-    text.push_str(starts.as_str())?;
-    push_pdos(alloc, text, row.pdos(Direction::Out))?;
-    text.push_str(" in")?;
-    push_pdos(alloc, text, row.pdos(Direction::In))?;
-    text.push('\n')
-}
-
-fn push_slave(alloc: Global, text: &mut String, row: &SlaveRow) -> Result<(), AllocError> {
-    text.push_str(format!(in alloc;
-        "slave {} {} out",
-        row.name.as_str(),
-        row.type_place
-    )?.as_str())?;
-    push_numbers(alloc, text, row.assigned(Direction::Out))?;
-    text.push_str(" in")?;
-    push_numbers(alloc, text, row.assigned(Direction::In))?;
-    text.push_str(format!(in alloc; " {} {}:", row.serial, row.unit)?.as_str())
-}
-
-fn push_objects(
-    alloc: Global,
-    text: &mut String,
-    table: &Table,
-    slave: usize,
-) -> Result<(), AllocError>
-    requires { slave < length table.now.slaves }
-{
-    let outputs = table.entries_of(alloc, slave, Direction::Out)?;
-    push_entries(alloc, text, outputs.as_slice())?;
-    text.push_str(" /")?;
-    let inputs = table.entries_of(alloc, slave, Direction::In)?;
-    push_entries(alloc, text, inputs.as_slice())?;
-    text.push('\n')
-}
-
-fn push_link(alloc: Global, text: &mut String, row: &LinkRow) -> Result<(), AllocError> {
-    let ends = format!(in alloc;
-        "link {} {} {} {}",
-        row.variable, row.slave, row.index, row.subindex
-    )?;
-    text.push_str(ends.as_str())?;
-    let bits = row.bits;
-    let bits = format!(in alloc;
-        " {} {} {}\n",
-        bits.variable_bit, bits.entry_bit, bits.count
-    )?;
-    text.push_str(bits.as_str())
-}
-
-/// All that a table holds: a line for each row.
-fn described(alloc: Global, table: &Table) -> Result<String, AllocError> {
-    let mut text = format!(in alloc; "{:?}\n", table.version())?;
-    for row in table.types() {
-        push_type(alloc, &mut text, row)?;
-    }
-    for (place, row) in table.slaves().iter().enumerate() {
-        push_slave(alloc, &mut text, row)?;
-        push_objects(alloc, &mut text, table, place)?;
-    }
-    for row in table.variables() {
-        let name = row.name.as_str();
-        let line = format!(in alloc; "variable {name} {:?} {}\n", row.direction, row.bits)?;
-        text.push_str(line.as_str())?;
-    }
-    for row in table.links() {
-        push_link(alloc, &mut text, row)?;
-    }
-    Ok(text)
-}
-
 /// What reading a text answers: "read", or the refusal in its machine form.
 fn answer(alloc: Global, text: &str) -> Result<String, AllocError> {
     let error = match read_table(alloc, text) {
@@ -186,7 +67,14 @@ fn answer(alloc: Global, text: &str) -> Result<String, AllocError> {
     }
 }
 
-/// The lines of a text that are no comments, but for one.
+/// Reads a text, and compares what is told of it.
+fn assert_told(rt: &(impl AllocGlobal + Abort), text: &str, wanted: &str) -> Result<(), Fail> {
+    let told = answer(rt.alloc(), text)?;
+    assert_eq!(rt; told.as_str(), wanted, "{text}");
+    Ok(())
+}
+
+/// The lines of a text that are no comments, but for one, each with a `|` as its end.
 fn without_line(alloc: Global, text: &str, skipped: Option<usize>) -> Result<String, AllocError> {
     let mut rest = String::new(alloc);
     let lines = text
@@ -194,111 +82,105 @@ fn without_line(alloc: Global, text: &str, skipped: Option<usize>) -> Result<Str
         .filter(|line| !line.is_empty() && !line.starts_with('#'));
     for (place, line) in lines.enumerate() {
         if skipped != Some(place) {
-            rest.push_str(line)?;
-            rest.push('\n')?;
+            write!(rest, "{line}|")?;
         }
     }
     Ok(rest)
 }
 
-/// A text with the first place of `old` changed to `new`.
-fn changed(alloc: Global, text: &str, old: &str, new: &str) -> Result<String, Fail> {
+/// A change `OLD => NEW` made at the first OLD of a text, or what stands in its place, a text of its
+/// own.
+fn changed(alloc: Global, text: &str, change: &str) -> Result<String, Fail> {
+    let Some((old, new)) = change.split_once(" => ") else {
+        return Ok(String::from_str(alloc, change)?);
+    };
     let (before, after) = text.split_once(old).ok_or("nothing to change")?;
-    let mut whole = String::from_str(alloc, before)?;
-    whole.push_str(new)?;
-    whole.push_str(after)?;
-    Ok(whole)
+    Ok(format!(in alloc; "{before}{new}{after}")?)
+}
+
+/// Makes a change, `|` being the end of a line, and compares what is told.
+fn assert_change(
+    rt: &(impl AllocGlobal + Abort),
+    text: &str,
+    change: &str,
+    wanted: &str,
+) -> Result<(), Fail> {
+    let text = changed(rt.alloc(), text, change)?;
+    let text = text.replace(rt.alloc(), "|", "\n")?;
+    assert_told(rt, text.as_str(), wanted)
+}
+
+/// Makes the change of each line `ANSWER: CHANGE`, and compares what is told.
+fn assert_changes(rt: &(impl AllocGlobal + Abort), text: &str, changes: &str) -> Result<(), Fail> {
+    for line in changes.lines() {
+        let (wanted, change) = line.split_once(':').ok_or("no answer")?;
+        assert_change(rt, text, change.trim_start(), wanted)?;
+    }
+    Ok(())
+}
+
+/// Reads a text, and compares all that its table holds.
+fn assert_read(rt: &(impl AllocGlobal + Abort), text: &str, wanted: &str) -> Result<(), Fail> {
+    let mut described = String::new(rt.alloc());
+    let table = read_table(rt.alloc(), text)?;
+    push_table(rt.alloc(), &mut described, &table)?;
+    assert_eq!(rt; described.as_str(), wanted);
+    Ok(())
 }
 
 #[test]
 fn reads_the_examples(rt: HostRuntime) -> Result<(), Fail> {
-    let three = read_table(rt.alloc(), THREE_SLAVES)?;
-    assert_eq!(rt; described(rt.alloc(), &three)?.as_str(), THREE_SLAVES_READ);
-    let small = read_table(rt.alloc(), SMALL_MACHINE)?;
-    assert_eq!(rt; described(rt.alloc(), &small)?.as_str(), SMALL_MACHINE_READ);
+    for (text, wanted) in [
+        ("", "One\n"),
+        (THREE_SLAVES, THREE_SLAVES_READ),
+        (SMALL_MACHINE, SMALL_MACHINE_READ),
+    ] {
+        assert_read(&rt, text, wanted)?;
+    }
     Ok(())
+}
+
+/// Leaves out a line, and compares what is told; the row names the line too.
+fn assert_left_out(rt: &(impl AllocGlobal + Abort), place: usize, row: &str) -> Result<(), Fail> {
+    let (wanted, _) = row.split_once(": ").ok_or("no answer")?;
+    let text = without_line(rt.alloc(), THREE_SLAVES, Some(place))?;
+    assert_change(rt, "", text.as_str(), wanted)
 }
 
 #[test]
 fn tells_which_line_is_missing(rt: HostRuntime) -> Result<(), Fail> {
     for (place, row) in LEFT_OUT.lines().enumerate() {
-        let text = without_line(rt.alloc(), THREE_SLAVES, Some(place))?;
-        let told = answer(rt.alloc(), text.as_str())?;
-        let (wanted, line) = row.split_once(": ").ok_or("no answer")?;
-        assert_eq!(rt; told.as_str(), wanted, "without line {place}, {line}");
-    }
-    Ok(())
-}
-
-/// A text with each `|` as the end of a line.
-fn with_lines(alloc: Global, text: &str) -> Result<String, AllocError> {
-    let mut whole = String::new(alloc);
-    for letter in text.chars() {
-        whole.push(if letter == '|' { '\n' } else { letter })?;
-    }
-    Ok(whole)
-}
-
-fn assert_change(
-    rt: &impl Abort,
-    alloc: Global,
-    text: &str,
-    change: (&str, &str, &str),
-) -> Result<(), Fail> {
-    let (old, new, wanted) = change;
-    let (old, new) = (with_lines(alloc, old)?, with_lines(alloc, new)?);
-    let text = changed(alloc, text, old.as_str(), new.as_str())?;
-    let told = answer(alloc, text.as_str())?;
-    assert_eq!(rt; told.as_str(), wanted, "{new} in place of {old}");
-    Ok(())
-}
-
-/// Makes each change, and compares what is told.
-fn assert_changes(rt: &impl Abort, alloc: Global, text: &str, changes: &str) -> Result<(), Fail> {
-    for line in changes.lines() {
-        let (wanted, change) = line.split_once(": ").ok_or("no answer")?;
-        let (old, new) = change.split_once(" => ").ok_or("no change")?;
-        assert_change(rt, alloc, text, (old, new, wanted))?;
+        assert_left_out(&rt, place, row)?;
     }
     Ok(())
 }
 
 #[test]
 fn tells_what_is_wrong(rt: HostRuntime) -> Result<(), Fail> {
-    let text = without_line(rt.alloc(), THREE_SLAVES, None)?;
-    assert_changes(&rt, rt.alloc(), text.as_str(), IN_THE_DOCUMENT)?;
-    assert_changes(&rt, rt.alloc(), text.as_str(), IN_TYPES)?;
-    assert_changes(&rt, rt.alloc(), text.as_str(), IN_SLAVES)?;
-    assert_changes(&rt, rt.alloc(), text.as_str(), IN_VARIABLES)?;
-    assert_changes(&rt, rt.alloc(), text.as_str(), IN_LINKS)?;
-    assert_changes(&rt, rt.alloc(), text.as_str(), IN_ORDER)?;
-    let text = format!(in rt.alloc(); "version = 2\n{text}")?;
-    assert_changes(&rt, rt.alloc(), text.as_str(), IN_VERSION_2)
-}
-
-#[test]
-fn reads_small_texts(rt: HostRuntime) -> Result<(), Fail> {
-    for row in SMALL_TEXTS.lines() {
-        let (wanted, text) = row.split_once(':').ok_or("no answer")?;
-        let text = with_lines(rt.alloc(), text)?;
-        let told = answer(rt.alloc(), text.as_str())?;
-        assert_eq!(rt; told.as_str(), wanted, "{text}");
+    let one = without_line(rt.alloc(), THREE_SLAVES, None)?;
+    let two = format!(in rt.alloc(); "version = 2|{one}")?;
+    let (one, two) = (one.as_str(), two.as_str());
+    for (text, changes) in [
+        (one, IN_THE_DOCUMENT),
+        (one, IN_TYPES),
+        (one, IN_SLAVES),
+        (one, IN_VARIABLES),
+        (one, IN_LINKS),
+        (one, IN_ORDER),
+        (two, IN_VERSION_2),
+        ("", SMALL_TEXTS),
+    ] {
+        assert_changes(&rt, text, changes)?;
     }
-    let nothing = read_table(rt.alloc(), "")?;
-    assert_eq!(rt; described(rt.alloc(), &nothing)?.as_str(), "One\n");
     Ok(())
 }
 
-/// `count` opening brackets and as many closing ones, as the value of `version`.
-fn nested(alloc: Global, count: usize) -> Result<String, AllocError> {
-    let mut text = String::from_str(alloc, "version = ")?;
-    for _ in 0..count {
-        text.push('[')?;
-    }
-    for _ in 0..count {
-        text.push(']')?;
-    }
-    Ok(text)
+/// Reads so many arrays in one another, as the value of `version`, and compares what is told.
+fn assert_nested(rt: &(impl AllocGlobal + Abort), count: usize, wanted: &str) -> Result<(), Fail> {
+    let opened = "[".repeat(rt.alloc(), count)?;
+    let closed = "]".repeat(rt.alloc(), count)?;
+    let text = format!(in rt.alloc(); "version = {opened}{closed}")?;
+    assert_told(rt, text.as_str(), wanted)
 }
 
 #[test]
@@ -308,101 +190,161 @@ fn nests_to_a_limit(rt: HostRuntime) -> Result<(), Fail> {
         (80, "13 BadValue 0 0"),
         (81, "11 Toml"),
     ] {
-        let text = nested(rt.alloc(), count)?;
-        let told = answer(rt.alloc(), text.as_str())?;
-        assert_eq!(rt; told.as_str(), wanted, "{count} arrays");
+        assert_nested(&rt, count, wanted)?;
     }
     Ok(())
 }
 
 /// A slave of the type `do4`, which writes its own variable, for each number below `count`.
-fn many_slaves(alloc: Global, count: usize) -> Result<String, AllocError> {
-    let mut text = String::from_str(alloc, DO4)?;
+fn push_many(text: &mut String, count: usize) -> Result<(), AllocError> {
+    text.push_str(DO4)?;
     for number in 0..count {
-        let slave = format!(in alloc; "[[slave]]\nname = \"s{number}\"\ntype = \"do4\"\n")?;
-        text.push_str(slave.as_str())?;
-        let variable = format!(in alloc;
-            "[[variable]]\nname = \"v{number}\"\ndir = \"out\"\nbits = 4\n"
+        write!(
+            text,
+            "[[slave]]
+name = \"s{number}\"
+type = \"do4\"
+[[variable]]
+name = \"v{number}\"
+dir = \"out\"
+bits = 4
+[[link]]
+var = \"v{number}\"
+slave = \"s{number}\"
+index = 0x7000
+sub = 1
+"
         )?;
-        text.push_str(variable.as_str())?;
-        let link = format!(in alloc;
-            "[[link]]\nvar = \"v{number}\"\nslave = \"s{number}\"\nindex = 0x7000\nsub = 1\n"
-        )?;
-        text.push_str(link.as_str())?;
-    }
-    Ok(text)
-}
-
-#[test]
-fn reads_many_slaves(rt: HostRuntime) -> Result<(), Fail> {
-    for count in [64, 65] {
-        let text = many_slaves(rt.alloc(), count)?;
-        let table = read_table(rt.alloc(), text.as_str())?;
-        assert_eq!(rt; table.slaves().len(), count);
-        assert_eq!(rt; table.links().len(), count);
-        for link in 0..count {
-            assert!(rt; link < table.links().len());
-            let wanted = format!(in rt.alloc(); "v{link} s{link}")?;
-            let (variable, slave) = (table.variable_of(link), table.slave_of(link));
-            let found = format!(in rt.alloc();
-                "{} {}",
-                variable.name.as_str(),
-                slave.name.as_str()
-            )?;
-            assert_eq!(rt; found.as_str(), wanted.as_str());
-        }
     }
     Ok(())
 }
 
-/// An array of texts with the numbers from `first` to `last` between `before` and `after`.
-fn numbered(
-    alloc: Global,
-    numbers: std::ops::Range<u32>,
-    before: &str,
-    after: &str,
-) -> Result<String, AllocError> {
-    let mut whole = String::from_str(alloc, "[ ")?;
-    for number in numbers {
-        whole.push_str(format!(in alloc; "{before}{number}{after}, ")?.as_str())?;
+/// Reads so many slaves, and compares the ends of each link.
+fn assert_many(rt: &(impl AllocGlobal + Abort), count: usize) -> Result<(), Fail> {
+    let (mut text, mut wanted) = (String::new(rt.alloc()), String::new(rt.alloc()));
+    push_many(&mut text, count)?;
+    for number in 0..count {
+        writeln!(wanted, "v{number} s{number}")?;
     }
-    whole.push_str("]")?;
-    Ok(whole)
+    text = linked(rt.alloc(), text.as_str())?;
+    assert_eq!(rt; text.as_str(), wanted.as_str());
+    Ok(())
+}
+
+/// The names of the variable and of the slave of each link of a text.
+fn linked(alloc: Global, text: &str) -> Result<String, Fail> {
+    let mut ends = String::new(alloc);
+    let table = read_table(alloc, text)?;
+    push_ends(&mut ends, &table)?;
+    Ok(ends)
+}
+
+#[test]
+fn reads_many_slaves(rt: HostRuntime) -> Result<(), Fail> {
+    assert_many(&rt, 64)?;
+    assert_many(&rt, 65)
+}
+
+/// A change of the table of three slaves whose new text ends in an array: each item is a number, from
+/// `first` on, between two texts.
+#[derive(Clone, Copy, Drop)]
+struct ListChange<'a> {
+    change: &'a str,
+    before: &'a str,
+    after: &'a str,
+    first: u16,
+    items: u16,
+    wanted: &'a str,
+}
+
+/// The change with its array.
+fn change_of(alloc: Global, row: ListChange) -> Result<String, AllocError> {
+    let mut text = String::from_str(alloc, row.change)?;
+    text.push('[')?;
+    for item in 0..row.items {
+        let number = u32::from(row.first) + u32::from(item);
+        write!(text, "{}{number}{}, ", row.before, row.after)?;
+    }
+    text.push(']')?;
+    Ok(text)
+}
+
+fn assert_list_change(
+    rt: &(impl AllocGlobal + Abort),
+    text: &str,
+    row: ListChange,
+) -> Result<(), Fail> {
+    let change = change_of(rt.alloc(), row)?;
+    assert_change(rt, text, change.as_str(), row.wanted)
 }
 
 #[test]
 fn counts_entries_and_objects(rt: HostRuntime) -> Result<(), Fail> {
-    let alloc = rt.alloc();
-    let text = without_line(alloc, THREE_SLAVES, None)?;
-    let entries = "entries = [[0x7000, 1, 4]]";
-    for (count, wanted) in [(64, "read"), (65, "13 BadValue 1 0")] {
-        let all = numbered(alloc, 1..count + 1, "[0x7000, ", ", 1]")?;
-        let new = format!(in alloc; "entries = {all}")?;
-        assert_change(&rt, alloc, text.as_str(), (entries, new.as_str(), wanted))?;
-    }
-    let objects = "[ { index = 0x1600, entries = [[0x7000, 1, 4]] } ]";
-    for (count, wanted) in [(16, "read"), (17, "13 BadValue 1 0")] {
-        let all = numbered(alloc, 5632..5632 + count, "{ index = ", ", entries = [] }")?;
-        assert_change(&rt, alloc, text.as_str(), (objects, all.as_str(), wanted))?;
-    }
+    let entries = ListChange {
+        change: "entries = [[0x7000, 1, 4]] => entries = ",
+        before: "[0x7000, ",
+        after: ", 1]",
+        first: 1,
+        items: 64,
+        wanted: "read",
+    };
+    let objects = ListChange {
+        change: "[ { index = 0x1600, entries = [[0x7000, 1, 4]] } ] => ",
+        before: "{ index = ",
+        after: ", entries = [] }",
+        first: 5632,
+        items: 16,
+        wanted: "read",
+    };
     // a slave may assign any number of objects, but no strangers, and none twice
-    let assigned = numbered(alloc, 5632..5649, "", "")?;
-    let new = format!(in alloc; "type = \"mix\"|out = {assigned}")?;
-    let change = ("type = \"mix\"", new.as_str(), "15 UnknownName 2 2");
-    assert_change(&rt, alloc, text.as_str(), change)
+    let assigned = ListChange {
+        change: "type = \"mix\" => type = \"mix\"|out = ",
+        before: "",
+        after: "",
+        first: 5632,
+        items: 17,
+        wanted: "15 UnknownName 2 2",
+    };
+    let text = without_line(rt.alloc(), THREE_SLAVES, None)?;
+    let too_many = "13 BadValue 1 0";
+    for row in [
+        entries,
+        ListChange {
+            items: 65,
+            wanted: too_many,
+            ..entries
+        },
+        objects,
+        ListChange {
+            items: 17,
+            wanted: too_many,
+            ..objects
+        },
+        assigned,
+    ] {
+        assert_list_change(&rt, text.as_str(), row)?;
+    }
+    Ok(())
+}
+
+/// Reads a text without its end: a table or a refusal.
+fn assert_cut(rt: &(impl AllocGlobal + Abort), text: &str, end: usize) -> Result<(), Fail> {
+    let cut = text.get(..end).ok_or("no cut")?;
+    let told = answer(rt.alloc(), cut)?;
+    let told = told.as_str();
+    assert!(rt;
+        told == "read" || (told >= "11" && told < "16"),
+        "cut at {end}: {told}"
+    );
+    Ok(())
 }
 
 #[test]
 fn reads_a_text_cut_anywhere(rt: HostRuntime) -> Result<(), Fail> {
-    let text = without_line(rt.alloc(), THREE_SLAVES, None)?;
+    let lines = without_line(rt.alloc(), THREE_SLAVES, None)?;
+    let text = lines.replace(rt.alloc(), "|", "\n")?;
     for end in 0..text.len() {
-        let cut = std::str::from_utf8(&text.as_bytes()[..end])?;
-        let told = answer(rt.alloc(), cut)?;
-        let told = told.as_str();
-        assert!(rt;
-            told == "read" || (told >= "11" && told < "16"),
-            "cut at {end}: {told}"
-        );
+        assert_cut(&rt, text.as_str(), end)?;
     }
     Ok(())
 }

@@ -1,8 +1,8 @@
-ghost use Rattle.std.specs.Prelude.{◌≡◌, ◌||◌, [], IfOk};
+ghost use Rattle.std.specs.Prelude.{◌≡◌, ◌||◌, [], IfOk, OnOk, false};
 ghost use Rattle.toml.specs.View.{view, table_view, items_view};
 ghost use Rattle.ec_table.specs.InOrder.{Gives, one_more, rows_after};
 ghost use Rattle.ec_table.specs.Pdos.{has_twice, indices_of};
-ghost use Rattle.ec_table.specs.Reading.{device_in, process_in, process_twice, type_at, type_element};
+ghost use Rattle.ec_table.specs.Reading.{device_in, process_in, process_twice, type_at, type_element, type_named};
 
 use crate::fault::{Fault, Place, Section, TableError};
 use crate::fields::{MAX_U16, Shape, keys_are, mailbox_in, member, name_in, number_in, truth_in};
@@ -78,6 +78,35 @@ fn process_twice(alloc: Global, process: &ProcessData) -> Result<bool, AllocErro
     Ok(outputs || inputs)
 }
 
+/// The type of this name that an element states; whether another type has the name.
+#[tactic(auto, unfolding(crate::specs::Reading::type_named))]
+fn type_named(
+    alloc: Global,
+    place: Place,
+    members: &toml::Table,
+    name: &str,
+    is_taken: bool,
+) -> Result<TypeRow, TableError>
+    ensures value { Gives result (type_named place (table_view members.now) name.now is_taken) }
+    ensures name { IfOk result (λ t. t.name ≡ name.now) }
+    ensures fresh { OnOk result (is_taken ≡ false) }
+{
+    let device = device_in(place, members)?;
+    let mailbox = mailbox_in(place, member(members, "mailbox"))?;
+    let process = process_in(alloc, place, members)?;
+    let lrw = truth_in(place, member(members, "lrw"))?;
+    if is_taken || process_twice(alloc, &process)? {
+        return Err(TableError::Refused(Fault::TwiceNamed(place)));
+    }
+    Ok(TypeRow {
+        name: Name::new(alloc, name)?,
+        device,
+        mailbox,
+        process,
+        lrw,
+    })
+}
+
 /// The types found, and the one that an element states behind them.
 #[tactic(auto, unfolding(crate::specs::Reading::type_at))]
 fn with_type<'a>(
@@ -93,21 +122,8 @@ fn with_type<'a>(
         return Err(TableError::Refused(Fault::BadKey(place)));
     }
     let name = name_in(place, member(members, "name"))?;
-    let device = device_in(place, members)?;
-    let mailbox = mailbox_in(place, member(members, "mailbox"))?;
-    let process = process_in(alloc, place, members)?;
-    let lrw = truth_in(place, member(members, "lrw"))?;
-    let object_twice = process_twice(alloc, &process)?;
-    if found.has(name) || object_twice {
-        return Err(TableError::Refused(Fault::TwiceNamed(place)));
-    }
-    let row = TypeRow {
-        name: Name::new(alloc, name)?,
-        device,
-        mailbox,
-        process,
-        lrw,
-    };
+    let is_taken = found.has(name);
+    let row = type_named(alloc, place, members, name, is_taken)?;
     Ok(found.with(name, row)?)
 }
 

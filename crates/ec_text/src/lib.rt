@@ -5,4 +5,4 @@ mod explain;
 mod plan;
 
 pub use crate::explain::explain_text;
-pub use crate::plan::plan_text;
+pub use crate::plan::{plan_text, write_counter};

@@ -126,8 +126,13 @@ fn write_slaves(alloc: Global, text: &mut String, slaves: &[Settings]) -> Result
     Ok(())
 }
 
-/// Adds the working counters that a part predicts.
-fn write_counter(text: &mut String, part: &PartPlan, predicted: Predicted) -> Result<(), AllocError>
+/// Adds working counters of a part: the one of its LRW, or `W/R` of its LWR and its LRD, and `0` where it has no byte. The error
+/// is want of memory.
+pub fn write_counter(
+    text: &mut String,
+    part: &PartPlan,
+    predicted: Predicted,
+) -> Result<(), AllocError>
     ensures { OnOk result
         (string_bytes text.new ≡ string_bytes text.old ++ counter_text part.now predicted) }
 {

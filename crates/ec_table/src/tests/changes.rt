@@ -1,5 +1,5 @@
 // Changes to the text of the table of three slaves. A line `ANSWER: OLD => NEW` says what is told of the text with NEW in
-// the place of its first OLD. `|` is the end of a line.
+// the place of its first OLD; a line `ANSWER: TEXT` what is told of that text alone. `|` is the end of a line.
 
 /// What is told of the table of three slaves without a line: each line that is no comment, in order.
 ///
