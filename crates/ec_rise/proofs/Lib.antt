@@ -47,3 +47,4 @@ pub mod Carrying
 pub mod Up
 pub mod Devices
 pub mod BringUp
+pub mod Keeping

@@ -10,6 +10,8 @@ pub mod Starting
 pub mod Runs
 pub mod Slots
 pub mod ComesUp
+-- What befalls a slave keeps what is known of it.
+pub mod Keeping
 -- Bringing up a ring.
 pub mod BringUp
 -- What a frame under way is at each slave: the proofs' own.

@@ -1,5 +1,6 @@
 //! Laws of the definitions: each is the contract of a function that does nothing.
 
+ghost use Rattle.ec_rise.specs.Keeping.{StandingLaw, GoneLaw, ForOthersLaw, FrameLaw};
 ghost use Rattle.ec_rise.specs.Runs.{StartUpLaw};
 ghost use Rattle.ec_rise.specs.Undisturbed.{RoundLaw};
 ghost use Rattle.ec_rise.specs.ComesUp.{AgainLaw, ComesUpLaw, CompiledPlansLaw, CompiledUpLaw};
@@ -33,4 +34,24 @@ pub fn compiled_up()
 /// The plan of each table that the compiler accepts can be started up, and is complete.
 pub fn compiled_plans()
     ensures { CompiledPlansLaw }
+{}
+
+/// What is known of a slave is kept by its firmware, by its application, by a fault and by a reset.
+pub fn standing()
+    ensures { StandingLaw }
+{}
+
+/// A slave that was reset since it got its station address has none any more.
+pub fn gone()
+    ensures { GoneLaw }
+{}
+
+/// A datagram for another slave changes nothing of one that has, or had, its station address, and comes out as it went in.
+pub fn for_others()
+    ensures { ForOthersLaw }
+{}
+
+/// A frame of the start-up that passes a slave brings it where the action leads, if it may come back as done.
+pub fn frame()
+    ensures { FrameLaw }
 {}

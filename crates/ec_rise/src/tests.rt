@@ -1,7 +1,7 @@
 //! Start-ups of three real slaves.
 
 use crate::bring_up;
-use crate::tests::table::THREE_SLAVES;
+use crate::tests::table::{OTHER_PDO, SHORT_ENTRY, THREE_SLAVES};
 use ec_frame::Frame;
 use ec_link::{Plan, compile};
 use ec_regs::{Device, Identity};
@@ -28,8 +28,8 @@ enum Trouble {
     Fault(usize),
 }
 
-fn plan_of(alloc: Global) -> Result<Plan, Fail> {
-    let table = read_table(alloc, THREE_SLAVES)?;
+fn plan_of(alloc: Global, text: &str) -> Result<Plan, Fail> {
+    let table = read_table(alloc, text)?;
     Ok(compile(alloc, &table)?)
 }
 
@@ -75,7 +75,7 @@ fn all_show(ring: &Ring, status: u8) -> bool {
 
 #[test]
 fn three_slaves_come_up(rt: HostRuntime) -> Result<(), Fail> {
-    let plan = plan_of(rt.alloc())?;
+    let plan = plan_of(rt.alloc(), THREE_SLAVES)?;
     let mut startup = startup_of(&rt, &plan, 0)?;
     let mut ring = ring_of(rt.alloc(), &plan, [1; 3])?;
     brought_up(&mut startup, &mut ring)?;
@@ -89,7 +89,7 @@ fn three_slaves_come_up(rt: HostRuntime) -> Result<(), Fail> {
 // Slave 1 shows revision 2 where its type has 1; no slave has left INIT.
 #[test]
 fn another_revision(rt: HostRuntime) -> Result<(), Fail> {
-    let plan = plan_of(rt.alloc())?;
+    let plan = plan_of(rt.alloc(), THREE_SLAVES)?;
     let mut startup = startup_of(&rt, &plan, 0)?;
     let mut ring = ring_of(rt.alloc(), &plan, [1, 2, 1])?;
     brought_up(&mut startup, &mut ring)?;
@@ -106,7 +106,7 @@ fn another_revision(rt: HostRuntime) -> Result<(), Fail> {
 
 #[test]
 fn numbers_are_spent(rt: HostRuntime) -> Result<(), Fail> {
-    let plan = plan_of(rt.alloc())?;
+    let plan = plan_of(rt.alloc(), THREE_SLAVES)?;
     let mut startup = startup_of(&rt, &plan, u64::MAX - 74)?;
     let mut ring = ring_of(rt.alloc(), &plan, [1; 3])?;
     brought_up(&mut startup, &mut ring)?;
@@ -238,18 +238,26 @@ fn at_slave(kind: Trouble, slave: usize) -> Trouble {
     }
 }
 
-/// One kind of trouble at each place of some frames: before slave 0, and behind each slave's pass; at each slave in turn.
-fn trouble_everywhere(
+/// One kind of trouble in one frame, at one place: at each slave by itself.
+fn trouble_at_each_slave(
     rt: &(impl AllocGlobal + Abort),
-    first: u64,
+    plan: &Plan,
+    number: u64,
+    at: usize,
     kind: Trouble,
 ) -> Result<(), Fail> {
-    let plan = plan_of(rt.alloc())?;
-    let mut slave = 0;
-    for number in first..75 {
+    for slave in 0..3 {
+        rise_twice(rt, plan, number, at, at_slave(kind, slave))?;
+    }
+    Ok(())
+}
+
+/// One kind of trouble at each place of each frame: before slave 0, and behind each slave's pass.
+fn trouble_everywhere(rt: &(impl AllocGlobal + Abort), kind: Trouble) -> Result<(), Fail> {
+    let plan = plan_of(rt.alloc(), THREE_SLAVES)?;
+    for number in 0..75 {
         for at in 0..4 {
-            rise_twice(rt, &plan, number, at, at_slave(kind, slave))?;
-            slave = if slave < 2 { slave + 1 } else { 0 };
+            trouble_at_each_slave(rt, &plan, number, at, kind)?;
         }
     }
     Ok(())
@@ -257,16 +265,89 @@ fn trouble_everywhere(
 
 #[test]
 fn a_frame_is_lost(rt: HostRuntime) -> Result<(), Fail> {
-    trouble_everywhere(&rt, 0, Trouble::Lost)
+    trouble_everywhere(&rt, Trouble::Lost)
 }
 
 #[test]
 fn a_slave_is_reset(rt: HostRuntime) -> Result<(), Fail> {
-    trouble_everywhere(&rt, 0, Trouble::Reset(0))
+    trouble_everywhere(&rt, Trouble::Reset(0))
 }
 
-// No slave is in OP before the last frames.
+// A slave that isn't in OP has no fault.
 #[test]
 fn a_slave_has_a_fault(rt: HostRuntime) -> Result<(), Fail> {
-    trouble_everywhere(&rt, 60, Trouble::Fault(0))
+    trouble_everywhere(&rt, Trouble::Fault(0))
+}
+
+/// The next frame passes all slaves, none of which serves, and is taken back.
+fn turn_unserved(startup: &mut Startup, ring: &mut Ring) {
+    let mut frame = Frame::new();
+    if startup.next(&mut frame) == NextFrame::Send {
+        let payload = frame.as_mut_slice();
+        let _ = ring.pass_all(payload);
+        startup.take(payload);
+    }
+}
+
+/// So many turns in which no slave serves.
+fn turns_unserved(startup: &mut Startup, ring: &mut Ring, count: usize) {
+    for _ in 0..count {
+        turn_unserved(startup, ring);
+    }
+}
+
+// Slave 0's SII never has its first word: 10 steps, 1000 polls of the next one, and then no frame more.
+#[test]
+fn no_slave_serves(rt: HostRuntime) -> Result<(), Fail> {
+    let plan = plan_of(rt.alloc(), THREE_SLAVES)?;
+    let mut startup = startup_of(&rt, &plan, 0)?;
+    let mut ring = ring_of(rt.alloc(), &plan, [1; 3])?;
+    turns_unserved(&mut startup, &mut ring, 2000);
+    let error = StartError::TooSlow { step: 10 };
+    assert_eq!(rt; startup.outcome(), Some(Err(error)));
+    assert_eq!(rt; error.number(), 31);
+    assert_eq!(rt; startup.next_number(), 1010);
+    Ok(())
+}
+
+/// How a start-up of the three slaves ends where the slaves are those of another table.
+fn end_over(rt: &(impl AllocGlobal + Abort), slaves: &str) -> Result<Phase, Fail> {
+    let plan = plan_of(rt.alloc(), THREE_SLAVES)?;
+    let other = plan_of(rt.alloc(), slaves)?;
+    let mut startup = startup_of(rt, &plan, 0)?;
+    let mut ring = ring_of(rt.alloc(), &other, [1; 3])?;
+    brought_up(&mut startup, &mut ring)?;
+    Ok(startup.phase())
+}
+
+// Slave 2 has an output entry of 11 bits, or no PDO 0x1600.
+#[test]
+fn another_mapping(rt: HostRuntime) -> Result<(), Fail> {
+    let mapping = StartError::Mapping {
+        slave: 2,
+        index: 0x1600,
+        subindex: 1,
+        seen: 0x7010_010B,
+    };
+    let abort = StartError::Abort {
+        slave: 2,
+        code: 0x0602_0000,
+    };
+    let rows = [(SHORT_ENTRY, mapping), (OTHER_PDO, abort)];
+    for (slaves, error) in rows {
+        assert_eq!(rt; end_over(&rt, slaves)?, Phase::Failed(error));
+    }
+    Ok(())
+}
+
+// Without slaves the first frame is the whole start-up.
+#[test]
+fn no_slaves_come_up(rt: HostRuntime) -> Result<(), Fail> {
+    let plan = plan_of(rt.alloc(), "")?;
+    let mut startup = startup_of(&rt, &plan, 5)?;
+    let mut ring = Ring::new(Vec::new(rt.alloc()));
+    brought_up(&mut startup, &mut ring)?;
+    assert_eq!(rt; startup.outcome(), Some(Ok(())));
+    assert_eq!(rt; startup.next_number(), 6);
+    Ok(())
 }

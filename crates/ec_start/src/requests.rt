@@ -2,18 +2,16 @@
 
 ghost use Rattle.std.specs.Prelude.{◌≡◌, ◌≤◌, ◌<◌, length, All, Some, slice_get};
 ghost use Rattle.std.specs.List.{flat_map};
-ghost use Rattle.std.specs.Option.{option_copied};
 ghost use Rattle.ec_regs.specs.Types.{pdo_bits};
 ghost use Rattle.ec_regs.specs.Objects.{pdo_at};
-ghost use Rattle.ec_coe.specs.Objects.{entry_number as number_of_entry};
 ghost use Rattle.ec_start.specs.Scripts.{pdo_read, assignment_written, requests};
 ghost use Rattle.ec_start.specs.Planned.{HasFewAssigned};
 ghost use Rattle.ec_start.specs.Seeking.{seek, uploads_of, downloads_of};
 
 use crate::action::Request;
-use ec_coe::{INPUT_ASSIGNMENT, OUTPUT_ASSIGNMENT, Value};
+use ec_coe::{INPUT_ASSIGNMENT, OUTPUT_ASSIGNMENT, Value, entry_number, find_pdo};
 use ec_link::Settings;
-use ec_regs::{Entry, Pdo};
+use ec_regs::Pdo;
 
 /// What a place is in a run of requests.
 #[derive(Clone, Copy, Debug, PartialEq, Eq)]
@@ -22,19 +20,6 @@ pub enum Seek {
     Found(Request),
     /// So many places past the run.
     Past(usize),
-}
-
-/// The number of an entry in a mapping object.
-fn entry_number(entry: &Entry) -> u32
-    ensures { result ≡ number_of_entry entry.now }
-{
-    0x1_0000 * entry.index as u32 + 0x100 * entry.subindex as u32 + entry.bits as u32
-}
-
-fn find_pdo(pdos: &[Pdo], index: u16) -> Option<&Pdo>
-    ensures { option_copied result ≡ pdo_at pdos.now index }
-{
-    pdos.iter().find(|pdo| pdo.index == index)
 }
 
 /// The upload with a place among those of one PDO: how many entries it has, and each of them.
