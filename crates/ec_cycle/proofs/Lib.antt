@@ -11,3 +11,5 @@ pub mod Counting
 pub mod Places
 pub mod Runs
 pub mod Judging
+pub mod ProcessBits
+pub mod Variables

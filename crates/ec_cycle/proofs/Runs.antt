@@ -1,11 +1,12 @@
 -- Copies run after run, and where the runs lie.
-use Rattle.std.proofs.Common.{ℕ, zero, suc, ◌+◌, ◌*◌, ◌^◌, ◌<◌, ◌≤◌, ◌≡◌, ◌==◌, Bool, true, false, Option, Some, None, refl, sym, ◌∙◌, ap, subst, inl, inr, arith, List, [], ◌∷◌, length, map, filter, get_or, take, drop, ◌++◌, append-nil, if◌then◌else◌}
+use Rattle.std.proofs.Common.{ℕ, zero, suc, ◌+◌, ◌*◌, ◌^◌, ◌<◌, ◌≤◌, ◌≡◌, ◌==◌, ◌&&◌, nat_lt, Bool, true, false, Option, Some, None, refl, sym, ◌∙◌, ap, subst, inl, inr, arith, List, [], ◌∷◌, length, map, filter, get_or, take, drop, ◌++◌, append-nil, if◌then◌else◌}
 use Rattle.std.specs.List.{AllByRecursion}
 use Rattle.std.proofs.lemmas.Bool.{cases_lt, eq-eqb, eqb-true, and_parts}
 use Rattle.std.proofs.lemmas.List.{drop_more, drop_all, length-map, length-replicate, take_more, take_all, map-append, get_or_past}
 use Rattle.std.proofs.lemmas.List.Elements.{filter-append}
 use Rattle.ec_bits.specs.Bits.{zeros, copied, bytes_of_bits}
 use Rattle.ec_bits.proofs.AnyLaws.{if_true}
+use Rattle.ec_bits.proofs.Copies.{copied_more}
 use Rattle.ec_link.specs.declared.plan.Link.{Link}
 use Rattle.ec_link.specs.Plan.{PlanState, part_at}
 use Rattle.ec_link.specs.Meaning.{slave_at, area_at}
@@ -13,7 +14,7 @@ use Rattle.ec_link.specs.Usable.{IsUsable, IsOutLink, IsInLink}
 use Rattle.ec_cycle.specs.declared.run.Run.{Run}
 use Rattle.ec_cycle.specs.declared.run.InputRun.{InputRun}
 use Rattle.ec_cycle.specs.Closing.{KeptPart, all_from, is_good, unit_taken, bytes_of, part_of_slave, inputs_closed}
-use Rattle.ec_cycle.specs.Copies.{output_run, run_copied, runs_copied, outputs_copied, is_of_part, part_runs, FitsRun, input_run, inputs_copied}
+use Rattle.ec_cycle.specs.Copies.{output_run, run_copied, runs_copied, outputs_copied, is_of_part, part_runs, FitsRun, input_run, input_copied, inputs_copied, adjoin, both, inputs_adjoin, both_inputs, merged, merged_from, output_runs, input_runs, input_taken, inputs_taken, FitsInput}
 use Rattle.ec_cycle.specs.Frames.{process_bytes}
 use Rattle.ec_cycle.proofs.Copying.{area_inside, inputs_by_links}
 use Rattle.ec_cycle.proofs.Placing.{process_by_links}
@@ -42,9 +43,60 @@ runs_by_links p k image (l ∷ ls) dst = go (is_of_part p k l) (runs_by_links p 
     go true h = h (run_copied image (output_run p k l) dst)
     go false h = h dst
 
-pub filled : (p : PlanState) (k : ℕ) (image : List ℕ) (runs : List Run) (blank new : List ℕ) → IsUsable p → runs ≡ part_runs p k → blank ≡ zeros (part_at p.parts k).bytes → new ≡ runs_copied image runs blank → new ≡ process_bytes p k image
+-- ---- runs that adjoin
+
+parts_of : (r n : Run) → adjoin r n ≡ true → (r.to + r.count ≡ n.to) × (r.from + r.count ≡ n.from)
+parts_of r n h =
+    let a = and_parts (r.to + r.count == n.to) ((r.from + r.count == n.from) && nat_lt (r.count + n.count) (2 ^ 64)) h in
+    let b = and_parts (r.from + r.count == n.from) (nat_lt (r.count + n.count) (2 ^ 64)) a.1 in
+    (eqb-true (r.to + r.count) n.to a.0, eqb-true (r.from + r.count) n.from b.0)
+
+-- both in one copy what one after the other does
+both_copied : (src : List ℕ) (r n : Run) (dst : List ℕ) → adjoin r n ≡ true → run_copied src (both r n) dst ≡ run_copied src n (run_copied src r dst)
+both_copied src r n dst h =
+    let e = parts_of r n h in
+    sym (copied_more dst r.to src r.from r.count n.count)
+    ∙ (ap (λ (to : ℕ). copied (run_copied src r dst) to src (r.from + r.count) n.count) e.0
+    ∙ ap (λ (from : ℕ). copied (run_copied src r dst) n.to src from n.count) e.1)
+
+both_fit : (a b : ℕ) (r n : Run) → adjoin r n ≡ true → FitsRun a b r → FitsRun a b n → FitsRun a b (both r n)
+both_fit a b r n h x y =
+    let e = parts_of r n h in
+    let e0 = e.0 in
+    let e1 = e.1 in
+    let y0 = y.inside in
+    let y1 = y.there in
+    let y2 = y.to_fits in
+    let y3 = y.from_fits in
+    record { inside = omega arith; there = omega arith; to_fits = omega arith; from_fits = omega arith }
+
+merged_copied_from : (src : List ℕ) (r : Run) (rs : List Run) (dst : List ℕ) → runs_copied src (merged_from adjoin both r rs) dst ≡ runs_copied src rs (run_copied src r dst)
+merged_copied_from src r [] dst = refl
+merged_copied_from src r (n ∷ rs) dst = go (λ x d. merged_copied_from src x rs d) (adjoin r n) refl
+  where
+    go : ((x : Run) (d : List ℕ) → runs_copied src (merged_from adjoin both x rs) d ≡ runs_copied src rs (run_copied src x d)) → (b : Bool) → adjoin r n ≡ b → runs_copied src (if b then merged_from adjoin both (both r n) rs else r ∷ merged_from adjoin both n rs) dst ≡ runs_copied src rs (run_copied src n (run_copied src r dst))
+    go f true h = f (both r n) dst ∙ ap (runs_copied src rs) (both_copied src r n dst h)
+    go f false h = f n (run_copied src r dst)
+
+merged_copied : (src : List ℕ) (rs : List Run) (dst : List ℕ) → runs_copied src (merged adjoin both rs) dst ≡ runs_copied src rs dst
+merged_copied src [] dst = refl
+merged_copied src (r ∷ rs) dst = merged_copied_from src r rs dst
+
+merged_fit_from : (a b : ℕ) (r : Run) (rs : List Run) → FitsRun a b r → AllByRecursion (FitsRun a b) rs → AllByRecursion (FitsRun a b) (merged_from adjoin both r rs)
+merged_fit_from a b r [] x all = (x, tt)
+merged_fit_from a b r (n ∷ rs) x all = go (λ y f. merged_fit_from a b y rs f all.1) (adjoin r n) refl
+  where
+    go : ((y : Run) → FitsRun a b y → AllByRecursion (FitsRun a b) (merged_from adjoin both y rs)) → (c : Bool) → adjoin r n ≡ c → AllByRecursion (FitsRun a b) (if c then merged_from adjoin both (both r n) rs else r ∷ merged_from adjoin both n rs)
+    go f true h = f (both r n) (both_fit a b r n h x all.0)
+    go f false h = (x, f n all.0)
+
+merged_fit : (a b : ℕ) (rs : List Run) → AllByRecursion (FitsRun a b) rs → AllByRecursion (FitsRun a b) (merged adjoin both rs)
+merged_fit a b [] all = tt
+merged_fit a b (r ∷ rs) all = merged_fit_from a b r rs all.0 all.1
+
+pub filled : (p : PlanState) (k : ℕ) (image : List ℕ) (runs : List Run) (blank new : List ℕ) → IsUsable p → runs ≡ output_runs p k → blank ≡ zeros (part_at p.parts k).bytes → new ≡ runs_copied image runs blank → new ≡ process_bytes p k image
 filled p k image runs blank new usable r b e =
-    e ∙ (ap (λ rs. runs_copied image rs blank) r ∙ (ap (runs_copied image (part_runs p k)) b ∙ (runs_by_links p k image p.out_links (zeros (part_at p.parts k).bytes) ∙ process_by_links p k image usable)))
+    e ∙ (ap (λ rs. runs_copied image rs blank) r ∙ (merged_copied image (part_runs p k) blank ∙ (ap (runs_copied image (part_runs p k)) b ∙ (runs_by_links p k image p.out_links (zeros (part_at p.parts k).bytes) ∙ process_by_links p k image usable))))
 
 pub few_of : (p : PlanState) (k : ℕ) → IsUsable p → (part_at p.parts k).bytes ≤ 1422
 few_of p k usable = go (part_at p.parts k).split (usable.few_bytes k)
@@ -73,10 +125,11 @@ links_fit p k bytes image (l ∷ ls) usable size room few all = go (is_of_part p
     go true f h = (f refl, h)
     go false f h = h
 
-pub runs_fit : (p : PlanState) (k : ℕ) (runs : List Run) (sent image : List ℕ) → IsUsable p → runs ≡ part_runs p k → sent ≡ zeros (part_at p.parts k).bytes → length image ≡ bytes_of_bits p.out_bits → p.out_bits < 2 ^ 64 → AllByRecursion (FitsRun (length sent) (length image)) runs
+pub runs_fit : (p : PlanState) (k : ℕ) (runs : List Run) (sent image : List ℕ) → IsUsable p → runs ≡ output_runs p k → sent ≡ zeros (part_at p.parts k).bytes → length image ≡ bytes_of_bits p.out_bits → p.out_bits < 2 ^ 64 → AllByRecursion (FitsRun (length sent) (length image)) runs
 runs_fit p k runs sent image usable r blank room few =
     subst (λ rs. AllByRecursion (FitsRun (length sent) (length image)) rs) (sym r)
-    (links_fit p k (length sent) (length image) p.out_links usable (ap length blank ∙ length-replicate (part_at p.parts k).bytes 0) room few usable.out_links)
+    (merged_fit (length sent) (length image) (part_runs p k)
+    (links_fit p k (length sent) (length image) p.out_links usable (ap length blank ∙ length-replicate (part_at p.parts k).bytes 0) room few usable.out_links))
 
 pub ruleset fill_steps = (filled, runs_fit)
 
@@ -121,30 +174,54 @@ is_on p kept taken u size each on = elim (cases_lt u 256) [
   | inr far ↦ absurd (let e = get_or_past taken u false (omega arith) in let f : false ≡ true = sym e ∙ on in cc)
 ]
 
-pub input_more : (p : PlanState) (kept : List (Option KeptPart)) (runs : List InputRun) (i : ℕ) (r : InputRun) (dst new whole : List ℕ) → runs ≡ map (input_run p) p.in_links → i < length runs → r ≡ get_or runs i r
-    → new ≡ (if unit_taken p kept r.unit then run_copied (bytes_of (get_or kept r.part None)) r.run dst else dst)
-    → inputs_copied p kept (drop i p.in_links) dst ≡ whole → inputs_copied p kept (drop (i + 1) p.in_links) new ≡ whole
-input_more p kept runs i r dst new whole is l at e h =
-    let size : length runs ≡ length p.in_links = ap length is ∙ length-map p.in_links (input_run p) in
-    let l2 : i < length p.in_links = omega arith in
-    let this : r ≡ input_run p (get_or p.in_links i no_link) = at ∙ (ap (λ rs. get_or rs i r) is ∙ mapped p.in_links i l2) in
-    let cut : drop i p.in_links ≡ get_or p.in_links i no_link ∷ drop (i + 1) p.in_links = drop_more p.in_links i no_link l2 in
-    ap (inputs_copied p kept (drop (i + 1) p.in_links)) (e ∙ ap (λ (x : InputRun). if unit_taken p kept x.unit then run_copied (bytes_of (get_or kept x.part None)) x.run dst else dst) this)
-    ∙ (sym (ap (λ ls. inputs_copied p kept ls dst) cut) ∙ h)
+pub input_more : (p : PlanState) (kept : List (Option KeptPart)) (runs : List InputRun) (i : ℕ) (r : InputRun) (dst new whole : List ℕ) → i < length runs → r ≡ get_or runs i r
+    → new ≡ input_taken p kept r dst
+    → inputs_taken p kept (drop i runs) dst ≡ whole → inputs_taken p kept (drop (i + 1) runs) new ≡ whole
+input_more p kept runs i r dst new whole l at e h =
+    let cut : drop i runs ≡ r ∷ drop (i + 1) runs = drop_more runs i r l ∙ ap (λ x. x ∷ drop (i + 1) runs) (sym at) in
+    ap (inputs_taken p kept (drop (i + 1) runs)) e ∙ (sym (ap (λ rs. inputs_taken p kept rs dst) cut) ∙ h)
+
+-- the runs of the links, one by one
+taken_by_links : (p : PlanState) (kept : List (Option KeptPart)) (ls : List Link) (image : List ℕ) → inputs_taken p kept (map (input_run p) ls) image ≡ inputs_copied p kept ls image
+taken_by_links p kept [] image = refl
+taken_by_links p kept (l ∷ ls) image = taken_by_links p kept ls (input_copied p kept l image)
+
+input_parts : (r n : InputRun) → inputs_adjoin r n ≡ true → (r.part ≡ n.part) × (r.unit ≡ n.unit) × (adjoin r.run n.run ≡ true)
+input_parts r n h =
+    let a = and_parts (r.part == n.part) ((r.unit == n.unit) && adjoin r.run n.run) h in
+    let b = and_parts (r.unit == n.unit) (adjoin r.run n.run) a.1 in
+    (eqb-true r.part n.part a.0, eqb-true r.unit n.unit b.0, b.1)
+
+both_taken : (p : PlanState) (kept : List (Option KeptPart)) (r n : InputRun) (image : List ℕ) → inputs_adjoin r n ≡ true → input_taken p kept (both_inputs r n) image ≡ input_taken p kept n (input_taken p kept r image)
+both_taken p kept r n image h =
+    let e = input_parts r n h in
+    go (unit_taken p kept r.unit)
+    ∙ (ap (λ (k : ℕ). if unit_taken p kept r.unit then run_copied (bytes_of (get_or kept k None)) n.run (input_taken p kept r image) else input_taken p kept r image) e.0
+    ∙ ap (λ (u : ℕ). if unit_taken p kept u then run_copied (bytes_of (get_or kept n.part None)) n.run (input_taken p kept r image) else input_taken p kept r image) e.1)
   where
-    no_link : Link
-    no_link = record { image = 0; slave = 0; object_bit = 0; count = 0 }
+    go : (b : Bool) → (if b then run_copied (bytes_of (get_or kept r.part None)) (both r.run n.run) image else image)
+        ≡ (if b then run_copied (bytes_of (get_or kept r.part None)) n.run (if b then run_copied (bytes_of (get_or kept r.part None)) r.run image else image) else (if b then run_copied (bytes_of (get_or kept r.part None)) r.run image else image))
+    go true = both_copied (bytes_of (get_or kept r.part None)) r.run n.run image (input_parts r n h).2
+    go false = refl
 
-    mapped : (ls : List Link) (j : ℕ) → j < length ls → get_or (map (input_run p) ls) j r ≡ input_run p (get_or ls j no_link)
-    mapped [] j b = absurd (omega arith)
-    mapped (x ∷ ls) zero b = refl
-    mapped (x ∷ ls) (suc j) b = mapped ls j (omega arith)
+merged_taken_from : (p : PlanState) (kept : List (Option KeptPart)) (r : InputRun) (rs : List InputRun) (image : List ℕ) → inputs_taken p kept (merged_from inputs_adjoin both_inputs r rs) image ≡ inputs_taken p kept rs (input_taken p kept r image)
+merged_taken_from p kept r [] image = refl
+merged_taken_from p kept r (n ∷ rs) image = go (λ x d. merged_taken_from p kept x rs d) (inputs_adjoin r n) refl
+  where
+    go : ((x : InputRun) (d : List ℕ) → inputs_taken p kept (merged_from inputs_adjoin both_inputs x rs) d ≡ inputs_taken p kept rs (input_taken p kept x d)) → (b : Bool) → inputs_adjoin r n ≡ b → inputs_taken p kept (if b then merged_from inputs_adjoin both_inputs (both_inputs r n) rs else r ∷ merged_from inputs_adjoin both_inputs n rs) image ≡ inputs_taken p kept rs (input_taken p kept n (input_taken p kept r image))
+    go f true h = f (both_inputs r n) image ∙ ap (inputs_taken p kept rs) (both_taken p kept r n image h)
+    go f false h = f n (input_taken p kept r image)
 
-pub input_all : (p : PlanState) (kept : List (Option KeptPart)) (runs : List InputRun) (i : ℕ) (dst image : List ℕ) → IsUsable p → runs ≡ map (input_run p) p.in_links → length runs ≤ i
-    → inputs_copied p kept (drop i p.in_links) dst ≡ inputs_copied p kept p.in_links image → dst ≡ inputs_closed p kept image
+merged_taken : (p : PlanState) (kept : List (Option KeptPart)) (rs : List InputRun) (image : List ℕ) → inputs_taken p kept (merged inputs_adjoin both_inputs rs) image ≡ inputs_taken p kept rs image
+merged_taken p kept [] image = refl
+merged_taken p kept (r ∷ rs) image = merged_taken_from p kept r rs image
+
+pub input_all : (p : PlanState) (kept : List (Option KeptPart)) (runs : List InputRun) (i : ℕ) (dst image : List ℕ) → IsUsable p → runs ≡ input_runs p → length runs ≤ i
+    → inputs_taken p kept (drop i runs) dst ≡ inputs_taken p kept runs image → dst ≡ inputs_closed p kept image
 input_all p kept runs i dst image usable is l h =
-    let size : length runs ≡ length p.in_links = ap length is ∙ length-map p.in_links (input_run p) in
-    sym (ap (λ ls. inputs_copied p kept ls dst) (drop_all i p.in_links (omega arith))) ∙ (h ∙ inputs_by_links p kept image usable)
+    sym (ap (λ rs. inputs_taken p kept rs dst) (drop_all i runs l))
+    ∙ (h ∙ (ap (λ rs. inputs_taken p kept rs image) is ∙ (merged_taken p kept (map (input_run p) p.in_links) image
+    ∙ (taken_by_links p kept p.in_links image ∙ inputs_by_links p kept image usable))))
 
 -- a part of a unit that is taken was kept
 all_from_at : (f : ℕ → Option KeptPart → Bool) (k : ℕ) (os : List (Option KeptPart)) (i : ℕ) → i < length os → all_from f k os ≡ true → f (k + i) (get_or os i None) ≡ true
@@ -168,32 +245,39 @@ taken_is_kept p kept k l h = some (get_or kept k None) (sym (if_true ((part_at p
     some None e = absurd (let f : false ≡ true = e in cc)
     some (Some q) e = (q, refl)
 
-pub input_fits : (p : PlanState) (kept : List (Option KeptPart)) (runs : List InputRun) (i : ℕ) (r : InputRun) (inputs : List ℕ) → IsUsable p → runs ≡ map (input_run p) p.in_links → i < length runs → r ≡ get_or runs i r
-    → length kept ≡ length p.parts → ((k : ℕ) (q : KeptPart) → get_or kept k None ≡ Some q → length q.bytes ≡ (part_at p.parts k).bytes) → length inputs ≡ bytes_of_bits p.in_bits → p.in_bits < 2 ^ 64
-    → unit_taken p kept r.unit ≡ true → (r.part < length kept) × FitsRun (length inputs) (length (bytes_of (get_or kept r.part None))) r.run
-input_fits p kept runs i r inputs usable is l at count sizes room few on =
-    let size : length runs ≡ length p.in_links = ap length is ∙ length-map p.in_links (input_run p) in
-    let l2 : i < length p.in_links = omega arith in
-    let this : r ≡ input_run p (get_or p.in_links i no_link) = at ∙ (ap (λ rs. get_or rs i r) is ∙ mapped p.in_links i l2) in
-    let inside = all_at p.in_links i l2 usable.in_links in
-    subst (λ (x : InputRun). (x.part < length kept) × FitsRun (length inputs) (length (bytes_of (get_or kept x.part None))) x.run) (sym this)
-    (fits (get_or p.in_links i no_link) inside (ap (λ (x : InputRun). unit_taken p kept x.unit) (sym this) ∙ on))
+both_fit_input : (p : PlanState) (kept : List (Option KeptPart)) (bytes : ℕ) (r n : InputRun) → inputs_adjoin r n ≡ true → FitsInput p kept bytes r → FitsInput p kept bytes n → FitsInput p kept bytes (both_inputs r n)
+both_fit_input p kept bytes r n h x y = λ on.
+    let e = input_parts r n h in
+    let a = x on in
+    let b = y (ap (unit_taken p kept) (sym e.1) ∙ on) in
+    let c : FitsRun bytes (length (bytes_of (get_or kept r.part None))) n.run = subst (λ (k : ℕ). FitsRun bytes (length (bytes_of (get_or kept k None))) n.run) (sym e.0) b.1 in
+    (a.0, both_fit bytes (length (bytes_of (get_or kept r.part None))) r.run n.run e.2 a.1 c)
+
+merged_fit_inputs_from : (p : PlanState) (kept : List (Option KeptPart)) (bytes : ℕ) (r : InputRun) (rs : List InputRun) → FitsInput p kept bytes r → AllByRecursion (FitsInput p kept bytes) rs → AllByRecursion (FitsInput p kept bytes) (merged_from inputs_adjoin both_inputs r rs)
+merged_fit_inputs_from p kept bytes r [] x all = (x, tt)
+merged_fit_inputs_from p kept bytes r (n ∷ rs) x all = go (λ y f. merged_fit_inputs_from p kept bytes y rs f all.1) (inputs_adjoin r n) refl
   where
-    no_link : Link
-    no_link = record { image = 0; slave = 0; object_bit = 0; count = 0 }
+    go : ((y : InputRun) → FitsInput p kept bytes y → AllByRecursion (FitsInput p kept bytes) (merged_from inputs_adjoin both_inputs y rs)) → (c : Bool) → inputs_adjoin r n ≡ c → AllByRecursion (FitsInput p kept bytes) (if c then merged_from inputs_adjoin both_inputs (both_inputs r n) rs else r ∷ merged_from inputs_adjoin both_inputs n rs)
+    go f true h = f (both_inputs r n) (both_fit_input p kept bytes r n h x all.0)
+    go f false h = (x, f n all.0)
 
-    mapped : (ls : List Link) (j : ℕ) → j < length ls → get_or (map (input_run p) ls) j r ≡ input_run p (get_or ls j no_link)
-    mapped [] j b = absurd (omega arith)
-    mapped (x ∷ ls) zero b = refl
-    mapped (x ∷ ls) (suc j) b = mapped ls j (omega arith)
+merged_fit_inputs : (p : PlanState) (kept : List (Option KeptPart)) (bytes : ℕ) (rs : List InputRun) → AllByRecursion (FitsInput p kept bytes) rs → AllByRecursion (FitsInput p kept bytes) (merged inputs_adjoin both_inputs rs)
+merged_fit_inputs p kept bytes [] all = tt
+merged_fit_inputs p kept bytes (r ∷ rs) all = merged_fit_inputs_from p kept bytes r rs all.0 all.1
 
-    all_at : (ls : List Link) (j : ℕ) → j < length ls → AllByRecursion (IsInLink p) ls → IsInLink p (get_or ls j no_link)
-    all_at [] j b h = absurd (omega arith)
-    all_at (x ∷ ls) zero b h = h.0
-    all_at (x ∷ ls) (suc j) b h = all_at ls j (omega arith) h.1
+input_at : (P : InputRun → Type 0) (rs : List InputRun) (i : ℕ) (r : InputRun) → AllByRecursion P rs → i < length rs → r ≡ get_or rs i r → P r
+input_at P [] i r all l at = absurd (omega arith)
+input_at P (x ∷ rs) zero r all l at = subst P (sym at) all.0
+input_at P (x ∷ rs) (suc i) r all l at = input_at P rs i r all.1 (omega arith) at
 
-    fits : (x : Link) → IsInLink p x → unit_taken p kept (part_at p.parts (part_of_slave p x.slave)).unit ≡ true
-        → (part_of_slave p x.slave < length kept) × FitsRun (length inputs) (length (bytes_of (get_or kept (part_of_slave p x.slave) None))) (input_run p x).run
+pub input_fits : (p : PlanState) (kept : List (Option KeptPart)) (runs : List InputRun) (i : ℕ) (r : InputRun) (inputs : List ℕ) → IsUsable p → runs ≡ input_runs p → i < length runs → r ≡ get_or runs i r
+    → length kept ≡ length p.parts → ((k : ℕ) (q : KeptPart) → get_or kept k None ≡ Some q → length q.bytes ≡ (part_at p.parts k).bytes) → length inputs ≡ bytes_of_bits p.in_bits → p.in_bits < 2 ^ 64
+    → FitsInput p kept (length inputs) r
+input_fits p kept runs i r inputs usable is l at count sizes room few =
+    input_at (FitsInput p kept (length inputs)) runs i r
+    (subst (AllByRecursion (FitsInput p kept (length inputs))) (sym is) (merged_fit_inputs p kept (length inputs) (map (input_run p) p.in_links) (links_fit_inputs p.in_links usable.in_links))) l at
+  where
+    fits : (x : Link) → IsInLink p x → FitsInput p kept (length inputs) (input_run p x)
     fits x inside taken =
         let part = usable.in_parts x.slave inside.slave in
         let there : part_of_slave p x.slave < length kept = omega arith in
@@ -206,3 +290,7 @@ input_fits p kept runs i r inputs usable is l at count sizes room few on =
         let end = inside.image in
         let small = few_of p (part_of_slave p x.slave) usable in
         (there, record { inside = omega arith; there = omega arith; to_fits = omega arith; from_fits = omega arith })
+
+    links_fit_inputs : (ls : List Link) → AllByRecursion (IsInLink p) ls → AllByRecursion (FitsInput p kept (length inputs)) (map (input_run p) ls)
+    links_fit_inputs [] all = tt
+    links_fit_inputs (x ∷ ls) all = (fits x all.0, links_fit_inputs ls all.1)

@@ -1,6 +1,6 @@
 -- The images and the data of frames by one copy of a run of bits a link, as code goes. The laws `ProcessByLinks` and
 -- `InputsByLinks` say that this makes what `process_bytes` and `inputs_closed` say.
-use Rattle.std.specs.Prelude.{ℕ, ◌+◌, ◌-◌, ◌*◌, ◌^◌, ◌<◌, ◌≤◌, ◌==◌, List, [], ◌∷◌, map, filter, get_or, if◌then◌else◌, Bool, Option, None}
+use Rattle.std.specs.Prelude.{ℕ, ◌+◌, ◌-◌, ◌*◌, ◌^◌, ◌<◌, ◌≤◌, ◌≡◌, ◌==◌, ◌&&◌, nat_lt, List, [], ◌∷◌, length, map, filter, get_or, if◌then◌else◌, Bool, true, Option, None}
 use Rattle.ec_bits.specs.Bits.{copied}
 use Rattle.ec_link.specs.declared.plan.Link.{Link}
 use Rattle.ec_link.specs.Plan.{PlanState, part_at}
@@ -44,6 +44,35 @@ pub record FitsRun (to_bytes from_bytes : ℕ) (r : Run) : Type 0 where
   pub to_fits : r.to + r.count < 2 ^ 64
   pub from_fits : r.from + r.count < 2 ^ 64
 
+-- ---- runs that adjoin
+
+-- the next one begins where this one ends, in the target and in the source
+abbrev pub adjoin : Run → Run → Bool
+adjoin r n = (r.to + r.count == n.to) && ((r.from + r.count == n.from) && nat_lt (r.count + n.count) (2 ^ 64))
+
+abbrev pub both : Run → Run → Run
+both r n = record r { count = r.count + n.count }
+
+-- the same of runs out of what the parts brought back
+abbrev pub inputs_adjoin : InputRun → InputRun → Bool
+inputs_adjoin r n = (r.part == n.part) && ((r.unit == n.unit) && adjoin r.run n.run)
+
+abbrev pub both_inputs : InputRun → InputRun → InputRun
+both_inputs r n = record r { run = both r.run n.run }
+
+-- a list in which those that adjoin, by a test, are one
+abbrev pub merged_from : {X : Type 0} → (X → X → Bool) → (X → X → X) → X → List X → List X
+merged_from adjoins join x [] = x ∷ []
+merged_from adjoins join x (y ∷ ys) = if adjoins x y then merged_from adjoins join (join x y) ys else x ∷ merged_from adjoins join y ys
+
+abbrev pub merged : {X : Type 0} → (X → X → Bool) → (X → X → X) → List X → List X
+merged adjoins join [] = []
+merged adjoins join (x ∷ xs) = merged_from adjoins join x xs
+
+-- what is copied for the outputs of part k
+abbrev pub output_runs : PlanState → ℕ → List Run
+output_runs p k = merged adjoin both (part_runs p k)
+
 -- ---- inputs
 
 abbrev pub input_run : PlanState → Link → InputRun
@@ -54,6 +83,22 @@ input_run p l =
       unit = (part_at p.parts k).unit;
       run = record { to = l.image; from = (area_at p l.slave).in_at + l.object_bit - 8 * (part_at p.parts k).address; count = l.count };
     }
+
+-- what is copied for the inputs
+abbrev pub input_runs : PlanState → List InputRun
+input_runs p = merged inputs_adjoin both_inputs (map (input_run p) p.in_links)
+
+-- run after run of those whose unit is taken
+abbrev pub input_taken : PlanState → List (Option KeptPart) → InputRun → List ℕ → List ℕ
+input_taken p kept r image = if unit_taken p kept r.unit then run_copied (bytes_of (get_or kept r.part None)) r.run image else image
+
+abbrev pub inputs_taken : PlanState → List (Option KeptPart) → List InputRun → List ℕ → List ℕ
+inputs_taken p kept [] image = image
+inputs_taken p kept (r ∷ rs) image = inputs_taken p kept rs (input_taken p kept r image)
+
+-- such a run lies inside what was brought and inside the image
+abbrev pub FitsInput : PlanState → List (Option KeptPart) → ℕ → InputRun → Type 0
+FitsInput p kept bytes r = unit_taken p kept r.unit ≡ true → (r.part < length kept) × FitsRun bytes (length (bytes_of (get_or kept r.part None))) r.run
 
 -- a link of inputs: its bits out of the data that its slave's part brought back, if the unit is taken
 abbrev pub input_copied : PlanState → List (Option KeptPart) → Link → List ℕ → List ℕ

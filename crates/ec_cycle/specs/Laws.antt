@@ -1,15 +1,17 @@
 -- What the definitions of this crate amount to, in other words than theirs.
-use Rattle.std.specs.Prelude.{ℕ, ◌<◌, ◌≤◌, ◌≡◌, ◌↔◌, List, length, map, get_or, true, Option}
-use Rattle.ec_bits.specs.Bits.{zeros}
+use Rattle.std.specs.Prelude.{ℕ, ◌+◌, ◌*◌, ◌<◌, ◌≤◌, ◌≡◌, ◌≢◌, ◌↔◌, List, length, map, get_or, slice_get, true, false, Option}
+use Rattle.std.specs.Option.{option_map_or}
+use Rattle.ec_bits.specs.Bits.{bit, bytes_of_bits, within, zeros}
 use Rattle.ec_frame.specs.Datagram.{Datagram}
 use Rattle.ec_link.specs.Shares.{Gave, nothing_given, counters_of, predicted, share_in, same_counters, lwr_count, lrd_count}
-use Rattle.ec_link.specs.Meaning.{slave_at}
+use Rattle.ec_link.specs.Meaning.{slave_at, area_at, out_source}
 use Rattle.ec_link.specs.Plan.{PlanState, part_at}
 use Rattle.ec_link.specs.Usable.{IsUsable}
+use Rattle.ec_link.specs.Variables.{AreApart}
 use Rattle.ec_cycle.specs.Closing.{KeptPart, inputs_closed}
 use Rattle.ec_cycle.specs.Copies.{outputs_copied, inputs_copied}
 use Rattle.ec_cycle.specs.Frames.{process_bytes, sent_datagrams}
-use Rattle.ec_cycle.specs.Master.{MasterState, Answers, shape, name_of, process_addresses, variable_set, frame_of}
+use Rattle.ec_cycle.specs.Master.{MasterState, Answers, shape, name_of, process_addresses, holds_value, value_at, variable_set, frame_of}
 
 -- ---- one copy a link
 
@@ -20,6 +22,22 @@ ProcessByLinks = (p : PlanState) (k : ℕ) (image : List ℕ) → IsUsable p →
 -- the inputs after a closing, by one copy a link of inputs
 abbrev pub InputsByLinks : Type 0
 InputsByLinks = (p : PlanState) (kept : List (Option KeptPart)) (image : List ℕ) → IsUsable p → inputs_copied p kept p.in_links image ≡ inputs_closed p kept image
+
+-- ---- the bits of a frame's process data
+
+-- the output bit of a slave is the bit of the image that is linked to it, and 0 where none is
+abbrev pub OutputsBySource : Type 0
+OutputsBySource =
+    (p : PlanState) (k s o i : ℕ) (image : List ℕ) → IsUsable p → s < length p.slaves → (slave_at p s).share.part ≡ k → o < (slave_at p s).share.outs
+    → i < 8 * (part_at p.parts k).bytes → 8 * (part_at p.parts k).address + i ≡ (area_at p s).out_at + o
+    → bit (process_bytes p k image) i ≡ option_map_or (bit image) (out_source p.out_links s o) false
+
+-- a bit that is no output bit of a slave of the part is 0
+abbrev pub OtherBitsAreZero : Type 0
+OtherBitsAreZero =
+    (p : PlanState) (k i : ℕ) (image : List ℕ) → i < 8 * (part_at p.parts k).bytes
+    → ((s : ℕ) → s < length p.slaves → (slave_at p s).share.part ≡ k → within (area_at p s).out_at (slave_at p s).share.outs (8 * (part_at p.parts k).address + i) ≡ false)
+    → bit (process_bytes p k image) i ≡ false
 
 -- ---- answers
 
@@ -44,6 +62,24 @@ abbrev pub PredictedMeansWhole : Type 0
 PredictedMeansWhole =
     (p : PlanState) (k : ℕ) (gave : List Gave) → GaveAtMost p k gave → same_counters (counters_of (part_at p.parts k).split gave) (predicted p k) ≡ true
     → (s : ℕ) → s < length p.slaves → get_or gave s nothing_given ≡ share_in k (slave_at p s).share
+
+-- ---- variables
+
+-- the image has room for the output variables
+abbrev pub HasRoom : MasterState → Type 0
+HasRoom m = length m.outputs ≡ bytes_of_bits m.plan.out_bits
+
+-- the variable that is set has the value
+abbrev pub SetReadsBack : Type 0
+SetReadsBack =
+    (m : MasterState) (variable value : ℕ) → IsUsable m.plan → HasRoom m → holds_value value (slice_get m.plan.variables variable) ≡ true
+    → value_at (variable_set m variable value) (slice_get m.plan.variables variable) ≡ value
+
+-- no other variable changes, of the inputs or of the outputs
+abbrev pub SetKeepsOthers : Type 0
+SetKeepsOthers =
+    (m : MasterState) (variable other value : ℕ) → AreApart m.plan.variables → other ≢ variable → holds_value value (slice_get m.plan.variables variable) ≡ true
+    → value_at (variable_set m variable value) (slice_get m.plan.variables other) ≡ value_at m (slice_get m.plan.variables other)
 
 -- ---- variables and frames
 

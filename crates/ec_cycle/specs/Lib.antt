@@ -6,7 +6,6 @@ pub mod Frames
 pub mod Closing
 -- the master as a value, and what each of its calls does to it
 pub mod Master
-pub mod Taking
 -- Laws: other words for the same, proved.
 pub mod Laws
 -- the refusals' numbers and names

@@ -11,7 +11,7 @@ use Rattle.ec_link.specs.Plan.{PlanState, part_at}
 use Rattle.ec_cycle.specs.declared.error.CycleError.{CycleError}
 use Rattle.ec_cycle.specs.declared.error.CycleError.TheVariants.{NotReady, Open, NumbersSpent}
 use Rattle.ec_cycle.specs.Frames.{sent_datagrams}
-use Rattle.ec_cycle.specs.Closing.{KeptPart, ReportState, kept_of, inputs_closed, report_of}
+use Rattle.ec_cycle.specs.Closing.{KeptPart, ReportState, kept_of, inputs_closed, nones, report_of}
 
 -- a cycle under way: its number, the frame of each part as it was sent, and what came back
 pub record OpenCycle : Type 0 where
@@ -134,6 +134,11 @@ pub record IsTaken (old : MasterState) (payload : List ℕ) (is_kept : Bool) (ne
       → (is_kept ≡ true) × (new ≡ with_kept old c k (kept_of (part_at old.plan.parts k) p.datagrams))
   pub foreign : ((c : OpenCycle) (k : ℕ) (p : Payload) → IsAnswer old c payload k p → ⊥) → (is_kept ≡ false) × (new ≡ old)
 
+-- how many parts of the open cycle are not kept yet
+abbrev pub missing_of : Option OpenCycle → ℕ
+missing_of None = 0
+missing_of (Some c) = nones c.kept
+
 -- ---- closing
 
 -- the inputs of the units that are taken, and no cycle
@@ -146,3 +151,7 @@ pub record IsClosed (old new : MasterState) (r : ReportState) : Type 0 where
   pub was_open : old.cycle ≡ Some cycle
   pub master : new ≡ closed old cycle
   pub report : r ≡ report_of old.plan cycle.kept
+
+-- the cycle dropped, and nothing taken of it
+abbrev pub abandoned : MasterState → MasterState
+abandoned m = record m { cycle = None }

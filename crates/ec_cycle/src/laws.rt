@@ -1,6 +1,7 @@
 //! Laws of the definitions of this crate. Each function does nothing: its contract is the law.
 ghost use Rattle.ec_cycle.specs.Laws.{ProcessByLinks, InputsByLinks, AnswersBySent};
-ghost use Rattle.ec_cycle.specs.Laws.{PredictedMeansWhole, SetKeepsFrames};
+ghost use Rattle.ec_cycle.specs.Laws.{OutputsBySource, OtherBitsAreZero};
+ghost use Rattle.ec_cycle.specs.Laws.{PredictedMeansWhole, SetReadsBack, SetKeepsOthers, SetKeepsFrames};
 
 /// One copy of a run of bits a link of outputs makes the process data of a frame.
 #[tactic(auto, using(crate::proofs::Placing::process_by_links))]
@@ -14,6 +15,18 @@ pub fn inputs_by_links()
     ensures { InputsByLinks }
 {}
 
+/// In the process data of a frame an output bit of a slave is the image's bit that is linked to it, and 0 where none is.
+#[tactic(auto, using(crate::proofs::ProcessBits::outputs_by_source))]
+pub fn outputs_by_source()
+    ensures { OutputsBySource }
+{}
+
+/// All other bits of the process data are 0.
+#[tactic(auto, using(crate::proofs::ProcessBits::other_bits_are_zero))]
+pub fn other_bits_are_zero()
+    ensures { OtherBitsAreZero }
+{}
+
 /// Datagrams answer a frame exactly where they have the shapes, the name and the process addresses of the frame as it was
 /// sent.
 pub fn answers_by_sent()
@@ -24,6 +37,17 @@ pub fn answers_by_sent()
 #[tactic(auto, using(crate::proofs::Counting::predicted_means_whole))]
 pub fn predicted_means_whole()
     ensures { PredictedMeansWhole }
+{}
+
+/// A variable that was set has the value.
+#[tactic(auto, using(crate::proofs::Variables::set_reads_back))]
+pub fn set_reads_back()
+    ensures { SetReadsBack }
+{}
+
+/// Setting a variable changes no other one: those of a plan have no bit in common, as `compile` says.
+pub fn set_keeps_others()
+    ensures { SetKeepsOthers }
 {}
 
 /// What a begun frame says isn't changed by setting a variable later.

@@ -17,5 +17,6 @@ mod run;
 mod tests;
 
 pub use crate::error::CycleError;
-pub use crate::master::{Master, Taken};
+pub use crate::master::Master;
 pub use crate::report::Report;
+pub use ec_start::Taken;

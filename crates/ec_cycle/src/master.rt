@@ -7,39 +7,30 @@ ghost use Rattle.ec_link.specs.Plan.{part_at};
 ghost use Rattle.ec_link.specs.Shares.{predicted};
 ghost use Rattle.ec_link.specs.Usable.{IsUsable};
 ghost use Rattle.ec_cycle.specs.Closing.{KeptPart, bytes_of, is_good, unit_taken, inputs_closed};
-ghost use Rattle.ec_cycle.specs.Copies.{FitsRun, part_runs, input_run, run_copied};
+ghost use Rattle.ec_cycle.specs.Copies.{FitsRun, output_runs, input_runs, run_copied};
 ghost use Rattle.ec_cycle.specs.Frames.{process_bytes, sent_datagrams};
 ghost use Rattle.ec_cycle.specs.Kept.{AreLinked, AreImages, IsUnderWay};
-ghost use Rattle.ec_cycle.specs.Master.{OpenCycle, MasterState, Begun, IsTaken, IsClosed, new_master, readied, holds_value, value_put, variable_set, value_at, begin_refusal, refused_by, frame_of};
+ghost use Rattle.ec_cycle.specs.Master.{OpenCycle, MasterState, Begun, IsTaken, IsClosed, new_master, readied, holds_value, value_put, variable_set, value_at, begin_refusal, refused_by, frame_of, missing_of, abandoned};
 ghost use Rattle.ec_cycle.specs.declared.error.CycleError.{CycleError};
 ghost use Rattle.ec_cycle.specs.declared.error.CycleError.TheVariants.{NotOpen};
-ghost use Rattle.ec_cycle.specs.Taking.{is_kept};
 ghost use Rattle.ec_start.specs.declared.phase.Phase.TheVariants.{Ready};
+ghost use Rattle.ec_start.specs.Running.{is_kept};
 
 use crate::answered::answered;
 use crate::building::build;
 use crate::error::CycleError;
 use crate::kept::{Returned, SentFrame};
 use crate::matching::first_places;
-use crate::report::Report;
+use crate::report::{Report, missing_of};
 use crate::run::{InputRun, Run, copy_runs, runs_by_part, runs_of_inputs};
 use ec_bits::{copy_by_words, read_bits, write_bits};
 use ec_frame::{Frame, check};
 use ec_link::{Plan, Predicted};
 use ec_regs::Listed;
-use ec_start::Startup;
+use ec_start::{Startup, Taken};
 use ec_table::Direction;
 use std::alloc::{AllocError, Global};
 use std::marker::Model;
-
-/// Whether a payload was kept.
-#[derive(Clone, Copy, Debug, PartialEq, Eq, Drop)]
-pub enum Taken {
-    /// It answers a frame of the open cycle.
-    Kept,
-    /// It is something else; nothing changed.
-    Foreign,
-}
 
 /// A master of the cyclic frames of a plan. All memory that it needs is found when it is made.
 #[derive(Drop)]
@@ -196,7 +187,7 @@ fn take_inputs(
     inputs: &mut [u8],
 )
     requires usable { IsUsable plan.now }
-    requires runs { runs.now ≡ map (input_run plan.now) plan.now.in_links }
+    requires runs { runs.now ≡ input_runs plan.now }
     requires size { length taken.now ≡ 256 }
     requires taken { (u : ℕ) → u < 256 → get_or taken.now u false ≡ unit_taken plan.now kept.now u }
     requires kept { length kept.now ≡ length plan.now.parts }
@@ -214,7 +205,7 @@ fn take_inputs(
 #[tactic(auto, using(crate::proofs::Runs::fill_steps))]
 fn fill(plan: &Plan, part: usize, runs: &[Run], image: &[u8], sent: &mut [u8])
     requires usable { IsUsable plan.now }
-    requires runs { runs.now ≡ part_runs plan.now part }
+    requires runs { runs.now ≡ output_runs plan.now part }
     requires image { length image.now ≡ bytes_of_bits plan.now.out_bits }
     requires few { plan.now.out_bits < 2 ^ 64 }
     requires blank { sent.old ≡ zeros (part_at plan.now.parts part).bytes }
@@ -234,7 +225,7 @@ fn blank() -> [u8; 1422]
 fn frame_for(plan: &Plan, part: usize, runs: &[Run], number: u64, image: &[u8]) -> Frame
     requires usable { IsUsable plan.now }
     requires there { part < length plan.now.parts }
-    requires runs { runs.now ≡ part_runs plan.now part }
+    requires runs { runs.now ≡ output_runs plan.now part }
     requires image { length image.now ≡ bytes_of_bits plan.now.out_bits }
     requires few { plan.now.out_bits < 2 ^ 64 }
     ensures { IsFrame result.items (bare_payload (sent_datagrams plan.now number part image.now)) }
@@ -256,7 +247,7 @@ fn make_frames(
 )
     requires usable { IsUsable plan.now }
     requires count { length runs.now ≡ length plan.now.parts }
-    requires runs { (k : ℕ) → k < length plan.now.parts → get_or runs.now k [] ≡ part_runs plan.now k }
+    requires runs { (k : ℕ) → k < length plan.now.parts → get_or runs.now k [] ≡ output_runs plan.now k }
     requires image { length image.now ≡ bytes_of_bits plan.now.out_bits }
     requires few { plan.now.out_bits < 2 ^ 64 }
     requires frames { length frames.old ≡ length plan.now.parts }
@@ -384,6 +375,13 @@ impl<'p> Master<'p> {
         self.plan.parts().len()
     }
 
+    /// Does nothing. Its contract says what holds of every master, whatever was done to it: its plan can be used.
+    pub fn is_sound(&self)
+        ensures { IsUsable self.now.plan }
+    {
+        let _ = &self.plan;
+    }
+
     /// How many variables there are.
     pub fn variables(&self) -> usize
         ensures { result ≡ length self.now.plan.variables }
@@ -509,5 +507,22 @@ impl<'p> Master<'p> {
         );
         self.number = None;
         Ok(report)
+    }
+
+    /// How many parts of the open cycle are not kept yet; 0 where no cycle is open.
+    pub fn missing(&self) -> usize
+        ensures { result ≡ missing_of self.now.cycle }
+    {
+        match self.number {
+            None => 0,
+            Some(_) => missing_of(&self.kept),
+        }
+    }
+
+    /// Drops the open cycle, if there is one: nothing of it is taken, and what still comes back of it is foreign.
+    pub fn abandon(&mut self)
+        ensures { self.new ≡ abandoned self.old }
+    {
+        self.number.take();
     }
 }

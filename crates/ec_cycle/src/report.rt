@@ -71,7 +71,7 @@ impl Report {
 
 /// How many parts are not kept.
 #[tactic(auto, using(crate::proofs::Judging::missing_steps))]
-fn missing_of(kept: &[Returned]) -> usize
+pub(crate) fn missing_of(kept: &[Returned]) -> usize
     requires { length kept.now ≤ 32 }
     ensures value { result ≡ nones kept.now }
     ensures few { result ≤ 32 }

@@ -1,7 +1,9 @@
-ghost use Rattle.std.specs.Prelude.{◌≡◌, ◌<◌, ◌≤◌, ◌^◌, [], ℕ, IfOk, length, map, get_or, true};
+//! What is copied between the images and the process data of frames: a run of bits for each link, and where one link's bits
+//! follow another's on both sides, one run for both.
+ghost use Rattle.std.specs.Prelude.{◌≡◌, ◌<◌, ◌≤◌, ◌^◌, ◌++◌, ◌∷◌, [], ℕ, Bool, List, IfOk, length, map, get_or, true, false};
 ghost use Rattle.std.specs.List.{AllByRecursion};
 ghost use Rattle.ec_link.specs.Usable.{IsUsable, IsOutLink, IsInLink};
-ghost use Rattle.ec_cycle.specs.Copies.{FitsRun, is_of_part, runs_copied, output_run, input_run, part_runs};
+ghost use Rattle.ec_cycle.specs.Copies.{FitsRun, is_of_part, runs_copied, output_run, input_run, part_runs, adjoin, both, inputs_adjoin, both_inputs, merged, merged_from, output_runs, input_runs};
 
 use ec_bits::copy_by_words;
 use ec_link::{Link, Plan};
@@ -24,6 +26,87 @@ pub struct InputRun {
     /// The sync unit of that part.
     pub unit: u8,
     pub run: Run,
+}
+
+/// What is one where the next begins where it ends.
+trait Adjoining: Copy {
+    ghost adjoins: { Self → Self → Bool };
+
+    ghost joined: { Self → Self → Self };
+
+    /// Whether the next one begins where this one ends.
+    fn adjoins(self, next: Self) -> bool
+        ensures { result ≡ adjoins self next };
+
+    /// Both in one.
+    fn joined(self, next: Self) -> Self
+        requires { adjoins self next ≡ true }
+        ensures { result ≡ joined self next };
+}
+
+impl Adjoining for Run {
+    ghost adjoins = { adjoin };
+
+    ghost joined = { both };
+
+    fn adjoins(self, next: Run) -> bool {
+        self.to.checked_add(self.count) == Some(next.to)
+            && self.from.checked_add(self.count) == Some(next.from)
+            && self.count.checked_add(next.count).is_some()
+    }
+
+    fn joined(self, next: Run) -> Run {
+        Run {
+            to: self.to,
+            from: self.from,
+            count: self.count + next.count,
+        }
+    }
+}
+
+impl Adjoining for InputRun {
+    ghost adjoins = { inputs_adjoin };
+
+    ghost joined = { both_inputs };
+
+    fn adjoins(self, next: InputRun) -> bool {
+        self.part == next.part && self.unit == next.unit && self.run.adjoins(next.run)
+    }
+
+    fn joined(self, next: InputRun) -> InputRun {
+        InputRun {
+            part: self.part,
+            unit: self.unit,
+            run: self.run.joined(next.run),
+        }
+    }
+}
+
+/// The last run with the next one, if that adjoins; else the last one is done, and the next one is the last.
+fn go_on<R: Adjoining>(done: &mut Listed<R>, last: R, next: R) -> Result<R, AllocError>
+    ensures { IfOk result (λ r. (rest : List R) → done.new ++ merged_from R.adjoins R.joined r rest ≡ done.old ++ merged_from R.adjoins R.joined last (next ∷ rest)) }
+{
+    if last.adjoins(next) {
+        return Ok(last.joined(next));
+    }
+    done.push(last)?;
+    Ok(next)
+}
+
+/// The same runs, of which those that adjoin are one.
+fn merged<R: Adjoining>(alloc: Global, runs: &[R]) -> Result<Listed<R>, AllocError>
+    ensures { IfOk result (λ rs. rs ≡ merged R.adjoins R.joined runs.now) }
+{
+    let mut done = Listed::new(alloc);
+    let Some((first, rest)) = runs.split_first() else {
+        return Ok(done);
+    };
+    let mut last = *first;
+    for next in rest {
+        last = go_on(&mut done, last, *next)?;
+    }
+    done.push(last)?;
+    Ok(done)
 }
 
 /// Copies run after run.
@@ -77,15 +160,25 @@ fn runs_of_part(alloc: Global, plan: &Plan, part: usize) -> Result<Listed<Run>, 
     Ok(runs)
 }
 
-/// The runs of the outputs of each part.
+/// What is copied for the outputs of a part.
+fn runs_of_outputs(alloc: Global, plan: &Plan, part: usize) -> Result<Listed<Run>, AllocError>
+    requires usable { IsUsable plan.now }
+    requires there { part < length plan.now.parts }
+    ensures { IfOk result (λ rs. rs ≡ output_runs plan.now part) }
+{
+    let runs = runs_of_part(alloc, plan, part)?;
+    merged(alloc, runs.as_slice())
+}
+
+/// What is copied for the outputs of each part.
 pub fn runs_by_part(alloc: Global, plan: &Plan) -> Result<Listed<Listed<Run>>, AllocError>
     requires { IsUsable plan.now }
     ensures count { IfOk result (λ rs. length rs ≡ length plan.now.parts) }
-    ensures each { IfOk result (λ rs. (k : ℕ) → k < length plan.now.parts → get_or rs k [] ≡ part_runs plan.now k) }
+    ensures each { IfOk result (λ rs. (k : ℕ) → k < length plan.now.parts → get_or rs k [] ≡ output_runs plan.now k) }
 {
     let mut runs = Listed::new(alloc);
     for part in 0..plan.parts().len() {
-        runs.push(runs_of_part(alloc, plan, part)?)?;
+        runs.push(runs_of_outputs(alloc, plan, part)?)?;
     }
     Ok(runs)
 }
@@ -110,8 +203,8 @@ fn input_run(plan: &Plan, link: &Link) -> InputRun
     }
 }
 
-/// The runs of the inputs, in the order of the links.
-pub fn runs_of_inputs(alloc: Global, plan: &Plan) -> Result<Listed<InputRun>, AllocError>
+/// A run for each link of inputs, in the order of the links.
+fn runs_of_links(alloc: Global, plan: &Plan) -> Result<Listed<InputRun>, AllocError>
     requires { IsUsable plan.now }
     ensures { IfOk result (λ rs. rs ≡ map (input_run plan.now) plan.now.in_links) }
 {
@@ -120,4 +213,13 @@ pub fn runs_of_inputs(alloc: Global, plan: &Plan) -> Result<Listed<InputRun>, Al
         runs.push(input_run(plan, link))?;
     }
     Ok(runs)
+}
+
+/// What is copied for the inputs.
+pub fn runs_of_inputs(alloc: Global, plan: &Plan) -> Result<Listed<InputRun>, AllocError>
+    requires { IsUsable plan.now }
+    ensures { IfOk result (λ rs. rs ≡ input_runs plan.now) }
+{
+    let runs = runs_of_links(alloc, plan)?;
+    merged(alloc, runs.as_slice())
 }

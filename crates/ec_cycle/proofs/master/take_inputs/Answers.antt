@@ -17,7 +17,7 @@ pub loop-input-preserved : goal.loop-input-preserved
 loop-input-preserved c =
     let r : InputRun = get_or c.args.runs.now c.loop-input.input-index no_input in
     let l : c.loop-input.input-index < length c.args.runs.now = c.loop-input-test.true in
-    input_more c.args.plan.now c.args.kept.now c.args.runs.now c.loop-input.input-index r c.loop-input.inputs c.take_input.new.inputs _ c.requires.runs l (get_or_default c.args.runs.now c.loop-input.input-index no_input r l)
+    input_more c.args.plan.now c.args.kept.now c.args.runs.now c.loop-input.input-index r c.loop-input.inputs c.take_input.new.inputs _ l (get_or_default c.args.runs.now c.loop-input.input-index no_input r l)
     (c.take_input.ensures.copied ∙ ap (λ (b : Bool). if b then run_copied (bytes_of (get_or c.args.kept.now r.part None)) r.run c.loop-input.inputs else c.loop-input.inputs) (c.requires.taken r.unit c.take_input.ensures.small))
     c.loop-input.invariant
 
