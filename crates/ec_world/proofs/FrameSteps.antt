@@ -17,7 +17,7 @@ use Rattle.ec_world.specs.Shows.{Shows}
 use Rattle.ec_world.specs.SlaveShows.{SlaveShows}
 use Rattle.ec_world.specs.FrameShows.{FrameShows}
 use Rattle.ec_world.proofs.FramePass.{frame_pass}
-use Rattle.ec_world.proofs.Slots.{map-set, get_or-set_default, same_progress, flight_pairs, passes_there, is_some-guarded}
+use Rattle.ec_world.proofs.InSlots.{map-set, get_or-set_default, same_progress, flight_pairs, passes_there, is_some-guarded}
 
 none_some : {X : Type 0} (x : X) → None ≡ Some x → ⊥
 none_some x e = cc

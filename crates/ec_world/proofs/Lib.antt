@@ -13,9 +13,10 @@ pub mod Lists
 pub mod CountLaws
 pub mod CloseLaws
 pub mod Filling
+pub mod Stepping
 pub mod Fresh
 pub mod Answering
-pub mod Slots
+pub mod InSlots
 pub mod FrameSteps
 pub mod MasterSteps
 pub mod ReturnStep
@@ -31,3 +32,4 @@ pub mod Promising
 pub mod Tracing
 pub mod Histories
 pub mod Accepted
+pub mod Newly

@@ -19,7 +19,7 @@ use Rattle.ec_world.specs.World.{WorldState, Flight, flight_progress, flights_pr
 use Rattle.ec_world.specs.Shows.{Shows, CyclesShow, CycleShows, said, CountersPredicted}
 use Rattle.ec_world.specs.FrameShows.{FrameShows}
 use Rattle.ec_world.proofs.Lists.{theres, nones-alike}
-use Rattle.ec_world.proofs.Slots.{same_slots}
+use Rattle.ec_world.proofs.InSlots.{same_slots}
 use Rattle.ec_world.proofs.Filling.{filled-map, filled-both}
 use Rattle.ec_world.proofs.Fresh.{fresh, fresh_shows}
 use Rattle.ec_world.proofs.CloseLaws.{inputs_same, report_said, counters_predicted}

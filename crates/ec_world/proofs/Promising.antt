@@ -29,7 +29,7 @@ use Rattle.ec_world.specs.Shows.{Shows, CycleShows, CyclesShow, CountersPredicte
 use Rattle.ec_world.specs.Promises.{AreLinked, has_outputs_for, IsPublished, OutputsLaw, FallsShort, NotesLaw, IsNoted, IsMissed, NotBack, FellShort, unit_of_slave, InputsLaw}
 use Rattle.ec_world.proofs.FramePass.{frame_pass}
 use Rattle.ec_world.proofs.FrameSteps.{pass_can}
-use Rattle.ec_world.proofs.Slots.{flight_pairs}
+use Rattle.ec_world.proofs.InSlots.{flight_pairs}
 use Rattle.ec_world.proofs.Lists.{all_from-each, all_each, there_too}
 use Rattle.ec_world.proofs.Knowing.{share_is}
 use Rattle.ec_world.proofs.MasterSteps.{open_both}

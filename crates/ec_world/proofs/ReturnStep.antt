@@ -14,7 +14,7 @@ use Rattle.ec_world.specs.World.{WorldState, flight_progress, flight_at, Returns
 use Rattle.ec_world.specs.Shows.{Shows, CyclesShow, CycleShows}
 use Rattle.ec_world.specs.FrameShows.{FrameShows, KeptShows}
 use Rattle.ec_world.proofs.Lists.{theres, there_too}
-use Rattle.ec_world.proofs.Slots.{map-set, same_progress, flight_pairs, returns_there, is_some-guarded}
+use Rattle.ec_world.proofs.InSlots.{map-set, same_progress, flight_pairs, returns_there, is_some-guarded}
 use Rattle.ec_world.proofs.FrameSteps.{emptied_shows}
 use Rattle.ec_world.proofs.Answering.{answers_own, kept_shows}
 use Rattle.ec_cycle.proofs.Answering.{names_tell}

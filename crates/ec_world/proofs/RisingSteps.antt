@@ -39,7 +39,7 @@ use Rattle.ec_world.specs.Lengths.{AllFit}
 use Rattle.ec_world.specs.Whole.{flags_cleared, flags_after}
 use Rattle.ec_world.specs.Rising.{IsInSlot, SlotsHold, seen_of, Rising}
 use Rattle.ec_world.proofs.Lengths.{met-fit, on-fits, fault-fits, put-fits, get-fits, serve-fits}
-use Rattle.ec_world.proofs.Slots.{get_or-set_default}
+use Rattle.ec_world.proofs.InSlots.{get_or-set_default}
 
 none_some : {X : Type 0} (x : X) → None ≡ Some x → ⊥
 none_some x e = cc

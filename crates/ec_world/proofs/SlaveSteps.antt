@@ -24,7 +24,7 @@ use Rattle.ec_world.specs.SlaveShows.{Holds, IsQuiet, IsWorking, IsFaulted, IsRe
 use Rattle.ec_world.specs.Shows.{Shows}
 use Rattle.ec_world.proofs.Settings.{some_bits, no_bits, set_for_outs, unset}
 use Rattle.ec_world.proofs.Mapped.{third_held}
-use Rattle.ec_world.proofs.Slots.{slice_get-past}
+use Rattle.ec_world.proofs.InSlots.{slice_get-past}
 
 none_some : {X : Type 0} (x : X) → None ≡ Some x → ⊥
 none_some x e = cc

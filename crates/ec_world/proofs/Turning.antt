@@ -22,7 +22,8 @@ use Rattle.ec_rise.specs.Slots.{IsCarried}
 use Rattle.ec_rise.proofs.Theorem.{frame-passes}
 use Rattle.ec_world.specs.declared.event.Event.{Event}
 use Rattle.ec_world.specs.declared.event.Event.TheVariants.{StartNext, Pass, Return, Serve}
-use Rattle.ec_world.specs.Plain.{Progress, filled, may_pass, may_return, lets_by, is_older}
+use Rattle.ec_world.specs.declared.progress.Progress.{Progress}
+use Rattle.ec_world.specs.Plain.{filled, may_pass, may_return, lets_by, is_older}
 use Rattle.ec_world.specs.World.{WorldState, Flight, no_slave, slave_of, flight_at, flight_progress, flights_progress, can_happen, awaits, resumed, ByStart, Sends, Passes, Returns, StartReturns, IsStep, with_slave}
 use Rattle.ec_world.specs.Laws.{IsRun}
 use Rattle.ec_world.specs.NewWorld.{passings, servings, frame_events, undisturbed, rising_of}

@@ -93,3 +93,9 @@ abbrev pub RunsShow : Type 0
 RunsShow =
     (old : WorldState) (events : List Event) (new : WorldState) (made : ℕ) → IsUsable old.plan
     → IsRun old events new made → RunShows old events new made
+
+-- Two runs, one after the other, are one.
+abbrev pub RunsJoin : Type 0
+RunsJoin =
+    (old : WorldState) (first : List Event) (mid : WorldState) (made : ℕ) (second : List Event) (new : WorldState) (more : ℕ)
+    → IsRun old first mid made → IsRun mid second new more → IsRun old (first ++ second) new (made + more)

@@ -4,6 +4,8 @@
 pub mod Plain
 -- the world as a value, when each event can be made, and what it does
 pub mod World
+pub mod Slots
+pub mod Held
 -- when a slave, a frame, a world shows what the plain machine says
 pub mod Lengths
 pub mod SlaveShows

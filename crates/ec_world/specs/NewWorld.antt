@@ -65,3 +65,17 @@ NewRunLaw =
     → length (script (plan_of t).slaves) ≤ cycle_limit
     → (v : WorldState) (made : ℕ) → IsRun (new_world (plan_of t) identities) (undisturbed (length t.slaves) (length (script (plan_of t).slaves))) v made
     → IsUpAndWorks (plan_of t).slaves (0 + length (script (plan_of t).slaves)) (rising_of v)
+
+-- each identity is that of a device of its slave's type
+abbrev pub AreOfTypes : Contents → List Identity → Type 0
+AreOfTypes t identities = (i : ℕ) → i < length t.slaves → IsOfType (slave_at (plan_of t) i).kind.device (get_or identities i no_identity)
+
+-- the events of a start-up that nothing disturbs, over devices of the table's types
+pub record IsUndisturbed (t : Contents) (identities : List Identity) (events : List Event) : Type 0 where
+  pub devices : AreOfTypes t identities
+  pub numbers : length (script (plan_of t).slaves) ≤ cycle_limit
+  pub is : events ≡ undisturbed (length t.slaves) (length (script (plan_of t).slaves))
+
+-- the start-up is Ready, after a frame for each of its steps, and every slave is in OP as planned
+abbrev pub ComesUp : Contents → WorldState → Type 0
+ComesUp t w = IsUpAndWorks (plan_of t).slaves (0 + length (script (plan_of t).slaves)) (rising_of w)

@@ -99,6 +99,17 @@ new_world plan identities = record {
   report = None;
 }
 
+-- the world is a new one, of a table that `compile` accepts
+pub record IsNew (t : Contents) (identities : List Identity) (w : WorldState) : Type 0 where
+  pub sound : table.IsSound t
+  pub accepted : compile_fault t ≡ None
+  pub one_each : length identities ≡ length t.slaves
+  pub is : w ≡ new_world (plan_of t) identities
+
+-- no slave had a fault or a reset yet
+abbrev pub no_trouble : WorldState → List Bool
+no_trouble w = replicate (length w.plan.slaves) false
+
 -- ---- a whole run
 
 -- the flags at the end of a run

@@ -18,7 +18,8 @@ use Rattle.ec_cycle.specs.Closing.{ReportState, report_of, nones}
 use Rattle.ec_cycle.specs.Master.{MasterState, readied, OpenCycle, holds_value, variable_set, cycle_limit, Begun, IsTaken, closed}
 use Rattle.ec_world.specs.declared.event.Event.{Event}
 use Rattle.ec_world.specs.declared.event.Event.TheVariants.{StartNext, Set, Begin, Pass, Lose, Return, Close, Serve, AppPut, AppGet, Fault, Reset as ResetSlave}
-use Rattle.ec_world.specs.Plain.{Progress, may_pass, may_return, filled}
+use Rattle.ec_world.specs.declared.progress.Progress.{Progress}
+use Rattle.ec_world.specs.Plain.{may_pass, may_return, filled}
 
 -- ---- what it is
 

@@ -1,5 +1,5 @@
 //! What is promised of a world, and laws of the definitions. Each function does nothing: its contract is the law.
-ghost use Rattle.ec_world.specs.Laws.{RoundTrip, CycleLaw, StepsShow, RunsShow};
+ghost use Rattle.ec_world.specs.Laws.{RoundTrip, CycleLaw, StepsShow, RunsShow, RunsJoin};
 ghost use Rattle.ec_world.specs.Whole.{WholeLaw, CompiledLaw};
 ghost use Rattle.ec_world.specs.Example.{AcceptedLaw};
 ghost use Rattle.ec_world.specs.NewWorld.{NewUpLaw, NewRunLaw};
@@ -65,6 +65,12 @@ pub fn steps_show()
 #[tactic(auto, using(crate::proofs::Runs::runs_show))]
 pub fn runs_show()
     ensures { RunsShow }
+{}
+
+/// Two runs, one after the other, are one: a caller may make the events of a list piece by piece.
+#[tactic(auto, using(crate::proofs::Runs::runs_join))]
+pub fn runs_join()
+    ensures { RunsJoin }
 {}
 
 /// From a new world of a plan, over every list of events: until the start-up is ready nothing is shown, and from then on

@@ -3,5 +3,15 @@
 
 mod event;
 pub mod laws;
+mod making;
+mod progress;
+mod slot;
+mod slots;
+mod world;
 
 pub use crate::event::Event;
+pub use crate::progress::Progress;
+pub use crate::world::World;
+
+#[cfg(test)]
+mod tests;

@@ -1,0 +1,17 @@
+use Rattle.std.proofs.Common.{ℕ, ◌<◌, ◌≤◌, ◌≡◌, ◌∙◌, arith, length, sym}
+use Rattle.ec_world.specs.Held.{cycle_frames}
+use Rattle.ec_world.proofs.Filling.{frame-in, placed, all-placed}
+use Rattle.ec_world.proofs.making.place_frames.Goals as goal
+
+pub loop-part-preserved : goal.loop-part-preserved
+loop-part-preserved c =
+    let frames = cycle_frames c.args.master.now.cycle in
+    let l : c.loop-part.part < length frames = omega (arith, c.loop-part-test.true, c.parts-part-end.ensures, c.requires.count) in
+    placed c.args.number c.loop-part.part frames c.frame.result.now c.loop-part.slots c.fill.new.self l (c.frame.ensures ∙ frame-in c.args.master.now.cycle c.loop-part.part) c.fill.ensures
+    ∙ c.loop-part.invariant
+
+pub returns : goal.returns
+returns c =
+    let frames = cycle_frames c.args.master.now.cycle in
+    let l : length frames ≤ c.loop-part.part = omega (arith, c.loop-part-test.false, c.parts-part-end.ensures, c.requires.count) in
+    sym (all-placed c.args.number c.loop-part.part frames c.loop-part.slots l) ∙ c.loop-part.invariant

@@ -1,0 +1,17 @@
+use Rattle.std.proofs.Common.{◌≡◌, ◌∙◌, ◌∷◌, [], List, ℕ, Option, ap, sym, true}
+use Rattle.ec_world.specs.Plain.{filled}
+use Rattle.ec_world.specs.World.{Flight, WorldState, can_start}
+use Rattle.ec_world.proofs.Stepping.{world_of, start-step}
+use Rattle.ec_world.proofs.world.World.start_next.Goals as goal
+
+abbrev flight : List ℕ → ℕ → Flight
+flight bytes number = record { bytes = bytes; number = number; part = 0; passed = 0 }
+
+pub returns : goal.returns
+returns c =
+    let v = c.self.inside in
+    let w = world_of v.plan.now v.start v.master v.ring v.slots v.got v.report in
+    let can : can_start w ≡ true = ap can_start c.self.view_is ∙ (sym c.can_start.ensures ∙ c.if-not-can_start.false) in
+    rw (← c.self.view_is) (start-step w c.resume.new.start c.next.new.self c.next.new.frame.items c.fill.new.self can c.resume.ensures c.next.ensures.state (λ e. c.next.ensures.written (c.next.ensures.answer ∙ e))
+    (c.fill.ensures ∙ (ap (λ (xs : List ℕ). filled (flight xs c.next_number-number.result ∷ []) v.slots) c.as_slice.ensures.value
+    ∙ ap (λ (n : ℕ). filled (flight c.next.new.frame.items n ∷ []) v.slots) c.next_number-number.ensures)))

@@ -1,0 +1,13 @@
+use Rattle.std.proofs.Common.{Bool, ℕ, ◌≡◌, ◌∙◌, ap, get_or, None, option_map, sym}
+use Rattle.ec_world.specs.Plain.{may_return}
+use Rattle.ec_world.specs.World.{flight_progress}
+use Rattle.ec_world.proofs.Stepping.{world_of, return-step}
+use Rattle.ec_world.proofs.world.World.take_back.Goals as goal
+
+pub returns : goal.returns
+returns c =
+    let v = c.self.inside in
+    let w = world_of v.plan.now v.start v.master v.ring v.slots v.got v.report in
+    let may : ℕ → Bool = λ n. may_return n (option_map flight_progress (get_or v.slots c.args.slot None)) in
+    rw (← c.self.view_is) (return-step w c.args.slot c.bytes-payload.result.now c.hand_in.new.start c.hand_in.new.master c.clear.new.self
+    (ap may (sym c.len.ensures) ∙ (sym c.may_return.ensures ∙ c.if-not-may_return.false)) c.bytes-payload.ensures c.hand_in.ensures c.clear.ensures)

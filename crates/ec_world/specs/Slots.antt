@@ -1,0 +1,17 @@
+-- A slot and a ring of slaves, as a frame passes its next slave.
+use Rattle.std.specs.Prelude.{ℕ, ◌+◌, ◌≡◌, List, Option, Some, set, slice_get}
+use Rattle.ec_slave.specs.State.{SlaveState}
+use Rattle.ec_ring.specs.Rings.{IsPassedAt}
+use Rattle.ec_world.specs.World.{Flight}
+
+-- the slaves and the frame, before and after
+pub record HasPassed (slaves : List SlaveState) (f : Flight) (after : List SlaveState) (slot : Option Flight) : Type 0 where
+  pub bytes : List ℕ
+  pub met : (s : SlaveState) → slice_get slaves f.passed ≡ Some s → IsPassedAt slaves f.passed s f.bytes after bytes
+  pub is : slot ≡ Some (record f { bytes = bytes; passed = f.passed + 1 })
+
+-- the same of the frame in slot k; the other slots stay
+pub record HavePassed (slaves : List SlaveState) (slots : List (Option Flight)) (k : ℕ) (f : Flight) (after : List SlaveState) (slots_after : List (Option Flight)) : Type 0 where
+  pub slot : Option Flight
+  pub passed : HasPassed slaves f after slot
+  pub is : slots_after ≡ set slots k slot

@@ -1,0 +1,136 @@
+ghost use Rattle.std.specs.Prelude.{◌≡◌, ◌≤◌, ◌<◌, ◌∷◌, [], length, replicate, get_or, set, position, Some, None, is_none, option_map, IfOk};
+ghost use Rattle.std.specs.List.{list_all, count_by};
+ghost use Rattle.ec_world.specs.Plain.{lets_by, may_pass, may_return, filled};
+ghost use Rattle.ec_world.specs.World.{Flight, flight_progress, flights_progress};
+ghost use Rattle.ec_world.specs.Slots.{HavePassed};
+
+use crate::progress::Progress;
+use crate::slot::Slot;
+use ec_ring::Ring;
+use std::alloc::{AllocError, Global};
+use std::marker::Model;
+
+/// The frames that are on their way, each in a slot. All memory that they need is found when the slots are made.
+#[derive(Drop)]
+pub struct Slots {
+    slots: Vec<Slot>,
+}
+
+impl Model for Slots {
+    ghost use Rattle.std.specs.Prelude.{List, Option};
+    ghost use Rattle.ec_world.specs.World.{Flight};
+
+    ghost Value = { List (Option Flight) };
+
+    ghost view = { λ s. s.slots.items };
+}
+
+impl Slots {
+    /// So many free slots.
+    pub fn new(alloc: Global, count: usize) -> Result<Slots, AllocError>
+        ensures { IfOk result (λ s. s ≡ replicate count None) }
+    {
+        let mut slots = Vec::new(alloc);
+        for n in 0..count {
+            slots.push(Slot::new())?;
+        }
+        Ok(Slots { slots })
+    }
+
+    /// How many slots there are.
+    pub fn len(&self) -> usize
+        ensures { result ≡ length self.now }
+    {
+        self.slots.len()
+    }
+
+    /// How far the frame in a slot is; none where there is no frame, or no slot.
+    pub fn progress(&self, slot: usize) -> Option<Progress>
+        ensures { result ≡ option_map flight_progress (get_or self.now slot None) }
+    {
+        if slot < self.slots.len() {
+            self.slots[slot].progress()
+        } else {
+            None
+        }
+    }
+
+    /// How many slots are free.
+    pub fn free(&self) -> usize
+        ensures { result ≡ count_by (λ o. is_none o) self.now }
+    {
+        self.slots.iter().filter(|slot| slot.is_free()).count()
+    }
+
+    /// Whether the frame in a slot may pass its next slave, of so many: there is one, and every older frame has passed it.
+    pub fn may_pass(&self, slot: usize, slaves: usize) -> bool
+        ensures { result ≡ may_pass slaves (flights_progress self.now) (option_map flight_progress (get_or self.now slot None)) }
+    {
+        let Some(frame) = self.progress(slot) else {
+            return false;
+        };
+        frame.passed < slaves && self.let_by(&frame)
+    }
+
+    /// Whether every older frame has passed the slave that a frame meets next.
+    fn let_by(&self, frame: &Progress) -> bool
+        ensures { result ≡ list_all (lets_by frame.now) (flights_progress self.now) }
+    {
+        self.slots
+            .iter()
+            .map(|slot| slot.progress())
+            .all(|other| frame.is_let_by(other))
+    }
+
+    /// Whether the frame in a slot has passed all slaves, of so many.
+    pub fn may_return(&self, slot: usize, slaves: usize) -> bool
+        ensures { result ≡ may_return slaves (option_map flight_progress (get_or self.now slot None)) }
+    {
+        match self.progress(slot) {
+            Some(frame) => frame.passed == slaves,
+            None => false,
+        }
+    }
+
+    /// The bytes of the frame in a slot.
+    pub fn bytes(&self, slot: usize) -> &[u8]
+        requires { slot < length self.now }
+        ensures { (f : Flight) → get_or self.now slot None ≡ Some f → result.now ≡ f.bytes }
+    {
+        self.slots[slot].bytes()
+    }
+
+    /// The lowest free slot, if there is one.
+    fn lowest_free(&self) -> Option<usize>
+        ensures { result ≡ position (λ o. is_none o) self.now }
+    {
+        self.slots.iter().position(|slot| slot.is_free())
+    }
+
+    /// A frame goes into the lowest free slot, if there is one.
+    pub fn fill(&mut self, bytes: &[u8], number: u64, part: usize)
+        requires { length bytes.now ≤ 1472 }
+        ensures { self.new ≡ filled (record { bytes = bytes.now; number = number; part = part; passed = 0 } ∷ []) self.old }
+    {
+        if let Some(place) = self.lowest_free() {
+            self.slots[place].put(bytes, number, part);
+        }
+    }
+
+    /// The frame in a slot is gone.
+    pub fn clear(&mut self, slot: usize)
+        requires { slot < length self.old }
+        ensures { self.new ≡ set self.old slot None }
+    {
+        self.slots[slot].clear();
+    }
+
+    /// The frame in a slot passes its next slave.
+    pub fn pass(&mut self, slot: usize, ring: &mut Ring)
+        requires there { slot < length self.old }
+        requires next { (f : Flight) → get_or self.old slot None ≡ Some f → f.passed < length ring.old }
+        ensures { (f : Flight) → get_or self.old slot None ≡ Some f → HavePassed ring.old self.old slot f ring.new self.new }
+    {
+        self.slots[slot].pass(ring);
+    }
+}

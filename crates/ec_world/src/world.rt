@@ -1,0 +1,244 @@
+ghost use Rattle.std.specs.Prelude.{◌≡◌, ◌<◌, ◌≤◌, ℕ, List, length, get_or, map, slice_get, Option, Some, None, IfOk, option_map, replicate, false};
+ghost use Rattle.ec_regs.specs.declared.slave_type.Identity.{Identity};
+ghost use Rattle.ec_slave.specs.Application.{outputs_shown};
+ghost use Rattle.ec_table.specs.Contents.{Contents};
+ghost use Rattle.ec_link.specs.Faults.{compile_fault};
+ghost use Rattle.ec_link.specs.Plan.{plan_of};
+ghost use Rattle.ec_link.specs.Usable.{IsUsable};
+ghost use Rattle.ec_start.specs.Running.{outcome_of};
+ghost use Rattle.ec_cycle.specs.Master.{value_at};
+ghost use Rattle.ec_world.specs.Laws.{IsRun, StepShows, RunShows};
+ghost use Rattle.ec_world.specs.NewWorld.{IsUndisturbed, ComesUp};
+ghost use Rattle.ec_world.specs.Whole.{IsNew, Told, no_trouble, slot_count, switched_on};
+ghost use Rattle.ec_world.specs.World.{IsStep, slave_of, flight_at, flight_progress, is_up};
+
+use crate::event::Event;
+use crate::progress::Progress;
+use crate::slots::Slots;
+use ec_cycle::{Master, Report};
+use ec_link::{Plan, Settings};
+use ec_regs::Identity;
+use ec_ring::Ring;
+use ec_slave::Slave;
+use ec_start::{StartError, Startup};
+use ec_table::Table;
+use std::alloc::{AllocError, Global};
+use std::marker::Model;
+
+/// How many frames can be on their way at a time.
+const SLOTS: usize = 64;
+
+/// A segment of simulated slaves under a start-up and a master, with the frames that are on their way. It is moved by events,
+/// of which each that can be made is one call of the start-up, of the master, of a slave, or one frame that passes one slave.
+/// All memory that it needs is found when it is made.
+#[derive(Drop)]
+pub struct World<'p> {
+    pub(crate) plan: &'p Plan,
+    pub(crate) start: Startup,
+    pub(crate) master: Master<'p>,
+    pub(crate) ring: Ring,
+    pub(crate) slots: Slots,
+    // the byte that an application read last
+    pub(crate) got: Option<u8>,
+    // what the last closing said
+    pub(crate) report: Option<Report>,
+}
+
+impl<'p> Model for World<'p> {
+    ghost use Rattle.ec_link.specs.Usable.{IsUsable};
+    ghost use Rattle.ec_world.specs.World.{WorldState};
+
+    ghost Value = { WorldState };
+
+    ghost view = { λ w. record {
+      plan = w.plan.now;
+      start = w.start;
+      master = w.master;
+      slaves = w.ring;
+      slots = w.slots;
+      got = w.got;
+      report = w.report;
+    } };
+
+    ghost invariant = { λ w. IsUsable w.plan.now };
+}
+
+/// The slaves of a plan, just switched on, with these identities.
+fn switched_on(
+    alloc: Global,
+    slaves: &[Settings],
+    identities: &[Identity],
+) -> Result<Vec<Slave>, AllocError>
+    requires { length identities.now ≡ length slaves.now }
+    ensures { IfOk result (λ v. v.items ≡ switched_on slaves.now identities.now) }
+{
+    let mut all = Vec::new(alloc);
+    for (place, settings) in slaves.iter().enumerate() {
+        let kind = settings.kind.copied(alloc)?;
+        all.push(Slave::new(alloc, kind, identities[place])?)?;
+    }
+    Ok(all)
+}
+
+impl<'p> World<'p> {
+    /// The world of a table: its slaves as they are switched on, with these identities in the order of the table; a start-up
+    /// whose first frame has number 0; a master whose image is all 0; and 64 slots without a frame. The plan is the one that
+    /// `compile` makes of the table. No later call takes memory.
+    ///
+    /// # Errors
+    ///
+    /// `AllocError` where there is no memory.
+    pub fn new(
+        alloc: Global,
+        table: &Table,
+        plan: &'p Plan,
+        identities: &[Identity],
+    ) -> Result<World<'p>, AllocError>
+        requires accepted { compile_fault table.now ≡ None }
+        requires plan { plan.now ≡ plan_of table.now }
+        requires one_each { length identities.now ≡ length table.now.slaves }
+        ensures { IfOk result (IsNew table.now identities.now) }
+    {
+        let _version = table.version();
+        let start = Startup::new(alloc, plan, 0)?;
+        let master = Master::new(alloc, plan)?;
+        let ring = Ring::new(switched_on(alloc, plan.slaves(), identities)?);
+        let slots = Slots::new(alloc, SLOTS)?;
+        Ok(World {
+            plan,
+            start,
+            master,
+            ring,
+            slots,
+            got: None,
+            report: None,
+        })
+    }
+
+    /// Makes an event, and answers whether it can be made; if it can't, nothing changes.
+    ///
+    /// From a world that shows a plain state it is made exactly where the plain machine makes it, and the world then shows the
+    /// plain machine's next state.
+    pub fn step(&mut self, event: Event) -> bool
+        ensures step { IsStep self.old event self.new result }
+        ensures shows { StepShows self.old event self.new result }
+    {
+        let _plan = self.plan();
+        self.make(event)
+    }
+
+    /// Makes those of the events that can be made, in their order, and answers how many they were.
+    ///
+    /// From a world that shows a plain state it ends in one that shows the run of the plain machine, of as many events. From
+    /// a new world nothing is shown until its start-up is Ready; at the event that makes it so the world shows a plain state,
+    /// in which each slave that isn't in OP had a fault or a reset since that start-up began; and from there on the run of the
+    /// plain machine. A new world that nothing disturbs is Ready after as many frames as the start-up has steps.
+    pub fn run(&mut self, events: &[Event]) -> usize
+        ensures steps { IsRun self.old events.now self.new result }
+        ensures shows { RunShows self.old events.now self.new result }
+        ensures whole { (t : Contents) (identities : List Identity) → IsNew t identities self.old → Told self.old events.now self.new result (no_trouble self.old) }
+        ensures up { (t : Contents) (identities : List Identity) → IsNew t identities self.old → IsUndisturbed t identities events.now → ComesUp t self.new }
+    {
+        let _plan = self.plan();
+        let mut made = 0;
+        for event in events {
+            if self.make(*event) {
+                made += 1;
+            }
+        }
+        made
+    }
+
+    /// The plan.
+    pub fn plan(&self) -> &'p Plan
+        ensures value { result.now ≡ self.now.plan }
+        ensures usable { IsUsable self.now.plan }
+    {
+        self.plan
+    }
+
+    /// Whether its start-up ended Ready, with all slaves in OP.
+    pub fn is_ready(&self) -> bool
+        ensures { result ≡ is_up self.now.start }
+    {
+        match self.start.outcome() {
+            Some(Ok(())) => true,
+            _ => false,
+        }
+    }
+
+    /// How its start-up ended, if it has.
+    pub fn outcome(&self) -> Option<Result<(), StartError>>
+        ensures { result ≡ outcome_of self.now.start.phase }
+    {
+        self.start.outcome()
+    }
+
+    /// How many slaves there are.
+    pub fn slaves(&self) -> usize
+        ensures { result ≡ length self.now.slaves }
+    {
+        self.ring.len()
+    }
+
+    /// How many variables the process image has.
+    pub fn variables(&self) -> usize
+        ensures { result ≡ length self.now.master.plan.variables }
+    {
+        self.master.variables()
+    }
+
+    /// What a variable of the process image is now: of an input what the last closing took, of an output what was set last.
+    pub fn input(&self, variable: usize) -> u64
+        requires { variable < length self.now.master.plan.variables }
+        ensures { result ≡ value_at self.now.master (slice_get self.now.master.plan.variables variable) }
+    {
+        self.master.get(variable)
+    }
+
+    /// The outputs that a slave published last: manager 2's value, empty where that manager isn't set or is a mailbox.
+    pub fn outputs(&self, slave: usize) -> &[u8]
+        requires { slave < length self.now.slaves }
+        ensures { result.now ≡ outputs_shown (slave_of self.now slave) }
+    {
+        self.ring.slave(slave).outputs()
+    }
+
+    /// How many slots for frames there are.
+    pub fn slots(&self) -> usize
+        ensures { result ≡ length self.now.slots }
+    {
+        self.slots.len()
+    }
+
+    /// The number of the frame in a slot; none where there is no frame, or no slot.
+    pub fn slot(&self, slot: usize) -> Option<u64>
+        ensures { result ≡ option_map (λ f. f.number) (flight_at self.now slot) }
+    {
+        match self.slots.progress(slot) {
+            Some(frame) => Some(frame.number),
+            None => None,
+        }
+    }
+
+    /// How far the frame in a slot is: its number, its part, and how many slaves it has passed.
+    pub fn progress(&self, slot: usize) -> Option<Progress>
+        ensures { result ≡ option_map flight_progress (flight_at self.now slot) }
+    {
+        self.slots.progress(slot)
+    }
+
+    /// The byte that an application read last.
+    pub fn byte(&self) -> Option<u8>
+        ensures { result ≡ self.now.got }
+    {
+        self.got
+    }
+
+    /// What the last closing said.
+    pub fn report(&self) -> Option<&Report>
+        ensures { option_map (λ r. r.now) result ≡ self.now.report }
+    {
+        self.report.as_ref()
+    }
+}
