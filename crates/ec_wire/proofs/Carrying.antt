@@ -1,0 +1,46 @@
+-- Calls of a wire one after the other.
+use Rattle.std.proofs.Common.{◌≡◌, ◌≤◌, ◌++◌, ◌||◌, ◌==◌, ℕ, List, [], ◌∷◌, Bool, true, false, Option, None, Some, sym, ◌∙◌, ap, append_assoc, arith, nat_lt, not, refl}
+use Rattle.std.proofs.lemmas.List.{append-nil}
+use Rattle.std.proofs.lemmas.Bool.Decides.{nat_tests}
+use Rattle.ec_wire.specs.Wires.{WireState, Carries, Grows, is_fault, most_failed}
+
+grows-none : (a : Option (List (List ℕ))) → Grows a a []
+grows-none None = tt
+grows-none (Some xs) = sym (append-nil xs)
+
+grows-then : (a b c : Option (List (List ℕ))) (ps qs : List (List ℕ)) → Grows a b ps → Grows b c qs → Grows a c (ps ++ qs)
+grows-then None b c ps qs g h = tt
+grows-then (Some xs) None c ps qs g h = absurd g
+grows-then (Some xs) (Some ys) None ps qs g h = absurd h
+grows-then (Some xs) (Some ys) (Some zs) ps qs g h = h ∙ ap (λ (l : List (List ℕ)). l ++ qs) g ∙ append_assoc xs ps qs
+
+-- before any call
+pub carries-none : (a : WireState) → Carries a a [] []
+carries-none a = record { sends = grows-none a.sent; receives = grows-none a.received; faults = omega arith }
+
+pub carries-then : (a b c : WireState) (xs ys zs ws : List (List ℕ)) → Carries a b xs ys → Carries b c zs ws → Carries a c (xs ++ zs) (ys ++ ws)
+carries-then a b c xs ys zs ws g h = record {
+  sends = grows-then a.sent b.sent c.sent xs zs g.sends h.sends;
+  receives = grows-then a.received b.received c.received ys ws g.receives h.receives;
+  faults = let p = g.faults in let q = h.faults in omega arith;
+}
+
+same_by_tests : (m n most : ℕ) → (nat_lt m n || (m == most)) ≡ false → m ≤ n → n ≡ m
+same_by_tests m n most e l = grind (arith, nat_tests)
+
+-- a call that was no fault leaves the count
+pub fine-same : (a b : WireState) → is_fault a b ≡ false → a.failed ≤ b.failed → b.failed ≡ a.failed
+fine-same a b e l = same_by_tests a.failed b.failed most_failed e l
+
+-- only the count before matters
+pub fault-from : (a b c : WireState) → b.failed ≡ a.failed → is_fault b c ≡ is_fault a c
+fault-from a b c e = ap (λ (n : ℕ). nat_lt n c.failed || (n == most_failed)) e
+
+-- only the count after matters
+pub fault-to : (a b c : WireState) → c.failed ≡ b.failed → is_fault a c ≡ is_fault a b
+fault-to a b c e = ap (λ (n : ℕ). nat_lt a.failed n || (a.failed == most_failed)) e
+
+-- an answer that says there was no fault
+pub no_fault : (b : Bool) → true ≡ not b → b ≡ false
+no_fault true e = e
+no_fault false e = refl

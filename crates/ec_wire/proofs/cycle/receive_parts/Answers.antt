@@ -1,0 +1,29 @@
+use Rattle.std.proofs.Common.{◌≡◌, ◌∙◌, ◌<◌, ◌++◌, ◌∷◌, [], false, ℕ, List, take, arith, length-append}
+use Rattle.ec_cycle.specs.Master.{missing_of}
+use Rattle.ec_wire.specs.Wires.{is_fault}
+use Rattle.ec_wire.proofs.Carrying.{carries-then, fine-same, no_fault}
+use Rattle.ec_wire.proofs.Taking.{taken-push}
+use Rattle.ec_wire.proofs.cycle.receive_parts.Goals as goal
+
+-- the payload that came is the last of those that were taken
+pub loop-preserved : goal.loop-preserved
+loop-preserved g c =
+    let before = c.loop.invariant in
+    let got = before.received.0 in
+    let came = take c.in-Some.count c.receive_on.new.buffer in
+    let start = g.W.Wire.state c.args.wire.now in
+    let here = g.W.Wire.state c.loop.wire in
+    let next = g.W.Wire.state c.receive_on.new.wire in
+    let carried = c.in-Some.ensures.done in
+    let fine : is_fault here next ≡ false = no_fault _ c.in-Some.ensures.fault in
+    let missing : 0 < missing_of c.loop.master.cycle = let e = c.missing.ensures in let n = c.if-missing-eq0.false in omega arith in
+    record {
+      received = (
+        got ++ came ∷ [],
+        carries-then start here next [] got [] (came ∷ []) before.received.1 carried,
+        taken-push c.args.master.now c.loop.master c.take.new.self got came _ before.received.2 missing c.take.ensures,
+        let l = before.received.3 in simp length-append (omega (arith, l)),
+      );
+      same = fine-same here next fine carried.faults ∙ before.same;
+      end = before.end;
+    }

@@ -1,0 +1,70 @@
+ghost use Rattle.std.specs.Prelude.{◌≡◌, codes};
+ghost use Rattle.ec_wire.specs.Errors.{run_number, run_name};
+
+use ec_cycle::CycleError;
+use thiserror::Error;
+
+/// Why a cycle over a wire took nothing.
+#[derive(Clone, Copy, Debug, PartialEq, Eq, Drop, Error)]
+pub enum RunError {
+    /// The master began no cycle, and is as it was.
+    #[error("{0}")]
+    Refused(CycleError),
+    /// A call of the wire was a fault. The cycle was dropped, and no input changed.
+    #[error("a fault of the wire")]
+    Wire,
+}
+
+impl RunError {
+    /// The number by which the program names this error.
+    pub fn number(self) -> u8
+        ensures { result ≡ run_number self }
+    {
+        match self {
+            RunError::Refused(refusal) => refusal.number(),
+            RunError::Wire => 37,
+        }
+    }
+
+    /// Its name.
+    pub fn name(self) -> &'static str
+        ensures { result.now ≡ run_name self }
+    {
+        match self {
+            RunError::Refused(refusal) => refusal.name(),
+            RunError::Wire => "Wire",
+        }
+    }
+}
+
+impl From<CycleError> for RunError {
+    ghost use Rattle.std.specs.Prelude.{◌≡◌};
+    ghost use Rattle.ec_wire.specs.declared.error.RunError.TheVariants.{Refused};
+
+    ghost from_gives = { λ refusal error. error ≡ Refused refusal };
+
+    fn from(refusal: CycleError) -> RunError {
+        RunError::Refused(refusal)
+    }
+}
+
+/// A socket couldn't be had, or a call on one was a fault.
+#[derive(Clone, Copy, Debug, PartialEq, Eq, Drop, Error)]
+#[error("a fault of a socket")]
+pub struct SocketFault;
+
+impl SocketFault {
+    /// The number by which the program names it.
+    pub fn number(self) -> u8
+        ensures { result ≡ 43 }
+    {
+        43
+    }
+
+    /// Its name.
+    pub fn name(self) -> &'static str
+        ensures { result.now ≡ codes "Socket" }
+    {
+        "Socket"
+    }
+}

@@ -1,0 +1,28 @@
+//! Wires and sockets: cycles of a master over whatever carries its frames, and segments of simulated slaves that answer there.
+//!
+//! A [`Wire`] sends and receives payloads and counts its faults. What a cycle over a wire promises is promised of every wire.
+#![tactic(auto)]
+
+mod application;
+mod cycle;
+mod error;
+mod loopback;
+mod memory;
+mod payload;
+mod segment;
+mod startup;
+#[cfg(test)]
+mod tests;
+mod udp;
+mod wire;
+
+pub use crate::application::{App, Echo};
+pub use crate::cycle::run_cycle;
+pub use crate::error::{RunError, SocketFault};
+pub use crate::loopback::{LoopWire, Sockets};
+pub use crate::memory::MemoryWire;
+pub use crate::payload::Payload;
+pub use crate::segment::{Served, serve_segment};
+pub use crate::startup::bring_up_wire;
+pub use crate::udp::UdpWire;
+pub use crate::wire::Wire;

@@ -1,0 +1,159 @@
+//! A wire over memory.
+ghost use Rattle.std.specs.Prelude.{◌≡◌, ◌≤◌, ◌<◌, [], ◌∷◌, true, false, Some, IfOk, IfSome, IfNone, length, take};
+ghost use Rattle.ec_wire.specs.Wires.{WireState, Carries, failed_again, most_failed};
+
+use crate::application::{Echo, answer};
+use crate::payload::{MOST_BYTES, Payload, frame_of};
+use crate::wire::Wire;
+use ec_ring::Ring;
+use std::alloc::{AllocError, Global};
+use std::marker::Model;
+
+/// A wire to a ring of slaves in memory, whose applications show their outputs as their inputs. A frame that is sent passes the
+/// slaves, each is served, and what came of it is on its way until it is received. It tells what it carried, and one of its
+/// calls is a fault, so that a master's answer to a fault at each place can be tried.
+#[derive(Drop)]
+pub struct MemoryWire {
+    ring: Ring,
+    sent: Vec<Payload>,
+    answers: Vec<Payload>,
+    received: Vec<Payload>,
+    room: usize,
+    calls: u64,
+    fails_at: u64,
+    failures: u64,
+}
+
+impl Model for MemoryWire {
+    ghost use Rattle.std.specs.Prelude.{Some};
+    ghost use Rattle.ec_wire.specs.Wires.{WireState};
+
+    ghost Value = { WireState };
+
+    ghost view = { λ w. record {
+      sent = Some w.sent.items;
+      received = Some w.received.items;
+      failed = w.failures;
+    } };
+}
+
+impl MemoryWire {
+    /// A wire to these slaves, with room for so many payloads sent and so many received. The call of this number, the first
+    /// being 0, is a fault and carries nothing, and so is each that finds no room, no payload, or more than 1472 bytes.
+    ///
+    /// # Errors
+    ///
+    /// `AllocError` where memory was refused.
+    pub fn new(
+        alloc: Global,
+        ring: Ring,
+        room: usize,
+        fails_at: u64,
+    ) -> Result<MemoryWire, AllocError>
+        ensures { IfOk result (λ w. w ≡ record { sent = Some []; received = Some []; failed = 0 }) }
+    {
+        Ok(MemoryWire {
+            ring,
+            sent: Vec::with_capacity(alloc, room)?,
+            answers: Vec::with_capacity(alloc, room)?,
+            received: Vec::with_capacity(alloc, room)?,
+            room,
+            calls: 0,
+            fails_at,
+            failures: 0,
+        })
+    }
+
+    /// The slaves, with what was done to them.
+    pub fn into_ring(self) -> Ring {
+        self.ring
+    }
+
+    /// How many payloads were received.
+    pub fn received_count(&self) -> usize
+        ensures { IfSome self.now.received (λ received. result ≡ length received) }
+    {
+        self.received.len()
+    }
+
+    /// Counts a call, and answers whether it may carry something.
+    fn begin_call(&mut self) -> bool
+        ensures kept { self.new ≡ self.old }
+        ensures few { result ≡ true → self.old.failed < most_failed }
+    {
+        let call = self.calls;
+        self.calls = call.saturating_add(1);
+        call != self.fails_at && self.failures != u64::MAX
+    }
+
+    /// Carries a payload to the slaves, and answers whether there was room for it.
+    fn carry(&mut self, payload: &[u8]) -> bool
+        requires { length payload.now ≤ 1472 }
+        ensures carried { result ≡ true → Carries self.old self.new (payload.now ∷ []) [] }
+        ensures lost { result ≡ false → self.new ≡ self.old }
+        ensures fine { self.new.failed ≡ self.old.failed }
+    {
+        if self.sent.len() >= self.room {
+            return false;
+        }
+        let mut frame = frame_of(payload);
+        let passed = frame.as_mut_slice();
+        let is_frame = answer(&mut self.ring, &mut Echo, passed);
+        if is_frame && self.answers.push(Payload::of(frame)).is_err() {
+            return false;
+        }
+        self.sent.push(Payload::new(payload)).is_ok()
+    }
+
+    /// Receives what has been on its way longest, and answers how many bytes of it are in the buffer; nothing where there is
+    /// none, or no room for it.
+    fn deliver(&mut self, buffer: &mut [u8]) -> Option<usize>
+        ensures within { IfSome result (λ count. count ≤ length buffer.new) }
+        ensures carried { IfSome result (λ count. Carries self.old self.new [] (take count buffer.new ∷ [])) }
+        ensures lost { IfNone result (self.new ≡ self.old) }
+        ensures fine { self.new.failed ≡ self.old.failed }
+    {
+        let next = self.received.len();
+        if next >= self.room || next >= self.answers.len() {
+            return None;
+        }
+        let payload = self.answers[next].as_slice();
+        let count = payload.len().min(buffer.len());
+        buffer[..count].copy_from_slice(&payload[..count]);
+        if self.received.push(Payload::new(&buffer[..count])).is_err() {
+            return None;
+        }
+        Some(count)
+    }
+
+    /// Counts a fault.
+    fn fail(&mut self)
+        ensures { self.new ≡ failed_again self.old }
+    {
+        self.failures = self.failures.saturating_add(1);
+    }
+}
+
+impl Wire for MemoryWire {
+    ghost state = { λ w. w };
+
+    fn failures(&self) -> u64 {
+        self.failures
+    }
+
+    fn send(&mut self, payload: &[u8]) {
+        if !self.begin_call() || payload.len() > MOST_BYTES || !self.carry(payload) {
+            self.fail();
+        }
+    }
+
+    fn recv(&mut self, buffer: &mut [u8]) -> usize {
+        if self.begin_call() {
+            if let Some(count) = self.deliver(buffer) {
+                return count;
+            }
+        }
+        self.fail();
+        0
+    }
+}

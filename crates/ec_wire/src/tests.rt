@@ -1,0 +1,5 @@
+//! Cycles, start-ups and segments over wires of memory and sockets.
+mod cycles;
+mod machines;
+mod sockets;
+mod startups;

@@ -1,0 +1,164 @@
+//! A wire over the system's UDP sockets, on 127.0.0.1.
+ghost use Rattle.std.specs.Prelude.{◌≡◌, ◌≤◌, length, IfOk, IfSome};
+ghost use Rattle.ec_wire.specs.Wires.{silent};
+
+use crate::error::SocketFault;
+use crate::payload::MOST_BYTES;
+use crate::wire::Wire;
+use std::io;
+use std::io::ErrorKind;
+use std::marker::Model;
+use std::net::{Ipv4Addr, Net, SocketAddr, UdpSocket};
+use std::time::Duration;
+
+/// A receive waits so long, in milliseconds.
+const PATIENCE: u64 = 500;
+
+/// A segment waits so many times in a row for a payload: a minute.
+const MOST_WAITS: u32 = 120;
+
+/// A UDP socket on 127.0.0.1 and its peer there. It doesn't tell what it carried.
+#[derive(Drop)]
+pub struct UdpWire {
+    socket: UdpSocket,
+    port: u16,
+    peer: Option<SocketAddr>,
+    follows: bool,
+    waits: u32,
+    failures: u64,
+}
+
+impl Model for UdpWire {
+    ghost use Rattle.ec_wire.specs.Wires.{WireState, silent};
+
+    ghost Value = { WireState };
+
+    ghost view = { λ w. silent w.failures };
+}
+
+/// A port on 127.0.0.1.
+fn here(port: u16) -> SocketAddr {
+    SocketAddr::from((Ipv4Addr::LOCALHOST, port))
+}
+
+/// A socket on a port, whose receives wait half a second, and its port.
+fn open<R: Net>(rt: &R, port: u16) -> io::Result<(UdpSocket, u16)> {
+    let socket = UdpSocket::bind(rt, here(port))?;
+    socket.set_read_timeout(Some(Duration::from_millis(PATIENCE)))?;
+    let port = socket.local_addr()?.port();
+    Ok((socket, port))
+}
+
+impl UdpWire {
+    /// A wire on a port. Without a peer it sends to whoever sent the last payload that it received.
+    fn new<R: Net>(
+        rt: &R,
+        port: u16,
+        peer: Option<SocketAddr>,
+        waits: u32,
+    ) -> Result<UdpWire, SocketFault>
+        ensures { IfOk result (λ w. w ≡ silent 0) }
+    {
+        match open(rt, port) {
+            Ok((socket, port)) => Ok(UdpWire {
+                socket,
+                port,
+                peer,
+                follows: peer.is_none(),
+                waits,
+                failures: 0,
+            }),
+            Err(_) => Err(SocketFault),
+        }
+    }
+
+    /// A segment's wire on a port, where 0 lets the system pick one. It sends to whoever sent the last payload that it
+    /// received. A receive waits half a second and is tried again; the 120th in a row that got nothing is a fault.
+    ///
+    /// # Errors
+    ///
+    /// `SocketFault` where there is no such socket, as on a port in use.
+    pub fn bind<R: Net>(rt: &R, port: u16) -> Result<UdpWire, SocketFault>
+        ensures { IfOk result (λ w. w ≡ silent 0) }
+    {
+        UdpWire::new(rt, port, None, MOST_WAITS)
+    }
+
+    /// The same on a port that the system picks, but the first receive that got nothing is a fault.
+    pub(crate) fn bind_impatient<R: Net>(rt: &R) -> Result<UdpWire, SocketFault>
+        ensures { IfOk result (λ w. w ≡ silent 0) }
+    {
+        UdpWire::new(rt, 0, None, 1)
+    }
+
+    /// A master's wire to the segment on a port. A receive that got nothing in half a second is a fault.
+    ///
+    /// # Errors
+    ///
+    /// `SocketFault` where there is no socket.
+    pub fn connect<R: Net>(rt: &R, port: u16) -> Result<UdpWire, SocketFault>
+        ensures { IfOk result (λ w. w ≡ silent 0) }
+    {
+        UdpWire::new(rt, 0, Some(here(port)), 1)
+    }
+
+    /// The port of the socket.
+    pub fn port(&self) -> u16 {
+        self.port
+    }
+
+    /// Sends a payload to the peer, and answers whether all of it was sent.
+    fn has_sent(&self, payload: &[u8]) -> bool {
+        let Some(peer) = self.peer else {
+            return false;
+        };
+        if payload.len() > MOST_BYTES {
+            return false;
+        }
+        match self.socket.send_to(payload, peer) {
+            Ok(count) => count == payload.len(),
+            Err(_) => false,
+        }
+    }
+
+    /// Waits for a payload, as often as it may, and answers how many bytes of it are in the buffer, and who sent it.
+    fn await_payload(&self, buffer: &mut [u8]) -> Option<(usize, SocketAddr)>
+        ensures { IfSome result (λ came. came.0 ≤ length buffer.new) }
+    {
+        for _ in 0..self.waits {
+            match self.socket.recv_from(buffer) {
+                Ok(came) => return Some(came),
+                Err(error) if error.kind() == ErrorKind::WouldBlock => {}
+                Err(_) => return None,
+            }
+        }
+        None
+    }
+}
+
+impl Wire for UdpWire {
+    ghost state = { λ w. w };
+
+    fn failures(&self) -> u64 {
+        self.failures
+    }
+
+    fn send(&mut self, payload: &[u8]) {
+        let failures = self.failures;
+        if !self.has_sent(payload) {
+            self.failures = failures.saturating_add(1);
+        }
+    }
+
+    fn recv(&mut self, buffer: &mut [u8]) -> usize {
+        let room = buffer.len().min(MOST_BYTES);
+        let Some((count, sender)) = self.await_payload(&mut buffer[..room]) else {
+            self.failures = self.failures.saturating_add(1);
+            return 0;
+        };
+        if self.follows {
+            self.peer = Some(sender);
+        }
+        count
+    }
+}

@@ -1,0 +1,62 @@
+//! What a wire is.
+ghost use Rattle.std.specs.Prelude.{◌≡◌, ◌≤◌, [], ◌∷◌, true, false, take, length, not, is_some, IfSome, IfNone};
+ghost use Rattle.ec_wire.specs.Wires.{WireState, Carries, is_fault};
+
+/// What carries payloads to a segment and back.
+///
+/// A call was a fault exactly where the count of faults rose in it, or stood at its last value, 2^64 - 1. A wire may tell what
+/// it carried; what contracts say of payloads holds for one that does, and the rest for each.
+pub trait Wire {
+    ghost state: { Self → WireState };
+
+    /// How many calls were faults.
+    fn failures(&self) -> u64
+        ensures { result ≡ (state self.now).failed };
+
+    /// Sends a payload. One of more than 1472 bytes is a fault.
+    fn send(&mut self, payload: &[u8])
+        ensures done { is_fault (state self.old) (state self.new) ≡ false → Carries (state self.old) (state self.new) (payload.now ∷ []) [] }
+        ensures lost { is_fault (state self.old) (state self.new) ≡ true → Carries (state self.old) (state self.new) [] [] };
+
+    /// Receives a payload into `buffer`, and answers how many bytes it has there. What the buffer has no room for is dropped.
+    fn recv(&mut self, buffer: &mut [u8]) -> usize
+        ensures within { result ≤ length buffer.new }
+        ensures done { is_fault (state self.old) (state self.new) ≡ false → Carries (state self.old) (state self.new) [] (take result buffer.new ∷ []) }
+        ensures lost { is_fault (state self.old) (state self.new) ≡ true → Carries (state self.old) (state self.new) [] [] };
+}
+
+/// Whether a call was no fault, by the counts before and after it.
+fn is_fine(before: u64, after: u64) -> bool
+    ensures { (old new : WireState) → old.failed ≡ before → new.failed ≡ after → result ≡ not (is_fault old new) }
+{
+    !(before < after || before == u64::MAX)
+}
+
+/// Sends a payload, and answers whether that was no fault.
+pub(crate) fn send_on<W: Wire>(wire: &mut W, payload: &[u8]) -> bool
+    ensures fault { result ≡ not (is_fault (W.state wire.old) (W.state wire.new)) }
+    ensures same { result ≡ true → (W.state wire.new).failed ≡ (W.state wire.old).failed }
+    ensures done { result ≡ true → Carries (W.state wire.old) (W.state wire.new) (payload.now ∷ []) [] }
+    ensures lost { result ≡ false → Carries (W.state wire.old) (W.state wire.new) [] [] }
+{
+    let before = wire.failures();
+    wire.send(payload);
+    is_fine(before, wire.failures())
+}
+
+/// Receives a payload into `buffer`, and answers its length there, or nothing at a fault.
+pub(crate) fn receive_on<W: Wire>(wire: &mut W, buffer: &mut [u8]) -> Option<usize>
+    ensures fault { is_some result ≡ not (is_fault (W.state wire.old) (W.state wire.new)) }
+    ensures same { IfSome result (λ count. (W.state wire.new).failed ≡ (W.state wire.old).failed) }
+    ensures within { IfSome result (λ count. count ≤ length buffer.new) }
+    ensures done { IfSome result (λ count. Carries (W.state wire.old) (W.state wire.new) [] (take count buffer.new ∷ [])) }
+    ensures lost { IfNone result (Carries (W.state wire.old) (W.state wire.new) [] []) }
+{
+    let before = wire.failures();
+    let count = wire.recv(buffer);
+    if is_fine(before, wire.failures()) {
+        Some(count)
+    } else {
+        None
+    }
+}
