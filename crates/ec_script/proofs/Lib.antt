@@ -1,0 +1,10 @@
+pub mod Adding
+pub mod Going
+pub mod Halving
+pub mod Lines
+pub mod Making
+pub mod Numbers
+pub mod Plans
+pub mod Reading
+pub mod Turning
+pub mod Verbs

@@ -1,0 +1,29 @@
+-- One element of a list whose texts stand one after another, and the end.
+use Rattle.std.proofs.Common.{◌≡◌, ℕ, ◌+◌, ◌<◌, ◌≤◌, List, [], ◌∷◌, ◌++◌, length, get_or, drop, sym, ap, ◌∙◌, append_assoc, append-nil}
+use Rattle.std.proofs.lemmas.List.{at_drop_more, drop_more, drop_all}
+use Rattle.ec_text.specs.PlanText.{lines_from}
+
+pub lines_more : {X : Type 0} (f : ℕ → X → List ℕ) (xs : List X) (done more whole : List ℕ) (i : ℕ) (x : X) → i < length xs → x ≡ get_or xs i x → more ≡ done ++ f i x
+    → done ++ lines_from f i (drop i xs) ≡ whole → more ++ lines_from f (i + 1) (drop (i + 1) xs) ≡ whole
+lines_more f xs done more whole i x h is em e =
+    let d : drop i xs ≡ x ∷ drop (i + 1) xs = drop_more xs i x h ∙ ap (λ w. w ∷ drop (i + 1) xs) (sym is) in
+    rw (em, append_assoc) (sym (ap (λ ys. done ++ lines_from f i ys) d) ∙ e)
+
+pub lines_all : {X : Type 0} (f : ℕ → X → List ℕ) (xs : List X) (done whole : List ℕ) (i : ℕ) → length xs ≤ i → done ++ lines_from f i (drop i xs) ≡ whole → done ≡ whole
+lines_all f xs done whole i h e = let d : drop i xs ≡ [] = drop_all i xs h in sym (append-nil done) ∙ (rw d at e)
+
+pub ruleset line_steps = (lines_more, lines_all)
+
+-- ---- texts that are added one after another
+
+pub nothing_added : (text : List ℕ) → text ≡ text ++ []
+nothing_added text = sym (append-nil text)
+
+pub three_added : (old one two three a b c : List ℕ) → one ≡ old ++ a → two ≡ one ++ b → three ≡ two ++ c → three ≡ old ++ (a ++ b ++ c)
+three_added old one two three a b c first second third =
+    third ∙ ap (λ t. t ++ c) (second ∙ ap (λ t. t ++ b) first) ∙ ap (λ t. t ++ c) (append_assoc old a b) ∙ append_assoc old (a ++ b) c
+
+-- the same of the element that a loop is at
+pub lines_at : {X : Type 0} (f : ℕ → X → List ℕ) (xs : List X) (done more whole : List ℕ) (i : ℕ) (d : X) → i < length xs → more ≡ done ++ f i (get_or xs i d)
+    → done ++ lines_from f i (drop i xs) ≡ whole → more ++ lines_from f (i + 1) (drop (i + 1) xs) ≡ whole
+lines_at f xs done more whole i d h em e = rw (em, append_assoc) (sym (at_drop_more (λ ys. done ++ lines_from f i ys) xs i d h) ∙ e)

@@ -1,0 +1,66 @@
+-- No event changes the plan of a world, so no line does.
+use Rattle.std.proofs.Common.{◌≡◌, ◌∙◌, ℕ, zero, suc, ◌&&◌, List, [], ◌∷◌, ◌++◌, Bool, true, false, refl, ap}
+use Rattle.ec_world.specs.declared.event.Event.{Event}
+use Rattle.ec_world.specs.declared.event.Event.TheVariants.{StartNext, Set, Begin, Pass, Lose, Return, Close, Serve, AppPut, AppGet, Fault, Reset}
+use Rattle.ec_world.specs.World.{WorldState, IsStep, ByStart, Sends, Begins, Passes, Returns, StartReturns, GivesUp, Closes, Puts, Gets, awaits}
+use Rattle.ec_script.specs.declared.line.Act.{Act}
+use Rattle.ec_script.specs.declared.line.Act.TheVariants.{One, Ready, Cycle, Show}
+use Rattle.ec_script.specs.declared.said.Said.{Said}
+use Rattle.ec_script.specs.Rounds.{rounds_found}
+use Rattle.ec_script.specs.Work.{Does, Makes, MakesAll, Onward, RunsTurn, Starts, is_done, is_starting, last_turn}
+
+abbrev Keeps : WorldState → WorldState → Type 0
+Keeps old new = new.plan ≡ old.plan
+
+returned : (b : Bool) (old : WorldState) (j : ℕ) (new : WorldState) → ByStart b (StartReturns old j new) (Returns old j new) → Keeps old new
+returned true old j new h = ap (λ w. w.plan) h.is
+returned false old j new h = ap (λ w. w.plan) h.is
+
+closed : (b : Bool) (old new : WorldState) → ByStart b (GivesUp old new) (Closes old new) → Keeps old new
+closed true old new h = ap (λ w. w.plan) h
+closed false old new h = ap (λ w. w.plan) h.is
+
+made : (e : Event) (old new : WorldState) → IsStep old e new true → Keeps old new
+made StartNext old new h = let p : Sends old new = h.happens refl in ap (λ w. w.plan) p.is
+made (Set v x) old new h = ap (λ w. w.plan) (h.happens refl)
+made Begin old new h = let p : Begins old new = h.happens refl in ap (λ w. w.plan) p.is
+made (Pass j) old new h = let p : Passes old j new = h.happens refl in ap (λ w. w.plan) p.is
+made (Lose j) old new h = ap (λ w. w.plan) (h.happens refl)
+made (Return j) old new h = returned (awaits old.start) old j new (h.happens refl)
+made Close old new h = closed (awaits old.start) old new (h.happens refl)
+made (Serve s) old new h = ap (λ w. w.plan) (h.happens refl)
+made (AppPut s i x) old new h = let p : Puts old s i x new = h.happens refl in ap (λ w. w.plan) p.is
+made (AppGet s i) old new h = let p : Gets old s i new = h.happens refl in ap (λ w. w.plan) p.is
+made (Fault s) old new h = ap (λ w. w.plan) (h.happens refl)
+made (Reset s) old new h = ap (λ w. w.plan) (h.happens refl)
+
+step : (e : Event) (old new : WorldState) (b : Bool) → IsStep old e new b → Keeps old new
+step e old new true h = made e old new h
+step e old new false h = ap (λ w. w.plan) (h.refused refl)
+
+one : (e : Event) (old new : WorldState) (word : Said) → Makes e old new word → Keeps old new
+one e old new word h = step e old new h.made h.step
+
+onward : {X : Type 0} (b : Bool) (old mid new : WorldState) (word told : Said) → Keeps old mid → Onward b X ((new ≡ mid) × (word ≡ told)) → (X → Keeps mid new) → Keeps old new
+onward true old mid new word told first h f = f h ∙ first
+onward false old mid new word told first h f = ap (λ w. w.plan) h.0 ∙ first
+
+all : (es : List Event) (old new : WorldState) (word : Said) → MakesAll es old new word → Keeps old new
+all [] old new word h = ap (λ w. w.plan) h.0
+all (e ∷ []) old new word h = one e old new word h
+all (e ∷ f ∷ es) old new word h = onward (is_done h.told) old h.mid new word h.told (one e old h.mid h.told h.begins) h.goes_on (all (f ∷ es) h.mid new word)
+
+turn : (old new : WorldState) (word : Said) → RunsTurn old new word → Keeps old new
+turn old new word h = onward (is_done h.told) old h.mid new word h.told (one StartNext old h.mid h.told h.begins) h.goes_on (all (rounds_found true h.mid) h.mid new word)
+
+starts : (n : ℕ) (old new : WorldState) (word : Said) → Starts n old new word → Keeps old new
+unfolding Starts
+starts zero old new word h = ap (λ w. w.plan) h.0
+starts (suc n) old new word h = onward (is_starting h.mid && is_done h.told) old h.mid new word h.told (turn old h.mid h.told h.begins) h.goes_on (starts n h.mid new word)
+
+pub act_keeps : (act : Act) (old new : WorldState) (word : Said) → Does act old new word → new.plan ≡ old.plan
+act_keeps (One e) old new word h = one e old new word h
+act_keeps Ready old new word h = starts last_turn old new word h
+act_keeps Cycle old new word h =
+    onward (is_done h.told) old h.mid new word h.told (one Begin old h.mid h.told h.begins) h.goes_on (all (rounds_found false h.mid ++ (Close ∷ [])) h.mid new word)
+act_keeps Show old new word h = ap (λ w. w.plan) h.0

@@ -1,0 +1,10 @@
+use Rattle.std.proofs.Common.{◌≡◌, replicate, true}
+use Rattle.ec_world.specs.declared.event.Event.TheVariants.{Pass}
+use Rattle.ec_script.specs.Work.{MakesAll, is_done}
+use Rattle.ec_script.proofs.rounds.pass_slaves.Given as goal
+
+abbrev pub invariant-loop : goal.invariant-loop
+invariant-loop l = record {
+  made : MakesAll (replicate l.counter (Pass l.slot)) l.initial.world l.world l.said;
+  going : is_done l.said ≡ true;
+}

@@ -1,0 +1,9 @@
+use Rattle.std.proofs.Common.{◌-◌}
+use Rattle.ec_world.specs.World.{WorldState}
+use Rattle.ec_script.specs.declared.said.Said.{Said}
+use Rattle.ec_script.specs.Work.{Starts, last_turn}
+use Rattle.ec_script.proofs.rounds.start_up.Given as goal
+
+-- what the turns ahead make of it, all turns make of the first world
+abbrev pub invariant-loop : goal.invariant-loop
+invariant-loop l = (new : WorldState) (word : Said) → Starts (last_turn - l.counter) l.world new word → Starts last_turn l.initial.world new word

@@ -1,0 +1,16 @@
+-- What a script is and what it does. These are to be believed by reading, in this order:
+
+-- words, and the numbers that they write
+pub mod Words
+-- where a script begins
+pub mod Halves
+-- what the words of a line stand for
+pub mod Acts
+-- what the lines of a script stand for, and which line is the first bad one
+pub mod Scripts
+-- how frames go round, as events
+pub mod Rounds
+-- what a line does to a world, and what there is to say of it
+pub mod Work
+-- what is printed of it
+pub mod Texts

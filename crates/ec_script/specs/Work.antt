@@ -1,0 +1,106 @@
+-- What a line of a script does to a world, and what there is to say of it (this project's profile). A line ends at the first
+-- event that can't be made; what its last event says is said.
+use Rattle.std.specs.Prelude.{ℕ, zero, suc, ◌-◌, ◌^◌, ◌≡◌, ◌&&◌, List, [], ◌∷◌, ◌++◌, Bool, true, false, if◌then◌else◌, is_some, is_none}
+use Rattle.ec_start.specs.Running.{outcome_of}
+use Rattle.ec_world.specs.declared.event.Event.{Event}
+use Rattle.ec_world.specs.declared.event.Event.TheVariants.{StartNext, Set, Begin, Pass, Lose, Return, Close, Serve, AppPut, AppGet, Fault, Reset}
+use Rattle.ec_world.specs.World.{WorldState, IsStep}
+use Rattle.ec_script.specs.declared.line.Act.{Act}
+use Rattle.ec_script.specs.declared.line.Act.TheVariants.{One, Ready, Cycle, Show}
+use Rattle.ec_script.specs.declared.said.Said.{Said}
+use Rattle.ec_script.specs.declared.said.Said.TheVariants as said
+use Rattle.ec_script.specs.Rounds.{rounds_found}
+
+-- ---- one event
+
+abbrev pub has_ended : WorldState → Bool
+has_ended w = is_some (outcome_of w.start.phase)
+
+-- the start-up ended between these worlds
+abbrev pub ends : WorldState → WorldState → Bool
+ends old new = is_none (outcome_of old.start.phase) && has_ended new
+
+abbrev pub said_else : Event → Said
+said_else StartNext = said.Nothing
+said_else (Set v x) = said.Nothing
+said_else Begin = said.Nothing
+said_else (Pass k) = said.Nothing
+said_else (Lose k) = said.Nothing
+said_else (Return k) = said.Nothing
+said_else Close = said.Report
+said_else (Serve s) = said.Nothing
+said_else (AppPut s i x) = said.Nothing
+said_else (AppGet s i) = said.Byte
+said_else (Fault s) = said.Nothing
+said_else (Reset s) = said.Nothing
+
+-- what there is to say of an event, by whether it was made
+abbrev pub said_of : WorldState → Event → WorldState → Bool → Said
+said_of old e new false = said.No
+said_of old e new true = if ends old new then said.Ended else said_else e
+
+pub record Makes (e : Event) (old new : WorldState) (word : Said) : Type 0 where
+  pub made : Bool
+  pub step : IsStep old e new made
+  pub says : word ≡ said_of old e new made
+
+-- ---- events one after another
+
+abbrev pub is_done : Said → Bool
+is_done said.Nothing = true
+is_done said.No = false
+is_done said.Byte = true
+is_done said.Ended = true
+is_done said.Report = true
+is_done said.Values = true
+
+abbrev pub Onward : Bool → Type 0 → Type 0 → Type 0
+Onward true x y = x
+Onward false x y = y
+
+-- work, and further work where that was done and the test says so; what the last of them says is said
+pub record Then (test : WorldState → Bool) (first rest : WorldState → WorldState → Said → Type 0) (old new : WorldState) (word : Said) : Type 0 where
+  pub mid : WorldState
+  pub told : Said
+  pub begins : first old mid told
+  pub goes_on : Onward (test mid && is_done told) (rest mid new word) ((new ≡ mid) × (word ≡ told))
+
+abbrev pub always : WorldState → Bool
+always w = true
+
+abbrev pub MakesAll : List Event → WorldState → WorldState → Said → Type 0
+MakesAll [] old new word = (new ≡ old) × (word ≡ said.Nothing)
+MakesAll (e ∷ []) old new word = Makes e old new word
+MakesAll (e ∷ f ∷ es) old new word = Then always (Makes e) (MakesAll (f ∷ es)) old new word
+
+-- ---- a start-up
+
+-- its next frame is sent, and goes round
+abbrev pub RunsTurn : WorldState → WorldState → Said → Type 0
+RunsTurn old new word = Then always (Makes StartNext) (λ w. MakesAll (rounds_found true w) w) old new word
+
+abbrev pub is_starting : WorldState → Bool
+is_starting w = is_none (outcome_of w.start.phase)
+
+-- turn after turn until it has ended, at most so many
+unfoldable pub Starts : ℕ → WorldState → WorldState → Said → Type 0
+Starts zero old new word = (new ≡ old) × (word ≡ said.Nothing)
+Starts (suc n) old new word = Then is_starting RunsTurn (Starts n) old new word
+
+-- there are no more numbers for its frames
+abbrev pub last_turn : ℕ
+last_turn = 2 ^ 64 - 1
+
+-- ---- a cycle
+
+-- it is begun, its frames go round, and it is closed
+abbrev pub RunsCycle : WorldState → WorldState → Said → Type 0
+RunsCycle old new word = Then always (Makes Begin) (λ w. MakesAll (rounds_found false w ++ (Close ∷ [])) w) old new word
+
+-- ---- an act
+
+abbrev pub Does : Act → WorldState → WorldState → Said → Type 0
+Does (One e) old new word = Makes e old new word
+Does Ready old new word = Starts last_turn old new word
+Does Cycle old new word = RunsCycle old new word
+Does Show old new word = (new ≡ old) × (word ≡ said.Values)

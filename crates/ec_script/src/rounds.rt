@@ -1,0 +1,161 @@
+ghost use Rattle.std.specs.Prelude.{◌≡◌, [], replicate, if◌then◌else◌};
+ghost use Rattle.ec_world.specs.NewWorld.{servings};
+ghost use Rattle.ec_world.specs.World.{flight_at};
+ghost use Rattle.ec_script.specs.Work.{Makes, MakesAll, Starts, RunsTurn, RunsCycle, last_turn};
+ghost use Rattle.ec_script.specs.Rounds.{greatest, has_number, round_events, rounds_found};
+
+use crate::said::Said;
+use ec_world::{Event, World};
+
+/// Makes an event, if it can be made, and answers what there is to say of it.
+pub fn make(world: &mut World<'_>, event: Event) -> Said
+    ensures { Makes event world.old world.new result }
+{
+    let starting = world.outcome().is_none();
+    if !world.step(event) {
+        return Said::No;
+    }
+    if starting && world.outcome().is_some() {
+        return Said::Ended;
+    }
+    match event {
+        Event::AppGet(_, _) => Said::Byte,
+        Event::Close => Said::Report,
+        _ => Said::Nothing,
+    }
+}
+
+/// The greatest number of the frames on their way; 0 without one.
+fn newest(world: &World<'_>) -> u64
+    ensures { result ≡ greatest world.now.slots }
+{
+    let mut newest: u64 = 0;
+    for slot in 0..world.slots() {
+        newest = newest.max(world.slot(slot).unwrap_or(0));
+    }
+    newest
+}
+
+/// Whether a slot holds a frame of a number.
+fn holds(world: &World<'_>, slot: usize, number: u64) -> bool
+    ensures { result ≡ has_number number (flight_at world.now slot) }
+{
+    match world.slot(slot) {
+        Some(held) => held == number,
+        None => false,
+    }
+}
+
+/// The frame in a slot passes so many slaves, up to one that it can't pass.
+fn pass_slaves(world: &mut World<'_>, slot: usize, slaves: usize) -> Said
+    ensures { MakesAll (replicate slaves (Event.Pass slot)) world.old world.new result }
+{
+    let mut said = Said::Nothing;
+    for _ in 0..slaves {
+        said = make(world, Event::Pass(slot));
+        if !said.is_done() {
+            return said;
+        }
+    }
+    said
+}
+
+/// So many slaves make a firmware step, each in its turn.
+fn serve_slaves(world: &mut World<'_>, slaves: usize) -> Said
+    ensures { MakesAll (servings 0 slaves) world.old world.new result }
+{
+    let mut said = Said::Nothing;
+    for slave in 0..slaves {
+        said = make(world, Event::Serve(slave));
+        if !said.is_done() {
+            return said;
+        }
+    }
+    said
+}
+
+/// The same, if they are to.
+fn serve_if(world: &mut World<'_>, slaves: usize, serving: bool) -> Said
+    ensures { MakesAll (if serving then servings 0 slaves else []) world.old world.new result }
+{
+    if serving {
+        serve_slaves(world, slaves)
+    } else {
+        Said::Nothing
+    }
+}
+
+/// The frame in a slot passes so many slaves, which make a firmware step if `serving` says so, and comes back.
+fn go_round(world: &mut World<'_>, slot: usize, slaves: usize, serving: bool) -> Said
+    ensures { MakesAll (round_events slaves serving slot) world.old world.new result }
+{
+    let passed = pass_slaves(world, slot, slaves);
+    if !passed.is_done() {
+        return passed;
+    }
+    let served = serve_if(world, slaves, serving);
+    if !served.is_done() {
+        return served;
+    }
+    make(world, Event::Return(slot))
+}
+
+/// The newest frames go round, one after another in the order of their slots.
+fn go_rounds(world: &mut World<'_>, serving: bool) -> Said
+    ensures { MakesAll (rounds_found serving world.old) world.old world.new result }
+{
+    let slaves = world.slaves();
+    let number = newest(world);
+    let mut said = Said::Nothing;
+    for slot in 0..world.slots() {
+        if holds(world, slot, number) {
+            said = go_round(world, slot, slaves, serving);
+            if !said.is_done() {
+                return said;
+            }
+        }
+    }
+    said
+}
+
+/// One frame of a start-up is sent and goes round.
+fn take_turn(world: &mut World<'_>) -> Said
+    ensures { RunsTurn world.old world.new result }
+{
+    let sent = make(world, Event::StartNext);
+    if !sent.is_done() {
+        return sent;
+    }
+    go_rounds(world, true)
+}
+
+/// Frames of a start-up are sent and go round, until it has ended.
+pub fn start_up(world: &mut World<'_>) -> Said
+    ensures { Starts last_turn world.old world.new result }
+{
+    for _ in 0..u64::MAX {
+        let said = take_turn(world);
+        if !said.is_done() {
+            return said;
+        }
+        if world.outcome().is_some() {
+            return said;
+        }
+    }
+    Said::Nothing
+}
+
+/// A cycle begins, its frames go round, and it is closed.
+pub fn run_cycle(world: &mut World<'_>) -> Said
+    ensures { RunsCycle world.old world.new result }
+{
+    let begun = make(world, Event::Begin);
+    if !begun.is_done() {
+        return begun;
+    }
+    let back = go_rounds(world, false);
+    if !back.is_done() {
+        return back;
+    }
+    make(world, Event::Close)
+}

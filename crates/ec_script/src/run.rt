@@ -1,0 +1,49 @@
+ghost use Rattle.std.specs.Prelude.{◌≡◌, OnOk, string_bytes};
+ghost use Rattle.std.specs.Result.{IfOk};
+ghost use Rattle.ec_link.specs.Plan.{plan_of};
+ghost use Rattle.ec_script.specs.declared.said.Said.{Said};
+ghost use Rattle.ec_script.specs.Work.{Does};
+ghost use Rattle.ec_script.specs.Texts.{said_text};
+
+use crate::line::{Act, Line};
+use crate::rounds::{make, run_cycle, start_up};
+use crate::said::{Said, said_text};
+use ec_table::Table;
+use ec_world::World;
+use std::alloc::{AllocError, Global};
+
+/// Does what a line asks for, up to the first event that can't be made, and answers what there is to say of it. It takes no
+/// memory.
+#[tactic(auto, using(crate::proofs::Plans::act_keeps))]
+pub fn do_act(world: &mut World<'_>, act: Act) -> Said
+    ensures does { Does act world.old world.new result }
+    ensures plan { world.new.plan ≡ world.old.plan }
+{
+    match act {
+        Act::One(event) => make(world, event),
+        Act::Ready => start_up(world),
+        Act::Cycle => run_cycle(world),
+        Act::Show => Said::Values,
+    }
+}
+
+/// Does what a line asks for, up to the first event that can't be made, and answers what is printed of it. The world is one
+/// of the table.
+///
+/// # Errors
+///
+/// `AllocError` where there is no memory for the text; the world is then as the line leaves it.
+pub fn run_line(
+    alloc: Global,
+    world: &mut World<'_>,
+    table: &Table,
+    line: &Line,
+) -> Result<String, AllocError>
+    requires { world.old.plan ≡ plan_of table.now }
+    ensures plan { world.new.plan ≡ world.old.plan }
+    ensures does { (said : Said) × Does line.now.act world.old world.new said
+        × IfOk result (λ text. string_bytes text ≡ said_text table.now line.now.number world.new said) }
+{
+    let said = do_act(world, line.act);
+    said_text(alloc, world, table, line.number, said)
+}

@@ -1,0 +1,158 @@
+ghost use Rattle.std.specs.Prelude.{◌≡◌, ◌++◌, IfOk, OnOk, slice_get, string_bytes};
+ghost use Rattle.ec_cycle.specs.Master.{value_at};
+ghost use Rattle.ec_text.specs.PlanText.{lines_from};
+ghost use Rattle.ec_script.specs.Texts.{byte_text, last_report_text, outcome_text, said_text, value_line};
+ghost use Rattle.ec_link.specs.Plan.{plan_of};
+ghost use Rattle.ec_script.specs.Work.{is_done};
+
+use crate::report::write_report;
+use ec_start::StartError;
+use ec_table::{Direction, Table, VariableRow, Version};
+use ec_world::World;
+use std::alloc::{AllocError, Global};
+use std::fmt::Write as _;
+
+/// What there is to say when a line of a script has done its work.
+#[derive(Clone, Copy, Debug, PartialEq, Eq, Drop)]
+pub enum Said {
+    /// Nothing.
+    Nothing,
+    /// An event can't be made, and the line ended there.
+    No,
+    /// The byte that an application read.
+    Byte,
+    /// How the start-up ended.
+    Ended,
+    /// The report on the cycle that was closed.
+    Report,
+    /// The input variables.
+    Values,
+}
+
+impl Said {
+    /// Whether the line's work was done: all of its events could be made.
+    pub fn is_done(self) -> bool
+        ensures { result ≡ is_done self }
+    {
+        match self {
+            Said::No => false,
+            Said::Nothing | Said::Byte | Said::Ended | Said::Report | Said::Values => true,
+        }
+    }
+}
+
+/// Adds the line of the byte that an application read, if one did.
+fn write_byte(alloc: Global, text: &mut String, byte: Option<u8>) -> Result<(), AllocError>
+    ensures { OnOk result (string_bytes text.new ≡ string_bytes text.old ++ byte_text byte) }
+{
+    match byte {
+        None => Ok(()),
+        Some(byte) => {
+            let digits = hex::encode(alloc, &[byte])?;
+            writeln!(text, "byte {digits}")
+        }
+    }
+}
+
+/// Adds the line of how a start-up ended, if it has.
+fn write_outcome(
+    text: &mut String,
+    outcome: Option<Result<(), StartError>>,
+) -> Result<(), AllocError>
+    ensures { OnOk result (string_bytes text.new ≡ string_bytes text.old ++ outcome_text outcome) }
+{
+    match outcome {
+        None => Ok(()),
+        Some(Ok(())) => text.push_str("ready\n"),
+        Some(Err(error)) => {
+            let number = error.number();
+            writeln!(text, "failed {number}")
+        }
+    }
+}
+
+/// What a variable is now; 0 where the world has no such variable.
+fn value_of(world: &World<'_>, place: usize) -> u64
+    ensures { result ≡ value_at world.now.master (slice_get world.now.master.plan.variables place) }
+{
+    if place < world.variables() {
+        world.input(place)
+    } else {
+        0
+    }
+}
+
+/// Adds the line of a variable, if it is an input.
+fn write_value(
+    text: &mut String,
+    world: &World<'_>,
+    place: usize,
+    row: &VariableRow,
+) -> Result<(), AllocError>
+    ensures { OnOk result
+        (string_bytes text.new ≡ string_bytes text.old ++ value_line world.now place row.now) }
+{
+    match row.direction {
+        Direction::Out => Ok(()),
+        Direction::In => {
+            let (name, value) = (row.name.as_str(), value_of(world, place));
+            writeln!(text, "{name} {value}")
+        }
+    }
+}
+
+/// Adds the lines of the input variables.
+#[tactic(auto, using(crate::proofs::Lines::line_steps))]
+fn write_values(
+    text: &mut String,
+    world: &World<'_>,
+    rows: &[VariableRow],
+) -> Result<(), AllocError>
+    ensures { OnOk result (string_bytes text.new
+        ≡ string_bytes text.old ++ lines_from (value_line world.now) 0 rows.now) }
+{
+    for (place, row) in rows.iter().enumerate() {
+        write_value(text, world, place, row)?;
+    }
+    Ok(())
+}
+
+/// Adds the report on the last cycle that was closed, if one was.
+fn write_last_report(
+    alloc: Global,
+    text: &mut String,
+    version: Version,
+    world: &World<'_>,
+) -> Result<(), AllocError>
+    ensures { OnOk result (string_bytes text.new
+        ≡ string_bytes text.old ++ last_report_text version world.now) }
+{
+    match world.report() {
+        None => Ok(()),
+        Some(report) => write_report(alloc, text, version, world.plan().parts(), report),
+    }
+}
+
+/// What is printed where a line of this number has this to say of a world; the world is one of the
+/// table. The error is want of memory.
+pub fn said_text(
+    alloc: Global,
+    world: &World<'_>,
+    table: &Table,
+    number: usize,
+    said: Said,
+) -> Result<String, AllocError>
+    requires { world.now.plan ≡ plan_of table.now }
+    ensures { IfOk result (λ text. string_bytes text ≡ said_text table.now number world.now said) }
+{
+    let mut text = String::new(alloc);
+    match said {
+        Said::Nothing => {}
+        Said::No => writeln!(text, "no {number}")?,
+        Said::Byte => write_byte(alloc, &mut text, world.byte())?,
+        Said::Ended => write_outcome(&mut text, world.outcome())?,
+        Said::Report => write_last_report(alloc, &mut text, table.version(), world)?,
+        Said::Values => write_values(&mut text, world, table.variables())?,
+    }
+    Ok(text)
+}
