@@ -1,4 +1,6 @@
+mod LoopLemmas
 mod PassLemmas
 mod PlanLemmas
 mod PrintLemmas
 mod RunLemmas
+mod SimLemmas

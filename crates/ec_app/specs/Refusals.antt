@@ -10,10 +10,13 @@ use Rattle.ec_table.specs.declared.fault.Place.{Place}
 use Rattle.ec_table.specs.Faults.{section_number}
 use Rattle.ec_table.specs.Faults as table
 use Rattle.ec_link.specs.Faults as link
+use Rattle.ec_start.specs.Errors as start
+use Rattle.ec_wire.specs.Errors.{run_number, run_name}
+use Rattle.ec_script.specs.Scripts as script
 use Rattle.ec_app.specs.declared.refusal.Values.{Values}
-use Rattle.ec_app.specs.declared.refusal.Values.TheVariants.{Empty, One, Two}
+use Rattle.ec_app.specs.declared.refusal.Values.TheVariants.{Empty, One, Two, Four}
 use Rattle.ec_app.specs.declared.refusal.Refusal.{Refusal}
-use Rattle.ec_app.specs.declared.refusal.Refusal.TheVariants.{Memory, Frame, Table, Link, BadHex, Output, Input}
+use Rattle.ec_app.specs.declared.refusal.Refusal.TheVariants.{Memory, Frame, Table, Link, Start, Run, Socket, Script, BadHex, Output, Input}
 
 abbrev pub frame_name : FrameError → List ℕ
 frame_name frame.Short = codes "Short"
@@ -28,6 +31,10 @@ number_of Memory = 1
 number_of (Frame error) = refusal_number error
 number_of (Table error) = table.error_number error
 number_of (Link error) = link.error_number error
+number_of (Start error) = start.error_number error
+number_of (Run error) = run_number error
+number_of Socket = 43
+number_of (Script error) = script.error_number error
 number_of BadHex = 40
 number_of Output = 41
 number_of Input = 42
@@ -37,6 +44,10 @@ name_of Memory = codes "Memory"
 name_of (Frame error) = frame_name error
 name_of (Table error) = table.error_name error
 name_of (Link error) = link.error_name error
+name_of (Start error) = start.error_name error
+name_of (Run error) = run_name error
+name_of Socket = codes "Socket"
+name_of (Script error) = script.error_name error
 name_of BadHex = codes "BadHex"
 name_of Output = codes "Output"
 name_of Input = codes "Input"
@@ -46,13 +57,14 @@ abbrev pub listed : Values → List ℕ
 listed Empty = []
 listed (One value) = value ∷ []
 listed (Two first second) = first ∷ second ∷ []
+listed (Four first second third fourth) = first ∷ second ∷ third ∷ fourth ∷ []
 
 -- of a table's fault its section, as a number, and its place in it
 abbrev pub place_values : Option Place → List ℕ
 place_values None = []
 place_values (Some place) = section_number place.section ∷ place.element ∷ []
 
--- of a plan's fault its place, or how many slaves or parts there are
+-- of a plan's fault its place, or how many slaves or parts there are; of a script's the number of its line
 abbrev pub link_values : Option ℕ → List ℕ
 link_values None = []
 link_values (Some value) = value ∷ []
@@ -60,6 +72,8 @@ link_values (Some value) = value ∷ []
 abbrev pub values_of : Refusal → List ℕ
 values_of (Table error) = place_values (table.error_place error)
 values_of (Link error) = link_values (link.error_value error)
+values_of (Start error) = start.error_values error
+values_of (Script error) = link_values (script.error_line error)
 values_of _ = []
 
 -- values in decimal, each with a blank before it

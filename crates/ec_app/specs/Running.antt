@@ -2,16 +2,19 @@
 use Rattle.std.specs.Prelude.{◌≡◌, ◌⊎◌, ℕ, List, [], ◌∷◌, ◌++◌, Option, Result, Ok, Err, codes}
 use Rattle.std.specs.Io.KnownBytes.{Appends}
 use Rattle.std.specs.String.{string_bytes}
-use Rattle.ec_args.specs.CommandLine.{Command, PassOf, PlanOf, Reads, command_of}
+use Rattle.ec_args.specs.CommandLine.{Command, PassOf, PlanOf, SimOf, LoopOf, SegmentOf, Reads, command_of}
 use Rattle.ec_args.specs.declared.request.Notice.{Notice}
 use Rattle.ec_args.specs.declared.request.Notice.TheVariants as notice
 use Rattle.ec_args.specs.declared.request.Request.{Request}
 use Rattle.ec_app.specs.declared.refusal.Refusal.{Refusal}
-use Rattle.ec_app.specs.declared.refusal.Refusal.TheVariants.{Memory, Output}
+use Rattle.ec_app.specs.declared.refusal.Refusal.TheVariants.{Input, Memory, Output}
+use Rattle.ec_app.specs.Looping.{RunsLoop}
 use Rattle.ec_app.specs.Passing.{RunsPass}
 use Rattle.ec_app.specs.Planning.{RunsPlan}
 use Rattle.ec_app.specs.Printing.{AppendsPart}
 use Rattle.ec_app.specs.Refusals.{line_of, status_of}
+use Rattle.ec_app.specs.Serving.{IsNoted, RunsSegment}
+use Rattle.ec_app.specs.Simulating.{RunsSim}
 
 -- what a stream holds before and after, where it is known
 pub record Stream : Type 0 where
@@ -22,12 +25,23 @@ pub record Stream : Type 0 where
 abbrev pub Runs : Command → (given : Option (List ℕ)) → Stream → Result Unit Refusal → Type 0
 Runs (PassOf slaves text) given output = RunsPass slaves text output.old output.new
 Runs (PlanOf explained) given output = RunsPlan explained given output.old output.new
+Runs SimOf given output = RunsSim given output.old output.new
+Runs (LoopOf cycles) given output = RunsLoop cycles given output.old output.new
+Runs (SegmentOf frames port) given output = RunsSegment frames given output.old output.new
+
+-- what is told of a command while it runs
+abbrev pub Notes : Command → Stream → Type 0
+Notes (SegmentOf frames port) faults = IsNoted port faults.old faults.new
+Notes _ faults = faults.new ≡ faults.old
 
 -- what a command leaves alone: one that reads no input leaves it as it is, and one with no simulated application steps
 -- none
 abbrev pub LeavesAlone : {R A : Type 0} → Command → (input_old input_new : R) → (app_old app_new : A) → Type 0
 LeavesAlone (PassOf slaves text) input_old input_new app_old app_new = (input_new ≡ input_old) × (app_new ≡ app_old)
 LeavesAlone (PlanOf explained) input_old input_new app_old app_new = app_new ≡ app_old
+LeavesAlone SimOf input_old input_new app_old app_new = app_new ≡ app_old
+LeavesAlone (LoopOf cycles) input_old input_new app_old app_new = Unit {0}
+LeavesAlone (SegmentOf frames port) input_old input_new app_old app_new = Unit {0}
 
 -- the exit status of a run, and what is told of it: a refusal's line, or a first part of it where the fault stream takes
 -- no more
@@ -42,7 +56,9 @@ Shows text output (Err refusal) = (refusal ≡ Output) × AppendsPart output.old
 
 -- how a run ends that was asked for a command, or that has to tell something in place of one
 abbrev pub Ends : Result Request Notice → (given : Option (List ℕ)) → (output faults : Stream) → ℕ → Type 0
-Ends (Ok request) given output faults status = (ended : Result Unit Refusal) × Runs (command_of request) given output ended × Tells faults status ended
+Ends (Ok request) given output faults status =
+    (ended : Result Unit Refusal) × (noted : Option (List ℕ)) × Runs (command_of request) given output ended
+    × Notes (command_of request) (record { old = faults.old; new = noted }) × Tells (record { old = noted; new = faults.new }) status ended
 Ends (Err notice.Memory) given output faults status = (output.new ≡ output.old) × Tells faults status (Err Memory)
 Ends (Err (notice.Help text)) given output faults status = (ended : Result Unit Refusal) × Shows (string_bytes text) output ended × Tells faults status ended
 Ends (Err (notice.Usage text)) given output faults status = (status ≡ 2) × (output.new ≡ output.old) × AppendsPart faults.old faults.new (string_bytes text)

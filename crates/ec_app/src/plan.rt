@@ -1,30 +1,39 @@
 //! `ecat plan`: a link table on the input, and its plan.
-ghost use Rattle.std.specs.Prelude.{IfErr, IfOk};
+ghost use Rattle.std.specs.Prelude.{◌≡◌, IfErr, IfOk};
 ghost use Rattle.std.specs.String.{string_bytes};
-ghost use Rattle.ec_app.specs.Planning.{IsPlanAnswer, IsTableRefusal, RunsPlan};
+ghost use Rattle.ec_app.specs.Planning.{IsPlanAnswer, IsShown, IsTableRefusal, RunsPlan};
+ghost use Rattle.ec_link.specs.Plan.{plan_of};
 
 use crate::Refusal;
 use crate::input::read_text;
 use crate::printing::print_text;
-use ec_link::compile;
-use ec_table::read_table;
+use ec_link::{Plan, compile};
+use ec_table::{Table, read_table};
 use ec_text::{explain_text, plan_text};
-use std::alloc::Global;
+use std::alloc::{AllocError, Global};
 use std::io::{Read, Write};
 
-/// The plan of the table that the text states, in its fixed form or explained for people.
+/// The plan of the table, in its fixed form or explained for people.
 #[tactic(auto, using(crate::proofs::PlanLemmas::shown_plain, crate::proofs::PlanLemmas::shown_explained))]
+fn text_of(alloc: Global, explained: bool, table: &Table, plan: &Plan) -> Result<String, AllocError>
+    requires { plan.now ≡ plan_of table.now }
+    ensures { IfOk result (λ answer. IsShown explained table.now (string_bytes answer)) }
+{
+    if explained {
+        explain_text(alloc, table, plan)
+    } else {
+        plan_text(alloc, table.version(), plan)
+    }
+}
+
+/// The plan of the table that the text states, in its fixed form or explained for people.
 pub fn show_plan(alloc: Global, explained: bool, text: &str) -> Result<String, Refusal>
     ensures answer { IfOk result (λ answer. IsPlanAnswer explained text.now (string_bytes answer)) }
     ensures refused { IfErr result (IsTableRefusal text.now) }
 {
     let table = read_table(alloc, text)?;
     let plan = compile(alloc, &table)?;
-    if explained {
-        Ok(explain_text(alloc, &table, &plan)?)
-    } else {
-        Ok(plan_text(alloc, table.version(), &plan)?)
-    }
+    Ok(text_of(alloc, explained, &table, &plan)?)
 }
 
 /// Prints what `show_plan` answers to all that the input gives.

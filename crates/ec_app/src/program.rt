@@ -4,7 +4,8 @@ ghost use Rattle.ec_app.specs.Running.{EndsSomehow};
 
 use crate::Refusal;
 use crate::printing::{print_text, tell};
-use crate::run::{App, run_command};
+use crate::run::run_command;
+use ec_wire::Echo;
 use std::env::Env;
 use std::io::{ErrorKind, Read, Write};
 use std::net::Net;
@@ -12,21 +13,6 @@ use std::{env, io};
 
 /// What is told where an argument can't be read.
 const NOT_TEXT: &str = "error: an argument of the command line isn't text\n";
-
-/// An application that shows its outputs as its inputs, and 0 where it has more inputs.
-#[derive(Drop)]
-struct Echo;
-
-impl App for Echo {
-    fn step(&mut self, outputs: &[u8], inputs: &mut [u8]) {
-        for input in inputs.iter_mut() {
-            *input = 0;
-        }
-        for (input, output) in inputs.iter_mut().zip(outputs) {
-            *input = *output;
-        }
-    }
-}
 
 /// The arguments of the command line, the first of which is the program's name.
 fn given_args<H: Env + AllocGlobal>(rt: &H) -> io::Result<Vec<String>> {

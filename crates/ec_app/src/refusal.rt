@@ -1,10 +1,14 @@
 ghost use Rattle.std.specs.Prelude.{◌≡◌};
 ghost use Rattle.ec_app.specs.Refusals.{link_values, listed, place_values};
+ghost use Rattle.ec_start.specs.Errors.{error_values};
 
 use arrayvec::ArrayString;
 use ec_frame::FrameError;
 use ec_link::LinkError;
+use ec_script::ScriptError;
+use ec_start::StartError;
 use ec_table::{Place, TableError};
+use ec_wire::{RunError, SocketFault};
 use std::alloc::{AllocError, AllocFailed};
 use std::error::Error;
 use std::fmt;
@@ -25,6 +29,14 @@ pub enum Refusal {
     Table(TableError),
     /// A link table that has no plan, with the place of its first fault or how many there are.
     Link(LinkError),
+    /// A start-up that failed, with what was seen.
+    Start(StartError),
+    /// A cycle that took nothing.
+    Run(RunError),
+    /// A socket couldn't be had, or was faulty.
+    Socket,
+    /// A script with a line that stands for nothing, with the number of the first.
+    Script(ScriptError),
     /// A text that isn't pairs of hex digits.
     BadHex,
     /// The output took no more.
@@ -39,6 +51,7 @@ pub enum Values {
     Empty,
     One(u64),
     Two(u64, u64),
+    Four(u64, u64, u64, u64),
 }
 
 impl fmt::Display for Values {
@@ -52,6 +65,9 @@ impl fmt::Display for Values {
             Values::Empty => Ok(()),
             Values::One(value) => write!(f, " {value}"),
             Values::Two(first, second) => write!(f, " {first} {second}"),
+            Values::Four(first, second, third, fourth) => {
+                write!(f, " {first} {second} {third} {fourth}")
+            }
         }
     }
 }
@@ -66,13 +82,44 @@ fn values_of_place(place: Option<Place>) -> Values
     }
 }
 
-/// The place of a plan's fault, or how many there are.
+/// The place of a plan's fault, or how many there are; or the line of a script's.
 fn values_of_fault(value: Option<usize>) -> Values
     ensures { listed result ≡ link_values value }
 {
     match value {
         None => Values::Empty,
         Some(value) => Values::One(value as u64),
+    }
+}
+
+/// What a start-up saw as it failed: a slave or a step first.
+fn values_of_start(error: StartError) -> Values
+    ensures { listed result ≡ error_values error }
+{
+    match error {
+        StartError::BadMailbox { slave } => Values::One(slave as u64),
+        StartError::Count { seen } => Values::One(u64::from(seen)),
+        StartError::Identity { slave, seen } => Values::Four(
+            slave as u64,
+            u64::from(seen.vendor),
+            u64::from(seen.product),
+            u64::from(seen.revision),
+        ),
+        StartError::Counter { step } | StartError::TooSlow { step } => Values::One(step as u64),
+        StartError::AlError { slave, code } => Values::Two(slave as u64, u64::from(code)),
+        StartError::Abort { slave, code } => Values::Two(slave as u64, u64::from(code)),
+        StartError::Lost | StartError::NumbersSpent => Values::Empty,
+        StartError::Mapping {
+            slave,
+            index,
+            subindex,
+            seen,
+        } => Values::Four(
+            slave as u64,
+            u64::from(index),
+            u64::from(subindex),
+            u64::from(seen),
+        ),
     }
 }
 
@@ -89,6 +136,10 @@ impl Refusal {
             Refusal::Frame(error) => error.number(),
             Refusal::Table(error) => error.number(),
             Refusal::Link(error) => error.number(),
+            Refusal::Start(error) => error.number(),
+            Refusal::Run(error) => error.number(),
+            Refusal::Socket => SocketFault.number(),
+            Refusal::Script(error) => error.number(),
             Refusal::BadHex => 40,
             Refusal::Output => 41,
             Refusal::Input => 42,
@@ -109,6 +160,10 @@ impl Refusal {
             Refusal::Frame(FrameError::TooLong) => "TooLong",
             Refusal::Table(error) => error.name(),
             Refusal::Link(error) => error.name(),
+            Refusal::Start(error) => error.name(),
+            Refusal::Run(error) => error.name(),
+            Refusal::Socket => SocketFault.name(),
+            Refusal::Script(error) => error.name(),
             Refusal::BadHex => "BadHex",
             Refusal::Output => "Output",
             Refusal::Input => "Input",
@@ -122,6 +177,8 @@ impl Refusal {
         match self {
             Refusal::Table(error) => values_of_place(error.place()),
             Refusal::Link(error) => values_of_fault(error.value()),
+            Refusal::Start(error) => values_of_start(*error),
+            Refusal::Script(error) => values_of_fault(error.line()),
             _ => Values::Empty,
         }
     }
@@ -196,6 +253,50 @@ impl From<LinkError> for Refusal {
 
     fn from(error: LinkError) -> Refusal {
         Self::Link(error)
+    }
+}
+
+impl From<StartError> for Refusal {
+    ghost use Rattle.std.specs.Prelude.{◌≡◌};
+    ghost use Rattle.ec_app.specs.declared.refusal.Refusal.TheVariants.{Start};
+
+    ghost from_gives = { λ error refusal. refusal ≡ Start error };
+
+    fn from(error: StartError) -> Refusal {
+        Self::Start(error)
+    }
+}
+
+impl From<RunError> for Refusal {
+    ghost use Rattle.std.specs.Prelude.{◌≡◌};
+    ghost use Rattle.ec_app.specs.declared.refusal.Refusal.TheVariants.{Run};
+
+    ghost from_gives = { λ error refusal. refusal ≡ Run error };
+
+    fn from(error: RunError) -> Refusal {
+        Self::Run(error)
+    }
+}
+
+impl From<SocketFault> for Refusal {
+    ghost use Rattle.std.specs.Prelude.{◌≡◌};
+    ghost use Rattle.ec_app.specs.declared.refusal.Refusal.TheVariants.{Socket};
+
+    ghost from_gives = { λ _ refusal. refusal ≡ Socket };
+
+    fn from(_fault: SocketFault) -> Refusal {
+        Self::Socket
+    }
+}
+
+impl From<ScriptError> for Refusal {
+    ghost use Rattle.std.specs.Prelude.{◌≡◌};
+    ghost use Rattle.ec_app.specs.declared.refusal.Refusal.TheVariants.{Script};
+
+    ghost from_gives = { λ error refusal. refusal ≡ Script error };
+
+    fn from(error: ScriptError) -> Refusal {
+        Self::Script(error)
     }
 }
 

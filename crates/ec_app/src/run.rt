@@ -3,39 +3,45 @@ ghost use Rattle.std.specs.Prelude.{◌≡◌, ◌∷◌, [], map, Contains, Res
 ghost use Rattle.ec_args.specs.CommandLine.{Reads, command_of};
 ghost use Rattle.ec_args.specs.declared.request.Notice.{Notice as NoticeValue};
 ghost use Rattle.ec_args.specs.declared.request.Request.{Request as RequestValue};
-ghost use Rattle.ec_app.specs.Running.{Ends, EndsAlone, LeavesAlone, Runs, Tells};
+ghost use Rattle.ec_app.specs.Running.{Ends, EndsAlone, LeavesAlone, Notes, Runs, Tells};
 
 use crate::Refusal;
+use crate::looping::print_loop;
 use crate::pass::print_pass;
 use crate::plan::print_plan;
 use crate::printing::{print_text, tell};
+use crate::segment::print_segment;
+use crate::sim::print_sim;
 use ec_args::{Notice, Request, read_args};
+use ec_wire::App;
 use std::convert::AsStr;
 use std::io::{Read, Write};
 use std::net::Net;
 
-/// A slave's application: what it makes of its outputs.
-pub trait App {
-    /// Sets the inputs from the outputs.
-    fn step(&mut self, outputs: &[u8], inputs: &mut [u8]);
-}
-
 /// Runs one command. The application and sockets are for the commands that simulate slaves or serve
-/// them.
-fn run_request<H: AllocGlobal + Net, R: Read, W: Write>(
+/// them; the fault stream is for what is told of a command while it runs.
+fn run_request<H: AllocGlobal + Net, R: Read, W: Write, F: Write>(
     rt: &H,
     request: Request<'_>,
     input: &mut R,
     output: &mut W,
-    _app: &mut dyn App,
+    faults: &mut F,
+    app: &mut dyn App,
 ) -> Result<(), Refusal>
     ensures runs { Runs (command_of request.entry) (R.remaining input.old)
         (record { old = W.contents output.old; new = W.contents output.new }) result }
-    ensures alone { LeavesAlone (command_of request.entry) input.old input.new _app.old _app.new }
+    ensures notes { Notes (command_of request.entry)
+        (record { old = F.contents faults.old; new = F.contents faults.new }) }
+    ensures alone { LeavesAlone (command_of request.entry) input.old input.new app.old app.new }
 {
     match request {
         Request::Pass { slaves, frame } => print_pass(rt.alloc(), slaves.into(), frame, output),
         Request::Plan { explained } => print_plan(rt.alloc(), explained, input, output),
+        Request::Sim => print_sim(rt.alloc(), input, output),
+        Request::Loop { cycles } => print_loop(rt, cycles, input, output, app),
+        Request::Segment { frames, port } => {
+            print_segment(rt, frames, port, input, output, faults, app)
+        }
     }
 }
 
@@ -71,7 +77,10 @@ fn end_run<H: AllocGlobal + Net, R: Read, W: Write, F: Write>(
     ensures unprinted { result ≡ 2 → output.new ≡ output.old }
 {
     match read {
-        Ok(request) => exit_status(run_request(rt, request, input, output, app), faults),
+        Ok(request) => {
+            let ended = run_request(rt, request, input, output, faults, app);
+            exit_status(ended, faults)
+        }
         Err(Notice::Memory) => exit_status(Err(Refusal::Memory), faults),
         Err(Notice::Help(text)) => exit_status(print_text(text.as_bytes(), output), faults),
         Err(Notice::Usage(text)) => {

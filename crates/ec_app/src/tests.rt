@@ -1,10 +1,14 @@
 //! The program's worked rows, over memory.
 
+mod loops;
 mod plans;
 mod programs;
+mod segments;
+mod sims;
 mod tables;
 
 use crate::{App, print_text, run_command};
+use std::alloc::{AllocError, Global};
 use std::io;
 use std::io::{ErrorKind, Write};
 use std::net::Net;
@@ -83,201 +87,201 @@ impl Write for Narrow {
     }
 }
 
-/// Runs the args of a command line, and compares the exit status and what was printed.
-fn expect_run<H: AllocGlobal + Net + Abort>(
-    rt: &H,
-    args: &[&str],
+/// A run of the program: its args and its input, how it ends, what it prints and what it tells.
+#[derive(Clone, Copy, Drop)]
+struct Run<'a> {
+    args: &'a [&'a str],
+    input: &'a [u8],
     status: u8,
-    printed: &str,
-    told: &str,
-) -> Result<(), Fail> {
+    printed: &'a str,
+    told: &'a str,
+}
+
+/// Runs the program, and compares how it ends.
+fn expect_run<H: AllocGlobal + Net + Abort>(rt: &H, run: Run) {
     let mut output: Vec<u8> = Vec::new(rt.alloc());
     let mut faults: Vec<u8> = Vec::new(rt.alloc());
-    let mut input: &[u8] = b"";
-    let answer = run_command(rt, args, &mut input, &mut output, &mut faults, &mut Idle);
-    assert_eq!(rt; answer, status, "{args:?}");
-    assert_eq!(rt; output.as_slice(), printed.as_bytes(), "{args:?}");
-    assert_eq!(rt; faults.as_slice(), told.as_bytes(), "{args:?}");
-    Ok(())
+    let (args, mut input) = (run.args, run.input);
+    let status = run_command(rt, args, &mut input, &mut output, &mut faults, &mut Idle);
+    assert_eq!(rt;
+        (status, output.as_slice(), faults.as_slice()),
+        (run.status, run.printed.as_bytes(), run.told.as_bytes()),
+        "{args:?}"
+    );
 }
 
-/// `ecat pass` with these args, which is refused.
-fn expect_refusal<H: AllocGlobal + Net + Abort>(rt: &H, hex: &str, told: &str) -> Result<(), Fail> {
-    expect_run(rt, &["ecat", "pass", "--slaves", "3", hex], 3, "", told)
+/// The hex digits of a row: without its blanks, with so many bytes of zeros for a `*`, and with a
+/// blank for a `_`.
+fn digits(alloc: Global, row: &str, zeros: usize) -> Result<String, AllocError> {
+    let digits = row.replace(alloc, " ", "")?;
+    let digits = digits.replace(alloc, "_", " ")?;
+    let zeros = "00".repeat(alloc, zeros)?;
+    digits.replace(alloc, "*", zeros.as_str())
 }
 
-/// The hex digits of a row, without its blanks.
-fn digits<H: AllocGlobal>(rt: &H, row: &str) -> Result<String, Fail> {
-    let mut digits = String::new(rt.alloc());
-    for digit in row.chars() {
-        if digit != ' ' {
-            digits.push(digit)?;
-        }
-    }
-    Ok(digits)
-}
+/// What `ecat pass` is given: number of slaves, bytes of zeros, frame; and the frame as it comes back,
+/// or what is told.
+type Pass<'a> = (&'a str, usize, &'a str, Result<&'a str, &'a str>);
 
-/// What `ecat pass` is given, and what it prints: number of slaves, frame, frame as it comes back.
-const PASSES: [(&str, &str, &str); 6] = [
+const PASSES: [Pass; 8] = [
     // a broadcast read of the AL status past three slaves, and past none
     (
         "3",
+        0,
         "0e10 0701 0000 3001 0200 0000 0000 0000",
-        "0e10 0701 0300 3001 0200 0000 0100 0300",
+        Ok("0e10 0701 0300 3001 0200 0000 0100 0300"),
     ),
     (
         "0",
+        0,
         "0e10 0701 0000 3001 0200 0000 0000 0000",
-        "0e10 0701 0000 3001 0200 0000 0000 0000",
+        Ok("0e10 0701 0000 3001 0200 0000 0000 0000"),
     ),
     // the third slave gets station address 0x1001, by position
     (
         "3",
+        0,
         "0E10 0201 FEFF 1000 0200 0000 0110 0000",
-        "0e10 0201 0100 1000 0200 0000 0110 0100",
+        Ok("0e10 0201 0100 1000 0200 0000 0110 0100"),
     ),
     // the last byte of the memory, and one past it
     (
         "1",
+        0,
         "0e10 0601 0000 ff2f 0200 0000 aabb 0000",
-        "0e10 0601 0000 ff2f 0200 0000 00bb 0300",
+        Ok("0e10 0601 0000 ff2f 0200 0000 00bb 0300"),
     ),
     // the first slave reads, the others write
     (
         "3",
+        0,
         "0e10 0d01 ffff 0010 0200 0000 5aa5 0000",
-        "0e10 0d01 0200 0010 0200 0000 0000 0300",
+        Ok("0e10 0d01 0200 0010 0200 0000 0000 0300"),
     ),
     // two datagrams: a station address for the first slave, and its AL status by that address
     (
         "3",
+        0,
         "1c10 0207 0000 1000 0280 0000 0110 0000 0408 0110 3001 0200 0000 ffff 0000",
-        "1c10 0207 0300 1000 0280 0000 0110 0100 0408 0110 3001 0200 0000 0100 0100",
+        Ok("1c10 0207 0300 1000 0280 0000 0110 0100 0408 0110 3001 0200 0000 0100 0100"),
+    ),
+    // what follows the datagrams is left
+    (
+        "3",
+        30,
+        "0e10 0701 0000 3001 0200 0000 0000 0000 *",
+        Ok("0e10 0701 0300 3001 0200 0000 0100 0300 *"),
+    ),
+    // Memory suffices for the most slaves and the longest payload: a broadcast read of 1458 bytes of
+    // plain memory, all zeros, which each of 64 slaves counts.
+    (
+        "64",
+        1458,
+        "be15 0701 0000 0010 b205 0000 * 0000",
+        Ok("be15 0701 4000 0010 b205 0000 * 4000"),
     ),
 ];
 
-/// `ecat pass` of `sent` past `slaves` prints `back`, each a row of hex digits with blanks.
-fn expect_pass<H: AllocGlobal + Net + Abort>(
+const REFUSED_PASSES: [Pass; 11] = [
+    (
+        "3",
+        0,
+        "0d10 0701 0000 3001 0200 0000 0000 0000",
+        Err("4 BadLength"),
+    ),
+    (
+        "3",
+        0,
+        "0e10 0701 0000 3001 ff07 0000 0000 0000",
+        Err("4 BadLength"),
+    ),
+    (
+        "3",
+        0,
+        "0e10 0701 0000 3001 0280 0000 0000 0000",
+        Err("5 BadMore"),
+    ),
+    (
+        "3",
+        0,
+        "0e10 0f01 0000 3001 0200 0000 0000 0000",
+        Err("6 BadCommand"),
+    ),
+    (
+        "3",
+        0,
+        "0e20 0701 0000 3001 0200 0000 0000 0000",
+        Err("3 BadType"),
+    ),
+    (
+        "3",
+        0,
+        "bf15 0701 0000 3001 0200 0000 0000 0000",
+        Err("7 TooLong"),
+    ),
+    ("3", 0, "0e1", Err("40 BadHex")),
+    ("3", 0, "0e10 zz", Err("40 BadHex")),
+    ("3", 0, "0e10_0701", Err("40 BadHex")),
+    // as many bytes as a payload has, and one more
+    ("3", 1472, "*", Err("3 BadType")),
+    ("3", 1473, "*", Err("7 TooLong")),
+];
+
+/// Runs `ecat pass` with these args, and compares what is printed, or what is told.
+fn expect_line<H: AllocGlobal + Net + Abort>(
     rt: &H,
     slaves: &str,
-    sent: &str,
-    back: &str,
-) -> Result<(), Fail> {
-    let sent = digits(rt, sent)?;
-    let mut printed = digits(rt, back)?;
-    printed.push('\n')?;
-    let args = ["ecat", "pass", "--slaves", slaves, sent.as_str()];
-    expect_run(rt, &args, 0, printed.as_str(), "")
+    hex: &str,
+    is_printed: bool,
+    line: &str,
+) {
+    let (status, printed, told) = if is_printed {
+        (0, line, "")
+    } else {
+        (3, "", line)
+    };
+    let args = ["ecat", "pass", "--slaves", slaves, hex];
+    let run = Run {
+        args: &args,
+        input: b"",
+        status,
+        printed,
+        told,
+    };
+    expect_run(rt, run);
+}
+
+/// How `ecat pass` ends: with what it prints, or with what it tells.
+fn expect_pass<H: AllocGlobal + Net + Abort>(rt: &H, pass: Pass) -> Result<(), Fail> {
+    let (slaves, zeros, sent, back) = pass;
+    let sent = digits(rt.alloc(), sent, zeros)?;
+    let mut line = match back {
+        Ok(back) => digits(rt.alloc(), back, zeros)?,
+        Err(refusal) => format!(in rt.alloc(); "ecat: {refusal}")?,
+    };
+    line.push('\n')?;
+    expect_line(rt, slaves, sent.as_str(), back.is_ok(), line.as_str());
+    Ok(())
 }
 
 #[test]
 fn prints_the_frame_as_it_comes_back(rt: HostRuntime) -> Result<(), Fail> {
-    for (slaves, sent, back) in PASSES {
-        expect_pass(&rt, slaves, sent, back)?;
+    for pass in PASSES {
+        expect_pass(&rt, pass)?;
     }
     Ok(())
 }
 
 #[test]
-fn leaves_what_follows_the_datagrams(rt: HostRuntime) -> Result<(), Fail> {
-    let zeros = "00".repeat(rt.alloc(), 30)?;
-    let hex = format!(in rt.alloc(); "{FRAME}{zeros}")?;
-    let printed = format!(in rt.alloc(); "0e100701030030010200000001000300{zeros}\n")?;
-    let args = ["ecat", "pass", "--slaves", "3", hex.as_str()];
-    expect_run(&rt, &args, 0, printed.as_str(), "")
-}
-
-/// Memory suffices for the most slaves and the longest payload: a broadcast read of 1458 bytes of
-/// plain memory, all zeros, which each of 64 slaves counts.
-#[test]
-fn passes_a_full_payload_through_64_slaves(rt: HostRuntime) -> Result<(), Fail> {
-    let zeros = "00".repeat(rt.alloc(), 1458)?;
-    let sent = format!(in rt.alloc(); "be1507010000 0010b205 0000{zeros}0000")?;
-    let back = format!(in rt.alloc(); "be1507014000 0010b205 0000{zeros}4000\n")?;
-    let (sent, back) = (digits(&rt, sent.as_str())?, digits(&rt, back.as_str())?);
-    let args = ["ecat", "pass", "--slaves", "64", sent.as_str()];
-    expect_run(&rt, &args, 0, back.as_str(), "")
-}
-
-#[test]
 fn refuses_what_is_no_frame(rt: HostRuntime) -> Result<(), Fail> {
+    for pass in REFUSED_PASSES {
+        expect_pass(&rt, pass)?;
+    }
     for bytes in 0..16 {
         let cut = FRAME.get(..2 * bytes).expect(&rt, "a cut");
-        expect_refusal(&rt, cut, "ecat: 2 Short\n")?;
+        expect_pass(&rt, ("3", 0, cut, Err("2 Short")))?;
     }
-    for (row, told) in [
-        (
-            "0d10 0701 0000 3001 0200 0000 0000 0000",
-            "ecat: 4 BadLength\n",
-        ),
-        (
-            "0e10 0701 0000 3001 ff07 0000 0000 0000",
-            "ecat: 4 BadLength\n",
-        ),
-        (
-            "0e10 0701 0000 3001 0280 0000 0000 0000",
-            "ecat: 5 BadMore\n",
-        ),
-        (
-            "0e10 0f01 0000 3001 0200 0000 0000 0000",
-            "ecat: 6 BadCommand\n",
-        ),
-        (
-            "0e20 0701 0000 3001 0200 0000 0000 0000",
-            "ecat: 3 BadType\n",
-        ),
-        (
-            "bf15 0701 0000 3001 0200 0000 0000 0000",
-            "ecat: 7 TooLong\n",
-        ),
-        ("0e1", "ecat: 40 BadHex\n"),
-        ("0e10 zz", "ecat: 40 BadHex\n"),
-    ] {
-        let hex = digits(&rt, row)?;
-        expect_refusal(&rt, hex.as_str(), told)?;
-    }
-    expect_refusal(&rt, "0e10 0701", "ecat: 40 BadHex\n")
-}
-
-#[test]
-fn refuses_more_bytes_than_a_payload_has(rt: HostRuntime) -> Result<(), Fail> {
-    let most = "00".repeat(rt.alloc(), 1472)?;
-    expect_refusal(&rt, most.as_str(), "ecat: 3 BadType\n")?;
-    let more = "00".repeat(rt.alloc(), 1473)?;
-    expect_refusal(&rt, more.as_str(), "ecat: 7 TooLong\n")
-}
-
-/// Runs args that are at fault, or ask for help.
-fn expect_usage<H: AllocGlobal + Net + Abort>(rt: &H, args: &[&str], status: u8, usage: &[u8]) {
-    let mut output: Vec<u8> = Vec::new(rt.alloc());
-    let mut faults: Vec<u8> = Vec::new(rt.alloc());
-    let mut input: &[u8] = b"";
-    let answer = run_command(rt, args, &mut input, &mut output, &mut faults, &mut Idle);
-    assert_eq!(rt; answer, status, "{args:?}");
-    let (told, kept) = if status == 0 {
-        (output, faults)
-    } else {
-        (faults, output)
-    };
-    assert!(rt; told.starts_with(usage), "{args:?}");
-    assert!(rt; kept.is_empty(), "{args:?}");
-}
-
-#[test]
-fn tells_a_fault_of_the_args(rt: HostRuntime) {
-    expect_usage(
-        &rt,
-        &["ecat", "pass", "--slaves", "65", FRAME],
-        2,
-        b"error: invalid value '65'",
-    );
-    expect_usage(
-        &rt,
-        &["ecat", "frob"],
-        2,
-        b"error: unrecognized subcommand 'frob'",
-    );
-    expect_usage(&rt, &["ecat"], 2, b"error: 'ecat' requires a subcommand");
+    Ok(())
 }
 
 /// Whether one text stands in another.
@@ -285,65 +289,112 @@ fn holds(text: &[u8], part: &[u8]) -> bool {
     (0..text.len()).any(|from| text.get(from..).is_some_and(|rest| rest.starts_with(part)))
 }
 
+/// Runs args that are at fault, or ask for help: what is printed or told, and not both, begins with
+/// one text and holds another.
+fn expect_usage<H: AllocGlobal + Net + Abort>(
+    rt: &H,
+    args: &[&str],
+    status: u8,
+    begins: &str,
+    line: &str,
+) {
+    let mut output: Vec<u8> = Vec::new(rt.alloc());
+    let mut faults: Vec<u8> = Vec::new(rt.alloc());
+    let mut input: &[u8] = b"";
+    let answer = run_command(rt, args, &mut input, &mut output, &mut faults, &mut Idle);
+    let (told, kept) = if status == 0 {
+        (output.as_slice(), faults.as_slice())
+    } else {
+        (faults.as_slice(), output.as_slice())
+    };
+    let usage = told.starts_with(begins.as_bytes()) && holds(told, line.as_bytes());
+    assert_eq!(rt; (answer, usage, kept.len()), (status, true, 0), "{args:?}");
+}
+
+#[test]
+fn tells_a_fault_of_the_args(rt: HostRuntime) {
+    let too_many = ["ecat", "pass", "--slaves", "65", FRAME];
+    for (args, begins) in [
+        (too_many.as_slice(), "error: invalid value '65'"),
+        (&["ecat", "frob"], "error: unrecognized subcommand 'frob'"),
+        (&["ecat"], "error: 'ecat' requires a subcommand"),
+    ] {
+        expect_usage(&rt, args, 2, begins, "");
+    }
+}
+
 #[test]
 fn prints_the_help_that_is_asked_for(rt: HostRuntime) {
-    expect_usage(&rt, &["ecat", "--help"], 0, b"An EtherCAT master");
-    expect_usage(&rt, &["ecat", "help", "pass"], 0, b"Passes a frame");
-    expect_usage(&rt, &["ecat", "--version"], 0, b"ecat 0.1.0\n");
-    for (args, line) in [
+    for (args, begins, line) in [
         (
             ["ecat", "--help"].as_slice(),
+            "An EtherCAT master",
             "3  refused: standard error has a line",
         ),
+        (&["ecat", "help", "pass"], "Passes a frame", ""),
+        (&["ecat", "--version"], "ecat 0.1.0\n", ""),
         (
-            ["ecat", "plan", "--help"].as_slice(),
+            &["ecat", "plan", "--help"],
+            "",
             "44 SplitVariable PLACE     of an input variable",
         ),
         (
-            ["ecat", "pass", "--help"].as_slice(),
+            &["ecat", "pass", "--help"],
+            "",
             "40 BadHex      HEX isn't pairs of hex digits",
         ),
     ] {
-        let (mut output, mut faults) = (Vec::new(rt.alloc()), Vec::new(rt.alloc()));
-        let mut input: &[u8] = b"";
-        run_command(&rt, args, &mut input, &mut output, &mut faults, &mut Idle);
-        assert!(rt; holds(output.as_slice(), line.as_bytes()), "{line}");
+        expect_usage(&rt, args, 0, begins, line);
     }
+}
+
+/// Runs the program on an output that takes nothing.
+fn expect_full_output<H: AllocGlobal + Net + Abort>(rt: &H, args: &[&str], input: &[u8]) {
+    let mut input = input;
+    let mut faults: Vec<u8> = Vec::new(rt.alloc());
+    let mut output = Narrow { left: 0 };
+    let status = run_command(rt, args, &mut input, &mut output, &mut faults, &mut Idle);
+    let told = b"ecat: 41 Output\n".as_slice();
+    assert_eq!(rt; (status, faults.as_slice()), (4, told), "{args:?}");
 }
 
 #[test]
 fn tells_a_full_output(rt: HostRuntime) {
+    let pass = ["ecat", "pass", "--slaves", "3", FRAME];
+    expect_full_output(&rt, &pass, b"");
+    let table = tables::THREE_SLAVES.as_bytes();
+    expect_full_output(&rt, &["ecat", "plan"], table);
+}
+
+/// Runs the program on an output that isn't handed on.
+fn expect_stuck_output<H: AllocGlobal + Net + Abort>(rt: &H, args: &[&str]) {
     let mut input: &[u8] = b"";
-    let args = ["ecat", "pass", "--slaves", "3", FRAME];
     let mut faults: Vec<u8> = Vec::new(rt.alloc());
-    let mut output = Narrow { left: 0 };
-    let status = run_command(&rt, &args, &mut input, &mut output, &mut faults, &mut Idle);
-    assert_eq!(rt; status, 4);
-    assert_eq!(rt; faults.as_slice(), b"ecat: 41 Output\n".as_slice());
+    let mut output = Stuck { flushes: 0 };
+    let status = run_command(rt, args, &mut input, &mut output, &mut faults, &mut Idle);
+    let told = b"ecat: 41 Output\n".as_slice();
+    assert_eq!(rt;
+        (status, output.flushes, faults.as_slice()),
+        (4, 1, told),
+        "{args:?}"
+    );
+}
+
+/// Runs the program where what it tells isn't handed on.
+fn expect_stuck_faults<H: AllocGlobal + Net + Abort>(rt: &H, args: &[&str], status: u8) {
+    let mut input: &[u8] = b"";
+    let mut output: Vec<u8> = Vec::new(rt.alloc());
+    let mut faults = Stuck { flushes: 0 };
+    let answer = run_command(rt, args, &mut input, &mut output, &mut faults, &mut Idle);
+    assert_eq!(rt; (answer, faults.flushes), (status, 1), "{args:?}");
 }
 
 #[test]
 fn hands_on_what_it_prints(rt: HostRuntime) {
-    let mut input: &[u8] = b"";
-    for args in [
-        ["ecat", "pass", "--slaves=3", FRAME].as_slice(),
-        &["ecat", "--help"],
-    ] {
-        let mut faults: Vec<u8> = Vec::new(rt.alloc());
-        let mut output = Stuck { flushes: 0 };
-        let status = run_command(&rt, args, &mut input, &mut output, &mut faults, &mut Idle);
-        assert_eq!(rt; (status, output.flushes), (4, 1), "{args:?}");
-        assert_eq!(rt; faults.as_slice(), b"ecat: 41 Output\n".as_slice());
-    }
-    for (args, ends) in [
-        (["ecat", "pass", "--slaves=3", "0e1"].as_slice(), 3),
-        (&["ecat"], 2),
-    ] {
-        let mut output: Vec<u8> = Vec::new(rt.alloc());
-        let mut faults = Stuck { flushes: 0 };
-        let status = run_command(&rt, args, &mut input, &mut output, &mut faults, &mut Idle);
-        assert_eq!(rt; (status, faults.flushes), (ends, 1), "{args:?}");
-    }
+    expect_stuck_output(&rt, &["ecat", "pass", "--slaves=3", FRAME]);
+    expect_stuck_output(&rt, &["ecat", "--help"]);
+    expect_stuck_faults(&rt, &["ecat", "pass", "--slaves=3", "0e1"], 3);
+    expect_stuck_faults(&rt, &["ecat"], 2);
 }
 
 #[test]
@@ -362,6 +413,8 @@ fn writes_on_past_short_writes_and_interruptions(rt: HostRuntime) {
         interrupted: false,
     };
     let printed = print_text(b"ecat", &mut output);
-    assert!(rt; printed.is_ok());
-    assert_eq!(rt; output.bytes.as_slice(), b"ecat".as_slice());
+    assert_eq!(rt;
+        (printed.is_ok(), output.bytes.as_slice()),
+        (true, b"ecat".as_slice())
+    );
 }

@@ -1,8 +1,10 @@
 -- What a number that `get_one` read says of the text that it read, and what it says that it read none.
-use Rattle.std.proofs.Common.{◌≡◌, ◌<◌, ◌⊎◌, ℕ, List, [], ◌∷◌, Option, None, Some, inl, inr, Result, Ok, Err, IfNone, codes, unwrap_or, true, false, refl, sym, ap, subst, ◌∙◌, arith, slice_index, Bool}
+use Rattle.std.proofs.Common.{◌≡◌, ◌<◌, ◌^◌, ◌⊎◌, ℕ, List, [], ◌∷◌, Option, None, Some, inl, inr, Result, Ok, Err, IfNone, codes, unwrap_or, true, false, refl, sym, ap, subst, ◌∙◌, arith, slice_index, Bool}
 use Rattle.std.specs.Str.Parse.{ExplainsUnsignedError, HasUnsignedDigitsIfOk, IsNumeral, ParsesUnsigned, digits_value, without_leading_plus}
 use Rattle.std.specs.declared.num.ParseIntError.{ParseIntError}
 use Rattle.std.specs.Fmt.{decimal}
+use Rattle.std.specs.Str.{bytes_eq}
+use Rattle.std.proofs.lemmas.Slice.Eq.{bytes_eq-Decides}
 use Rattle.clap.specs.Lexer.{without_minus}
 use Rattle.clap.specs.Matches.{ReadsOne, first_value, one_text}
 use Rattle.clap.specs.Walk.{Row, Text, first_of, one_of, rows_of}
@@ -18,34 +20,34 @@ use Rattle.clap.specs.declared.parser.matches.Found.{Found}
 use Rattle.clap.proofs.WalkLemmas.{first_value-rows, one_text-rows}
 use Rattle.ec_args.specs.declared.request.Notice.{Notice}
 use Rattle.ec_args.specs.declared.request.Notice.TheVariants.{Memory, Help, Usage}
-use Rattle.ec_args.specs.declared.request.Request.TheVariants.{Pass, Plan}
-use Rattle.ec_args.specs.CommandLine.{ArePassArguments, IsFault, IsNotice, MeetsCommand, MeetsPass, MeetsPlan, ArePlanArguments, PassIsRead, PassOf, PlanIsRead, PlanOf, ecat, is_answer}
+use Rattle.ec_args.specs.declared.request.Request.TheVariants.{Pass, Plan, Sim, Loop, Segment}
+use Rattle.ec_args.specs.CommandLine.{ArePassArguments, FindsNumber, IsFault, IsNotice, MeetsCommand, MeetsPass, MeetsPlan, ArePlanArguments, PassIsRead, PassOf, PlanIsRead, PlanOf, SimOf, LoopOf, SegmentOf, ecat, is_answer}
 use Rattle.ec_args.proofs.PlanArguments.{explain-met, explain-no_fault, explain_row, plan-met, plan-no_fault}
 use Rattle.ec_args.proofs.PassArguments.{ecat-is_simple, ecat-simple, frame_row, no-fault, number_argument, slaves_row, subcommand-pass, value_argument}
 
--- what `parse` gives at `u8`
-abbrev pub ByteGives : List ℕ → Result ℕ ParseIntError → Type 0
-ByteGives bs r = ParsesUnsigned 8 10 bs r × ExplainsUnsignedError 10 bs r × HasUnsignedDigitsIfOk bs r
+-- what `parse` gives at an unsigned type of so many bits
+abbrev pub NumberGives : ℕ → List ℕ → Result ℕ ParseIntError → Type 0
+NumberGives bits bs r = ParsesUnsigned bits 10 bs r × ExplainsUnsignedError 10 bs r × HasUnsignedDigitsIfOk bs r
 
--- the text is the numeral of this byte
-pub record IsByte (t : List ℕ) (n : ℕ) : Type 0 where
+-- the text is the numeral of this number, which has so many bits
+pub record IsNumeralOf (bits : ℕ) (t : List ℕ) (n : ℕ) : Type 0 where
   pub numeral : IsNumeral 10 (without_leading_plus t)
   pub value : digits_value 10 (without_leading_plus t) ≡ n
-  pub byte : digits_value 10 (without_leading_plus t) < 256
+  pub small : digits_value 10 (without_leading_plus t) < 2 ^ bits
 
-pub byte_read : (o : Option (List ℕ)) (r : Option ℕ) (n : ℕ)
-    → (o ≡ None → r ≡ None) → ((t : List ℕ) → o ≡ Some t → ReadsOne ByteGives t r) → r ≡ Some n
-    → (t : List ℕ) × (o ≡ Some t) × IsByte t n
-byte_read None r n none value is = let bad : Some n ≡ None = sym is ∙ none refl in cc
-byte_read (Some t) r n none value is =
-    let given : ByteGives t (Ok n) = rw is at (value t refl) in
-    (t, refl, record { numeral = given.0.0.0; value = sym given.0.1; byte = given.0.0.1 })
+pub number_read : (bits : ℕ) (o : Option (List ℕ)) (r : Option ℕ) (n : ℕ)
+    → (o ≡ None → r ≡ None) → ((t : List ℕ) → o ≡ Some t → ReadsOne (NumberGives bits) t r) → r ≡ Some n
+    → (t : List ℕ) × (o ≡ Some t) × IsNumeralOf bits t n
+number_read bits None r n none value is = let bad : Some n ≡ None = sym is ∙ none refl in cc
+number_read bits (Some t) r n none value is =
+    let given : NumberGives bits t (Ok n) = rw is at (value t refl) in
+    (t, refl, record { numeral = given.0.0.0; value = sym given.0.1; small = given.0.0.1 })
 
-pub no_byte_read : (o : Option (List ℕ)) (r : Option ℕ) (t : List ℕ) (n : ℕ)
-    → ((t : List ℕ) → o ≡ Some t → ReadsOne ByteGives t r) → r ≡ None → o ≡ Some t → IsByte t n → ⊥
-no_byte_read o r t n value is some byte =
+pub no_number_read : (bits : ℕ) (o : Option (List ℕ)) (r : Option ℕ) (t : List ℕ) (n : ℕ)
+    → ((t : List ℕ) → o ≡ Some t → ReadsOne (NumberGives bits) t r) → r ≡ None → o ≡ Some t → IsNumeralOf bits t n → ⊥
+no_number_read bits o r t n value is some number =
     let given = rw is at (value t some) in
-    given.1.0 (byte.numeral, byte.byte)
+    given.1.0 (number.numeral, number.small)
 
 pub any_none : {X : Type 0} {P : Type 0} (o : Option X) → P → IfNone o P
 any_none None p = p
@@ -68,37 +70,89 @@ meets_rows met rows n f h is =
       λ t found. sym h.value ∙ ap (λ d. digits_value 10 (without_leading_plus d)) (same_text h.digits t (sym h.number ∙ (ap (one_of (codes "slaves")) same ∙ found))),
     )
 
--- `pass` isn't `plan`
+-- the names of the commands differ
 abbrev pub name_in : Option (Text × List Row) → Text
 name_in None = []
 name_in (Some met) = met.0
 
-pub pass_or_plan : codes "pass" ≡ codes "plan" → ⊥
-pass_or_plan h = let bad : 115 ≡ 97 = ap (λ (t : Text). slice_index t 2) h in absurd (omega (arith, bad))
+pub other_word : (a b : Text) → bytes_eq a b ≡ false → a ≡ b → ⊥
+other_word a b differ same = let bad : true ≡ false = sym ((bytes_eq-Decides a b).1 same) ∙ differ in cc
 
 abbrev pub met_as : Text → List Row → Option (Text × List Row)
 met_as name rows = Some (name, rows)
 
-pub other_name : (name : Text) (rows : List Row) → name ≡ codes "pass" → (others : List Row) → met_as name rows ≡ met_as (codes "plan") others → ⊥
-other_name name rows called others met = pass_or_plan (sym called ∙ ap name_in met)
+pub other_name : (word other : Text) → bytes_eq word other ≡ false → (name : Text) (rows : List Row) → name ≡ word → (others : List Row)
+    → met_as name rows ≡ met_as other others → ⊥
+other_name word other differ name rows called others met = other_word word other differ (sym called ∙ ap name_in met)
 
 -- where `get_one` read no number, or `get_str` no text, `clap` met no command with all that it needs
-pub meets_no_slaves : (name : Text) (found : Found) (r : Option ℕ) → name ≡ codes "pass" → ((t : List ℕ) → one_text found (codes "slaves") ≡ Some t → ReadsOne ByteGives t r)
+pub meets_no_slaves : (name : Text) (found : Found) (r : Option ℕ) → name ≡ codes "pass" → ((t : List ℕ) → one_text found (codes "slaves") ≡ Some t → ReadsOne (NumberGives 8) t r)
     → r ≡ None → MeetsCommand (Some (name, rows_of found)) → ⊥
-meets_no_slaves name found r called value is (PlanOf e, h) = other_name name (rows_of found) called h.rows h.command
+meets_no_slaves name found r called value is (PlanOf e, h) = other_name (codes "pass") (codes "plan") refl name (rows_of found) called h.rows h.command
+meets_no_slaves name found r called value is (SimOf, h) = other_name (codes "pass") (codes "sim") refl name (rows_of found) called h.rows h.command
+meets_no_slaves name found r called value is (LoopOf n, h) = other_name (codes "pass") (codes "loop") refl name (rows_of found) called h.rows h.command
+meets_no_slaves name found r called value is (SegmentOf n p, h) = other_name (codes "pass") (codes "segment") refl name (rows_of found) called h.rows h.command
 meets_no_slaves name found r called value is (PassOf n f, h) =
     let rows : rows_of found ≡ h.rows = ap rows_in h.command in
     let text : one_text found (codes "slaves") ≡ Some h.digits = one_text-rows found (codes "slaves") ∙ (ap (one_of (codes "slaves")) rows ∙ h.number) in
     let byte : digits_value 10 (without_leading_plus h.digits) < 256 = subst (λ k. k < 256) (sym h.value) h.byte in
-    no_byte_read (one_text found (codes "slaves")) r h.digits n value is text (record { numeral = h.numeral; value = h.value; byte = byte })
+    no_number_read 8 (one_text found (codes "slaves")) r h.digits n value is text (record { numeral = h.numeral; value = h.value; small = byte })
 
 pub meets_no_frame : (name : Text) (found : Found) → name ≡ codes "pass" → first_value found (codes "frame") ≡ None → MeetsCommand (Some (name, rows_of found)) → ⊥
-meets_no_frame name found called none (PlanOf e, h) = other_name name (rows_of found) called h.rows h.command
+meets_no_frame name found called none (PlanOf e, h) = other_name (codes "pass") (codes "plan") refl name (rows_of found) called h.rows h.command
+meets_no_frame name found called none (SimOf, h) = other_name (codes "pass") (codes "sim") refl name (rows_of found) called h.rows h.command
+meets_no_frame name found called none (LoopOf n, h) = other_name (codes "pass") (codes "loop") refl name (rows_of found) called h.rows h.command
+meets_no_frame name found called none (SegmentOf n p, h) = other_name (codes "pass") (codes "segment") refl name (rows_of found) called h.rows h.command
 meets_no_frame name found called none (PassOf n f, h) =
     let rows : rows_of found ≡ h.rows = ap rows_in h.command in
     let text : first_value found (codes "frame") ≡ Some f = first_value-rows found (codes "frame") ∙ (ap (first_of (codes "frame")) rows ∙ h.text) in
     let bad : Some f ≡ None = sym text ∙ none in
     cc
+
+-- a number that `get_one` read, and that it read none
+pub finds_number : (found : Found) (id : Text) (bits : ℕ) (r : Option ℕ) (n : ℕ) → (one_text found id ≡ None → r ≡ None)
+    → ((t : List ℕ) → one_text found id ≡ Some t → ReadsOne (NumberGives bits) t r) → r ≡ Some n → FindsNumber (rows_of found) id n (2 ^ bits)
+finds_number found id bits r n none value is =
+    let read = number_read bits (one_text found id) r n none value is in
+    record {
+      digits = read.0;
+      number = sym (one_text-rows found id) ∙ read.1;
+      numeral = read.2.numeral;
+      value = read.2.value;
+      small = subst (λ k. k < 2 ^ bits) read.2.value read.2.small;
+    }
+
+finds_no_number : (found : Found) (id : Text) (bits : ℕ) (r : Option ℕ) (n : ℕ) (rows : List Row)
+    → ((t : List ℕ) → one_text found id ≡ Some t → ReadsOne (NumberGives bits) t r) → r ≡ None → rows_of found ≡ rows → FindsNumber rows id n (2 ^ bits) → ⊥
+finds_no_number found id bits r n rows value is same h =
+    let text : one_text found id ≡ Some h.digits = one_text-rows found id ∙ (ap (one_of id) same ∙ h.number) in
+    let small : digits_value 10 (without_leading_plus h.digits) < 2 ^ bits = subst (λ k. k < 2 ^ bits) (sym h.value) h.small in
+    no_number_read bits (one_text found id) r h.digits n value is text (record { numeral = h.numeral; value = h.value; small = small })
+
+-- without one of its numbers a command isn't met
+pub meets_no_cycles : (name : Text) (found : Found) (r : Option ℕ) → name ≡ codes "loop" → ((t : List ℕ) → one_text found (codes "cycles") ≡ Some t → ReadsOne (NumberGives 16) t r)
+    → r ≡ None → MeetsCommand (Some (name, rows_of found)) → ⊥
+meets_no_cycles name found r called value is (PassOf n f, h) = other_name (codes "loop") (codes "pass") refl name (rows_of found) called h.rows h.command
+meets_no_cycles name found r called value is (PlanOf e, h) = other_name (codes "loop") (codes "plan") refl name (rows_of found) called h.rows h.command
+meets_no_cycles name found r called value is (SimOf, h) = other_name (codes "loop") (codes "sim") refl name (rows_of found) called h.rows h.command
+meets_no_cycles name found r called value is (SegmentOf n p, h) = other_name (codes "loop") (codes "segment") refl name (rows_of found) called h.rows h.command
+meets_no_cycles name found r called value is (LoopOf n, h) = finds_no_number found (codes "cycles") 16 r n h.rows value is (ap rows_in h.command) h.cycles
+
+pub meets_no_frames : (name : Text) (found : Found) (r : Option ℕ) → name ≡ codes "segment" → ((t : List ℕ) → one_text found (codes "frames") ≡ Some t → ReadsOne (NumberGives 32) t r)
+    → r ≡ None → MeetsCommand (Some (name, rows_of found)) → ⊥
+meets_no_frames name found r called value is (PassOf n f, h) = other_name (codes "segment") (codes "pass") refl name (rows_of found) called h.rows h.command
+meets_no_frames name found r called value is (PlanOf e, h) = other_name (codes "segment") (codes "plan") refl name (rows_of found) called h.rows h.command
+meets_no_frames name found r called value is (SimOf, h) = other_name (codes "segment") (codes "sim") refl name (rows_of found) called h.rows h.command
+meets_no_frames name found r called value is (LoopOf n, h) = other_name (codes "segment") (codes "loop") refl name (rows_of found) called h.rows h.command
+meets_no_frames name found r called value is (SegmentOf n p, h) = finds_no_number found (codes "frames") 32 r n h.rows value is (ap rows_in h.command) h.frames
+
+pub meets_no_port : (name : Text) (found : Found) (r : Option ℕ) → name ≡ codes "segment" → ((t : List ℕ) → one_text found (codes "port") ≡ Some t → ReadsOne (NumberGives 16) t r)
+    → r ≡ None → MeetsCommand (Some (name, rows_of found)) → ⊥
+meets_no_port name found r called value is (PassOf n f, h) = other_name (codes "segment") (codes "pass") refl name (rows_of found) called h.rows h.command
+meets_no_port name found r called value is (PlanOf e, h) = other_name (codes "segment") (codes "plan") refl name (rows_of found) called h.rows h.command
+meets_no_port name found r called value is (SimOf, h) = other_name (codes "segment") (codes "sim") refl name (rows_of found) called h.rows h.command
+meets_no_port name found r called value is (LoopOf n, h) = other_name (codes "segment") (codes "loop") refl name (rows_of found) called h.rows h.command
+meets_no_port name found r called value is (SegmentOf n p, h) = finds_no_number found (codes "port") 16 r p h.rows value is (ap rows_in h.command) h.port
 
 -- what `clap` makes of the arguments of `pass`
 pub no_fault-pass : (args : List Text) (slaves : ℕ) (frame : Text) → ArePassArguments args slaves frame → fault_of ecat args ≡ []
@@ -166,7 +220,13 @@ pass_is_read args slaves frame (Ok (Pass n f)) w asks =
     let same = meets-same args slaves frame w n f.now asks in
     (λ i. PassOf (same.0 i) (same.1 i))
 pass_is_read args slaves frame (Ok (Plan e)) w asks =
-    absurd (pass_or_plan (ap name_in (sym (subcommand_of-pass args slaves frame w) ∙ asks.command)))
+    absurd (other_word (codes "pass") (codes "plan") refl (ap name_in (sym (subcommand_of-pass args slaves frame w) ∙ asks.command)))
+pass_is_read args slaves frame (Ok Sim) w asks =
+    absurd (other_word (codes "pass") (codes "sim") refl (ap name_in (sym (subcommand_of-pass args slaves frame w) ∙ asks.command)))
+pass_is_read args slaves frame (Ok (Loop n)) w asks =
+    absurd (other_word (codes "pass") (codes "loop") refl (ap name_in (sym (subcommand_of-pass args slaves frame w) ∙ asks.command)))
+pass_is_read args slaves frame (Ok (Segment n p)) w asks =
+    absurd (other_word (codes "pass") (codes "segment") refl (ap name_in (sym (subcommand_of-pass args slaves frame w) ∙ asks.command)))
 pass_is_read args slaves frame (Err notice) w (kind, fault, told) =
     memory_notice kind notice (no_other_fault args kind (no_fault-pass args slaves frame w) (PassOf slaves frame, meets-pass args slaves frame w) fault) told
 
@@ -202,11 +262,17 @@ same_flag false e given absent = absent refl
 
 pub plan_is_read : PlanIsRead
 plan_is_read args explained (Ok (Pass n f)) w asks =
-    absurd (pass_or_plan (sym (ap name_in (sym (subcommand_of-plan args explained w) ∙ asks.command))))
+    absurd (other_word (codes "plan") (codes "pass") refl (ap name_in (sym (subcommand_of-plan args explained w) ∙ asks.command)))
 plan_is_read args explained (Ok (Plan e)) w asks =
     let rows : asks.rows ≡ explain_row explained ∷ [] = ap rows_in (sym asks.command ∙ subcommand_of-plan args explained w) in
     ap PlanOf (same_flag explained e
     (subst (λ (l : List Row). one_of (codes "explain") l ≡ Some (codes "true") → e ≡ true) rows asks.given)
     (subst (λ (l : List Row). one_of (codes "explain") l ≡ Some (codes "false") → e ≡ false) rows asks.absent))
+plan_is_read args explained (Ok Sim) w asks =
+    absurd (other_word (codes "plan") (codes "sim") refl (ap name_in (sym (subcommand_of-plan args explained w) ∙ asks.command)))
+plan_is_read args explained (Ok (Loop n)) w asks =
+    absurd (other_word (codes "plan") (codes "loop") refl (ap name_in (sym (subcommand_of-plan args explained w) ∙ asks.command)))
+plan_is_read args explained (Ok (Segment n p)) w asks =
+    absurd (other_word (codes "plan") (codes "segment") refl (ap name_in (sym (subcommand_of-plan args explained w) ∙ asks.command)))
 plan_is_read args explained (Err notice) w (kind, fault, told) =
     memory_notice kind notice (no_other_fault args kind (no_fault-plan args explained w) (PlanOf explained, meets-plan args explained w) fault) told

@@ -1,5 +1,5 @@
 -- The command line of `ecat` in the terms of `clap`, and what its arguments ask for (this project's profile).
-use Rattle.std.specs.Prelude.{◌≡◌, ◌≢◌, ◌⊎◌, ℕ, ◌<◌, ◌≤◌, Bool, true, false, pos, List, [], ◌∷◌, slice_index, Option, Some, Result, Ok, Err, MatchResult, codes}
+use Rattle.std.specs.Prelude.{◌≡◌, ◌≢◌, ◌⊎◌, ℕ, ◌<◌, ◌≤◌, ◌^◌, Bool, true, false, pos, List, [], ◌∷◌, slice_index, Option, Some, Result, Ok, Err, MatchResult, codes}
 use Rattle.std.specs.Fmt.{decimal}
 use Rattle.std.specs.Str.Parse.{IsNumeral, digits_value, without_leading_plus}
 use Rattle.clap.specs.Walk.{Rule, Row, Text, first_of, one_of}
@@ -13,7 +13,7 @@ use Rattle.clap.specs.declared.error.kind.ErrorKind.TheVariants.{DisplayHelp, Di
 use Rattle.ec_args.specs.declared.request.Notice.{Notice}
 use Rattle.ec_args.specs.declared.request.Notice.TheVariants.{Memory, Help, Usage}
 use Rattle.ec_args.specs.declared.request.Request.{Request}
-use Rattle.ec_args.specs.declared.request.Request.TheVariants.{Pass, Plan}
+use Rattle.ec_args.specs.declared.request.Request.TheVariants.{Pass, Plan, Sim, Loop, Segment}
 
 -- a command, and what it is given
 pub data Command : Type 0 where
@@ -21,6 +21,12 @@ pub data Command : Type 0 where
   PassOf : ℕ → Text → Command
   -- `ecat plan`: whether the plan is to be explained
   PlanOf : Bool → Command
+  -- `ecat sim`
+  SimOf : Command
+  -- `ecat loop`: the number of cycles
+  LoopOf : ℕ → Command
+  -- `ecat segment`: the number of payloads, and the port
+  SegmentOf : ℕ → ℕ → Command
 
 -- ---- the arguments that each command takes
 
@@ -48,12 +54,59 @@ explain_rule = record (new_rule (codes "explain")) { long = Some (codes "explain
 abbrev pub plan_shape : Shape
 plan_shape = (with_rule (new_app (codes "plan")) explain_rule).top
 
--- `ecat` and its commands, of which one is wanted; it also has a version
-abbrev pub ecat : App
-ecat =
+abbrev pub sim_shape : Shape
+sim_shape = (new_app (codes "sim")).top
+
+-- `--cycles N`, where N is 0 to 1000
+abbrev pub cycles_rule : Rule
+cycles_rule = record (new_rule (codes "cycles")) {
+  long = Some (codes "cycles");
+  required = true;
+  action = Some Set;
+  value_names = 1;
+  parser = Some (Signed (pos 0) (pos 1000));
+}
+
+abbrev pub loop_shape : Shape
+loop_shape = (with_rule (new_app (codes "loop")) cycles_rule).top
+
+-- `--frames N`, where N has 32 bits
+abbrev pub frames_rule : Rule
+frames_rule = record (new_rule (codes "frames")) {
+  long = Some (codes "frames");
+  required = true;
+  action = Some Set;
+  value_names = 1;
+  parser = Some (Signed (pos 0) (pos 4294967295));
+}
+
+-- `--port P`, where P is 1 to 65535; without it, EtherCAT's port
+abbrev pub port_rule : Rule
+port_rule = record (new_rule (codes "port")) {
+  long = Some (codes "port");
+  action = Some Set;
+  value_names = 1;
+  defaults = codes "34980" ∷ [];
+  parser = Some (Signed (pos 1) (pos 65535));
+}
+
+abbrev pub segment_shape : Shape
+segment_shape = (with_rule (with_rule (new_app (codes "segment")) frames_rule) port_rule).top
+
+-- `ecat` and its commands, of which one is wanted; it also has a version. First those that simulate nothing but a pass,
+abbrev pub planning : App
+planning =
     with_subcommand
     (with_subcommand (on_top (λ s. record s { has_version = true; subcommand_required = true }) (new_app (codes "ecat"))) pass_shape)
     plan_shape
+
+-- then those that run cycles,
+abbrev pub cycling : App
+cycling = with_subcommand (with_subcommand planning sim_shape) loop_shape
+
+-- and the one that answers a master elsewhere
+abbrev pub ecat : App
+ecat = with_subcommand cycling segment_shape
 
 -- ---- what is read of them
 
@@ -75,10 +128,39 @@ pub record MeetsPlan (met : Option (Text × List Row)) (explained : Bool) : Type
   pub given : one_of (codes "explain") rows ≡ Some (codes "true") → explained ≡ true
   pub absent : one_of (codes "explain") rows ≡ Some (codes "false") → explained ≡ false
 
+-- an argument has the numeral of a number below a limit
+pub record FindsNumber (rows : List Row) (id : Text) (n limit : ℕ) : Type 0 where
+  pub digits : Text
+  pub number : one_of id rows ≡ Some digits
+  pub numeral : IsNumeral 10 (without_leading_plus digits)
+  pub value : digits_value 10 (without_leading_plus digits) ≡ n
+  pub small : n < limit
+
+-- `clap` met `sim`
+pub record MeetsSim (met : Option (Text × List Row)) : Type 0 where
+  pub rows : List Row
+  pub command : met ≡ Some (codes "sim", rows)
+
+-- `clap` met `loop` and found its number
+pub record MeetsLoop (met : Option (Text × List Row)) (n : ℕ) : Type 0 where
+  pub rows : List Row
+  pub command : met ≡ Some (codes "loop", rows)
+  pub cycles : FindsNumber rows (codes "cycles") n (2 ^ 16)
+
+-- `clap` met `segment` and found its numbers
+pub record MeetsSegment (met : Option (Text × List Row)) (n p : ℕ) : Type 0 where
+  pub rows : List Row
+  pub command : met ≡ Some (codes "segment", rows)
+  pub frames : FindsNumber rows (codes "frames") n (2 ^ 32)
+  pub port : FindsNumber rows (codes "port") p (2 ^ 16)
+
 -- `clap` met this command, and found what it is given
 abbrev pub MeetsAs : Option (Text × List Row) → Command → Type 0
 MeetsAs met (PassOf slaves frame) = MeetsPass met slaves frame
 MeetsAs met (PlanOf explained) = MeetsPlan met explained
+MeetsAs met SimOf = MeetsSim met
+MeetsAs met (LoopOf cycles) = MeetsLoop met cycles
+MeetsAs met (SegmentOf frames port) = MeetsSegment met frames port
 
 -- `clap` met a command and found all that it needs
 abbrev pub MeetsCommand : Option (Text × List Row) → Type 0
@@ -88,6 +170,9 @@ MeetsCommand met = (command : Command) × MeetsAs met command
 abbrev pub command_of : Request → Command
 command_of (Pass slaves frame) = PassOf slaves frame.now
 command_of (Plan explained) = PlanOf explained
+command_of Sim = SimOf
+command_of (Loop cycles) = LoopOf cycles
+command_of (Segment frames port) = SegmentOf frames port
 
 abbrev pub Asks : Option (Text × List Row) → Request → Type 0
 Asks met request = MeetsAs met (command_of request)

@@ -4,7 +4,7 @@ ghost use Rattle.std.specs.Prelude.{◌≡◌, false, IfOk};
 ghost use Rattle.clap.specs.Walk.{rule_of};
 ghost use Rattle.clap.specs.Simple.{app_of, shape_of};
 ghost use Rattle.clap.specs.declared.builder.command.Command.TheViews.{out-Command as fields_of};
-ghost use Rattle.ec_args.specs.CommandLine.{ecat, explain_rule, frame_rule, pass_shape, plan_shape, slaves_rule};
+ghost use Rattle.ec_args.specs.CommandLine.{cycles_rule, cycling, ecat, explain_rule, frame_rule, frames_rule, loop_shape, pass_shape, plan_shape, planning, port_rule, segment_shape, sim_shape, slaves_rule};
 
 use clap::{Arg, ArgAction, Command};
 use std::alloc::{AllocError, Global};
@@ -73,6 +73,56 @@ Refusals of a table; PLACE counts from 0 in file order:
   42 Input                   standard input couldn't be read, is no text in UTF-8, or has over
                              1048576 bytes; exit status 4";
 
+/// What stands below the description of `ecat sim`.
+const SIM_LINES: &str = "\
+Standard input is a link table, a line `%%`, and a script with one event a line. Numbers are
+decimal, words stand one blank apart, empty lines are skipped.
+
+Lines of a script:
+  start           the next frame of the start-up is sent
+  set NAME VALUE  an output variable becomes a value
+  begin           a cycle begins: the frame of each part is sent
+  pass K          the frame in slot K passes its next slave
+  lose K          the frame in slot K is lost
+  return K        the frame in slot K, past all slaves, comes back to the master
+  close           the cycle is closed, or a start-up that waits for its frame is given up
+  serve S         the firmware of slave S steps
+  put S I BYTE    the application of slave S writes byte I of its inputs
+  get S I         it reads byte I of its outputs
+  fault S         the application of slave S has a fault
+  reset S         slave S is switched off and on
+  ready           the start-up runs until it has ended
+  cycle           a cycle is run: begin, each frame past all slaves and back, close
+  show            the input variables are printed
+
+Refusals are those of `ecat plan` and
+  39 BadScript LINE  a line is none of these; LINE counts from 1 behind the line `%%`";
+
+/// What stands below the arguments of `ecat loop`.
+const LOOP_LINES: &str = "\
+Before cycle K, from 1 on, each output variable becomes K, as far as it has bits. The slaves'
+applications show their outputs as their inputs.
+
+Lines, in this order:
+  ready              the start-up has ended well
+  report ...         for each cycle: whether inputs were taken, how many frames are missing, the
+                     working counters of each part, and the slaves' AL states
+  NAME VALUE         for each input variable: its value at the end
+
+Refusals are those of `ecat plan`, of the start-up, and
+  32 Lost            a socket was faulty in the start-up
+  37 Wire            a socket was faulty in a cycle; exit status 4
+  43 Socket          there is no such socket; exit status 4";
+
+/// What stands below the arguments of `ecat segment`.
+const SEGMENT_LINES: &str = "\
+The slaves' applications show their outputs as their inputs. Standard error has a line with the
+port once the segment listens there. At the end a line `served N refused M` says how many
+payloads were frames, which were answered, and how many were not.
+
+Refusals are those of `ecat plan` and
+  43 Socket          the port is in use, or no payload came for a minute; exit status 4";
+
 /// `--slaves N`, the number of slaves of the ring.
 fn slaves_argument<'a>(alloc: Global) -> Arg<'a>
     ensures rule { rule_of result ≡ slaves_rule }
@@ -133,9 +183,88 @@ fn plan_command<'a>(alloc: Global) -> Result<Command<'a>, AllocError>
         .arg(explain_argument(alloc))
 }
 
-/// All commands of `ecat`.
-pub fn command<'a>(alloc: Global) -> Result<Command<'a>, AllocError>
-    ensures { IfOk result (λ command. app_of command ≡ ecat) }
+/// `ecat sim`.
+fn sim_command<'a>(alloc: Global) -> Result<Command<'a>, AllocError>
+    ensures shape { IfOk result (λ command. shape_of command ≡ sim_shape) }
+    ensures local { IfOk result (λ command. (fields_of command).has_globals ≡ false) }
+{
+    Ok(
+        Command::new(alloc, "sim")
+            .about(
+                "Reads a link table and a script from standard input and prints what comes of it",
+            )
+            .after_help(SIM_LINES),
+    )
+}
+
+/// `--cycles N`, the number of cycles.
+fn cycles_argument<'a>(alloc: Global) -> Arg<'a>
+    ensures rule { rule_of result ≡ cycles_rule }
+    ensures local { result.global ≡ false }
+{
+    Arg::new(alloc, "cycles")
+        .long("cycles")
+        .required(true)
+        .action(ArgAction::Set)
+        .value_name("N")
+        .value_parser(clap::value_parser!(u16).range(0..=1000))
+        .help("How many cycles are run, 0 to 1000")
+}
+
+/// `ecat loop --cycles N`.
+fn loop_command<'a>(alloc: Global) -> Result<Command<'a>, AllocError>
+    ensures shape { IfOk result (λ command. shape_of command ≡ loop_shape) }
+    ensures local { IfOk result (λ command. (fields_of command).has_globals ≡ false) }
+{
+    Command::new(alloc, "loop")
+        .about("Runs cycles of a link table over two sockets of this process and prints reports")
+        .after_help(LOOP_LINES)
+        .arg(cycles_argument(alloc))
+}
+
+/// `--frames N`, the number of payloads.
+fn frames_argument<'a>(alloc: Global) -> Arg<'a>
+    ensures rule { rule_of result ≡ frames_rule }
+    ensures local { result.global ≡ false }
+{
+    Arg::new(alloc, "frames")
+        .long("frames")
+        .required(true)
+        .action(ArgAction::Set)
+        .value_name("N")
+        .value_parser(clap::value_parser!(u32))
+        .help("How many payloads are received, 0 to 4294967295")
+}
+
+/// `--port P`, the port on 127.0.0.1.
+fn port_argument<'a>(alloc: Global) -> Arg<'a>
+    ensures rule { rule_of result ≡ port_rule }
+    ensures local { result.global ≡ false }
+{
+    Arg::new(alloc, "port")
+        .long("port")
+        .action(ArgAction::Set)
+        .value_name("P")
+        .value_parser(clap::value_parser!(u16).range(1..=65535))
+        .default_value("34980")
+        .help("The UDP port on 127.0.0.1, 1 to 65535")
+}
+
+/// `ecat segment --frames N [--port P]`.
+fn segment_command<'a>(alloc: Global) -> Result<Command<'a>, AllocError>
+    ensures shape { IfOk result (λ command. shape_of command ≡ segment_shape) }
+    ensures local { IfOk result (λ command. (fields_of command).has_globals ≡ false) }
+{
+    Command::new(alloc, "segment")
+        .about("Answers frames on a UDP port of 127.0.0.1 as the slaves of a link table")
+        .after_help(SEGMENT_LINES)
+        .arg(frames_argument(alloc))?
+        .arg(port_argument(alloc))
+}
+
+/// `ecat` with the commands that simulate nothing but a pass.
+fn planning_commands<'a>(alloc: Global) -> Result<Command<'a>, AllocError>
+    ensures { IfOk result (λ command. app_of command ≡ planning) }
 {
     Command::new(alloc, "ecat")
         .about("An EtherCAT master and a segment of simulated slaves")
@@ -144,4 +273,20 @@ pub fn command<'a>(alloc: Global) -> Result<Command<'a>, AllocError>
         .subcommand_required(true)
         .subcommand(pass_command(alloc)?)?
         .subcommand(plan_command(alloc)?)
+}
+
+/// The same and the commands that run cycles.
+fn cycling_commands<'a>(alloc: Global) -> Result<Command<'a>, AllocError>
+    ensures { IfOk result (λ command. app_of command ≡ cycling) }
+{
+    planning_commands(alloc)?
+        .subcommand(sim_command(alloc)?)?
+        .subcommand(loop_command(alloc)?)
+}
+
+/// All commands of `ecat`.
+pub fn command<'a>(alloc: Global) -> Result<Command<'a>, AllocError>
+    ensures { IfOk result (λ command. app_of command ≡ ecat) }
+{
+    cycling_commands(alloc)?.subcommand(segment_command(alloc)?)
 }

@@ -18,6 +18,12 @@ pub enum Request<'a> {
     Pass { slaves: u8, frame: &'a str },
     /// Show the plan of the link table on the input, explained for people if it says so.
     Plan { explained: bool },
+    /// Run the script behind the link table on the input.
+    Sim,
+    /// Run this many cycles of the link table on the input over sockets of this process.
+    Loop { cycles: u16 },
+    /// Answer this many payloads on this port as the slaves of the link table on the input.
+    Segment { frames: u32, port: u16 },
 }
 
 /// What stands in place of a request.
@@ -44,6 +50,14 @@ fn read_command<'a>(name: &str, given: &ArgMatches<'a>) -> Option<Request<'a>>
         }),
         "plan" => Some(Request::Plan {
             explained: given.get_flag("explain"),
+        }),
+        "sim" => Some(Request::Sim),
+        "loop" => Some(Request::Loop {
+            cycles: given.get_one::<u16>("cycles")?,
+        }),
+        "segment" => Some(Request::Segment {
+            frames: given.get_one::<u32>("frames")?,
+            port: given.get_one::<u16>("port")?,
         }),
         _ => None,
     }

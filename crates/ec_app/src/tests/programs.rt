@@ -6,7 +6,6 @@ use std::env::{Env, FillError};
 use std::io;
 use std::net::{Net, SocketAddr};
 use std::process::Abort;
-use std::test::Fail;
 
 /// A system with arguments of a test.
 #[derive(Drop)]
@@ -63,13 +62,14 @@ fn expect_program<H: AllocGlobal + Net + Abort>(
     let mut faults: Vec<u8> = Vec::new(rt.alloc());
     let mut input: &[u8] = b"";
     let answer = run_program(&system, &mut input, &mut output, &mut faults);
-    assert_eq!(rt; answer, status, "{told}");
-    assert_eq!(rt; output.as_slice(), printed.as_bytes(), "{told}");
-    assert_eq!(rt; faults.as_slice(), told.as_bytes());
+    assert_eq!(rt;
+        (answer, output.as_slice(), faults.as_slice()),
+        (status, printed.as_bytes(), told.as_bytes())
+    );
 }
 
 #[test]
-fn runs_on_the_arguments_of_a_system(rt: HostRuntime) -> Result<(), Fail> {
+fn runs_on_the_arguments_of_a_system(rt: HostRuntime) {
     let pass = [
         b"ecat".as_slice(),
         b"pass",
@@ -77,11 +77,18 @@ fn runs_on_the_arguments_of_a_system(rt: HostRuntime) -> Result<(), Fail> {
         b"3",
         FRAME.as_bytes(),
     ];
-    expect_program(&rt, &pass, 0, "0e100701030030010200000001000300\n", "");
     let bad_hex = [b"ecat".as_slice(), b"pass", b"--slaves=3", b"0e1"];
-    expect_program(&rt, &bad_hex, 3, "", "ecat: 40 BadHex\n");
     let not_text = [b"ecat".as_slice(), b"pass", b"--slaves=3", b"\xff"];
-    let told = "error: an argument of the command line isn't text\n";
-    expect_program(&rt, &not_text, 2, "", told);
-    Ok(())
+    for (args, status, printed, told) in [
+        (pass.as_slice(), 0, "0e100701030030010200000001000300\n", ""),
+        (&bad_hex, 3, "", "ecat: 40 BadHex\n"),
+        (
+            &not_text,
+            2,
+            "",
+            "error: an argument of the command line isn't text\n",
+        ),
+    ] {
+        expect_program(&rt, args, status, printed, told);
+    }
 }

@@ -339,6 +339,34 @@ slave 1  press  type analog2  part 1  unit 1
     0x6020:17   0..15   0x00010003.0 to 0x00010004.7  force 0..15
 ";
 
+/// A slave without process data, which takes no part in LRW.
+pub const BARE: &str = r#"[[type]]
+name = "bare"
+vendor = 1
+product = 1
+revision = 1
+out_start = 0
+in_start = 0
+lrw = false
+[[slave]]
+name = "s0"
+type = "bare"
+"#;
+
+/// With no process data a split counter is 0.
+pub const BARE_PLAN: &str = "\
+slave 0 part 0 out 0 in 0
+part 0 address 65536 bytes 0 counter 0
+";
+
+pub const BARE_EXPLAINED: &str = "
+part 0: address 0x00010000, length 0, unit 0
+  no datagram of process data
+
+slave 0  s0  type bare  part 0  unit 0
+  no process data
+";
+
 /// Changes to the table of three slaves, and what is told of each: `ANSWER: OLD => NEW`, with NEW in
 /// the place of the first OLD. `|` is the end of a line.
 pub const REFUSED_CHANGES: &str = r#"11 Toml: [[type]] => [[type]

@@ -1,0 +1,241 @@
+//! `ecat loop`: cycles of a link table over two sockets of this process.
+ghost use Rattle.std.specs.Prelude.{◌≡◌, ◌++◌, ℕ, List, None, IfErr, IfOk, OnErr, OnOk, length};
+ghost use Rattle.std.specs.Io.KnownBytes.{Appends};
+ghost use Rattle.std.specs.String.{string_bytes};
+ghost use Rattle.ec_link.specs.Faults.{compile_fault};
+ghost use Rattle.ec_link.specs.Plan.{plan_of};
+ghost use Rattle.ec_cycle.specs.Closing.{ReportState};
+ghost use Rattle.ec_script.specs.Texts.{report_text};
+ghost use Rattle.ec_text.specs.PlanText.{lines_from};
+ghost use Rattle.ec_app.specs.Looping.{CanCycle, CutShort, IsCycleRefusal, IsRunEnd, IsSoFar, IsStartRefusal, Loops, LoopsText, RunsLoop, cycles_text, input_line, inputs_text, shown};
+
+use crate::Refusal;
+use crate::input::read_text;
+use crate::machine::slaves_of;
+use crate::printing::print_text;
+use ec_cycle::{Master, Report};
+use ec_link::{Plan, compile};
+use ec_script::write_report;
+use ec_start::Startup;
+use ec_table::{Direction, Table, VariableRow, read_table};
+use ec_wire::{App, LoopWire, RunError, Sockets, Wire, bring_up_wire, run_cycle};
+use std::alloc::{AllocError, Global};
+use std::fmt::Write as _;
+use std::io::{Read, Write};
+use std::net::Net;
+
+/// What is printed when the slaves are up.
+const READY: &str = "ready\n";
+
+/// A number as far as so many bits hold it.
+fn cut_to(number: u64, bits: u8) -> u64 {
+    if bits < 64 {
+        number % (1 << bits)
+    } else {
+        number
+    }
+}
+
+/// Sets each output variable to a number, as far as it has bits.
+fn set_outputs(master: &mut Master<'_>, plan: &Plan, number: u64)
+    ensures { CanCycle master.old → CanCycle master.new }
+{
+    for variable in 0..plan.variables().len() {
+        let value = cut_to(number, plan.variables()[variable].bits);
+        if master.can_set(variable, value) {
+            master.set(variable, value);
+        }
+    }
+}
+
+/// A master whose slaves were brought up over a wire.
+fn started<'p, W: Wire>(
+    alloc: Global,
+    table: &Table,
+    plan: &'p Plan,
+    wire: &mut W,
+) -> Result<Master<'p>, Refusal>
+    requires accepted { compile_fault table.now ≡ None }
+    requires plan { plan.now ≡ plan_of table.now }
+    ensures ready { IfOk result CanCycle }
+    ensures refused { IfErr result IsStartRefusal }
+{
+    let _version = table.version();
+    let mut master = Master::new(alloc, plan)?;
+    let mut startup = Startup::new(alloc, plan, 0)?;
+    bring_up_wire(&mut startup, wire);
+    startup.outcome().unwrap()?;
+    master.ready(&startup);
+    Ok(master)
+}
+
+/// One cycle that sends a number.
+fn run_number<W: Wire>(
+    plan: &Plan,
+    master: &mut Master<'_>,
+    wire: &mut W,
+    number: u64,
+) -> Result<Report, RunError>
+    requires { CanCycle master.old }
+    ensures ready { OnOk result (CanCycle master.new) }
+    ensures ended { IfErr result IsRunEnd }
+{
+    set_outputs(master, plan, number);
+    run_cycle(master, wire)
+}
+
+/// The line of the report on one cycle that sends a number.
+fn cycle_line<W: Wire>(
+    alloc: Global,
+    table: &Table,
+    plan: &Plan,
+    master: &mut Master<'_>,
+    wire: &mut W,
+    number: u64,
+) -> Result<String, Refusal>
+    requires { CanCycle master.old }
+    ensures line { IfOk result (λ text. (r : ReportState)
+        × (string_bytes text ≡ report_text table.now.version plan.now.parts r)) }
+    ensures ready { OnOk result (CanCycle master.new) }
+    ensures refused { IfErr result IsCycleRefusal }
+{
+    let report = run_number(plan, master, wire, number)?;
+    let mut text = String::new(alloc);
+    write_report(alloc, &mut text, table.version(), plan.parts(), &report)?;
+    Ok(text)
+}
+
+/// Prints that the slaves are up, and runs so many cycles, each of whose reports is printed before the next begins.
+fn print_cycles<W: Wire, O: Write>(
+    alloc: Global,
+    table: &Table,
+    plan: &Plan,
+    master: &mut Master<'_>,
+    wire: &mut W,
+    cycles: u16,
+    output: &mut O,
+) -> Result<(), Refusal>
+    requires plan { plan.now ≡ plan_of table.now }
+    requires ready { CanCycle master.old }
+    ensures all { OnOk result ((reports : List ReportState) × (length reports ≡ cycles)
+        × Appends (O.contents output.old) (O.contents output.new) (cycles_text table.now reports)) }
+    ensures part { IfErr result (λ refusal. (text : List ℕ) × IsSoFar cycles table.now text
+        × CutShort refusal (O.contents output.old) (O.contents output.new) text) }
+{
+    print_text(READY.as_bytes(), output)?;
+    for cycle in 0..cycles {
+        let line = cycle_line(alloc, table, plan, master, wire, u64::from(cycle) + 1)?;
+        print_text(line.as_bytes(), output)?;
+    }
+    Ok(())
+}
+
+/// What a variable is now; 0 where the master has no such variable.
+fn value_of(master: &Master<'_>, place: usize) -> u64
+    ensures { result ≡ shown master.now place }
+{
+    if place < master.variables() {
+        master.get(place)
+    } else {
+        0
+    }
+}
+
+/// Adds the line of a variable, if it is an input.
+fn write_input(
+    text: &mut String,
+    master: &Master<'_>,
+    place: usize,
+    row: &VariableRow,
+) -> Result<(), AllocError>
+    ensures { OnOk result (string_bytes text.new
+        ≡ string_bytes text.old ++ input_line (shown master.now) place row.now) }
+{
+    match row.direction {
+        Direction::Out => Ok(()),
+        Direction::In => {
+            let (name, value) = (row.name.as_str(), value_of(master, place));
+            writeln!(text, "{name} {value}")
+        }
+    }
+}
+
+/// Adds the lines of the input variables.
+#[tactic(auto, using(crate::proofs::LoopLemmas::line_steps))]
+fn write_inputs(
+    text: &mut String,
+    master: &Master<'_>,
+    rows: &[VariableRow],
+) -> Result<(), AllocError>
+    ensures { OnOk result (string_bytes text.new
+        ≡ string_bytes text.old ++ lines_from (input_line (shown master.now)) 0 rows.now) }
+{
+    for (place, row) in rows.iter().enumerate() {
+        write_input(text, master, place, row)?;
+    }
+    Ok(())
+}
+
+/// The lines of the input variables.
+fn input_lines(alloc: Global, table: &Table, master: &Master<'_>) -> Result<String, AllocError>
+    ensures { IfOk result (λ text. string_bytes text ≡ inputs_text (shown master.now) table.now) }
+{
+    let mut text = String::new(alloc);
+    write_inputs(&mut text, master, table.variables())?;
+    Ok(text)
+}
+
+/// Runs cycles over a wire and prints what comes of them.
+pub(crate) fn run_loop<W: Wire, O: Write>(
+    alloc: Global,
+    table: &Table,
+    plan: &Plan,
+    wire: &mut W,
+    cycles: u16,
+    output: &mut O,
+) -> Result<(), Refusal>
+    requires accepted { compile_fault table.now ≡ None }
+    requires plan { plan.now ≡ plan_of table.now }
+    ensures { Loops cycles table.now (O.contents output.old) (O.contents output.new) result }
+{
+    let mut master = started(alloc, table, plan, wire)?;
+    print_cycles(alloc, table, plan, &mut master, wire, cycles, output)?;
+    let lines = input_lines(alloc, table, &master)?;
+    print_text(lines.as_bytes(), output)
+}
+
+/// Runs cycles of the table that a text states, over two sockets.
+fn loop_text<H: AllocGlobal + Net, W: Write>(
+    rt: &H,
+    cycles: u16,
+    text: &str,
+    output: &mut W,
+    app: &mut dyn App,
+) -> Result<(), Refusal>
+    ensures { LoopsText cycles text.now (W.contents output.old) (W.contents output.new) result }
+{
+    let alloc = rt.alloc();
+    let table = read_table(alloc, text)?;
+    let plan = compile(alloc, &table)?;
+    let slaves = slaves_of(alloc, &plan)?;
+    let sockets = Sockets::bind(rt)?;
+    let mut wire = LoopWire::new(sockets, slaves, app);
+    run_loop(alloc, &table, &plan, &mut wire, cycles, output)
+}
+
+/// Runs so many cycles of the table that the input states, master and slaves on two sockets of this process, the slaves'
+/// applications being `app`. In the n-th cycle each output variable is sent as n, as far as it has bits. It prints a line
+/// when the slaves are up, the report on each cycle before the next begins, and at the end the input variables.
+pub fn print_loop<H: AllocGlobal + Net, R: Read, W: Write>(
+    rt: &H,
+    cycles: u16,
+    input: &mut R,
+    output: &mut W,
+    app: &mut dyn App,
+) -> Result<(), Refusal>
+    ensures { RunsLoop cycles (R.remaining input.old) (W.contents output.old) (W.contents output.new)
+        result }
+{
+    let text = read_text(rt.alloc(), input)?;
+    loop_text(rt, cycles, text.as_str(), output, app)
+}

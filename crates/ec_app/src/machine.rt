@@ -1,0 +1,36 @@
+//! The machine that a link table on the input states.
+ghost use Rattle.std.specs.Prelude.{IfErr, IfOk, length};
+ghost use Rattle.ec_app.specs.Planning.{IsTableRefusal};
+
+use crate::Refusal;
+use ec_link::{Plan, compile};
+use ec_regs::Identity;
+use ec_ring::Ring;
+use ec_slave::Slave;
+use ec_table::{Table, read_table};
+use std::alloc::{AllocError, Global};
+
+/// The slaves of a plan as they are switched on, each of its type's device.
+pub(crate) fn slaves_of(alloc: Global, plan: &Plan) -> Result<Ring, AllocError> {
+    let mut slaves = Vec::new(alloc);
+    for settings in plan.slaves() {
+        let device = settings.kind.device();
+        let identity = Identity {
+            vendor: device.vendor,
+            product: device.product,
+            revision: device.revision,
+            serial: 0,
+        };
+        slaves.push(Slave::new(alloc, settings.kind.copied(alloc)?, identity)?)?;
+    }
+    Ok(Ring::new(slaves))
+}
+
+/// The slaves of the table that the text states, as they are switched on.
+pub(crate) fn slaves_of_table(alloc: Global, text: &str) -> Result<Ring, Refusal>
+    ensures { IfErr result (IsTableRefusal text.now) }
+{
+    let table = read_table(alloc, text)?;
+    let plan = compile(alloc, &table)?;
+    Ok(slaves_of(alloc, &plan)?)
+}
