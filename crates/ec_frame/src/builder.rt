@@ -60,6 +60,18 @@ fn append(frame: &mut Frame, bytes: &[u8])
     let _ = frame.try_extend_from_slice(bytes);
 }
 
+/// Says in the header how long the datagrams are, and that none follows the last.
+fn close(frame: &mut Frame, last: usize)
+    requires built { IsBuilt frame.old.items last (built_datagrams frame.old.items) }
+    requires some { 0 < length (built_datagrams frame.old.items) }
+    ensures { IsFrame frame.new.items (bare_payload (built_datagrams frame.old.items)) }
+{
+    let len = frame.len() - FRAME_HEADER_LEN;
+    let bytes = frame.as_mut_slice();
+    bytes[last + FLAGS_HIGH] -= (MORE >> 8) as u8;
+    LittleEndian::write_u16(bytes, len as u16 + DATAGRAMS);
+}
+
 /// Makes a frame, datagram by datagram. In contracts a builder is the list of its datagrams.
 #[derive(Drop)]
 pub struct Builder {
@@ -123,11 +135,19 @@ impl Builder {
         ensures { IsFrame result.items (bare_payload self) }
     {
         let Builder { mut frame, last } = self;
-        let len = frame.len() - FRAME_HEADER_LEN;
-        let bytes = frame.as_mut_slice();
-        // the last datagram doesn't say that another follows
-        bytes[last + FLAGS_HIGH] -= (MORE >> 8) as u8;
-        LittleEndian::write_u16(bytes, len as u16 + DATAGRAMS);
+        close(&mut frame, last);
         frame
+    }
+
+    /// Writes the frame of the datagrams added in place of what was in `frame`, with all reserved
+    /// bits 0. It moves as many bytes as that frame has, where `finish` moves the room for the
+    /// longest.
+    pub fn write(&self, frame: &mut Frame)
+        requires { 0 < length self.now }
+        ensures { IsFrame frame.new.items (bare_payload self.now) }
+    {
+        frame.clear();
+        append(frame, self.frame.as_slice());
+        close(frame, self.last);
     }
 }

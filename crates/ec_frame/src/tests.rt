@@ -107,8 +107,13 @@ fn refusals_are_told(rt: HostRuntime) -> Result<(), Fail> {
 fn builder_makes_the_frame(rt: HostRuntime) -> Result<(), Fail> {
     let mut builder = Builder::new();
     builder.add(Command::Brd, 1, 0x0130_0000, &[0, 0])?;
+    // what was in a frame before is gone
+    let mut written = Frame::new();
+    written.push(0xFF);
+    builder.write(&mut written);
     let frame = builder.finish();
     let expected = bytes_of(&rt, STATUS)?;
+    assert_eq!(rt; written.as_slice(), expected.as_slice());
     assert_eq!(rt; frame.as_slice(), expected.as_slice());
     Ok(())
 }
