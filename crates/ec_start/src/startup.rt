@@ -114,10 +114,10 @@ fn name_of(number: u64) -> [u8; 10]
     [a, b, c, d, e, f, g, h, 0, 0]
 }
 
-/// The frame of an action with a number: the datagram that names it, and the action's.
-fn frame_of(action: &Action, number: u64) -> Frame
+/// Writes the frame of an action with a number: the datagram that names it, and the action's.
+fn write_frame(action: &Action, number: u64, frame: &mut Frame)
     requires { IsDoable action.now }
-    ensures { IsFrame result.items (bare_payload (frame_of action.now number)) }
+    ensures { IsFrame frame.new.items (bare_payload (frame_of action.now number)) }
 {
     let index = (number % 256) as u8;
     let mut builder = Builder::new();
@@ -126,7 +126,7 @@ fn frame_of(action: &Action, number: u64) -> Frame
     let data = &mut buffer[..action.data_length()];
     action.write_data(data);
     let _ = builder.add(action.command(), index, action.address(), data);
-    builder.finish()
+    builder.write(frame);
 }
 
 impl Startup {
@@ -213,7 +213,7 @@ impl Startup {
             self.phase = Phase::Failed(StartError::NumbersSpent);
             return NextFrame::Ended;
         }
-        *frame = frame_of(&self.step.action, self.next);
+        write_frame(&self.step.action, self.next, frame);
         self.phase = Phase::Sent(self.next);
         self.next += 1;
         NextFrame::Send
