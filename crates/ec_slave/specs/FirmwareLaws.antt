@@ -86,8 +86,7 @@ pub record FitTogether (ps : List Pdo) : Type 0 where
   pub apart : AllPairs (λ p q. p.index ≢ q.index) ps
   pub bits : pdos_bits ps ≤ most_bits
 
--- Where the power comes on all PDOs are assigned; so the assignments are of that kind where a type's PDOs fit together, and
--- only there.
+-- Where the power comes on all PDOs are assigned; so the assignments are of that kind where a type's PDOs fit together.
 abbrev pub PowerOnAssigns : Type 0
 PowerOnAssigns = (kind : SlaveKind) (identity : Identity) → FitTogether kind.outputs → FitTogether kind.inputs → IsAssigned (power_on kind identity)
 
