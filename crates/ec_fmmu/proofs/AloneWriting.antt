@@ -241,3 +241,24 @@ alone_wholly fs k from bits q logical physical n h w alone u a b c d =
     let from_it : source (writers fs) q ≡ Some l = alone_source fs k q h w alone there ∙ one in
     ap (λ (o : Option ℕ). is_some (inside_place (record { from = from; bits = bits }) o)) from_it
     ∙ ap is_some (if_true (within from bits l) (Some (l - from)) None (within_true from bits l c d))
+
+-- a run that begins inside another one is a part of it
+pub written_part : (allowed : ℕ → Bool) (physical : ℕ) (bytes : List ℕ) (at to n done m : ℕ) → done + m ≤ n → (k : ℕ)
+    → run_written allowed (physical + done) bytes (at + done) (to + done) m k ≡ (if within (to + done) m k then run_written allowed physical bytes at to n k else None)
+written_part allowed physical bytes at to n done m fits k =
+    let told = λ (q : ℕ) (b : ℕ). if allowed (q / 8) then Some (bit bytes b) else None in
+    elim (cases_Bool (within (to + done) m k)) [
+      | inl t ↦
+          let w = within_parts (to + done) m k t in
+          let lo = w.0 in
+          let hi = w.1 in
+          let here : physical + done + (k - (to + done)) ≡ physical + (k - to) = omega arith in
+          let there : at + done + (k - (to + done)) ≡ at + (k - to) = omega arith in
+          let inside : within to n k ≡ true = within_true to n k (omega arith) (omega arith) in
+          if_true (within (to + done) m k) (told (physical + done + (k - (to + done))) (at + done + (k - (to + done)))) None t
+          ∙ (ap (λ (q : ℕ). told q (at + done + (k - (to + done)))) here ∙ (ap (λ (b : ℕ). told (physical + (k - to)) b) there
+          ∙ (sym (if_true (within to n k) (told (physical + (k - to)) (at + (k - to))) None inside)
+          ∙ sym (if_true (within (to + done) m k) (run_written allowed physical bytes at to n k) None t))))
+      | inr f ↦ if_false (within (to + done) m k) (told (physical + done + (k - (to + done))) (at + done + (k - (to + done)))) None f
+          ∙ sym (if_false (within (to + done) m k) (run_written allowed physical bytes at to n k) None f)
+    ]

@@ -110,15 +110,6 @@ impl Fmmu {
         end.saturating_sub(self.first_logical())
     }
 
-    /// Whether none of the `bits` logical bits from `from` on lies in its range.
-    pub(crate) fn is_outside(&self, from: u64, bits: u64) -> bool
-        requires { from + bits < 2 ^ 64 }
-        ensures { OnTrue result ((l : ℕ) → reaches self.now l ≡ true → within_of from bits l ≡ true → ⊥) }
-    {
-        let first = self.first_logical();
-        first + self.bit_count() <= from || from + bits <= first
-    }
-
     /// Whether no logical bit lies in the ranges of both.
     pub(crate) fn is_apart_from(&self, other: &Fmmu) -> bool
         ensures { OnTrue result ((l : ℕ) → reaches self.now l ≡ true → reaches other.now l ≡ true → ⊥) }

@@ -1,11 +1,12 @@
 -- Runs of bytes that one sync manager governs, or none.
-use Rattle.std.proofs.Common.{ℕ, suc, ◌+◌, ◌-◌, ◌*◌, ◌/◌, ◌<◌, ◌≤◌, ◌≡◌, ◌⊎◌, ◌&&◌, Bool, true, false, Option, Some, None, is_some, unwrap_or, List, [], ◌∷◌, length, get_or, refl, sym, ◌∙◌, ap, inl, inr, arith}
+use Rattle.std.proofs.Common.{ℕ, suc, ◌+◌, ◌-◌, ◌*◌, ◌/◌, ◌<◌, ◌≤◌, ◌≡◌, ◌⊎◌, ◌&&◌, if◌then◌else◌, Bool, true, false, Option, Some, None, is_some, unwrap_or, List, [], ◌∷◌, length, get_or, refl, sym, ◌∙◌, ap, inl, inr, arith}
 use Rattle.std.specs.List.{position_from}
-use Rattle.std.proofs.lemmas.Bool.{cases_Bool, and_from, and_right, ltb-true, lt-ltb}
+use Rattle.std.proofs.lemmas.Bool.{cases_Bool, and_from, and_left, and_right, ltb-true, lt-ltb, le-ltb}
 use Rattle.ec_bits.specs.Bits.{bit, within, overlay, any_below, copied, run_told}
 use Rattle.ec_bits.proofs.AnyLaws.{any_below_from, any_below_none, if_true, if_false, within_true, within_below, within_above, within_parts}
 use Rattle.ec_bits.proofs.BitLaws.{overlay_alike, overlay_own}
 use Rattle.ec_regs.specs.Managers.{is_set, span}
+use Rattle.ec_sync.specs.Bounds.{span_end_of}
 use Rattle.ec_sync.specs.Manager.{Manager, shown}
 use Rattle.ec_sync.specs.Governing.{governor, governs, in_first_buffer}
 use Rattle.ec_fmmu.specs.Alone.{run_shown}
@@ -36,6 +37,35 @@ position_alike i a b (m ∷ ms) h =
     elim (cases_Bool (governs m b)) [
       | inl t ↦ if_true (governs m a) (Some i) (position_from (λ m. governs m a) (i + 1) ms) (e ∙ t) ∙ sym (if_true (governs m b) (Some i) (position_from (λ m. governs m b) (i + 1) ms) t)
       | inr f ↦ if_false (governs m a) (Some i) (position_from (λ m. governs m a) (i + 1) ms) (e ∙ f) ∙ (rest ∙ sym (if_false (governs m b) (Some i) (position_from (λ m. governs m b) (i + 1) ms) f))
+    ]
+
+-- bytes on one side of each border of what a manager governs
+pub governs_cut : (m : Manager) (start stop a : ℕ) → (stop ≤ m.settings.start) ⊎ (m.settings.start ≤ start)
+    → (stop ≤ span_end_of m.settings) ⊎ (span_end_of m.settings ≤ start) → start ≤ a → a < stop → governs m a ≡ governs m start
+governs_cut m start stop a low high lo hi =
+    let first = m.settings.start in
+    let n = span m.settings in
+    elim (cases_Bool (is_set m.settings)) [
+      | inl t ↦
+          let e : span_end_of m.settings ≡ first + n = if_true (is_set m.settings) (first + n) 0 t in
+          governs_alike m start (stop - start) a (elim high [
+            | inl y ↦ elim low [
+              | inl x ↦ inr (inl (omega arith))
+              | inr x ↦ inr (inr (x, omega (arith, e)))
+            ]
+            | inr y ↦ inl (omega (arith, e))
+          ]) lo (omega arith)
+      | inr f ↦ ap (λ (b : Bool). b && within first n a) f ∙ sym (ap (λ (b : Bool). b && within first n start) f)
+    ]
+
+-- bytes on one side of the end of its value
+pub front_cut : (m : Manager) (start stop a : ℕ) → (stop ≤ m.settings.start + m.settings.length) ⊎ (m.settings.start + m.settings.length ≤ start)
+    → start ≤ a → a < stop → in_first_buffer m a ≡ in_first_buffer m start
+front_cut m start stop a side lo hi =
+    let end = m.settings.start + m.settings.length in
+    elim side [
+      | inl x ↦ lt-ltb a end (omega arith) ∙ sym (lt-ltb start end (omega arith))
+      | inr x ↦ le-ltb a end (omega arith) ∙ sym (le-ltb start end x)
     ]
 
 -- where each manager has both bytes or none, the same one governs both
@@ -93,3 +123,28 @@ readable_value memory ms readable n q last r g front below =
     let here : in_first_buffer m (q / 8) ≡ true = lt-ltb (q / 8) end (omega arith) in
     ap (seen_under memory ms readable q) g
     ∙ if_true (in_first_buffer m (q / 8) && get_or readable n false) (Some (bit (shown m) (q - 8 * m.settings.start))) None (and_from (in_first_buffer m (q / 8)) (get_or readable n false) here r)
+
+-- behind the end of the value nothing is shown
+pub behind_value : (memory : List ℕ) (ms : List Manager) (readable : List Bool) (n q : ℕ) → in_first_buffer (manager_at ms n) (q / 8) ≡ false → governor ms (q / 8) ≡ Some n
+    → seen_bit memory ms readable q ≡ None
+behind_value memory ms readable n q behind g =
+    ap (seen_under memory ms readable q) g
+    ∙ if_false (in_first_buffer (manager_at ms n) (q / 8) && get_or readable n false) _ None (and_left (in_first_buffer (manager_at ms n) (q / 8)) (get_or readable n false) behind)
+
+-- a run that begins inside another one is a part of it
+pub run_part : (shown : ℕ → Option Bool) (physical to n done m : ℕ) → done + m ≤ n → (i : ℕ)
+    → run_shown shown (physical + done) (to + done) m i ≡ (if within (to + done) m i then run_shown shown physical to n i else None)
+run_part shown physical to n done m fits i =
+    elim (cases_Bool (within (to + done) m i)) [
+      | inl t ↦
+          let w = within_parts (to + done) m i t in
+          let lo = w.0 in
+          let hi = w.1 in
+          let at : physical + done + (i - (to + done)) ≡ physical + (i - to) = omega arith in
+          let inside : within to n i ≡ true = within_true to n i (omega arith) (omega arith) in
+          if_true (within (to + done) m i) (shown (physical + done + (i - (to + done)))) None t
+          ∙ (ap shown at ∙ (sym (if_true (within to n i) (shown (physical + (i - to))) None inside)
+          ∙ sym (if_true (within (to + done) m i) (run_shown shown physical to n i) None t)))
+      | inr f ↦ if_false (within (to + done) m i) (shown (physical + done + (i - (to + done)))) None f
+          ∙ sym (if_false (within (to + done) m i) (run_shown shown physical to n i) None f)
+    ]

@@ -8,9 +8,9 @@ ghost use Rattle.ec_slave.specs.Managers.{is_ungoverned, is_written_by, manager_
 ghost use Rattle.ec_slave.specs.Logical.{managers_exchanged, plain_bit, value_brought};
 ghost use Rattle.ec_slave.specs.Written.{some_manager_written};
 
-use crate::logical::runs::governor_of_run;
+use crate::logical::runs::end_of_alike;
 use crate::logical::writing::Ungoverned;
-use crate::reach::{read_manager, write_manager};
+use crate::reach::{governor, read_manager, write_manager};
 use ec_fmmu::{Fmmu, apply_write, is_touched_by_reading, is_touched_by_writing, is_wholly_brought};
 use ec_sync::{Manager, Touching, Writing};
 
@@ -78,19 +78,22 @@ impl Bits<'_> {
     /// Whether each bit of the `len` bytes from `start` on is brought a data bit, and no lower manager governs one of
     /// them, so that none of what they held stays. False says nothing.
     fn is_whole(&self, start: usize, len: usize) -> bool
-        requires { start + len ≤ ram_end }
+        requires some { 0 < len }
+        requires inside { start + len ≤ ram_end }
         ensures { OnTrue result ((k : ℕ) → k < 8 * len → is_some (plain_bit self.now.lower.now self.now.fmmus.now
             (record { from = self.now.from; bits = 8 * length self.now.bytes.now }) self.now.bytes.now (8 * start + k)) ≡ true) }
     {
         let bits = 8 * self.bytes.len() as u64;
         let (first, count) = (8 * start as u32, 8 * len as u32);
-        matches!(governor_of_run(self.lower, start, len), Some(None))
+        end_of_alike(self.lower, start, start + len) == start + len
+            && governor(self.lower, start).is_none()
             && is_wholly_brought(self.fmmus, self.from, bits, first, count)
     }
 
     /// Fills a value that begins at `start`: 0 in each bit that isn't brought. Zeros are written first only where
     /// something of what it held might stay.
     fn bring(&self, start: usize, value: &mut [u8])
+        requires some { 0 < length value.old }
         requires inside { start + length value.old ≤ ram_end }
         requires small { (k : ℕ) → slice_index value.old k < 256 }
         ensures { value.new ≡ value_brought self.now.lower.now self.now.fmmus.now

@@ -4,13 +4,14 @@ ghost use Rattle.std.specs.Prelude.{◌≡◌, ◌<◌, ◌≤◌, ◌+◌, ◌-
 ghost use Rattle.ec_bits.specs.Bits.{any_below, overlay};
 ghost use Rattle.ec_regs.specs.Memory.{ram_end};
 ghost use Rattle.ec_sync.specs.Manager.{may_read};
-ghost use Rattle.ec_sync.specs.Governing.{covers, governor as governor_of};
+ghost use Rattle.ec_sync.specs.Governing.{covers, governor as governor_of, in_first_buffer};
 ghost use Rattle.ec_fmmu.specs.Alone.{run_shown};
 ghost use Rattle.ec_fmmu.specs.Applied.{Place, touched_by_reading};
 ghost use Rattle.ec_slave.specs.Logical.{read_bit, some_read};
+ghost use Rattle.ec_slave.specs.State.{manager_at};
 ghost use Rattle.ec_slave.specs.Sights.{seen_behind as behind_it, seen_bit as bit_seen};
 
-use crate::logical::runs::governor_of_run;
+use crate::logical::runs::count_alike;
 use crate::reach::governor;
 use ec_bits::{copy_by_words, get};
 use ec_fmmu::{Fmmu, ReadableBits, ReadableRuns, apply_read, is_touched_by_reading, show_by_bits};
@@ -87,7 +88,7 @@ fn show_plain(sight: &Sight<'_>, physical: u32, count: usize, bytes: &mut [u8], 
     requires some { 0 < count }
     requires room { length sight.now.memory.now ≡ 0x3000 }
     requires plain { (a : ℕ) → physical / 8 ≤ a
-        → a < physical / 8 + ((physical + count - 1) / 8 - physical / 8 + 1)
+        → a ≤ (physical + count - 1) / 8
         → governor_of sight.now.managers.now a ≡ None }
     requires to_ram { physical + count ≤ 8 * ram_end }
     requires inside { to + count ≤ 8 * length bytes.old }
@@ -101,8 +102,8 @@ fn show_plain(sight: &Sight<'_>, physical: u32, count: usize, bytes: &mut [u8], 
     true
 }
 
-/// Brings a run of bits that one manager governs to the data: as a slice where all of them lie in
-/// its value, and else bit by bit.
+/// Brings a run of bits that one manager governs to the data, all of them before the end of its
+/// value or none: those of its value, where it may be read.
 fn show_value(
     sight: &Sight<'_>,
     place: usize,
@@ -115,8 +116,10 @@ fn show_value(
     requires room { length sight.now.memory.now ≡ 0x3000 }
     requires four { length sight.now.managers.now ≡ length sight.now.readable.now }
     requires governed { (a : ℕ) → physical / 8 ≤ a
-        → a < physical / 8 + ((physical + count - 1) / 8 - physical / 8 + 1)
+        → a ≤ (physical + count - 1) / 8
         → governor_of sight.now.managers.now a ≡ Some place }
+    requires front { (a : ℕ) → physical / 8 ≤ a → a ≤ (physical + count - 1) / 8
+        → in_first_buffer (manager_at sight.now.managers.now place) a ≡ in_first_buffer (manager_at sight.now.managers.now place) (physical / 8) }
     requires to_ram { physical + count ≤ 8 * ram_end }
     requires inside { to + count ≤ 8 * length bytes.old }
     requires fits { to + count < 2 ^ 64 }
@@ -131,26 +134,52 @@ fn show_value(
     let manager = &sight.managers[place];
     let start = manager.settings().start as usize;
     let last = (physical as usize + count - 1) / 8;
+    if !manager.in_first_buffer(last) {
+        return false;
+    }
     let value = manager.shown();
-    if !manager.in_first_buffer(last) || last - start >= value.len() {
+    if last - start >= value.len() {
         return show_by_bits(sight, physical, count, bytes, to);
     }
     copy_by_words(bytes, to, value, physical as usize - 8 * start, count);
     true
 }
 
+/// Brings a run of bits to the data that lie in bytes which are alike: one manager governs all of
+/// them, or none, and all lie before the end of its value, or none.
+fn show_alike(sight: &Sight<'_>, physical: u32, count: usize, bytes: &mut [u8], to: usize) -> bool
+    requires some { 0 < count }
+    requires room { length sight.now.memory.now ≡ 0x3000 }
+    requires four { length sight.now.managers.now ≡ length sight.now.readable.now }
+    requires alike { (a : ℕ) → physical / 8 ≤ a → a ≤ (physical + count - 1) / 8
+        → governor_of sight.now.managers.now a ≡ governor_of sight.now.managers.now (physical / 8) }
+    requires front { (n a : ℕ) → n < length sight.now.managers.now → physical / 8 ≤ a → a ≤ (physical + count - 1) / 8
+        → in_first_buffer (manager_at sight.now.managers.now n) a ≡ in_first_buffer (manager_at sight.now.managers.now n) (physical / 8) }
+    requires to_ram { physical + count ≤ 8 * ram_end }
+    requires inside { to + count ≤ 8 * length bytes.old }
+    requires fits { to + count < 2 ^ 64 }
+    ensures any { let shown = bit_seen sight.now.memory.now sight.now.managers.now sight.now.readable.now in
+        result ≡ any_below (8 * length bytes.old) (λ i. is_some (run_shown shown physical to count i)) }
+    ensures bits { let shown = bit_seen sight.now.memory.now sight.now.managers.now sight.now.readable.now in
+        bytes.new ≡ overlay bytes.old (run_shown shown physical to count) }
+{
+    match governor(sight.managers, physical as usize / 8) {
+        None => show_plain(sight, physical, count, bytes, to),
+        Some(place) => show_value(sight, place, physical, count, bytes, to),
+    }
+}
+
 impl ReadableRuns for Sight<'_> {
     fn show_run(&self, physical: u32, count: usize, bytes: &mut [u8], to: usize) -> bool {
-        if count == 0 {
-            return false;
+        let mut any = false;
+        let mut done = 0;
+        while done < count {
+            let next = physical + done as u32;
+            let alike = count_alike(self.managers, next, count - done);
+            any |= show_alike(self, next, alike, bytes, to + done);
+            done += alike;
         }
-        let start = physical as usize / 8;
-        let len = (physical as usize + count - 1) / 8 - start + 1;
-        match governor_of_run(self.managers, start, len) {
-            Some(None) => show_plain(self, physical, count, bytes, to),
-            Some(Some(place)) => show_value(self, place, physical, count, bytes, to),
-            None => show_by_bits(self, physical, count, bytes, to),
-        }
+        any
     }
 }
 

@@ -1,39 +1,66 @@
 //! Runs of bytes that one sync manager governs, or none.
 
-ghost use Rattle.std.specs.Prelude.{◌≡◌, ◌<◌, ◌≤◌, ◌+◌, ◌^◌, ℕ, IfSome};
-ghost use Rattle.std.specs.Bool.{OnTrue};
-ghost use Rattle.ec_sync.specs.Governing.{governs, governor as governor_of};
+ghost use Rattle.std.specs.Prelude.{◌≡◌, ◌<◌, ◌≤◌, ◌+◌, ◌-◌, ◌/◌, ◌^◌, ℕ, length};
+ghost use Rattle.std.proofs.Common.{◌⊎◌};
+ghost use Rattle.ec_sync.specs.Governing.{governs, governor as governor_of, in_first_buffer};
+ghost use Rattle.ec_slave.specs.State.{manager_at};
 
-use crate::reach::governor;
 use ec_sync::Manager;
 
-/// Whether the span of a manager has all of the `len` bytes from `start` on, or none of them.
-#[tactic(auto, using(crate::proofs::Runs::governs_alike))]
-fn is_alike(manager: &Manager, start: usize, len: usize) -> bool
-    requires { start + len < 2 ^ 63 }
-    ensures { OnTrue result ((a : ℕ) → start ≤ a → a < start + len
-        → governs manager.now a ≡ governs manager.now start) }
+/// The end of the bytes from `start` on, and below `end`, that lie on one side of a border.
+fn cut(start: usize, end: usize, border: usize) -> usize
+    requires { start < end }
+    ensures inside { (start < result) × (result ≤ end) }
+    ensures aside { (result ≤ border) ⊎ (border ≤ start) }
 {
-    let first = manager.settings().start as usize;
-    let end = first + manager.settings().span();
-    end <= start || start + len <= first || (first <= start && start + len <= end)
+    if border <= start {
+        end
+    } else {
+        end.min(border)
+    }
 }
 
-/// Who governs the `len` bytes from `start` on, where it is the same for all of them; none where a
-/// manager's border may lie among them.
-pub(super) fn governor_of_run(
-    managers: &[Manager],
-    start: usize,
-    len: usize,
-) -> Option<Option<usize>>
-    requires { start + len < 2 ^ 63 }
-    ensures { IfSome result (λ o. (a : ℕ) → start ≤ a → a < start + len
-        → governor_of managers.now a ≡ o) }
+/// The end of the bytes from `start` on, and below `end`, that a manager has all or none of, and of which all lie
+/// before the end of its value, or none.
+fn cut_at_borders(manager: &Manager, start: usize, end: usize) -> usize
+    requires { start < end }
+    ensures inside { (start < result) × (result ≤ end) }
+    ensures governs { (a : ℕ) → start ≤ a → a < result → governs manager.now a ≡ governs manager.now start }
+    ensures front { (a : ℕ) → start ≤ a → a < result → in_first_buffer manager.now a ≡ in_first_buffer manager.now start }
 {
+    let bounds = manager.bounds();
+    let before = cut(start, end, bounds.first);
+    let inside = cut(start, before, bounds.value_end);
+    cut(start, inside, bounds.span_end)
+}
+
+/// The end of the bytes from `start` on, and below `end`, that have one governor, or none, and lie on one side of the
+/// end of each manager's value.
+pub(crate) fn end_of_alike(managers: &[Manager], start: usize, end: usize) -> usize
+    requires { start < end }
+    ensures inside { (start < result) × (result ≤ end) }
+    ensures governor { (a : ℕ) → start ≤ a → a < result → governor_of managers.now a ≡ governor_of managers.now start }
+    ensures front { (n a : ℕ) → n < length managers.now → start ≤ a → a < result
+        → in_first_buffer (manager_at managers.now n) a ≡ in_first_buffer (manager_at managers.now n) start }
+{
+    let mut stop = end;
     for manager in managers {
-        if !is_alike(manager, start, len) {
-            return None;
-        }
+        stop = cut_at_borders(manager, start, stop);
     }
-    Some(governor(managers, start))
+    stop
+}
+
+/// How many of the `count` bits from a physical bit on lie in bytes that are alike in that.
+pub(super) fn count_alike(managers: &[Manager], physical: u32, count: usize) -> usize
+    requires some { 0 < count }
+    requires fits { physical + count < 2 ^ 32 }
+    ensures inside { (0 < result) × (result ≤ count) }
+    ensures governor { (a : ℕ) → physical / 8 ≤ a → a ≤ (physical + result - 1) / 8
+        → governor_of managers.now a ≡ governor_of managers.now (physical / 8) }
+    ensures front { (n a : ℕ) → n < length managers.now → physical / 8 ≤ a → a ≤ (physical + result - 1) / 8
+        → in_first_buffer (manager_at managers.now n) a ≡ in_first_buffer (manager_at managers.now n) (physical / 8) }
+{
+    let first = physical as usize;
+    let end = end_of_alike(managers, first / 8, (first + count - 1) / 8 + 1);
+    (8 * end - first).min(count)
 }

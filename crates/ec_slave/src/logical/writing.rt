@@ -6,7 +6,7 @@ ghost use Rattle.ec_fmmu.specs.Applied.{Place};
 ghost use Rattle.ec_slave.specs.Logical.{plain_bit};
 ghost use Rattle.ec_slave.specs.Written.{some_plain_written};
 
-use crate::logical::runs::governor_of_run;
+use crate::logical::runs::end_of_alike;
 use crate::reach::governor;
 use ec_fmmu::{Fmmu, WritableBytes, apply_write};
 use ec_sync::Manager;
@@ -29,11 +29,9 @@ impl WritableBytes for Ungoverned<'_> {
         governor(self.managers, address as usize).is_none()
     }
 
-    fn all_allowed(&self, start: u16, len: usize) -> Option<bool> {
-        match governor_of_run(self.managers, start as usize, len) {
-            Some(owner) => Some(owner.is_none()),
-            None => None,
-        }
+    fn count_alike(&self, start: u16, len: usize) -> usize {
+        let first = start as usize;
+        end_of_alike(self.managers, first, first + len) - first
     }
 }
 

@@ -1,23 +1,81 @@
-use Rattle.std.proofs.Common.{ℕ, ◌≡◌, ◌<◌, ◌+◌, ◌*◌, ◌/◌, ◌∙◌, true, false, length, arith}
-use Rattle.ec_fmmu.proofs.AloneWriting.{written_some, written_none}
+use Rattle.std.proofs.Common.{ℕ, List, ap, ◌+◌, ◌*◌, ◌<◌, ◌≤◌, ◌≡◌, ◌⊎◌, ◌∙◌, sym, subst, arith, None, true, inl, inr, length, ◌||◌, is_some, if◌then◌else◌, unwrap_or}
+use Rattle.std.proofs.lemmas.Bool.{cases_lt}
+use Rattle.ec_bits.specs.Bits.{bit, within, overlay, any_below}
+use Rattle.ec_bits.proofs.AnyLaws.{if_false, within_true, within_below, within_above, any_below-alike}
+use Rattle.ec_bits.proofs.BitLaws.{overlay_alike}
+use Rattle.ec_bits.proofs.Overlays.{Telling, telling_none, telling_overlay, telling_fewer, telling_end, counted_none, counted_part, counted_fewer, counted_end}
+use Rattle.ec_fmmu.specs.Alone.{run_written}
+use Rattle.ec_fmmu.proofs.AloneWriting.{written_part}
 use Rattle.ec_fmmu.proofs.writing.write_run.Goals as goal
 
-pub returns-in-Some-true-clause-any : goal.returns-in-Some-true-clause-any
-returns-in-Some-true-clause-any g c =
-    let allowed = g.A.WritableBytes.allowed c.args.rights.now in
-    let first : allowed (c.args.physical / 8) ≡ true = c.in-Some-true.ensures (c.args.physical / 8) (omega arith) (omega arith) ∙ c.in-Some-true.field-0-test in
-    written_some (8 * length c.args.window.now) allowed c.args.physical c.args.bytes.now c.args.at c.args.to c.args.count c.requires.some c.requires.there first
+pub loop-done-init : goal.loop-done-init
+loop-done-init g c =
+    let to = c.args.to in
+    let f = run_written (g.A.WritableBytes.allowed c.args.rights.now) c.args.physical c.args.bytes.now c.args.at to c.args.count in
+    let nothing : (i : ℕ) → i < to + 0 → f i ≡ None = λ i d. if_false _ _ _ (within_below to c.args.count i (omega arith)) in
+    record {
+      inside = omega arith;
+      bits = telling_none c.args.window.now f _ nothing;
+      any = counted_none f _ _ nothing;
+    }
 
-pub returns-in-Some-false-clause-any : goal.returns-in-Some-false-clause-any
-returns-in-Some-false-clause-any g c =
+pub loop-done-preserved : goal.loop-done-preserved
+loop-done-preserved g c =
+    let to = c.args.to in
+    let done = c.loop-done.done in
+    let n = c.args.count in
+    let q = c.args.physical in
+    let at = c.args.at in
+    let bytes = c.args.bytes.now in
+    let m = c.count_alike_bits-alike.result in
     let allowed = g.A.WritableBytes.allowed c.args.rights.now in
-    let none : (i : ℕ) → i < c.args.count → allowed ((c.args.physical + i) / 8) ≡ false
-    = λ i l. c.in-Some-false.ensures ((c.args.physical + i) / 8) (omega arith) (omega arith) ∙ c.in-Some-false.field-0-test in
-    (written_none c.args.window.now allowed c.args.physical c.args.bytes.now c.args.at c.args.to c.args.count none).1
+    let f = run_written allowed q bytes at to n in
+    let p = λ (i : ℕ). within (to + done) m i in
+    let before = λ (i : ℕ). i < to + done in
+    let after = λ (i : ℕ). i < to + (done + m) in
+    let inside = c.count_alike_bits-alike.ensures.inside.1 in
+    let test = c.loop-done-test.true in
+    let fits : done + m ≤ n = omega (arith, inside, test) in
+    let part = written_part allowed q bytes at to n done m fits in
+    let more : (i : ℕ) → after i → (p i ≡ true) ⊎ before i
+    = λ i d. elim (cases_lt i (to + done)) [
+      | inl l ↦ inr l
+      | inr h ↦ inl (within_true (to + done) m i h (omega arith))
+    ] in
+    let long : length c.loop-done.window ≡ length c.args.window.now = c.loop-done.auto.window in
+    let bits : c.write_alike-any.new.window ≡ overlay c.loop-done.window (λ i. if p i then f i else None)
+    = c.write_alike-any.ensures.bits ∙ overlay_alike c.loop-done.window _ (λ i. if p i then f i else None) (λ i l. ap (λ o. unwrap_or o (bit c.loop-done.window i)) (part i)) in
+    let any : c.write_alike-any.result ≡ any_below (8 * length c.args.window.now) (λ i. is_some (if p i then f i else None))
+    = c.write_alike-any.ensures.any ∙ (ap (λ (k : ℕ). any_below (8 * k) (λ i. is_some (run_written allowed (q + done) bytes (at + done) (to + done) m i))) long
+    ∙ any_below-alike (8 * length c.args.window.now) (λ i. is_some (run_written allowed (q + done) bytes (at + done) (to + done) m i)) (λ i. is_some (if p i then f i else None)) (λ i l. ap is_some (part i))) in
+    record {
+      inside = fits;
+      bits = subst (λ (xs : List ℕ). Telling c.args.window.now f after xs) (sym bits)
+          (telling_fewer c.args.window.now f (λ i. (p i ≡ true) ⊎ before i) after _
+          (telling_overlay c.args.window.now f before c.loop-done.window p c.loop-done.invariant.bits)
+          (λ i l d. more i d));
+      any = counted_fewer f (8 * length c.args.window.now) (λ i. (p i ≡ true) ⊎ before i) after (c.loop-done.any || c.write_alike-any.result)
+          (counted_part f (8 * length c.args.window.now) before p c.loop-done.any c.write_alike-any.result c.loop-done.invariant.any any) more;
+    }
 
-pub returns-in-Some-false-clause-bits : goal.returns-in-Some-false-clause-bits
-returns-in-Some-false-clause-bits g c =
-    let allowed = g.A.WritableBytes.allowed c.args.rights.now in
-    let none : (i : ℕ) → i < c.args.count → allowed ((c.args.physical + i) / 8) ≡ false
-    = λ i l. c.in-Some-false.ensures ((c.args.physical + i) / 8) (omega arith) (omega arith) ∙ c.in-Some-false.field-0-test in
-    (written_none c.args.window.now allowed c.args.physical c.args.bytes.now c.args.at c.args.to c.args.count none).0
+pub returns-clause-bits : goal.returns-clause-bits
+returns-clause-bits g c =
+    let to = c.args.to in
+    let f = run_written (g.A.WritableBytes.allowed c.args.rights.now) c.args.physical c.args.bytes.now c.args.at to c.args.count in
+    let test = c.loop-done-test.false in
+    telling_end c.args.window.now f (λ i. i < to + c.loop-done.done) c.loop-done.window c.loop-done.invariant.bits
+    (λ i l. elim (cases_lt i (to + c.loop-done.done)) [
+      | inl h ↦ inr h
+      | inr h ↦ inl (if_false _ _ _ (within_above to c.args.count i (omega (arith, test))))
+    ])
+
+pub returns-clause-any : goal.returns-clause-any
+returns-clause-any g c =
+    let to = c.args.to in
+    let f = run_written (g.A.WritableBytes.allowed c.args.rights.now) c.args.physical c.args.bytes.now c.args.at to c.args.count in
+    let test = c.loop-done-test.false in
+    counted_end f (8 * length c.args.window.now) (λ i. i < to + c.loop-done.done) c.loop-done.any c.loop-done.invariant.any
+    (λ i l. elim (cases_lt i (to + c.loop-done.done)) [
+      | inl h ↦ inr h
+      | inr h ↦ inl (if_false _ _ _ (within_above to c.args.count i (omega (arith, test))))
+    ])

@@ -1,4 +1,4 @@
-use Rattle.std.proofs.Common.{ℕ, ◌≡◌, ◌<◌, ◌≤◌, ◌+◌, ◌-◌, ◌*◌, ◌/◌, ◌∙◌, Bool, true, false, Some, is_some, List, length, get_or, sym, ap, arith}
+use Rattle.std.proofs.Common.{ℕ, ◌≡◌, ◌<◌, ◌≤◌, ◌+◌, ◌-◌, ◌*◌, ◌/◌, ◌∙◌, Bool, true, false, Some, None, is_some, List, length, get_or, sym, ap, arith}
 use Rattle.std.proofs.lemmas.List.{get_or_default}
 use Rattle.ec_bits.specs.Bits.{bit}
 use Rattle.ec_regs.specs.declared.manager.ManagerSettings.{ManagerSettings}
@@ -7,7 +7,7 @@ use Rattle.ec_sync.specs.Governing.{governor, in_first_buffer}
 use Rattle.ec_slave.specs.State.{manager_at}
 use Rattle.ec_slave.specs.Sights.{seen_bit}
 use Rattle.ec_slave.proofs.Sights.{governor-start, governor-below}
-use Rattle.ec_slave.proofs.Runs.{run_copied, run_counts, run_nothing, unreadable, readable_value}
+use Rattle.ec_slave.proofs.Runs.{run_copied, run_counts, run_nothing, unreadable, readable_value, behind_value}
 use Rattle.ec_slave.proofs.logical.reading.show_value.Goals as goal
 
 pub bounds-sight-place : goal.bounds-sight-place
@@ -42,8 +42,45 @@ begins ms q n d g =
     let st : (get_or ms n d).settings.start ≡ (manager_at ms n).settings.start = ap (λ (x : Manager). x.settings.start) same in
     (same, omega (arith, lo, st))
 
-pub overflow_sub-last-else-not-in_first_buffer : goal.overflow_sub-last-else-not-in_first_buffer
-overflow_sub-last-else-not-in_first_buffer c =
+-- no bit of the run shows a thing, behind the end of the value
+unseen : (memory : List ℕ) (ms : List Manager) (rd : List Bool) (n q last : ℕ) (m : Manager) → (m ≡ manager_at ms n)
+    → false ≡ in_first_buffer m last → in_first_buffer (manager_at ms n) (q / 8) ≡ in_first_buffer (manager_at ms n) last
+    → governor ms (q / 8) ≡ Some n → seen_bit memory ms rd q ≡ None
+unseen memory ms rd n q last m same behind alike g =
+    behind_value memory ms rd n q (alike ∙ sym (behind ∙ ap (λ (x : Manager). in_first_buffer x last) same)) g
+
+pub returns-then-not-in_first_buffer-clause-any : goal.returns-then-not-in_first_buffer-clause-any
+returns-then-not-in_first_buffer-clause-any c =
+    let s = c.args.sight.now in
+    let ms = s.managers.now in
+    let q : ℕ = c.args.physical in
+    let n : ℕ = c.args.place in
+    let some = c.requires.some in
+    let last : ℕ = (q + c.args.count - 1) / 8 in
+    let b = begins ms q n c.index-sight-place.result (c.requires.governed (q / 8) (omega arith) (omega arith)) in
+    let front : false ≡ in_first_buffer (get_or ms n c.index-sight-place.result) last = sym c.if-not-in_first_buffer.true ∙ c.in_first_buffer.ensures in
+    (run_nothing c.args.bytes.now (seen_bit s.memory.now ms s.readable.now) q c.args.to c.args.count
+    (λ i x y. unseen s.memory.now ms s.readable.now n (q + (i - c.args.to)) last _ b.0 front
+    (c.requires.front ((q + (i - c.args.to)) / 8) (omega arith) (omega arith) ∙ sym (c.requires.front last (omega (arith, some)) (omega arith)))
+    (c.requires.governed ((q + (i - c.args.to)) / 8) (omega arith) (omega arith)))).1
+
+pub returns-then-not-in_first_buffer-clause-bits : goal.returns-then-not-in_first_buffer-clause-bits
+returns-then-not-in_first_buffer-clause-bits c =
+    let s = c.args.sight.now in
+    let ms = s.managers.now in
+    let q : ℕ = c.args.physical in
+    let n : ℕ = c.args.place in
+    let some = c.requires.some in
+    let last : ℕ = (q + c.args.count - 1) / 8 in
+    let b = begins ms q n c.index-sight-place.result (c.requires.governed (q / 8) (omega arith) (omega arith)) in
+    let front : false ≡ in_first_buffer (get_or ms n c.index-sight-place.result) last = sym c.if-not-in_first_buffer.true ∙ c.in_first_buffer.ensures in
+    (run_nothing c.args.bytes.now (seen_bit s.memory.now ms s.readable.now) q c.args.to c.args.count
+    (λ i x y. unseen s.memory.now ms s.readable.now n (q + (i - c.args.to)) last _ b.0 front
+    (c.requires.front ((q + (i - c.args.to)) / 8) (omega arith) (omega arith) ∙ sym (c.requires.front last (omega (arith, some)) (omega arith)))
+    (c.requires.governed ((q + (i - c.args.to)) / 8) (omega arith) (omega arith)))).0
+
+pub overflow_sub-last-2 : goal.overflow_sub-last-2
+overflow_sub-last-2 c =
     let ms = c.args.sight.now.managers.now in
     let q : ℕ = c.args.physical in
     let g : governor ms (q / 8) ≡ Some c.args.place = c.requires.governed (q / 8) (omega arith) (omega arith) in

@@ -1,0 +1,14 @@
+use Rattle.std.proofs.Common.{◌/◌, ◌∙◌, sym}
+use Rattle.ec_slave.proofs.Sights.{governor-below}
+use Rattle.ec_slave.proofs.logical.reading.show_alike.Goals as goal
+
+pub show_plain-requires-clause-plain : goal.show_plain-requires-clause-plain
+show_plain-requires-clause-plain c = λ a lo hi. c.requires.alike a lo hi ∙ (sym c.governor.ensures.value ∙ c.in-None.is)
+
+pub show_value-requires-clause-governed : goal.show_value-requires-clause-governed
+show_value-requires-clause-governed c = λ a lo hi. c.requires.alike a lo hi ∙ (sym c.governor.ensures.value ∙ c.in-Some.is)
+
+pub show_value-requires-clause-front : goal.show_value-requires-clause-front
+show_value-requires-clause-front c = λ a lo hi.
+    c.requires.front c.in-Some.place a
+    (governor-below c.args.sight.now.managers.now (c.args.physical / 8) c.in-Some.place (sym c.governor.ensures.value ∙ c.in-Some.is)) lo hi
