@@ -9,6 +9,7 @@ pub mod Lists
 pub mod States
 pub mod Counting
 pub mod Places
+pub mod Renewed
 pub mod Runs
 pub mod Judging
 pub mod ProcessBits

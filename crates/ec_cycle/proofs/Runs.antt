@@ -2,7 +2,7 @@
 use Rattle.std.proofs.Common.{ℕ, zero, suc, ◌+◌, ◌*◌, ◌^◌, ◌<◌, ◌≤◌, ◌≡◌, ◌==◌, ◌&&◌, nat_lt, Bool, true, false, Option, Some, None, refl, sym, ◌∙◌, ap, subst, inl, inr, arith, List, [], ◌∷◌, length, map, filter, get_or, take, drop, ◌++◌, append-nil, if◌then◌else◌}
 use Rattle.std.specs.List.{AllByRecursion}
 use Rattle.std.proofs.lemmas.Bool.{cases_lt, eq-eqb, eqb-true, and_parts}
-use Rattle.std.proofs.lemmas.List.{drop_more, drop_all, length-map, length-replicate, take_more, take_all, map-append, get_or_past}
+use Rattle.std.proofs.lemmas.List.{drop_more, drop_all, length-replicate, take_more, take_all, map-append, get_or_past}
 use Rattle.std.proofs.lemmas.List.Elements.{filter-append}
 use Rattle.ec_bits.specs.Bits.{zeros, copied, bytes_of_bits}
 use Rattle.ec_bits.proofs.AnyLaws.{if_true}

@@ -1,5 +1,5 @@
 -- What a master keeps true of its fields.
-use Rattle.std.specs.Prelude.{ℕ, ◌^◌, ◌<◌, ◌≡◌, List, [], length, map, get_or, Option, Some, None}
+use Rattle.std.specs.Prelude.{ℕ, ◌^◌, ◌<◌, ◌≡◌, List, [], length, get_or, Option, Some, None}
 use Rattle.ec_bits.specs.Bits.{bytes_of_bits}
 use Rattle.ec_frame.specs.Frame.{IsFrame}
 use Rattle.ec_frame.specs.Building.{bare_payload}
@@ -28,6 +28,12 @@ pub record AreImages (p : PlanState) (outputs inputs : List ℕ) : Type 0 where
   pub few_outputs : p.out_bits < 2 ^ 64
   pub few_inputs : p.in_bits < 2 ^ 64
 
+-- a part has a frame, of some cycle and some image
+pub record IsMade (p : PlanState) (k : ℕ) (frame : List ℕ) : Type 0 where
+  pub number : ℕ
+  pub image : List ℕ
+  pub spelled : IsFrame frame (bare_payload (sent_datagrams p number k image))
+
 -- the frames of an open cycle, and what came back of it
 pub record IsUnderWay (p : PlanState) (number : ℕ) (frames : List (List ℕ)) (kept : List (Option KeptPart)) : Type 0 where
   pub small : number < 2 ^ 64
@@ -40,4 +46,5 @@ pub record IsMaster (p : PlanState) (runs : List (List Run)) (in_runs : List Inp
   pub images : AreImages p outputs inputs
   pub frame_count : length frames ≡ length p.parts
   pub kept_count : length kept ≡ length p.parts
+  pub made : (k : ℕ) → k < length p.parts → IsMade p k (get_or frames k [])
   pub under_way : (number : ℕ) → open_number ≡ Some number → IsUnderWay p number frames kept

@@ -14,3 +14,4 @@ pub mod Refusals
 pub mod Copies
 pub mod Matching
 pub mod Kept
+pub mod Renewing

@@ -1,5 +1,5 @@
 //! Which part's frame a payload answers.
-ghost use Rattle.std.specs.Prelude.{◌≡◌, ◌<◌, [], ℕ, Option, Some, None, get_or, length, slice_get};
+ghost use Rattle.std.specs.Prelude.{◌≡◌, ◌<◌, [], ℕ, Option, Some, None, get_or, length};
 ghost use Rattle.ec_frame.specs.Frame.{Payload, IsFrame};
 ghost use Rattle.ec_cycle.specs.Matching.{FirstStand, Answered};
 

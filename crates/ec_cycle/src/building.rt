@@ -1,9 +1,9 @@
 //! The frames of a cycle.
-ghost use Rattle.std.specs.Prelude.{◌≡◌, ◌≤◌, ◌<◌, ◌+◌, ◌*◌, ◌∷◌, ◌++◌, [], List, length, if◌then◌else◌};
+ghost use Rattle.std.specs.Prelude.{◌≡◌, ◌≤◌, ◌<◌, ◌+◌, ◌*◌, ◌∷◌, ◌++◌, [], length, if◌then◌else◌};
 ghost use Rattle.std.specs.Int.{to_le_bytes, w16, w64};
 ghost use Rattle.ec_bits.specs.Bits.{zeros};
 ghost use Rattle.ec_frame.specs.Building.{bare_payload, new_datagram};
-ghost use Rattle.ec_frame.specs.Datagram.{Datagram, joined};
+ghost use Rattle.ec_frame.specs.Datagram.{joined};
 ghost use Rattle.ec_frame.specs.Frame.{IsFrame};
 ghost use Rattle.ec_cycle.specs.Frames.{cyclic_datagrams, process_datagrams, returned_first};
 

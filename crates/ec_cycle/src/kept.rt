@@ -1,17 +1,25 @@
 //! What a master keeps of a part.
-ghost use Rattle.std.specs.Prelude.{◌≡◌, ◌≤◌, ◌+◌, ◌*◌, Bool, List, Option, Some, None, true, false, is_some, option_map, length, slice_index, if◌then◌else◌};
+ghost use Rattle.std.specs.Prelude.{◌≡◌, ◌≤◌, ◌<◌, ◌+◌, ◌*◌, ◌^◌, List, Option, Some, None, true, false, is_some, option_map, length, slice_index, if◌then◌else◌};
+ghost use Rattle.ec_bits.specs.Bits.{bytes_of_bits};
+ghost use Rattle.ec_frame.specs.Building.{bare_payload};
 ghost use Rattle.ec_frame.specs.Datagram.{Datagram};
+ghost use Rattle.ec_frame.specs.Frame.{IsFrame};
 ghost use Rattle.ec_link.specs.declared.plan.Predicted.{Predicted};
 ghost use Rattle.ec_link.specs.declared.plan.Predicted.TheVariants.{Lrw, Split};
 ghost use Rattle.ec_link.specs.Shares.{same_counters};
+ghost use Rattle.ec_link.specs.Usable.{IsUsable};
 ghost use Rattle.ec_cycle.specs.Closing.{KeptPart, bytes_at, bytes_of, came_back_as, counters_by, input_place, kept_by, word_of_kept};
+ghost use Rattle.ec_cycle.specs.Copies.{output_runs};
+ghost use Rattle.ec_cycle.specs.Frames.{sent_datagrams};
+ghost use Rattle.ec_cycle.specs.Kept.{IsMade};
 ghost use Rattle.ec_cycle.specs.Matching.{FirstStand};
 
 use crate::matching::{counter_at, data_at};
+use crate::renewing::renew;
+use crate::run::Run;
 use arrayvec::ArrayVec;
-use byteorder::{ByteOrder, LittleEndian};
 use ec_frame::{Frame, Span};
-use ec_link::Predicted;
+use ec_link::{Plan, Predicted};
 use std::marker::Model;
 
 /// The frame of a part, as it was sent.
@@ -39,6 +47,20 @@ impl SentFrame {
         ensures { result.now ≡ self.now }
     {
         self.frame.as_slice()
+    }
+
+    /// It gets the number of a cycle, and the outputs of an image.
+    pub fn renew(&mut self, plan: &Plan, part: usize, runs: &[Run], number: u64, image: &[u8])
+        requires usable { IsUsable plan.now }
+        requires there { part < length plan.now.parts }
+        requires runs { runs.now ≡ output_runs plan.now part }
+        requires image { length image.now ≡ bytes_of_bits plan.now.out_bits }
+        requires few { plan.now.out_bits < 2 ^ 64 }
+        requires made { IsMade plan.now part self.old }
+        ensures spelled { IsFrame self.new (bare_payload (sent_datagrams plan.now number part image.now)) }
+        ensures made { IsMade plan.now part self.new }
+    {
+        renew(self.frame.as_mut_slice(), plan, part, runs, number, image);
     }
 }
 

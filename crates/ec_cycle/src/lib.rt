@@ -5,12 +5,14 @@
 #![tactic(auto)]
 
 mod answered;
+mod asking;
 mod building;
 mod error;
 mod kept;
 pub mod laws;
 mod master;
 mod matching;
+mod renewing;
 mod report;
 mod run;
 #[cfg(test)]

@@ -1,15 +1,15 @@
-ghost use Rattle.std.specs.Prelude.{◌&&◌, nat_lt, set, false, if◌then◌else◌, ◌≡◌, ◌≤◌, ◌<◌, ◌+◌, ◌*◌, ◌^◌, ◌↔◌, ℕ, Bool, List, [], Option, Some, None, length, map, replicate, slice_get, get_or, true, false, is_some, IfOk, IfSome, IsErr, IfErr, OnOk, OnErr};
+ghost use Rattle.std.specs.Prelude.{◌&&◌, nat_lt, set, if◌then◌else◌, ◌≡◌, ◌≤◌, ◌<◌, ◌+◌, ◌*◌, ◌^◌, ◌↔◌, ℕ, [], Option, Some, None, length, replicate, slice_get, get_or, true, false, is_some, IfOk, IsErr, IfErr, OnOk, OnErr};
 ghost use Rattle.ec_bits.specs.Bits.{zeros, bytes_of_bits};
 ghost use Rattle.ec_frame.specs.Building.{bare_payload};
-ghost use Rattle.ec_frame.specs.Frame.{Payload, IsFrame};
+ghost use Rattle.ec_frame.specs.Frame.{IsFrame};
 ghost use Rattle.ec_link.specs.declared.plan.Predicted.{Predicted};
 ghost use Rattle.ec_link.specs.Plan.{part_at};
 ghost use Rattle.ec_link.specs.Shares.{predicted};
 ghost use Rattle.ec_link.specs.Usable.{IsUsable};
 ghost use Rattle.ec_cycle.specs.Closing.{KeptPart, bytes_of, is_good, unit_taken, inputs_closed};
 ghost use Rattle.ec_cycle.specs.Copies.{FitsRun, output_runs, input_runs, run_copied};
-ghost use Rattle.ec_cycle.specs.Frames.{process_bytes, sent_datagrams};
-ghost use Rattle.ec_cycle.specs.Kept.{AreLinked, AreImages, IsUnderWay};
+ghost use Rattle.ec_cycle.specs.Frames.{sent_datagrams};
+ghost use Rattle.ec_cycle.specs.Kept.{IsMade};
 ghost use Rattle.ec_cycle.specs.Master.{OpenCycle, MasterState, Begun, IsTaken, IsClosed, new_master, readied, holds_value, value_put, variable_set, value_at, begin_refusal, refused_by, frame_of, missing_of, abandoned};
 ghost use Rattle.ec_cycle.specs.declared.error.CycleError.{CycleError};
 ghost use Rattle.ec_cycle.specs.declared.error.CycleError.TheVariants.{NotOpen};
@@ -21,8 +21,9 @@ use crate::building::build;
 use crate::error::CycleError;
 use crate::kept::{Returned, SentFrame};
 use crate::matching::first_places;
+use crate::renewing::fill;
 use crate::report::{Report, missing_of};
-use crate::run::{InputRun, Run, copy_runs, runs_by_part, runs_of_inputs};
+use crate::run::{InputRun, Run, runs_by_part, runs_of_inputs};
 use ec_bits::{copy_by_words, read_bits, write_bits};
 use ec_frame::{Frame, check};
 use ec_link::{Plan, Predicted};
@@ -35,9 +36,9 @@ use std::marker::Model;
 /// A master of the cyclic frames of a plan. All memory that it needs is found when it is made.
 #[derive(Drop)]
 pub struct Master<'p> {
-    plan: &'p Plan,
-    is_ready: bool,
-    next: u64,
+    pub(crate) plan: &'p Plan,
+    pub(crate) is_ready: bool,
+    pub(crate) next: u64,
     outputs: Vec<u8>,
     inputs: Vec<u8>,
     // what is looked up in the plan once
@@ -45,7 +46,7 @@ pub struct Master<'p> {
     input_runs: Listed<InputRun>,
     expected: Listed<Predicted>,
     // the number of the open cycle
-    number: Option<u64>,
+    pub(crate) number: Option<u64>,
     // of each part
     frames: Vec<SentFrame>,
     kept: Vec<Returned>,
@@ -87,17 +88,6 @@ fn counters_of(alloc: Global, plan: &Plan) -> Result<Listed<Predicted>, AllocErr
         expected.push(plan.predicted(part))?;
     }
     Ok(expected)
-}
-
-/// Room for so many frames.
-fn frames_of(alloc: Global, count: usize) -> Result<Vec<SentFrame>, AllocError>
-    ensures { IfOk result (λ v. length v.items ≡ count) }
-{
-    let mut frames = Vec::new(alloc);
-    for n in 0..count {
-        frames.push(SentFrame::new(Frame::new()))?;
-    }
-    Ok(frames)
 }
 
 /// Room for what comes back of so many parts.
@@ -201,19 +191,6 @@ fn take_inputs(
     }
 }
 
-/// The process data of a part, for an image of the outputs.
-#[tactic(auto, using(crate::proofs::Runs::fill_steps))]
-fn fill(plan: &Plan, part: usize, runs: &[Run], image: &[u8], sent: &mut [u8])
-    requires usable { IsUsable plan.now }
-    requires runs { runs.now ≡ output_runs plan.now part }
-    requires image { length image.now ≡ bytes_of_bits plan.now.out_bits }
-    requires few { plan.now.out_bits < 2 ^ 64 }
-    requires blank { sent.old ≡ zeros (part_at plan.now.parts part).bytes }
-    ensures { sent.new ≡ process_bytes plan.now part image.now }
-{
-    copy_runs(sent, image, runs);
-}
-
 /// Room for the process data of a part, all 0.
 fn blank() -> [u8; 1422]
     ensures { result ≡ zeros 1422 }
@@ -228,7 +205,8 @@ fn frame_for(plan: &Plan, part: usize, runs: &[Run], number: u64, image: &[u8]) 
     requires runs { runs.now ≡ output_runs plan.now part }
     requires image { length image.now ≡ bytes_of_bits plan.now.out_bits }
     requires few { plan.now.out_bits < 2 ^ 64 }
-    ensures { IsFrame result.items (bare_payload (sent_datagrams plan.now number part image.now)) }
+    ensures spelled { IsFrame result.items (bare_payload (sent_datagrams plan.now number part image.now)) }
+    ensures made { IsMade plan.now part result.items }
 {
     let place = plan.parts()[part];
     let mut room = blank();
@@ -237,7 +215,30 @@ fn frame_for(plan: &Plan, part: usize, runs: &[Run], number: u64, image: &[u8]) 
     build(&place, number, part, sent)
 }
 
-/// The frame of each part, for an image of the outputs.
+/// A frame for each part, for an image of the outputs; `begin` gives it its number.
+fn frames_of(
+    alloc: Global,
+    plan: &Plan,
+    runs: &[Listed<Run>],
+    image: &[u8],
+) -> Result<Vec<SentFrame>, AllocError>
+    requires usable { IsUsable plan.now }
+    requires count { length runs.now ≡ length plan.now.parts }
+    requires runs { (k : ℕ) → k < length plan.now.parts → get_or runs.now k [] ≡ output_runs plan.now k }
+    requires image { length image.now ≡ bytes_of_bits plan.now.out_bits }
+    requires few { plan.now.out_bits < 2 ^ 64 }
+    ensures count { IfOk result (λ v. length v.items ≡ length plan.now.parts) }
+    ensures made { IfOk result (λ v. (k : ℕ) → k < length plan.now.parts → IsMade plan.now k (get_or v.items k [])) }
+{
+    let mut frames = Vec::new(alloc);
+    for part in 0..plan.parts().len() {
+        let frame = frame_for(plan, part, runs[part].as_slice(), 0, image);
+        frames.push(SentFrame::new(frame))?;
+    }
+    Ok(frames)
+}
+
+/// The frame of each part gets the number of a cycle, and the outputs of an image.
 fn make_frames(
     plan: &Plan,
     runs: &[Listed<Run>],
@@ -251,11 +252,12 @@ fn make_frames(
     requires image { length image.now ≡ bytes_of_bits plan.now.out_bits }
     requires few { plan.now.out_bits < 2 ^ 64 }
     requires frames { length frames.old ≡ length plan.now.parts }
-    ensures { (k : ℕ) → k < length plan.now.parts → IsFrame (get_or frames.new k []) (bare_payload (sent_datagrams plan.now number k image.now)) }
+    requires made { (k : ℕ) → k < length plan.now.parts → IsMade plan.now k (get_or frames.old k []) }
+    ensures spelled { (k : ℕ) → k < length plan.now.parts → IsFrame (get_or frames.new k []) (bare_payload (sent_datagrams plan.now number k image.now)) }
+    ensures made { (k : ℕ) → k < length plan.now.parts → IsMade plan.now k (get_or frames.new k []) }
 {
     for part in 0..frames.len() {
-        let frame = frame_for(plan, part, runs[part].as_slice(), number, image);
-        frames[part] = SentFrame::new(frame);
+        frames[part].renew(plan, part, runs[part].as_slice(), number, image);
     }
 }
 
@@ -314,19 +316,21 @@ impl<'p> Master<'p> {
         requires { IsUsable plan.now }
         ensures { IfOk result (λ m. m ≡ new_master plan.now) }
     {
-        let count = plan.parts().len();
+        let outputs = image_of(alloc, plan.out_bits())?;
+        let runs = runs_by_part(alloc, plan)?;
+        let frames = frames_of(alloc, plan, runs.as_slice(), &outputs)?;
         Ok(Master {
             plan,
             is_ready: false,
             next: 0,
-            outputs: image_of(alloc, plan.out_bits())?,
+            outputs,
             inputs: image_of(alloc, plan.in_bits())?,
-            runs: runs_by_part(alloc, plan)?,
+            runs,
             input_runs: runs_of_inputs(alloc, plan)?,
             expected: counters_of(alloc, plan)?,
             number: None,
-            frames: frames_of(alloc, count)?,
-            kept: nothing_kept(alloc, count)?,
+            frames,
+            kept: nothing_kept(alloc, plan.parts().len())?,
         })
     }
 
@@ -347,46 +351,11 @@ impl<'p> Master<'p> {
         self.next = self.next.max(next);
     }
 
-    /// Whether a start-up of the plan has ended Ready.
-    pub fn is_ready(&self) -> bool
-        ensures { result ≡ self.now.is_ready }
-    {
-        self.is_ready
-    }
-
-    /// Whether a cycle is open.
-    pub fn is_open(&self) -> bool
-        ensures { result ≡ is_some self.now.cycle }
-    {
-        self.number.is_some()
-    }
-
-    /// The number of the next cycle.
-    pub fn next_number(&self) -> u64
-        ensures { result ≡ self.now.next }
-    {
-        self.next
-    }
-
-    /// How many parts a cycle has.
-    pub fn parts(&self) -> usize
-        ensures { result ≡ length self.now.plan.parts }
-    {
-        self.plan.parts().len()
-    }
-
     /// Does nothing. Its contract says what holds of every master, whatever was done to it: its plan can be used.
     pub fn is_sound(&self)
         ensures { IsUsable self.now.plan }
     {
         let _ = &self.plan;
-    }
-
-    /// How many variables there are.
-    pub fn variables(&self) -> usize
-        ensures { result ≡ length self.now.plan.variables }
-    {
-        self.plan.variables().len()
     }
 
     /// Whether a variable is there, is one of the outputs and holds the value: what `set` asks.

@@ -1,5 +1,5 @@
 //! Whether a payload answers a frame that was sent, and where its datagrams stand.
-ghost use Rattle.std.specs.Prelude.{◌≡◌, ◌≤◌, ◌<◌, ◌↔◌, [], Bool, List, Option, length, true};
+ghost use Rattle.std.specs.Prelude.{◌≡◌, ◌<◌, ◌↔◌, [], Bool, List, Option, length, true};
 ghost use Rattle.std.specs.Option.{option_map_or};
 ghost use Rattle.ec_frame.specs.Cursor.{IsAhead};
 ghost use Rattle.ec_frame.specs.Datagram.{Datagram, IsDatagram, IsSpelling, spelling};

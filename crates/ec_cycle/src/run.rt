@@ -1,6 +1,6 @@
 //! What is copied between the images and the process data of frames: a run of bits for each link, and where one link's bits
 //! follow another's on both sides, one run for both.
-ghost use Rattle.std.specs.Prelude.{◌≡◌, ◌<◌, ◌≤◌, ◌^◌, ◌++◌, ◌∷◌, [], ℕ, Bool, List, IfOk, length, map, get_or, true, false};
+ghost use Rattle.std.specs.Prelude.{◌≡◌, ◌<◌, ◌++◌, ◌∷◌, [], ℕ, Bool, List, IfOk, length, map, get_or, true};
 ghost use Rattle.std.specs.List.{AllByRecursion};
 ghost use Rattle.ec_link.specs.Usable.{IsUsable, IsOutLink, IsInLink};
 ghost use Rattle.ec_cycle.specs.Copies.{FitsRun, is_of_part, runs_copied, output_run, input_run, part_runs, adjoin, both, inputs_adjoin, both_inputs, merged, merged_from, output_runs, input_runs};

@@ -29,5 +29,5 @@ returns-clause-begun c =
           (subst (λ (z : List (List ℕ)). Begun (state_of p c.self.inside.is_ready c.self.inside.next c.self.inside.outputs.items c.self.inside.inputs.items c.self.inside.frames.items c.self.inside.kept.items c.self.inside.number) (state_of p c.self.inside.is_ready (c.self.inside.next + 1) c.self.inside.outputs.items c.self.inside.inputs.items z (with_items c.self.inside.kept c.forget.new.kept).items (Some c.self.inside.next)) (cycle_of fs ks c.self.inside.next)) (sym e1)
           (subst (λ (z : List (Option KeptPart)). Begun (state_of p c.self.inside.is_ready c.self.inside.next c.self.inside.outputs.items c.self.inside.inputs.items c.self.inside.frames.items c.self.inside.kept.items c.self.inside.number) (state_of p c.self.inside.is_ready (c.self.inside.next + 1) c.self.inside.outputs.items c.self.inside.inputs.items fs z (Some c.self.inside.next)) (cycle_of fs ks c.self.inside.next)) (sym e2)
           (begun_state p c.self.inside.is_ready c.self.inside.next c.self.inside.outputs.items c.self.inside.inputs.items c.self.inside.frames.items fs c.self.inside.kept.items ks c.self.inside.number count kept_count c.forget.ensures
-          (λ k l. subst (λ (o : List ℕ). IsFrame (get_or fs k []) (bare_payload (sent_datagrams p c.self.inside.next k o))) c.deref.ensures.value (c.make_frames.ensures k l))))),
+          (λ k l. subst (λ (o : List ℕ). IsFrame (get_or fs k []) (bare_payload (sent_datagrams p c.self.inside.next k o))) c.deref.ensures.value (c.make_frames.ensures.spelled k l))))),
     )

@@ -62,6 +62,7 @@ invariant_of-self c =
       linked = c.self.invariant.linked;
       images = c.self.invariant.images;
       frame_count = c.self.invariant.frame_count;
+      made = c.self.invariant.made;
       kept_count = length-set c.self.inside.kept.items c.in-Some.part c.keep.new.self ∙ c.self.invariant.kept_count;
       under_way = λ n e. subst (λ (q : Option KeptPart). IsUnderWay c.self.inside.plan.now n c.self.inside.frames.items (set c.self.inside.kept.items c.in-Some.part q)) (sym new)
           (kept_on c.self.inside.plan.now n c.self.inside.frames.items c.self.inside.kept.items c.in-Some.part p.datagrams (c.self.invariant.under_way n e) c.self.invariant.frame_count c.self.invariant.kept_count a);

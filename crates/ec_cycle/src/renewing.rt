@@ -1,0 +1,103 @@
+//! The frame of a part is made once; from cycle to cycle it gets another number and other outputs, in their places.
+ghost use Rattle.std.specs.Prelude.{◌≡◌, ◌^◌, ◌<◌, ◌∷◌, ℕ, Bool, List, length};
+ghost use Rattle.ec_bits.specs.Bits.{bytes_of_bits, zeros};
+ghost use Rattle.ec_frame.specs.Building.{bare_payload};
+ghost use Rattle.ec_frame.specs.Frame.{IsFrame};
+ghost use Rattle.ec_link.specs.Plan.{part_at};
+ghost use Rattle.ec_link.specs.Usable.{IsUsable};
+ghost use Rattle.ec_cycle.specs.Copies.{output_runs};
+ghost use Rattle.ec_cycle.specs.Frames.{process_bytes, sent_datagrams};
+ghost use Rattle.ec_cycle.specs.Kept.{IsMade};
+ghost use Rattle.ec_cycle.specs.Renewing.{front_bytes, process_spelled};
+
+use crate::run::{Run, copy_runs};
+use ec_link::{PartPlan, Plan};
+
+/// In a datagram: where its index stands.
+const INDEX: usize = 1;
+/// In a datagram: where its data begin.
+const CONTENT: usize = 10;
+/// What a datagram has beside its data.
+const OVERHEAD: usize = 12;
+/// In a frame: where the datagram begins that names it, behind the frame's header.
+const NAME: usize = 2;
+/// In a frame: where the broadcast begins, behind the ten bytes of the name.
+const STATUS: usize = NAME + OVERHEAD + 10;
+/// In a frame: where the process datagrams begin, behind the two bytes of the AL status.
+const PROCESS: usize = STATUS + OVERHEAD + 2;
+
+/// The number of a cycle goes into the first two datagrams of a frame; these bytes are they, behind the frame's header.
+fn renumber(front: &mut [u8], number: u64)
+    requires { length front.old ≡ 38 }
+    ensures { (a b : ℕ) (more : Bool) (n k : ℕ) → front.old ≡ a ∷ b ∷ front_bytes more n k → front.new ≡ a ∷ b ∷ front_bytes more number k }
+{
+    let index = (number % 256) as u8;
+    front[NAME + INDEX] = index;
+    front[NAME + CONTENT..NAME + CONTENT + 8].copy_from_slice(&number.to_le_bytes());
+    front[STATUS + INDEX] = index;
+}
+
+/// The number of a cycle goes into the process datagrams of a part.
+fn renumber_process(process: &mut [u8], part: &PartPlan, number: u64)
+    requires { (n : ℕ) × (s : List ℕ) × (length s ≡ part.now.bytes) × (process.old ≡ process_spelled part.now n s) }
+    ensures { (n : ℕ) (s : List ℕ) → length s ≡ part.now.bytes → process.old ≡ process_spelled part.now n s → process.new ≡ process_spelled part.now number s }
+{
+    if part.bytes == 0 {
+        return;
+    }
+    let index = (number % 256) as u8;
+    process[INDEX] = index;
+    if part.split {
+        process[OVERHEAD + part.bytes + INDEX] = index;
+    }
+}
+
+/// The process data of a part, for an image of the outputs.
+#[tactic(auto, using(crate::proofs::Runs::fill_steps))]
+pub fn fill(plan: &Plan, part: usize, runs: &[Run], image: &[u8], sent: &mut [u8])
+    requires usable { IsUsable plan.now }
+    requires runs { runs.now ≡ output_runs plan.now part }
+    requires image { length image.now ≡ bytes_of_bits plan.now.out_bits }
+    requires few { plan.now.out_bits < 2 ^ 64 }
+    requires blank { sent.old ≡ zeros (part_at plan.now.parts part).bytes }
+    ensures { sent.new ≡ process_bytes plan.now part image.now }
+{
+    copy_runs(sent, image, runs);
+}
+
+/// The outputs of an image go into the process datagrams of a part.
+fn refill(process: &mut [u8], plan: &Plan, part: usize, runs: &[Run], image: &[u8])
+    requires usable { IsUsable plan.now }
+    requires there { part < length plan.now.parts }
+    requires runs { runs.now ≡ output_runs plan.now part }
+    requires image { length image.now ≡ bytes_of_bits plan.now.out_bits }
+    requires few { plan.now.out_bits < 2 ^ 64 }
+    requires made { (n : ℕ) × (s : List ℕ) × (length s ≡ (part_at plan.now.parts part).bytes) × (process.old ≡ process_spelled (part_at plan.now.parts part) n s) }
+    ensures { (n : ℕ) (s : List ℕ) → length s ≡ (part_at plan.now.parts part).bytes → process.old ≡ process_spelled (part_at plan.now.parts part) n s
+        → process.new ≡ process_spelled (part_at plan.now.parts part) n (process_bytes plan.now part image.now) }
+{
+    let bytes = plan.parts()[part].bytes;
+    if bytes == 0 {
+        return;
+    }
+    let sent = &mut process[CONTENT..CONTENT + bytes];
+    sent.fill(0);
+    fill(plan, part, runs, image, sent);
+}
+
+/// The frame of a part gets the number of a cycle and the outputs of an image.
+pub fn renew(frame: &mut [u8], plan: &Plan, part: usize, runs: &[Run], number: u64, image: &[u8])
+    requires usable { IsUsable plan.now }
+    requires there { part < length plan.now.parts }
+    requires runs { runs.now ≡ output_runs plan.now part }
+    requires image { length image.now ≡ bytes_of_bits plan.now.out_bits }
+    requires few { plan.now.out_bits < 2 ^ 64 }
+    requires made { IsMade plan.now part frame.old }
+    ensures { IsFrame frame.new (bare_payload (sent_datagrams plan.now number part image.now)) }
+{
+    let place = plan.parts()[part];
+    let (front, process) = frame.split_at_mut(PROCESS);
+    renumber(front, number);
+    renumber_process(process, &place, number);
+    refill(process, plan, part, runs, image);
+}
