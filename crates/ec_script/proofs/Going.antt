@@ -1,5 +1,5 @@
 -- The newest frames go round, slot after slot.
-use Rattle.std.proofs.Common.{◌≡◌, ◌∙◌, ℕ, zero, suc, ◌+◌, ◌<◌, ◌≤◌, List, [], ◌∷◌, ◌++◌, length, replicate, get_or, drop, set, map, Bool, true, false, if◌then◌else◌, Option, Some, None, refl, sym, ap, subst, append_assoc, append-nil, max, unwrap_or, option_map, arith}
+use Rattle.std.proofs.Common.{◌≡◌, ◌∙◌, ℕ, zero, suc, ◌+◌, ◌<◌, ◌≤◌, List, [], ◌∷◌, ◌++◌, length, replicate, get_or, drop, set, Bool, true, false, if◌then◌else◌, Option, Some, None, refl, sym, ap, subst, append_assoc, append-nil, max, unwrap_or, option_map, arith}
 use Rattle.std.proofs.lemmas.List.{drop_all, at_drop_more, get_or-drop, drop-set-lt}
 use Rattle.ec_world.specs.declared.event.Event.{Event}
 use Rattle.ec_world.specs.declared.event.Event.TheVariants.{StartNext, Set, Begin, Pass, Lose, Return, Close, Serve, AppPut, AppGet, Fault, Reset}
@@ -8,7 +8,7 @@ use Rattle.ec_world.specs.World.{WorldState, Flight, IsStep, ByStart, Passes, Re
 use Rattle.ec_script.specs.declared.said.Said.{Said}
 use Rattle.ec_script.specs.declared.said.Said.TheVariants.{Nothing}
 use Rattle.ec_script.specs.Rounds.{greatest, has_number, round_events, rounds, slots_with}
-use Rattle.ec_script.specs.Work.{Makes, MakesAll, Onward, Then, always, is_done}
+use Rattle.ec_script.specs.Work.{MakesAll, Onward, is_done}
 use Rattle.ec_script.proofs.Making.{nonempty, stopped, then_on}
 
 -- ---- the greatest number

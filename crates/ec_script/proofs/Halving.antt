@@ -1,5 +1,5 @@
 -- The line between a table and its script.
-use Rattle.std.proofs.Common.{◌≡◌, ◌∙◌, ℕ, ◌+◌, ◌-◌, ◌<◌, ◌≤◌, ◌==◌, ◌||◌, List, [], ◌∷◌, ◌++◌, length, get_or, drop, take, Bool, true, false, if◌then◌else◌, Option, Some, None, IfSome, unwrap_or, nat_eq, refl, sym, ap, subst, arith}
+use Rattle.std.proofs.Common.{◌≡◌, ◌∙◌, ℕ, ◌+◌, ◌-◌, ◌<◌, [], ◌∷◌, length, get_or, drop, Bool, true, false, if◌then◌else◌, Option, Some, None, IfSome, unwrap_or, nat_eq, refl, sym, ap, subst, arith}
 use Rattle.std.specs.List.{starts_with}
 use Rattle.std.specs.Str.{bytes_eq, IsUtf8, IsCharBoundary}
 use Rattle.std.proofs.lemmas.List.{get_or-drop, length-drop}
@@ -7,7 +7,7 @@ use Rattle.std.proofs.lemmas.Bool.Decides.{Decides-eqb}
 use Rattle.std.proofs.lemmas.Slice.Eq.{bytes_eq-Decides, starts_is}
 use Rattle.std.proofs.lemmas.Str.{IsCharBoundary-before_ascii, IsCharBoundary-after_ascii}
 use Rattle.ec_script.specs.Words.{Text}
-use Rattle.ec_script.specs.Halves.{Begins, divider_at, divider_in}
+use Rattle.ec_script.specs.Halves.{Begins, divider_in}
 
 two : Begins (37 ∷ 37 ∷ []) 2
 two = record { within = omega arith; some = omega arith; first = refl; last = omega arith }

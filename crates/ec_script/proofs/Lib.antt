@@ -1,10 +1,15 @@
 pub mod Adding
+pub mod Goes
 pub mod Going
 pub mod Halving
+pub mod Keeping
 pub mod Lines
 pub mod Making
 pub mod Numbers
 pub mod Plans
 pub mod Reading
+pub mod ReadingBack
+pub mod Running
+pub mod SlotsSent
 pub mod Turning
 pub mod Verbs

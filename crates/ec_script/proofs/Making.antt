@@ -1,12 +1,11 @@
 -- Events that are made one list after another.
-use Rattle.std.proofs.Common.{◌≡◌, ◌∙◌, ℕ, zero, suc, ◌+◌, ◌-◌, ◌<◌, ◌≤◌, List, [], ◌∷◌, ◌++◌, length, replicate, Bool, true, false, refl, sym, ap, subst, append-nil, arith}
+use Rattle.std.proofs.Common.{◌≡◌, ◌∙◌, ℕ, zero, suc, ◌+◌, ◌-◌, ◌<◌, List, [], ◌∷◌, ◌++◌, length, replicate, Bool, true, false, refl, sym, ap, subst, append-nil, arith}
 use Rattle.std.proofs.lemmas.List.{replicate-append-replicate}
 use Rattle.ec_world.specs.declared.event.Event.{Event}
 use Rattle.ec_world.specs.declared.event.Event.TheVariants.{Serve}
 use Rattle.ec_world.specs.NewWorld.{servings}
 use Rattle.ec_world.specs.World.{WorldState}
 use Rattle.ec_script.specs.declared.said.Said.{Said}
-use Rattle.ec_script.specs.declared.said.Said.TheVariants.{Nothing}
 use Rattle.ec_script.specs.Work.{Makes, MakesAll, Onward, Then, always, is_done}
 
 -- what stopped in the first part stopped before the second

@@ -22,10 +22,10 @@ not_plus : (word : Text) → first_of word ≢ 43 → get_or word 0 0 ≢ 43
 not_plus [] h = absurd (h refl)
 not_plus (c ∷ cs) h = h
 
-digits : IsNumeralModel (λ ds. all_ascii_digits ds ≡ true) (digits_value 10)
+pub digits : IsNumeralModel (λ ds. all_ascii_digits ds ≡ true) (digits_value 10)
 digits = numerals_by_value _ tells_all_ascii_digits
 
-both : (a b c : Bool) → a ≡ true → b ≡ true → c ≡ true → a && (b && c) ≡ true
+pub both : (a b c : Bool) → a ≡ true → b ≡ true → c ≡ true → a && (b && c) ≡ true
 both a b c ha hb hc = rw (ha, hb, hc) refl
 
 parts : (a b c : Bool) → a && (b && c) ≡ true → (a ≡ true) × (b ≡ true) × (c ≡ true)
@@ -34,13 +34,13 @@ parts true true false h = cc
 parts true false c h = cc
 parts false b c h = cc
 
-is_true : (m n : ℕ) → m < n → nat_lt m n ≡ true
+pub is_true : (m n : ℕ) → m < n → nat_lt m n ≡ true
 is_true m n h = grind (arith, nat_tests)
 
 is_less : (m n : ℕ) → nat_lt m n ≡ true → m < n
 is_less m n h = grind (arith, nat_tests)
 
-by_test : (word : Text) (b : Bool) → is_number word ≡ b → number_of word ≡ (if b then Some (digits_value 10 word) else None)
+pub by_test : (word : Text) (b : Bool) → is_number word ≡ b → number_of word ≡ (if b then Some (digits_value 10 word) else None)
 unfolding number_of
 by_test word b h = rw h refl
 

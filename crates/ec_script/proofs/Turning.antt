@@ -1,10 +1,10 @@
 -- Turn after turn of a start-up.
-use Rattle.std.proofs.Common.{◌≡◌, ◌∙◌, ℕ, zero, suc, ◌+◌, ◌-◌, ◌<◌, ◌≤◌, ◌&&◌, Bool, true, false, Option, Some, None, is_some, is_none, if◌then◌else◌, refl, sym, ap, subst, arith}
+use Rattle.std.proofs.Common.{◌≡◌, ℕ, suc, ◌+◌, ◌-◌, ◌<◌, ◌≤◌, ◌&&◌, Bool, true, false, Option, Some, None, is_some, is_none, if◌then◌else◌, refl, sym, subst, arith}
 use Rattle.ec_start.specs.Running.{outcome_of}
 use Rattle.ec_world.specs.World.{WorldState}
 use Rattle.ec_script.specs.declared.said.Said.{Said}
 use Rattle.ec_script.specs.declared.said.Said.TheVariants.{Nothing}
-use Rattle.ec_script.specs.Work.{Onward, RunsTurn, Starts, is_done, is_starting, last_turn}
+use Rattle.ec_script.specs.Work.{Onward, RunsTurn, Starts, is_done, is_starting}
 
 none_of : {X : Type 0} (o : Option X) (b : Bool) → is_some o ≡ b → is_none o ≡ (if b then false else true)
 none_of None true h = cc

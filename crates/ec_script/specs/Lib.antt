@@ -14,3 +14,7 @@ pub mod Rounds
 pub mod Work
 -- what is printed of it
 pub mod Texts
+-- the events of a line, and that its work is a run of them
+pub mod Events
+-- how a line is written, and that it is read back
+pub mod Writing

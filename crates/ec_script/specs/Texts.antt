@@ -1,5 +1,5 @@
 -- What is printed of a script (this project's profile). Numbers are decimal where they aren't said to be hex.
-use Rattle.std.specs.Prelude.{ℕ, ◌/◌, ◌%◌, List, [], ◌∷◌, ◌++◌, get_or, Bool, true, false, if◌then◌else◌, Option, Some, None, Result, Ok, Err, slice_get, codes}
+use Rattle.std.specs.Prelude.{ℕ, ◌/◌, ◌%◌, List, [], ◌∷◌, ◌++◌, get_or, Bool, false, if◌then◌else◌, Option, Some, None, Result, Ok, Err, slice_get, codes}
 use Rattle.std.specs.Fmt.{decimal}
 use Rattle.std.specs.List.{list_all}
 use Rattle.hex.specs.Hex.{encode_lower}

@@ -4,6 +4,7 @@
 mod acts;
 mod error;
 mod halves;
+pub mod laws;
 mod line;
 mod read;
 mod report;

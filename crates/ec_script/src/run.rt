@@ -2,7 +2,8 @@ ghost use Rattle.std.specs.Prelude.{◌≡◌, OnOk, string_bytes};
 ghost use Rattle.std.specs.Result.{IfOk};
 ghost use Rattle.ec_link.specs.Plan.{plan_of};
 ghost use Rattle.ec_script.specs.declared.said.Said.{Said};
-ghost use Rattle.ec_script.specs.Work.{Does};
+ghost use Rattle.ec_script.specs.Work.{Does, is_done};
+ghost use Rattle.ec_script.specs.Events.{RunsLine};
 ghost use Rattle.ec_script.specs.Texts.{said_text};
 
 use crate::line::{Act, Line};
@@ -12,11 +13,12 @@ use ec_table::Table;
 use ec_world::World;
 use std::alloc::{AllocError, Global};
 
-/// Does what a line asks for, up to the first event that can't be made, and answers what there is to say of it. It takes no
-/// memory.
-#[tactic(auto, using(crate::proofs::Plans::act_keeps))]
+/// Does what a line asks for, up to the first event that can't be made, and answers what there is to say of it. The world is
+/// left as `World::run` of the line's events leaves it. It takes no memory.
+#[tactic(auto, using(crate::proofs::Plans::act_keeps, crate::proofs::Running::lines_run))]
 pub fn do_act(world: &mut World<'_>, act: Act) -> Said
     ensures does { Does act world.old world.new result }
+    ensures run { RunsLine act world.old world.new (is_done result) }
     ensures plan { world.new.plan ≡ world.old.plan }
 {
     match act {
@@ -27,8 +29,8 @@ pub fn do_act(world: &mut World<'_>, act: Act) -> Said
     }
 }
 
-/// Does what a line asks for, up to the first event that can't be made, and answers what is printed of it. The world is one
-/// of the table.
+/// Does what a line asks for, up to the first event that can't be made, and answers what is printed of it: the world is left
+/// as `World::run` of the line's events leaves it, and the text is that of the last of them. The world is one of the table.
 ///
 /// # Errors
 ///
@@ -42,6 +44,8 @@ pub fn run_line(
     requires { world.old.plan ≡ plan_of table.now }
     ensures plan { world.new.plan ≡ world.old.plan }
     ensures does { (said : Said) × Does line.now.act world.old world.new said
+        × IfOk result (λ text. string_bytes text ≡ said_text table.now line.now.number world.new said) }
+    ensures run { (said : Said) × RunsLine line.now.act world.old world.new (is_done said)
         × IfOk result (λ text. string_bytes text ≡ said_text table.now line.now.number world.new said) }
 {
     let said = do_act(world, line.act);

@@ -1,6 +1,5 @@
-use Rattle.std.proofs.Common.{◌≡◌, ◌∙◌, ◌+◌, ◌<◌, ◌≤◌, length, false, true, sym, ap, subst}
-use Rattle.ec_world.specs.World.{WorldState}
-use Rattle.ec_script.specs.Rounds.{greatest, has_number, rounds, rounds_found, slots_with}
+use Rattle.std.proofs.Common.{◌∙◌, ◌+◌, ◌<◌, ◌≤◌, length, sym, subst}
+use Rattle.ec_script.specs.Rounds.{greatest, rounds, slots_with}
 use Rattle.ec_script.specs.Work.{MakesAll}
 use Rattle.ec_script.proofs.Going.{AreGone, all_gone, gone_on, gone_wrong, passed_over}
 use Rattle.ec_script.proofs.rounds.go_rounds.Goals as goal

@@ -1,0 +1,93 @@
+-- The events of a line, and that its work is a run of them: of a line, of `ready`, of `cycle`, of a whole script (this
+-- project's profile).
+use Rattle.std.specs.Prelude.{ℕ, zero, suc, ◌<◌, ◌≤◌, ◌≡◌, ◌⊎◌, List, [], ◌∷◌, ◌++◌, length, replicate, take, get_or, Bool, true, false, Option}
+use Rattle.ec_world.specs.declared.event.Event.{Event}
+use Rattle.ec_world.specs.declared.event.Event.TheVariants.{StartNext, Begin, Close}
+use Rattle.ec_world.specs.Laws.{IsRun}
+use Rattle.ec_world.specs.Plain.{filled}
+use Rattle.ec_world.specs.World.{Flight, WorldState, can_happen, flights_from}
+use Rattle.ec_script.specs.declared.line.Act.{Act}
+use Rattle.ec_script.specs.declared.line.Act.TheVariants.{One, Ready, Cycle, Show}
+use Rattle.ec_script.specs.declared.line.Line.{Line}
+use Rattle.ec_script.specs.declared.said.Said.{Said}
+use Rattle.ec_script.specs.Rounds.{greatest, rounds, slots_with}
+use Rattle.ec_script.specs.Work.{Does, has_ended, is_done, last_turn}
+
+-- ---- events as far as they can be made
+
+-- So many of the events are made, each of them, in their order; then there is none left, or the next can't be made.
+pub record AreMade (events : List Event) (old new : WorldState) (all : Bool) : Type 0 where
+  pub made : ℕ
+  pub within : made ≤ length events
+  pub run : IsRun old (take made events) new made
+  pub whole : all ≡ true → made ≡ length events
+  pub stopped : all ≡ false → (made < length events) × (can_happen new (get_or events made Close) ≡ false)
+
+-- ---- a cycle
+
+-- the slots once so many frames of a number were sent, which go into the lowest free ones; what is in the frames is left out
+abbrev pub slots_sent : ℕ → ℕ → List (Option Flight) → List (Option Flight)
+slots_sent count number slots = filled (flights_from number 0 (replicate count [])) slots
+
+-- the slots of the newest frames, rising
+abbrev pub newest_slots : List (Option Flight) → List ℕ
+newest_slots slots = slots_with (greatest slots) 0 slots
+
+-- `begin`; each part's frame past every slave and back; `close`
+abbrev pub cycle_events : WorldState → List Event
+cycle_events w =
+    Begin ∷ (rounds (length w.slaves) false (newest_slots (slots_sent (length w.master.plan.parts) w.master.next w.slots)) ++ (Close ∷ []))
+
+-- ---- a start-up
+
+-- A frame of a start-up is in the lowest slot, since it is sent only where no other is on its way.
+abbrev pub lowest_slot : {X : Type 0} → List X → List ℕ
+lowest_slot [] = []
+lowest_slot (slot ∷ slots) = 0 ∷ []
+
+-- `start`; the frame past every slave; each slave serves; the frame comes back
+abbrev pub turn_events : WorldState → List Event
+turn_events w = StartNext ∷ rounds (length w.slaves) true (lowest_slot w.slots)
+
+-- so many turns
+abbrev pub turns_events : WorldState → ℕ → List Event
+turns_events w zero = []
+turns_events w (suc turns) = turn_events w ++ turns_events w turns
+
+-- the start-up goes on when these events were made
+pub record GoesOn (events : List Event) (old : WorldState) : Type 0 where
+  pub mid : WorldState
+  pub made : AreMade events old mid true
+  pub going : has_ended mid ≡ false
+
+-- turn after turn until the start-up has ended, and no further; there are no more turns than numbers of frames
+pub record RunsReady (old new : WorldState) (all : Bool) : Type 0 where
+  pub turns : ℕ
+  pub most : turns ≤ last_turn
+  pub made : AreMade (turns_events old turns) old new all
+  pub before : (n : ℕ) → 0 < n → n < turns → GoesOn (turns_events old n) old
+  pub ended : all ≡ true → (has_ended new ≡ true) ⊎ (turns ≡ last_turn)
+
+-- ---- a line
+
+-- whether all of its events could be made
+abbrev pub RunsLine : Act → WorldState → WorldState → Bool → Type 0
+RunsLine (One e) old new all = AreMade (e ∷ []) old new all
+RunsLine Ready old new all = RunsReady old new all
+RunsLine Cycle old new all = AreMade (cycle_events old) old new all
+RunsLine Show old new all = AreMade [] old new all
+
+-- What a line does is a run of its events; it says no exactly where one can't be made.
+abbrev pub LinesRun : Type 0
+LinesRun = (act : Act) (old new : WorldState) (word : Said) → Does act old new word → RunsLine act old new (is_done word)
+
+-- ---- a script
+
+-- lines one after another
+abbrev pub DoesAll : List Line → WorldState → WorldState → Type 0
+DoesAll [] old new = new ≡ old
+DoesAll (line ∷ lines) old new = (mid : WorldState) × (word : Said) × Does line.act old mid word × DoesAll lines mid new
+
+-- Whatever a script does to a world, a run of events does it.
+abbrev pub ScriptsRun : Type 0
+ScriptsRun = (lines : List Line) (old new : WorldState) → DoesAll lines old new → (events : List Event) × IsRun old events new (length events)

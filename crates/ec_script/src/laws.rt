@@ -1,0 +1,22 @@
+//! Laws of scripts. Each function does nothing: its contract is the law.
+ghost use Rattle.ec_script.specs.Events.{LinesRun, ScriptsRun};
+ghost use Rattle.ec_script.specs.Writing.{ActsReadBack};
+
+/// What a line does to a world is a run of the line's events, up to the first that can't be made; it says no exactly where
+/// there is such an event.
+#[tactic(auto, using(crate::proofs::Running::lines_run))]
+pub fn lines_are_runs()
+    ensures { LinesRun }
+{}
+
+/// Whatever the lines of a script do to a world, one after another, a run of events does it.
+#[tactic(auto, using(crate::proofs::Running::scripts_run))]
+pub fn scripts_are_runs()
+    ensures { ScriptsRun }
+{}
+
+/// The line that is written for an act of a table's script is read as that act.
+#[tactic(auto, using(crate::proofs::ReadingBack::acts_read_back))]
+pub fn acts_read_back()
+    ensures { ActsReadBack }
+{}
