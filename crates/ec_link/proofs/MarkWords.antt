@@ -6,6 +6,7 @@ use Rattle.std.proofs.lemmas.Bool.Decides.{nat_tests}
 use Rattle.std.proofs.lemmas.Nat.{shr_split, and_le_r}
 use Rattle.std.proofs.lemmas.Nat.Bits.{bit_at-lt, bit_at-zero, bit_at_and, bit_at_or, bit_at_ones, bit_at_ones_above, bit_at_cat_low, bit_at_cat_high, bit_at-trailing_zeros, ones_shr}
 use Rattle.ec_bits.specs.Bits.{within}
+use Rattle.ec_link.proofs.Basics.{or_false, or_left, or_right}
 use Rattle.ec_link.specs.Marks.{is_set, is_marked, IsMask, Marks}
 
 -- ---- the mask
@@ -108,10 +109,6 @@ here xs x k i e h =
     let q : x / 64 ≡ k = omega arith in
     let r : x % 64 ≡ i = omega arith in
     ap (λ (j : ℕ). is_set (get_or xs j 0) (x % 64)) q ∙ ap (is_set (get_or xs k 0)) r
-
-or_false : (a : Bool) → (a || false) ≡ a
-or_false true = refl
-or_false false = refl
 
 within_word : (from count x : ℕ) → x / 64 ≡ from / 64 → within (from % 64) count (x % 64) ≡ within from count x
 within_word from count x same =
@@ -222,14 +219,6 @@ or_assoc : (a b c : Bool) → ((a || b) || c) ≡ (a || (b || c))
 or_assoc true b c = refl
 or_assoc false b c = refl
 
-left_false : (a b : Bool) → (a || b) ≡ false → a ≡ false
-left_false true b h = h
-left_false false b h = refl
-
-right_false : (a b : Bool) → (a || b) ≡ false → b ≡ false
-right_false true b h = absurd (false≢true (sym h))
-right_false false b h = h
-
 right_true : (a b : Bool) → a ≡ false → (a || b) ≡ true → b ≡ true
 right_true true b f h = absurd (false≢true (sym f))
 right_true false b f h = h
@@ -251,11 +240,11 @@ marks_both old mid new from head count found again le p q = record {
         }
   ];
   miss = λ e j b. elim (cases_lt j head) [
-    | inl lt ↦ p.miss (left_false found again e) j lt
+    | inl lt ↦ p.miss (or_left found again e) j lt
     | inr ge ↦
         let is : from + head + (j - head) ≡ from + j = omega arith in
-        let m : is_marked mid (from + j) ≡ false = sym (ap (is_marked mid) is) ∙ q.miss (right_false found again e) (j - head) (omega arith) in
-        left_false (is_marked old (from + j)) (within from head (from + j)) (sym (p.marked (from + j)) ∙ m)
+        let m : is_marked mid (from + j) ≡ false = sym (ap (is_marked mid) is) ∙ q.miss (or_right found again e) (j - head) (omega arith) in
+        or_left (is_marked old (from + j)) (within from head (from + j)) (sym (p.marked (from + j)) ∙ m)
   ];
   marked = λ x. q.marked x ∙ ap (λ (b : Bool). b || within (from + head) (count - head) x) (p.marked x)
       ∙ or_assoc (is_marked old x) (within from head x) (within (from + head) (count - head) x) ∙ ap (λ (b : Bool). is_marked old x || b) (within_both from head count x le);

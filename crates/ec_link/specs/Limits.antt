@@ -1,5 +1,5 @@
 -- What private code keeps of the numbers and places that it counts with; none of it is needed to read what a plan is.
-use Rattle.std.specs.Prelude.{ℕ, ◌+◌, ◌≡◌, ◌<◌, ◌≤◌, ◌^◌, List, length, All, Option, Some, None, Result, Ok, Err}
+use Rattle.std.specs.Prelude.{ℕ, ◌+◌, ◌≡◌, ◌<◌, ◌≤◌, ◌^◌, Bool, false, List, length, get_or, All, Option, Some, None, Result, Ok, Err}
 use Rattle.ec_table.specs.declared.rows.VariableRow.{VariableRow}
 use Rattle.ec_link.specs.declared.entries.Run.{Run}
 use Rattle.ec_link.specs.declared.sizes.Size.{Size}
@@ -11,7 +11,7 @@ use Rattle.ec_link.specs.declared.plan.PartPlan.{PartPlan}
 use Rattle.ec_link.specs.declared.fault.LinkFault.{LinkFault}
 use Rattle.ec_link.specs.declared.fault.LinkError.{LinkError}
 use Rattle.ec_link.specs.declared.fault.LinkError.TheVariants.{Memory}
-use Rattle.ec_link.specs.Layout.{part_so_far, seat_at}
+use Rattle.ec_link.specs.Layout.{part_so_far, seat_at, is_unit_of}
 use Rattle.ec_link.specs.Plan.{logical_from}
 
 -- within what a slave can have
@@ -58,3 +58,8 @@ IsMemory e = e ≡ Memory
 abbrev pub Tested : {X : Type 0} → Result X LinkFault → Option LinkFault → Type 0
 Tested (Ok x) f = f ≡ None
 Tested (Err g) f = f ≡ Some g
+
+-- of each of the 64 units it is told whether some slave has it
+pub record AreUsedUnits (zs : List Size) (used : List Bool) : Type 0 where
+  pub as_many : length used ≡ 64
+  pub each : (unit : ℕ) → unit < 64 → get_or used unit false ≡ is_unit_of zs unit
