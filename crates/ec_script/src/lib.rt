@@ -11,6 +11,8 @@ mod report;
 mod rounds;
 mod run;
 mod said;
+#[cfg(test)]
+mod tests;
 mod words;
 
 pub use crate::error::ScriptError;
