@@ -1,5 +1,5 @@
 -- Calls of a wire one after the other.
-use Rattle.std.proofs.Common.{◌≡◌, ◌≤◌, ◌++◌, ◌||◌, ◌==◌, ℕ, List, [], ◌∷◌, Bool, true, false, Option, None, Some, sym, ◌∙◌, ap, append_assoc, arith, nat_lt, not, refl}
+use Rattle.std.proofs.Common.{◌≡◌, ◌≤◌, ◌++◌, ◌||◌, ◌==◌, ℕ, List, [], Bool, true, false, Option, None, Some, sym, ◌∙◌, ap, append_assoc, arith, nat_lt, not, refl, subst}
 use Rattle.std.proofs.lemmas.List.{append-nil}
 use Rattle.std.proofs.lemmas.Bool.Decides.{nat_tests}
 use Rattle.ec_wire.specs.Wires.{WireState, Carries, Grows, is_fault, most_failed}
@@ -44,3 +44,13 @@ fault-to a b c e = ap (λ (n : ℕ). nat_lt a.failed n || (a.failed == most_fail
 pub no_fault : (b : Bool) → true ≡ not b → b ≡ false
 no_fault true e = e
 no_fault false e = refl
+
+-- or that there was one
+pub one_fault : (b : Bool) → false ≡ not b → b ≡ true
+one_fault true e = refl
+one_fault false e = absurd (let f : false ≡ true = e in cc)
+
+-- a call that carried nothing
+pub carries-lost : (a b c : WireState) (xs ys : List (List ℕ)) → Carries a b xs ys → Carries b c [] [] → Carries a c xs ys
+carries-lost a b c xs ys g h =
+    subst (λ (zs : List (List ℕ)). Carries a c zs ys) (append-nil xs) (subst (λ (zs : List (List ℕ)). Carries a c (xs ++ []) zs) (append-nil ys) (carries-then a b c xs ys [] [] g h))

@@ -1,2 +1,5 @@
 pub mod Carrying
 pub mod Taking
+pub mod Applying
+pub mod Serving
+pub mod Bringing

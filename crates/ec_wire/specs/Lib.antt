@@ -1,8 +1,13 @@
--- What wires are, and what a cycle over a wire is. These are to be believed by reading, in this order:
+-- What wires are, and what is done over one. These are to be believed by reading, in this order:
 
 -- what a wire tells of itself, and what its calls make of that
 pub mod Wires
 -- a cycle over a wire
 pub mod Running
+-- a start-up over a wire
+pub mod BringingUp
+-- what the applications of slaves do, and a segment that answers on a wire
+pub mod Applications
+pub mod Segments
 -- the errors' numbers and names
 pub mod Errors

@@ -1,5 +1,9 @@
 //! The applications of simulated slaves.
-ghost use Rattle.std.specs.Prelude.{◌≡◌, ◌≤◌, length};
+ghost use Rattle.std.specs.Prelude.{◌≡◌, ◌≤◌, ◌<◌, ℕ, List, false, true, length};
+ghost use Rattle.ec_slave.specs.Application.{get_size, put_size};
+ghost use Rattle.ec_ring.specs.Rings.{IsNoFrame};
+ghost use Rattle.ec_wire.specs.Applications.{AreServed, HasStepped, IsServed, inputs_written, outputs_read, outputs_seen};
+ghost use Rattle.ec_wire.specs.Segments.{IsAnswer};
 
 use ec_ring::Ring;
 use ec_slave::Slave;
@@ -9,11 +13,18 @@ const MOST_DATA: usize = 2730;
 
 /// A slave's application: what it makes of its outputs.
 pub trait App {
+    /// Which inputs it may make of which outputs, now or later.
+    ghost shows: { Self → List ℕ → List ℕ → Type 0 } = { λ app outputs inputs. Unit {0} };
+
     /// Sets the inputs from the outputs.
-    fn step(&mut self, outputs: &[u8], inputs: &mut [u8]);
+    fn step(&mut self, outputs: &[u8], inputs: &mut [u8])
+        ensures made { shows self.old outputs.now inputs.new }
+        ensures later { (o i : List ℕ) → shows self.new o i → shows self.old o i };
 }
 
 impl App for &mut dyn App {
+    ghost shows = { λ app. (App-dyn app.now).shows app.now.1 };
+
     fn step(&mut self, outputs: &[u8], inputs: &mut [u8]) {
         (**self).step(outputs, inputs);
     }
@@ -24,6 +35,10 @@ impl App for &mut dyn App {
 pub struct Echo;
 
 impl App for Echo {
+    ghost use Rattle.ec_wire.specs.Applications.{IsEchoed};
+
+    ghost shows = { λ app. IsEchoed };
+
     fn step(&mut self, outputs: &[u8], inputs: &mut [u8]) {
         let shown = outputs.len().min(inputs.len());
         inputs.fill(0);
@@ -31,40 +46,67 @@ impl App for Echo {
     }
 }
 
-/// The application reads its outputs.
-fn read_outputs(slave: &mut Slave, outputs: &mut [u8]) {
-    for place in 0..outputs.len() {
-        outputs[place] = slave.app_get(place).unwrap_or(0);
+/// The application reads its outputs, as many as it may read now.
+fn read_outputs(slave: &mut Slave, outputs: &mut [u8])
+    requires { length outputs.old ≡ get_size slave.old }
+    ensures seen { outputs.new ≡ outputs_seen slave.old }
+    ensures read { slave.new ≡ outputs_read slave.old }
+{
+    slave.is_sound();
+    if outputs.is_empty() {
+        return;
     }
+    outputs.copy_from_slice(slave.outputs());
+    // the first byte opens a view, and the last one closes it
+    slave.app_get(0);
+    slave.app_get(outputs.len() - 1);
 }
 
-/// The application writes its inputs.
-fn write_inputs(slave: &mut Slave, inputs: &[u8]) {
+/// The application writes its inputs, as many as it may write now.
+fn write_inputs(slave: &mut Slave, inputs: &[u8])
+    requires { length inputs.now ≡ put_size slave.old }
+    ensures { slave.new ≡ inputs_written slave.old inputs.now }
+{
+    slave.is_sound();
     for place in 0..inputs.len() {
         slave.app_put(place, inputs[place]);
     }
 }
 
-/// A slave's firmware steps; then its application, where it has process data now, reads all output bytes, steps and writes all
-/// input bytes. It has them in `outputs` and `inputs`.
-fn serve_slave<A: App>(slave: &mut Slave, app: &mut A, outputs: &mut [u8], inputs: &mut [u8]) {
-    slave.serve();
-    let (output_count, input_count) = slave.app_sizes();
-    if output_count == 0 && input_count == 0 {
-        return;
-    }
-    let output_count = output_count.min(outputs.len());
-    let input_count = input_count.min(inputs.len());
-    let outputs = &mut outputs[..output_count];
-    let inputs = &mut inputs[..input_count];
+/// An application reads all output bytes, steps and writes all input bytes.
+fn step_application<A: App>(slave: &mut Slave, app: &mut A, outputs: &mut [u8], inputs: &mut [u8])
+    requires outputs { length outputs.old ≡ get_size slave.old }
+    requires inputs { length inputs.old ≡ put_size slave.old }
+    ensures stepped { HasStepped (A.shows app.old) slave.old slave.new }
+    ensures later { (o i : List ℕ) → A.shows app.new o i → A.shows app.old o i }
+{
     read_outputs(slave, outputs);
     app.step(outputs, inputs);
     write_inputs(slave, inputs);
 }
 
+/// A slave's firmware steps; then its application, where it has process data now. It has them in `outputs` and `inputs`.
+#[tactic(auto, using(crate::proofs::Applying::few_read, crate::proofs::Applying::few_written))]
+fn serve_slave<A: App>(slave: &mut Slave, app: &mut A, outputs: &mut [u8], inputs: &mut [u8])
+    requires outputs { length outputs.old ≡ 2730 }
+    requires inputs { length inputs.old ≡ 2730 }
+    ensures served { IsServed (A.shows app.old) slave.old slave.new }
+    ensures later { (o i : List ℕ) → A.shows app.new o i → A.shows app.old o i }
+{
+    slave.serve();
+    let (output_count, input_count) = slave.app_sizes();
+    if output_count == 0 && input_count == 0 {
+        return;
+    }
+    let outputs = &mut outputs[..output_count];
+    let inputs = &mut inputs[..input_count];
+    step_application(slave, app, outputs, inputs);
+}
+
 /// Each slave is served, in order.
 fn serve_slaves<A: App>(ring: &mut Ring, app: &mut A)
-    ensures { length ring.new ≡ length ring.old }
+    ensures served { AreServed (A.shows app.old) ring.old ring.new }
+    ensures later { (o i : List ℕ) → A.shows app.new o i → A.shows app.old o i }
 {
     let mut outputs = [0; MOST_DATA];
     let mut inputs = [0; MOST_DATA];
@@ -76,7 +118,10 @@ fn serve_slaves<A: App>(ring: &mut Ring, app: &mut A)
 /// A payload passes the slaves, and each is served. It answers whether the payload was a frame; one that is none changes
 /// nothing.
 pub(crate) fn answer<A: App>(ring: &mut Ring, app: &mut A, payload: &mut [u8]) -> bool
-    ensures { length ring.new ≡ length ring.old }
+    ensures answered { result ≡ true → IsAnswer (A.shows app.old) ring.old payload.old ring.new payload.new }
+    ensures refused { result ≡ false → IsNoFrame payload.old }
+    ensures kept { result ≡ false → ring.new ≡ ring.old }
+    ensures later { (o i : List ℕ) → A.shows app.new o i → A.shows app.old o i }
 {
     if ring.pass_all(payload).is_err() {
         return false;

@@ -1,6 +1,7 @@
 //! A segment of simulated slaves that answers on a wire.
-ghost use Rattle.std.specs.Prelude.{◌≡◌, ◌≤◌, ◌<◌, ◌+◌, true, IfOk, IfSome, IfNone, IsErr, length};
-ghost use Rattle.ec_wire.specs.Wires.{is_fault};
+ghost use Rattle.std.specs.Prelude.{◌≡◌, ◌≤◌, ◌<◌, ◌+◌, ◌++◌, ℕ, List, [], ◌∷◌, true, IfOk, IfSome, IfNone, IsErr, length, if◌then◌else◌};
+ghost use Rattle.ec_wire.specs.Wires.{Carries, is_fault};
+ghost use Rattle.ec_wire.specs.Segments.{AreTreated, HasServed, WasCutOff};
 
 use crate::application::{App, answer};
 use crate::error::SocketFault;
@@ -21,7 +22,8 @@ impl Served {
     /// One payload more.
     fn count(&mut self, is_answered: bool)
         requires { self.old.answered + self.old.refused < 4294967295 }
-        ensures { self.new.answered + self.new.refused ≡ self.old.answered + self.old.refused + 1 }
+        ensures answered { self.new.answered ≡ self.old.answered + (if is_answered then 1 else 0) }
+        ensures all { self.new.answered + self.new.refused ≡ self.old.answered + self.old.refused + 1 }
     {
         if is_answered {
             self.answered += 1;
@@ -33,9 +35,12 @@ impl Served {
 
 /// Receives one payload and answers it where it is a frame. Whether it was, or nothing at a fault of the wire.
 fn serve_payload<A: App, W: Wire>(ring: &mut Ring, app: &mut A, wire: &mut W) -> Option<bool>
-    ensures count { length ring.new ≡ length ring.old }
-    ensures fault { IfNone result (is_fault (W.state wire.old) (W.state wire.new) ≡ true) }
-    ensures same { IfSome result (λ answered. (W.state wire.new).failed ≡ (W.state wire.old).failed) }
+    ensures later { (o i : List ℕ) → A.shows app.new o i → A.shows app.old o i }
+    ensures done { IfSome result (λ is_answered. (payload : List ℕ) × (sent : List (List ℕ))
+        × Carries (W.state wire.old) (W.state wire.new) sent (payload ∷ []) × AreTreated (A.shows app.old) ring.old (payload ∷ []) ring.new sent
+        × (length sent ≡ (if is_answered then 1 else 0))) }
+    ensures same { IfSome result (λ is_answered. (W.state wire.new).failed ≡ (W.state wire.old).failed) }
+    ensures cut { IfNone result (WasCutOff (A.shows app.old) ring.old ring.new (W.state wire.old) (W.state wire.new) 1) }
 {
     let mut buffer = [0; MOST_BYTES];
     let count = receive_on(wire, &mut buffer)?;
@@ -50,31 +55,47 @@ fn serve_payload<A: App, W: Wire>(ring: &mut Ring, app: &mut A, wire: &mut W) ->
     }
 }
 
+/// Receives payloads, so many in all, and answers those that are frames. How many were and were not, or nothing at a fault of
+/// the wire.
+fn serve_payloads<A: App, W: Wire>(
+    ring: &mut Ring,
+    app: &mut A,
+    wire: &mut W,
+    frames: u32,
+) -> Option<Served>
+    ensures served { IfSome result (λ s. HasServed (A.shows app.old) ring.old ring.new (W.state wire.old) (W.state wire.new) frames s.answered s.refused) }
+    ensures same { IfSome result (λ s. (W.state wire.new).failed ≡ (W.state wire.old).failed) }
+    ensures cut { IfNone result (WasCutOff (A.shows app.old) ring.old ring.new (W.state wire.old) (W.state wire.new) frames) }
+{
+    let mut served = Served {
+        answered: 0,
+        refused: 0,
+    };
+    for _ in 0..frames {
+        let Some(is_answered) = serve_payload(ring, app, wire) else {
+            return None;
+        };
+        served.count(is_answered);
+    }
+    Some(served)
+}
+
 /// Receives payloads, so many in all. A frame passes the slaves, each is served, its application steps, and the frame is sent
 /// back; a payload that is no frame is counted and not answered.
 ///
 /// # Errors
 ///
-/// `SocketFault` where a call of the wire was a fault.
+/// `SocketFault` where a call of the wire was a fault. What came until then was treated so; the last answer may be lost.
 pub fn serve_segment<W: Wire>(
     ring: &mut Ring,
     app: &mut dyn App,
     wire: &mut W,
     frames: u32,
 ) -> Result<Served, SocketFault>
-    ensures counts { IfOk result (λ s. s.answered + s.refused ≡ frames) }
-    ensures fault { IsErr result → is_fault (W.state wire.old) (W.state wire.new) ≡ true }
+    ensures served { IfOk result (λ s. HasServed (shows app.old) ring.old ring.new (W.state wire.old) (W.state wire.new) frames s.answered s.refused) }
     ensures same { IfOk result (λ s. (W.state wire.new).failed ≡ (W.state wire.old).failed) }
-    ensures slaves { length ring.new ≡ length ring.old }
+    ensures cut { IsErr result → WasCutOff (shows app.old) ring.old ring.new (W.state wire.old) (W.state wire.new) frames }
 {
     let mut app = app;
-    let mut served = Served {
-        answered: 0,
-        refused: 0,
-    };
-    for _ in 0..frames {
-        let is_answered = serve_payload(ring, &mut app, wire).ok_or(SocketFault)?;
-        served.count(is_answered);
-    }
-    Ok(served)
+    serve_payloads(ring, &mut app, wire, frames).ok_or(SocketFault)
 }

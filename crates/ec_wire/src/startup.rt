@@ -1,6 +1,7 @@
 //! A start-up over a wire.
-ghost use Rattle.std.specs.Prelude.{◌≡◌, true};
+ghost use Rattle.std.specs.Prelude.{◌≡◌, true, false};
 ghost use Rattle.ec_start.specs.Running.{is_ended};
+ghost use Rattle.ec_wire.specs.BringingUp.{IsAnswered, IsBroughtUp, IsTurn, IsUnanswered};
 
 use crate::payload::MOST_BYTES;
 use crate::wire::{Wire, receive_on, send_on};
@@ -10,8 +11,12 @@ use ec_start::{NextFrame, Startup, Taken};
 /// So many payloads that don't answer a frame are received for it.
 const MOST_FOREIGN: usize = 64;
 
-/// Sends a frame of the start-up and receives until it is answered. It answers whether it was.
-fn exchange<W: Wire>(startup: &mut Startup, wire: &mut W, frame: &[u8]) -> bool {
+/// Sends a frame of the start-up and receives until it is answered. It answers whether it was; else the start-up is as it was.
+fn exchange<W: Wire>(startup: &mut Startup, wire: &mut W, frame: &[u8]) -> bool
+    ensures answered { result ≡ true → IsAnswered startup.old startup.new frame.now (W.state wire.old) (W.state wire.new) }
+    ensures unanswered { result ≡ false → IsUnanswered startup.old frame.now (W.state wire.old) (W.state wire.new) }
+    ensures kept { result ≡ false → startup.new ≡ startup.old }
+{
     let mut buffer = [0; MOST_BYTES];
     if !send_on(wire, frame) {
         return false;
@@ -20,19 +25,31 @@ fn exchange<W: Wire>(startup: &mut Startup, wire: &mut W, frame: &[u8]) -> bool 
         let Some(count) = receive_on(wire, &mut buffer) else {
             return false;
         };
-        if startup.take(&buffer[..count]) == Taken::Kept {
-            return true;
+        match startup.take(&buffer[..count]) {
+            Taken::Kept => return true,
+            Taken::Foreign => {}
         }
     }
     false
 }
 
-/// One turn: the next frame is sent and its answer taken. It answers whether there was a frame and it was answered.
-fn turn<W: Wire>(startup: &mut Startup, wire: &mut W, frame: &mut Frame) -> bool {
+/// One turn: the next frame is sent and its answer taken. It answers whether the start-up goes on; one whose frame isn't
+/// answered is given up.
+fn turn<W: Wire>(startup: &mut Startup, wire: &mut W, frame: &mut Frame) -> bool
+    ensures made { result ≡ true → IsTurn startup.old startup.new (W.state wire.old) (W.state wire.new) }
+    ensures ended { result ≡ false → IsBroughtUp startup.old (W.state wire.old) startup.new (W.state wire.new) }
+{
     match startup.next(frame) {
-        NextFrame::Send => exchange(startup, wire, frame.as_slice()),
-        NextFrame::Waiting | NextFrame::Ended => false,
+        NextFrame::Send => {
+            if exchange(startup, wire, frame.as_slice()) {
+                return true;
+            }
+            startup.give_up();
+        }
+        NextFrame::Waiting => startup.give_up(),
+        NextFrame::Ended => {}
     }
+    false
 }
 
 /// Brings the slaves up that answer on a wire: turn after turn the next frame is sent and its answer taken, until the start-up
@@ -40,15 +57,15 @@ fn turn<W: Wire>(startup: &mut Startup, wire: &mut W, frame: &mut Frame) -> bool
 ///
 /// A start-up whose frame is outstanding ends as lost.
 pub fn bring_up_wire<W: Wire>(startup: &mut Startup, wire: &mut W)
-    ensures { is_ended startup.new.phase ≡ true }
+    ensures leads { IsBroughtUp startup.old (W.state wire.old) startup.new (W.state wire.new) }
+    ensures ended { is_ended startup.new.phase ≡ true }
 {
     let mut frame = Frame::new();
-    // each turn takes a number, and where none is left the next one ends it
+    // each turn takes a number
     for _ in startup.next_number()..u64::MAX {
         if !turn(startup, wire, &mut frame) {
-            break;
+            return;
         }
     }
     turn(startup, wire, &mut frame);
-    startup.give_up();
 }

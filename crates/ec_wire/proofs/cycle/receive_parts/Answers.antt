@@ -1,4 +1,4 @@
-use Rattle.std.proofs.Common.{◌≡◌, ◌∙◌, ◌<◌, ◌++◌, ◌∷◌, [], false, ℕ, List, take, arith, length-append}
+use Rattle.std.proofs.Common.{◌≡◌, ◌∙◌, ◌<◌, ◌++◌, ◌∷◌, [], false, take, arith, length-append}
 use Rattle.ec_cycle.specs.Master.{missing_of}
 use Rattle.ec_wire.specs.Wires.{is_fault}
 use Rattle.ec_wire.proofs.Carrying.{carries-then, fine-same, no_fault}

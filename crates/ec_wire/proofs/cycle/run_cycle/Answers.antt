@@ -1,4 +1,4 @@
-use Rattle.std.proofs.Common.{◌≡◌, ◌∙◌, ap, is_some, refl}
+use Rattle.std.proofs.Common.{◌∙◌, ap, is_some, refl}
 use Rattle.ec_cycle.specs.Master.{MasterState}
 use Rattle.ec_wire.proofs.Taking.{inputs-stay, not_none, stays-open}
 use Rattle.ec_wire.proofs.cycle.run_cycle.Goals as goal

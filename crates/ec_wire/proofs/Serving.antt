@@ -1,0 +1,125 @@
+-- Slaves that are served one after the other, and what an application may make of its outputs later.
+use Rattle.std.proofs.Common.{ℕ, zero, suc, ◌+◌, ◌<◌, ◌≤◌, ◌≡◌, ◌≢◌, inl, inr, List, [], ◌∷◌, ◌++◌, length, slice_get, set, Some, refl, sym, ◌∙◌, ap, subst, arith, append_assoc, append-nil, length-append}
+use Rattle.std.proofs.lemmas.Bool.{cases_eq}
+use Rattle.std.proofs.lemmas.List.{length-set}
+use Rattle.std.proofs.lemmas.Option.{slice_get_within}
+use Rattle.ec_slave.specs.State.{SlaveState}
+use Rattle.ec_slave.specs.Serving.{served}
+use Rattle.ec_wire.specs.Applications.{HasStepped, IsServed, AreServed, outputs_seen}
+use Rattle.ec_wire.specs.Wires.{WireState, Carries}
+use Rattle.ec_wire.specs.Segments.{IsAnswer, IsTreated, AreTreated, WasCutOff}
+use Rattle.ec_wire.proofs.Carrying.{carries-then, fault-from}
+
+-- what may be made later might have been made before
+abbrev pub AreFewer : (List ℕ → List ℕ → Type 0) → (List ℕ → List ℕ → Type 0) → Type 0
+AreFewer later shows = (o i : List ℕ) → later o i → shows o i
+
+stepped-by : (later shows : List ℕ → List ℕ → Type 0) (s t : SlaveState) → AreFewer later shows → HasStepped later s t → HasStepped shows s t
+stepped-by later shows s t fewer h = record { inputs = h.inputs; size = h.size; made = fewer (outputs_seen s) h.inputs h.made; slave = h.slave }
+
+pub served_by : (later shows : List ℕ → List ℕ → Type 0) (s t : SlaveState) → AreFewer later shows → IsServed later s t → IsServed shows s t
+served_by later shows s t fewer h = record { idle = h.idle; works = λ e. stepped-by later shows (served s) t fewer (h.works e) }
+
+are-served-by : (later shows : List ℕ → List ℕ → Type 0) (old new : List SlaveState) → AreFewer later shows → AreServed later old new → AreServed shows old new
+are-served-by later shows old new fewer h = record { count = h.count; each = λ i s t a b. served_by later shows s t fewer (h.each i s t a b) }
+
+pub answer_by : (later shows : List ℕ → List ℕ → Type 0) (old new : List SlaveState) (payload answer : List ℕ) → AreFewer later shows → IsAnswer later old payload new answer → IsAnswer shows old payload new answer
+answer_by later shows old new payload answer fewer h = record { is_frame = h.is_frame; passed = h.passed; ring = h.ring; served = are-served-by later shows h.passed new fewer h.served }
+
+treated-by : (later shows : List ℕ → List ℕ → Type 0) (old new : List SlaveState) (payload : List ℕ) (answers : List (List ℕ)) → AreFewer later shows → IsTreated later old payload new answers
+    → IsTreated shows old payload new answers
+treated-by later shows old new payload answers fewer (inl h) = inl (h.0, h.1, answer_by later shows old new payload h.0 fewer h.2)
+treated-by later shows old new payload answers fewer (inr h) = inr h
+
+pub all_treated_by : (later shows : List ℕ → List ℕ → Type 0) (old new : List SlaveState) (payloads answers : List (List ℕ)) → AreFewer later shows → AreTreated later old payloads new answers
+    → AreTreated shows old payloads new answers
+all_treated_by later shows old new [] answers fewer h = h
+all_treated_by later shows old new (p ∷ ps) answers fewer h =
+    (h.0, h.1, h.2, treated-by later shows old h.0 p h.1 fewer h.3, all_treated_by later shows h.0 new ps h.2 fewer h.4, h.5)
+
+-- ---- payloads one after the other
+
+pub one_treated : (shows : List ℕ → List ℕ → Type 0) (old new : List SlaveState) (p : List ℕ) (answers : List (List ℕ)) → IsTreated shows old p new answers → AreTreated shows old (p ∷ []) new answers
+one_treated shows old new p answers h = (new, answers, [], h, (refl, refl), sym (append-nil answers))
+
+pub treated_then : (shows : List ℕ → List ℕ → Type 0) (a b c : List SlaveState) (ps qs xs ys : List (List ℕ)) → AreTreated shows a ps b xs → AreTreated shows b qs c ys → AreTreated shows a (ps ++ qs) c (xs ++ ys)
+treated_then shows a b c [] qs xs ys h k =
+    subst (λ (zs : List (List ℕ)). AreTreated shows a qs c zs) (ap (λ (zs : List (List ℕ)). zs ++ ys) (sym h.1)) (subst (λ (r : List SlaveState). AreTreated shows r qs c ys) h.0 k)
+treated_then shows a b c (p ∷ ps) qs xs ys h k =
+    (h.0, h.1, h.2 ++ ys, h.3, treated_then shows h.0 b c ps qs h.2 ys h.4 k, ap (λ (zs : List (List ℕ)). zs ++ ys) h.5 ∙ append_assoc h.1 h.2 ys)
+
+-- ---- slaves one after the other
+
+-- the slaves below `place` are served, and the others as they were
+pub record AreServedBelow (shows : List ℕ → List ℕ → Type 0) (old new : List SlaveState) (place : ℕ) : Type 0 where
+  pub count : length new ≡ length old
+  pub done : (i : ℕ) (s t : SlaveState) → i < place → slice_get old i ≡ Some s → slice_get new i ≡ Some t → IsServed shows s t
+  pub ahead : (i : ℕ) → place ≤ i → slice_get new i ≡ slice_get old i
+
+pub none_served : (shows : List ℕ → List ℕ → Type 0) (old : List SlaveState) → AreServedBelow shows old old 0
+none_served shows old = record { count = refl; done = λ i s t l. absurd (omega (arith, l)); ahead = λ i l. refl }
+
+some-same : {X : Type 0} (a b : X) → Some a ≡ Some b → a ≡ b
+some-same a b e = cc
+
+get-set_same : (xs : List SlaveState) (i : ℕ) (y : SlaveState) → i < length xs → slice_get (set xs i y) i ≡ Some y
+get-set_same [] i y l = absurd (omega (arith, l))
+get-set_same (x ∷ xs) zero y l = refl
+get-set_same (x ∷ xs) (suc i) y l = get-set_same xs i y (omega (arith, l))
+
+get-set_other : (xs : List SlaveState) (i j : ℕ) (y : SlaveState) → j ≢ i → slice_get (set xs i y) j ≡ slice_get xs j
+get-set_other [] i j y ne = refl
+get-set_other (x ∷ xs) zero zero y ne = absurd (ne refl)
+get-set_other (x ∷ xs) zero (suc j) y ne = refl
+get-set_other (x ∷ xs) (suc i) zero y ne = refl
+get-set_other (x ∷ xs) (suc i) (suc j) y ne = get-set_other xs i j y (λ e. ne (ap suc e))
+
+-- one slave more
+pub serve_next : (shows later : List ℕ → List ℕ → Type 0) (old mid new : List SlaveState) (place : ℕ) (s t : SlaveState) → AreFewer later shows → AreServedBelow shows old mid place → place < length mid
+    → slice_get mid place ≡ Some s → IsServed later s t → new ≡ set mid place t → AreServedBelow shows old new (place + 1)
+serve_next shows later old mid new place s t fewer h l at one is = record {
+  count = ap length is ∙ (length-set mid place t ∙ h.count);
+  done = λ i a b below x y. elim (cases_eq i place) [
+    | inl e ↦
+        let was : slice_get old place ≡ Some s = sym (h.ahead place (omega arith)) ∙ at in
+        let a_is : a ≡ s = some-same a s (sym x ∙ (ap (λ (k : ℕ). slice_get old k) e ∙ was)) in
+        let b_is : b ≡ t = some-same b t (sym y ∙ (ap (λ (k : ℕ). slice_get new k) e ∙ (ap (λ (xs : List SlaveState). slice_get xs place) is ∙ get-set_same mid place t l))) in
+        subst (λ (z : SlaveState). IsServed shows z b) (sym a_is) (subst (λ (z : SlaveState). IsServed shows s z) (sym b_is) (served_by later shows s t fewer one))
+    | inr n ↦
+        let same : slice_get mid i ≡ Some b = sym (get-set_other mid place i t n) ∙ (ap (λ (xs : List SlaveState). slice_get xs i) (sym is) ∙ y) in
+        h.done i a b (omega (arith, below, n)) x same
+  ];
+  ahead = λ i le. ap (λ (xs : List SlaveState). slice_get xs i) is ∙ (get-set_other mid place i t (λ e. omega (arith, le, e)) ∙ h.ahead i (omega (arith, le)));
+}
+
+pub all_served : (shows : List ℕ → List ℕ → Type 0) (old new : List SlaveState) (place : ℕ) → AreServedBelow shows old new place → length old ≤ place → AreServed shows old new
+all_served shows old new place h le = record {
+  count = h.count;
+  each = λ i s t x y. h.done i s t (let l = slice_get_within old i s x in omega (arith, l, le)) x y;
+}
+
+-- ---- payload after payload
+
+-- the next payload
+pub treat_next : (shows later : List ℕ → List ℕ → Type 0) (a b c : List SlaveState) (u v w : WireState) (ps qs xs ys : List (List ℕ)) → AreFewer later shows
+    → Carries u v xs ps → AreTreated shows a ps b xs → Carries v w ys qs → AreTreated later b qs c ys → Carries u w (xs ++ ys) (ps ++ qs) × AreTreated shows a (ps ++ qs) c (xs ++ ys)
+treat_next shows later a b c u v w ps qs xs ys fewer before treated carried next =
+    (carries-then u v w xs ps ys qs before carried, treated_then shows a b c ps qs xs ys treated (all_treated_by later shows b c qs ys fewer next))
+
+-- a fault at the next payload
+pub cut_then : (shows later : List ℕ → List ℕ → Type 0) (a b c : List SlaveState) (u v w : WireState) (ps xs : List (List ℕ)) (count frames : ℕ) → AreFewer later shows
+    → Carries u v xs ps → AreTreated shows a ps b xs → length ps ≡ count → count < frames → v.failed ≡ u.failed → WasCutOff later b c v w 1 → WasCutOff shows a c u w frames
+cut_then shows later a b c u v w ps xs count frames fewer before treated counted below same h =
+    let few = h.few in
+    let long = length-append ps h.got in
+    record {
+      got = ps ++ h.got;
+      sent = xs ++ h.sent;
+      lost = h.lost;
+      carried = carries-then u v w xs ps h.sent h.got before h.carried;
+      treated = subst (λ (zs : List (List ℕ)). AreTreated shows a (ps ++ h.got) c zs) (sym (append_assoc xs h.sent h.lost))
+          (treated_then shows a b c ps h.got xs (h.sent ++ h.lost) treated (all_treated_by later shows b c h.got (h.sent ++ h.lost) fewer h.treated));
+      one_lost = h.one_lost;
+      few = omega (arith, long, few, counted, below);
+      fault = sym (fault-from u v w same) ∙ h.fault;
+    }
