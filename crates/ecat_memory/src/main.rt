@@ -1,0 +1,155 @@
+//! Calls each function that takes memory, on the table with three slaves, and prints what it answers: its name, and then 0 with a
+//! figure of what it made, or the number of its refusal. A call that is refused is made once more, with the same arguments, and
+//! its second answer stands behind the first. With the name of a function it calls that one, with no argument all of them in turn.
+//! Where memory is refused before the function is called, it prints `prepared 1`.
+//!
+//! The status is 0 where each answer is the figure that the table must give or 1, want of memory.
+#![tactic(auto)]
+
+mod calls;
+mod table;
+
+ghost use Rattle.std.specs.Prelude.{◌≡◌, None, length};
+ghost use Rattle.ec_link.specs.Faults.{compile_fault};
+ghost use Rattle.ec_link.specs.Plan.{plan_of};
+ghost use Rattle.ec_link.specs.Usable.{IsUsable};
+
+use crate::calls::{Answer, Call, MEMORY, attempt};
+use crate::table::{TABLE, identities_of};
+use ec_link::{Plan, compile};
+use ec_regs::Identity;
+use ec_table::{Table, read_table};
+use std::alloc::{AllocError, Global};
+use std::env::Env;
+use std::io::Write;
+use std::process::ExitCode;
+use std::{env, io};
+
+/// What a function answered, and what it answered when it was called again after a refusal.
+#[derive(Drop)]
+struct Answers {
+    first: Answer,
+    second: Option<Answer>,
+}
+
+impl Answers {
+    /// Whether each of them is the figure that there must be, or want of memory.
+    fn are_right(&self, call: Call) -> bool {
+        is_right(self.first, call) && self.second.is_none_or(|answer| is_right(answer, call))
+    }
+}
+
+/// Whether an answer is the figure that there must be, or want of memory.
+fn is_right(answer: Answer, call: Call) -> bool {
+    match answer {
+        Ok(figure) => figure == call.figure(),
+        Err(number) => number == MEMORY,
+    }
+}
+
+/// What a function answers when it is called again.
+fn again(alloc: Global, call: Call, table: &Table, plan: &Plan, identities: &[Identity]) -> Answer
+    requires usable { IsUsable plan.now }
+    requires accepted { compile_fault table.now ≡ None }
+    requires plan { plan.now ≡ plan_of table.now }
+    requires one_each { length identities.now ≡ length table.now.slaves }
+{
+    match attempt(alloc, call, table, plan, identities) {
+        Ok(answer) => answer,
+        Err(_) => Err(MEMORY),
+    }
+}
+
+/// Calls a function with a table and its plan, and once more if it was refused.
+fn call_with(alloc: Global, call: Call, table: &Table, plan: &Plan) -> Result<Answers, AllocError>
+    requires usable { IsUsable plan.now }
+    requires accepted { compile_fault table.now ≡ None }
+    requires plan { plan.now ≡ plan_of table.now }
+{
+    let identities = identities_of(alloc, table)?;
+    let first = attempt(alloc, call, table, plan, &identities)?;
+    let second = match first {
+        Ok(_) => None,
+        Err(_) => Some(again(alloc, call, table, plan, &identities)),
+    };
+    Ok(Answers { first, second })
+}
+
+/// Calls a function, and once more if it was refused. The error says that memory was refused before a call.
+fn call_twice(alloc: Global, call: Call) -> Result<Answers, AllocError> {
+    let Ok(table) = read_table(alloc, TABLE) else {
+        return Err(AllocError);
+    };
+    let Ok(plan) = compile(alloc, &table) else {
+        return Err(AllocError);
+    };
+    call_with(alloc, call, &table, &plan)
+}
+
+/// Prints an answer behind what the line has.
+fn print_answer<W: Write>(answer: Answer, output: &mut W) -> io::Result<()> {
+    match answer {
+        Ok(figure) => write!(output, " 0 {figure}"),
+        Err(number) => write!(output, " {number}"),
+    }
+}
+
+/// Prints what a function answers, and answers whether that is right.
+fn print_call<W: Write>(alloc: Global, call: Call, output: &mut W) -> io::Result<bool> {
+    let Ok(answers) = call_twice(alloc, call) else {
+        writeln!(output, "prepared {MEMORY}")?;
+        return Ok(true);
+    };
+    write!(output, "{}", call.name())?;
+    print_answer(answers.first, output)?;
+    if let Some(second) = answers.second {
+        print_answer(second, output)?;
+    }
+    writeln!(output, "")?;
+    Ok(answers.are_right(call))
+}
+
+/// Prints what each function answers, and answers whether all of that is right.
+fn print_calls<W: Write>(alloc: Global, calls: &[Call], output: &mut W) -> io::Result<bool> {
+    let mut are_right = true;
+    for call in calls {
+        are_right = print_call(alloc, *call, output)? && are_right;
+    }
+    Ok(are_right)
+}
+
+/// The arguments, the first of which is the program's name.
+fn given_args<H: Env + AllocGlobal>(rt: &H) -> io::Result<Vec<String>> {
+    let given = env::args(rt)?;
+    Ok(given.collect(rt.alloc())?)
+}
+
+/// Calls what the arguments name, and answers whether all was right.
+fn run<H: AllocGlobal, W: Write>(rt: &H, args: &[String], output: &mut W) -> io::Result<bool> {
+    let Some(name) = args.get(1) else {
+        return print_calls(rt.alloc(), &Call::ALL, output);
+    };
+    match Call::named(name.as_str()) {
+        Some(call) => print_call(rt.alloc(), call, output),
+        None => {
+            writeln!(output, "no such function")?;
+            Ok(false)
+        }
+    }
+}
+
+fn main(rt: HostRuntime) -> io::Result<ExitCode> {
+    let mut output = rt.stdout();
+    let is_right = match given_args(&rt) {
+        Ok(args) => run(&rt, &args, &mut output)?,
+        Err(_) => {
+            writeln!(output, "prepared {MEMORY}")?;
+            true
+        }
+    };
+    Ok(if is_right {
+        ExitCode::SUCCESS
+    } else {
+        ExitCode::FAILURE
+    })
+}
