@@ -139,6 +139,20 @@ runs_stay m es e h small some = record {
   ]);
 }
 
+-- an entry whose name is known takes the place of the first one, and gives it back
+pub runs_kept : (m a b : BTreeMap ℕ Run) (es : List Entry) (e : Entry) (r f : Run) → HasRuns m es → e.subindex ≤ 255 → get nat_cmp m (entry_key e.index e.subindex) ≡ Some f
+    → Updates nat_cmp m a (entry_key e.index e.subindex) (Some r) → Updates nat_cmp a b (entry_key e.index e.subindex) (Some f) → HasRuns b (es ++ e ∷ [])
+runs_kept m a b es e r f h small is u v = record {
+  each = λ index subindex low.
+      let k : ℕ = entry_key e.index e.subindex in
+      let q : ℕ = entry_key index subindex in
+      let same : get nat_cmp b q ≡ get nat_cmp m q = elim (cases_eq k q) [
+        | inl here ↦ ap (get nat_cmp b) (sym here) ∙ v.1 ∙ sym is ∙ ap (get nat_cmp m) here
+        | inr ne ↦ v.2 q (apart k q ne) ∙ u.2 q (apart k q ne)
+      ] in
+      same ∙ (runs_stay m es e h small (ap is_some is)).each index subindex low;
+}
+
 none_of : (o : Option Run) → is_some o ≡ false → o ≡ None
 none_of None h = refl
 none_of (Some r) h = cc
