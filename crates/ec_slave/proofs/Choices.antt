@@ -1,5 +1,5 @@
 -- Laws of tests.
-use Rattle.std.proofs.Common.{Option, Some, None, is_some, is_none, not, ℕ, suc, ◌+◌, ◌≡◌, ◌||◌, Bool, true, false, refl, sym, ◌∙◌, ap, arith, if◌then◌else◌}
+use Rattle.std.proofs.Common.{Option, Some, None, is_some, is_none, not, ℕ, zero, suc, ◌+◌, ◌<◌, ◌≤◌, ◌≡◌, ◌||◌, Bool, true, false, refl, sym, ◌∙◌, ap, arith, if◌then◌else◌}
 use Rattle.ec_bits.specs.Bits.{any_below}
 use Rattle.ec_bits.proofs.AnyLaws.{if_true, if_false}
 
@@ -39,3 +39,10 @@ none-from None true e = refl
 none-from None false e = e
 none-from (Some x) true e = e
 none-from (Some x) false e = refl
+
+-- the step of a loop that asks for a part of which all are alike
+pub any-part : (m n : ℕ) (p : ℕ → Bool) (b : Bool) → b ≡ any_below n p → ((i : ℕ) → n ≤ i → i < n + m → p i ≡ false) → b ≡ any_below (n + m) p
+any-part zero n p b e h = let z : n ≡ n + 0 = omega arith in e ∙ ap (λ k. any_below k p) z
+any-part (suc m) n p b e h =
+    let z : n + m + 1 ≡ n + suc m = omega arith in
+    any-miss (n + m) p b (any-part m n p b e (λ i a l. h i a (omega arith))) (h (n + m) (omega arith) (omega arith)) ∙ ap (λ k. any_below k p) z

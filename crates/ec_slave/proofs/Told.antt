@@ -1,7 +1,9 @@
 -- Numbers of a list told one by one, as a loop tells them.
-use Rattle.std.proofs.Common.{ℕ, zero, suc, ◌+◌, ◌<◌, ◌≤◌, ◌≡◌, ◌≢◌, ◌⊎◌, List, [], ◌∷◌, length, get_or, Option, Some, None, unwrap_or, refl, sym, ◌∙◌, ap, inl, inr, arith, length-set, get_or-set_same, get_or-set_other}
+use Rattle.std.proofs.Common.{ℕ, zero, suc, ◌+◌, ◌<◌, ◌≤◌, ◌≡◌, ◌≢◌, ◌⊎◌, List, [], ◌∷◌, length, get_or, Option, Some, None, unwrap_or, refl, sym, ◌∙◌, ap, inl, inr, arith, if◌then◌else◌, length-set, get_or-set_same, get_or-set_other}
 use Rattle.std.proofs.lemmas.Bool.{cases_eq, cases_lt}
 use Rattle.std.proofs.lemmas.Grind.{same_number_lists}
+use Rattle.ec_bits.specs.Bits.{within}
+use Rattle.ec_bits.proofs.AnyLaws.{if_true, if_false, within_true, within_below, within_above}
 use Rattle.ec_slave.specs.Access.{retold_from}
 use Rattle.ec_slave.specs.Telling.{set_told}
 use Rattle.ec_slave.specs.Keeping.{length-retold}
@@ -104,3 +106,45 @@ pub told-step0 : (n : ℕ) (xs : List ℕ) (f : ℕ → Option ℕ) (before afte
 told-step0 n xs f before after o a b c =
     let e : 0 + n ≡ n = omega arith in
     told-step n 0 xs f before after o a (ap f e ∙ b) (c ∙ ap (λ m. set_told before m o) (sym e))
+
+-- ---- parts of a list that are told at once
+
+pub told-alike : (n from : ℕ) (xs : List ℕ) (f g : ℕ → Option ℕ) → ((i : ℕ) → from ≤ i → i < from + n → f i ≡ g i) → told_along n from xs f ≡ told_along n from xs g
+unfolding told_along
+told-alike zero from xs f g h = refl
+told-alike (suc n) from xs f g h =
+    ap (λ ys. set_told ys (from + n) (f (from + n))) (told-alike n from xs f g (λ i a b. h i a (omega arith)))
+    ∙ ap (λ o. set_told (told_along n from xs g) (from + n) o) (h (from + n) (omega arith) (omega arith))
+
+-- a part told number by number is told at once
+pub told-part : (m at : ℕ) (xs : List ℕ) (f : ℕ → Option ℕ) → told_along m at xs f ≡ retold_from 0 xs (λ i. if within at m i then f i else None)
+told-part m at xs f =
+    let g = λ (i : ℕ). if within at m i then f i else None in
+    told-alike m at xs f g (λ i a b. sym (if_true (within at m i) (f i) None (within_true at m i a b)))
+    ∙ retold-along m at xs g (λ i h. if_false (within at m i) (f i) None (elim h [ inl x ↦ within_below at m i x | inr y ↦ within_above at m i y ]))
+
+told-behind : (m n : ℕ) (xs : List ℕ) (f : ℕ → Option ℕ) → told_along m n (told_along n 0 xs f) f ≡ told_along (n + m) 0 xs f
+unfolding told_along
+told-behind zero n xs f = let e : n ≡ n + 0 = omega arith in ap (λ k. told_along k 0 xs f) e
+told-behind (suc m) n xs f =
+    let e : suc (n + m) ≡ n + suc m = omega arith in
+    let z : n + m ≡ 0 + (n + m) = omega arith in
+    ap (λ ys. set_told ys (n + m) (f (n + m))) (told-behind m n xs f)
+    ∙ (ap (λ i. set_told (told_along (n + m) 0 xs f) i (f i)) z ∙ (told-suc (n + m) 0 xs f ∙ ap (λ k. told_along k 0 xs f) e))
+
+-- the step of a loop that tells a part at once
+pub told-next : (n m : ℕ) (xs : List ℕ) (f g : ℕ → Option ℕ) (before after : List ℕ) → before ≡ told_along n 0 xs f
+    → ((i : ℕ) → n ≤ i → i < n + m → g i ≡ f i) → after ≡ retold_from 0 before (λ i. if within n m i then g i else None) → after ≡ told_along (n + m) 0 xs f
+told-next n m xs f g before after a h e =
+    e ∙ (sym (told-part m n before g) ∙ (told-alike m n before g f h ∙ (ap (λ ys. told_along m n ys f) a ∙ told-behind m n xs f)))
+
+-- and of one that leaves a part of which nothing is told
+pub told-left : (m n : ℕ) (xs : List ℕ) (f : ℕ → Option ℕ) → ((i : ℕ) → n ≤ i → i < n + m → f i ≡ None) → told_along n 0 xs f ≡ told_along (n + m) 0 xs f
+unfolding told_along
+told-left zero n xs f h = let e : n ≡ n + 0 = omega arith in ap (λ k. told_along k 0 xs f) e
+told-left (suc m) n xs f h =
+    let e : suc (n + m) ≡ n + suc m = omega arith in
+    let z : 0 + (n + m) ≡ n + m = omega arith in
+    told-left m n xs f (λ i a b. h i a (omega arith))
+    ∙ (ap (λ o. set_told (told_along (n + m) 0 xs f) (0 + (n + m)) o) (sym (ap f z ∙ h (n + m) (omega arith) (omega arith)))
+    ∙ ap (λ k. told_along k 0 xs f) e)

@@ -1,10 +1,16 @@
 -- What one byte of a window gives.
-use Rattle.std.proofs.Common.{ℕ, ◌+◌, ◌-◌, ◌<◌, ◌≤◌, ◌≡◌, ◌⊎◌, List, length, Bool, true, false, slice_index, get_or, Option, Some, None, bit_or, sym, ◌∙◌, ap, inl, inr, arith, if◌then◌else◌}
+use Rattle.std.proofs.Common.{ℕ, ◌+◌, ◌-◌, ◌<◌, ◌≤◌, ◌≡◌, ◌⊎◌, List, length, Bool, true, false, slice_index, get_or, Option, Some, None, bit_or, ◌&&◌, ◌||◌, nat_lt, refl, sym, ◌∙◌, ap, inl, inr, arith, if◌then◌else◌}
+use Rattle.std.proofs.lemmas.Bool.{ltb-true, lt-ltb, or_left, and_parts}
 use Rattle.ec_bits.specs.Bits.{within}
+use Rattle.ec_bits.proofs.Overlays.{or_true}
 use Rattle.ec_bits.proofs.AnyLaws.{if_true, if_false, if_none, within_true, within_below, within_above}
-use Rattle.ec_sync.specs.Manager.{Manager}
-use Rattle.ec_slave.specs.State.{SlaveState}
+use Rattle.ec_regs.specs.Memory.{ram_start, ram_end}
+use Rattle.ec_sync.specs.Manager.{Manager, may_read}
+use Rattle.ec_sync.specs.Governing.{covers, governor, in_first_buffer}
+use Rattle.ec_slave.specs.State.{SlaveState, manager_at}
+use Rattle.ec_slave.specs.Managers.{reads_under}
 use Rattle.ec_slave.specs.Access.{Window, touches, byte_at, byte_from, byte_read, may_read_byte, is_kept}
+use Rattle.ec_slave.proofs.Sights.{governor-below}
 use Rattle.ec_slave.proofs.Told.{told_along, get-told_outside}
 
 pub from-outside : (w : Window) (a : ℕ) → (a < w.from) ⊎ (w.from + length w.bytes ≤ a) → byte_from w a ≡ None
@@ -43,3 +49,47 @@ read-given s joining w i now y r h inv e g =
 
 pub from-at : (w : Window) (a : ℕ) → w.from ≤ a → a < w.from + length w.bytes → byte_from w a ≡ Some (slice_index w.bytes (a - w.from))
 from-at w a l h = if_true _ _ _ (within_true w.from (length w.bytes) a l h)
+
+-- the same of a byte of a part that begins at another place than 0
+pub read-given-at : (s : SlaveState) (joining : Bool) (w : Window) (at k : ℕ) (now : List ℕ) (y r : ℕ) → may_read_byte s.managers (touches w) (w.from + (at + k)) ≡ true
+    → now ≡ told_along k at w.bytes (byte_read s joining w) → y ≡ byte_at s (w.from + (at + k)) → r ≡ over joining (slice_index now (at + k)) y → byte_read s joining w (at + k) ≡ Some r
+read-given-at s joining w at k now y r h inv e g =
+    let own : get_or now (at + k) 0 ≡ get_or w.bytes (at + k) 0
+    = ap (λ xs. get_or xs (at + k) 0) inv ∙ get-told_outside k at w.bytes (byte_read s joining w) (at + k) (inr (omega arith)) in
+    if_true _ _ _ h ∙ ap Some (sym (g ∙ (ap (λ x. over joining x y) own ∙ ap (over joining (slice_index w.bytes (at + k))) e)))
+
+-- what a read puts over byte i depends on no byte but that one
+pub read-own : (s : SlaveState) (joining : Bool) (from : ℕ) (xs ys : List ℕ) (i : ℕ) → length xs ≡ length ys → slice_index xs i ≡ slice_index ys i
+    → byte_read s joining (record { from = from; bytes = xs }) i ≡ byte_read s joining (record { from = from; bytes = ys }) i
+read-own s joining from xs ys i long own =
+    ap (λ (n : ℕ). if may_read_byte s.managers (within from n) (from + i) then Some (over joining (slice_index xs i) (byte_at s (from + i))) else None) long
+    ∙ ap (λ (x : ℕ). if may_read_byte s.managers (within from (length ys)) (from + i) then Some (over joining x (byte_at s (from + i))) else None) own
+
+-- bytes that are alike may be read or not alike
+pub read-alike : (ms : List Manager) (touched : ℕ → Bool) (a b : ℕ) → nat_lt a ram_start ≡ nat_lt b ram_start → nat_lt a ram_end ≡ nat_lt b ram_end
+    → governor ms a ≡ governor ms b → ((n : ℕ) → n < length ms → in_first_buffer (manager_at ms n) a ≡ in_first_buffer (manager_at ms n) b)
+    → may_read_byte ms touched a ≡ may_read_byte ms touched b
+unfolding may_read_byte
+read-alike ms touched a b low high g front =
+    ap (λ (x : Bool). x || (nat_lt a ram_end && reads_under ms touched a (governor ms a))) low
+    ∙ (ap (λ (x : Bool). nat_lt b ram_start || (x && reads_under ms touched a (governor ms a))) high
+    ∙ (ap (λ (o : Option ℕ). nat_lt b ram_start || (nat_lt b ram_end && reads_under ms touched a o)) g
+    ∙ ap (λ (x : Bool). nat_lt b ram_start || (nat_lt b ram_end && x)) (under (governor ms b) (λ n e. front n (governor-below ms b n e)))))
+  where
+    under : (o : Option ℕ) → ((n : ℕ) → o ≡ Some n → in_first_buffer (manager_at ms n) a ≡ in_first_buffer (manager_at ms n) b)
+        → reads_under ms touched a o ≡ reads_under ms touched b o
+    under None h = refl
+    under (Some n) h = ap (λ (x : Bool). x && (covers touched (manager_at ms n) && may_read (manager_at ms n))) (h n refl)
+
+-- a byte that is read lies in the memory
+pub read-inside : (ms : List Manager) (touched : ℕ → Bool) (a : ℕ) → may_read_byte ms touched a ≡ true → a < ram_end
+unfolding may_read_byte
+read-inside ms touched a h = elim (or_true (nat_lt a ram_start) _ h) [
+  | inl low ↦ let x = ltb-true a ram_start low in omega (arith, x)
+  | inr ram ↦ ltb-true a ram_end (and_parts (nat_lt a ram_end) _ ram).0
+]
+
+-- every register is read
+pub read-register : (ms : List Manager) (touched : ℕ → Bool) (a : ℕ) → a < ram_start → may_read_byte ms touched a ≡ true
+unfolding may_read_byte
+read-register ms touched a h = or_left (nat_lt a ram_start) _ (lt-ltb a ram_start h)

@@ -24,6 +24,7 @@ mod writing;
 
 use crate::logical::managers::access_managers;
 use crate::logical::reading::read_logical;
+pub(crate) use crate::logical::runs::end_of_alike;
 use crate::logical::writing::write_logical;
 use crate::role::Role;
 use crate::slave::Slave;

@@ -1,6 +1,8 @@
 //! Physical datagrams at a slave.
 
-ghost use Rattle.std.specs.Prelude.{◌≡◌, ◌+◌, ◌*◌, ◌<◌, ◌^◌, Bool, true, false, length, if◌then◌else◌, nat_lt};
+ghost use Rattle.std.specs.Prelude.{◌≡◌, ◌+◌, ◌*◌, ◌<◌, ◌≤◌, ◌^◌, ℕ, Bool, true, false, None, IfSome, length, if◌then◌else◌, nat_lt};
+ghost use Rattle.ec_regs.specs.Memory.{ram_start};
+ghost use Rattle.ec_sync.specs.Governing.{governor as governor_of};
 ghost use Rattle.ec_al.specs.Al.{requesting};
 ghost use Rattle.std.specs.Int.{from_bool};
 ghost use Rattle.ec_bits.specs.Bits.{within};
@@ -15,7 +17,7 @@ mod bytes;
 mod managers;
 
 use crate::fmmus::read_fmmus;
-use crate::physical::bytes::{read_over, reads_byte, write_physical};
+use crate::physical::bytes::{end_of_part, owner, read_over, reads_byte, write_physical};
 use crate::physical::managers::access_managers;
 use crate::role::{Role, adp_after_slave};
 use crate::slave::Slave;
@@ -54,20 +56,57 @@ fn renew_fmmus(fmmus: &mut FmmuTable, memory: &[u8], from: usize)
 }
 
 impl Slave {
-    /// Reads into the bytes of a datagram, and answers whether one was read.
+    /// Reads into the `count` bytes of a datagram from `at` on, all of which it reads and that have this governor, or
+    /// none, as far as they lie in the RAM.
+    fn read_part(
+        &self,
+        owner: Option<usize>,
+        joining: bool,
+        from: usize,
+        at: usize,
+        count: usize,
+        bytes: &mut [u8],
+    )
+        requires small { from + length bytes.old < 2 ^ 32 }
+        requires inside { at + count ≤ length bytes.old }
+        requires reads { (i : ℕ) → at ≤ i → i < at + count → may_read_byte self.now.managers (within from (length bytes.old)) (from + i) ≡ true }
+        requires memory { (i : ℕ) → at ≤ i → i < at + count → from + i < 0x3000 }
+        requires within { IfSome owner (λ n. n < length self.now.managers) }
+        requires owner { (a : ℕ) → ram_start ≤ a → from + at ≤ a → a < from + at + count → owner ≡ governor_of self.now.managers a }
+        ensures { bytes.new ≡ retold bytes.old (λ i. if within at count i then byte_read self.now joining (record { from = from; bytes = bytes.old }) i else None) }
+    {
+        for k in 0..count {
+            let place = at + k;
+            let shown = self.byte_under(owner, from + place);
+            bytes[place] = read_over(joining, bytes[place], shown);
+        }
+    }
+
+    /// Reads into the bytes of a datagram, and answers whether one was read. Who governs bytes, and whether they may be
+    /// read, is asked once for each part of which all or none are.
     fn read_physical(&self, joining: bool, from: usize, bytes: &mut [u8]) -> bool
         requires { from + length bytes.old < 2 ^ 32 }
         ensures bytes { bytes.new ≡ retold bytes.old (byte_read self.now joining (record { from = from; bytes = bytes.old })) }
         ensures some { result ≡ some_byte_read self.now.managers (record { from = from; bytes = bytes.old }) }
     {
-        let mut is_some = false;
         let len = bytes.len();
-        for (i, byte) in bytes.iter_mut().enumerate() {
-            if self.reads(from, len, from + i) {
+        let mut is_some = false;
+        let mut done = 0;
+        while done < len {
+            let first = from + done;
+            let count = end_of_part(&self.managers, first, from + len) - first;
+            if self.reads(from, len, first) {
                 is_some = true;
-                let shown = self.byte_at(from + i);
-                *byte = read_over(joining, *byte, shown);
+                self.read_part(
+                    owner(&self.managers, first),
+                    joining,
+                    from,
+                    done,
+                    count,
+                    bytes,
+                );
             }
+            done += count;
         }
         is_some
     }

@@ -1,5 +1,7 @@
-ghost use Rattle.std.specs.Prelude.{◌≡◌, ◌+◌, ◌*◌, ◌<◌, IfOk, if◌then◌else◌, [], ◌∷◌, Option, Some, None, nat_lt};
+ghost use Rattle.std.specs.Prelude.{◌≡◌, ◌+◌, ◌*◌, ◌<◌, ◌≤◌, length, IfOk, IfSome, if◌then◌else◌, [], ◌∷◌, Option, Some, None, nat_lt};
+ghost use Rattle.ec_regs.specs.Memory.{ram_start};
 ghost use Rattle.ec_sync.specs.Manager.{no_manager};
+ghost use Rattle.ec_sync.specs.Governing.{governor as governor_of};
 ghost use Rattle.ec_slave.specs.Access.{byte_at, register_byte};
 ghost use Rattle.ec_slave.specs.State.{SlaveState, memory_length, power_on, station_of};
 
@@ -140,13 +142,45 @@ impl Slave {
         requires { address < 0x3000 }
         ensures { result ≡ byte_at self.now address }
     {
+        self.byte_under(governor(&self.managers, address), address)
+    }
+
+    /// What an address reads that has this governor, or none, if it lies in the RAM.
+    pub(crate) fn byte_under(&self, owner: Option<usize>, address: usize) -> u8
+        requires inside { address < 0x3000 }
+        requires within { IfSome owner (λ n. n < length self.now.managers) }
+        requires owner { ram_start ≤ address → owner ≡ governor_of self.now.managers address }
+        ensures { result ≡ byte_at self.now address }
+    {
         if address < RAM_START {
-            return self.register(address);
+            self.register_at(address)
+        } else {
+            self.ram_byte(owner, address)
         }
-        match governor(&self.managers, address) {
+    }
+
+    /// What an address of the RAM reads that has this governor, or none.
+    #[tactic(auto, unfolding(crate::specs::Access::byte_at))]
+    fn ram_byte(&self, owner: Option<usize>, address: usize) -> u8
+        requires ram { ram_start ≤ address }
+        requires inside { address < 0x3000 }
+        requires within { IfSome owner (λ n. n < length self.now.managers) }
+        requires owner { owner ≡ governor_of self.now.managers address }
+        ensures { result ≡ byte_at self.now address }
+    {
+        match owner {
             None => self.memory[address],
             Some(place) => self.managers[place].shown_byte(address),
         }
+    }
+
+    /// What the address of a register reads.
+    #[tactic(auto, unfolding(crate::specs::Access::byte_at))]
+    fn register_at(&self, address: usize) -> u8
+        requires { address < 0x1000 }
+        ensures { result ≡ byte_at self.now address }
+    {
+        self.register(address)
     }
 
     /// What a register reads.

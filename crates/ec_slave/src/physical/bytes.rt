@@ -1,11 +1,14 @@
 //! Which bytes a physical datagram reads and writes, and what it leaves in the memory itself.
 
-ghost use Rattle.std.specs.Prelude.{◌≡◌, ◌+◌, ◌<◌, ◌^◌, if◌then◌else◌, bit_or, length, Some, None};
+ghost use Rattle.std.specs.Prelude.{◌≡◌, ◌+◌, ◌<◌, ◌≤◌, ◌^◌, ℕ, Bool, if◌then◌else◌, bit_or, length, Some, None, IfSome};
 ghost use Rattle.std.specs.Bool.{OnTrue};
 ghost use Rattle.ec_bits.specs.Bits.{within};
+ghost use Rattle.ec_regs.specs.Memory.{ram_start};
+ghost use Rattle.ec_sync.specs.Governing.{governor as governor_of};
 ghost use Rattle.ec_slave.specs.Access.{Window, byte_from, is_kept, may_read_byte, may_write_byte, memory_written, some_byte_written};
 ghost use Rattle.ec_slave.specs.Telling.{set_told};
 
+use crate::logical::end_of_alike;
 use crate::reach::governor;
 use ec_regs::registers::{RAM_END, RAM_START, SYNC_MANAGERS, SYNC_MANAGERS_END};
 use ec_regs::{is_stored, takes_writes};
@@ -29,6 +32,39 @@ pub(crate) fn reads_byte(managers: &[Manager], from: usize, len: usize, address:
             let manager = &managers[place];
             manager.in_first_buffer(address) && manager.is_covered(from, len) && manager.may_read()
         }
+    }
+}
+
+/// The end of the bytes from `start` on, and below `end`, of which a datagram reads all or none: registers, or bytes
+/// of the RAM that are alike.
+pub(crate) fn end_of_part(managers: &[Manager], start: usize, end: usize) -> usize
+    requires { start < end }
+    ensures inside { (start < result) × (result ≤ end) }
+    ensures reads { (touched : ℕ → Bool) (a : ℕ) → start ≤ a → a < result
+        → may_read_byte managers.now touched a ≡ may_read_byte managers.now touched start }
+    ensures registers { start < ram_start → result ≤ ram_start }
+    ensures owner { (a : ℕ) → ram_start ≤ a → start ≤ a → a < result → governor_of managers.now a ≡ governor_of managers.now start }
+{
+    if start < RAM_START {
+        return end.min(RAM_START);
+    }
+    let stop = if RAM_END <= start {
+        end
+    } else {
+        end.min(RAM_END)
+    };
+    end_of_alike(managers, start, stop)
+}
+
+/// The governor of a byte of the RAM, if it has one; none of a register.
+pub(crate) fn owner(managers: &[Manager], address: usize) -> Option<usize>
+    ensures within { IfSome result (λ n. n < length managers.now) }
+    ensures value { ram_start ≤ address → result ≡ governor_of managers.now address }
+{
+    if address < RAM_START {
+        None
+    } else {
+        governor(managers, address)
     }
 }
 
