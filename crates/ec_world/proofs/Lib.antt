@@ -25,6 +25,7 @@ pub mod AppSteps
 pub mod StepLaws
 pub mod RoundTrips
 pub mod Runs
+pub mod Using
 pub mod Whole
 pub mod NewWorlds
 pub mod Turning

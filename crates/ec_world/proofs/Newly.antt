@@ -1,5 +1,5 @@
 -- A new world of a table, and what its plan is.
-use Rattle.std.proofs.Common.{ℕ, ◌<◌, ◌≡◌, None, sym, subst, List, length, get_or}
+use Rattle.std.proofs.Common.{ℕ, ◌≡◌, None, sym, subst, List, length, get_or}
 use Rattle.std.specs.Prelude.{All}
 use Rattle.std.proofs.lemmas.List.Elements.{All-from_get_or}
 use Rattle.ec_regs.specs.declared.slave_type.Identity.{Identity}
@@ -10,16 +10,14 @@ use Rattle.ec_link.specs.Plan.{PlanState, plan_of}
 use Rattle.ec_link.specs.Usable.{IsUsable}
 use Rattle.ec_link.proofs.Soundness.{plan_sound}
 use Rattle.ec_link.proofs.UsableLaws.{plan_usable}
-use Rattle.ec_start.specs.Planned.{IsStartable, HasFewAssigned}
+use Rattle.ec_start.specs.Planned.{HasFewAssigned}
 use Rattle.ec_start.proofs.Assigned.{has_few}
 use Rattle.ec_rise.specs.Starting.{no_plan}
 use Rattle.ec_rise.proofs.StartableLaws.{slave_startable}
-use Rattle.ec_link.specs.declared.settings.Settings.{Settings}
-use Rattle.ec_link.specs.Meaning.{slave_at}
 use Rattle.ec_world.specs.declared.event.Event.{Event}
 use Rattle.ec_world.specs.World.{WorldState}
 use Rattle.ec_world.specs.Laws.{IsRun}
-use Rattle.ec_world.specs.NewWorld.{IsUndisturbed, ComesUp, undisturbed}
+use Rattle.ec_world.specs.NewWorld.{IsUndisturbed, ComesUp}
 use Rattle.ec_world.specs.Whole.{IsNew, Told, new_world, no_trouble}
 use Rattle.ec_world.proofs.Whole.{compiled}
 use Rattle.ec_world.proofs.NewWorlds.{new_run}

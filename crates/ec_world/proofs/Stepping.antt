@@ -1,9 +1,9 @@
 -- Steps of a world, from what the calls of its parts say.
-use Rattle.std.proofs.Common.{ℕ, ◌+◌, ◌<◌, ◌≤◌, ◌≡◌, ◌==◌, ◌&&◌, not, Bool, true, false, Option, Some, None, refl, sym, ◌∙◌, ap, subst, inl, inr, arith, List, [], ◌∷◌, length, get_or, set, is_some, slice_get, option_map, unwrap_or, nat_lt, if◌then◌else◌}
+use Rattle.std.proofs.Common.{ℕ, ◌<◌, ◌≡◌, ◌==◌, ◌&&◌, not, Bool, true, false, Option, Some, None, refl, sym, ◌∙◌, ap, subst, inl, inr, arith, List, [], ◌∷◌, length, get_or, set, is_some, slice_get, option_map, unwrap_or, nat_lt, if◌then◌else◌}
 use Rattle.std.specs.Prelude.{IsTrue, ◌↔◌}
 use Rattle.std.specs.List.{list_all}
 use Rattle.std.proofs.lemmas.Bool.{lt-ltb, ltb-true, ne_eqb, and_parts, cases_lt}
-use Rattle.std.proofs.lemmas.List.{set-get_or, get_or_past, get_or_default}
+use Rattle.std.proofs.lemmas.List.{set-get_or, get_or_past}
 use Rattle.std.proofs.lemmas.Option.{slice_get-get_or, get_or_from_slice_get}
 use Rattle.ec_al.specs.Al as al
 use Rattle.ec_al.specs.declared.state.State.{State}
@@ -23,13 +23,12 @@ use Rattle.ec_start.specs.declared.phase.Phase.TheVariants.{Idle, Sent, Ready, F
 use Rattle.ec_start.specs.declared.phase.NextFrame.TheVariants.{Send, Ended}
 use Rattle.ec_cycle.specs.Closing.{ReportState, nones}
 use Rattle.ec_cycle.specs.Master.{MasterState, IsTaken}
-use Rattle.ec_world.specs.declared.event.Event.{Event}
 use Rattle.ec_world.specs.declared.event.Event.TheVariants.{StartNext, Pass, Return, AppPut, AppGet, Fault}
 use Rattle.ec_world.specs.declared.progress.Progress.{Progress}
 use Rattle.ec_world.specs.Plain.{may_pass, may_return, lets_by, filled}
 use Rattle.ec_world.specs.Held.{IsAnswered, IsTakenIn, IsHandedIn}
-use Rattle.ec_world.specs.World.{ByStart, StartReturns, Returns, Sends, can_start, awaits, is_up, phase_awaits, phase_ready, ready_with, resumed, WorldState, Flight, IsStep, Puts, Gets, Passes, can_happen, no_slave, slave_of, with_slave, is_slave, flight_at, flight_progress, flights_progress}
-use Rattle.ec_world.specs.Slots.{HasPassed, HavePassed}
+use Rattle.ec_world.specs.World.{ByStart, StartReturns, Returns, can_start, awaits, is_up, phase_awaits, phase_ready, ready_with, resumed, WorldState, Flight, IsStep, no_slave, slave_of, with_slave, flight_at, flight_progress, flights_progress}
+use Rattle.ec_world.specs.Slots.{HavePassed}
 
 -- ---- a slave's own events
 

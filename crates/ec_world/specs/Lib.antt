@@ -4,7 +4,9 @@
 pub mod Plain
 -- the world as a value, when each event can be made, and what it does
 pub mod World
+-- a frame in its slot, as it passes its next slave
 pub mod Slots
+-- the frames of an open cycle, and who is handed a payload that comes back
 pub mod Held
 -- when a slave, a frame, a world shows what the plain machine says
 pub mod Lengths

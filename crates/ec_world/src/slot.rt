@@ -87,7 +87,8 @@ impl Slot {
     /// Its frame passes its next slave.
     pub fn pass(&mut self, ring: &mut Ring)
         requires { (f : Flight) → self.old ≡ Some f → f.passed < length ring.old }
-        ensures { (f : Flight) → self.old ≡ Some f → HasPassed ring.old f ring.new self.new }
+        ensures passed { (f : Flight) → self.old ≡ Some f → HasPassed ring.old f ring.new self.new }
+        ensures free { self.old ≡ None → self.new ≡ None }
     {
         let Some(progress) = &mut self.progress else {
             return;

@@ -2,7 +2,7 @@ ghost use Rattle.std.specs.Prelude.{◌≡◌, ◌≤◌, ◌<◌, ◌∷◌, []
 ghost use Rattle.std.specs.List.{list_all, count_by};
 ghost use Rattle.ec_world.specs.Plain.{lets_by, may_pass, may_return, filled};
 ghost use Rattle.ec_world.specs.World.{Flight, flight_progress, flights_progress};
-ghost use Rattle.ec_world.specs.Slots.{HavePassed};
+ghost use Rattle.ec_world.specs.Slots.{AreInUse, HavePassed};
 
 use crate::progress::Progress;
 use crate::slot::Slot;
@@ -14,15 +14,44 @@ use std::marker::Model;
 #[derive(Drop)]
 pub struct Slots {
     slots: Vec<Slot>,
+    // the slots from here on are free, and needn't be looked at
+    used: usize,
 }
 
 impl Model for Slots {
     ghost use Rattle.std.specs.Prelude.{List, Option};
+    ghost use Rattle.ec_world.specs.Slots.{AreFreeFrom};
     ghost use Rattle.ec_world.specs.World.{Flight};
 
     ghost Value = { List (Option Flight) };
 
     ghost view = { λ s. s.slots.items };
+
+    ghost invariant = { λ s. AreFreeFrom s.slots.items s.used };
+}
+
+/// How many of some slots are free.
+fn free_of(slots: &[Slot]) -> usize
+    ensures { result ≡ count_by (λ o. is_none o) slots.now }
+{
+    slots.iter().filter(|slot| slot.is_free()).count()
+}
+
+/// The lowest free one of some slots.
+fn first_free(slots: &[Slot]) -> Option<usize>
+    ensures { result ≡ position (λ o. is_none o) slots.now }
+{
+    slots.iter().position(|slot| slot.is_free())
+}
+
+/// Whether what some slots hold lets a frame by.
+fn all_let_by(slots: &[Slot], frame: &Progress) -> bool
+    ensures { result ≡ list_all (lets_by frame.now) (flights_progress slots.now) }
+{
+    slots
+        .iter()
+        .map(|slot| slot.progress())
+        .all(|other| frame.is_let_by(other))
 }
 
 impl Slots {
@@ -34,7 +63,7 @@ impl Slots {
         for n in 0..count {
             slots.push(Slot::new())?;
         }
-        Ok(Slots { slots })
+        Ok(Slots { slots, used: 0 })
     }
 
     /// How many slots there are.
@@ -55,11 +84,19 @@ impl Slots {
         }
     }
 
+    /// The slots that can hold a frame: all behind them are free.
+    fn in_use(&self) -> &[Slot]
+        ensures { AreInUse self.now result.now }
+    {
+        &self.slots[..self.used]
+    }
+
     /// How many slots are free.
     pub fn free(&self) -> usize
         ensures { result ≡ count_by (λ o. is_none o) self.now }
     {
-        self.slots.iter().filter(|slot| slot.is_free()).count()
+        let used = self.in_use();
+        self.len() - used.len() + free_of(used)
     }
 
     /// Whether the frame in a slot may pass its next slave, of so many: there is one, and every older frame has passed it.
@@ -76,10 +113,7 @@ impl Slots {
     fn let_by(&self, frame: &Progress) -> bool
         ensures { result ≡ list_all (lets_by frame.now) (flights_progress self.now) }
     {
-        self.slots
-            .iter()
-            .map(|slot| slot.progress())
-            .all(|other| frame.is_let_by(other))
+        all_let_by(self.in_use(), frame)
     }
 
     /// Whether the frame in a slot has passed all slaves, of so many.
@@ -104,7 +138,15 @@ impl Slots {
     fn lowest_free(&self) -> Option<usize>
         ensures { result ≡ position (λ o. is_none o) self.now }
     {
-        self.slots.iter().position(|slot| slot.is_free())
+        let used = self.in_use();
+        if let Some(place) = first_free(used) {
+            return Some(place);
+        }
+        if used.len() < self.len() {
+            Some(used.len())
+        } else {
+            None
+        }
     }
 
     /// A frame goes into the lowest free slot, if there is one.
@@ -114,6 +156,7 @@ impl Slots {
     {
         if let Some(place) = self.lowest_free() {
             self.slots[place].put(bytes, number, part);
+            self.used = self.used.max(place + 1);
         }
     }
 
@@ -123,6 +166,9 @@ impl Slots {
         ensures { self.new ≡ set self.old slot None }
     {
         self.slots[slot].clear();
+        if slot + 1 == self.used {
+            self.used = slot;
+        }
     }
 
     /// The frame in a slot passes its next slave.

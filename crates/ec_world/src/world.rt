@@ -1,4 +1,4 @@
-ghost use Rattle.std.specs.Prelude.{◌≡◌, ◌<◌, ◌≤◌, ℕ, List, length, get_or, map, slice_get, Option, Some, None, IfOk, option_map, replicate, false};
+ghost use Rattle.std.specs.Prelude.{◌≡◌, ◌<◌, List, length, slice_get, Option, Some, None, IfOk, option_map, false};
 ghost use Rattle.ec_regs.specs.declared.slave_type.Identity.{Identity};
 ghost use Rattle.ec_slave.specs.Application.{outputs_shown};
 ghost use Rattle.ec_table.specs.Contents.{Contents};
@@ -9,7 +9,7 @@ ghost use Rattle.ec_start.specs.Running.{outcome_of};
 ghost use Rattle.ec_cycle.specs.Master.{value_at};
 ghost use Rattle.ec_world.specs.Laws.{IsRun, StepShows, RunShows};
 ghost use Rattle.ec_world.specs.NewWorld.{IsUndisturbed, ComesUp};
-ghost use Rattle.ec_world.specs.Whole.{IsNew, Told, no_trouble, slot_count, switched_on};
+ghost use Rattle.ec_world.specs.Whole.{IsNew, Told, no_trouble, switched_on};
 ghost use Rattle.ec_world.specs.World.{IsStep, slave_of, flight_at, flight_progress, is_up};
 
 use crate::event::Event;

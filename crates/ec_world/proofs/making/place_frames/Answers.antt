@@ -1,4 +1,4 @@
-use Rattle.std.proofs.Common.{ℕ, ◌<◌, ◌≤◌, ◌≡◌, ◌∙◌, arith, length, sym}
+use Rattle.std.proofs.Common.{◌<◌, ◌≤◌, ◌∙◌, arith, length, sym}
 use Rattle.ec_world.specs.Held.{cycle_frames}
 use Rattle.ec_world.proofs.Filling.{frame-in, placed, all-placed}
 use Rattle.ec_world.proofs.making.place_frames.Goals as goal

@@ -1,4 +1,4 @@
-use Rattle.std.proofs.Common.{ℕ, suc, ◌+◌, ◌<◌, ◌≤◌, ◌≡◌, ◌∙◌, List, [], ◌∷◌, ◌++◌, length, get_or, length-take-le, take, ap, arith, refl, sym}
+use Rattle.std.proofs.Common.{◌+◌, ◌<◌, ◌≤◌, ◌≡◌, ◌∙◌, List, [], ◌∷◌, ◌++◌, length, get_or, length-take-le, take, ap, arith, refl, sym}
 use Rattle.std.proofs.lemmas.List.{take_more}
 use Rattle.ec_regs.specs.Types.{SlaveKind}
 use Rattle.ec_regs.specs.declared.slave_type.Identity.{Identity}

@@ -1,7 +1,6 @@
-use Rattle.std.proofs.Common.{ℕ, ◌+◌, ◌≡◌, ◌≤◌, ◌∙◌, List, Option, Some, None, ap, arith, drop, length, refl, subst, sym, option_map}
+use Rattle.std.proofs.Common.{ℕ, ◌+◌, ◌≡◌, ◌≤◌, ◌∙◌, List, Option, Some, ap, arith, drop, length, subst, sym, option_map}
 use Rattle.std.specs.List.{refill}
 use Rattle.std.proofs.lemmas.List.{take-append-le, take_all}
-use Rattle.ec_slave.specs.State.{SlaveState}
 use Rattle.ec_ring.specs.Rings.{IsPassedAt}
 use Rattle.ec_world.specs.declared.progress.Progress.{Progress}
 use Rattle.ec_world.specs.World.{Flight}
@@ -21,8 +20,8 @@ flight bytes p = record { bytes = bytes; number = p.number; part = p.part; passe
 some_same : (x y : Flight) → Some x ≡ Some y → x ≡ y
 some_same x y e = cc
 
-pub returns : goal.returns
-returns c = λ f is.
+pub returns-clause-passed : goal.returns-clause-passed
+returns-clause-passed c = λ f is.
     let items = c.self.inside.frame.items in
     let g = flight items c.in-Some.progress in
     let same : g ≡ f = some_same g f (ap (λ (o : Option Progress). option_map (flight items) o) (sym c.in-Some.is) ∙ (c.self.view_is ∙ is)) in

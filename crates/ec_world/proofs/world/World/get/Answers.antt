@@ -1,4 +1,4 @@
-use Rattle.std.proofs.Common.{◌<◌, arith}
+use Rattle.std.proofs.Common.{arith}
 use Rattle.ec_world.proofs.Stepping.{world_of, get-step, no-get-step}
 use Rattle.ec_world.proofs.world.World.get.Goals as goal
 

@@ -1,4 +1,4 @@
-use Rattle.std.proofs.Common.{◌≡◌, ◌∙◌, ap, length, sym, List}
+use Rattle.std.proofs.Common.{◌∙◌, ap, length, sym, List}
 use Rattle.ec_link.specs.declared.settings.Settings.{Settings}
 use Rattle.ec_world.proofs.Newly.{usable-of, few-of, slaves-of}
 use Rattle.ec_world.proofs.world.World.new.Goals as goal

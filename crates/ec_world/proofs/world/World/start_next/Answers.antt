@@ -1,6 +1,6 @@
-use Rattle.std.proofs.Common.{◌≡◌, ◌∙◌, ◌∷◌, [], List, ℕ, Option, ap, sym, true}
+use Rattle.std.proofs.Common.{◌≡◌, ◌∙◌, ◌∷◌, [], List, ℕ, ap, sym, true}
 use Rattle.ec_world.specs.Plain.{filled}
-use Rattle.ec_world.specs.World.{Flight, WorldState, can_start}
+use Rattle.ec_world.specs.World.{Flight, can_start}
 use Rattle.ec_world.proofs.Stepping.{world_of, start-step}
 use Rattle.ec_world.proofs.world.World.start_next.Goals as goal
 

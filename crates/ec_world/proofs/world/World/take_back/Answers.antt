@@ -1,4 +1,4 @@
-use Rattle.std.proofs.Common.{Bool, ℕ, ◌≡◌, ◌∙◌, ap, get_or, None, option_map, sym}
+use Rattle.std.proofs.Common.{Bool, ℕ, ◌∙◌, ap, get_or, None, option_map, sym}
 use Rattle.ec_world.specs.Plain.{may_return}
 use Rattle.ec_world.specs.World.{flight_progress}
 use Rattle.ec_world.proofs.Stepping.{world_of, return-step}

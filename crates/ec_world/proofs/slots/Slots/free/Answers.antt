@@ -1,0 +1,9 @@
+use Rattle.std.proofs.Common.{◌≡◌, arith, is_none}
+use Rattle.std.specs.List.{count_by}
+use Rattle.ec_world.proofs.Using.{free_counted}
+use Rattle.ec_world.proofs.slots.Slots.free.Goals as goal
+
+pub returns : goal.returns
+returns c =
+    let e = free_counted c.args.self.now c.in_use-used.result.now c.in_use-used.ensures in
+    omega (arith, e, c.len.ensures, c.free_of.ensures)
