@@ -24,19 +24,19 @@ test-stays f stays old new p is_kept t e =
     let same : f new ≡ true = ap f (t.kept c k y a).1 ∙ stays old c k _ a.is_open ∙ e in cc in
     let same : f new ≡ true = ap f (t.foreign none).1 ∙ e in cc)
 
-tests-stay : (f : MasterState → Bool) → ((m : MasterState) (c : OpenCycle) (k : ℕ) (q : KeptPart) → m.cycle ≡ Some c → f (with_kept m c k q) ≡ f m)
+pub tests_stay : (f : MasterState → Bool) → ((m : MasterState) (c : OpenCycle) (k : ℕ) (q : KeptPart) → m.cycle ≡ Some c → f (with_kept m c k q) ≡ f m)
     → (old new : MasterState) (ps : List (List ℕ)) → AreTaken old ps new → f old ≡ true → f new ≡ true
-tests-stay f stays old new [] h e = ap f h ∙ e
-tests-stay f stays old new (p ∷ ps) h e = tests-stay f stays h.1.1 new ps h.1.3 (test-stays f stays old h.1.1 p h.1.0 h.1.2 e)
+tests_stay f stays old new [] h e = ap f h ∙ e
+tests_stay f stays old new (p ∷ ps) h e = tests_stay f stays h.1.1 new ps h.1.3 (test-stays f stays old h.1.1 p h.1.0 h.1.2 e)
 
 -- taking payloads closes no cycle
 pub stays-open : (old new : MasterState) (ps : List (List ℕ)) → AreTaken old ps new → is_some old.cycle ≡ true → is_some new.cycle ≡ true
-stays-open old new ps h e = tests-stay (λ m. is_some m.cycle) (λ m c k q o. sym (ap (λ (x : _). is_some x) o)) old new ps h e
+stays-open old new ps h e = tests_stay (λ m. is_some m.cycle) (λ m c k q o. sym (ap (λ (x : _). is_some x) o)) old new ps h e
 
 -- and changes no input
 pub inputs-stay : (old new : MasterState) (ps : List (List ℕ)) → AreTaken old ps new → new.inputs ≡ old.inputs
 inputs-stay old new ps h =
-    (bytes_eq-Decides new.inputs old.inputs).0 (tests-stay (λ m. bytes_eq m.inputs old.inputs) (λ m c k q o. refl) old new ps h ((bytes_eq-Decides old.inputs old.inputs).1 refl))
+    (bytes_eq-Decides new.inputs old.inputs).0 (tests_stay (λ m. bytes_eq m.inputs old.inputs) (λ m c k q o. refl) old new ps h ((bytes_eq-Decides old.inputs old.inputs).1 refl))
 
 -- a cycle is open or it isn't
 pub not_none : (o : Option OpenCycle) → is_some o ≡ true → o ≡ None → ⊥
