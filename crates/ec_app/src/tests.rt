@@ -10,7 +10,7 @@ mod tables;
 use crate::{App, print_text, run_command};
 use std::alloc::{AllocError, Global};
 use std::io;
-use std::io::{ErrorKind, Write};
+use std::io::{ErrorKind, Read, Write};
 use std::net::Net;
 use std::process::Abort;
 use std::test::Fail;
@@ -87,6 +87,38 @@ impl Write for Narrow {
     }
 }
 
+/// Runs the program, and answers the exit status. It promises nothing, so what calls it is quickly checked.
+fn run_args<H: AllocGlobal + Net, R: Read, W: Write, F: Write>(
+    rt: &H,
+    args: &[&str],
+    input: &mut R,
+    output: &mut W,
+    faults: &mut F,
+) -> u8 {
+    run_command(rt, args, input, output, faults, &mut Idle)
+}
+
+/// How a run of the program ended: its exit status, what it printed and what it told.
+#[derive(Drop)]
+struct Ended {
+    status: u8,
+    printed: Vec<u8>,
+    told: Vec<u8>,
+}
+
+/// Runs the program over memory.
+fn run_in_memory<H: AllocGlobal + Net>(rt: &H, args: &[&str], input: &[u8]) -> Ended {
+    let mut input = input;
+    let mut printed: Vec<u8> = Vec::new(rt.alloc());
+    let mut told: Vec<u8> = Vec::new(rt.alloc());
+    let status = run_args(rt, args, &mut input, &mut printed, &mut told);
+    Ended {
+        status,
+        printed,
+        told,
+    }
+}
+
 /// A run of the program: its args and its input, how it ends, what it prints and what it tells.
 #[derive(Clone, Copy, Drop)]
 struct Run<'a> {
@@ -99,12 +131,13 @@ struct Run<'a> {
 
 /// Runs the program, and compares how it ends.
 fn expect_run<H: AllocGlobal + Net + Abort>(rt: &H, run: Run) {
-    let mut output: Vec<u8> = Vec::new(rt.alloc());
-    let mut faults: Vec<u8> = Vec::new(rt.alloc());
-    let (args, mut input) = (run.args, run.input);
-    let status = run_command(rt, args, &mut input, &mut output, &mut faults, &mut Idle);
+    let (args, ended) = (run.args, run_in_memory(rt, run.args, run.input));
     assert_eq!(rt;
-        (status, output.as_slice(), faults.as_slice()),
+        (
+            ended.status,
+            ended.printed.as_slice(),
+            ended.told.as_slice()
+        ),
         (run.status, run.printed.as_bytes(), run.told.as_bytes()),
         "{args:?}"
     );
@@ -298,17 +331,18 @@ fn expect_usage<H: AllocGlobal + Net + Abort>(
     begins: &str,
     line: &str,
 ) {
-    let mut output: Vec<u8> = Vec::new(rt.alloc());
-    let mut faults: Vec<u8> = Vec::new(rt.alloc());
-    let mut input: &[u8] = b"";
-    let answer = run_command(rt, args, &mut input, &mut output, &mut faults, &mut Idle);
+    let ended = run_in_memory(rt, args, b"");
     let (told, kept) = if status == 0 {
-        (output.as_slice(), faults.as_slice())
+        (ended.printed.as_slice(), ended.told.as_slice())
     } else {
-        (faults.as_slice(), output.as_slice())
+        (ended.told.as_slice(), ended.printed.as_slice())
     };
     let usage = told.starts_with(begins.as_bytes()) && holds(told, line.as_bytes());
-    assert_eq!(rt; (answer, usage, kept.len()), (status, true, 0), "{args:?}");
+    assert_eq!(rt;
+        (ended.status, usage, kept.len()),
+        (status, true, 0),
+        "{args:?}"
+    );
 }
 
 #[test]
@@ -353,7 +387,7 @@ fn expect_full_output<H: AllocGlobal + Net + Abort>(rt: &H, args: &[&str], input
     let mut input = input;
     let mut faults: Vec<u8> = Vec::new(rt.alloc());
     let mut output = Narrow { left: 0 };
-    let status = run_command(rt, args, &mut input, &mut output, &mut faults, &mut Idle);
+    let status = run_args(rt, args, &mut input, &mut output, &mut faults);
     let told = b"ecat: 41 Output\n".as_slice();
     assert_eq!(rt; (status, faults.as_slice()), (4, told), "{args:?}");
 }
@@ -371,7 +405,7 @@ fn expect_stuck_output<H: AllocGlobal + Net + Abort>(rt: &H, args: &[&str]) {
     let mut input: &[u8] = b"";
     let mut faults: Vec<u8> = Vec::new(rt.alloc());
     let mut output = Stuck { flushes: 0 };
-    let status = run_command(rt, args, &mut input, &mut output, &mut faults, &mut Idle);
+    let status = run_args(rt, args, &mut input, &mut output, &mut faults);
     let told = b"ecat: 41 Output\n".as_slice();
     assert_eq!(rt;
         (status, output.flushes, faults.as_slice()),
@@ -385,7 +419,7 @@ fn expect_stuck_faults<H: AllocGlobal + Net + Abort>(rt: &H, args: &[&str], stat
     let mut input: &[u8] = b"";
     let mut output: Vec<u8> = Vec::new(rt.alloc());
     let mut faults = Stuck { flushes: 0 };
-    let answer = run_command(rt, args, &mut input, &mut output, &mut faults, &mut Idle);
+    let answer = run_args(rt, args, &mut input, &mut output, &mut faults);
     assert_eq!(rt; (answer, faults.flushes), (status, 1), "{args:?}");
 }
 
@@ -402,7 +436,7 @@ fn a_full_fault_stream_changes_nothing(rt: HostRuntime) {
     let mut input: &[u8] = b"";
     let args = ["ecat", "pass", "--slaves", "3", "0e1"];
     let (mut output, mut faults) = (Vec::new(rt.alloc()), Narrow { left: 0 });
-    let status = run_command(&rt, &args, &mut input, &mut output, &mut faults, &mut Idle);
+    let status = run_args(&rt, &args, &mut input, &mut output, &mut faults);
     assert_eq!(rt; status, 3);
 }
 

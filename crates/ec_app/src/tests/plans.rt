@@ -1,12 +1,12 @@
 //! `ecat plan`, over memory.
 
+use crate::read_text;
 use crate::tests::tables::{
     BARE, BARE_EXPLAINED, BARE_PLAN, LEGEND, REFUSED_CHANGES, SMALL_MACHINE,
     SMALL_MACHINE_EXPLAINED, SMALL_MACHINE_PLAN, SPLIT_VARIABLE, THREE_SLAVES,
     THREE_SLAVES_EXPLAINED, THREE_SLAVES_PLAN, TWO_UNITS_PLAN,
 };
-use crate::tests::{Idle, Run, expect_run};
-use crate::{read_text, run_command};
+use crate::tests::{Run, expect_run, run_args};
 use std::alloc::{AllocError, Global};
 use std::io;
 use std::io::{ErrorKind, Read};
@@ -241,7 +241,7 @@ impl Read for Failing {
 fn expect_input<H: AllocGlobal + Net + Abort, R: Read>(rt: &H, input: &mut R) {
     let mut output: Vec<u8> = Vec::new(rt.alloc());
     let mut faults: Vec<u8> = Vec::new(rt.alloc());
-    let status = run_command(rt, &PLAN, input, &mut output, &mut faults, &mut Idle);
+    let status = run_args(rt, &PLAN, input, &mut output, &mut faults);
     assert_eq!(rt;
         (status, output.as_slice(), faults.as_slice()),
         (4, b"".as_slice(), b"ecat: 42 Input\n".as_slice())
