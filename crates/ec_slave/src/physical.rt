@@ -82,9 +82,41 @@ impl Slave {
         }
     }
 
+    /// Reads into the bytes of a datagram, and answers whether one was read. Registers have no governor, and are few: they
+    /// are asked for byte by byte.
+    fn read_physical(&self, joining: bool, from: usize, bytes: &mut [u8]) -> bool
+        requires { from + length bytes.old < 2 ^ 32 }
+        ensures bytes { bytes.new ≡ retold bytes.old (byte_read self.now joining (record { from = from; bytes = bytes.old })) }
+        ensures some { result ≡ some_byte_read self.now.managers (record { from = from; bytes = bytes.old }) }
+    {
+        if from < RAM_START {
+            self.read_each(joining, from, bytes)
+        } else {
+            self.read_parts(joining, from, bytes)
+        }
+    }
+
+    /// Reads into the bytes of a datagram, byte by byte, and answers whether one was read.
+    fn read_each(&self, joining: bool, from: usize, bytes: &mut [u8]) -> bool
+        requires { from + length bytes.old < 2 ^ 32 }
+        ensures bytes { bytes.new ≡ retold bytes.old (byte_read self.now joining (record { from = from; bytes = bytes.old })) }
+        ensures some { result ≡ some_byte_read self.now.managers (record { from = from; bytes = bytes.old }) }
+    {
+        let mut is_some = false;
+        let len = bytes.len();
+        for (i, byte) in bytes.iter_mut().enumerate() {
+            if self.reads(from, len, from + i) {
+                is_some = true;
+                let shown = self.byte_at(from + i);
+                *byte = read_over(joining, *byte, shown);
+            }
+        }
+        is_some
+    }
+
     /// Reads into the bytes of a datagram, and answers whether one was read. Who governs bytes, and whether they may be
     /// read, is asked once for each part of which all or none are.
-    fn read_physical(&self, joining: bool, from: usize, bytes: &mut [u8]) -> bool
+    fn read_parts(&self, joining: bool, from: usize, bytes: &mut [u8]) -> bool
         requires { from + length bytes.old < 2 ^ 32 }
         ensures bytes { bytes.new ≡ retold bytes.old (byte_read self.now joining (record { from = from; bytes = bytes.old })) }
         ensures some { result ≡ some_byte_read self.now.managers (record { from = from; bytes = bytes.old }) }

@@ -10,8 +10,8 @@ use Rattle.ec_slave.specs.Access.{Window, byte_read, may_read_byte, touches}
 use Rattle.ec_slave.proofs.Choices.{any-none, any-part}
 use Rattle.ec_slave.proofs.Told.{told_along, told-none, told-next, told-left, retold-whole, get-told_outside, length-told_along}
 use Rattle.ec_slave.proofs.Windows.{read-denied, read-inside, read-own}
-use Rattle.ec_slave.proofs.slave.Slave.read_physical.Goals as goal
-use Rattle.ec_slave.proofs.slave.Slave.read_physical.Goals.{then-reads, else-reads}
+use Rattle.ec_slave.proofs.slave.Slave.read_parts.Goals as goal
+use Rattle.ec_slave.proofs.slave.Slave.read_parts.Goals.{then-reads, else-reads}
 
 pub loop-done-init : goal.loop-done-init
 loop-done-init c = record { inside = omega arith; bytes = told-none _ _ _; some = any-none _ }
