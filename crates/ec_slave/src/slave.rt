@@ -142,7 +142,10 @@ impl Slave {
         requires { address < 0x3000 }
         ensures { result ≡ byte_at self.now address }
     {
-        self.byte_under(governor(&self.managers, address), address)
+        if address < RAM_START {
+            return self.register(address);
+        }
+        self.ram_byte(governor(&self.managers, address), address)
     }
 
     /// What an address reads that has this governor, or none, if it lies in the RAM.
