@@ -1,31 +1,37 @@
 -- Cycles one after another, what they print, and how a loop ends.
-use Rattle.std.proofs.Common.{◌≡◌, ◌∙◌, ◌⊎◌, inl, inr, ℕ, zero, suc, ◌+◌, ◌<◌, ◌≤◌, List, [], ◌∷◌, ◌++◌, length, take, Bool, true, false, Option, None, Some, is_some, nat_lt, refl, sym, ap, subst, append_assoc, append-nil, arith, Result, Ok, Err, IfErr, IfOk, OnOk, OnErr}
+use Rattle.std.proofs.Common.{◌≡◌, ◌∙◌, ◌⊎◌, inl, inr, ℕ, zero, suc, ◌+◌, ◌%◌, ◌^◌, ◌<◌, ◌≤◌, ◌==◌, ◌&&◌, not, if◌then◌else◌, get_or, slice_get, List, [], ◌∷◌, ◌++◌, length, take, Bool, true, false, Option, None, Some, is_some, nat_lt, refl, sym, ap, subst, append_assoc, append-nil, arith, Result, Ok, Err, IfErr, IfOk, OnOk, OnErr}
+use Rattle.std.proofs.Math.Nat.{mod-lt}
+use Rattle.std.proofs.lemmas.Bool.{eq-eqb, eqb-true, lt-ltb}
+use Rattle.std.proofs.lemmas.List.{take_more}
+use Rattle.std.proofs.lemmas.Nat.{pow_pos}
 use Rattle.std.specs.Result.{IsErrAnd}
 use Rattle.std.specs.List.{flat_map}
 use Rattle.std.specs.Io.KnownBytes.{Appends}
 use Rattle.std.proofs.lemmas.List.Concat.{flat_map-append}
 use Rattle.ec_frame.specs.Frame.{Payload}
 use Rattle.ec_table.specs.Contents.{Contents}
-use Rattle.ec_table.specs.Reading.{table_of}
-use Rattle.ec_link.specs.Faults.{compile_fault}
-use Rattle.ec_link.specs.Plan.{plan_of}
+use Rattle.ec_table.specs.declared.rows.Direction.{Direction}
+use Rattle.ec_table.specs.declared.rows.Direction.TheVariants.{Out, In}
+use Rattle.ec_link.specs.declared.image.Variable.{Variable}
+use Rattle.ec_link.specs.Wires.{is_out}
+use Rattle.ec_link.specs.Plan.{PlanState, plan_of}
 use Rattle.ec_start.specs.declared.phase.Phase.{Phase}
 use Rattle.ec_start.specs.declared.phase.Phase.TheVariants.{Idle, Sent, Ready, Failed}
 use Rattle.ec_start.specs.Running.{is_ended, outcome_of}
-use Rattle.ec_start.specs.declared.error.StartError.{StartError}
-use Rattle.ec_cycle.specs.Closing.{KeptPart, ReportState}
-use Rattle.ec_cycle.specs.Master.{MasterState, OpenCycle, IsAnswer, IsClosed, IsTaken, begin_refusal, closed, cycle_limit, variable_set, with_kept}
+use Rattle.ec_cycle.specs.Closing.{ReportState}
+use Rattle.ec_cycle.specs.Master.{MasterState, OpenCycle, IsAnswer, IsClosed, IsTaken, begin_refusal, cycle_limit, holds_value, value_put, variable_set}
 use Rattle.ec_cycle.specs.declared.error.CycleError.{CycleError}
 use Rattle.ec_cycle.specs.declared.error.CycleError.TheVariants.{NumbersSpent}
 use Rattle.ec_wire.specs.Wires.{WireState}
 use Rattle.ec_wire.specs.Running.{AreTaken, IsEnded, IsRun}
+use Rattle.ec_wire.proofs.Taking.{tests_stay}
 use Rattle.ec_wire.specs.declared.error.RunError.{RunError}
 use Rattle.ec_wire.specs.declared.error.RunError.TheVariants.{Refused, Wire}
 use Rattle.ec_script.specs.Texts.{report_text}
 use Rattle.ec_script.proofs.Lines.{lines_more, lines_all}
 use Rattle.ec_app.specs.declared.refusal.Refusal.{Refusal}
 use Rattle.ec_app.specs.declared.refusal.Refusal.TheVariants as refusal
-use Rattle.ec_app.specs.Looping.{CanCycle, CutShort, IsCycleRefusal, IsRunEnd, IsSoFar, IsStartRefusal, IsWhole, Loops, LoopsText, cycles_text, inputs_text, ready_line, shown}
+use Rattle.ec_app.specs.Looping.{AreRun, CanCycle, CutShort, HaveRun, IsCycleRefusal, IsRunEnd, IsSoFar, IsStartRefusal, IsUp, Loops, LoopsText, cycles_text, inputs_text, output_put, outputs_put, ready_line, shown, with_outputs}
 use Rattle.ec_app.specs.Planning.{IsTableRefusal}
 use Rattle.ec_app.specs.Printing.{AppendsPart}
 use Rattle.ec_app.proofs.PrintLemmas.{appends_more, appends_nothing}
@@ -70,36 +76,170 @@ all-ready : (old new : MasterState) (ps : List (List ℕ)) → AreTaken old ps n
 all-ready old new [] h e = ap (λ (m : MasterState). m.is_ready) h ∙ e
 all-ready old new (p ∷ ps) h e = all-ready h.1.1 new ps h.1.3 (taken-ready old h.1.1 p h.1.0 h.1.2 e)
 
-closed-can : (last after : MasterState) (r : ReportState) → last.is_ready ≡ true → IsClosed last after r → CanCycle after
-closed-can last after r up h = subst CanCycle (sym h.master) (record { up = up; none_open = refl })
+-- the variables of a plan, compared
+same-bool : Bool → Bool → Bool
+same-bool a b = if a then b else not b
 
-ended-well : (last after : MasterState) (old new : WireState) (r : Result ReportState RunError) → last.is_ready ≡ true → IsEnded last old new r after
-    → OnOk r (CanCycle after) × IfErr r IsRunEnd
-ended-well last after old new (Ok report) up h = (closed-can last after report up h.1, tt)
-ended-well last after old new (Err Wire) up h = (tt, inl refl)
-ended-well last after old new (Err (Refused e)) up h = absurd h
+same-variable : Variable → Variable → Bool
+same-variable v x = same-bool (is_out v.direction) (is_out x.direction) && ((v.from == x.from) && (v.bits == x.bits))
 
-run-well : (m : MasterState) (old new : WireState) (r : Result ReportState RunError) (after : MasterState) → m.is_ready ≡ true → IsRun m old new r after
-    → OnOk r (CanCycle after) × IfErr r IsRunEnd
-run-well m old new r after up run =
-    let begun : run.begun.is_ready ≡ true = ap (λ (x : MasterState). x.is_ready) run.begins.is ∙ up in
+same-variables : List Variable → List Variable → Bool
+same-variables [] [] = true
+same-variables [] (x ∷ xs) = false
+same-variables (v ∷ vs) [] = false
+same-variables (v ∷ vs) (x ∷ xs) = same-variable v x && same-variables vs xs
+
+both : (a b : Bool) → (a && b) ≡ true → (a ≡ true) × (b ≡ true)
+both true b e = (refl, e)
+both false b e = absurd (let f : false ≡ true = e in cc)
+
+direction-is : (a b : Direction) → same-bool (is_out a) (is_out b) ≡ true → a ≡ b
+unfolding same-bool
+direction-is Out Out e = refl
+direction-is Out In e = absurd (let f : false ≡ true = e in cc)
+direction-is In Out e = absurd (let f : false ≡ true = e in cc)
+direction-is In In e = refl
+
+variable-is : (v x : Variable) → same-variable v x ≡ true → v ≡ x
+unfolding same-variable
+variable-is v x e =
+    let a = both (same-bool (is_out v.direction) (is_out x.direction)) _ e in
+    let b = both (v.from == x.from) _ a.1 in
+    let direction : v.direction ≡ x.direction = direction-is v.direction x.direction a.0 in
+    let from : v.from ≡ x.from = eqb-true v.from x.from b.0 in
+    let bits : v.bits ≡ x.bits = eqb-true v.bits x.bits b.1 in
+    ap (λ (d : Direction). record v { direction = d }) direction
+    ∙ (ap (λ (n : ℕ). record x { from = n; bits = v.bits }) from ∙ ap (λ (n : ℕ). record x { bits = n }) bits)
+
+variables-are : (vs xs : List Variable) → same-variables vs xs ≡ true → vs ≡ xs
+unfolding same-variables
+variables-are [] [] e = refl
+variables-are [] (x ∷ xs) e = absurd (let f : false ≡ true = e in cc)
+variables-are (v ∷ vs) [] e = absurd (let f : false ≡ true = e in cc)
+variables-are (v ∷ vs) (x ∷ xs) e =
+    let k = both (same-variable v x) _ e in
+    ap (λ (y : Variable). y ∷ vs) (variable-is v x k.0) ∙ ap (λ (ys : List Variable). x ∷ ys) (variables-are vs xs k.1)
+
+same-direction : (a : Direction) → same-bool (is_out a) (is_out a) ≡ true
+unfolding same-bool
+same-direction Out = refl
+same-direction In = refl
+
+variable-same : (v : Variable) → same-variable v v ≡ true
+unfolding same-variable
+variable-same v = rw (same-direction v.direction, eq-eqb v.from v.from refl, eq-eqb v.bits v.bits refl) refl
+
+variables-same : (vs : List Variable) → same-variables vs vs ≡ true
+unfolding same-variables
+variables-same [] = refl
+variables-same (v ∷ vs) = rw (variable-same v, variables-same vs) refl
+
+-- payloads that are taken leave them
+variables-stay : (old new : MasterState) (ps : List (List ℕ)) → AreTaken old ps new → new.plan.variables ≡ old.plan.variables
+variables-stay old new ps h =
+    variables-are new.plan.variables old.plan.variables
+    (tests_stay (λ m. same-variables m.plan.variables old.plan.variables) (λ m c k q o. refl) old new ps h (variables-same old.plan.variables))
+
+closed-can : (p : PlanState) (last after : MasterState) (r : ReportState) → last.is_ready ≡ true → last.plan.variables ≡ p.variables → IsClosed last after r → CanCycle p after
+closed-can p last after r up vs h = subst (CanCycle p) (sym h.master) (record { up = up; none_open = refl; variables = vs })
+
+ended-well : (p : PlanState) (last after : MasterState) (old new : WireState) (r : Result ReportState RunError) → last.is_ready ≡ true → last.plan.variables ≡ p.variables → IsEnded last old new r after
+    → OnOk r (CanCycle p after) × IfErr r IsRunEnd
+ended-well p last after old new (Ok report) up vs h = (closed-can p last after report up vs h.1, tt)
+ended-well p last after old new (Err Wire) up vs h = (tt, inl refl)
+ended-well p last after old new (Err (Refused e)) up vs h = absurd h
+
+run-well : (p : PlanState) (m : MasterState) (old new : WireState) (r : Result ReportState RunError) (after : MasterState) → CanCycle p m → IsRun m old new r after
+    → OnOk r (CanCycle p after) × IfErr r IsRunEnd
+run-well p m old new r after can run =
+    let begun : run.begun.is_ready ≡ true = ap (λ (x : MasterState). x.is_ready) run.begins.is ∙ can.up in
     let last : run.last.is_ready ≡ true = all-ready run.begun run.last run.exchanged.got run.exchanged.taken begun in
-    ended-well run.last after old new r last run.ends
+    let vs : run.last.plan.variables ≡ p.variables
+    = variables-stay run.begun run.last run.exchanged.got run.exchanged.taken ∙ (ap (λ (x : MasterState). x.plan.variables) run.begins.is ∙ can.variables) in
+    ended-well p run.last after old new r last vs run.ends
 
-spent-well : (r : Result ReportState RunError) (after : MasterState) → r ≡ Err (Refused NumbersSpent) → OnOk r (CanCycle after) × IfErr r IsRunEnd
-spent-well r after is = subst (λ (x : Result ReportState RunError). OnOk x (CanCycle after) × IfErr x IsRunEnd) (sym is) (tt, inr refl)
+spent-well : (p : PlanState) (r : Result ReportState RunError) (after : MasterState) → r ≡ Err (Refused NumbersSpent) → OnOk r (CanCycle p after) × IfErr r IsRunEnd
+spent-well p r after is = subst (λ (x : Result ReportState RunError). OnOk x (CanCycle p after) × IfErr x IsRunEnd) (sym is) (tt, inr refl)
 
-pub ran : (m : MasterState) (old new : WireState) (r : Result ReportState RunError) (after : MasterState) → CanCycle m
+pub ran : (p : PlanState) (m : MasterState) (old new : WireState) (r : Result ReportState RunError) (after : MasterState) → CanCycle p m
     → (begin_refusal m ≡ None → IsRun m old new r after) → ((e : CycleError) → begin_refusal m ≡ Some e → r ≡ Err (Refused e))
-    → OnOk r (CanCycle after) × IfErr r IsRunEnd
-ran m old new r after can run refused = by (nat_lt m.next cycle_limit) refl
+    → OnOk r (CanCycle p after) × IfErr r IsRunEnd
+ran p m old new r after can run refused = by (nat_lt m.next cycle_limit) refl
   where
-    by : (b : Bool) → nat_lt m.next cycle_limit ≡ b → OnOk r (CanCycle after) × IfErr r IsRunEnd
-    by true lt = let fine : begin_refusal m ≡ None = rw (can.up, can.none_open, lt) refl in run-well m old new r after can.up (run fine)
-    by false lt = let spent : begin_refusal m ≡ Some NumbersSpent = rw (can.up, can.none_open, lt) refl in spent-well r after (refused NumbersSpent spent)
+    by : (b : Bool) → nat_lt m.next cycle_limit ≡ b → OnOk r (CanCycle p after) × IfErr r IsRunEnd
+    by true lt = let fine : begin_refusal m ≡ None = rw (can.up, can.none_open, lt) refl in run-well p m old new r after can (run fine)
+    by false lt = let spent : begin_refusal m ≡ Some NumbersSpent = rw (can.up, can.none_open, lt) refl in spent-well p r after (refused NumbersSpent spent)
 
-pub set-can : (m n : MasterState) (variable value : ℕ) → CanCycle m → n ≡ variable_set m variable value → CanCycle n
-set-can m n variable value can is = subst CanCycle (sym is) (record { up = can.up; none_open = can.none_open })
+-- what ends with a report was run
+pub run_of : (m : MasterState) (old new : WireState) (r : Result ReportState RunError) (after : MasterState)
+    → (begin_refusal m ≡ None → IsRun m old new r after) → ((e : CycleError) → begin_refusal m ≡ Some e → r ≡ Err (Refused e))
+    → IfOk r (λ x. IsRun m old new (Ok x) after)
+run_of m old new r after run refused = by (begin_refusal m) refl r refl
+  where
+    by : (o : Option CycleError) → begin_refusal m ≡ o → (x : Result ReportState RunError) → r ≡ x → IfOk x (λ y. IsRun m old new (Ok y) after)
+    by None e (Ok y) is = subst (λ (z : Result ReportState RunError). IsRun m old new z after) is (run e)
+    by None e (Err y) is = tt
+    by (Some f) e (Ok y) is = absurd (let bad : Ok y ≡ Err (Refused f) = sym is ∙ refused f e in cc)
+    by (Some f) e (Err y) is = tt
+
+pub with-can : (p : PlanState) (m n : MasterState) (number : ℕ) → CanCycle p m → n ≡ with_outputs m number → CanCycle p n
+with-can p m n number can is = subst (CanCycle p) (sym is) (record { up = can.up; none_open = can.none_open; variables = can.variables })
+
+put-out : (b : Bool) (xs ys : List ℕ) → b ≡ true → (if b then xs else ys) ≡ xs
+put-out true xs ys e = refl
+put-out false xs ys e = absurd (let f : false ≡ true = e in cc)
+
+put-in : (b : Bool) (xs ys : List ℕ) → b ≡ false → (if b then xs else ys) ≡ ys
+put-in true xs ys e = absurd (let f : true ≡ false = e in cc)
+put-in false xs ys e = refl
+
+only-first : (a b : Bool) → (a && b) ≡ false → b ≡ true → a ≡ false
+only-first true b e f = absurd (let g : true ≡ false = sym f ∙ e in cc)
+only-first false b e f = refl
+
+-- ---- outputs
+
+snoc-put : (number : ℕ) (image : List ℕ) (vs : List Variable) (v : Variable) → outputs_put number image (vs ++ v ∷ []) ≡ output_put number (outputs_put number image vs) v
+snoc-put number image [] v = refl
+snoc-put number image (x ∷ vs) v = snoc-put number (output_put number image x) vs v
+
+get-or-any : (vs : List Variable) (i : ℕ) (a b : Variable) → i < length vs → get_or vs i a ≡ get_or vs i b
+get-or-any [] i a b l = absurd (omega (arith, l))
+get-or-any (v ∷ vs) zero a b l = refl
+get-or-any (v ∷ vs) (suc i) a b l = get-or-any vs i a b (omega (arith, l))
+
+-- one variable more
+pub put_next : (m before new : MasterState) (number i : ℕ) (vs : List Variable) (v : Variable) → i < length vs → v ≡ get_or vs i v
+    → before ≡ record m { outputs = outputs_put number m.outputs (take i vs) } → new ≡ record before { outputs = output_put number before.outputs v }
+    → new ≡ record m { outputs = outputs_put number m.outputs (take (i + 1) vs) }
+put_next m before new number i vs v l at so is =
+    is ∙ (ap (λ (x : MasterState). record x { outputs = output_put number x.outputs v }) so
+    ∙ ap (λ (image : List ℕ). record m { outputs = image })
+    (sym (snoc-put number m.outputs (take i vs) v)
+    ∙ ap (outputs_put number m.outputs) (ap (λ (x : Variable). take i vs ++ x ∷ []) at ∙ sym (take_more vs i v l))))
+
+pub put_next_at : (m before new : MasterState) (number i : ℕ) (vs xs : List Variable) (d : Variable) → i < length vs → xs ≡ vs
+    → before ≡ record m { outputs = outputs_put number m.outputs (take i vs) } → new ≡ record before { outputs = output_put number before.outputs (get_or xs i d) }
+    → new ≡ record m { outputs = outputs_put number m.outputs (take (i + 1) vs) }
+put_next_at m before new number i vs xs d l same so is =
+    put_next m before new number i vs (get_or xs i d) l (ap (λ (ys : List Variable). get_or ys i d) same ∙ get-or-any vs i d (get_or xs i d) l) so is
+
+below-power : (n bits : ℕ) → nat_lt (n % 2 ^ bits) (2 ^ bits) ≡ true
+below-power n bits = lt-ltb (n % 2 ^ bits) (2 ^ bits) (mod-lt n (pow_pos bits))
+
+pub output_is_set : (m new : MasterState) (variable value number : ℕ) (v : Variable) → slice_get m.plan.variables variable ≡ Some v → value ≡ number % 2 ^ v.bits
+    → holds_value value (slice_get m.plan.variables variable) ≡ true → new ≡ variable_set m variable value → new ≡ record m { outputs = output_put number m.outputs v }
+output_is_set m new variable value number v at cut holds is =
+    let out = both (is_out v.direction) _ (ap (holds_value value) (sym at) ∙ holds) in
+    is ∙ ap (λ (image : List ℕ). record m { outputs = image })
+    (ap (value_put m.outputs value) at ∙ (ap (λ (x : ℕ). value_put m.outputs x (Some v)) cut ∙ sym (put-out (is_out v.direction) _ _ out.0)))
+
+pub output_is_kept : (m : MasterState) (variable value number : ℕ) (v : Variable) → slice_get m.plan.variables variable ≡ Some v → value ≡ number % 2 ^ v.bits
+    → holds_value value (slice_get m.plan.variables variable) ≡ false → m ≡ record m { outputs = output_put number m.outputs v }
+output_is_kept m variable value number v at cut holds =
+    let no : (is_out v.direction && nat_lt value (2 ^ v.bits)) ≡ false = ap (holds_value value) (sym at) ∙ holds in
+    let small : nat_lt value (2 ^ v.bits) ≡ true = ap (λ (x : ℕ). nat_lt x (2 ^ v.bits)) cut ∙ below-power number v.bits in
+    ap (λ (image : List ℕ). record m { outputs = image }) (sym (put-in (is_out v.direction) _ _ (only-first (is_out v.direction) _ no small)))
 
 pub if_cycle : {T : Type 0} (r : Result T Refusal) (x : Refusal) → IsErrAnd r (λ e. e ≡ x) → IsCycleRefusal x → IfErr r IsCycleRefusal
 if_cycle (Ok v) x is h = tt
@@ -108,8 +248,9 @@ if_cycle (Err e) x is h = subst IsCycleRefusal (sym is) h
 -- ---- what is printed
 
 -- the reports so far
-pub record ArePrinted (t : Contents) (old new : Option (List ℕ)) (i : ℕ) : Type 0 where
+pub record ArePrinted (t : Contents) (last : MasterState) (old new : Option (List ℕ)) (i : ℕ) : Type 0 where
   pub reports : List ReportState
+  pub have : HaveRun t reports last
   pub count : length reports ≡ i
   pub printed : Appends old new (cycles_text t reports)
 
@@ -127,26 +268,49 @@ text-snoc : (t : Contents) (rs : List ReportState) (r : ReportState) → cycles_
 text-snoc t rs r =
     ap (λ (x : List ℕ). ready_line ++ x) (flat-snoc t rs r) ∙ sym (append_assoc ready_line (flat_map (report_text t.version (plan_of t).parts) rs) (report_text t.version (plan_of t).parts r))
 
+run-snoc : (m mid last : MasterState) (w x v : WireState) (number n : ℕ) (rs : List ReportState) (r : ReportState) → AreRun m w number rs mid x → n ≡ number + length rs
+    → IsRun (with_outputs mid n) x v (Ok r) last → AreRun m w number (rs ++ r ∷ []) last v
+run-snoc m mid last w x v number n [] r h is one =
+    let same : n ≡ number = omega (arith, is) in (
+      last,
+      v,
+      subst (λ (y : MasterState). IsRun (with_outputs y number) w v (Ok r) last) h.0
+          (subst (λ (y : WireState). IsRun (with_outputs mid number) y v (Ok r) last) h.1 (subst (λ (k : ℕ). IsRun (with_outputs mid k) x v (Ok r) last) same one)),
+      (refl, refl),
+    )
+run-snoc m mid last w x v number n (s ∷ rs) r h is one = (h.0, h.1, h.2, run-snoc h.0 mid last h.1 x v (number + 1) n rs r h.3 (omega (arith, is)) one)
+
 -- the same of what stands behind the first line
-pub record AreReported (t : Contents) (mid new : Option (List ℕ)) (i : ℕ) : Type 0 where
+pub record AreReported (t : Contents) (first : MasterState) (before : WireState) (last : MasterState) (after : WireState) (mid new : Option (List ℕ)) (i : ℕ) : Type 0 where
   pub reports : List ReportState
+  pub run : AreRun first before 1 reports last after
   pub count : length reports ≡ i
   pub printed : Appends mid new (flat_map (report_text t.version (plan_of t).parts) reports)
 
-pub none_reported : (t : Contents) (mid : Option (List ℕ)) → AreReported t mid mid 0
-none_reported t mid = record { reports = []; count = refl; printed = appends_nothing mid }
+pub none_reported : (t : Contents) (m : MasterState) (w : WireState) (mid : Option (List ℕ)) → AreReported t m w m w mid mid 0
+none_reported t m w mid = record { reports = []; run = (refl, refl); count = refl; printed = appends_nothing mid }
 
-pub one_reported : (t : Contents) (mid new newer : Option (List ℕ)) (i : ℕ) (line : List ℕ) (r : ReportState) → AreReported t mid new i
-    → line ≡ report_text t.version (plan_of t).parts r → Appends new newer line → AreReported t mid newer (i + 1)
-one_reported t mid new newer i line r h is more = record {
-  reports = h.reports ++ r ∷ [];
-  count = length-snoc h.reports r ∙ ap (λ (n : ℕ). n + 1) h.count;
-  printed = subst (Appends mid newer) (sym (flat-snoc t h.reports r))
-      (subst (λ (x : List ℕ). Appends mid newer (flat_map (report_text t.version (plan_of t).parts) h.reports ++ x)) is (appends_more mid new newer _ line h.printed more));
+pub one_reported : (t : Contents) (first last later : MasterState) (before after next : WireState) (mid new newer : Option (List ℕ)) (i : ℕ) (line : List ℕ) (r : ReportState)
+    → AreReported t first before last after mid new i → IsRun (with_outputs last (i + 1)) after next (Ok r) later
+    → line ≡ report_text t.version (plan_of t).parts r → Appends new newer line → AreReported t first before later next mid newer (i + 1)
+one_reported t first last later before after next mid new newer i line r h one is more =
+    let count = h.count in
+    record {
+      reports = h.reports ++ r ∷ [];
+      run = run-snoc first last later before after next 1 (i + 1) h.reports r h.run (omega (arith, count)) one;
+      count = length-snoc h.reports r ∙ ap (λ (n : ℕ). n + 1) h.count;
+      printed = subst (Appends mid newer) (sym (flat-snoc t h.reports r))
+          (subst (λ (x : List ℕ). Appends mid newer (flat_map (report_text t.version (plan_of t).parts) h.reports ++ x)) is (appends_more mid new newer _ line h.printed more));
+    }
+
+pub since_ready : (t : Contents) (first last : MasterState) (before after : WireState) (old mid new : Option (List ℕ)) (i : ℕ) → IsUp t first → Appends old mid ready_line
+    → AreReported t first before last after mid new i → ArePrinted t last old new i
+since_ready t first last before after old mid new i up line h = record {
+  reports = h.reports;
+  have = record { first = first; before = before; after = after; up = up; run = h.run };
+  count = h.count;
+  printed = appends_more old mid new ready_line _ line h.printed;
 }
-
-pub since_ready : (t : Contents) (old mid new : Option (List ℕ)) (i : ℕ) → Appends old mid ready_line → AreReported t mid new i → ArePrinted t old new i
-since_ready t old mid new i first h = record { reports = h.reports; count = h.count; printed = appends_more old mid new ready_line _ first h.printed }
 
 take-behind : (before text : List ℕ) (k : ℕ) → take (length before + k) (before ++ text) ≡ before ++ take k text
 take-behind [] text k = let e : 0 + k ≡ k = omega arith in rw e refl
@@ -181,31 +345,43 @@ cut-passed (Ok done) x cycles t old new is h = tt
 cut-passed (Err e) x cycles t old new is h = subst (IsCut cycles t old new) (sym is) h
 
 -- no further cycle ends, and whole lines stand there
-pub cut_between : (r : Result Unit Refusal) (x : Refusal) (cycles : ℕ) (t : Contents) (old new : Option (List ℕ)) (i : ℕ) → IsErrAnd r (λ e. e ≡ x) → IsCycleRefusal x
-    → ArePrinted t old new i → i ≤ cycles → IfErr r (IsCut cycles t old new)
-cut_between r x cycles t old new i is h p le =
+pub cut_between : (r : Result Unit Refusal) (x : Refusal) (cycles : ℕ) (t : Contents) (last : MasterState) (old new : Option (List ℕ)) (i : ℕ) → IsErrAnd r (λ e. e ≡ x) → IsCycleRefusal x
+    → ArePrinted t last old new i → i ≤ cycles → IfErr r (IsCut cycles t old new)
+cut_between r x cycles t last old new i is h p le =
     let few : length p.reports ≤ cycles = let e = p.count in omega (arith, le, e) in
-    cut-passed r x cycles t old new is (cycles_text t p.reports, (p.reports, few, refl), short-between x old new _ h p.printed)
+    cut-passed r x cycles t old new is (cycles_text t p.reports, (p.reports, last, p.have, few, refl), short-between x old new _ h p.printed)
 
 -- a write is refused
-cut-writing : (r : Result Unit Refusal) (x : Refusal) (cycles : ℕ) (t : Contents) (old new : Option (List ℕ)) (reports : List ReportState) → IsErrAnd r (λ e. e ≡ x) → x ≡ refusal.Output
+cut-writing : (r : Result Unit Refusal) (x : Refusal) (cycles : ℕ) (t : Contents) (last : MasterState) (old new : Option (List ℕ)) (reports : List ReportState) → HaveRun t reports last → IsErrAnd r (λ e. e ≡ x) → x ≡ refusal.Output
     → length reports ≤ cycles → AppendsPart old new (cycles_text t reports) → IfErr r (IsCut cycles t old new)
-cut-writing r x cycles t old new reports is out few part =
-    cut-passed r x cycles t old new is (cycles_text t reports, (reports, few, refl), subst (λ (y : Refusal). CutShort y old new (cycles_text t reports)) (sym out) part)
+cut-writing r x cycles t last old new reports have is out few part =
+    cut-passed r x cycles t old new is (cycles_text t reports, (reports, last, have, few, refl), subst (λ (y : Refusal). CutShort y old new (cycles_text t reports)) (sym out) part)
 
-pub cut_ready : (r : Result Unit Refusal) (x : Refusal) (cycles : ℕ) (t : Contents) (old new : Option (List ℕ)) → IsErrAnd r (λ e. e ≡ x) → x ≡ refusal.Output
+pub cut_ready : (r : Result Unit Refusal) (x : Refusal) (cycles : ℕ) (t : Contents) (m : MasterState) (w : WireState) (old new : Option (List ℕ)) → IsUp t m → IsErrAnd r (λ e. e ≡ x) → x ≡ refusal.Output
     → AppendsPart old new ready_line → IfErr r (IsCut cycles t old new)
-cut_ready r x cycles t old new is out part =
-    cut-writing r x cycles t old new [] is out (omega arith) (subst (AppendsPart old new) (sym (append-nil ready_line)) part)
+cut_ready r x cycles t m w old new up is out part =
+    cut-writing r x cycles t m old new [] (record { first = m; before = w; after = w; up = up; run = (refl, refl) }) is out (omega arith) (subst (AppendsPart old new) (sym (append-nil ready_line)) part)
 
-pub cut_report : (r : Result Unit Refusal) (x : Refusal) (cycles : ℕ) (t : Contents) (old new newer : Option (List ℕ)) (i : ℕ) (line : List ℕ) (report : ReportState) → IsErrAnd r (λ e. e ≡ x)
-    → x ≡ refusal.Output → ArePrinted t old new i → i < cycles → line ≡ report_text t.version (plan_of t).parts report → AppendsPart new newer line
+pub cut_report : (r : Result Unit Refusal) (x : Refusal) (cycles : ℕ) (t : Contents) (first last later : MasterState) (before after next : WireState) (old mid new newer : Option (List ℕ)) (i : ℕ)
+    (line : List ℕ) (report : ReportState) → IsUp t first → IsErrAnd r (λ e. e ≡ x)
+    → x ≡ refusal.Output → Appends old mid ready_line → AreReported t first before last after mid new i → IsRun (with_outputs last (i + 1)) after next (Ok report) later → i < cycles
+    → line ≡ report_text t.version (plan_of t).parts report → AppendsPart new newer line
     → IfErr r (IsCut cycles t old newer)
-cut_report r x cycles t old new newer i line report is out p lt same part =
-    let few : length (p.reports ++ report ∷ []) ≤ cycles = let e = length-snoc p.reports report in let c = p.count in omega (arith, lt, e, c) in
-    let behind : AppendsPart old newer (cycles_text t p.reports ++ line) = part_behind old new newer _ line p.printed part in
-    cut-writing r x cycles t old newer (p.reports ++ report ∷ []) is out few
-    (subst (AppendsPart old newer) (ap (λ (y : List ℕ). cycles_text t p.reports ++ y) same ∙ sym (text-snoc t p.reports report)) behind)
+unfolding since_ready
+cut_report r x cycles t first last later before after next old mid new newer i line report up is out ready h one lt same part =
+    let p = since_ready t first last before after old mid new i up ready h in
+    let count = h.count in
+    let have : HaveRun t (h.reports ++ report ∷ []) later = record {
+      first = first;
+      before = before;
+      after = next;
+      up = up;
+      run = run-snoc first last later before after next 1 (i + 1) h.reports report h.run (omega (arith, count)) one;
+    } in
+    let few : length (h.reports ++ report ∷ []) ≤ cycles = let e = length-snoc h.reports report in omega (arith, lt, e, count) in
+    let behind : AppendsPart old newer (cycles_text t h.reports ++ line) = part_behind old new newer _ line p.printed part in
+    cut-writing r x cycles t later old newer (h.reports ++ report ∷ []) have is out few
+    (subst (AppendsPart old newer) (ap (λ (y : List ℕ). cycles_text t h.reports ++ y) same ∙ sym (text-snoc t h.reports report)) behind)
 
 -- ---- the whole
 
@@ -218,26 +394,26 @@ loop_cut (Ok done) x cycles t old new is h = absurd is
 loop_cut (Err e) x cycles t old new is h = inr (inl (subst (IsCut cycles t old new) (sym is) h))
 
 -- memory for the input variables is refused
-pub loop_unshown : (r : Result Unit Refusal) (x : Refusal) (cycles : ℕ) (t : Contents) (old new : Option (List ℕ)) (reports : List ReportState) → IsErrAnd r (λ e. e ≡ x) → x ≡ refusal.Memory
+pub loop_unshown : (r : Result Unit Refusal) (x : Refusal) (cycles : ℕ) (t : Contents) (last : MasterState) (old new : Option (List ℕ)) (reports : List ReportState) → HaveRun t reports last → IsErrAnd r (λ e. e ≡ x) → x ≡ refusal.Memory
     → length reports ≡ cycles → Appends old new (cycles_text t reports) → Loops cycles t old new r
-loop_unshown r x cycles t old new reports is memory count printed =
+loop_unshown r x cycles t last old new reports have is memory count printed =
     let few : length reports ≤ cycles = omega (arith, count) in
-    loop_cut r x cycles t old new is (subst (IsCut cycles t old new) (sym memory) (cycles_text t reports, (reports, few, refl), (tt, printed)))
+    loop_cut r x cycles t old new is (subst (IsCut cycles t old new) (sym memory) (cycles_text t reports, (reports, last, have, few, refl), (tt, printed)))
 
-pub loop_shown : (r : Result Unit Refusal) (cycles : ℕ) (t : Contents) (old mid new : Option (List ℕ)) (reports : List ReportState) (value : ℕ → ℕ) (lines : List ℕ) → length reports ≡ cycles
-    → Appends old mid (cycles_text t reports) → lines ≡ inputs_text value t → OnOk r (Appends mid new lines) → OnErr r (AppendsPart mid new lines) → IfErr r (λ x. x ≡ refusal.Output)
+pub loop_shown : (r : Result Unit Refusal) (cycles : ℕ) (t : Contents) (last : MasterState) (old mid new : Option (List ℕ)) (reports : List ReportState) (lines : List ℕ) → HaveRun t reports last → length reports ≡ cycles
+    → Appends old mid (cycles_text t reports) → lines ≡ inputs_text (shown last) t → OnOk r (Appends mid new lines) → OnErr r (AppendsPart mid new lines) → IfErr r (λ x. x ≡ refusal.Output)
     → Loops cycles t old new r
-loop_shown (Ok done) cycles t old mid new reports value lines count printed is all part fault = (
-  cycles_text t reports ++ inputs_text value t,
-  (reports, value, count, refl),
+loop_shown (Ok done) cycles t last old mid new reports lines have count printed is all part fault = (
+  cycles_text t reports ++ inputs_text (shown last) t,
+  (reports, last, have, count, refl),
   subst (λ (x : List ℕ). Appends old new (cycles_text t reports ++ x)) is (appends_more old mid new _ lines printed all),
 )
-loop_shown (Err e) cycles t old mid new reports value lines count printed is all part fault =
+loop_shown (Err e) cycles t last old mid new reports lines have count printed is all part fault =
     inr (inr (
       fault,
       (
-        cycles_text t reports ++ inputs_text value t,
-        (reports, value, count, refl),
+        cycles_text t reports ++ inputs_text (shown last) t,
+        (reports, last, have, count, refl),
         subst (λ (x : List ℕ). AppendsPart old new (cycles_text t reports ++ x)) is (part_behind old mid new _ lines printed part),
       ),
     ))

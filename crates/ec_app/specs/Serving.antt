@@ -1,9 +1,8 @@
 -- What `ecat segment` prints and tells (this project's profile).
-use Rattle.std.specs.Prelude.{◌≡◌, ◌⊎◌, ◌+◌, ℕ, List, ◌∷◌, [], ◌++◌, Option, Result, Ok, Err, codes}
+use Rattle.std.specs.Prelude.{◌≡◌, ◌⊎◌, ◌+◌, ℕ, List, ◌∷◌, [], ◌++◌, Option, Result, codes}
 use Rattle.std.specs.Fmt.{decimal}
-use Rattle.std.specs.Io.KnownBytes.{Appends}
 use Rattle.ec_app.specs.declared.refusal.Refusal.{Refusal}
-use Rattle.ec_app.specs.declared.refusal.Refusal.TheVariants.{Memory, Input, Table, Link, Socket, Output}
+use Rattle.ec_app.specs.declared.refusal.Refusal.TheVariants.{Socket}
 use Rattle.ec_app.specs.Planning.{RefusesPlan}
 use Rattle.ec_app.specs.Printing.{AppendsPart, Prints}
 

@@ -1,20 +1,21 @@
 //! `ecat loop`: cycles of a link table over two sockets of this process.
-ghost use Rattle.std.specs.Prelude.{◌≡◌, ◌++◌, ℕ, List, None, IfErr, IfOk, OnErr, OnOk, length};
+ghost use Rattle.std.specs.Prelude.{◌≡◌, ◌≤◌, ◌<◌, ◌++◌, ◌%◌, ◌^◌, ℕ, List, None, Some, Ok, IfErr, IfOk, OnErr, OnOk, length, slice_get};
 ghost use Rattle.std.specs.Io.KnownBytes.{Appends};
 ghost use Rattle.std.specs.String.{string_bytes};
 ghost use Rattle.ec_link.specs.Faults.{compile_fault};
 ghost use Rattle.ec_link.specs.Plan.{plan_of};
 ghost use Rattle.ec_cycle.specs.Closing.{ReportState};
+ghost use Rattle.ec_wire.specs.Running.{IsRun};
 ghost use Rattle.ec_script.specs.Texts.{report_text};
 ghost use Rattle.ec_text.specs.PlanText.{lines_from};
-ghost use Rattle.ec_app.specs.Looping.{CanCycle, CutShort, IsCycleRefusal, IsRunEnd, IsSoFar, IsStartRefusal, Loops, LoopsText, RunsLoop, cycles_text, input_line, inputs_text, shown};
+ghost use Rattle.ec_app.specs.Looping.{CanCycle, CutShort, HaveRun, IsCycleRefusal, IsRunEnd, IsSoFar, IsStartRefusal, IsUp, Loops, LoopsText, RunsLoop, cycles_text, input_line, inputs_text, output_put, shown, with_outputs};
 
 use crate::Refusal;
 use crate::input::read_text;
 use crate::machine::slaves_of;
 use crate::printing::print_text;
 use ec_cycle::{Master, Report};
-use ec_link::{Plan, compile};
+use ec_link::{Plan, Variable, compile};
 use ec_script::write_report;
 use ec_start::Startup;
 use ec_table::{Direction, Table, VariableRow, read_table};
@@ -28,7 +29,10 @@ use std::net::Net;
 const READY: &str = "ready\n";
 
 /// A number as far as so many bits hold it.
-fn cut_to(number: u64, bits: u8) -> u64 {
+fn cut_to(number: u64, bits: u8) -> u64
+    requires { bits ≤ 64 }
+    ensures { result ≡ number % 2 ^ bits }
+{
     if bits < 64 {
         number % (1 << bits)
     } else {
@@ -36,15 +40,26 @@ fn cut_to(number: u64, bits: u8) -> u64 {
     }
 }
 
+/// Sets a variable to a number, as far as it has bits, if it is an output.
+fn set_output(master: &mut Master<'_>, variable: usize, place: Variable, number: u64)
+    requires there { slice_get master.old.plan.variables variable ≡ Some place }
+    requires few { place.bits ≤ 64 }
+    ensures { master.new ≡ record master.old { outputs = output_put number master.old.outputs place } }
+{
+    let value = cut_to(number, place.bits);
+    if master.can_set(variable, value) {
+        master.set(variable, value);
+    }
+}
+
 /// Sets each output variable to a number, as far as it has bits.
 fn set_outputs(master: &mut Master<'_>, plan: &Plan, number: u64)
-    ensures { CanCycle master.old → CanCycle master.new }
+    requires { master.old.plan.variables ≡ plan.now.variables }
+    ensures { master.new ≡ with_outputs master.old number }
 {
+    master.is_sound();
     for variable in 0..plan.variables().len() {
-        let value = cut_to(number, plan.variables()[variable].bits);
-        if master.can_set(variable, value) {
-            master.set(variable, value);
-        }
+        set_output(master, variable, plan.variables()[variable], number);
     }
 }
 
@@ -57,7 +72,8 @@ fn started<'p, W: Wire>(
 ) -> Result<Master<'p>, Refusal>
     requires accepted { compile_fault table.now ≡ None }
     requires plan { plan.now ≡ plan_of table.now }
-    ensures ready { IfOk result CanCycle }
+    ensures ready { IfOk result (CanCycle plan.now) }
+    ensures up { IfOk result (IsUp table.now) }
     ensures refused { IfErr result IsStartRefusal }
 {
     let _version = table.version();
@@ -76,8 +92,9 @@ fn run_number<W: Wire>(
     wire: &mut W,
     number: u64,
 ) -> Result<Report, RunError>
-    requires { CanCycle master.old }
-    ensures ready { OnOk result (CanCycle master.new) }
+    requires ready { CanCycle plan.now master.old }
+    ensures ready { OnOk result (CanCycle plan.now master.new) }
+    ensures run { IfOk result (λ r. IsRun (with_outputs master.old number) (W.state wire.old) (W.state wire.new) (Ok r) master.new) }
     ensures ended { IfErr result IsRunEnd }
 {
     set_outputs(master, plan, number);
@@ -93,10 +110,11 @@ fn cycle_line<W: Wire>(
     wire: &mut W,
     number: u64,
 ) -> Result<String, Refusal>
-    requires { CanCycle master.old }
+    requires ready { CanCycle plan.now master.old }
     ensures line { IfOk result (λ text. (r : ReportState)
+        × IsRun (with_outputs master.old number) (W.state wire.old) (W.state wire.new) (Ok r) master.new
         × (string_bytes text ≡ report_text table.now.version plan.now.parts r)) }
-    ensures ready { OnOk result (CanCycle master.new) }
+    ensures ready { OnOk result (CanCycle plan.now master.new) }
     ensures refused { IfErr result IsCycleRefusal }
 {
     let report = run_number(plan, master, wire, number)?;
@@ -116,8 +134,9 @@ fn print_cycles<W: Wire, O: Write>(
     output: &mut O,
 ) -> Result<(), Refusal>
     requires plan { plan.now ≡ plan_of table.now }
-    requires ready { CanCycle master.old }
-    ensures all { OnOk result ((reports : List ReportState) × (length reports ≡ cycles)
+    requires ready { CanCycle plan.now master.old }
+    requires up { IsUp table.now master.old }
+    ensures all { OnOk result ((reports : List ReportState) × HaveRun table.now reports master.new × (length reports ≡ cycles)
         × Appends (O.contents output.old) (O.contents output.new) (cycles_text table.now reports)) }
     ensures part { IfErr result (λ refusal. (text : List ℕ) × IsSoFar cycles table.now text
         × CutShort refusal (O.contents output.old) (O.contents output.new) text) }

@@ -5,7 +5,7 @@ use Rattle.ec_app.proofs.looping.print_cycles.Given as goal
 
 abbrev pub invariant-loop-cycle : goal.invariant-loop-cycle
 invariant-loop-cycle g l = record {
-  can : CanCycle l.master;
-  printed : AreReported l.table (g.O.Write.contents l.initial.output) (g.O.Write.contents l.output) l.cycle;
+  can : CanCycle l.plan l.master;
+  printed : AreReported l.table l.initial.master (g.W.Wire.state l.initial.wire) l.master (g.W.Wire.state l.wire) (g.O.Write.contents l.initial.output) (g.O.Write.contents l.output) l.cycle;
   within : l.cycle ≤ l.cycles;
 }

@@ -1,6 +1,6 @@
-use Rattle.ec_app.proofs.LoopLemmas.{ran}
+use Rattle.ec_app.proofs.LoopLemmas.{ran, with-can}
 use Rattle.ec_app.proofs.looping.run_number.Goals as goal
 
 pub returns-clause-ready : goal.returns-clause-ready
-returns-clause-ready g c = (ran c.set_outputs.new.master (g.W.Wire.state c.args.wire.now) (g.W.Wire.state c.run_cycle.new.wire) c.run_cycle.result c.run_cycle.new.master
-    (c.set_outputs.ensures c.requires) c.run_cycle.ensures.run c.run_cycle.ensures.refused).0
+returns-clause-ready g c = (ran c.args.plan.now c.set_outputs.new.master (g.W.Wire.state c.args.wire.now) (g.W.Wire.state c.run_cycle.new.wire) c.run_cycle.result c.run_cycle.new.master
+    (with-can c.args.plan.now c.args.master.now c.set_outputs.new.master c.args.number c.requires.ready c.set_outputs.ensures) c.run_cycle.ensures.run c.run_cycle.ensures.refused).0
