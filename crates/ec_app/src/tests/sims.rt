@@ -386,24 +386,46 @@ fn simulated(alloc: Global, table: &Table, plan: &Plan, script: &str) -> Result<
     Ok(said(alloc, table, &mut world, lines.as_slice())?)
 }
 
-/// The text of the plan of a table, and what a script prints over it, by the crates below.
+/// The text of a plan, and what a script prints over it, by the crates below.
+fn answers_of(
+    alloc: Global,
+    table: &Table,
+    plan: &Plan,
+    script: &str,
+) -> Result<(String, String), Refusal>
+    requires accepted { compile_fault table.now ≡ None }
+    requires plan { plan.now ≡ plan_of table.now }
+{
+    let printed = simulated(alloc, table, plan, script)?;
+    Ok((plan_text(alloc, table.version(), plan)?, printed))
+}
+
+/// The same of a table.
 fn answers(alloc: Global, table: &str, script: &str) -> Result<(String, String), Refusal> {
     let table = read_table(alloc, table)?;
     let plan = compile(alloc, &table)?;
-    let printed = simulated(alloc, &table, &plan, script)?;
-    Ok((plan_text(alloc, table.version(), &plan)?, printed))
+    answers_of(alloc, &table, &plan, script)
 }
 
-/// A table and a script that a seed decides, through the program and through the crates below.
+/// A table and a script through the program and through the crates below.
+fn expect_answers<H: AllocGlobal + Net + Abort>(
+    rt: &H,
+    table: &str,
+    script: &str,
+) -> Result<(), Fail> {
+    let (plan, printed) = answers(rt.alloc(), table, script)?;
+    let input = format!(in rt.alloc(); "{table}%%\n{script}")?;
+    expect_printed(rt, &["ecat", "plan"], table, plan.as_str());
+    expect_printed(rt, &SIM, input.as_str(), printed.as_str());
+    Ok(())
+}
+
+/// The same of a table and a script that a seed decides.
 fn expect_joined<H: AllocGlobal + Net + Abort>(rt: &H, seed: u64) -> Result<(), Fail> {
     let mut numbers = Numbers { state: seed };
     let table = random_table(rt.alloc(), &mut numbers)?;
     let script = random_script(rt.alloc(), &mut numbers)?;
-    let (plan, printed) = answers(rt.alloc(), table.as_str(), script.as_str())?;
-    let input = format!(in rt.alloc(); "{table}%%\n{script}")?;
-    expect_printed(rt, &["ecat", "plan"], table.as_str(), plan.as_str());
-    expect_printed(rt, &SIM, input.as_str(), printed.as_str());
-    Ok(())
+    expect_answers(rt, table.as_str(), script.as_str())
 }
 
 #[test]
