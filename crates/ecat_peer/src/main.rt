@@ -1,0 +1,161 @@
+//! A hostile peer, from a seed. A segment of three slaves gets payloads at random: frames, frames that were tampered with, and
+//! bytes. A master runs cycles over a wire that answers with other frames' answers, answers of earlier cycles, and answers with
+//! bytes and counters changed. All is judged apart from the crates that are tried, from the payloads alone.
+//!
+//!     ecat_peer [SEED [ROUNDS [PORT]]]
+//!
+//! With a port, the payloads go in bursts to a segment of three slaves there, as `ecat segment` is, and no cycle is run. It prints a
+//! line of figures; the status is 1 where something was not as it must be.
+#![tactic(auto)]
+
+mod cycles;
+mod judge;
+mod liar;
+mod payloads;
+mod plain;
+mod random;
+mod segment;
+mod tables;
+
+use crate::cycles::{Ran, brought_up, plan_of, run_cycles};
+use crate::segment::{Served, send_bursts, serve_in_memory};
+use crate::tables::{THREE_SLAVES, two_units, without_lrw};
+use std::alloc::Global;
+use std::env::Env;
+use std::io::Write;
+use std::net::Net;
+use std::process::ExitCode;
+use std::{env, io};
+
+/// What the arguments ask for.
+#[derive(Drop)]
+struct Task {
+    seed: u64,
+    rounds: u32,
+    port: Option<u16>,
+}
+
+/// The number that an argument is, or a default where it isn't there; none where it is no number.
+fn number(args: &[String], place: usize, default: u32) -> Option<u32> {
+    match args.get(place) {
+        Some(text) => text.as_str().parse::<u32>().ok(),
+        None => Some(default),
+    }
+}
+
+/// What the arguments ask for; none where they aren't numbers.
+fn task_of(args: &[String]) -> Option<Task> {
+    let seed = number(args, 1, 1)?;
+    let rounds = number(args, 2, 1000)?;
+    let port = number(args, 3, 0)?;
+    Some(Task {
+        seed: u64::from(seed),
+        rounds,
+        port: match u16::try_from(port).ok()? {
+            0 => None,
+            port => Some(port),
+        },
+    })
+}
+
+/// Serves payloads over a segment in memory whose slaves have come up.
+fn serve(alloc: Global, task: &Task) -> Option<Served> {
+    let plan = plan_of(alloc, THREE_SLAVES)?;
+    let (_startup, mut ring) = brought_up(alloc, &plan)?;
+    Some(serve_in_memory(&mut ring, task.seed, task.rounds))
+}
+
+/// Cycles of the three tables.
+fn run_all(alloc: Global, task: &Task) -> Option<[Ran; 3]> {
+    let (split, units) = (without_lrw(alloc).ok()?, two_units(alloc).ok()?);
+    Some([
+        run_cycles(alloc, THREE_SLAVES, task.seed, task.rounds)?,
+        run_cycles(
+            alloc,
+            split.as_str(),
+            task.seed.wrapping_add(1),
+            task.rounds,
+        )?,
+        run_cycles(
+            alloc,
+            units.as_str(),
+            task.seed.wrapping_add(2),
+            task.rounds,
+        )?,
+    ])
+}
+
+/// Prints what a segment made of payloads.
+fn print_served<W: Write>(served: Served, output: &mut W) -> io::Result<bool> {
+    let Served {
+        answered,
+        refused,
+        is_right,
+    } = served;
+    write!(output, "payloads answered {answered} refused {refused}")?;
+    Ok(is_right)
+}
+
+/// Prints what came of cycles.
+fn print_ran<W: Write>(ran: Ran, output: &mut W) -> io::Result<bool> {
+    let Ran {
+        taken,
+        untaken,
+        faults,
+        is_right,
+    } = ran;
+    write!(
+        output,
+        "; units taken {taken} untaken {untaken} faults {faults}"
+    )?;
+    Ok(is_right)
+}
+
+/// Plays the peer in memory, and prints its figures.
+fn play<W: Write>(alloc: Global, task: &Task, output: &mut W) -> io::Result<bool> {
+    let (Some(served), Some(all)) = (serve(alloc, task), run_all(alloc, task)) else {
+        return Ok(false);
+    };
+    let mut is_right = print_served(served, output)?;
+    for ran in all {
+        is_right = print_ran(ran, output)? && is_right;
+    }
+    Ok(is_right)
+}
+
+/// Plays the peer of a segment on a port, and prints its figures.
+fn play_on_port<H: AllocGlobal + Net, W: Write>(
+    rt: &H,
+    task: &Task,
+    port: u16,
+    output: &mut W,
+) -> io::Result<bool> {
+    match send_bursts(rt, port, task.seed, task.rounds)? {
+        Some(served) => print_served(served, output),
+        None => Ok(false),
+    }
+}
+
+/// Does what the arguments ask for.
+fn run<H: AllocGlobal + Net + Env, W: Write>(rt: &H, output: &mut W) -> io::Result<bool> {
+    let args: Vec<String> = env::args(rt)?.collect(rt.alloc())?;
+    let Some(task) = task_of(args.as_slice()) else {
+        write!(output, "ecat_peer [SEED [ROUNDS [PORT]]]")?;
+        return Ok(false);
+    };
+    match task.port {
+        Some(port) => play_on_port(rt, &task, port, output),
+        None => play(rt.alloc(), &task, output),
+    }
+}
+
+fn main(rt: HostRuntime) -> io::Result<ExitCode> {
+    let mut output = rt.stdout();
+    let is_right = run(&rt, &mut output)?;
+    if is_right {
+        writeln!(output, "; all as it must be")?;
+        return Ok(ExitCode::SUCCESS);
+    }
+    writeln!(output, "; NOT as it must be")?;
+    Ok(ExitCode::FAILURE)
+}

@@ -1,0 +1,233 @@
+//! Long runs, from a seed. Worlds of tables at random get events at random: one world gets them one by one, another the same in lists.
+//! Each must be made where the table of events lets it, and nowhere else; both worlds must show the same after each list; and at the
+//! end an undisturbed cycle must take every sync unit whose slaves are well.
+//!
+//!     ecat_runs [SEED [TABLES [EVENTS]]]
+//!
+//! Each table gets so many events in ten worlds. It prints a line of figures; the status is 1 where something was not as it must be.
+#![tactic(auto)]
+
+mod events;
+mod life;
+mod model;
+mod random;
+mod tables;
+
+ghost use Rattle.std.specs.Prelude.{◌≡◌, None, length, IfOk};
+ghost use Rattle.ec_link.specs.Faults.{compile_fault};
+ghost use Rattle.ec_link.specs.Plan.{plan_of};
+
+use crate::events::Kind;
+use crate::life::{Seen, live};
+use crate::random::Random;
+use crate::tables::random_table;
+use ec_link::{Plan, compile};
+use ec_regs::Identity;
+use ec_table::{Table, read_table};
+use std::alloc::{AllocError, Global};
+use std::env::Env;
+use std::io::Write;
+use std::process::ExitCode;
+use std::{env, io};
+
+/// The worlds of each table.
+const WORLDS: [Kind; 10] = [
+    Kind {
+        early: 0,
+        late: 0,
+        trouble: 0,
+    },
+    Kind {
+        early: 0,
+        late: 100,
+        trouble: 0,
+    },
+    Kind {
+        early: 1,
+        late: 400,
+        trouble: 0,
+    },
+    Kind {
+        early: 2,
+        late: 800,
+        trouble: 0,
+    },
+    Kind {
+        early: 300,
+        late: 300,
+        trouble: 0,
+    },
+    Kind {
+        early: 0,
+        late: 20,
+        trouble: 10,
+    },
+    Kind {
+        early: 0,
+        late: 300,
+        trouble: 20,
+    },
+    Kind {
+        early: 2,
+        late: 500,
+        trouble: 10,
+    },
+    Kind {
+        early: 10,
+        late: 900,
+        trouble: 30,
+    },
+    Kind {
+        early: 1000,
+        late: 1000,
+        trouble: 100,
+    },
+];
+
+/// What the arguments ask for.
+#[derive(Clone, Copy)]
+struct Task {
+    seed: u64,
+    tables: u32,
+    events: u32,
+}
+
+/// What was seen of all worlds.
+#[derive(Clone, Copy)]
+struct Sum {
+    worlds: u32,
+    tried: u64,
+    made: u64,
+    taken: u32,
+    untaken: u32,
+    is_right: bool,
+}
+
+impl Sum {
+    /// A world more.
+    fn add(&mut self, seen: Seen) {
+        self.worlds = self.worlds.saturating_add(1);
+        self.tried = self.tried.saturating_add(seen.tried);
+        self.made = self.made.saturating_add(seen.made);
+        self.taken = self.taken.saturating_add(seen.taken);
+        self.untaken = self.untaken.saturating_add(seen.untaken);
+        self.is_right = self.is_right && seen.is_right;
+    }
+}
+
+/// The number that an argument is, or a default where it isn't there; none where it is no number.
+fn number(args: &[String], place: usize, default: u32) -> Option<u32> {
+    match args.get(place) {
+        Some(text) => text.as_str().parse::<u32>().ok(),
+        None => Some(default),
+    }
+}
+
+/// What the arguments ask for; none where they aren't numbers.
+fn task_of(args: &[String]) -> Option<Task> {
+    Some(Task {
+        seed: u64::from(number(args, 1, 1)?),
+        tables: number(args, 2, 20)?,
+        events: number(args, 3, 1000)?,
+    })
+}
+
+/// What the slaves of a table show as their identities.
+fn identities_of(alloc: Global, table: &Table) -> Result<Vec<Identity>, AllocError>
+    ensures { IfOk result (λ v. length v.items ≡ length table.now.slaves) }
+{
+    let mut identities = Vec::new(alloc);
+    for slave in 0..table.slaves().len() {
+        identities.push(table.identity_of(slave))?;
+    }
+    Ok(identities)
+}
+
+/// The worlds of a table.
+fn live_each(
+    alloc: Global,
+    table: &Table,
+    plan: &Plan,
+    random: &mut Random,
+    events: u64,
+    sum: &mut Sum,
+) -> Result<(), AllocError>
+    requires accepted { compile_fault table.now ≡ None }
+    requires plan { plan.now ≡ plan_of table.now }
+{
+    let identities = identities_of(alloc, table)?;
+    for kind in WORLDS {
+        sum.add(live(alloc, table, plan, &identities, random, kind, events)?);
+    }
+    Ok(())
+}
+
+/// The worlds of a text. A text that is no table is wrong.
+fn live_all(
+    alloc: Global,
+    text: &str,
+    random: &mut Random,
+    events: u64,
+    sum: &mut Sum,
+) -> Result<(), AllocError> {
+    let Ok(table) = read_table(alloc, text) else {
+        sum.is_right = false;
+        return Ok(());
+    };
+    let Ok(plan) = compile(alloc, &table) else {
+        sum.is_right = false;
+        return Ok(());
+    };
+    live_each(alloc, &table, &plan, random, events, sum)
+}
+
+/// All tables.
+fn run(alloc: Global, task: Task) -> Result<Sum, AllocError> {
+    let mut sum = Sum {
+        worlds: 0,
+        tried: 0,
+        made: 0,
+        taken: 0,
+        untaken: 0,
+        is_right: true,
+    };
+    let events = u64::from(task.events / 10);
+    for table in 0..task.tables {
+        let mut random = Random::new(task.seed.wrapping_add(u64::from(table)));
+        let text = random_table(alloc, &mut random)?;
+        live_all(alloc, text.as_str(), &mut random, events, &mut sum)?;
+    }
+    Ok(sum)
+}
+
+/// Does what the arguments ask for, and prints its figures.
+fn print_run<H: AllocGlobal + Env, W: Write>(rt: &H, output: &mut W) -> io::Result<bool> {
+    let args: Vec<String> = env::args(rt)?.collect(rt.alloc())?;
+    let Some(task) = task_of(args.as_slice()) else {
+        writeln!(output, "ecat_runs [SEED [TABLES [EVENTS]]]")?;
+        return Ok(false);
+    };
+    let Sum {
+        worlds,
+        tried,
+        made,
+        taken,
+        untaken,
+        is_right,
+    } = run(rt.alloc(), task)?;
+    let verdict = if is_right { "all" } else { "NOT" };
+    writeln!(
+        output,
+        "worlds {worlds}; events {tried} made {made}; units at the end taken {taken} untaken {untaken}; {verdict} as it must be"
+    )?;
+    Ok(is_right)
+}
+
+fn main(rt: HostRuntime) -> io::Result<ExitCode> {
+    let mut output = rt.stdout();
+    Ok(if print_run(&rt, &mut output)? {
+        ExitCode::SUCCESS
+    } else {
+        ExitCode::FAILURE
+    })
+}
