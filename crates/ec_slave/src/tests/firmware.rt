@@ -176,6 +176,18 @@ fn sii_read(rt: HostRuntime) -> Result<(), Fail> {
     )
 }
 
+// The first message asks for nothing the slave knows: the reply is an abort, and the first one.
+#[test]
+fn unknown_command_is_aborted(rt: HostRuntime) -> Result<(), Fail> {
+    expect_from_preop(
+        &rt,
+        &[
+            Sends("0a0000000013 0020 41181001 00000000"),
+            Replies("0a0000000013 0020 80181001 01000405"),
+        ],
+    )
+}
+
 // Downloads, uploads and aborts in PREOP; replies are counted from 1 to 7, whatever the request's counter.
 #[test]
 fn messages_in_preop(rt: HostRuntime) -> Result<(), Fail> {
