@@ -1,5 +1,5 @@
 //! The machine that a link table on the input states.
-ghost use Rattle.std.specs.Prelude.{IfErr, IfOk, length};
+ghost use Rattle.std.specs.Prelude.{IfErr};
 ghost use Rattle.ec_app.specs.Planning.{IsTableRefusal};
 
 use crate::Refusal;
@@ -7,7 +7,7 @@ use ec_link::{Plan, compile};
 use ec_regs::Identity;
 use ec_ring::Ring;
 use ec_slave::Slave;
-use ec_table::{Table, read_table};
+use ec_table::read_table;
 use std::alloc::{AllocError, Global};
 
 /// The slaves of a plan as they are switched on, each of its type's device.

@@ -17,7 +17,7 @@ use Rattle.ec_al.specs.Transitions.{answer, requested_by, acknowledges}
 use Rattle.ec_al.specs.Al.{Al}
 use Rattle.ec_al.specs.Al as al
 use Rattle.ec_sii.specs.Image.{word_at}
-use Rattle.ec_sii.specs.Port.{Sii, written, two_words, last_address}
+use Rattle.ec_sii.specs.Port.{Sii, written}
 use Rattle.ec_sii.specs.Port as port
 use Rattle.ec_sii.specs.Laws.{read_command}
 use Rattle.ec_slave.specs.State.{SlaveState, station_of}

@@ -7,7 +7,7 @@ use Rattle.ec_al.specs.declared.transition.Checks.{Checks}
 use Rattle.ec_al.specs.Transitions.{answer, requested_by, acknowledges}
 use Rattle.ec_al.specs.Al.{Al}
 use Rattle.ec_al.specs.Al as al
-use Rattle.ec_sii.specs.Port.{Sii, written, commanded, addressed, address_written, byte_for, two_words, last_address}
+use Rattle.ec_sii.specs.Port.{Sii, written, commanded, addressed, address_written, byte_for, last_address}
 use Rattle.ec_sii.specs.Port as port
 use Rattle.ec_sii.specs.declared.image.Image.{Image}
 use Rattle.ec_slave.specs.State.{SlaveState}

@@ -1,5 +1,4 @@
 ghost use Rattle.std.specs.Prelude.{◌≡◌, map};
-ghost use Rattle.ec_table.specs.Names.{place_named};
 ghost use Rattle.ec_script.specs.Acts.{act_of_one, act_of_two, act_of_three, act_of_four, act_of_words, variable_named};
 
 use crate::line::Act;

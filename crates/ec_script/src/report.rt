@@ -1,4 +1,4 @@
-ghost use Rattle.std.specs.Prelude.{◌≡◌, ◌++◌, OnOk, get_or, None, false, string_bytes};
+ghost use Rattle.std.specs.Prelude.{◌≡◌, ◌++◌, OnOk, None, false, string_bytes};
 ghost use Rattle.ec_text.specs.PlanText.{lines_from};
 ghost use Rattle.ec_script.specs.Texts.{counter_at, kept_text, report_text, taken_text, unit_at, units_text, word_text};
 

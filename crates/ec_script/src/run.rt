@@ -1,4 +1,4 @@
-ghost use Rattle.std.specs.Prelude.{◌≡◌, OnOk, string_bytes};
+ghost use Rattle.std.specs.Prelude.{◌≡◌, string_bytes};
 ghost use Rattle.std.specs.Result.{IfOk};
 ghost use Rattle.ec_link.specs.Plan.{plan_of};
 ghost use Rattle.ec_script.specs.declared.said.Said.{Said};

@@ -1,5 +1,5 @@
 -- What holds of every manager.
-use Rattle.std.specs.Prelude.{ℕ, ◌≡◌, List, length, Option, Some}
+use Rattle.std.specs.Prelude.{ℕ, ◌≡◌, List, length, Some}
 use Rattle.ec_sync.specs.Manager.{Manager, buffer_length}
 
 -- its published value, an open draft and an open view have as many bytes as its settings say

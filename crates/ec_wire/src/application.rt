@@ -1,5 +1,5 @@
 //! The applications of simulated slaves.
-ghost use Rattle.std.specs.Prelude.{◌≡◌, ◌≤◌, ◌<◌, ℕ, List, false, true, length};
+ghost use Rattle.std.specs.Prelude.{◌≡◌, ◌<◌, ℕ, List, false, true, length};
 ghost use Rattle.ec_slave.specs.Application.{get_size, put_size};
 ghost use Rattle.ec_ring.specs.Rings.{IsNoFrame};
 ghost use Rattle.ec_wire.specs.Applications.{AreServed, HasStepped, IsServed, inputs_written, outputs_read, outputs_seen};

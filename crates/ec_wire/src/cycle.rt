@@ -1,8 +1,7 @@
 //! One cycle over a wire.
-ghost use Rattle.std.specs.Prelude.{◌≡◌, ◌≤◌, ◌<◌, ◌⊎◌, ℕ, List, [], Option, Some, None, true, false, take, length, not, is_some, IsErr, Err};
-ghost use Rattle.ec_link.specs.Usable.{IsUsable};
+ghost use Rattle.std.specs.Prelude.{◌≡◌, ◌≤◌, ◌<◌, ◌⊎◌, ℕ, List, [], Some, None, true, false, take, length, not, is_some, IsErr, Err};
 ghost use Rattle.ec_cycle.specs.declared.error.CycleError.{CycleError};
-ghost use Rattle.ec_cycle.specs.Master.{OpenCycle, begin_refusal, missing_of};
+ghost use Rattle.ec_cycle.specs.Master.{begin_refusal, missing_of};
 ghost use Rattle.ec_wire.specs.declared.error.RunError.TheVariants.{Refused};
 ghost use Rattle.ec_wire.specs.Wires.{Carries, is_fault};
 ghost use Rattle.ec_wire.specs.Running.{AreTaken, IsExchanged, IsRun, frames_of, most_received};

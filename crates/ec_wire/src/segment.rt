@@ -1,6 +1,6 @@
 //! A segment of simulated slaves that answers on a wire.
-ghost use Rattle.std.specs.Prelude.{◌≡◌, ◌≤◌, ◌<◌, ◌+◌, ◌++◌, ℕ, List, [], ◌∷◌, true, IfOk, IfSome, IfNone, IsErr, length, if◌then◌else◌};
-ghost use Rattle.ec_wire.specs.Wires.{Carries, is_fault};
+ghost use Rattle.std.specs.Prelude.{◌≡◌, ◌<◌, ◌+◌, ℕ, List, [], ◌∷◌, true, IfOk, IfSome, IfNone, IsErr, length, if◌then◌else◌};
+ghost use Rattle.ec_wire.specs.Wires.{Carries};
 ghost use Rattle.ec_wire.specs.Segments.{AreTreated, HasServed, WasCutOff};
 
 use crate::application::{App, answer};

@@ -12,7 +12,6 @@
 //! | `Serve`, `Reset` | there is the slave |
 //! | `AppPut`, `AppGet` | the slave isn't denying it |
 //! | `Fault` | the slave is in OP |
-ghost use Rattle.std.specs.Prelude.{◌≤◌};
 
 use ec_link::{Plan, Settings};
 use ec_table::Direction;

@@ -1,5 +1,4 @@
-use Rattle.std.proofs.Common.{◌≡◌, arith, is_none}
-use Rattle.std.specs.List.{count_by}
+use Rattle.std.proofs.Common.{arith}
 use Rattle.ec_world.proofs.Using.{free_counted}
 use Rattle.ec_world.proofs.slots.Slots.free.Goals as goal
 
