@@ -204,8 +204,15 @@ fn input_lines(alloc: Global, table: &Table, master: &Master<'_>) -> Result<Stri
     Ok(text)
 }
 
-/// Runs cycles over a wire and prints what comes of them.
-pub(crate) fn run_loop<W: Wire, O: Write>(
+/// Brings the slaves on a wire up and runs so many cycles of a table's plan over it. In the n-th cycle each output
+/// variable is sent as n, as far as it has bits. It prints a line when the slaves are up, the report on each cycle before
+/// the next begins, and at the end the input variables.
+///
+/// # Errors
+///
+/// `Refusal::Memory` where memory ran out, the start-up's refusal where it failed, the run's where a cycle could not be
+/// run, and `Refusal::Output` where the output could not be written.
+pub fn run_loop<W: Wire, O: Write>(
     alloc: Global,
     table: &Table,
     plan: &Plan,

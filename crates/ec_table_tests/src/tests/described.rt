@@ -1,8 +1,8 @@
 //! All that a table holds, a line for each row.
 ghost use Rattle.std.specs.Prelude.{◌<◌, length};
 
-use ec_table::{Direction, LinkRow, SlaveRow, Table, TypeRow};
 use ec_regs::{Entry, Mailbox, Pdo};
+use ec_table::{Direction, LinkRow, SlaveRow, Table, TypeRow};
 use std::alloc::{AllocError, Global};
 
 fn push_entries(text: &mut String, entries: &[Entry]) -> Result<(), AllocError> {

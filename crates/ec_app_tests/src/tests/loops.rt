@@ -3,10 +3,9 @@ ghost use Rattle.std.specs.Prelude.{◌≡◌, None};
 ghost use Rattle.ec_link.specs.Faults.{compile_fault};
 ghost use Rattle.ec_link.specs.Plan.{plan_of};
 
-use crate::looping::run_loop;
-use crate::machine::slaves_of;
+use crate::tests::machines::slaves_of;
 use crate::tests::tables::THREE_SLAVES;
-use crate::{Refusal, run_command};
+use ec_app::{Refusal, run_command, run_loop};
 use ec_link::{Plan, compile};
 use ec_start::StartError;
 use ec_table::{Table, read_table};

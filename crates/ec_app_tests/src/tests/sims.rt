@@ -4,11 +4,10 @@ ghost use Rattle.std.specs.Prelude.{◌≡◌, None};
 ghost use Rattle.ec_link.specs.Faults.{compile_fault};
 ghost use Rattle.ec_link.specs.Plan.{plan_of};
 
-use crate::sim::identities_of;
 use crate::tests::plans::expect_printed;
 use crate::tests::tables::THREE_SLAVES;
 use crate::tests::{Run, expect_run};
-use crate::{Line, Refusal, plan_text, read_script, run_line};
+use ec_app::{Line, Refusal, identities_of, plan_text, read_script, run_line};
 use ec_link::{Plan, compile};
 use ec_table::{Table, read_table};
 use ec_world::World;

@@ -1,13 +1,14 @@
 //! The program's worked rows, over memory.
 
 mod loops;
+mod machines;
 mod plans;
 mod programs;
 mod segments;
 mod sims;
 mod tables;
 
-use crate::{App, print_text, run_command};
+use ec_app::{App, print_text, run_command};
 use std::alloc::{AllocError, Global};
 use std::io;
 use std::io::{ErrorKind, Read, Write};

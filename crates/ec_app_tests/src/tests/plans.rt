@@ -1,12 +1,12 @@
 //! `ecat plan`, over memory.
 
-use crate::read_text;
 use crate::tests::tables::{
     BARE, BARE_EXPLAINED, BARE_PLAN, LEGEND, REFUSED_CHANGES, SMALL_MACHINE,
     SMALL_MACHINE_EXPLAINED, SMALL_MACHINE_PLAN, SPLIT_VARIABLE, THREE_SLAVES,
     THREE_SLAVES_EXPLAINED, THREE_SLAVES_PLAN, TWO_UNITS_PLAN,
 };
 use crate::tests::{Run, expect_run, run_args};
+use ec_app::read_text;
 use std::alloc::{AllocError, Global};
 use std::io;
 use std::io::{ErrorKind, Read};

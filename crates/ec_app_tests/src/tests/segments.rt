@@ -1,8 +1,8 @@
 //! `ecat segment`, over the system's sockets.
 
-use crate::run_command;
 use crate::tests::Idle;
 use crate::tests::tables::THREE_SLAVES;
+use ec_app::run_command;
 use ec_wire::UdpWire;
 use std::net::Net;
 use std::process::Abort;

@@ -1,7 +1,7 @@
 //! The program on arguments that a system gives.
 
-use crate::run_program;
 use crate::tests::FRAME;
+use ec_app::run_program;
 use std::env::{Env, FillError};
 use std::io;
 use std::net::{Net, SocketAddr};
