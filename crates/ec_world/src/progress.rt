@@ -2,7 +2,7 @@ ghost use Rattle.std.specs.Prelude.{◌≡◌};
 ghost use Rattle.ec_world.specs.Plain.{is_older, lets_by};
 
 /// How far a frame is on its way. Its age is its number, and then its part.
-#[derive(Clone, Copy, Debug, PartialEq, Eq)]
+#[derive(Clone, Copy)]
 pub struct Progress {
     /// The number of its cycle, or of the frame of a start-up.
     pub number: u64,
