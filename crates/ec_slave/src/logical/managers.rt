@@ -8,16 +8,18 @@ ghost use Rattle.ec_slave.specs.Managers.{is_ungoverned, is_written_by, manager_
 ghost use Rattle.ec_slave.specs.Logical.{managers_exchanged, plain_bit, value_brought};
 ghost use Rattle.ec_slave.specs.Written.{some_manager_written};
 
-use crate::logical::runs::end_of_alike;
+use crate::logical::runs::are_ungoverned;
 use crate::logical::writing::Ungoverned;
-use crate::reach::{governor, read_manager, write_manager};
-use ec_fmmu::{Fmmu, apply_write, is_touched_by_reading, is_touched_by_writing, is_wholly_brought};
+use crate::reach::{read_manager, write_manager};
+use ec_fmmu::{
+    FmmuTable, apply_write, is_touched_by_reading, is_touched_by_writing, is_wholly_brought,
+};
 use ec_sync::{Manager, Touching, Writing};
 
 /// The bits of a logical datagram, as they are read.
 #[derive(Clone, Copy)]
 struct ReadBits<'a> {
-    fmmus: &'a [Fmmu],
+    fmmus: &'a FmmuTable,
     from: u64,
     bits: u64,
 }
@@ -37,7 +39,7 @@ impl Touching for ReadBits<'_> {
 #[derive(Clone, Copy)]
 struct Bits<'a> {
     lower: &'a [Manager],
-    fmmus: &'a [Fmmu],
+    fmmus: &'a FmmuTable,
     from: u64,
     bytes: &'a [u8],
     ghost fits: { from + 8 * length bytes.now < 2 ^ 64 },
@@ -85,8 +87,7 @@ impl Bits<'_> {
     {
         let bits = 8 * self.bytes.len() as u64;
         let (first, count) = (8 * start as u32, 8 * len as u32);
-        end_of_alike(self.lower, start, start + len) == start + len
-            && governor(self.lower, start).is_none()
+        are_ungoverned(self.lower, start, len)
             && is_wholly_brought(self.fmmus, self.from, bits, first, count)
     }
 
@@ -116,7 +117,7 @@ fn access_manager(
     manager: &mut Manager,
     reading: bool,
     writing: bool,
-    fmmus: &[Fmmu],
+    fmmus: &FmmuTable,
     from: u64,
     bytes: &[u8],
 ) -> bool
@@ -152,7 +153,7 @@ pub(crate) fn access_managers(
     managers: &mut [Manager],
     reading: bool,
     writing: bool,
-    fmmus: &[Fmmu],
+    fmmus: &FmmuTable,
     from: u64,
     bytes: &[u8],
 ) -> bool

@@ -14,12 +14,14 @@ ghost use Rattle.ec_slave.specs.Sights.{seen_behind as behind_it, seen_bit as bi
 use crate::logical::runs::count_alike;
 use crate::reach::governor;
 use ec_bits::{copy_by_words, get};
-use ec_fmmu::{Fmmu, ReadableBits, ReadableRuns, apply_read, is_touched_by_reading, show_by_bits};
+use ec_fmmu::{
+    FmmuTable, ReadableBits, ReadableRuns, apply_read, is_touched_by_reading, show_by_bits,
+};
 use ec_sync::Manager;
 
 /// Whether a datagram that reads gets at a manager: it touches its first and its last byte, and it
 /// may read there.
-fn is_readable(manager: &Manager, fmmus: &[Fmmu], from: u64, bits: u64) -> bool
+fn is_readable(manager: &Manager, fmmus: &FmmuTable, from: u64, bits: u64) -> bool
     ensures { let place : Place = record { from = from; bits = bits } in
         result ≡ (covers (touched_by_reading fmmus.now place) manager.now && may_read manager.now) }
 {
@@ -189,7 +191,7 @@ impl ReadableRuns for Sight<'_> {
 pub(crate) fn read_logical(
     memory: &[u8],
     managers: &[Manager],
-    fmmus: &[Fmmu],
+    fmmus: &FmmuTable,
     from: u64,
     bytes: &mut [u8],
 ) -> bool

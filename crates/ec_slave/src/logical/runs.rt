@@ -1,14 +1,17 @@
 //! Runs of bytes that one sync manager governs, or none.
 
-ghost use Rattle.std.specs.Prelude.{◌≡◌, ◌<◌, ◌≤◌, ◌+◌, ◌-◌, ◌/◌, ◌^◌, ℕ, length};
+ghost use Rattle.std.specs.Prelude.{◌≡◌, ◌<◌, ◌≤◌, ◌+◌, ◌-◌, ◌/◌, ◌^◌, ℕ, length, true};
+ghost use Rattle.std.specs.Bool.{OnTrue};
 ghost use Rattle.std.proofs.Common.{◌⊎◌};
 ghost use Rattle.ec_sync.specs.Governing.{governs, governor as governor_of, in_first_buffer};
 ghost use Rattle.ec_slave.specs.State.{manager_at};
+ghost use Rattle.ec_slave.specs.Managers.{is_ungoverned};
 
+use crate::reach::governor;
 use ec_sync::Manager;
 
 /// The end of the bytes from `start` on, and below `end`, that lie on one side of a border.
-fn cut(start: usize, end: usize, border: usize) -> usize
+pub(crate) fn cut(start: usize, end: usize, border: usize) -> usize
     requires { start < end }
     ensures inside { (start < result) × (result ≤ end) }
     ensures aside { (result ≤ border) ⊎ (border ≤ start) }
@@ -48,6 +51,19 @@ pub(crate) fn end_of_alike(managers: &[Manager], start: usize, end: usize) -> us
         stop = cut_at_borders(manager, start, stop);
     }
     stop
+}
+
+/// Whether none of these managers governs one of the `len` bytes from `start` on.
+pub(crate) fn are_ungoverned(managers: &[Manager], start: usize, len: usize) -> bool
+    requires some { 0 < len }
+    requires fits { start + len < 2 ^ 32 }
+    ensures { OnTrue result ((a : ℕ) → start ≤ a → a < start + len → is_ungoverned managers.now a ≡ true) }
+{
+    let end = start + len;
+    if governor(managers, start).is_some() {
+        return false;
+    }
+    end_of_alike(managers, start, end) == end
 }
 
 /// How many of the `count` bits from a physical bit on lie in bytes that are alike in that.

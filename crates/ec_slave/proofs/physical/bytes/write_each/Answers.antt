@@ -5,7 +5,7 @@ use Rattle.ec_slave.specs.Access.{Window, may_write_byte}
 use Rattle.ec_slave.proofs.Choices.{any-none, any-or}
 use Rattle.ec_slave.proofs.Told.{told_along, told-none, told-step, retold-along}
 use Rattle.ec_slave.proofs.Windows.{kept_byte, kept-inside, kept-outside}
-use Rattle.ec_slave.proofs.physical.bytes.write_physical.Goals as goal
+use Rattle.ec_slave.proofs.physical.bytes.write_each.Goals as goal
 
 pub loop-i-init : goal.loop-i-init
 loop-i-init c = record { memory = told-none _ _ _; some = any-none _ }
