@@ -1,18 +1,23 @@
 //! Worlds of the table with three slaves, event after event.
+ghost use Rattle.std.specs.Prelude.{◌≡◌, None};
+ghost use Rattle.ec_link.specs.Faults.{compile_fault};
+ghost use Rattle.ec_link.specs.Plan.{plan_of};
+
 mod steps;
 
 use self::steps::Step::{
     Byte, Denied, Empty, Ended, Holds, Makes, NoReport, Publishes, Reads, Reports, Rises, Runs,
 };
-use self::steps::{expect_steps, identities_of, rise, turn};
+use self::steps::{expect_steps, made, new_world, pass_slaves, rise, turn};
 use crate::Event::{
     AppGet, AppPut, Begin, Close, Fault, Lose, Pass, Reset, Return, Serve, Set, StartNext,
 };
 use crate::{Event, World};
+use ec_cycle::Report;
 use ec_link::Predicted::{Lrw, Split};
-use ec_link::compile;
+use ec_link::{Plan, Predicted, compile};
 use ec_start::StartError;
-use ec_table::read_table;
+use ec_table::{Table, read_table};
 use std::process::Abort;
 use std::test::Fail;
 
@@ -191,7 +196,7 @@ struct Case {
     at: usize,
     event: Event,
     /// The working counter that comes back, if the frame does.
-    counter: Option<usize>,
+    counter: Option<Predicted>,
     is_taken: bool,
 }
 
@@ -200,73 +205,73 @@ const CASES: [Case; 16] = [
     Case {
         at: 0,
         event: Reset(0),
-        counter: Some(4),
+        counter: Some(Lrw(4)),
         is_taken: false,
     },
     Case {
         at: 1,
         event: Reset(1),
-        counter: Some(5),
+        counter: Some(Lrw(5)),
         is_taken: false,
     },
     Case {
         at: 2,
         event: Reset(2),
-        counter: Some(3),
+        counter: Some(Lrw(3)),
         is_taken: false,
     },
     Case {
         at: 0,
         event: Fault(0),
-        counter: Some(4),
+        counter: Some(Lrw(4)),
         is_taken: false,
     },
     Case {
         at: 1,
         event: Fault(1),
-        counter: Some(6),
+        counter: Some(Lrw(6)),
         is_taken: true,
     },
     Case {
         at: 2,
         event: Fault(2),
-        counter: Some(4),
+        counter: Some(Lrw(4)),
         is_taken: false,
     },
     Case {
         at: 1,
         event: Reset(0),
-        counter: Some(6),
+        counter: Some(Lrw(6)),
         is_taken: true,
     },
     Case {
         at: 2,
         event: Reset(1),
-        counter: Some(6),
+        counter: Some(Lrw(6)),
         is_taken: true,
     },
     Case {
         at: 3,
         event: Reset(2),
-        counter: Some(6),
+        counter: Some(Lrw(6)),
         is_taken: true,
     },
     Case {
         at: 1,
         event: Fault(0),
-        counter: Some(6),
+        counter: Some(Lrw(6)),
         is_taken: true,
     },
     Case {
         at: 2,
         event: Fault(1),
-        counter: Some(6),
+        counter: Some(Lrw(6)),
         is_taken: true,
     },
     Case {
         at: 3,
         event: Fault(2),
-        counter: Some(6),
+        counter: Some(Lrw(6)),
         is_taken: true,
     },
     Case {
@@ -295,49 +300,44 @@ const CASES: [Case; 16] = [
     },
 ];
 
-/// One cycle, with an event between.
-fn cycle_in_trouble(world: &mut World<'_>, at: usize, event: Event) {
-    world.step(Begin);
-    for place in 0..4 {
-        if place == at {
-            world.step(event);
-        }
-        world.step(Pass(0));
-    }
-    world.step(Return(0));
-    world.step(Close);
+/// Whether a report says what a case does.
+fn is_told(report: &Report, case: &Case) -> bool {
+    report.counters() == [case.counter].as_slice()
+        && report.is_taken() == case.is_taken
+        && report.missing() == usize::from(case.counter.is_none())
 }
 
-/// Expects of a new world what a case says.
-fn expect_case(rt: &(impl AllocGlobal + Abort), case: &Case) -> Result<(), Fail> {
-    let table = read_table(rt.alloc(), TABLE)?;
-    let plan = compile(rt.alloc(), &table)?;
-    let identities = identities_of(rt.alloc(), &table)?;
-    let mut world = World::new(rt.alloc(), &table, &plan, &identities)?;
-    rise(&mut world);
-    cycle_in_trouble(&mut world, case.at, case.event);
-    let counters = [case.counter.map(|n| Lrw(n))];
+/// A cycle of a new world, with an event between. Whether what comes of it is what the case says.
+fn is_right(world: &mut World<'_>, case: &Case) -> bool {
+    rise(world);
+    made(world, Begin);
+    pass_slaves(world, case.at, Some(case.event));
+    made(world, Return(0));
+    made(world, Close);
     match world.report() {
-        Some(report) => {
-            assert!(rt;
-                report.counters() == counters.as_slice(),
-                "{:?}",
-                case.event
-            );
-            assert_eq!(rt; report.is_taken(), case.is_taken);
-            assert_eq!(rt; report.missing(), usize::from(case.counter.is_none()));
-        }
-        None => return Err("a report".into()),
+        Some(report) => is_told(report, case),
+        None => false,
+    }
+}
+
+/// Expects of new worlds of a table what the cases say.
+fn expect_cases(rt: &(impl AllocGlobal + Abort), table: &Table, plan: &Plan) -> Result<(), Fail>
+    requires accepted { compile_fault table.now ≡ None }
+    requires plan { plan.now ≡ plan_of table.now }
+{
+    for case in &CASES {
+        let mut world = new_world(rt.alloc(), table, plan)?;
+        let is_right = is_right(&mut world, case);
+        assert!(rt; is_right, "{:?}", case.event);
     }
     Ok(())
 }
 
 #[test]
 fn trouble_in_a_cycle(rt: HostRuntime) -> Result<(), Fail> {
-    for case in &CASES {
-        expect_case(&rt, case)?;
-    }
-    Ok(())
+    let table = read_table(rt.alloc(), TABLE)?;
+    let plan = compile(rt.alloc(), &table)?;
+    expect_cases(&rt, &table, &plan)
 }
 
 /// Whether a start-up may end so, where an event came between.
@@ -353,39 +353,78 @@ fn may_end(outcome: Option<Result<(), StartError>>, event: Event) -> bool {
     }
 }
 
-/// A start-up in which an event comes to one frame. It ends as it may, and after a failure the next one ends Ready.
-fn rises_again(world: &mut World<'_>, frame: usize, at: usize, event: Event) -> bool {
-    for _ in 0..frame {
+/// So many frames of a start-up, which nothing disturbs.
+fn turns(world: &mut World<'_>, frames: usize) {
+    for _ in 0..frames {
         turn(world, 0, None);
     }
+}
+
+/// A start-up in which an event comes to one frame. Whether it ends as it may.
+fn ends_so(world: &mut World<'_>, frame: usize, at: usize, event: Event) -> bool {
+    turns(world, frame);
     if !turn(world, at, Some(event)) {
-        world.step(Close);
+        made(world, Close);
     }
     rise(world);
-    if !may_end(world.outcome(), event) {
-        return false;
+    may_end(world.outcome(), event)
+}
+
+/// Whether the next start-up ends Ready, where this one failed.
+fn is_ready_next(world: &mut World<'_>) -> bool {
+    if world.is_ready() {
+        return true;
     }
-    if !world.is_ready() {
-        turn(world, 0, None);
-        rise(world);
-    }
+    turn(world, 0, None);
+    rise(world);
     world.is_ready()
 }
 
 /// Frames of a start-up: one of each phase, the first and the last.
 const FRAMES: [usize; 8] = [0, 4, 7, 12, 25, 40, 70, 74];
 
-/// Expects of a new world that it rises, after trouble at a place of a frame of its start-up.
-fn expect_rises(rt: &(impl AllocGlobal + Abort), at: usize, event: Event) -> Result<(), Fail> {
-    let table = read_table(rt.alloc(), TABLE)?;
-    let plan = compile(rt.alloc(), &table)?;
-    let identities = identities_of(rt.alloc(), &table)?;
+/// Trouble in a start-up.
+const TROUBLE: [Event; 7] = [
+    Lose(0),
+    Reset(0),
+    Reset(1),
+    Reset(2),
+    Fault(0),
+    Fault(1),
+    Fault(2),
+];
+
+/// Expects of new worlds that they rise, after trouble at a place of a frame of their start-up.
+fn expect_rises(
+    rt: &(impl AllocGlobal + Abort),
+    table: &Table,
+    plan: &Plan,
+    at: usize,
+    event: Event,
+) -> Result<(), Fail>
+    requires accepted { compile_fault table.now ≡ None }
+    requires plan { plan.now ≡ plan_of table.now }
+{
     for frame in &FRAMES {
-        let mut world = World::new(rt.alloc(), &table, &plan, &identities)?;
-        assert!(rt;
-            rises_again(&mut world, *frame, at, event),
-            "{frame} {at} {event:?}"
-        );
+        let mut world = new_world(rt.alloc(), table, plan)?;
+        let rises = ends_so(&mut world, *frame, at, event) && is_ready_next(&mut world);
+        assert!(rt; rises, "{frame} {at} {event:?}");
+    }
+    Ok(())
+}
+
+/// Expects this of each trouble at a place.
+fn expect_trouble(
+    rt: &(impl AllocGlobal + Abort),
+    table: &Table,
+    plan: &Plan,
+    at: usize,
+) -> Result<(), Fail>
+    requires accepted { compile_fault table.now ≡ None }
+    requires plan { plan.now ≡ plan_of table.now }
+{
+    for event in &TROUBLE {
+        expect_rises(rt, table, plan, at, *event)?;
     }
     Ok(())
 }
@@ -393,19 +432,10 @@ fn expect_rises(rt: &(impl AllocGlobal + Abort), at: usize, event: Event) -> Res
 // A frame of a start-up is lost before or after a slave's pass, or a slave is reset, or has a fault there.
 #[test]
 fn trouble_in_a_start_up(rt: HostRuntime) -> Result<(), Fail> {
-    let events = [
-        Lose(0),
-        Reset(0),
-        Reset(1),
-        Reset(2),
-        Fault(0),
-        Fault(1),
-        Fault(2),
-    ];
+    let table = read_table(rt.alloc(), TABLE)?;
+    let plan = compile(rt.alloc(), &table)?;
     for at in 0..4 {
-        for event in &events {
-            expect_rises(&rt, at, *event)?;
-        }
+        expect_trouble(&rt, &table, &plan, at)?;
     }
     Ok(())
 }

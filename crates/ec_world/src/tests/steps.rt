@@ -1,9 +1,11 @@
 //! What is done with a world, and what must be seen of it.
-ghost use Rattle.std.specs.Prelude.{◌≡◌, length, IfOk};
+ghost use Rattle.std.specs.Prelude.{◌≡◌, length, IfOk, None};
+ghost use Rattle.ec_link.specs.Faults.{compile_fault};
+ghost use Rattle.ec_link.specs.Plan.{plan_of};
 
-use crate::{Event, World};
+use crate::{Event, Progress, World};
 use ec_cycle::Report;
-use ec_link::{Predicted, compile};
+use ec_link::{Plan, Predicted, compile};
 use ec_regs::Identity;
 use ec_start::StartError;
 use ec_table::{Table, read_table};
@@ -40,20 +42,35 @@ pub enum Step<'a> {
     NoReport,
 }
 
-/// One frame of the start-up passes all slaves and comes back, and each slave serves once. At a place, counted by the slaves
-/// that the frame has passed, an event comes between. Whether the frame came back.
-pub fn turn(world: &mut World<'_>, at: usize, event: Option<Event>) -> bool {
-    world.step(Event::StartNext);
+/// Makes an event, if it can be made. What it does is told by no clause here, so the drivers below carry nothing of it.
+pub fn made(world: &mut World<'_>, event: Event) -> bool {
+    world.step(event)
+}
+
+/// The frame in slot 0 passes its slaves. At a place, counted by those that it has passed, an event comes between.
+pub fn pass_slaves(world: &mut World<'_>, at: usize, event: Option<Event>) {
     for place in 0..4 {
         if let (true, Some(event)) = (place == at, event) {
-            world.step(event);
+            made(world, event);
         }
-        world.step(Event::Pass(0));
+        made(world, Event::Pass(0));
     }
-    let is_back = world.step(Event::Return(0));
+}
+
+/// Each slave serves once.
+fn serve_slaves(world: &mut World<'_>) {
     for slave in 0..3 {
-        world.step(Event::Serve(slave));
+        made(world, Event::Serve(slave));
     }
+}
+
+/// One frame of the start-up passes all slaves and comes back, and each slave serves once. At a place an event comes between.
+/// Whether the frame came back.
+pub fn turn(world: &mut World<'_>, at: usize, event: Option<Event>) -> bool {
+    made(world, Event::StartNext);
+    pass_slaves(world, at, event);
+    let is_back = made(world, Event::Return(0));
+    serve_slaves(world);
     is_back
 }
 
@@ -67,76 +84,84 @@ pub fn rise(world: &mut World<'_>) {
     }
 }
 
-fn assert_report(
-    rt: &impl Abort,
+/// Whether a report says this of the units, the parts and the AL states.
+fn is_report(
     report: &Report,
     units: &[bool],
     counters: &[Option<Predicted>],
     al_word: u16,
-) {
-    assert!(rt; report.units_taken() == units);
-    assert!(rt; report.counters() == counters);
-    assert_eq!(rt; report.al_word(), al_word);
+) -> bool {
+    report.units_taken() == units && report.counters() == counters && report.al_word() == al_word
 }
 
-/// What is done.
-fn make(rt: &impl Abort, world: &mut World<'_>, step: Step) {
-    match step {
-        Step::Makes(event) => assert!(rt; world.step(event), "{event:?}"),
-        Step::Denied(event) => assert!(rt; !world.step(event), "{event:?}"),
-        Step::Runs(events, made) => assert_eq!(rt; world.run(events), made),
-        Step::Rises => rise(world),
-        _ => {}
-    }
+/// Whether a frame is in a slot, and how far it is.
+fn holds(world: &World<'_>, slot: usize, progress: Progress) -> bool {
+    world.progress(slot) == Some(progress) && world.slot(slot) == Some(progress.number)
 }
 
-/// What is seen of frames and of the start-up.
-fn see_frames(rt: &impl Abort, world: &World<'_>, step: Step) {
+/// Whether frames and the start-up are seen as a step says.
+fn shows_frames(world: &World<'_>, step: Step) -> bool {
     match step {
         Step::Ended(outcome) => {
-            assert_eq!(rt; world.outcome(), outcome);
-            assert_eq!(rt; world.is_ready(), outcome == Some(Ok(())));
+            world.outcome() == outcome && world.is_ready() == (outcome == Some(Ok(())))
         }
-        Step::Holds(slot, number, part, passed) => {
-            let progress = crate::Progress {
+        Step::Holds(slot, number, part, passed) => holds(
+            world,
+            slot,
+            Progress {
                 number,
                 part,
                 passed,
-            };
-            assert_eq!(rt; world.progress(slot), Some(progress));
-            assert_eq!(rt; world.slot(slot), Some(number));
-        }
-        Step::Empty(slot) => {
-            assert_eq!(rt; world.progress(slot), None);
-            assert_eq!(rt; world.slot(slot), None);
-        }
-        _ => {}
+            },
+        ),
+        Step::Empty(slot) => world.progress(slot) == None && world.slot(slot) == None,
+        _ => true,
     }
 }
 
-/// What is seen of values.
-fn see_values(rt: &impl Abort, world: &World<'_>, step: Step) {
+/// Whether values are seen as a step says.
+fn shows_values(world: &World<'_>, step: Step) -> bool {
     match step {
         Step::Reads(variable, value) => {
-            assert!(rt; variable < world.variables());
-            assert_eq!(rt; world.input(variable), value);
+            variable < world.variables() && world.input(variable) == value
         }
         Step::Publishes(slave, outputs) => {
-            assert!(rt; slave < world.slaves());
-            assert!(rt; world.outputs(slave) == outputs);
+            slave < world.slaves() && world.outputs(slave) == outputs
         }
-        Step::Byte(byte) => assert_eq!(rt; world.byte(), byte),
+        Step::Byte(byte) => world.byte() == byte,
         Step::Reports(units, counters, al_word) => match world.report() {
-            Some(report) => assert_report(rt, report, units, counters, al_word),
-            None => assert!(rt; false, "a report"),
+            Some(report) => is_report(report, units, counters, al_word),
+            None => false,
         },
-        Step::NoReport => assert!(rt; world.report().is_none()),
-        _ => {}
+        Step::NoReport => world.report().is_none(),
+        _ => true,
+    }
+}
+
+/// Takes a step. Whether it goes as it says.
+fn goes(world: &mut World<'_>, step: Step) -> bool {
+    match step {
+        Step::Makes(event) => made(world, event),
+        Step::Denied(event) => !made(world, event),
+        Step::Runs(events, count) => world.run(events) == count,
+        Step::Rises => {
+            rise(world);
+            true
+        }
+        _ => shows_frames(world, step) && shows_values(world, step),
+    }
+}
+
+/// Takes all steps, in their order.
+fn take_steps(rt: &impl Abort, world: &mut World<'_>, steps: &[Step]) {
+    for (place, step) in steps.iter().enumerate() {
+        let goes = goes(world, *step);
+        assert!(rt; goes, "step {place}");
     }
 }
 
 /// The identity of each slave of a table.
-pub fn identities_of(alloc: Global, table: &Table) -> Result<Vec<Identity>, Fail>
+fn identities_of(alloc: Global, table: &Table) -> Result<Vec<Identity>, Fail>
     ensures { IfOk result (λ v. length v.items ≡ length table.now.slaves) }
 {
     let mut identities = Vec::new(alloc);
@@ -144,6 +169,15 @@ pub fn identities_of(alloc: Global, table: &Table) -> Result<Vec<Identity>, Fail
         identities.push(table.identity_of(slave))?;
     }
     Ok(identities)
+}
+
+/// A new world of a table.
+pub fn new_world<'p>(alloc: Global, table: &Table, plan: &'p Plan) -> Result<World<'p>, Fail>
+    requires accepted { compile_fault table.now ≡ None }
+    requires plan { plan.now ≡ plan_of table.now }
+{
+    let identities = identities_of(alloc, table)?;
+    Ok(World::new(alloc, table, plan, &identities)?)
 }
 
 /// Takes all steps with a new world of a table, in their order.
@@ -154,12 +188,7 @@ pub fn expect_steps(
 ) -> Result<(), Fail> {
     let table = read_table(rt.alloc(), text)?;
     let plan = compile(rt.alloc(), &table)?;
-    let identities = identities_of(rt.alloc(), &table)?;
-    let mut world = World::new(rt.alloc(), &table, &plan, &identities)?;
-    for step in steps {
-        make(rt, &mut world, *step);
-        see_frames(rt, &world, *step);
-        see_values(rt, &world, *step);
-    }
+    let mut world = new_world(rt.alloc(), &table, &plan)?;
+    take_steps(rt, &mut world, steps);
     Ok(())
 }
