@@ -25,19 +25,27 @@ access_bits-requires-clause-few c =
 pub returns-clause-slave : goal.returns-clause-slave
 returns-clause-slave c = λ more d good e.
     let is : c.cut_counter-content.result.0.now ≡ d.data_bytes = c.cut_counter-content.ensures.content d.data_bytes d.counter (c.cut_heading-heading.ensures.body more d good e) in
+    let from : c.from.result ≡ c.args.address = c.from.ensures in
     c.access_bits.ensures.slave
-    ∙ ap (λ (t : List ℕ). logical_after c.args.self.now (is_reading c.args.role) (is_writing c.args.role) (record { from = 8 * c.args.address; bits = 8 * length t }) t) is
+    ∙ (ap (λ (t : List ℕ). logical_after c.args.self.now (is_reading c.args.role) (is_writing c.args.role) (record { from = 8 * c.from.result; bits = 8 * length t }) t) is
+    ∙ ap (λ (n : ℕ). logical_after c.args.self.now (is_reading c.args.role) (is_writing c.args.role) (record { from = 8 * n; bits = 8 * length d.data_bytes }) d.data_bytes) from)
 
 pub returns-clause-added : goal.returns-clause-added
 returns-clause-added c = λ more d good e.
     let is : c.cut_counter-content.result.0.now ≡ d.data_bytes = c.cut_counter-content.ensures.content d.data_bytes d.counter (c.cut_heading-heading.ensures.body more d good e) in
-    c.access_bits.ensures.added ∙ ap (λ (t : List ℕ). count_after c.args.self.now c.args.role (record { from = 8 * c.args.address; bits = 8 * length t }) t) is
+    let from : c.from.result ≡ c.args.address = c.from.ensures in
+    c.access_bits.ensures.added
+    ∙ (ap (λ (t : List ℕ). count_after c.args.self.now c.args.role (record { from = 8 * c.from.result; bits = 8 * length t }) t) is
+    ∙ ap (λ (n : ℕ). count_after c.args.self.now c.args.role (record { from = 8 * n; bits = 8 * length d.data_bytes }) d.data_bytes) from)
 
 pub returns-clause-content : goal.returns-clause-content
 returns-clause-content c = λ more d good e.
     let b = c.cut_heading-heading.ensures.body more d good e in
     let is : c.cut_counter-content.result.0.now ≡ d.data_bytes = c.cut_counter-content.ensures.content d.data_bytes d.counter b in
+    let from : c.from.result ≡ c.args.address = c.from.ensures in
     data_moved more d _ _ _ c.args.self.now c.args.role (record { from = 8 * c.args.address; bits = 8 * length d.data_bytes })
     (c.cut_heading-heading.ensures.heading more d good e)
-    (c.access_bits.ensures.bytes ∙ ap (λ (t : List ℕ). data_after c.args.self.now c.args.role (record { from = 8 * c.args.address; bits = 8 * length t }) t) is)
+    (c.access_bits.ensures.bytes
+    ∙ (ap (λ (t : List ℕ). data_after c.args.self.now c.args.role (record { from = 8 * c.from.result; bits = 8 * length t }) t) is
+    ∙ ap (λ (n : ℕ). data_after c.args.self.now c.args.role (record { from = 8 * n; bits = 8 * length d.data_bytes }) d.data_bytes) from))
     (c.cut_counter-content.ensures.counter d.data_bytes d.counter b)
