@@ -184,6 +184,7 @@ impl Slave {
     }
 
     /// Answers a datagram that reads and writes: a slave whose type takes no part in such datagrams lets it pass.
+    #[tactic(auto, using(crate::proofs::Answered::exchanged_datagram, crate::proofs::Answered::exchanged_state, crate::proofs::Answered::passed_datagram, crate::proofs::Answered::passed_state))]
     pub(crate) fn process_lrw(&mut self, header: Header, part: &mut [u8])
         requires spelt { IsSpelling part.old }
         requires read { (more : Bool) (d : Datagram) → IsDatagram d → part.old ≡ spelling more d
