@@ -228,15 +228,15 @@ written_none xs allowed physical bytes at to n h =
 pub alone_wholly : (fs : List FmmuSettings) (k from bits q logical physical n : ℕ) → k < length fs → (get_or fs k no_fmmu).writes ≡ true → IsAloneWriting fs k
     → ((p : ℕ) → unmapped (get_or fs k no_fmmu) p ≡ run_unmapped logical physical n p)
     → physical ≤ q → q < physical + n → from ≤ logical + (q - physical) → logical + (q - physical) < from + bits
-    → is_some (inside_place (record { from = from; bits = bits }) (source (writers fs) q)) ≡ true
+    → inside_place (record { from = from; bits = bits }) (source (writers fs) q) ≡ Some (logical + (q - physical) - from)
 alone_wholly fs k from bits q logical physical n h w alone u a b c d =
     let f = get_or fs k no_fmmu in
     let l : ℕ = logical + (q - physical) in
     let one : unmapped f q ≡ Some l = u q ∙ if_true (within physical n q) (Some l) None (within_true physical n q a b) in
     let there : reaches_physical f q ≡ true = pair_reaches_physical f l q (pair_from_unmapped f l q one) in
     let from_it : source (writers fs) q ≡ Some l = alone_source fs k q h w alone there ∙ one in
-    ap (λ (o : Option ℕ). is_some (inside_place (record { from = from; bits = bits }) o)) from_it
-    ∙ ap is_some (if_true (within from bits l) (Some (l - from)) None (within_true from bits l c d))
+    ap (λ (o : Option ℕ). inside_place (record { from = from; bits = bits }) o) from_it
+    ∙ if_true (within from bits l) (Some (l - from)) None (within_true from bits l c d)
 
 -- a run that begins inside another one is a part of it
 pub written_part : (allowed : ℕ → Bool) (physical : ℕ) (bytes : List ℕ) (at to n done m : ℕ) → done + m ≤ n → (k : ℕ)

@@ -1,7 +1,6 @@
 //! A run: logical bits and, one by one, the physical bits that they stand for.
 
-ghost use Rattle.std.specs.Prelude.{ℕ, true, ◌≡◌, ◌<◌, ◌≤◌, ◌+◌, ◌-◌, ◌^◌};
-ghost use Rattle.std.specs.Bool.{OnTrue};
+ghost use Rattle.std.specs.Prelude.{ℕ, true, ◌≡◌, ◌<◌, ◌≤◌, ◌+◌, ◌-◌, ◌^◌, IfSome};
 ghost use Rattle.ec_bits.specs.Bits.{within};
 ghost use Rattle.ec_fmmu.specs.Ways.{IsInRam, run_touches};
 
@@ -36,21 +35,27 @@ impl Run {
         true
     }
 
-    /// Whether the pairs of it bring each of `count` physical bits from `physical` on one of the
-    /// `bits` logical bits from `from` on.
-    pub(crate) fn brings(&self, from: u64, bits: u64, physical: u32, count: u32) -> bool
+    /// The data bit that the first of `count` physical bits from `physical` on is brought, where the
+    /// pairs of it bring them one after the other the data bits from there on, of those that the
+    /// `bits` logical bits from `from` on are.
+    pub(crate) fn source(&self, from: u64, bits: u64, physical: u32, count: u32) -> Option<usize>
         requires inside { IsInRam self.now }
         requires fits { from + bits < 2 ^ 64 }
-        ensures { OnTrue result ((q : ℕ) → physical ≤ q → q < physical + count
+        ensures inside { IfSome result (λ at. at + count ≤ bits) }
+        ensures pairs { IfSome result (λ at. (q : ℕ) → physical ≤ q → q < physical + count
             → (within self.now.physical self.now.count q ≡ true)
-            × (within from bits (self.now.logical + (q - self.now.physical)) ≡ true)) }
+            × (within from bits (self.now.logical + (q - self.now.physical)) ≡ true)
+            × (self.now.logical + (q - self.now.physical) ≡ from + (at + (q - physical)))) }
     {
         let first = u64::from(physical);
         let end = first + u64::from(count);
         if first < self.physical || self.physical + self.count < end {
-            return false;
+            return None;
         }
         let logical = self.logical + (first - self.physical);
-        from <= logical && logical + u64::from(count) <= from + bits
+        if logical < from || from + bits < logical + u64::from(count) {
+            return None;
+        }
+        Some((logical - from) as usize)
     }
 }

@@ -10,7 +10,6 @@ use Rattle.ec_sync.specs.Governing.{covers, governor, in_first_buffer}
 use Rattle.ec_slave.specs.State.{SlaveState, manager_at}
 use Rattle.ec_slave.specs.Managers.{reads_under, writes_under}
 use Rattle.ec_slave.specs.Access.{Window, touches, byte_at, byte_from, byte_read, may_read_byte, may_write_byte, is_kept}
-use Rattle.ec_slave.proofs.Sights.{governor-below}
 use Rattle.ec_slave.proofs.Told.{told_along, get-told_outside}
 
 pub from-outside : (w : Window) (a : ℕ) → (a < w.from) ⊎ (w.from + length w.bytes ≤ a) → byte_from w a ≡ None
@@ -67,14 +66,14 @@ read-own s joining from xs ys i long own =
 
 -- bytes that are alike may be read or not alike
 pub read-alike : (ms : List Manager) (touched : ℕ → Bool) (a b : ℕ) → nat_lt a ram_start ≡ nat_lt b ram_start → nat_lt a ram_end ≡ nat_lt b ram_end
-    → governor ms a ≡ governor ms b → ((n : ℕ) → n < length ms → in_first_buffer (manager_at ms n) a ≡ in_first_buffer (manager_at ms n) b)
+    → governor ms a ≡ governor ms b → ((n : ℕ) → governor ms b ≡ Some n → in_first_buffer (manager_at ms n) a ≡ in_first_buffer (manager_at ms n) b)
     → may_read_byte ms touched a ≡ may_read_byte ms touched b
 unfolding may_read_byte
 read-alike ms touched a b low high g front =
     ap (λ (x : Bool). x || (nat_lt a ram_end && reads_under ms touched a (governor ms a))) low
     ∙ (ap (λ (x : Bool). nat_lt b ram_start || (x && reads_under ms touched a (governor ms a))) high
     ∙ (ap (λ (o : Option ℕ). nat_lt b ram_start || (nat_lt b ram_end && reads_under ms touched a o)) g
-    ∙ ap (λ (x : Bool). nat_lt b ram_start || (nat_lt b ram_end && x)) (under (governor ms b) (λ n e. front n (governor-below ms b n e)))))
+    ∙ ap (λ (x : Bool). nat_lt b ram_start || (nat_lt b ram_end && x)) (under (governor ms b) (λ n e. front n e))))
   where
     under : (o : Option ℕ) → ((n : ℕ) → o ≡ Some n → in_first_buffer (manager_at ms n) a ≡ in_first_buffer (manager_at ms n) b)
         → reads_under ms touched a o ≡ reads_under ms touched b o
@@ -96,14 +95,14 @@ read-register ms touched a h = or_left (nat_lt a ram_start) _ (lt-ltb a ram_star
 
 -- bytes of the RAM that are alike may be written or not alike
 pub write-alike : (ms : List Manager) (busy : Bool) (touched : ℕ → Bool) (a b : ℕ) → ram_start ≤ a → ram_start ≤ b → nat_lt a ram_end ≡ nat_lt b ram_end
-    → governor ms a ≡ governor ms b → ((n : ℕ) → n < length ms → in_first_buffer (manager_at ms n) a ≡ in_first_buffer (manager_at ms n) b)
+    → governor ms a ≡ governor ms b → ((n : ℕ) → governor ms b ≡ Some n → in_first_buffer (manager_at ms n) a ≡ in_first_buffer (manager_at ms n) b)
     → may_write_byte ms busy touched a ≡ may_write_byte ms busy touched b
 unfolding may_write_byte
 write-alike ms busy touched a b la lb high g front =
     if_false (nat_lt a ram_start) (takes_writes busy a) (nat_lt a ram_end && writes_under ms touched a (governor ms a)) (le-ltb a ram_start la)
     ∙ (ap (λ (x : Bool). x && writes_under ms touched a (governor ms a)) high
     ∙ (ap (λ (o : Option ℕ). nat_lt b ram_end && writes_under ms touched a o) g
-    ∙ (ap (λ (x : Bool). nat_lt b ram_end && x) (under (governor ms b) (λ n e. front n (governor-below ms b n e)))
+    ∙ (ap (λ (x : Bool). nat_lt b ram_end && x) (under (governor ms b) (λ n e. front n e))
     ∙ sym (if_false (nat_lt b ram_start) (takes_writes busy b) (nat_lt b ram_end && writes_under ms touched b (governor ms b)) (le-ltb b ram_start lb)))))
   where
     under : (o : Option ℕ) → ((n : ℕ) → o ≡ Some n → in_first_buffer (manager_at ms n) a ≡ in_first_buffer (manager_at ms n) b)

@@ -1,5 +1,6 @@
 //! Frames past one slave: tables of what is done to a slave and of what must be seen of it. Nothing steps its firmware in this
 //! file, so it stays in INIT; `firmware` does.
+mod borders;
 mod firmware;
 mod steps;
 

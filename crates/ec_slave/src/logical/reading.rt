@@ -155,7 +155,7 @@ fn show_alike(sight: &Sight<'_>, physical: u32, count: usize, bytes: &mut [u8], 
     requires four { length sight.now.managers.now ≡ length sight.now.readable.now }
     requires alike { (a : ℕ) → physical / 8 ≤ a → a ≤ (physical + count - 1) / 8
         → governor_of sight.now.managers.now a ≡ governor_of sight.now.managers.now (physical / 8) }
-    requires front { (n a : ℕ) → n < length sight.now.managers.now → physical / 8 ≤ a → a ≤ (physical + count - 1) / 8
+    requires front { (n a : ℕ) → governor_of sight.now.managers.now (physical / 8) ≡ Some n → physical / 8 ≤ a → a ≤ (physical + count - 1) / 8
         → in_first_buffer (manager_at sight.now.managers.now n) a ≡ in_first_buffer (manager_at sight.now.managers.now n) (physical / 8) }
     requires to_ram { physical + count ≤ 8 * ram_end }
     requires inside { to + count ≤ 8 * length bytes.old }
