@@ -1,0 +1,7 @@
+//! Cycles sent and taken, by the public calls of `ec_cycle`.
+#![tactic(auto)]
+
+#[cfg(test)]
+mod tests;
+
+fn main() {}

@@ -1,0 +1,269 @@
+//! Cycles of the table with three slaves, as tables of steps; what comes back is written by hand.
+mod steps;
+
+use self::steps::Step::{
+    Begins, Closes, Denied, Foreign, Keeps, Next, NotOpen, Reads, Ready, Refused, Sends, Sets,
+};
+use self::steps::expect_steps;
+use ec_cycle::CycleError;
+use ec_link::Predicted::{Lrw, Split};
+use std::test::Fail;
+
+/// Three slaves: 4 outputs; 4 inputs; 12 outputs and 16 inputs.
+const TABLE: &str = r#"type = [
+  { name = "do4", vendor = 0xABCD, product = 1, revision = 1, out_start = 0x1100, in_start = 0, rxpdo = [ { index = 0x1600, entries = [[0x7000, 1, 4]] } ] },
+  { name = "di4", vendor = 0xABCD, product = 2, revision = 1, out_start = 0, in_start = 0x1100, txpdo = [ { index = 0x1A00, entries = [[0x6000, 1, 4]] } ] },
+  { name = "mix", vendor = 0xABCD, product = 3, revision = 1, mailbox = [0x1000, 128, 0x1080, 128], out_start = 0x1100, in_start = 0x1400, rxpdo = [ { index = 0x1600, entries = [[0x7010, 1, 12]] } ], txpdo = [ { index = 0x1A00, entries = [[0x6010, 1, 16]] } ] },
+]
+slave = [ { name = "s0", type = "do4" }, { name = "s1", type = "di4" }, { name = "s2", type = "mix" } ]
+variable = [ { name = "a", dir = "out", bits = 4 }, { name = "b", dir = "out", bits = 12 }, { name = "c", dir = "in", bits = 4 }, { name = "d", dir = "in", bits = 16 } ]
+link = [ { var = "a", slave = "s0", index = 0x7000, sub = 1 }, { var = "b", slave = "s2", index = 0x7010, sub = 1 }, { var = "c", slave = "s1", index = 0x6000, sub = 1 }, { var = "d", slave = "s2", index = 0x6010, sub = 1 } ]
+"#;
+
+/// The same, where the first slave takes no part in LRW.
+const WITHOUT_LRW: &str = r#"type = [
+  { name = "do4", vendor = 0xABCD, product = 1, revision = 1, out_start = 0x1100, in_start = 0, rxpdo = [ { index = 0x1600, entries = [[0x7000, 1, 4]] } ], lrw = false },
+  { name = "di4", vendor = 0xABCD, product = 2, revision = 1, out_start = 0, in_start = 0x1100, txpdo = [ { index = 0x1A00, entries = [[0x6000, 1, 4]] } ] },
+  { name = "mix", vendor = 0xABCD, product = 3, revision = 1, mailbox = [0x1000, 128, 0x1080, 128], out_start = 0x1100, in_start = 0x1400, rxpdo = [ { index = 0x1600, entries = [[0x7010, 1, 12]] } ], txpdo = [ { index = 0x1A00, entries = [[0x6010, 1, 16]] } ] },
+]
+slave = [ { name = "s0", type = "do4" }, { name = "s1", type = "di4" }, { name = "s2", type = "mix" } ]
+variable = [ { name = "a", dir = "out", bits = 4 }, { name = "b", dir = "out", bits = 12 }, { name = "c", dir = "in", bits = 4 }, { name = "d", dir = "in", bits = 16 } ]
+link = [ { var = "a", slave = "s0", index = 0x7000, sub = 1 }, { var = "b", slave = "s2", index = 0x7010, sub = 1 }, { var = "c", slave = "s1", index = 0x6000, sub = 1 }, { var = "d", slave = "s2", index = 0x6010, sub = 1 } ]
+"#;
+
+/// The same, where the second slave is a sync unit of its own.
+const TWO_UNITS: &str = r#"version = 2
+type = [
+  { name = "do4", vendor = 0xABCD, product = 1, revision = 1, out_start = 0x1100, in_start = 0, rxpdo = [ { index = 0x1600, entries = [[0x7000, 1, 4]] } ] },
+  { name = "di4", vendor = 0xABCD, product = 2, revision = 1, out_start = 0, in_start = 0x1100, txpdo = [ { index = 0x1A00, entries = [[0x6000, 1, 4]] } ] },
+  { name = "mix", vendor = 0xABCD, product = 3, revision = 1, mailbox = [0x1000, 128, 0x1080, 128], out_start = 0x1100, in_start = 0x1400, rxpdo = [ { index = 0x1600, entries = [[0x7010, 1, 12]] } ], txpdo = [ { index = 0x1A00, entries = [[0x6010, 1, 16]] } ] },
+]
+slave = [ { name = "s0", type = "do4" }, { name = "s1", type = "di4", unit = 1 }, { name = "s2", type = "mix" } ]
+variable = [ { name = "a", dir = "out", bits = 4 }, { name = "b", dir = "out", bits = 12 }, { name = "c", dir = "in", bits = 4 }, { name = "d", dir = "in", bits = 16 } ]
+link = [ { var = "a", slave = "s0", index = 0x7000, sub = 1 }, { var = "b", slave = "s2", index = 0x7010, sub = 1 }, { var = "c", slave = "s1", index = 0x6000, sub = 1 }, { var = "d", slave = "s2", index = 0x6010, sub = 1 } ]
+"#;
+
+/// Cycle 100 as it comes back from three slaves in OP.
+const BACK: &str = "3310 \
+    0064 0000 0000 0a80 0000 6400000000000000 0000 0000 \
+    0764 0300 3001 0280 0000 0800 0300 \
+    0c64 00000100 0300 0000 5aefbe 0600";
+
+// The frame is of the image at its begin, and comes back once.
+#[test]
+fn cycle_of_three_slaves(rt: HostRuntime) -> Result<(), Fail> {
+    let sent = "3310 \
+        0064 0000 0000 0a80 0000 6400000000000000 0000 0000 \
+        0764 0000 3001 0280 0000 0000 0000 \
+        0c64 00000100 0300 0000 0a2301 0000";
+    let steps = [
+        Sets(0, 10),
+        Sets(1, 291),
+        Ready(100),
+        Begins,
+        Sends(0, sent),
+        Sets(0, 0),
+        Sends(0, sent),
+        Keeps(BACK),
+        Foreign(BACK),
+        Reads(3, 0),
+        Closes(&[true], &[Some(Lrw(6))], 0x0008),
+        Reads(2, 5),
+        Reads(3, 48879),
+        Reads(1, 291),
+        Foreign(BACK),
+    ];
+    expect_steps(&rt, TABLE, &steps)
+}
+
+// The second slave was reset, then the third has a fault.
+#[test]
+fn short_counters(rt: HostRuntime) -> Result<(), Fail> {
+    let steps = [
+        Sets(0, 10),
+        Sets(1, 291),
+        Ready(100),
+        Begins,
+        Keeps(
+            "3310 \
+             0064 0000 0000 0a80 0000 6400000000000000 0000 0000 \
+             0764 0300 3001 0280 0000 0900 0300 \
+             0c64 00000100 0300 0000 0aefbe 0500",
+        ),
+        Closes(&[false], &[Some(Lrw(5))], 0x0009),
+        Reads(2, 0),
+        Reads(3, 0),
+        Begins,
+        Keeps(
+            "3310 \
+             0065 0000 0000 0a80 0000 6500000000000000 0000 0000 \
+             0765 0300 3001 0280 0000 1c00 0300 \
+             0c65 00000100 0300 0000 5aefbe 0400",
+        ),
+        Closes(&[false], &[Some(Lrw(4))], 0x001C),
+        Reads(2, 0),
+        Reads(3, 0),
+    ];
+    expect_steps(&rt, TABLE, &steps)
+}
+
+// A frame that was lost, and comes back in the next cycle, or 256 numbers later with its index again.
+#[test]
+fn lost_and_late(rt: HostRuntime) -> Result<(), Fail> {
+    let steps = [
+        Ready(100),
+        Begins,
+        Closes(&[false], &[None], 0),
+        Foreign(BACK),
+        Begins,
+        Foreign(BACK),
+        Closes(&[false], &[None], 0),
+        Ready(356),
+        Begins,
+        Next(357),
+        Foreign(BACK),
+        Closes(&[false], &[None], 0),
+        Reads(3, 0),
+    ];
+    expect_steps(&rt, TABLE, &steps)
+}
+
+// Each refusal, which changes nothing; and what no variable holds.
+#[test]
+fn refusals(rt: HostRuntime) -> Result<(), Fail> {
+    let steps = [
+        Refused(CycleError::NotReady),
+        NotOpen,
+        Ready(7),
+        Ready(5),
+        Next(7),
+        Begins,
+        Refused(CycleError::Open),
+        Closes(&[false], &[None], 0),
+        NotOpen,
+        Ready(u64::MAX),
+        Refused(CycleError::NumbersSpent),
+        Denied(0, 16),
+        Denied(2, 0),
+        Denied(4, 0),
+    ];
+    expect_steps(&rt, TABLE, &steps)
+}
+
+#[test]
+fn numbers_of_refusals(rt: HostRuntime) {
+    let rows = [
+        (CycleError::NotReady, 33, "NotReady"),
+        (CycleError::Open, 34, "Open"),
+        (CycleError::NotOpen, 35, "NotOpen"),
+        (CycleError::NumbersSpent, 36, "NumbersSpent"),
+    ];
+    for (error, number, name) in rows {
+        assert_eq!(rt; error.number(), number);
+        assert_eq!(rt; error.name(), name);
+    }
+}
+
+// A slave without LRW splits its part: each half has its counter.
+#[test]
+fn split_part(rt: HostRuntime) -> Result<(), Fail> {
+    let steps = [
+        Sets(0, 10),
+        Sets(1, 291),
+        Ready(100),
+        Begins,
+        Sends(
+            0,
+            "4210 \
+             0064 0000 0000 0a80 0000 6400000000000000 0000 0000 \
+             0764 0000 3001 0280 0000 0000 0000 \
+             0b64 00000100 0380 0000 0a2301 0000 \
+             0a64 00000100 0300 0000 000000 0000",
+        ),
+        Keeps(
+            "4210 \
+             0064 0000 0000 0a80 0000 6400000000000000 0000 0000 \
+             0764 0300 3001 0280 0000 0800 0300 \
+             0b64 00000100 0380 0000 0a2301 0200 \
+             0a64 00000100 0300 0000 50efbe 0200",
+        ),
+        Closes(&[true], &[Some(Split { write: 2, read: 2 })], 0x0008),
+        Reads(2, 5),
+        Reads(3, 48879),
+    ];
+    expect_steps(&rt, WITHOUT_LRW, &steps)
+}
+
+// The second slave was reset, then the third has a fault: the sum is the same, each half is short once.
+#[test]
+fn split_part_with_a_short_half(rt: HostRuntime) -> Result<(), Fail> {
+    let steps = [
+        Ready(100),
+        Begins,
+        Keeps(
+            "4210 \
+             0064 0000 0000 0a80 0000 6400000000000000 0000 0000 \
+             0764 0300 3001 0280 0000 0900 0300 \
+             0b64 00000100 0380 0000 000000 0200 \
+             0a64 00000100 0300 0000 00efbe 0100",
+        ),
+        Closes(&[false], &[Some(Split { write: 2, read: 1 })], 0x0009),
+        Begins,
+        Keeps(
+            "4210 \
+             0065 0000 0000 0a80 0000 6500000000000000 0000 0000 \
+             0765 0300 3001 0280 0000 1c00 0300 \
+             0b65 00000100 0380 0000 000000 0100 \
+             0a65 00000100 0300 0000 50efbe 0200",
+        ),
+        Closes(&[false], &[Some(Split { write: 1, read: 2 })], 0x001C),
+        Reads(2, 0),
+        Reads(3, 0),
+    ];
+    expect_steps(&rt, WITHOUT_LRW, &steps)
+}
+
+// Two units: the second one's frame is lost, then it comes back alone.
+#[test]
+fn units_one_by_one(rt: HostRuntime) -> Result<(), Fail> {
+    let steps = [
+        Sets(0, 10),
+        Sets(1, 291),
+        Ready(100),
+        Begins,
+        Sends(
+            0,
+            "3310 \
+             0064 0000 0000 0a80 0000 6400000000000000 0000 0000 \
+             0764 0000 3001 0280 0000 0000 0000 \
+             0c64 00000100 0300 0000 3a1200 0000",
+        ),
+        Sends(
+            1,
+            "3110 \
+             0064 0000 0000 0a80 0000 6400000000000000 0100 0000 \
+             0764 0000 3001 0280 0000 0000 0000 \
+             0c64 03000100 0100 0000 00 0000",
+        ),
+        Keeps(
+            "3310 \
+             0064 0000 0000 0a80 0000 6400000000000000 0000 0000 \
+             0764 0300 3001 0280 0000 0800 0300 \
+             0c64 00000100 0300 0000 faee0b 0500",
+        ),
+        Closes(&[true, false], &[Some(Lrw(5)), None], 0x0008),
+        Reads(2, 0),
+        Reads(3, 48879),
+        Begins,
+        Keeps(
+            "3110 \
+             0065 0000 0000 0a80 0000 6500000000000000 0100 0000 \
+             0765 0300 3001 0280 0000 0800 0300 \
+             0c65 03000100 0100 0000 05 0100",
+        ),
+        Closes(&[false, true], &[None, Some(Lrw(1))], 0x0008),
+        Reads(2, 5),
+        Reads(3, 48879),
+    ];
+    expect_steps(&rt, TWO_UNITS, &steps)
+}

@@ -1,0 +1,150 @@
+//! What is done with a master, and what must be seen of it.
+ghost use Rattle.std.specs.Prelude.{IfOk};
+ghost use Rattle.ec_link.specs.Usable.{IsUsable};
+
+use ec_cycle::{CycleError, Master, Report, Taken};
+use ec_link::{Plan, Predicted, compile};
+use ec_table::read_table;
+use std::alloc::Global;
+use std::process::Abort;
+use std::test::Fail;
+
+/// A step. Rows are hexadecimal digits with blanks between fields.
+#[derive(Clone, Copy, Drop)]
+pub enum Step<'a> {
+    /// A start-up ended Ready, with this next number.
+    Ready(u64),
+    /// A variable gets a value.
+    Sets(usize, u64),
+    /// No variable of that number holds the value.
+    Denied(usize, u64),
+    /// A variable has a value.
+    Reads(usize, u64),
+    /// The number of the next cycle.
+    Next(u64),
+    /// A cycle begins.
+    Begins,
+    /// None does, for this cause.
+    Refused(CycleError),
+    /// The frame of a part.
+    Sends(usize, &'a str),
+    /// A payload that is kept.
+    Keeps(&'a str),
+    /// A payload that isn't.
+    Foreign(&'a str),
+    /// The cycle is closed: which units were taken, the counters of each part, and the AL word.
+    Closes(&'a [bool], &'a [Option<Predicted>], u16),
+    /// No cycle is open that could be closed.
+    NotOpen,
+}
+
+/// The bytes of a row of hexadecimal digits.
+fn bytes_of(alloc: Global, row: &str) -> Result<Vec<u8>, Fail> {
+    let mut bytes = Vec::new(alloc);
+    for field in row.split_whitespace() {
+        bytes.extend_from_slice(&hex::decode(alloc, field)?)?;
+    }
+    Ok(bytes)
+}
+
+fn plan_of(alloc: Global, text: &str) -> Result<Plan, Fail>
+    ensures { IfOk result IsUsable }
+{
+    let table = read_table(alloc, text)?;
+    let plan = compile(alloc, &table)?;
+    Ok(plan)
+}
+
+fn set(rt: &impl Abort, master: &mut Master, variable: usize, value: u64) {
+    assert!(rt; master.can_set(variable, value));
+    master.set(variable, value);
+}
+
+fn assert_frame(rt: &impl Abort, master: &Master, part: usize, expected: &[u8]) {
+    assert!(rt; master.is_open());
+    assert!(rt; part < master.parts());
+    assert!(rt; master.frame(part) == expected);
+}
+
+fn assert_value(rt: &impl Abort, master: &Master, variable: usize, expected: u64) {
+    assert!(rt; variable < master.variables());
+    assert_eq!(rt; master.get(variable), expected);
+}
+
+fn assert_report(
+    rt: &impl Abort,
+    report: &Report,
+    units: &[bool],
+    counters: &[Option<Predicted>],
+    al_word: u16,
+) {
+    assert!(rt; report.units_taken() == units);
+    assert_eq!(rt; report.units().len(), units.len());
+    assert_eq!(rt; report.is_taken(), units.iter().all(|taken| *taken));
+    assert!(rt; report.counters() == counters);
+    assert_eq!(rt;
+        report.missing(),
+        counters.iter().filter(|counter| counter.is_none()).count()
+    );
+    assert_eq!(rt; report.al_word(), al_word);
+}
+
+/// What is done with the image and the numbers.
+fn take_call(rt: &impl Abort, master: &mut Master, step: Step) {
+    match step {
+        Step::Ready(number) => master.become_ready(number),
+        Step::Sets(variable, value) => set(rt, master, variable, value),
+        Step::Denied(variable, value) => assert!(rt; !master.can_set(variable, value)),
+        Step::Reads(variable, value) => assert_value(rt, master, variable, value),
+        Step::Next(number) => assert_eq!(rt; master.next_number(), number),
+        _ => {}
+    }
+}
+
+/// What is done with cycles.
+fn take_cycle(
+    rt: &(impl AllocGlobal + Abort),
+    master: &mut Master,
+    step: Step,
+) -> Result<(), Fail> {
+    match step {
+        Step::Begins => assert_eq!(rt; master.begin(), Ok(())),
+        Step::Refused(error) => assert_eq!(rt; master.begin(), Err(error)),
+        Step::Sends(part, row) => assert_frame(rt, master, part, &bytes_of(rt.alloc(), row)?),
+        Step::Keeps(row) => {
+            assert_eq!(rt;
+                master.take(&bytes_of(rt.alloc(), row)?),
+                Taken::Kept,
+                "{row}"
+            );
+        }
+        Step::Foreign(row) => {
+            assert_eq!(rt;
+                master.take(&bytes_of(rt.alloc(), row)?),
+                Taken::Foreign,
+                "{row}"
+            );
+        }
+        Step::Closes(units, counters, al_word) => {
+            assert_report(rt, &master.close()?, units, counters, al_word);
+        }
+        Step::NotOpen => assert!(rt; master.close().is_err()),
+        _ => {}
+    }
+    Ok(())
+}
+
+/// Takes all steps with a new master of a table's plan, in their order.
+pub fn expect_steps(
+    rt: &(impl AllocGlobal + Abort),
+    table: &str,
+    steps: &[Step],
+) -> Result<(), Fail> {
+    let plan = plan_of(rt.alloc(), table)?;
+    let mut master = Master::new(rt.alloc(), &plan)?;
+    for step in steps {
+        take_call(rt, &mut master, *step);
+        take_cycle(rt, &mut master, *step)?;
+    }
+    Ok(())
+}
