@@ -15,6 +15,8 @@ mod matching;
 mod renewing;
 mod report;
 mod run;
+#[cfg(test)]
+mod tests;
 
 pub use crate::error::CycleError;
 pub use crate::master::Master;
