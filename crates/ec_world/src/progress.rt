@@ -3,7 +3,7 @@ ghost use Rattle.ec_world.specs.Plain.{is_older};
 ghost use Rattle.ec_world.specs.Slots.{way_behind};
 
 /// How far a frame is on its way. Its age is its number, and then its part.
-#[derive(Clone, Copy)]
+#[derive(Clone, Copy, Debug, PartialEq, Eq)]
 pub struct Progress {
     /// The number of its cycle, or of the frame of a start-up.
     pub number: u64,
