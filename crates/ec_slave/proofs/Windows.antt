@@ -6,10 +6,10 @@ use Rattle.ec_bits.proofs.Overlays.{or_true}
 use Rattle.ec_bits.proofs.AnyLaws.{if_true, if_false, if_none, within_true, within_below, within_above}
 use Rattle.ec_regs.specs.Memory.{ram_start, ram_end, is_stored, takes_writes}
 use Rattle.ec_sync.specs.Manager.{Manager, may_read, may_write}
-use Rattle.ec_sync.specs.Governing.{covers, governor, in_first_buffer}
+use Rattle.ec_sync.specs.Governing.{covers, governor, in_first_buffer, shown_byte}
 use Rattle.ec_slave.specs.State.{SlaveState, manager_at}
 use Rattle.ec_slave.specs.Managers.{reads_under, writes_under}
-use Rattle.ec_slave.specs.Access.{Window, touches, byte_at, byte_from, byte_read, may_read_byte, may_write_byte, is_kept}
+use Rattle.ec_slave.specs.Access.{Window, touches, register_byte, ram_byte, byte_at, byte_from, byte_read, may_read_byte, may_write_byte, is_kept}
 use Rattle.ec_slave.proofs.Told.{told_along, get-told_outside}
 
 pub from-outside : (w : Window) (a : ℕ) → (a < w.from) ⊎ (w.from + length w.bytes ≤ a) → byte_from w a ≡ None
@@ -130,3 +130,17 @@ kept-below ms a h = elim (cases_lt a ram_start) [
       = sym (if_false (nat_lt a ram_start) (is_stored a && not (within 0x0800 32 a)) (nat_lt a ram_end && is_none (governor ms a)) (le-ltb a ram_start x)) ∙ h in
       ltb-true a ram_end (and_parts (nat_lt a ram_end) (is_none (governor ms a)) e).0
 ]
+
+-- ---- what the RAM reads
+
+pub plain-byte : (s : SlaveState) (a : ℕ) → ram_start ≤ a → governor s.managers a ≡ None → byte_at s a ≡ slice_index s.memory a
+unfolding byte_at
+plain-byte s a l g =
+    if_false (nat_lt a ram_start) (register_byte s a) (ram_byte s.memory s.managers a (governor s.managers a)) (le-ltb a ram_start l)
+    ∙ ap (ram_byte s.memory s.managers a) g
+
+pub governed-byte : (s : SlaveState) (a n : ℕ) → ram_start ≤ a → governor s.managers a ≡ Some n → byte_at s a ≡ shown_byte (manager_at s.managers n) a
+unfolding byte_at
+governed-byte s a n l g =
+    if_false (nat_lt a ram_start) (register_byte s a) (ram_byte s.memory s.managers a (governor s.managers a)) (le-ltb a ram_start l)
+    ∙ ap (ram_byte s.memory s.managers a) g

@@ -238,3 +238,26 @@ pub(crate) fn read_over(joining: bool, byte: u8, shown: u8) -> u8
 {
     if joining { byte | shown } else { shown }
 }
+
+/// What data bytes become by a read of as many.
+pub(crate) fn read_slice(joining: bool, bytes: &mut [u8], shown: &[u8])
+    requires { length shown.now ≡ length bytes.old }
+    ensures { bytes.new ≡ retold bytes.old (λ k. Some (if joining
+        then bit_or (slice_index bytes.old k) (slice_index shown.now k) else slice_index shown.now k)) }
+{
+    if joining {
+        join_slice(bytes, shown);
+    } else {
+        bytes.copy_from_slice(shown);
+    }
+}
+
+/// Joins bytes to data bytes by OR.
+fn join_slice(bytes: &mut [u8], shown: &[u8])
+    requires { length shown.now ≡ length bytes.old }
+    ensures { bytes.new ≡ retold bytes.old (λ k. Some (bit_or (slice_index bytes.old k) (slice_index shown.now k))) }
+{
+    for (k, byte) in bytes.iter_mut().enumerate() {
+        *byte |= shown[k];
+    }
+}
