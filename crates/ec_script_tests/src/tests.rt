@@ -146,38 +146,35 @@ const HALVES: [(&str, (&str, &str)); 8] = [
     ("%% \n%%%\n %%\n%%\r", ("%% \n%%%\n %%\n%%\r", "")),
 ];
 
-fn assert_act(rt: &impl Abort, lines: &[Line], text: &str, act: Act) {
-    assert_eq!(rt; lines, [Line { number: 1, act }].as_slice(), "{text}");
+/// Whether a text is read as one line that stands for an act.
+fn stands_for(alloc: Global, table: &Table, text: &str, act: Act) -> Result<bool, Fail> {
+    let lines = read_script(alloc, table, text)?;
+    Ok(lines.as_slice() == [Line { number: 1, act }].as_slice())
 }
 
 #[test]
 fn lines_stand_for_acts(rt: HostRuntime) -> Result<(), Fail> {
     let table = read_table(rt.alloc(), TABLE)?;
     for (text, act) in ACTS {
-        let lines = read_script(rt.alloc(), &table, text)?;
-        assert_act(&rt, lines.as_slice(), text, act);
+        let stands = stands_for(rt.alloc(), &table, text, act)?;
+        assert!(rt; stands, "{text}");
     }
     Ok(())
 }
 
-/// A script in which `;` stands for the end of a line has a bad line.
-fn expect_bad_line<H: AllocGlobal + Abort>(
-    rt: &H,
-    table: &Table,
-    script: &str,
-    line: usize,
-) -> Result<(), Fail> {
-    let text = with_lines(rt.alloc(), script)?;
-    let refused = read_script(rt.alloc(), table, text.as_str()).err();
-    assert_eq!(rt; refused, Some(ScriptError::BadScript(line)), "{script}");
-    Ok(())
+/// Whether a script in which `;` stands for the end of a line has its first bad line there.
+fn is_bad_at(alloc: Global, table: &Table, script: &str, line: usize) -> Result<bool, Fail> {
+    let text = with_lines(alloc, script)?;
+    let refused = read_script(alloc, table, text.as_str()).err();
+    Ok(refused == Some(ScriptError::BadScript(line)))
 }
 
 #[test]
 fn tells_the_first_bad_line(rt: HostRuntime) -> Result<(), Fail> {
     let table = read_table(rt.alloc(), TABLE)?;
     for (script, line) in BAD_LINES {
-        expect_bad_line(&rt, &table, script, line)?;
+        let is_bad = is_bad_at(rt.alloc(), &table, script, line)?;
+        assert!(rt; is_bad, "{script}");
     }
     Ok(())
 }
@@ -226,21 +223,15 @@ fn with_lines(alloc: Global, script: &str) -> Result<String, AllocError> {
     script.replace(alloc, ";", "\n")
 }
 
-/// Runs a script over a table, and compares what it prints.
-fn expect_run<H: AllocGlobal + Abort>(
-    rt: &H,
-    table: &Table,
-    plan: &Plan,
-    run: &(&str, &str),
-) -> Result<(), Fail>
+/// Whether a script over a table prints what it is to.
+fn prints(alloc: Global, table: &Table, plan: &Plan, run: &(&str, &str)) -> Result<bool, Fail>
     requires accepted { compile_fault table.now ≡ None }
     requires plan { plan.now ≡ plan_of table.now }
 {
-    let script = with_lines(rt.alloc(), run.0)?;
-    let wanted = with_lines(rt.alloc(), run.1)?;
-    let printed = printed(rt.alloc(), table, plan, script.as_str())?;
-    assert_eq!(rt; printed.as_str(), wanted.as_str());
-    Ok(())
+    let script = with_lines(alloc, run.0)?;
+    let wanted = with_lines(alloc, run.1)?;
+    let printed = printed(alloc, table, plan, script.as_str())?;
+    Ok(printed.as_str() == wanted.as_str())
 }
 
 /// Scripts over a table, each with what it prints.
@@ -252,7 +243,8 @@ fn expect_runs<H: AllocGlobal + Abort>(
     let table = read_table(rt.alloc(), table)?;
     let plan = compile(rt.alloc(), &table)?;
     for run in runs {
-        expect_run(rt, &table, &plan, run)?;
+        let prints = prints(rt.alloc(), &table, &plan, run)?;
+        assert!(rt; prints, "{}", run.0);
     }
     Ok(())
 }
