@@ -1,5 +1,5 @@
 //! Cycles over memory, of which each call is a fault in turn.
-use crate::tests::machines::{THREE_SLAVES, brought_up, full_table, plan_of, set, value_of};
+use crate::tests::machines::{THREE_SLAVES, brought_up, full_table, plan_of, set, there, value_of};
 use ec_cycle::{CycleError, Master};
 use ec_ring::Ring;
 use ec_wire::{MemoryWire, RunError, Wire, run_cycle};
@@ -93,7 +93,7 @@ fn expect_faults(
 ) -> Result<(), Fail> {
     let plan = plan_of(rt.alloc(), text)?;
     let mut master = Master::new(rt.alloc(), &plan)?;
-    let mut ring = brought_up(rt.alloc(), &plan, &mut master)?;
+    let mut ring = there(brought_up(rt.alloc(), &plan, &mut master))?;
     assert_eq!(rt; master.parts(), usize::from(parts));
     for call in 0..2 * u32::from(parts) {
         ring = expect_fault(rt, &mut master, ring, mirror, parts, call)?;
@@ -145,7 +145,7 @@ fn error_of(alloc: Global, is_up: bool) -> Result<Option<RunError>, Fail> {
     let plan = plan_of(alloc, THREE_SLAVES)?;
     let mut master = Master::new(alloc, &plan)?;
     if is_up {
-        brought_up(alloc, &plan, &mut master)?;
+        there(brought_up(alloc, &plan, &mut master))?;
     }
     Ok(run_cycle(&mut master, &mut Spent).err())
 }

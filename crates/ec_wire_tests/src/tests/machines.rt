@@ -1,15 +1,14 @@
 //! Machines to run: their tables, plans, slaves and start-ups.
-ghost use Rattle.std.specs.Prelude.{IfOk};
+ghost use Rattle.std.specs.Prelude.{IfOk, IfSome};
 ghost use Rattle.ec_link.specs.Usable.{IsUsable};
 
 use ec_cycle::Master;
 use ec_link::{Plan, compile};
-use ec_regs::Identity;
 use ec_ring::Ring;
 use ec_slave::Slave;
 use ec_start::{Phase, Startup};
 use ec_table::read_table;
-use ec_wire::{MemoryWire, bring_up_wire};
+use ec_wire::{MemoryWire, Wire, bring_up_wire};
 use std::alloc::{AllocError, Global};
 use std::test::Fail;
 
@@ -52,54 +51,76 @@ txpdo = [ {{ index = 0x1A00, entries = [{entries}] }} ]
     Ok(text)
 }
 
+/// The plan of a table; none where it has a fault.
+fn compiled(alloc: Global, text: &str) -> Option<Plan>
+    ensures { IfSome result IsUsable }
+{
+    let Ok(table) = read_table(alloc, text) else {
+        return None;
+    };
+    let Ok(plan) = compile(alloc, &table) else {
+        return None;
+    };
+    Some(plan)
+}
+
 /// The plan of a table.
 pub fn plan_of(alloc: Global, text: &str) -> Result<Plan, Fail>
     ensures { IfOk result IsUsable }
 {
-    let table = read_table(alloc, text)?;
-    Ok(compile(alloc, &table)?)
+    match compiled(alloc, text) {
+        Some(plan) => Ok(plan),
+        None => Err("a table without a plan".into()),
+    }
+}
+
+/// What must be there.
+pub fn there<T: Drop>(value: Option<T>) -> Result<T, Fail> {
+    match value {
+        Some(value) => Ok(value),
+        None => Err("a machine that can't be had".into()),
+    }
 }
 
 /// The slaves of a plan as they are switched on.
-pub fn ring_of(alloc: Global, plan: &Plan) -> Result<Ring, Fail> {
+pub fn ring_of(alloc: Global, plan: &Plan) -> Result<Ring, AllocError> {
     let mut slaves = Vec::new(alloc);
     for settings in plan.slaves() {
-        let device = settings.kind.device();
-        let identity = Identity {
-            vendor: device.vendor,
-            product: device.product,
-            revision: device.revision,
-            serial: 0,
-        };
+        let identity = settings.kind.device().identity(0);
         slaves.push(Slave::new(alloc, settings.kind.copied(alloc)?, identity)?)?;
     }
     Ok(Ring::new(slaves))
 }
 
 /// A start-up of a plan.
-pub fn startup_of(alloc: Global, plan: &Plan) -> Result<Startup, Fail> {
-    if !Startup::can_start(plan) {
-        return Err("a plan that can't be started".into());
+pub fn startup_of(alloc: Global, plan: &Plan) -> Option<Startup> {
+    if Startup::can_start(plan) {
+        Startup::new(alloc, plan, 0).ok()
+    } else {
+        None
     }
-    Ok(Startup::new(alloc, plan, 0)?)
 }
 
-/// A master is ready once a start-up is.
-pub fn make_ready(master: &mut Master<'_>, startup: &Startup) -> Result<(), Fail> {
+/// Brings the slaves up over a wire. Whether they have come up, and the master is ready.
+pub fn are_up<W: Wire>(startup: &mut Startup, wire: &mut W, master: &mut Master<'_>) -> bool {
+    bring_up_wire(startup, wire);
     match startup.phase() {
         Phase::Ready => master.ready(startup),
-        _ => return Err("the start-up failed".into()),
+        _ => return false,
     }
-    Ok(())
+    true
 }
 
 /// Brings the slaves of a plan up over memory, and makes the master ready.
-pub fn brought_up(alloc: Global, plan: &Plan, master: &mut Master<'_>) -> Result<Ring, Fail> {
+pub fn brought_up(alloc: Global, plan: &Plan, master: &mut Master<'_>) -> Option<Ring> {
     let mut startup = startup_of(alloc, plan)?;
-    let mut wire = MemoryWire::new(alloc, ring_of(alloc, plan)?, 3000, u64::MAX)?;
-    bring_up_wire(&mut startup, &mut wire);
-    make_ready(master, &startup)?;
-    Ok(wire.into_ring())
+    let ring = ring_of(alloc, plan).ok()?;
+    let mut wire = MemoryWire::new(alloc, ring, 3000, u64::MAX).ok()?;
+    if are_up(&mut startup, &mut wire, master) {
+        Some(wire.into_ring())
+    } else {
+        None
+    }
 }
 
 /// Sets an output variable, where it holds the value.

@@ -1,13 +1,13 @@
 //! Segments and loops over the system's sockets.
-use crate::tests::machines::{
-    THREE_SLAVES, make_ready, plan_of, ring_of, set, startup_of, value_of,
-};
+ghost use Rattle.ec_link.specs.Usable.{IsUsable};
+
+use crate::tests::machines::{THREE_SLAVES, are_up, plan_of, ring_of, set, startup_of, value_of};
 use ec_cycle::Master;
-use ec_link::Predicted;
+use ec_link::{Plan, Predicted};
 use ec_ring::Ring;
+use ec_start::Startup;
 use ec_wire::{
-    Echo, LoopWire, Served, SocketFault, Sockets, UdpWire, Wire, bring_up_wire, run_cycle,
-    serve_segment,
+    Echo, LoopWire, Served, SocketFault, Sockets, UdpWire, Wire, run_cycle, serve_segment,
 };
 use std::alloc::Global;
 use std::net::{Ipv4Addr, Net, SocketAddr, UdpSocket};
@@ -27,7 +27,7 @@ fn here(port: u16) -> SocketAddr {
 /// Three slaves as they are switched on.
 fn three_slaves(alloc: Global) -> Result<Ring, Fail> {
     let plan = plan_of(alloc, THREE_SLAVES)?;
-    ring_of(alloc, &plan)
+    Ok(ring_of(alloc, &plan)?)
 }
 
 /// Sends payloads to a segment.
@@ -46,31 +46,55 @@ fn answer_to(alloc: Global, client: &UdpSocket) -> Result<(String, SocketAddr), 
     Ok((hex::encode(alloc, answer)?, sender))
 }
 
+/// A segment's wire, and a client of it.
+#[derive(Drop)]
+struct Ends {
+    wire: UdpWire,
+    client: UdpSocket,
+}
+
+/// Both on ports that the system picks.
+fn open_ends<R: Net>(rt: &R) -> Result<Ends, Fail> {
+    Ok(Ends {
+        wire: UdpWire::bind(rt, 0)?,
+        client: UdpSocket::bind(rt, here(0))?,
+    })
+}
+
+/// Serves three slaves to a client that sends bytes that are no frame, and then a broadcast. How many payloads were answered
+/// and how many not.
+fn serve_both(alloc: Global, ends: &mut Ends) -> Result<Served, Fail> {
+    let sent = hex::decode(alloc, READ)?;
+    let mut ring = three_slaves(alloc)?;
+    send_all(&ends.client, &ends.wire, &[&[1, 2, 3], &sent])?;
+    Ok(serve_segment(&mut ring, &mut Echo, &mut ends.wire, 2)?)
+}
+
 // A frame is answered to whoever sent it, and another payload is counted.
 #[test]
 fn segment_answers_frames(rt: HostRuntime) -> Result<(), Fail> {
-    let sent = hex::decode(rt.alloc(), READ)?;
-    let mut ring = three_slaves(rt.alloc())?;
-    let mut wire = UdpWire::bind(&rt, 0)?;
-    let client = UdpSocket::bind(&rt, here(0))?;
-    send_all(&client, &wire, &[&[1, 2, 3], &sent])?;
-    let served = serve_segment(&mut ring, &mut Echo, &mut wire, 2)?;
-    assert_eq!(rt; (served.answered, served.refused), (1, 1));
-    let (answer, sender) = answer_to(rt.alloc(), &client)?;
-    assert_eq!(rt; (answer.as_str(), sender), (ANSWER, here(wire.port())));
+    let mut ends = open_ends(&rt)?;
+    let served = serve_both(rt.alloc(), &mut ends)?;
+    let (answer, sender) = answer_to(rt.alloc(), &ends.client)?;
+    assert_eq!(rt;
+        (served.answered, served.refused, answer.as_str(), sender),
+        (1, 1, ANSWER, here(ends.wire.port()))
+    );
     Ok(())
 }
 
-/// Serves a client that sends three frames and is gone before they are answered.
+/// A client sends three frames and is gone before they are answered.
+fn send_and_go<R: Net>(rt: &R, wire: &UdpWire, sent: &[u8]) -> Result<(), Fail> {
+    let client = UdpSocket::bind(rt, here(0))?;
+    send_all(&client, wire, &[sent, sent, sent])
+}
+
+/// Serves a client that is gone.
 fn serve_silent<R: Net + AllocGlobal>(rt: &R) -> Result<(Served, u64), Fail> {
     let sent = hex::decode(rt.alloc(), READ)?;
     let mut ring = three_slaves(rt.alloc())?;
     let mut wire = UdpWire::bind(rt, 0)?;
-    send_all(
-        &UdpSocket::bind(rt, here(0))?,
-        &wire,
-        &[&sent, &sent, &sent],
-    )?;
+    send_and_go(rt, &wire, &sent)?;
     let served = serve_segment(&mut ring, &mut Echo, &mut wire, 3)?;
     Ok((served, wire.failures()))
 }
@@ -94,11 +118,12 @@ fn port_in_use(rt: HostRuntime) -> Result<(), Fail> {
     Ok(())
 }
 
-/// A segment's socket and a master's.
+/// A segment's socket, a master's, and one of a stranger to both.
 #[derive(Drop)]
 struct Pair {
     segment: UdpWire,
     master: UdpWire,
+    stranger: UdpSocket,
     buffer: [u8; 1600],
 }
 
@@ -109,6 +134,12 @@ enum Call {
     MasterReceives,
     SegmentSends(usize),
     SegmentReceives,
+    StrangerSends(usize),
+}
+
+/// The stranger sends the master a payload.
+fn disturb(pair: &Pair, payload: &[u8]) {
+    let _ = pair.stranger.send_to(payload, here(pair.master.port()));
 }
 
 /// Makes a call, and answers how many bytes were received, and the faults of the master and of the segment so far.
@@ -120,11 +151,13 @@ fn make_call(pair: &mut Pair, call: Call) -> (usize, u64, u64) {
         Call::MasterReceives => count = pair.master.recv(&mut pair.buffer),
         Call::SegmentSends(len) => pair.segment.send(&payload[..len.min(1600)]),
         Call::SegmentReceives => count = pair.segment.recv(&mut pair.buffer),
+        Call::StrangerSends(len) => disturb(pair, &payload[..len.min(1600)]),
     }
     (count, pair.master.failures(), pair.segment.failures())
 }
 
-// What is too long to send is a fault, and so is a send to nobody and a receive that waits too long.
+// What is too long to send is a fault, and so is a send to nobody and a receive that waits too long. A master receives
+// what its segment sends, and nothing else.
 #[test]
 fn calls_of_sockets(rt: HostRuntime) -> Result<(), Fail> {
     let segment = UdpWire::bind(&rt, 0)?;
@@ -132,6 +165,7 @@ fn calls_of_sockets(rt: HostRuntime) -> Result<(), Fail> {
     let mut pair = Pair {
         segment,
         master,
+        stranger: UdpSocket::bind(&rt, here(0))?,
         buffer: [0; 1600],
     };
     let rows = [
@@ -140,6 +174,7 @@ fn calls_of_sockets(rt: HostRuntime) -> Result<(), Fail> {
         (Call::MasterReceives, (0, 2, 1)),
         (Call::MasterSends(1472), (0, 2, 1)),
         (Call::SegmentReceives, (1472, 2, 1)),
+        (Call::StrangerSends(5), (0, 2, 1)),
         (Call::SegmentSends(0), (0, 2, 1)),
         (Call::SegmentSends(3), (0, 2, 1)),
         (Call::MasterReceives, (0, 2, 1)),
@@ -175,20 +210,36 @@ fn run_taken<W: Wire>(master: &mut Master<'_>, wire: &mut W, number: u64) -> boo
     }
 }
 
+/// A wire over two sockets to the slaves of a plan.
+fn loop_to<R: Net>(rt: &R, alloc: Global, plan: &Plan) -> Option<LoopWire<Echo>> {
+    let ring = ring_of(alloc, plan).ok()?;
+    let sockets = Sockets::bind(rt).ok()?;
+    Some(LoopWire::new(sockets, ring, Echo))
+}
+
+/// Brings the slaves up over a wire, and runs two cycles that send 1 and 2. Whether all went well.
+fn run_two<W: Wire>(startup: &mut Startup, master: &mut Master<'_>, wire: &mut W) -> bool {
+    are_up(startup, wire, master) && run_taken(master, wire, 1) && run_taken(master, wire, 2)
+}
+
+/// Whether two cycles of a plan went well over sockets, what the third and the fourth variable show then, and the wire's
+/// faults.
+fn seen_over_sockets<R: Net>(rt: &R, alloc: Global, plan: &Plan) -> Option<(bool, u64, u64, u64)>
+    requires { IsUsable plan.now }
+{
+    let mut startup = startup_of(alloc, plan)?;
+    let mut master = Master::new(alloc, plan).ok()?;
+    let mut wire = loop_to(rt, alloc, plan)?;
+    let is_well = run_two(&mut startup, &mut master, &mut wire);
+    let (c, d) = (value_of(&master, 2), value_of(&master, 3));
+    Some((is_well, c, d, wire.failures()))
+}
+
 // Two cycles of three slaves that show their outputs; slave 1 has none to show.
 #[test]
 fn loop_of_three_slaves(rt: HostRuntime) -> Result<(), Fail> {
     let plan = plan_of(rt.alloc(), THREE_SLAVES)?;
-    let mut startup = startup_of(rt.alloc(), &plan)?;
-    let mut master = Master::new(rt.alloc(), &plan)?;
-    let ring = ring_of(rt.alloc(), &plan)?;
-    let mut wire = LoopWire::new(Sockets::bind(&rt)?, ring, Echo);
-    bring_up_wire(&mut startup, &mut wire);
-    make_ready(&mut master, &startup)?;
-    for number in 1..3 {
-        assert!(rt; run_taken(&mut master, &mut wire, number), "cycle {number}");
-    }
-    assert_eq!(rt; (value_of(&master, 2), value_of(&master, 3)), (0, 1));
-    assert_eq!(rt; wire.failures(), 0);
+    let seen = seen_over_sockets(&rt, rt.alloc(), &plan);
+    assert_eq!(rt; seen, Some((true, 0, 1, 0)));
     Ok(())
 }

@@ -1,5 +1,5 @@
 //! Start-ups over wires.
-use crate::tests::machines::{THREE_SLAVES, plan_of, ring_of, startup_of};
+use crate::tests::machines::{THREE_SLAVES, plan_of, ring_of, startup_of, there};
 use ec_start::{StartError, Startup};
 use ec_wire::{MemoryWire, Wire, bring_up_wire};
 use std::alloc::Global;
@@ -17,7 +17,7 @@ fn run<W: Wire>(startup: &mut Startup, wire: &mut W) -> Ended {
 /// How a start-up of the three slaves over memory ends whose call of this number is a fault.
 fn ended_by(alloc: Global, call: u64) -> Result<Ended, Fail> {
     let plan = plan_of(alloc, THREE_SLAVES)?;
-    let mut startup = startup_of(alloc, &plan)?;
+    let mut startup = there(startup_of(alloc, &plan))?;
     let mut wire = MemoryWire::new(alloc, ring_of(alloc, &plan)?, 75, call)?;
     Ok(run(&mut startup, &mut wire))
 }
@@ -68,7 +68,7 @@ impl Wire for Strange {
 #[test]
 fn strange_payloads_end_it(rt: HostRuntime) -> Result<(), Fail> {
     let plan = plan_of(rt.alloc(), THREE_SLAVES)?;
-    let mut startup = startup_of(rt.alloc(), &plan)?;
+    let mut startup = there(startup_of(rt.alloc(), &plan))?;
     let mut wire = Strange { received: 0 };
     assert_eq!(rt;
         run(&mut startup, &mut wire),
