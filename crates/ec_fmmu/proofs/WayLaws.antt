@@ -1,6 +1,6 @@
 -- Of the way of one FMMU: which bytes its pairs touch.
 use Rattle.std.proofs.Common.{ℕ, ◌+◌, ◌-◌, ◌*◌, ◌/◌, ◌%◌, ◌<◌, ◌≤◌, ◌≡◌, ◌==◌, List, [], length, get_or, Bool, true, false, Option, Some, None, is_some, refl, sym, ◌∙◌, ap, subst, inl, inr, arith}
-use Rattle.std.proofs.lemmas.Bool.{cases_Bool, cases_eq, both_ways, eq-eqb, eqb-true}
+use Rattle.std.proofs.lemmas.Bool.{cases_Bool, cases_eq, cases_lt, both_ways, eq-eqb, eqb-true}
 use Rattle.ec_bits.specs.Bits.{within, any_below}
 use Rattle.ec_bits.proofs.AnyLaws.{if_true, if_false, any_below_from, any_below_none, any_below_some, within_true, within_parts}
 use Rattle.ec_regs.specs.declared.fmmu.FmmuSettings.{FmmuSettings}
@@ -12,7 +12,7 @@ use Rattle.ec_fmmu.specs.Alone.{run_mapped, run_unmapped}
 use Rattle.ec_fmmu.specs.Applied.{Place, leads_into, inside_place, data_bit_for, touched_by_reading, touched_by_writing}
 use Rattle.ec_fmmu.specs.Pairs.{Pair, mapped, unmapped}
 use Rattle.ec_fmmu.specs.Sets.{target, source, readers, writers}
-use Rattle.ec_fmmu.specs.Ways.{IsReadRun, IsWriteRun, IsReadWay, IsWriteWay, IsWayInRam, is_shared, run_touches, way_touches}
+use Rattle.ec_fmmu.specs.Ways.{IsReadRun, IsWriteRun, IsReadWay, IsWriteWay, IsWayInRam, is_closed, is_shared, run_touches, way_touches}
 use Rattle.ec_fmmu.proofs.PairLaws.{none_or_some, none_is_not_some, pair_from_mapped, pair_from_unmapped, mapped_from_pair, unmapped_from_pair, pair_reaches, pair_reaches_physical}
 use Rattle.ec_fmmu.proofs.RangeLaws.{reading_pair}
 use Rattle.ec_fmmu.proofs.AloneLaws.{alone_target}
@@ -75,6 +75,17 @@ pub write_way_inside : (fs : List FmmuSettings) (k : ℕ) (w : Way) → IsWriteW
 write_way_inside fs k Closed h = tt
 write_way_inside fs k (Alone r) h = h.inside
 write_way_inside fs k Shared h = tt
+
+-- an FMMU whose way is closed doesn't go there
+pub closed_reads : (fs : List FmmuSettings) (k : ℕ) (w : Way) → IsReadWay fs k w → is_closed w ≡ true → (get_or fs k no_fmmu).reads ≡ false
+closed_reads fs k Closed h e = h
+closed_reads fs k (Alone r) h e = absurd (both_ways false refl e)
+closed_reads fs k Shared h e = absurd (both_ways false refl e)
+
+pub closed_writes : (fs : List FmmuSettings) (k : ℕ) (w : Way) → IsWriteWay fs k w → is_closed w ≡ true → (get_or fs k no_fmmu).writes ≡ false
+closed_writes fs k Closed h e = h
+closed_writes fs k (Alone r) h e = absurd (both_ways false refl e)
+closed_writes fs k Shared h e = absurd (both_ways false refl e)
 
 -- no pair of FMMU k that reads leads a data bit into a byte
 abbrev pub ReadsNothing : List FmmuSettings → Place → ℕ → ℕ → Type 0
@@ -180,17 +191,20 @@ into_bit : (o : Option ℕ) (a : ℕ) → leads_into o a ≡ true → (q : ℕ) 
 into_bit None a h = absurd (both_ways false refl h)
 into_bit (Some q) a h = (q, refl, eqb-true (q / 8) a h)
 
-pub untouched_by_reading : (fs : List FmmuSettings) (p : Place) (a n : ℕ) → length fs ≤ n → ((k : ℕ) → k < n → ReadsNothing fs p a k) → touched_by_reading fs p a ≡ false
+pub untouched_by_reading : (fs : List FmmuSettings) (p : Place) (a n : ℕ) → ((k : ℕ) → n ≤ k → (get_or fs k no_fmmu).reads ≡ false) → ((k : ℕ) → k < n → ReadsNothing fs p a k) → touched_by_reading fs p a ≡ false
 untouched_by_reading fs p a n e h = any_below_none p.bits (λ i. leads_into (target (readers fs) (p.from + i)) a) (λ i l. elim (cases_Bool (leads_into (target (readers fs) (p.from + i)) a)) [
   | inl t ↦
       let r = into_bit (target (readers fs) (p.from + i)) a t in
       let s = reading_pair fs (p.from + i) r.0 r.1 in
-      let b : s.0 < n = let c = s.1 in omega arith in
+      let b : s.0 < n = elim (cases_lt s.0 n) [
+        | inl x ↦ x
+        | inr x ↦ absurd (both_ways (get_or fs s.0 no_fmmu).reads (e s.0 x) s.2)
+      ] in
       absurd (h s.0 b s.2 (p.from + i) r.0 s.3 (within_true p.from p.bits (p.from + i) (omega arith) (omega arith)) r.2)
   | inr f ↦ f
 ])
 
-pub untouched_by_writing : (fs : List FmmuSettings) (p : Place) (a n : ℕ) → length fs ≤ n → ((k : ℕ) → k < n → WritesNothing fs p a k) → touched_by_writing fs p a ≡ false
+pub untouched_by_writing : (fs : List FmmuSettings) (p : Place) (a n : ℕ) → ((k : ℕ) → n ≤ k → (get_or fs k no_fmmu).writes ≡ false) → ((k : ℕ) → k < n → WritesNothing fs p a k) → touched_by_writing fs p a ≡ false
 untouched_by_writing fs p a n e h = any_below_none 8 (λ j. is_some (data_bit_for fs p (8 * a + j))) (λ j few.
     let q : ℕ = 8 * a + j in
     let at : q / 8 ≡ a = omega arith in
@@ -199,7 +213,10 @@ untouched_by_writing fs p a n e h = any_below_none 8 (λ j. is_some (data_bit_fo
       | inr s ↦ ap (λ (o : Option ℕ). is_some (inside_place p o)) s.1 ∙ (elim (cases_Bool (within p.from p.bits s.0)) [
         | inl t ↦
             let r = writing_pair [] fs s.0 q s.1 in
-            let b : r.0 < n = let c = r.1 in omega arith in
+            let b : r.0 < n = elim (cases_lt r.0 n) [
+              | inl x ↦ x
+              | inr x ↦ absurd (both_ways (get_or fs r.0 no_fmmu).writes (e r.0 x) r.2)
+            ] in
             absurd (h r.0 b r.2 s.0 q r.3 t at)
         | inr f ↦ ap is_some (if_false (within p.from p.bits s.0) (Some (s.0 - p.from)) None f)
       ])

@@ -66,3 +66,12 @@ abbrev pub is_shared : Way → Bool
 is_shared Closed = false
 is_shared (Alone r) = false
 is_shared Shared = true
+
+abbrev pub is_closed : Way → Bool
+is_closed Closed = true
+is_closed (Alone r) = false
+is_closed Shared = false
+
+-- no way from this place on is open
+abbrev pub AreClosedFrom : ℕ → List Way → Type 0
+AreClosedFrom end ways = (k : ℕ) → end ≤ k → is_closed (get_or ways k Closed) ≡ true

@@ -47,6 +47,7 @@ pub trait ReadableRuns: ReadableBits {
 
 /// Brings what a run of bits shows to the data, bit by bit: a body for
 /// [`ReadableRuns::show_run`].
+#[inline(never)]
 pub fn show_by_bits<M: ReadableBits>(
     memory: &M,
     physical: u32,
@@ -136,6 +137,7 @@ fn read_fmmu<M: ReadableRuns>(
 }
 
 /// Reads the data bits that lie in the range of one FMMU, if it reads.
+#[inline(never)]
 fn read_range<M: ReadableBits>(
     fmmus: &[Fmmu],
     range: &Fmmu,
@@ -181,7 +183,7 @@ pub fn apply_read<M: ReadableRuns>(
     ensures bits { bytes.new ≡ overlay bytes.old (read_told table.now (M.shown memory.now) from) }
 {
     let mut any = false;
-    for place in 0..table.len() {
+    for place in 0..table.read_end() {
         any |= read_fmmu(table, place, memory, from, bytes);
     }
     any

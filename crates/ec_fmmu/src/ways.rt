@@ -1,9 +1,9 @@
 //! How datagrams go through each FMMU of a slave, found once for all of them.
 
-ghost use Rattle.std.specs.Prelude.{◌≡◌, ◌<◌, ◌+◌, ◌^◌, length};
+ghost use Rattle.std.specs.Prelude.{◌≡◌, ◌<◌, ◌≤◌, length};
 ghost use Rattle.std.specs.Bool.{OnTrue};
 ghost use Rattle.ec_fmmu.specs.Alone.{IsAlone, IsAloneWriting};
-ghost use Rattle.ec_fmmu.specs.Ways.{AreReadWays, AreWriteWays, IsReadWay, IsWriteWay, is_shared as is_shared_way};
+ghost use Rattle.ec_fmmu.specs.Ways.{AreClosedFrom, AreReadWays, AreWriteWays, IsReadWay, IsWriteWay, is_closed as is_closed_way, is_shared as is_shared_way};
 
 use crate::mapping::Fmmu;
 use crate::run::Run;
@@ -27,6 +27,16 @@ impl Way {
         match self {
             Way::Closed | Way::Alone(_) => false,
             Way::Shared => true,
+        }
+    }
+
+    /// Whether it is closed.
+    fn is_closed(&self) -> bool
+        ensures { result ≡ is_closed_way self.now }
+    {
+        match self {
+            Way::Closed => true,
+            Way::Alone(_) | Way::Shared => false,
         }
     }
 }
@@ -115,4 +125,18 @@ pub(crate) fn write_ways(fmmus: &[Fmmu; 4]) -> [Way; 4]
         write_way(fmmus, 2),
         write_way(fmmus, 3),
     ]
+}
+
+/// The place behind the last of four ways that is open.
+pub(crate) fn end_of_open(ways: &[Way; 4]) -> usize
+    ensures inside { result ≤ 4 }
+    ensures closed { AreClosedFrom result ways.now }
+{
+    let mut end = 0;
+    for k in 0..4 {
+        if !ways[k].is_closed() {
+            end = k + 1;
+        }
+    }
+    end
 }

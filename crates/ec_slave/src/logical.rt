@@ -73,6 +73,7 @@ impl Slave {
     }
 
     /// The same, with a copy of its own.
+    #[inline(never)]
     fn read_write_copied_bits(&mut self, from: u64, bytes: &mut [u8]) -> u16
         requires small { from + 8 * length bytes.old < 2 ^ 64 }
         requires few { length bytes.old < 2048 }

@@ -84,6 +84,7 @@ impl Slave {
     }
 
     /// The same, byte by byte.
+    #[inline(never)]
     fn read_part_each(
         &self,
         owner: Option<usize>,
@@ -237,6 +238,7 @@ impl Slave {
     }
 
     /// The same, with a copy of its own.
+    #[inline(never)]
     fn read_write_copied_bytes(&mut self, joining: bool, from: usize, bytes: &mut [u8]) -> u16
         requires small { from + length bytes.old < 2 ^ 32 }
         requires few { length bytes.old < 2048 }

@@ -115,6 +115,7 @@ impl Bits<'_> {
     }
 
     /// Fills a value that begins at `start` with zeros, and then with what is brought.
+    #[inline(never)]
     fn bring_parts(&self, start: usize, value: &mut [u8])
         requires { start + length value.old ≤ ram_end }
         ensures { value.new ≡ value_brought self.now.lower.now self.now.fmmus.now

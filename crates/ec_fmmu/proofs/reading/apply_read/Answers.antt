@@ -51,7 +51,7 @@ returns-clause-bits g c =
     telling_end c.args.bytes.now (read_told fs shown from) (λ i. passed n fs (λ f. reads_to f (from + i)) ≡ true) c.loop-place.bytes c.loop-place.invariant.bits
     (λ i l. elim (cases_Bool (passed n fs (λ f. reads_to f (from + i)))) [
       | inl t ↦ inr t
-      | inr f ↦ inl (nothing_read fs shown from i n (omega arith) f)
+      | inr f ↦ inl (nothing_read fs shown from i n (λ j l. c.read_end-place-end.ensures.behind j (omega (arith, l))) f)
     ])
 
 pub returns-clause-any : goal.returns-clause-any
@@ -63,5 +63,5 @@ returns-clause-any g c =
     counted_end (read_told fs shown from) (8 * length c.args.bytes.now) (λ i. passed n fs (λ f. reads_to f (from + i)) ≡ true) (c.loop-place.any) c.loop-place.invariant.any
     (λ i l. elim (cases_Bool (passed n fs (λ f. reads_to f (from + i)))) [
       | inl t ↦ inr t
-      | inr f ↦ inl (nothing_read fs shown from i n (omega arith) f)
+      | inr f ↦ inl (nothing_read fs shown from i n (λ j l. c.read_end-place-end.ensures.behind j (omega (arith, l))) f)
     ])
