@@ -1,7 +1,7 @@
 -- Of the way of one FMMU: which bytes its pairs touch.
-use Rattle.std.proofs.Common.{ℕ, ◌+◌, ◌-◌, ◌*◌, ◌/◌, ◌%◌, ◌<◌, ◌≤◌, ◌≡◌, ◌==◌, List, [], length, get_or, Bool, true, false, Option, Some, None, is_some, refl, sym, ◌∙◌, ap, subst, inl, inr, arith}
+use Rattle.std.proofs.Common.{ℕ, ◌+◌, ◌-◌, ◌*◌, ◌/◌, ◌%◌, ◌<◌, ◌≤◌, ◌≡◌, ◌==◌, List, [], length, get_or, true, false, Option, Some, None, is_some, refl, sym, ◌∙◌, ap, subst, inl, inr, arith}
 use Rattle.std.proofs.lemmas.Bool.{cases_Bool, cases_eq, cases_lt, both_ways, eq-eqb, eqb-true}
-use Rattle.ec_bits.specs.Bits.{within, any_below}
+use Rattle.ec_bits.specs.Bits.{within}
 use Rattle.ec_bits.proofs.AnyLaws.{if_true, if_false, any_below_from, any_below_none, any_below_some, within_true, within_parts}
 use Rattle.ec_regs.specs.declared.fmmu.FmmuSettings.{FmmuSettings}
 use Rattle.ec_regs.specs.Fmmus.{no_fmmu}
@@ -12,7 +12,7 @@ use Rattle.ec_fmmu.specs.Alone.{run_mapped, run_unmapped}
 use Rattle.ec_fmmu.specs.Applied.{Place, leads_into, inside_place, data_bit_for, touched_by_reading, touched_by_writing}
 use Rattle.ec_fmmu.specs.Pairs.{Pair, mapped, unmapped}
 use Rattle.ec_fmmu.specs.Sets.{target, source, readers, writers}
-use Rattle.ec_fmmu.specs.Ways.{IsReadRun, IsWriteRun, IsReadWay, IsWriteWay, IsWayInRam, is_closed, is_shared, run_touches, way_touches}
+use Rattle.ec_fmmu.specs.Ways.{IsReadWay, IsWriteWay, IsWayInRam, is_closed, is_shared, run_touches, way_touches}
 use Rattle.ec_fmmu.proofs.PairLaws.{none_or_some, none_is_not_some, pair_from_mapped, pair_from_unmapped, mapped_from_pair, unmapped_from_pair, pair_reaches, pair_reaches_physical}
 use Rattle.ec_fmmu.proofs.RangeLaws.{reading_pair}
 use Rattle.ec_fmmu.proofs.AloneLaws.{alone_target}

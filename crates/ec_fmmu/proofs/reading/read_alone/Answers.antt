@@ -1,4 +1,4 @@
-use Rattle.std.proofs.Common.{ℕ, ap, ◌+◌, ◌-◌, ◌*◌, ◌<◌, ◌≡◌, ◌∙◌, sym, arith, Option, Bool, None, option_and_then, length, unwrap_or, is_some, max, min}
+use Rattle.std.proofs.Common.{ℕ, ap, ◌+◌, ◌-◌, ◌*◌, ◌<◌, ◌≡◌, ◌∙◌, sym, Option, Bool, None, option_and_then, length, unwrap_or, is_some, max, min}
 use Rattle.ec_bits.specs.Bits.{bit}
 use Rattle.ec_bits.proofs.BitLaws.{overlay_own, overlay_alike}
 use Rattle.ec_bits.proofs.AnyLaws.{any_below_none, any_below-alike}

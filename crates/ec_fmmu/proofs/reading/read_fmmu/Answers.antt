@@ -1,9 +1,7 @@
-use Rattle.std.proofs.Common.{ℕ, ap, ◌+◌, ◌*◌, ◌<◌, ◌≡◌, ◌∙◌, sym, subst, arith, Option, Bool, None, option_and_then, length, get_or, unwrap_or, is_some}
-use Rattle.std.proofs.lemmas.List.{get_or_default}
-use Rattle.ec_bits.specs.Bits.{bit, overlay, any_below}
+use Rattle.std.proofs.Common.{ℕ, ap, ◌+◌, ◌*◌, ◌≡◌, ◌∙◌, sym, Option, Bool, None, option_and_then, length, get_or, unwrap_or, is_some}
+use Rattle.ec_bits.specs.Bits.{bit}
 use Rattle.ec_bits.proofs.BitLaws.{overlay_own, overlay_alike}
 use Rattle.ec_bits.proofs.AnyLaws.{if_false, any_below_none, any_below-alike}
-use Rattle.ec_regs.specs.declared.fmmu.FmmuSettings.{FmmuSettings}
 use Rattle.ec_regs.specs.Fmmus.{no_fmmu}
 use Rattle.ec_fmmu.specs.Alone.{run_mapped}
 use Rattle.ec_fmmu.specs.Ranges.{range_read_told}

@@ -1,4 +1,4 @@
-use Rattle.std.proofs.Common.{ℕ, ap, ◌+◌, ◌-◌, ◌<◌, ◌≤◌, ◌≡◌, ◌∙◌, arith, Option, Some}
+use Rattle.std.proofs.Common.{ℕ, ap, ◌+◌, ◌-◌, ◌≡◌, ◌∙◌, arith, Some}
 use Rattle.std.proofs.lemmas.Option.{IfSome_then}
 use Rattle.ec_bits.proofs.AnyLaws.{within_parts}
 use Rattle.ec_fmmu.proofs.AloneWriting.{alone_wholly}

@@ -1,4 +1,4 @@
-use Rattle.std.proofs.Common.{ℕ, ap, ◌+◌, ◌*◌, ◌<◌, ◌≡◌, ◌∙◌, sym, arith, Option, Bool, None, length, get_or, unwrap_or, is_some}
+use Rattle.std.proofs.Common.{ℕ, ap, ◌+◌, ◌*◌, ◌≡◌, ◌∙◌, sym, Option, Bool, None, length, get_or, unwrap_or, is_some}
 use Rattle.ec_bits.specs.Bits.{bit}
 use Rattle.ec_bits.proofs.BitLaws.{overlay_own, overlay_alike}
 use Rattle.ec_bits.proofs.AnyLaws.{if_false, any_below_none, any_below-alike}

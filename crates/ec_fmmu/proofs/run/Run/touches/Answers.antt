@@ -1,4 +1,4 @@
-use Rattle.std.proofs.Common.{ℕ, ◌+◌, ◌-◌, ◌*◌, ◌/◌, ◌<◌, ◌≤◌, ◌≡◌, sym, arith, max, min}
+use Rattle.std.proofs.Common.{ℕ, ◌+◌, ◌-◌, ◌*◌, sym, arith, max}
 use Rattle.ec_fmmu.proofs.WayLaws.{run_touched, run_untouched}
 use Rattle.ec_fmmu.proofs.run.Run.touches.Goals as goal
 
