@@ -21,7 +21,7 @@ use crate::physical::bytes::{
     end_of_part, owner, read_over, read_slice, reads_byte, write_physical,
 };
 use crate::physical::managers::access_managers;
-use crate::role::{Role, adp_after_slave};
+use crate::role::{Encounter, Role};
 use crate::slave::Slave;
 use ec_al::Al;
 use ec_fmmu::FmmuTable;
@@ -298,9 +298,9 @@ impl Slave {
             → self.new ≡ (meets_physically self.old d).slave }
     {
         let counter = read_counter(part);
-        let role = Role::of(header.command, header.adp(), self);
-        let added = self.access_physical_data(role, header.ado(), part);
-        write_adp(part, adp_after_slave(header.command, header.adp()));
+        let met = Encounter::of(header.command, header.adp(), self);
+        let added = self.access_physical_data(met.role, header.ado(), part);
+        write_adp(part, met.adp);
         write_counter(part, counter.wrapping_add(added));
     }
 }
