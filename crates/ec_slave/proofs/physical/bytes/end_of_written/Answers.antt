@@ -1,6 +1,6 @@
 use Rattle.std.proofs.Common.{ℕ, ◌≡◌, ◌<◌, ◌≤◌, ◌⊎◌, ◌∙◌, nat_lt, sym, inl, inr, arith}
 use Rattle.std.proofs.lemmas.Bool.{lt-ltb, le-ltb}
-use Rattle.ec_regs.specs.Memory.{ram_start, ram_end}
+use Rattle.ec_regs.specs.Memory.{ram_end}
 use Rattle.ec_slave.proofs.Windows.{write-alike, kept-alike}
 use Rattle.ec_slave.proofs.physical.bytes.end_of_written.Goals as goal
 

@@ -1,4 +1,4 @@
-use Rattle.std.proofs.Common.{◌≡◌, ◌+◌, ℕ, List, Option, Some, length, bit_or, get_or, slice_index, refl, ◌∙◌, ap, sym, arith, inr}
+use Rattle.std.proofs.Common.{◌≡◌, ℕ, List, Option, Some, length, bit_or, get_or, slice_index, refl, ◌∙◌, ap, sym, arith, inr}
 use Rattle.ec_slave.proofs.Told.{told_along, told-none, told-step0, retold-whole, get-told_outside}
 use Rattle.ec_slave.proofs.physical.bytes.join_slice.Goals as goal
 

@@ -1,4 +1,4 @@
-use Rattle.std.proofs.Common.{rules, ℕ, ◌≡◌, ◌∙◌, Option, Some, List, ap, sym, arith, length, get_or, slice_index, bit_or, unwrap_or, if◌then◌else◌}
+use Rattle.std.proofs.Common.{rules, ℕ, ◌≡◌, ◌∙◌, Option, Some, List, ap, sym, arith, length, get_or, slice_index, bit_or, if◌then◌else◌}
 use Rattle.std.proofs.lemmas.Grind.{same_number_lists}
 use Rattle.ec_bits.proofs.AnyLaws.{if_false}
 use Rattle.ec_slave.specs.Access.{retold_from}

@@ -1,4 +1,4 @@
-use Rattle.std.proofs.Common.{ℕ, Bool, is_some, ◌+◌, ◌*◌, ◌<◌, ◌≤◌, ◌≡◌, ◌⊎◌, ◌∙◌, ap, sym, inl, inr, arith, false, length}
+use Rattle.std.proofs.Common.{ℕ, Bool, is_some, ◌+◌, ◌*◌, ◌≤◌, ◌≡◌, ◌⊎◌, ◌∙◌, ap, sym, inl, inr, arith, false, length}
 use Rattle.ec_bits.specs.Bits.{any_below}
 use Rattle.ec_bits.proofs.AnyLaws.{any_below_none, if_none}
 use Rattle.ec_slave.specs.Access.{Window, setting_for}

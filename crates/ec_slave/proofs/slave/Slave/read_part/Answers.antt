@@ -1,4 +1,4 @@
-use Rattle.std.proofs.Common.{ℕ, ◌+◌, ◌-◌, ◌<◌, ◌≤◌, ◌≡◌, ◌∙◌, Option, Some, None, List, length, take, drop, ap, sym, arith, inl, inr, get_or, slice_index, unwrap_or, bit_or, if◌then◌else◌}
+use Rattle.std.proofs.Common.{ℕ, ◌+◌, ◌-◌, ◌<◌, ◌≤◌, ◌≡◌, ◌∙◌, Option, Some, None, List, length, take, drop, ap, sym, arith, inl, inr, get_or, slice_index, bit_or, if◌then◌else◌}
 use borrow.Rule.Slice.PartMut.{put_mid}
 use Rattle.ec_bits.specs.Bits.{within}
 use Rattle.ec_bits.proofs.AnyLaws.{if_true, if_false, within_true, within_below, within_above}

@@ -1,9 +1,8 @@
-use Rattle.std.proofs.Common.{rules, ℕ, ◌+◌, ◌-◌, ◌<◌, ◌≤◌, ◌≡◌, ◌∙◌, Option, Some, None, List, length, ap, sym, subst, arith, get_or, slice_index}
+use Rattle.std.proofs.Common.{ℕ, ◌+◌, ◌-◌, ◌<◌, ◌≡◌, ◌∙◌, Option, List, length, ap, sym, subst, arith, slice_index}
 use Rattle.std.specs.Option.{IfSome}
 use Rattle.std.proofs.lemmas.Option.{IfSome_then}
 use Rattle.ec_regs.specs.declared.manager.ManagerSettings.{ManagerSettings}
 use Rattle.ec_sync.specs.Manager.{Manager, shown}
-use Rattle.ec_sync.specs.Governing.{governor}
 use Rattle.ec_slave.specs.State.{SlaveState, manager_at}
 use Rattle.ec_slave.proofs.Applications.{indexed}
 use Rattle.ec_slave.proofs.Windows.{plain-byte, governed-byte}

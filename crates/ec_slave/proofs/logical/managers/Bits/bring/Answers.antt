@@ -1,6 +1,6 @@
-use Rattle.std.proofs.Common.{ℕ, ◌≡◌, ◌+◌, ◌-◌, ◌*◌, ◌<◌, ◌∙◌, Bool, Option, Some, None, List, length, ap, sym, arith, is_some, true, unwrap_or, refl}
+use Rattle.std.proofs.Common.{ℕ, ◌≡◌, ◌+◌, ◌-◌, ◌*◌, ◌<◌, ◌∙◌, Bool, Option, Some, None, length, ap, sym, arith, is_some, unwrap_or}
 use Rattle.std.proofs.lemmas.List.{length-replicate}
-use Rattle.ec_bits.specs.Bits.{bit, overlay, run_told, zeros, within}
+use Rattle.ec_bits.specs.Bits.{bit, run_told, zeros, within}
 use Rattle.ec_bits.proofs.AnyLaws.{if_true, within_true}
 use Rattle.ec_bits.proofs.BitLaws.{overlay_alike}
 use Rattle.ec_fmmu.specs.Applied.{Place}

@@ -1,8 +1,8 @@
-use Rattle.std.proofs.Common.{ℕ, ◌≡◌, ◌+◌, ◌-◌, ◌*◌, ◌/◌, ◌<◌, ◌≤◌, ◌∙◌, ap, sym, arith, Option, Some, None, true, false, length, option_map, if◌then◌else◌}
+use Rattle.std.proofs.Common.{ℕ, ◌≡◌, ◌+◌, ◌-◌, ◌*◌, ◌/◌, ◌∙◌, ap, arith, Some, None, true, length, option_map}
 use Rattle.std.proofs.lemmas.Option.{IfSome_then}
 use Rattle.ec_bits.specs.Bits.{bit}
 use Rattle.ec_bits.proofs.AnyLaws.{if_true}
-use Rattle.ec_fmmu.specs.Applied.{Place, data_bit_for}
+use Rattle.ec_fmmu.specs.Applied.{Place}
 use Rattle.ec_slave.specs.Managers.{is_ungoverned}
 use Rattle.ec_slave.specs.Logical.{brought}
 use Rattle.ec_slave.proofs.logical.managers.Bits.source.Goals as goal
