@@ -429,13 +429,25 @@ fn expect_trouble(
     Ok(())
 }
 
+/// Expects this at each place.
+fn expect_all_trouble(
+    rt: &(impl AllocGlobal + Abort),
+    table: &Table,
+    plan: &Plan,
+) -> Result<(), Fail>
+    requires accepted { compile_fault table.now ≡ None }
+    requires plan { plan.now ≡ plan_of table.now }
+{
+    for at in 0..4 {
+        expect_trouble(rt, table, plan, at)?;
+    }
+    Ok(())
+}
+
 // A frame of a start-up is lost before or after a slave's pass, or a slave is reset, or has a fault there.
 #[test]
 fn trouble_in_a_start_up(rt: HostRuntime) -> Result<(), Fail> {
     let table = read_table(rt.alloc(), TABLE)?;
     let plan = compile(rt.alloc(), &table)?;
-    for at in 0..4 {
-        expect_trouble(&rt, &table, &plan, at)?;
-    }
-    Ok(())
+    expect_all_trouble(&rt, &table, &plan)
 }
