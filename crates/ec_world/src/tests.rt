@@ -320,7 +320,7 @@ fn expect_case(rt: &(impl AllocGlobal + Abort), case: &Case) -> Result<(), Fail>
     match world.report() {
         Some(report) => {
             assert!(rt;
-                report.counters() == counters.as_slice(),
+                report.counters().as_slice() == counters.as_slice(),
                 "{:?}",
                 case.event
             );

@@ -75,7 +75,7 @@ fn assert_report(
     al_word: u16,
 ) {
     assert!(rt; report.units_taken() == units);
-    assert!(rt; report.counters() == counters);
+    assert!(rt; report.counters().as_slice() == counters);
     assert_eq!(rt; report.al_word(), al_word);
 }
 
