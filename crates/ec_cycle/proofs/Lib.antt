@@ -13,4 +13,5 @@ pub mod Renewed
 pub mod Runs
 pub mod Judging
 pub mod ProcessBits
+pub mod Outgoing
 pub mod Variables

@@ -2,7 +2,7 @@
 use Rattle.std.proofs.Common.{ℕ, ◌+◌, ◌/◌, ◌%◌, ◌^◌, ◌≤◌, ◌<◌, ◌≡◌, ◌==◌, Bool, true, false, refl, sym, ◌∙◌, ap, subst, arith, List, [], ◌∷◌, ◌++◌, length, set, take, drop, if◌then◌else◌, append_assoc}
 use Rattle.std.specs.List.{AllByRecursion}
 use Rattle.std.proofs.lemmas.Bool.{ne_eqb}
-use Rattle.std.proofs.lemmas.List.{append-nil, drop_at, length-append, set_at, take_at}
+use Rattle.std.proofs.lemmas.List.{append-nil, drop_at, length-append, length-drop, length-take, set_at, take_at}
 use borrow.Rule.Slice.PartMut.{put_mid}
 use Rattle.byteorder.specs.Endian.{little_bytes}
 use Rattle.ec_bits.specs.Bits.{zeros}
@@ -70,6 +70,28 @@ refilled part n k s new bytes some is size same e = go (part.bytes == 0) part.sp
     go true y f h = absurd cc
     go false true f h = data_put bytes new (spelling false (process_datagram Lrd n part.address (zeros part.bytes) 0) ++ []) true (process_datagram Lwr n part.address s 0) k h (is ∙ sym size) (same ∙ sym size)
     go false false f h = data_put bytes new [] false (process_datagram Lrw n part.address s 0) k h (is ∙ sym size) (same ∙ sym size)
+
+-- the data that stand before what follows
+data_in : (bytes back : List ℕ) (more : Bool) (d : Datagram) (k : ℕ) → bytes ≡ spelling more d ++ back → k ≡ length d.data_bytes → take k (drop 10 bytes) ≡ d.data_bytes
+data_in bytes back more d k e is =
+    let counter = little_bytes 2 d.counter in
+    ap (λ (xs : List ℕ). take k (drop 10 xs)) e
+    ∙ (ap (λ (xs : List ℕ). take k xs) (append_assoc d.data_bytes counter back) ∙ take_at d.data_bytes (counter ++ back) k (sym is))
+
+pub sent_in : (part : PartPlan) (n k : ℕ) (s bytes : List ℕ) → (part.bytes ≡ 0 → ⊥) → k ≡ part.bytes → length s ≡ part.bytes → bytes ≡ process_spelled part n s → take k (drop 10 bytes) ≡ s
+sent_in part n k s bytes some is size e = go (part.bytes == 0) part.split (ne_eqb part.bytes 0 some) e
+  where
+    go : (b y : Bool) → b ≡ false → bytes ≡ joined (spelled_by b y part n s) → take k (drop 10 bytes) ≡ s
+    go true y f h = absurd cc
+    go false true f h = data_in bytes (spelling false (process_datagram Lrd n part.address (zeros part.bytes) 0) ++ []) true (process_datagram Lwr n part.address s 0) k h (is ∙ sym size)
+    go false false f h = data_in bytes [] false (process_datagram Lrw n part.address s 0) k h (is ∙ sym size)
+
+-- so there is room for them
+pub room_in : (part : PartPlan) (n : ℕ) (s bytes : List ℕ) → (part.bytes ≡ 0 → ⊥) → length s ≡ part.bytes → bytes ≡ process_spelled part n s → 10 + part.bytes ≤ length bytes
+room_in part n s bytes some size e =
+    let here : length (take part.bytes (drop 10 bytes)) ≡ length s = ap length (sent_in part n part.bytes s bytes some refl size e) in
+    let much : part.bytes ≡ 0 → ⊥ = some in
+    omega (arith, here, size, much, length-take part.bytes (drop 10 bytes), length-drop 10 bytes)
 
 -- ---- the whole frame
 

@@ -17,7 +17,8 @@ use Rattle.ec_cycle.specs.Closing.{KeptPart, all_from, is_good, unit_taken, byte
 use Rattle.ec_cycle.specs.Copies.{output_run, run_copied, runs_copied, outputs_copied, is_of_part, part_runs, FitsRun, input_run, input_copied, inputs_copied, adjoin, both, inputs_adjoin, both_inputs, merged, merged_from, output_runs, input_runs, input_taken, inputs_taken, FitsInput}
 use Rattle.ec_cycle.specs.Frames.{process_bytes}
 use Rattle.ec_cycle.proofs.Copying.{area_inside, inputs_by_links}
-use Rattle.ec_cycle.proofs.Placing.{process_by_links}
+use Rattle.ec_cycle.proofs.Answering.{length-process_bytes}
+use Rattle.ec_cycle.proofs.Placing.{process_by_links, process_again}
 
 -- ---- a loop over runs
 
@@ -98,6 +99,11 @@ pub filled : (p : PlanState) (k : ℕ) (image : List ℕ) (runs : List Run) (bla
 filled p k image runs blank new usable r b e =
     e ∙ (ap (λ rs. runs_copied image rs blank) r ∙ (merged_copied image (part_runs p k) blank ∙ (ap (runs_copied image (part_runs p k)) b ∙ (runs_by_links p k image p.out_links (zeros (part_at p.parts k).bytes) ∙ process_by_links p k image usable))))
 
+-- over the process data for another image
+pub refreshed : (p : PlanState) (k : ℕ) (image : List ℕ) (runs : List Run) (old new : List ℕ) → IsUsable p → runs ≡ output_runs p k → (was : List ℕ) × (old ≡ process_bytes p k was) → new ≡ runs_copied image runs old → new ≡ process_bytes p k image
+refreshed p k image runs old new usable r b e =
+    e ∙ (ap (λ rs. runs_copied image rs old) r ∙ (merged_copied image (part_runs p k) old ∙ (ap (runs_copied image (part_runs p k)) b.1 ∙ (runs_by_links p k image p.out_links (process_bytes p k b.0) ∙ process_again p k image usable b.0))))
+
 pub few_of : (p : PlanState) (k : ℕ) → IsUsable p → (part_at p.parts k).bytes ≤ 1422
 few_of p k usable = go (part_at p.parts k).split (usable.few_bytes k)
   where
@@ -131,7 +137,15 @@ runs_fit p k runs sent image usable r blank room few =
     (merged_fit (length sent) (length image) (part_runs p k)
     (links_fit p k (length sent) (length image) p.out_links usable (ap length blank ∙ length-replicate (part_at p.parts k).bytes 0) room few usable.out_links))
 
+pub runs_fit_again : (p : PlanState) (k : ℕ) (runs : List Run) (old image : List ℕ) → IsUsable p → runs ≡ output_runs p k → (was : List ℕ) × (old ≡ process_bytes p k was) → length image ≡ bytes_of_bits p.out_bits → p.out_bits < 2 ^ 64 → AllByRecursion (FitsRun (length old) (length image)) runs
+runs_fit_again p k runs old image usable r made room few =
+    subst (λ rs. AllByRecursion (FitsRun (length old) (length image)) rs) (sym r)
+    (merged_fit (length old) (length image) (part_runs p k)
+    (links_fit p k (length old) (length image) p.out_links usable (ap length made.1 ∙ length-process_bytes p k made.0) room few usable.out_links))
+
 pub ruleset fill_steps = (filled, runs_fit)
+
+pub ruleset refresh_steps = (refreshed, runs_fit_again)
 
 pub take_zeros : (n m : ℕ) → n ≤ m → take n (zeros m) ≡ zeros n
 take_zeros zero m l = refl

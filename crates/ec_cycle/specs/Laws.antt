@@ -1,5 +1,5 @@
 -- What the definitions of this crate amount to, in other words than theirs.
-use Rattle.std.specs.Prelude.{ℕ, ◌+◌, ◌*◌, ◌<◌, ◌≤◌, ◌≡◌, ◌≢◌, ◌↔◌, List, length, map, get_or, slice_get, true, false, Option}
+use Rattle.std.specs.Prelude.{ℕ, ◌+◌, ◌*◌, ◌<◌, ◌≤◌, ◌≡◌, ◌≢◌, ◌↔◌, List, length, map, get_or, slice_get, slice_range, true, false, Option, None}
 use Rattle.std.specs.Option.{option_map_or}
 use Rattle.ec_bits.specs.Bits.{bit, bytes_of_bits, within, zeros}
 use Rattle.ec_frame.specs.Datagram.{Datagram}
@@ -11,7 +11,7 @@ use Rattle.ec_link.specs.Variables.{AreApart}
 use Rattle.ec_cycle.specs.Closing.{KeptPart, inputs_closed}
 use Rattle.ec_cycle.specs.Copies.{outputs_copied, inputs_copied}
 use Rattle.ec_cycle.specs.Frames.{process_bytes, sent_datagrams}
-use Rattle.ec_cycle.specs.Master.{MasterState, Answers, shape, name_of, process_addresses, holds_value, value_at, variable_set, frame_of}
+use Rattle.ec_cycle.specs.Master.{MasterState, OpenCycle, Begun, Answers, shape, name_of, process_addresses, holds_value, value_at, variable_set, frame_of}
 
 -- ---- one copy a link
 
@@ -38,6 +38,20 @@ OtherBitsAreZero =
     (p : PlanState) (k i : ℕ) (image : List ℕ) → i < 8 * (part_at p.parts k).bytes
     → ((s : ℕ) → s < length p.slaves → (slave_at p s).share.part ≡ k → within (area_at p s).out_at (slave_at p s).share.outs (8 * (part_at p.parts k).address + i) ≡ false)
     → bit (process_bytes p k image) i ≡ false
+
+-- ---- the bits of a begun frame
+
+-- The process data that go out in the frame of part k: they begin behind 2 bytes of the frame's header, 22 of the datagram that
+-- names it, 14 of the broadcast, and the 10 before a datagram's data.
+abbrev pub outgoing : MasterState → ℕ → List ℕ
+outgoing m k = slice_range (frame_of m.cycle k) 48 (48 + (part_at m.plan.parts k).bytes)
+
+-- an output bit that no link names goes out as 0, whatever the image holds and whatever went before
+abbrev pub UnlinkedGoOutAsZero : Type 0
+UnlinkedGoOutAsZero =
+    (old new : MasterState) (c : OpenCycle) (k s o i : ℕ) → IsUsable old.plan → Begun old new c → k < length old.plan.parts → s < length old.plan.slaves → (slave_at old.plan s).share.part ≡ k
+    → o < (slave_at old.plan s).share.outs → out_source old.plan.out_links s o ≡ None → i < 8 * (part_at old.plan.parts k).bytes → 8 * (part_at old.plan.parts k).address + i ≡ (area_at old.plan s).out_at + o
+    → bit (outgoing new k) i ≡ false
 
 -- ---- answers
 

@@ -14,10 +14,11 @@ ghost use Rattle.ec_cycle.specs.Frames.{sent_datagrams};
 ghost use Rattle.ec_cycle.specs.Kept.{IsMade};
 ghost use Rattle.ec_cycle.specs.Matching.{FirstStand};
 
+use crate::content::Content;
+use crate::counters::Counters;
 use crate::matching::{counter_at, data_at};
 use crate::renewing::renew;
 use crate::run::Run;
-use arrayvec::ArrayVec;
 use ec_frame::{Frame, Span};
 use ec_link::{Plan, Predicted};
 use std::marker::Model;
@@ -70,8 +71,8 @@ pub struct Returned {
     is_kept: bool,
     broadcast: u16,
     al_word: u16,
-    counters: Predicted,
-    content: ArrayVec<u8, 1422>,
+    counters: Counters,
+    content: Content,
 }
 
 impl Model for Returned {
@@ -80,7 +81,7 @@ impl Model for Returned {
 
     ghost Value = { Option KeptPart };
 
-    ghost view = { λ r. if r.is_kept then Some (record { broadcast = r.broadcast; al_word = r.al_word; counters = r.counters; bytes = r.content.items }) else None };
+    ghost view = { λ r. if r.is_kept then Some (record { broadcast = r.broadcast; al_word = r.al_word; counters = r.counters; bytes = r.content }) else None };
 }
 
 /// Whether counters are the same, each by itself.
@@ -107,26 +108,16 @@ fn word_of(bytes: &[u8]) -> u16
 
 /// The working counters of the process datagrams of a frame whose first datagrams stand at these places.
 #[tactic(auto, using(crate::proofs::Places::place_steps))]
-fn counters_in(split: bool, payload: &[u8], spans: &[Span; 4]) -> Predicted
+fn counters_in(split: bool, payload: &[u8], spans: &[Span; 4]) -> Counters
     requires { (ds : List Datagram) × FirstStand payload.now spans.now ds }
     ensures { (ds : List Datagram) → FirstStand payload.now spans.now ds → result ≡ counters_by split ds }
 {
-    let first = usize::from(counter_at(payload, spans[2]));
+    let first = counter_at(payload, spans[2]);
     if split {
-        let read = usize::from(counter_at(payload, spans[3]));
-        Predicted::Split { write: first, read }
+        Counters::split(first, counter_at(payload, spans[3]))
     } else {
-        Predicted::Lrw(first)
+        Counters::lrw(first)
     }
-}
-
-/// Puts bytes in place of what is there.
-fn replace(content: &mut ArrayVec<u8, 1422>, bytes: &[u8])
-    requires { length bytes.now ≤ 1422 }
-    ensures { content.new.items ≡ bytes.now }
-{
-    content.clear();
-    let _ = content.try_extend_from_slice(bytes);
 }
 
 /// The data that brings the inputs, in a frame whose first datagrams stand at these places.
@@ -151,8 +142,8 @@ impl Returned {
             is_kept: false,
             broadcast: 0,
             al_word: 0,
-            counters: Predicted::Lrw(0),
-            content: ArrayVec::new(),
+            counters: Counters::lrw(0),
+            content: Content::new(),
         }
     }
 
@@ -176,7 +167,7 @@ impl Returned {
         ensures { (ds : List Datagram) → FirstStand payload.now spans.now ds → self.new ≡ Some (kept_by split ds) }
     {
         let content = inputs_in(split, payload, spans);
-        replace(&mut self.content, content);
+        self.content.replace(content);
         self.broadcast = counter_at(payload, spans[1]);
         self.al_word = word_of(data_at(payload, spans[1]));
         self.counters = counters_in(split, payload, spans);
@@ -189,7 +180,7 @@ impl Returned {
     {
         self.is_kept
             && usize::from(self.broadcast) == slaves
-            && same_counters(self.counters, counters)
+            && same_counters(self.counters.as_predicted(), counters)
     }
 
     /// The data that holds the inputs; none of a part that isn't kept.
@@ -204,11 +195,11 @@ impl Returned {
     }
 
     /// The working counters.
-    pub fn counters(&self) -> Option<Predicted>
+    pub fn counters(&self) -> Option<Counters>
         ensures { result ≡ option_map (λ (q : KeptPart). q.counters) self.now }
     {
         if self.is_kept {
-            Some(self.counters)
+            Some(self.counters.copied())
         } else {
             None
         }

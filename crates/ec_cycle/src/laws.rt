@@ -1,6 +1,6 @@
 //! Laws of the definitions of this crate. Each function does nothing: its contract is the law.
 ghost use Rattle.ec_cycle.specs.Laws.{ProcessByLinks, InputsByLinks, AnswersBySent};
-ghost use Rattle.ec_cycle.specs.Laws.{OutputsBySource, OtherBitsAreZero};
+ghost use Rattle.ec_cycle.specs.Laws.{OutputsBySource, OtherBitsAreZero, UnlinkedGoOutAsZero};
 ghost use Rattle.ec_cycle.specs.Laws.{PredictedMeansWhole, SetReadsBack, SetKeepsOthers, SetKeepsFrames};
 
 /// One copy of a run of bits a link of outputs makes the process data of a frame.
@@ -25,6 +25,11 @@ pub fn outputs_by_source()
 #[tactic(auto, using(crate::proofs::ProcessBits::other_bits_are_zero))]
 pub fn other_bits_are_zero()
     ensures { OtherBitsAreZero }
+{}
+
+/// In a frame that `begin` made, an output bit of a slave that no link names is 0.
+pub fn unlinked_go_out_as_zero()
+    ensures { UnlinkedGoOutAsZero }
 {}
 
 /// Datagrams answer a frame exactly where they have the shapes, the name and the process addresses of the frame as it was

@@ -7,6 +7,8 @@
 mod answered;
 mod asking;
 mod building;
+mod content;
+mod counters;
 mod error;
 mod kept;
 pub mod laws;

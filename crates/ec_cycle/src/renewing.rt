@@ -65,6 +65,19 @@ pub fn fill(plan: &Plan, part: usize, runs: &[Run], image: &[u8], sent: &mut [u8
     copy_runs(sent, image, runs);
 }
 
+/// The outputs of an image go where those of another one stand. What isn't linked is 0, and stays so.
+#[tactic(auto, using(crate::proofs::Runs::refresh_steps))]
+fn refresh(plan: &Plan, part: usize, runs: &[Run], image: &[u8], sent: &mut [u8])
+    requires usable { IsUsable plan.now }
+    requires runs { runs.now ≡ output_runs plan.now part }
+    requires image { length image.now ≡ bytes_of_bits plan.now.out_bits }
+    requires few { plan.now.out_bits < 2 ^ 64 }
+    requires made { (was : List ℕ) × (sent.old ≡ process_bytes plan.now part was) }
+    ensures { sent.new ≡ process_bytes plan.now part image.now }
+{
+    copy_runs(sent, image, runs);
+}
+
 /// The outputs of an image go into the process datagrams of a part.
 fn refill(process: &mut [u8], plan: &Plan, part: usize, runs: &[Run], image: &[u8])
     requires usable { IsUsable plan.now }
@@ -72,8 +85,8 @@ fn refill(process: &mut [u8], plan: &Plan, part: usize, runs: &[Run], image: &[u
     requires runs { runs.now ≡ output_runs plan.now part }
     requires image { length image.now ≡ bytes_of_bits plan.now.out_bits }
     requires few { plan.now.out_bits < 2 ^ 64 }
-    requires made { (n : ℕ) × (s : List ℕ) × (length s ≡ (part_at plan.now.parts part).bytes) × (process.old ≡ process_spelled (part_at plan.now.parts part) n s) }
-    ensures { (n : ℕ) (s : List ℕ) → length s ≡ (part_at plan.now.parts part).bytes → process.old ≡ process_spelled (part_at plan.now.parts part) n s
+    requires made { (n : ℕ) × (was : List ℕ) × (process.old ≡ process_spelled (part_at plan.now.parts part) n (process_bytes plan.now part was)) }
+    ensures { (n : ℕ) (was : List ℕ) → process.old ≡ process_spelled (part_at plan.now.parts part) n (process_bytes plan.now part was)
         → process.new ≡ process_spelled (part_at plan.now.parts part) n (process_bytes plan.now part image.now) }
 {
     let bytes = plan.parts()[part].bytes;
@@ -81,8 +94,7 @@ fn refill(process: &mut [u8], plan: &Plan, part: usize, runs: &[Run], image: &[u
         return;
     }
     let sent = &mut process[CONTENT..CONTENT + bytes];
-    sent.fill(0);
-    fill(plan, part, runs, image, sent);
+    refresh(plan, part, runs, image, sent);
 }
 
 /// The frame of a part gets the number of a cycle and the outputs of an image.

@@ -2,6 +2,7 @@ ghost use Rattle.std.specs.Prelude.{◌≡◌, ◌≤◌, ◌+◌, ◌<◌, ℕ,
 ghost use Rattle.std.specs.List.{list_all};
 ghost use Rattle.ec_cycle.specs.Closing.{KeptPart, ReportState, nones, or_words};
 
+use crate::counters::Counters;
 use crate::kept::Returned;
 use arrayvec::ArrayVec;
 use ec_link::Predicted;
@@ -13,7 +14,7 @@ pub struct Report {
     units: ArrayVec<u8, 64>,
     taken: ArrayVec<bool, 64>,
     missing: usize,
-    counters: ArrayVec<Option<Predicted>, 32>,
+    counters: ArrayVec<Option<Counters>, 32>,
     al_word: u16,
 }
 
@@ -55,10 +56,10 @@ impl Report {
     }
 
     /// The working counters of each part's process datagrams, none of a part that was not kept.
-    pub fn counters(&self) -> &[Option<Predicted>]
-        ensures { result.now ≡ self.now.counters }
+    pub fn counters(&self) -> ArrayVec<Option<Predicted>, 32>
+        ensures { result.items ≡ self.now.counters }
     {
-        self.counters.as_slice()
+        as_predicted(self.counters.as_slice())
     }
 
     /// The OR of the AL status words that came back; it says what the slaves were in, and judges nothing.
@@ -99,13 +100,35 @@ fn words_of(kept: &[Returned]) -> u16
 }
 
 /// The working counters of the parts that are kept.
-fn counters_of(kept: &[Returned]) -> ArrayVec<Option<Predicted>, 32>
+fn counters_of(kept: &[Returned]) -> ArrayVec<Option<Counters>, 32>
     requires { length kept.now ≤ 32 }
     ensures { result.items ≡ map (λ (o : Option KeptPart). option_map (λ (q : KeptPart). q.counters) o) kept.now }
 {
     let mut counters = ArrayVec::new();
     for part in kept {
         counters.push(part.counters());
+    }
+    counters
+}
+
+/// The working counters of a part, as a plan predicts them.
+fn part_as_predicted(counters: &Option<Counters>) -> Option<Predicted>
+    ensures { result ≡ counters.now }
+{
+    match counters {
+        Some(counters) => Some(counters.as_predicted()),
+        None => None,
+    }
+}
+
+/// The working counters of parts, as a plan predicts them.
+fn as_predicted(parts: &[Option<Counters>]) -> ArrayVec<Option<Predicted>, 32>
+    requires { length parts.now ≤ 32 }
+    ensures { result.items ≡ parts.now }
+{
+    let mut counters = ArrayVec::new();
+    for part in parts {
+        counters.push(part_as_predicted(part));
     }
     counters
 }

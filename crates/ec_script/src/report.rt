@@ -121,7 +121,7 @@ pub fn write_report(
     text.push_str("report")?;
     write_units(text, version, report)?;
     write!(text, " missing {missing} counters")?;
-    write_counters(text, parts, report.counters())?;
+    write_counters(text, parts, report.counters().as_slice())?;
     text.push_str(" al ")?;
     write_word(alloc, text, report.al_word())?;
     text.push_str("\n")

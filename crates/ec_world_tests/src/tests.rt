@@ -302,7 +302,7 @@ const CASES: [Case; 16] = [
 
 /// Whether a report says what a case does.
 fn is_told(report: &Report, case: &Case) -> bool {
-    report.counters() == [case.counter].as_slice()
+    report.counters().as_slice() == [case.counter].as_slice()
         && report.is_taken() == case.is_taken
         && report.missing() == usize::from(case.counter.is_none())
 }

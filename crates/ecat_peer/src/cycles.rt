@@ -84,7 +84,8 @@ fn is_told(plan: &Plan, report: &Report, kept: &[Option<Frame>]) -> bool {
             return false;
         }
     }
-    for (part, counters) in report.counters().iter().enumerate() {
+    let told = report.counters();
+    for (part, counters) in told.as_slice().iter().enumerate() {
         missing = missing.saturating_add(usize::from(counters.is_none()));
         if *counters != counters_of(plan, part, kept) {
             return false;

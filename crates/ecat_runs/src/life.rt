@@ -55,7 +55,7 @@ fn are_same_reports(one: Option<&Report>, other: Option<&Report>) -> bool {
         (Some(one), Some(other)) => {
             one.units() == other.units()
                 && one.units_taken() == other.units_taken()
-                && one.counters() == other.counters()
+                && one.counters().as_slice() == other.counters().as_slice()
                 && one.missing() == other.missing()
                 && one.al_word() == other.al_word()
         }

@@ -81,7 +81,7 @@ fn assert_report(
     assert!(rt; report.units_taken() == units);
     assert_eq!(rt; report.units().len(), units.len());
     assert_eq!(rt; report.is_taken(), units.iter().all(|taken| *taken));
-    assert!(rt; report.counters() == counters);
+    assert!(rt; report.counters().as_slice() == counters);
     assert_eq!(rt;
         report.missing(),
         counters.iter().filter(|counter| counter.is_none()).count()

@@ -204,7 +204,8 @@ fn run_taken<W: Wire>(master: &mut Master<'_>, wire: &mut W, number: u64) -> boo
     set(master, 1, number);
     match run_cycle(master, wire) {
         Ok(report) => {
-            report.is_taken() && report.counters() == [Some(Predicted::Lrw(6))].as_slice()
+            report.is_taken()
+                && report.counters().as_slice() == [Some(Predicted::Lrw(6))].as_slice()
         }
         Err(_) => false,
     }

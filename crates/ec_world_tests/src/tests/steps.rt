@@ -91,7 +91,9 @@ fn is_report(
     counters: &[Option<Predicted>],
     al_word: u16,
 ) -> bool {
-    report.units_taken() == units && report.counters() == counters && report.al_word() == al_word
+    report.units_taken() == units
+        && report.counters().as_slice() == counters
+        && report.al_word() == al_word
 }
 
 /// Whether a frame is in a slot, and how far it is.

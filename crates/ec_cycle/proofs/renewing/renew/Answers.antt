@@ -28,8 +28,7 @@ refill-requires-clause-made c =
     let x = cut p k n was c.args.frame.now c.split_at_mut-front.result.0.now c.split_at_mut-front.result.1.now c.requires.made.spelled c.split_at_mut-front.ensures.front c.split_at_mut-front.ensures.back in
     let size = length-process_bytes p k was in (
       c.args.number,
-      process_bytes p k was,
-      size,
+      was,
       c.renumber_process.ensures n (process_bytes p k was) (size ∙ ap (λ (q : PartPlan). q.bytes) same) (x.back_is ∙ ap (λ (q : PartPlan). process_spelled q n (process_bytes p k was)) same)
           ∙ ap (λ (q : PartPlan). process_spelled q c.args.number (process_bytes p k was)) (sym same),
     )
@@ -46,5 +45,5 @@ returns c =
     let numbered = c.renumber_process.ensures n (process_bytes p k was) (size ∙ ap (λ (q : PartPlan). q.bytes) same) (x.back_is ∙ ap (λ (q : PartPlan). process_spelled q n (process_bytes p k was)) same)
     ∙ ap (λ (q : PartPlan). process_spelled q c.args.number (process_bytes p k was)) (sym same) in
     rejoined p k n c.args.number was c.args.image.now c.args.frame.now c.split_at_mut-front.result.0.now c.split_at_mut-front.result.1.now c.renumber.new.front c.refill.new.process c.requires.made.spelled x
-    (c.renumber.ensures x.low x.high _ n k x.front_is) (c.refill.ensures c.args.number (process_bytes p k was) size numbered)
+    (c.renumber.ensures x.low x.high _ n k x.front_is) (c.refill.ensures c.args.number was numbered)
     (all_bytes (c.renumber.new.front ++ c.refill.new.process) (λ i. omega (arith, c.type_inv.frame i)))

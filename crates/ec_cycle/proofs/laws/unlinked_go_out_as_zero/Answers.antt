@@ -1,0 +1,5 @@
+use Rattle.ec_cycle.proofs.Outgoing.{unlinked_go_out_as_zero}
+use Rattle.ec_cycle.proofs.laws.unlinked_go_out_as_zero.Goals as goal
+
+pub returns : goal.returns
+returns c = unlinked_go_out_as_zero

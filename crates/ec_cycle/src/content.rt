@@ -1,0 +1,52 @@
+//! Bytes in room of their own.
+ghost use Rattle.std.specs.Prelude.{◌≡◌, ◌≤◌, [], length};
+
+use std::marker::Model;
+
+/// The most bytes that a part has.
+const MOST_BYTES: usize = 1422;
+
+/// What a part brought back. Only as many bytes are touched as there are: what stood behind them stays.
+#[derive(Drop)]
+pub struct Content {
+    room: [u8; MOST_BYTES],
+    count: usize,
+}
+
+impl Model for Content {
+    ghost use Rattle.std.specs.Prelude.{◌≤◌, ℕ, List, take};
+
+    ghost Value = { List ℕ };
+
+    ghost view = { λ c. take c.count c.room };
+
+    ghost invariant = { λ c. c.count ≤ 1422 };
+}
+
+impl Content {
+    /// No bytes.
+    pub fn new() -> Content
+        ensures { result ≡ [] }
+    {
+        Content {
+            room: [0; MOST_BYTES],
+            count: 0,
+        }
+    }
+
+    /// Puts bytes in place of those that are there.
+    pub fn replace(&mut self, bytes: &[u8])
+        requires { length bytes.now ≤ 1422 }
+        ensures { self.new ≡ bytes.now }
+    {
+        self.room[..bytes.len()].copy_from_slice(bytes);
+        self.count = bytes.len();
+    }
+
+    /// The bytes.
+    pub fn as_slice(&self) -> &[u8]
+        ensures { result.now ≡ self.now }
+    {
+        &self.room[..self.count]
+    }
+}
