@@ -10,6 +10,7 @@ use Rattle.ec_script.specs.declared.line.Line.{Line}
 use Rattle.ec_script.specs.declared.said.Said.{Said}
 use Rattle.ec_script.specs.Texts.{said_text}
 use Rattle.ec_script.specs.Work.{Does}
+use Rattle.ec_script.proofs.Running.{lines_run as line_run}
 use Rattle.ec_app.specs.declared.refusal.Refusal.{Refusal}
 use Rattle.ec_app.specs.declared.refusal.Refusal.TheVariants.{Memory}
 use Rattle.ec_app.specs.Printing.{AppendsPart}
@@ -36,7 +37,7 @@ one_said : (t : Contents) (now mid : WorldState) (lines : List Line) (i n : ℕ)
     → Says t now (take (suc n) (drop i lines)) (text ++ more)
 one_said t now mid lines i n d said text more lt does is rest =
     subst (λ ls. Says t now ls (text ++ more)) (sym (at_drop_more (λ ls. take (suc n) ls) lines i d lt))
-    (mid, said, more, does, ap (λ x. x ++ more) is, rest)
+    (mid, said, more, does, line_run (get_or lines i d).act now mid said does, ap (λ x. x ++ more) is, rest)
 
 pub next_said : (t : Contents) (w : WorldState) (lines : List Line) (old : Option (List ℕ)) (i : ℕ) (now mid : WorldState) (new newer : Option (List ℕ)) (d : Line) (said : Said) (text : List ℕ)
     → AreSaid t w lines old i now new → i < length lines → Does (get_or lines i d).act now mid said → mid.plan ≡ now.plan

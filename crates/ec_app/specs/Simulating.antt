@@ -13,10 +13,11 @@ use Rattle.ec_world.specs.World.{WorldState}
 use Rattle.ec_script.specs.declared.error.ScriptError.{ScriptError}
 use Rattle.ec_script.specs.declared.line.Line.{Line}
 use Rattle.ec_script.specs.declared.said.Said.{Said}
+use Rattle.ec_script.specs.Events.{RunsLine}
 use Rattle.ec_script.specs.Halves.{Splits}
 use Rattle.ec_script.specs.Scripts.{Fails as ScriptFails, script_of}
 use Rattle.ec_script.specs.Texts.{said_text}
-use Rattle.ec_script.specs.Work.{Does}
+use Rattle.ec_script.specs.Work.{Does, is_done}
 use Rattle.ec_app.specs.declared.refusal.Refusal.{Refusal}
 use Rattle.ec_app.specs.declared.refusal.Refusal.TheVariants.{Memory, Output, Script}
 use Rattle.ec_app.specs.Planning.{GivesText, IsInputRefusal, IsTableRefusal}
@@ -24,11 +25,12 @@ use Rattle.ec_app.specs.Printing.{AppendsPart}
 
 -- ---- lines
 
--- what lines print, each in the world that the one before left
+-- What lines print. Each runs in the world that the one before left: it leaves that world as `World::run` of the line's events
+-- does (`RunsLine`), and its text is that of the world then.
 abbrev pub Says : Contents → WorldState → List Line → List ℕ → Type 0
 Says t w [] printed = printed ≡ []
 Says t w (line ∷ lines) printed = (mid : WorldState) × (said : Said) × (more : List ℕ)
-    × Does line.act w mid said × (printed ≡ said_text t line.number mid said ++ more) × Says t mid lines more
+    × Does line.act w mid said × RunsLine line.act w mid (is_done said) × (printed ≡ said_text t line.number mid said ++ more) × Says t mid lines more
 
 -- all of them are printed
 abbrev pub PrintsLines : Contents → WorldState → List Line → Option (List ℕ) → Option (List ℕ) → Type 0
