@@ -13,6 +13,8 @@ use Rattle.ec_table.specs.Contents.{Contents}
 use Rattle.ec_table.specs.declared.rows.Direction.{Direction}
 use Rattle.ec_table.specs.declared.rows.Direction.TheVariants.{Out, In}
 use Rattle.ec_link.specs.declared.image.Variable.{Variable}
+use Rattle.ec_table.specs.Reading.{table_of}
+use Rattle.ec_link.specs.Faults.{compile_fault}
 use Rattle.ec_link.specs.Wires.{is_out}
 use Rattle.ec_link.specs.Plan.{PlanState, plan_of}
 use Rattle.ec_start.specs.declared.phase.Phase.{Phase}
@@ -31,7 +33,7 @@ use Rattle.ec_script.specs.Texts.{report_text}
 use Rattle.ec_script.proofs.Lines.{lines_more, lines_all}
 use Rattle.ec_app.specs.declared.refusal.Refusal.{Refusal}
 use Rattle.ec_app.specs.declared.refusal.Refusal.TheVariants as refusal
-use Rattle.ec_app.specs.Looping.{AreRun, CanCycle, CutShort, HaveRun, IsCycleRefusal, IsRunEnd, IsSoFar, IsStartRefusal, IsUp, Loops, LoopsText, cycles_text, inputs_text, output_put, outputs_put, ready_line, shown, with_outputs}
+use Rattle.ec_app.specs.Looping.{AreRun, CanCycle, CutShort, HaveRun, IsCycleRefusal, IsRunEnd, IsSoFar, IsStartRefusal, IsUp, Loops, LoopsOnSockets, LoopsText, cycles_text, inputs_text, output_put, outputs_put, ready_line, shown, with_outputs}
 use Rattle.ec_app.specs.Planning.{IsTableRefusal}
 use Rattle.ec_app.specs.Printing.{AppendsPart}
 use Rattle.ec_app.proofs.PrintLemmas.{appends_more, appends_nothing}
@@ -422,3 +424,12 @@ pub never_run : (r : Result Unit Refusal) (x : Refusal) (cycles : ℕ) (text : L
     → IsTableRefusal text x ⊎ (x ≡ refusal.Socket) → LoopsText cycles text known known r
 never_run (Ok done) x cycles text known is h = absurd is
 never_run (Err e) x cycles text known is h = inr (e, refl, subst (λ (y : Refusal). IsTableRefusal text y ⊎ (y ≡ refusal.Socket)) (sym is) h, refl)
+
+pub unbound : (r : Result Unit Refusal) (cycles : ℕ) (t : Contents) (known : Option (List ℕ)) → IsErrAnd r (λ e. e ≡ refusal.Socket) → LoopsOnSockets cycles t known known r
+unbound (Ok done) cycles t known is = absurd is
+unbound (Err e) cycles t known is = inr (ap Err is, refl)
+
+pub looped : (cycles : ℕ) (text : List ℕ) (t : Contents) (old new : Option (List ℕ)) (r : Result Unit Refusal) → table_of text ≡ Ok t → compile_fault t ≡ None
+    → LoopsOnSockets cycles t old new r → LoopsText cycles text old new r
+looped cycles text t old new r read accepted (inl loops) = inl (t, read, accepted, loops)
+looped cycles text t old new r read accepted (inr (is, same)) = inr (refusal.Socket, is, inr refl, same)

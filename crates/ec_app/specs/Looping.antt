@@ -129,6 +129,10 @@ Loops cycles t old new (Err refusal) =
     ⊎ (((text : List ℕ) × IsSoFar cycles t text × CutShort refusal old new text)
     ⊎ ((refusal ≡ Output) × ((text : List ℕ) × IsWhole cycles t text × AppendsPart old new text)))
 
+-- the same over sockets, where there may be none
+abbrev pub LoopsOnSockets : ℕ → Contents → Option (List ℕ) → Option (List ℕ) → Result Unit Refusal → Type 0
+LoopsOnSockets cycles t old new ended = Loops cycles t old new ended ⊎ ((ended ≡ Err Socket) × (new ≡ old))
+
 -- those of the table that a text states; or it is refused, or there is no socket
 abbrev pub LoopsText : ℕ → List ℕ → Option (List ℕ) → Option (List ℕ) → Result Unit Refusal → Type 0
 LoopsText cycles text old new ended =

@@ -13,11 +13,9 @@ mod refusal;
 mod run;
 mod segment;
 mod sim;
-#[cfg(test)]
-mod tests;
 
 pub use crate::input::read_text;
-pub use crate::looping::print_loop;
+pub use crate::looping::{print_loop, run_loop};
 pub use crate::pass::{pass_hex, print_pass};
 pub use crate::plan::{print_plan, show_plan};
 pub use crate::printing::{print_text, tell};
@@ -25,7 +23,7 @@ pub use crate::program::run_program;
 pub use crate::refusal::{Refusal, Values};
 pub use crate::run::run_command;
 pub use crate::segment::print_segment;
-pub use crate::sim::print_sim;
+pub use crate::sim::{identities_of, print_sim};
 pub use ec_rise::bring_up;
 pub use ec_script::{Act, Line, ScriptError, read_script, run_line};
 pub use ec_text::plan_text;

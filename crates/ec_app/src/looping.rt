@@ -8,7 +8,7 @@ ghost use Rattle.ec_cycle.specs.Closing.{ReportState};
 ghost use Rattle.ec_wire.specs.Running.{IsRun};
 ghost use Rattle.ec_script.specs.Texts.{report_text};
 ghost use Rattle.ec_text.specs.PlanText.{lines_from};
-ghost use Rattle.ec_app.specs.Looping.{CanCycle, CutShort, HaveRun, IsCycleRefusal, IsRunEnd, IsSoFar, IsStartRefusal, IsUp, Loops, LoopsText, RunsLoop, cycles_text, input_line, inputs_text, output_put, shown, with_outputs};
+ghost use Rattle.ec_app.specs.Looping.{CanCycle, CutShort, HaveRun, IsCycleRefusal, IsRunEnd, IsSoFar, IsStartRefusal, IsUp, Loops, LoopsOnSockets, LoopsText, RunsLoop, cycles_text, input_line, inputs_text, output_put, shown, with_outputs};
 
 use crate::Refusal;
 use crate::input::read_text;
@@ -204,8 +204,15 @@ fn input_lines(alloc: Global, table: &Table, master: &Master<'_>) -> Result<Stri
     Ok(text)
 }
 
-/// Runs cycles over a wire and prints what comes of them.
-pub(crate) fn run_loop<W: Wire, O: Write>(
+/// Brings the slaves on a wire up and runs so many cycles of a table's plan over it. In the n-th cycle each output
+/// variable is sent as n, as far as it has bits. It prints a line when the slaves are up, the report on each cycle before
+/// the next begins, and at the end the input variables.
+///
+/// # Errors
+///
+/// `Refusal::Memory` where memory ran out, the start-up's refusal where it failed, the run's where a cycle could not be
+/// run, and `Refusal::Output` where the output could not be written.
+pub fn run_loop<W: Wire, O: Write>(
     alloc: Global,
     table: &Table,
     plan: &Plan,
@@ -223,6 +230,25 @@ pub(crate) fn run_loop<W: Wire, O: Write>(
     print_text(lines.as_bytes(), output)
 }
 
+/// Runs cycles of a table's plan over two sockets.
+fn loop_plan<H: AllocGlobal + Net, W: Write>(
+    rt: &H,
+    table: &Table,
+    plan: &Plan,
+    cycles: u16,
+    output: &mut W,
+    app: &mut dyn App,
+) -> Result<(), Refusal>
+    requires accepted { compile_fault table.now ≡ None }
+    requires plan { plan.now ≡ plan_of table.now }
+    ensures { LoopsOnSockets cycles table.now (W.contents output.old) (W.contents output.new) result }
+{
+    let slaves = slaves_of(rt.alloc(), plan)?;
+    let sockets = Sockets::bind(rt)?;
+    let mut wire = LoopWire::new(sockets, slaves, app);
+    run_loop(rt.alloc(), table, plan, &mut wire, cycles, output)
+}
+
 /// Runs cycles of the table that a text states, over two sockets.
 fn loop_text<H: AllocGlobal + Net, W: Write>(
     rt: &H,
@@ -233,13 +259,9 @@ fn loop_text<H: AllocGlobal + Net, W: Write>(
 ) -> Result<(), Refusal>
     ensures { LoopsText cycles text.now (W.contents output.old) (W.contents output.new) result }
 {
-    let alloc = rt.alloc();
-    let table = read_table(alloc, text)?;
-    let plan = compile(alloc, &table)?;
-    let slaves = slaves_of(alloc, &plan)?;
-    let sockets = Sockets::bind(rt)?;
-    let mut wire = LoopWire::new(sockets, slaves, app);
-    run_loop(alloc, &table, &plan, &mut wire, cycles, output)
+    let table = read_table(rt.alloc(), text)?;
+    let plan = compile(rt.alloc(), &table)?;
+    loop_plan(rt, &table, &plan, cycles, output, app)
 }
 
 /// Runs so many cycles of the table that the input states, master and slaves on two sockets of this process, the slaves'

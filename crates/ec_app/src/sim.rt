@@ -15,8 +15,12 @@ use ec_world::World;
 use std::alloc::{AllocError, Global};
 use std::io::{Read, Write};
 
-/// What the slaves of a table show as their identities, in order.
-pub(crate) fn identities_of(alloc: Global, table: &Table) -> Result<Vec<Identity>, AllocError>
+/// What the slaves of a table show as their identities, in order, as a world is made of them.
+///
+/// # Errors
+///
+/// `AllocError` where memory ran out.
+pub fn identities_of(alloc: Global, table: &Table) -> Result<Vec<Identity>, AllocError>
     ensures { IfOk result (λ v. AreIdentities table.now v.items) }
 {
     let mut identities = Vec::new(alloc);

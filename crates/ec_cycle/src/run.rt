@@ -11,7 +11,7 @@ use ec_regs::Listed;
 use std::alloc::{AllocError, Global};
 
 /// Bits that are copied for one link: those of the source from `from` on go to `to`.
-#[derive(Clone, Copy, Debug, PartialEq, Eq, Drop)]
+#[derive(Clone, Copy, Drop)]
 pub struct Run {
     pub to: usize,
     pub from: usize,
@@ -19,7 +19,7 @@ pub struct Run {
 }
 
 /// A run from the data that a part brought back to the image of the inputs.
-#[derive(Clone, Copy, Debug, PartialEq, Eq, Drop)]
+#[derive(Clone, Copy, Drop)]
 pub struct InputRun {
     /// The part that brings it.
     pub part: usize,

@@ -11,7 +11,7 @@ use Rattle.ec_fmmu.specs.Pairs.{Pair, first_logical, first_physical, mapped, unm
 use Rattle.ec_fmmu.specs.Sets.{target, source, source_after, unless_mapped, writers}
 use Rattle.ec_fmmu.specs.Applied.{inside_place, write_told}
 use Rattle.ec_fmmu.specs.Ranges.{writes_to}
-use Rattle.ec_fmmu.specs.Alone.{IsAloneWriting, run_unmapped, run_written}
+use Rattle.ec_fmmu.specs.Alone.{IsAloneWriting, brought_by, run_unmapped, run_written}
 use Rattle.ec_fmmu.proofs.PairLaws.{none_or_some, none_is_not_some, pair_from_mapped, pair_from_unmapped, unmapped_from_pair, pair_reaches, pair_reaches_physical}
 use Rattle.ec_fmmu.proofs.SetLaws.{unless_some, some_unless}
 
@@ -104,15 +104,11 @@ alone_source fs k q h w alone here =
 
 -- ---- its part of a write is one run
 
--- what the data bit that a logical bit is becomes at a physical bit
-abbrev brings : (ℕ → Bool) → ℕ → List ℕ → ℕ → Option ℕ → Option Bool
-brings allowed from bytes q o = if allowed (q / 8) then option_map (bit bytes) (inside_place (record { from = from; bits = 8 * length bytes }) o) else None
-
 pub alone_brings : (fs : List FmmuSettings) (k : ℕ) (allowed : ℕ → Bool) (from : ℕ) (bytes : List ℕ) (q logical physical n : ℕ) → k < length fs
     → (get_or fs k no_fmmu).writes ≡ true → IsAloneWriting fs k
     → ((p : ℕ) → unmapped (get_or fs k no_fmmu) p ≡ run_unmapped logical physical n p)
     → (if writes_to (get_or fs k no_fmmu) from (8 * length bytes) q then write_told fs allowed from bytes q else None)
-    ≡ brings allowed from bytes q (run_unmapped logical physical n q)
+    ≡ brought_by allowed from bytes q (run_unmapped logical physical n q)
 alone_brings fs k allowed from bytes q logical physical n h w alone u =
     let f = get_or fs k no_fmmu in
     let bits = 8 * length bytes in
@@ -120,10 +116,10 @@ alone_brings fs k allowed from bytes q logical physical n h w alone u =
       | inl t ↦
           let there : reaches_physical f q ≡ true = (and_parts (reaches_physical f q) (within from bits (first_logical f + (q - first_physical f))) (and_parts f.writes _ t).1).0 in
           if_true (writes_to f from bits q) (write_told fs allowed from bytes q) None t
-          ∙ ap (brings allowed from bytes q) (alone_source fs k q h w alone there ∙ u q)
+          ∙ ap (brought_by allowed from bytes q) (alone_source fs k q h w alone there ∙ u q)
       | inr e ↦
-          let none : brings allowed from bytes q (unmapped f q) ≡ None = elim (none_or_some (unmapped f q)) [
-            | inl z ↦ ap (brings allowed from bytes q) z ∙ if_none (allowed (q / 8)) None refl
+          let none : brought_by allowed from bytes q (unmapped f q) ≡ None = elim (none_or_some (unmapped f q)) [
+            | inl z ↦ ap (brought_by allowed from bytes q) z ∙ if_none (allowed (q / 8)) None refl
             | inr s ↦
                 let p : Pair f s.0 q = pair_from_unmapped f s.0 q s.1 in
                 let z : s.0 ≡ first_logical f + (q - first_physical f) = omega (arith, p.logical_is, p.physical_is) in
@@ -132,18 +128,18 @@ alone_brings fs k allowed from bytes q logical physical n h w alone u =
                       (subst (λ (m : ℕ). within from bits m ≡ true) z y))))
                   | inr y ↦ y
                 ] in
-                ap (brings allowed from bytes q) s.1
+                ap (brought_by allowed from bytes q) s.1
                 ∙ if_none (allowed (q / 8)) _ (ap (option_map (bit bytes)) (if_false (within from bits s.0) (Some (s.0 - from)) None out))
           ] in
           if_false (writes_to f from bits q) (write_told fs allowed from bytes q) None e
-          ∙ sym (ap (brings allowed from bytes q) (sym (u q)) ∙ none)
+          ∙ sym (ap (brought_by allowed from bytes q) (sym (u q)) ∙ none)
     ]
 
 -- the part of the run that lies in the data and in the window
 pub run_brings : (allowed : ℕ → Bool) (from : ℕ) (bytes : List ℕ) (origin window k logical physical n first end : ℕ) → k < window
     → first ≡ max (from - logical) (origin - physical)
     → end ≡ min (min (from + 8 * length bytes - logical) (origin + window - physical)) n
-    → brings allowed from bytes (origin + k) (run_unmapped logical physical n (origin + k))
+    → brought_by allowed from bytes (origin + k) (run_unmapped logical physical n (origin + k))
     ≡ run_written allowed (physical + first) bytes (logical + first - from) (physical + first - origin) (end - first) k
 run_brings allowed from bytes origin window k logical physical n first end l a b =
     let bits = 8 * length bytes in
@@ -153,12 +149,12 @@ run_brings allowed from bytes origin window k logical physical n first end l a b
     let m = end - first in
     let o = run_unmapped logical physical n q in
     let inner = (if allowed ((physical + first + (k - to)) / 8) then Some (bit bytes (at + (k - to))) else None) in
-    let none : brings allowed from bytes q o ≡ None → within to m k ≡ false → brings allowed from bytes q o ≡ run_written allowed (physical + first) bytes at to m k
+    let none : brought_by allowed from bytes q o ≡ None → within to m k ≡ false → brought_by allowed from bytes q o ≡ run_written allowed (physical + first) bytes at to m k
     = λ x y. x ∙ sym (if_false (within to m k) inner None y) in
-    let unmapped_bit : within physical n q ≡ false → brings allowed from bytes q o ≡ None
-    = λ x. ap (brings allowed from bytes q) (if_false (within physical n q) (Some (logical + (q - physical))) None x) ∙ if_none (allowed (q / 8)) None refl in
-    let outside : within physical n q ≡ true → within from bits (logical + (q - physical)) ≡ false → brings allowed from bytes q o ≡ None
-    = λ x y. ap (brings allowed from bytes q) (if_true (within physical n q) (Some (logical + (q - physical))) None x)
+    let unmapped_bit : within physical n q ≡ false → brought_by allowed from bytes q o ≡ None
+    = λ x. ap (brought_by allowed from bytes q) (if_false (within physical n q) (Some (logical + (q - physical))) None x) ∙ if_none (allowed (q / 8)) None refl in
+    let outside : within physical n q ≡ true → within from bits (logical + (q - physical)) ≡ false → brought_by allowed from bytes q o ≡ None
+    = λ x y. ap (brought_by allowed from bytes q) (if_true (within physical n q) (Some (logical + (q - physical))) None x)
     ∙ if_none (allowed (q / 8)) _ (ap (option_map (bit bytes)) (if_false (within from bits (logical + (q - physical))) (Some (logical + (q - physical) - from)) None y)) in
     let out : (k < to) → within to m k ≡ false = λ x. within_below to m k x in
     let past : (to + m ≤ k) → within to m k ≡ false = λ x. within_above to m k x in
@@ -174,7 +170,7 @@ run_brings allowed from bytes origin window k logical physical n first end l a b
                     let here : within to m k ≡ true = within_true to m k (omega arith) (omega arith) in
                     let same : physical + first + (k - to) ≡ q = omega arith in
                     let there_at : at + (k - to) ≡ logical + (q - physical) - from = omega arith in
-                    ap (brings allowed from bytes q) (if_true (within physical n q) (Some (logical + (q - physical))) None there)
+                    ap (brought_by allowed from bytes q) (if_true (within physical n q) (Some (logical + (q - physical))) None there)
                     ∙ (ap (λ (r : Option ℕ). if allowed (q / 8) then option_map (bit bytes) r else None)
                     (if_true (within from bits (logical + (q - physical))) (Some (logical + (q - physical) - from)) None (within_true from bits (logical + (q - physical)) z v))
                     ∙ (ap (λ (i : ℕ). if allowed (q / 8) then Some (bit bytes i) else None) (sym there_at)
@@ -232,15 +228,15 @@ written_none xs allowed physical bytes at to n h =
 pub alone_wholly : (fs : List FmmuSettings) (k from bits q logical physical n : ℕ) → k < length fs → (get_or fs k no_fmmu).writes ≡ true → IsAloneWriting fs k
     → ((p : ℕ) → unmapped (get_or fs k no_fmmu) p ≡ run_unmapped logical physical n p)
     → physical ≤ q → q < physical + n → from ≤ logical + (q - physical) → logical + (q - physical) < from + bits
-    → is_some (inside_place (record { from = from; bits = bits }) (source (writers fs) q)) ≡ true
+    → inside_place (record { from = from; bits = bits }) (source (writers fs) q) ≡ Some (logical + (q - physical) - from)
 alone_wholly fs k from bits q logical physical n h w alone u a b c d =
     let f = get_or fs k no_fmmu in
     let l : ℕ = logical + (q - physical) in
     let one : unmapped f q ≡ Some l = u q ∙ if_true (within physical n q) (Some l) None (within_true physical n q a b) in
     let there : reaches_physical f q ≡ true = pair_reaches_physical f l q (pair_from_unmapped f l q one) in
     let from_it : source (writers fs) q ≡ Some l = alone_source fs k q h w alone there ∙ one in
-    ap (λ (o : Option ℕ). is_some (inside_place (record { from = from; bits = bits }) o)) from_it
-    ∙ ap is_some (if_true (within from bits l) (Some (l - from)) None (within_true from bits l c d))
+    ap (λ (o : Option ℕ). inside_place (record { from = from; bits = bits }) o) from_it
+    ∙ if_true (within from bits l) (Some (l - from)) None (within_true from bits l c d)
 
 -- a run that begins inside another one is a part of it
 pub written_part : (allowed : ℕ → Bool) (physical : ℕ) (bytes : List ℕ) (at to n done m : ℕ) → done + m ≤ n → (k : ℕ)

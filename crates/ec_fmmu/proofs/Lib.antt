@@ -9,3 +9,4 @@ pub mod AloneLaws
 pub mod AloneWriting
 pub mod Missing
 pub mod ApartLaws
+pub mod WayLaws

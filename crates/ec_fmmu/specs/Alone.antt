@@ -1,8 +1,9 @@
 -- An FMMU whose range no other one's meets, and runs of bits.
-use Rattle.std.specs.Prelude.{ℕ, ◌+◌, ◌-◌, ◌/◌, ◌<◌, ◌≡◌, ◌≢◌, List, length, get_or, Bool, true, if◌then◌else◌, Option, Some, None}
+use Rattle.std.specs.Prelude.{ℕ, ◌+◌, ◌-◌, ◌*◌, ◌/◌, ◌<◌, ◌≡◌, ◌≢◌, List, length, get_or, Bool, true, if◌then◌else◌, Option, Some, None, option_map}
 use Rattle.ec_bits.specs.Bits.{bit, within}
 use Rattle.ec_regs.specs.declared.fmmu.FmmuSettings.{FmmuSettings}
 use Rattle.ec_regs.specs.Fmmus.{no_fmmu}
+use Rattle.ec_fmmu.specs.Applied.{inside_place}
 use Rattle.ec_fmmu.specs.Pairs.{reaches, reaches_physical}
 use Rattle.ec_fmmu.specs.Sets.{readers, source, target, writers}
 
@@ -44,3 +45,8 @@ run_written allowed physical bytes at to n k =
     if within to n k
     then (if allowed ((physical + (k - to)) / 8) then Some (bit bytes (at + (k - to))) else None)
     else None
+
+-- what a physical bit becomes by a write of the data, where its pair is with this logical bit, or it has none
+abbrev pub brought_by : (ℕ → Bool) → ℕ → List ℕ → ℕ → Option ℕ → Option Bool
+brought_by allowed from bytes q logical =
+    if allowed (q / 8) then option_map (bit bytes) (inside_place (record { from = from; bits = 8 * length bytes }) logical) else None

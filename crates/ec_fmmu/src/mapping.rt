@@ -5,6 +5,7 @@ ghost use Rattle.ec_regs.specs.Memory.{ram_start, ram_end};
 ghost use Rattle.ec_fmmu.specs.Alone.{run_mapped, run_unmapped};
 ghost use Rattle.ec_fmmu.specs.Pairs.{first_logical as first_logical_of, first_physical as first_physical_of, bit_count as bit_count_of, mapped, unmapped, reaches, reaches_physical, is_ram_bit as is_ram_bit_of};
 
+use crate::run::Run;
 use ec_regs::FmmuSettings;
 use ec_regs::registers::{RAM_END, RAM_START};
 use std::marker::Model;
@@ -22,14 +23,6 @@ fn is_ram_bit(physical: u64) -> bool
 {
     let address = physical / 8;
     RAM_START as u64 <= address && address < RAM_END as u64
-}
-
-/// Logical bits and, one by one, the physical bits that they stand for.
-#[derive(Clone, Copy, Debug)]
-pub(crate) struct Run {
-    pub(crate) logical: u64,
-    pub(crate) physical: u64,
-    pub(crate) count: u64,
 }
 
 /// One FMMU (fieldbus memory management unit): a set of pairs of a logical and a physical bit.

@@ -1,14 +1,17 @@
-ghost use Rattle.std.specs.Prelude.{◌≡◌, ◌<◌, ◌+◌, ◌*◌, ◌^◌, ◌≤◌, length, ℕ, Option, Bool, true, is_some, get_or};
-ghost use Rattle.std.specs.Bool.{OnTrue};
+ghost use Rattle.std.specs.Prelude.{◌≡◌, ◌<◌, ◌+◌, ◌*◌, ◌^◌, ◌≤◌, length, ℕ, Option, Bool, is_some, get_or, option_and_then};
 ghost use Rattle.ec_bits.specs.Bits.{overlay, any_below};
 ghost use Rattle.ec_regs.specs.Memory.{ram_start, ram_end};
 ghost use Rattle.ec_regs.specs.Fmmus.{no_fmmu};
-ghost use Rattle.ec_fmmu.specs.Alone.{IsAlone, run_shown};
+ghost use Rattle.ec_fmmu.specs.Alone.{run_mapped, run_shown};
 ghost use Rattle.ec_fmmu.specs.Applied.{read_told};
 ghost use Rattle.ec_fmmu.specs.Ranges.{range_read_told};
+ghost use Rattle.ec_fmmu.specs.Ways.{IsInRam};
 
 use crate::mapping::Fmmu;
 use crate::precedence::read_target;
+use crate::run::Run;
+use crate::table::FmmuTable;
+use crate::ways::Way;
 use ec_bits::put_told;
 
 /// What lies behind the FMMUs: what each physical bit shows to a reader, if it may be read.
@@ -44,6 +47,7 @@ pub trait ReadableRuns: ReadableBits {
 
 /// Brings what a run of bits shows to the data, bit by bit: a body for
 /// [`ReadableRuns::show_run`].
+#[inline(never)]
 pub fn show_by_bits<M: ReadableBits>(
     memory: &M,
     physical: u32,
@@ -80,38 +84,16 @@ fn read_bit<M: ReadableBits>(fmmus: &[Fmmu], memory: &M, from: u64, place: usize
     }
 }
 
-/// Whether no other FMMU reads to a bit of the range of the one at a place.
-fn is_alone(fmmus: &[Fmmu], place: usize) -> bool
-    requires { place < length fmmus.now }
-    ensures { OnTrue result (IsAlone fmmus.now place) }
-{
-    for k in 0..fmmus.len() {
-        if k != place && fmmus[k].reads() && !fmmus[k].is_apart_from(&fmmus[place]) {
-            return false;
-        }
-    }
-    true
-}
-
-/// Reads the data bits that lie in the range of an FMMU that reads and that no other one's range meets, as one run.
-fn read_alone<M: ReadableRuns>(
-    fmmus: &[Fmmu],
-    place: usize,
-    memory: &M,
-    from: u64,
-    bytes: &mut [u8],
-) -> bool
+/// Reads the data bits that the pairs of a run lead somewhere.
+fn read_alone<M: ReadableRuns>(run: Run, memory: &M, from: u64, bytes: &mut [u8]) -> bool
     requires can { M.can_show memory.now }
     requires fits { from + 8 * length bytes.old < 2 ^ 64 }
-    requires there { place < length fmmus.now }
-    requires goes { (get_or fmmus.now place no_fmmu).reads ≡ true }
-    requires alone { IsAlone fmmus.now place }
-    ensures any { result ≡ any_below (8 * length bytes.old)
-        (λ i. is_some (range_read_told (get_or fmmus.now place no_fmmu) fmmus.now (M.shown memory.now) from i)) }
-    ensures bits { bytes.new
-        ≡ overlay bytes.old (range_read_told (get_or fmmus.now place no_fmmu) fmmus.now (M.shown memory.now) from) }
+    requires inside { IsInRam run }
+    ensures any { result ≡ any_below (8 * length bytes.old) (λ i. is_some (option_and_then (M.shown memory.now)
+        (run_mapped run.logical run.physical run.count (from + i)))) }
+    ensures bits { bytes.new ≡ overlay bytes.old (λ i. option_and_then (M.shown memory.now)
+        (run_mapped run.logical run.physical run.count (from + i))) }
 {
-    let run = fmmus[place].run();
     let bits = 8 * bytes.len() as u64;
     let first = run.logical.max(from) - from;
     let end = ((run.logical + run.count).max(from) - from).min(bits);
@@ -127,10 +109,10 @@ fn read_alone<M: ReadableRuns>(
     )
 }
 
-/// Reads the data bits that lie in the range of the FMMU at a place, if it reads: as one run where no other range meets
-/// it, and else bit by bit.
+/// Reads the data bits that lie in the range of the FMMU at a place, if it reads: as one run where
+/// no other range meets it, and else bit by bit.
 fn read_fmmu<M: ReadableRuns>(
-    fmmus: &[Fmmu],
+    table: &FmmuTable,
     place: usize,
     memory: &M,
     from: u64,
@@ -138,20 +120,24 @@ fn read_fmmu<M: ReadableRuns>(
 ) -> bool
     requires can { M.can_show memory.now }
     requires fits { from + 8 * length bytes.old < 2 ^ 64 }
-    requires there { place < length fmmus.now }
+    requires there { place < 4 }
     ensures any { result ≡ any_below (8 * length bytes.old)
-        (λ i. is_some (range_read_told (get_or fmmus.now place no_fmmu) fmmus.now (M.shown memory.now) from i)) }
+        (λ i. is_some (range_read_told (get_or table.now place no_fmmu) table.now (M.shown memory.now) from i)) }
     ensures bits { bytes.new
-        ≡ overlay bytes.old (range_read_told (get_or fmmus.now place no_fmmu) fmmus.now (M.shown memory.now) from) }
+        ≡ overlay bytes.old (range_read_told (get_or table.now place no_fmmu) table.now (M.shown memory.now) from) }
 {
-    if fmmus[place].reads() && is_alone(fmmus, place) {
-        read_alone(fmmus, place, memory, from, bytes)
-    } else {
-        read_range(fmmus, &fmmus[place], memory, from, bytes)
+    match table.read_way(place) {
+        Way::Closed => false,
+        Way::Alone(run) => read_alone(run, memory, from, bytes),
+        Way::Shared => {
+            let fmmus = table.as_slice();
+            read_range(fmmus, &fmmus[place], memory, from, bytes)
+        }
     }
 }
 
 /// Reads the data bits that lie in the range of one FMMU, if it reads.
+#[inline(never)]
 fn read_range<M: ReadableBits>(
     fmmus: &[Fmmu],
     range: &Fmmu,
@@ -184,16 +170,21 @@ fn read_range<M: ReadableBits>(
 /// each data bit that a read pair leads to a physical bit that shows something becomes that, and
 /// all others stay. Answers whether a bit was read. Only bits in the ranges of FMMUs that read are
 /// looked at.
-pub fn apply_read<M: ReadableRuns>(fmmus: &[Fmmu], memory: &M, from: u64, bytes: &mut [u8]) -> bool
+pub fn apply_read<M: ReadableRuns>(
+    table: &FmmuTable,
+    memory: &M,
+    from: u64,
+    bytes: &mut [u8],
+) -> bool
     requires can { M.can_show memory.now }
     requires fits { from + 8 * length bytes.old < 2 ^ 64 }
     ensures any { result ≡ any_below (8 * length bytes.old)
-        (λ i. is_some (read_told fmmus.now (M.shown memory.now) from i)) }
-    ensures bits { bytes.new ≡ overlay bytes.old (read_told fmmus.now (M.shown memory.now) from) }
+        (λ i. is_some (read_told table.now (M.shown memory.now) from i)) }
+    ensures bits { bytes.new ≡ overlay bytes.old (read_told table.now (M.shown memory.now) from) }
 {
     let mut any = false;
-    for place in 0..fmmus.len() {
-        any |= read_fmmu(fmmus, place, memory, from, bytes);
+    for place in 0..table.read_end() {
+        any |= read_fmmu(table, place, memory, from, bytes);
     }
     any
 }

@@ -1,15 +1,18 @@
 //! The FMMUs of a slave together, with what was found of all of them once.
 
-ghost use Rattle.std.specs.Prelude.{◌≡◌, ◌+◌, ◌<◌, ◌^◌, ℕ, None, true};
+ghost use Rattle.std.specs.Prelude.{◌≡◌, ◌+◌, ◌<◌, ◌≤◌, ◌^◌, ℕ, None, true, false, get_or, length};
 ghost use Rattle.std.specs.Bool.{OnTrue};
+ghost use Rattle.ec_regs.specs.Fmmus.{no_fmmu};
 ghost use Rattle.ec_fmmu.specs.Alone.{AreApart};
 ghost use Rattle.ec_fmmu.specs.Applied.{data_bit_for};
 ghost use Rattle.ec_fmmu.specs.Pairs.{reaches};
 ghost use Rattle.ec_fmmu.specs.Sets.{target, readers};
 ghost use Rattle.ec_fmmu.specs.Stretches.{Has, IsAround};
+ghost use Rattle.ec_fmmu.specs.Ways.{IsReadWay, IsWriteWay};
 
 use crate::crossing::are_apart;
 use crate::mapping::Fmmu;
+use crate::ways::{Way, end_of_open, read_ways, write_ways};
 use std::marker::Model;
 
 /// Logical bits from one on and below another.
@@ -58,26 +61,36 @@ fn around(fmmus: &[Fmmu; 4]) -> Stretch
 }
 
 /// The four FMMUs of a slave. What is asked of each datagram is found once: where their ranges lie
-/// in the logical space, and whether any bit that is read may be written as well.
+/// in the logical space, by which pairs datagrams go through each of them, and whether any bit that
+/// is read may be written as well.
 #[derive(Debug, Drop)]
 pub struct FmmuTable {
     fmmus: [Fmmu; 4],
     stretch: Stretch,
     is_apart: bool,
+    reading: [Way; 4],
+    writing: [Way; 4],
+    // the places behind the last ones that are open
+    read_end: usize,
+    write_end: usize,
 }
 
 impl Model for FmmuTable {
-    ghost use Rattle.std.specs.Prelude.{List};
+    ghost use Rattle.std.specs.Prelude.{◌≡◌, ◌≤◌, List, length};
     ghost use Rattle.std.specs.Bool.{OnTrue};
     ghost use Rattle.ec_regs.specs.declared.fmmu.FmmuSettings.{FmmuSettings};
     ghost use Rattle.ec_fmmu.specs.Alone.{AreApart};
     ghost use Rattle.ec_fmmu.specs.Stretches.{IsAround};
+    ghost use Rattle.ec_fmmu.specs.Ways.{AreClosedFrom, AreReadWays, AreWriteWays};
 
     ghost Value = { List FmmuSettings };
 
     ghost view = { λ t. t.fmmus };
 
-    ghost invariant = { λ t. (IsAround t.stretch t.fmmus) × OnTrue t.is_apart (AreApart t.fmmus) };
+    ghost invariant = { λ t. (length t.fmmus ≡ 4) × (IsAround t.stretch t.fmmus) × OnTrue t.is_apart (AreApart t.fmmus)
+        × AreReadWays t.fmmus t.reading × AreWriteWays t.fmmus t.writing
+        × (t.read_end ≤ 4) × AreClosedFrom t.read_end t.reading
+        × (t.write_end ≤ 4) × AreClosedFrom t.write_end t.writing };
 }
 
 impl FmmuTable {
@@ -85,9 +98,15 @@ impl FmmuTable {
     pub fn new(fmmus: [Fmmu; 4]) -> FmmuTable
         ensures { result ≡ fmmus }
     {
+        let reading = read_ways(&fmmus);
+        let writing = write_ways(&fmmus);
         FmmuTable {
             stretch: around(&fmmus),
             is_apart: are_apart(&fmmus),
+            read_end: end_of_open(&reading),
+            write_end: end_of_open(&writing),
+            reading,
+            writing,
             fmmus,
         }
     }
@@ -97,6 +116,40 @@ impl FmmuTable {
         ensures { result.now ≡ self.now }
     {
         &self.fmmus
+    }
+
+    /// The place behind the last FMMU that reads.
+    pub(crate) fn read_end(&self) -> usize
+        ensures inside { result ≤ 4 }
+        ensures behind { (k : ℕ) → result ≤ k → (get_or self.now k no_fmmu).reads ≡ false }
+    {
+        self.read_end
+    }
+
+    /// The place behind the last FMMU that writes.
+    pub(crate) fn write_end(&self) -> usize
+        ensures inside { result ≤ 4 }
+        ensures behind { (k : ℕ) → result ≤ k → (get_or self.now k no_fmmu).writes ≡ false }
+    {
+        self.write_end
+    }
+
+    /// How reads go through the FMMU at a place.
+    pub(crate) fn read_way(&self, place: usize) -> Way
+        requires { place < 4 }
+        ensures way { IsReadWay self.now place result }
+        ensures there { place < length self.now }
+    {
+        self.reading[place]
+    }
+
+    /// How writes go through the FMMU at a place.
+    pub(crate) fn write_way(&self, place: usize) -> Way
+        requires { place < 4 }
+        ensures way { IsWriteWay self.now place result }
+        ensures there { place < length self.now }
+    {
+        self.writing[place]
     }
 
     /// Whether no physical bit is in the range of an FMMU that reads and of one that writes, as

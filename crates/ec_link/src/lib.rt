@@ -13,8 +13,6 @@ mod plan;
 mod settings;
 mod sizes;
 mod split;
-#[cfg(test)]
-mod tests;
 mod wires;
 
 pub use crate::compiling::compile;

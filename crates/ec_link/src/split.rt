@@ -9,7 +9,7 @@ use ec_table::{LinkRow, Table};
 use std::alloc::{AllocError, Global};
 
 /// What the links so far say of a variable: the sync unit of the first one's slave, and whether a later one's is another.
-#[derive(Clone, Copy, Debug, PartialEq, Eq)]
+#[derive(Clone, Copy)]
 pub struct Seen {
     pub unit: Option<u8>,
     pub differs: bool,

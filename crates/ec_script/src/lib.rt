@@ -11,8 +11,6 @@ mod report;
 mod rounds;
 mod run;
 mod said;
-#[cfg(test)]
-mod tests;
 mod words;
 
 pub use crate::error::ScriptError;

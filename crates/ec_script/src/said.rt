@@ -13,7 +13,7 @@ use std::alloc::{AllocError, Global};
 use std::fmt::Write as _;
 
 /// What there is to say when a line of a script has done its work.
-#[derive(Clone, Copy, Debug, PartialEq, Eq, Drop)]
+#[derive(Clone, Copy, Drop)]
 pub enum Said {
     /// Nothing.
     Nothing,

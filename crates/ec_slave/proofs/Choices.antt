@@ -1,7 +1,7 @@
 -- Laws of tests.
 use Rattle.std.proofs.Common.{Option, Some, None, is_some, is_none, not, ℕ, zero, suc, ◌+◌, ◌<◌, ◌≤◌, ◌≡◌, ◌||◌, Bool, true, false, refl, sym, ◌∙◌, ap, arith, if◌then◌else◌}
 use Rattle.ec_bits.specs.Bits.{any_below}
-use Rattle.ec_bits.proofs.AnyLaws.{if_true, if_false}
+use Rattle.ec_bits.proofs.AnyLaws.{if_true, if_false, any_below_from}
 
 pub any-none : (p : ℕ → Bool) → false ≡ any_below 0 p
 unfolding any_below
@@ -46,3 +46,17 @@ any-part zero n p b e h = let z : n ≡ n + 0 = omega arith in e ∙ ap (λ k. a
 any-part (suc m) n p b e h =
     let z : n + m + 1 ≡ n + suc m = omega arith in
     any-miss (n + m) p b (any-part m n p b e (λ i a l. h i a (omega arith))) (h (n + m) (omega arith) (omega arith)) ∙ ap (λ k. any_below k p) z
+
+-- the step of a loop that joins what all of a part are
+pub any-joined : (m n : ℕ) (p : ℕ → Bool) (b r : Bool) → b ≡ any_below n p → r ≡ p n → 0 < m → ((i : ℕ) → n ≤ i → i < n + m → p i ≡ p n)
+    → (b || r) ≡ any_below (n + m) p
+any-joined m n p b true e h some alike = any-true b ∙ sym (any_below_from (n + m) p n (omega arith) (sym h))
+  where
+    any-true : (b : Bool) → (b || true) ≡ true
+    any-true true = refl
+    any-true false = refl
+any-joined m n p b false e h some alike = any-false b ∙ any-part m n p b e (λ i a l. alike i a l ∙ sym h)
+  where
+    any-false : (b : Bool) → (b || false) ≡ b
+    any-false true = refl
+    any-false false = refl

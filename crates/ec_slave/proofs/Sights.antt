@@ -36,12 +36,17 @@ passes t k (m ∷ ms) n e = elim (cases_Bool (t m)) [
 ]
 
 -- a byte's governor begins at the byte or before it
-pub governor-start : (ms : List Manager) (a n : ℕ) → governor ms a ≡ Some n → (manager_at ms n).settings.start ≤ a
-governor-start ms a n e =
+-- the governor of a byte has it in its span
+pub governor-has : (ms : List Manager) (a n : ℕ) → governor ms a ≡ Some n → governs (manager_at ms n) a ≡ true
+governor-has ms a n e =
     let r = passes (λ m. governs m a) 0 ms n e in
     let at : n ≡ 0 + r.0 = r.1 in
     let same : r.0 ≡ n = omega arith in
-    let g : governs (manager_at ms n) a ≡ true = subst (λ (i : ℕ). governs (manager_at ms i) a ≡ true) same r.2 in
+    subst (λ (i : ℕ). governs (manager_at ms i) a ≡ true) same r.2
+
+pub governor-start : (ms : List Manager) (a n : ℕ) → governor ms a ≡ Some n → (manager_at ms n).settings.start ≤ a
+governor-start ms a n e =
+    let g : governs (manager_at ms n) a ≡ true = governor-has ms a n e in
     let m : Manager = manager_at ms n in
     (within_parts m.settings.start (span m.settings) a (and_parts (is_set m.settings) _ g).1).0
 

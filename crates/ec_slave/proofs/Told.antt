@@ -1,7 +1,9 @@
 -- Numbers of a list told one by one, as a loop tells them.
-use Rattle.std.proofs.Common.{ℕ, zero, suc, ◌+◌, ◌<◌, ◌≤◌, ◌≡◌, ◌≢◌, ◌⊎◌, List, [], ◌∷◌, length, get_or, Option, Some, None, unwrap_or, refl, sym, ◌∙◌, ap, inl, inr, arith, if◌then◌else◌, length-set, get_or-set_same, get_or-set_other}
+use Rattle.std.proofs.Common.{rules, ℕ, zero, suc, ◌+◌, ◌-◌, ◌<◌, ◌≤◌, ◌≡◌, ◌≢◌, ◌⊎◌, List, [], ◌∷◌, length, take, drop, get_or, Option, Some, None, unwrap_or, refl, sym, ◌∙◌, ap, inl, inr, arith, if◌then◌else◌, length-set, get_or-set_same, get_or-set_other}
 use Rattle.std.proofs.lemmas.Bool.{cases_eq, cases_lt}
 use Rattle.std.proofs.lemmas.Grind.{same_number_lists}
+use Rattle.std.proofs.lemmas.List.{places}
+use borrow.Rule.Slice.PartMut.{put_mid}
 use Rattle.ec_bits.specs.Bits.{within}
 use Rattle.ec_bits.proofs.AnyLaws.{if_true, if_false, within_true, within_below, within_above}
 use Rattle.ec_slave.specs.Access.{retold_from}
@@ -148,3 +150,62 @@ told-left (suc m) n xs f h =
     told-left m n xs f (λ i a b. h i a (omega arith))
     ∙ (ap (λ o. set_told (told_along (n + m) 0 xs f) (0 + (n + m)) o) (sym (ap f z ∙ h (n + m) (omega arith) (omega arith)))
     ∙ ap (λ k. told_along k 0 xs f) e)
+
+-- ---- parts of a list, told from a place on
+
+told-behind_at : (m n from : ℕ) (xs : List ℕ) (f : ℕ → Option ℕ) → told_along m (from + n) (told_along n from xs f) f ≡ told_along (n + m) from xs f
+unfolding told_along
+told-behind_at zero n from xs f = let e : n ≡ n + 0 = omega arith in ap (λ k. told_along k from xs f) e
+told-behind_at (suc m) n from xs f =
+    let e : suc (n + m) ≡ n + suc m = omega arith in
+    let z : (from + n) + m ≡ from + (n + m) = omega arith in
+    ap (λ ys. set_told ys (from + n + m) (f (from + n + m))) (told-behind_at m n from xs f)
+    ∙ (ap (λ i. set_told (told_along (n + m) from xs f) i (f i)) z ∙ (told-suc (n + m) from xs f ∙ ap (λ k. told_along k from xs f) e))
+
+-- the step of a loop from a place on that tells a part at once
+pub told-next_at : (n m from : ℕ) (xs : List ℕ) (f g : ℕ → Option ℕ) (before after : List ℕ) → before ≡ told_along n from xs f
+    → ((i : ℕ) → from + n ≤ i → i < from + n + m → g i ≡ f i) → after ≡ retold_from 0 before (λ i. if within (from + n) m i then g i else None)
+    → after ≡ told_along (n + m) from xs f
+told-next_at n m from xs f g before after a h e =
+    e ∙ (sym (told-part m (from + n) before g) ∙ (told-alike m (from + n) before g f h ∙ (ap (λ ys. told_along m (from + n) ys f) a ∙ told-behind_at m n from xs f)))
+
+-- what is told outside a list, or nowhere, leaves it
+pub retold-none : (xs : List ℕ) (f : ℕ → Option ℕ) → ((i : ℕ) → i < length xs → f i ≡ None) → xs ≡ retold_from 0 xs f
+retold-none xs f none = same_number_lists _ _ (sym (length-retold 0 xs f)) (λ i l.
+    sym (get-retold0 xs f i l ∙ ap (λ o. unwrap_or o (get_or xs i 0)) (none i l)))
+
+-- bytes written over bytes
+pub slice-retold : (xs ys : List ℕ) (a n : ℕ) (f : ℕ → Option ℕ) → a + n ≤ length xs → length ys ≡ n
+    → ((i : ℕ) → a ≤ i → i < a + n → f i ≡ Some (get_or ys (i - a) 0)) → ((i : ℕ) → (i < a) ⊎ (a + n ≤ i) → f i ≡ None)
+    → put_mid a n xs ys ≡ retold_from 0 xs f
+slice-retold xs ys a n f h e told none =
+    let long : length (put_mid a n xs ys) ≡ length xs = search (rules, places) in
+    same_number_lists _ _ (long ∙ sym (length-retold 0 xs f)) (λ i l.
+    let l2 : i < length xs = omega (arith, long) in
+    let at = get-retold0 xs f i l2 in
+    elim (cases_lt i a) [
+      | inl x ↦
+          let own : get_or (put_mid a n xs ys) i 0 ≡ get_or xs i 0 = search (rules, places) in
+          own ∙ (ap (λ o. unwrap_or o (get_or xs i 0)) (sym (none i (inl x))) ∙ sym at)
+      | inr x ↦ elim (cases_lt i (a + n)) [
+        | inl y ↦
+            let own : get_or (put_mid a n xs ys) i 0 ≡ get_or ys (i - a) 0 = search (rules, places) in
+            own ∙ (ap (λ o. unwrap_or o (get_or xs i 0)) (sym (told i x y)) ∙ sym at)
+        | inr y ↦
+            let own : get_or (put_mid a n xs ys) i 0 ≡ get_or xs i 0 = search (rules, places) in
+            own ∙ (ap (λ o. unwrap_or o (get_or xs i 0)) (sym (none i (inr y))) ∙ sym at)
+      ]
+    ])
+
+pub retold-alike : (xs : List ℕ) (f g : ℕ → Option ℕ) → ((i : ℕ) → f i ≡ g i) → retold_from 0 xs f ≡ retold_from 0 xs g
+retold-alike xs f g h = same_number_lists _ _ (length-retold 0 xs f ∙ sym (length-retold 0 xs g)) (λ i l.
+    let e = length-retold 0 xs f in
+    let l2 : i < length xs = omega (arith, e) in
+    get-retold0 xs f i l2 ∙ (ap (λ o. unwrap_or o (get_or xs i 0)) (h i) ∙ sym (get-retold0 xs g i l2)))
+
+-- a part of a list: its length and its elements
+pub length-part : (xs : List ℕ) (n m : ℕ) → n + m ≤ length xs → length (take (n + m - n) (drop n xs)) ≡ m
+length-part xs n m h = search (rules, places)
+
+pub get-part : (xs : List ℕ) (n m k : ℕ) → n + m ≤ length xs → k < m → get_or (take (n + m - n) (drop n xs)) k 0 ≡ get_or xs (n + k) 0
+get-part xs n m k h l = search (rules, places)

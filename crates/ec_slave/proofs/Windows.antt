@@ -1,16 +1,15 @@
 -- What one byte of a window gives.
-use Rattle.std.proofs.Common.{ℕ, ◌+◌, ◌-◌, ◌<◌, ◌≤◌, ◌≡◌, ◌⊎◌, List, length, Bool, true, false, slice_index, get_or, Option, Some, None, bit_or, ◌&&◌, ◌||◌, nat_lt, refl, sym, ◌∙◌, ap, inl, inr, arith, if◌then◌else◌}
-use Rattle.std.proofs.lemmas.Bool.{ltb-true, lt-ltb, or_left, and_parts}
+use Rattle.std.proofs.Common.{ℕ, ◌+◌, ◌-◌, ◌<◌, ◌≤◌, ◌≡◌, ◌⊎◌, List, length, Bool, true, false, slice_index, get_or, Option, Some, None, bit_or, ◌&&◌, ◌||◌, not, is_none, nat_lt, refl, sym, ◌∙◌, ap, inl, inr, arith, if◌then◌else◌}
+use Rattle.std.proofs.lemmas.Bool.{cases_lt, ltb-true, lt-ltb, le-ltb, or_left, and_parts}
 use Rattle.ec_bits.specs.Bits.{within}
 use Rattle.ec_bits.proofs.Overlays.{or_true}
 use Rattle.ec_bits.proofs.AnyLaws.{if_true, if_false, if_none, within_true, within_below, within_above}
-use Rattle.ec_regs.specs.Memory.{ram_start, ram_end}
-use Rattle.ec_sync.specs.Manager.{Manager, may_read}
-use Rattle.ec_sync.specs.Governing.{covers, governor, in_first_buffer}
+use Rattle.ec_regs.specs.Memory.{ram_start, ram_end, is_stored, takes_writes}
+use Rattle.ec_sync.specs.Manager.{Manager, may_read, may_write}
+use Rattle.ec_sync.specs.Governing.{covers, governor, in_first_buffer, shown_byte}
 use Rattle.ec_slave.specs.State.{SlaveState, manager_at}
-use Rattle.ec_slave.specs.Managers.{reads_under}
-use Rattle.ec_slave.specs.Access.{Window, touches, byte_at, byte_from, byte_read, may_read_byte, is_kept}
-use Rattle.ec_slave.proofs.Sights.{governor-below}
+use Rattle.ec_slave.specs.Managers.{reads_under, writes_under}
+use Rattle.ec_slave.specs.Access.{Window, touches, register_byte, ram_byte, byte_at, byte_from, byte_read, may_read_byte, may_write_byte, is_kept}
 use Rattle.ec_slave.proofs.Told.{told_along, get-told_outside}
 
 pub from-outside : (w : Window) (a : ℕ) → (a < w.from) ⊎ (w.from + length w.bytes ≤ a) → byte_from w a ≡ None
@@ -67,14 +66,14 @@ read-own s joining from xs ys i long own =
 
 -- bytes that are alike may be read or not alike
 pub read-alike : (ms : List Manager) (touched : ℕ → Bool) (a b : ℕ) → nat_lt a ram_start ≡ nat_lt b ram_start → nat_lt a ram_end ≡ nat_lt b ram_end
-    → governor ms a ≡ governor ms b → ((n : ℕ) → n < length ms → in_first_buffer (manager_at ms n) a ≡ in_first_buffer (manager_at ms n) b)
+    → governor ms a ≡ governor ms b → ((n : ℕ) → governor ms b ≡ Some n → in_first_buffer (manager_at ms n) a ≡ in_first_buffer (manager_at ms n) b)
     → may_read_byte ms touched a ≡ may_read_byte ms touched b
 unfolding may_read_byte
 read-alike ms touched a b low high g front =
     ap (λ (x : Bool). x || (nat_lt a ram_end && reads_under ms touched a (governor ms a))) low
     ∙ (ap (λ (x : Bool). nat_lt b ram_start || (x && reads_under ms touched a (governor ms a))) high
     ∙ (ap (λ (o : Option ℕ). nat_lt b ram_start || (nat_lt b ram_end && reads_under ms touched a o)) g
-    ∙ ap (λ (x : Bool). nat_lt b ram_start || (nat_lt b ram_end && x)) (under (governor ms b) (λ n e. front n (governor-below ms b n e)))))
+    ∙ ap (λ (x : Bool). nat_lt b ram_start || (nat_lt b ram_end && x)) (under (governor ms b) (λ n e. front n e))))
   where
     under : (o : Option ℕ) → ((n : ℕ) → o ≡ Some n → in_first_buffer (manager_at ms n) a ≡ in_first_buffer (manager_at ms n) b)
         → reads_under ms touched a o ≡ reads_under ms touched b o
@@ -93,3 +92,55 @@ read-inside ms touched a h = elim (or_true (nat_lt a ram_start) _ h) [
 pub read-register : (ms : List Manager) (touched : ℕ → Bool) (a : ℕ) → a < ram_start → may_read_byte ms touched a ≡ true
 unfolding may_read_byte
 read-register ms touched a h = or_left (nat_lt a ram_start) _ (lt-ltb a ram_start h)
+
+-- bytes of the RAM that are alike may be written or not alike
+pub write-alike : (ms : List Manager) (busy : Bool) (touched : ℕ → Bool) (a b : ℕ) → ram_start ≤ a → ram_start ≤ b → nat_lt a ram_end ≡ nat_lt b ram_end
+    → governor ms a ≡ governor ms b → ((n : ℕ) → governor ms b ≡ Some n → in_first_buffer (manager_at ms n) a ≡ in_first_buffer (manager_at ms n) b)
+    → may_write_byte ms busy touched a ≡ may_write_byte ms busy touched b
+unfolding may_write_byte
+write-alike ms busy touched a b la lb high g front =
+    if_false (nat_lt a ram_start) (takes_writes busy a) (nat_lt a ram_end && writes_under ms touched a (governor ms a)) (le-ltb a ram_start la)
+    ∙ (ap (λ (x : Bool). x && writes_under ms touched a (governor ms a)) high
+    ∙ (ap (λ (o : Option ℕ). nat_lt b ram_end && writes_under ms touched a o) g
+    ∙ (ap (λ (x : Bool). nat_lt b ram_end && x) (under (governor ms b) (λ n e. front n e))
+    ∙ sym (if_false (nat_lt b ram_start) (takes_writes busy b) (nat_lt b ram_end && writes_under ms touched b (governor ms b)) (le-ltb b ram_start lb)))))
+  where
+    under : (o : Option ℕ) → ((n : ℕ) → o ≡ Some n → in_first_buffer (manager_at ms n) a ≡ in_first_buffer (manager_at ms n) b)
+        → writes_under ms touched a o ≡ writes_under ms touched b o
+    under None h = refl
+    under (Some n) h = ap (λ (x : Bool). x && (covers touched (manager_at ms n) && may_write (manager_at ms n))) (h n refl)
+
+-- and are kept in the memory itself or not
+pub kept-alike : (ms : List Manager) (a b : ℕ) → ram_start ≤ a → ram_start ≤ b → nat_lt a ram_end ≡ nat_lt b ram_end → governor ms a ≡ governor ms b
+    → is_kept ms a ≡ is_kept ms b
+unfolding is_kept
+kept-alike ms a b la lb high g =
+    if_false (nat_lt a ram_start) (is_stored a && not (within 0x0800 32 a)) (nat_lt a ram_end && is_none (governor ms a)) (le-ltb a ram_start la)
+    ∙ (ap (λ (x : Bool). x && is_none (governor ms a)) high
+    ∙ (ap (λ (o : Option ℕ). nat_lt b ram_end && is_none o) g
+    ∙ sym (if_false (nat_lt b ram_start) (is_stored b && not (within 0x0800 32 b)) (nat_lt b ram_end && is_none (governor ms b)) (le-ltb b ram_start lb))))
+
+-- a byte that is kept lies in the memory
+pub kept-below : (ms : List Manager) (a : ℕ) → is_kept ms a ≡ true → a < ram_end
+unfolding is_kept
+kept-below ms a h = elim (cases_lt a ram_start) [
+  | inl x ↦ omega (arith, x)
+  | inr x ↦
+      let e : (nat_lt a ram_end && is_none (governor ms a)) ≡ true
+      = sym (if_false (nat_lt a ram_start) (is_stored a && not (within 0x0800 32 a)) (nat_lt a ram_end && is_none (governor ms a)) (le-ltb a ram_start x)) ∙ h in
+      ltb-true a ram_end (and_parts (nat_lt a ram_end) (is_none (governor ms a)) e).0
+]
+
+-- ---- what the RAM reads
+
+pub plain-byte : (s : SlaveState) (a : ℕ) → ram_start ≤ a → governor s.managers a ≡ None → byte_at s a ≡ slice_index s.memory a
+unfolding byte_at
+plain-byte s a l g =
+    if_false (nat_lt a ram_start) (register_byte s a) (ram_byte s.memory s.managers a (governor s.managers a)) (le-ltb a ram_start l)
+    ∙ ap (ram_byte s.memory s.managers a) g
+
+pub governed-byte : (s : SlaveState) (a n : ℕ) → ram_start ≤ a → governor s.managers a ≡ Some n → byte_at s a ≡ shown_byte (manager_at s.managers n) a
+unfolding byte_at
+governed-byte s a n l g =
+    if_false (nat_lt a ram_start) (register_byte s a) (ram_byte s.memory s.managers a (governor s.managers a)) (le-ltb a ram_start l)
+    ∙ ap (ram_byte s.memory s.managers a) g

@@ -1,6 +1,6 @@
 -- What a slave's application reads and writes (ETG.1000.5, "process data"; byte by byte, the profile of the simulated
 -- slaves): the outputs of manager 2 and the inputs of manager 3, in SAFEOP and in OP.
-use Rattle.std.specs.Prelude.{ℕ, ◌&&◌, List, [], Bool, true, false, if◌then◌else◌, Option, Some, None, option_map, slice_set}
+use Rattle.std.specs.Prelude.{ℕ, zero, suc, ◌&&◌, List, [], Bool, true, false, if◌then◌else◌, Option, Some, None, option_map, unwrap_or, slice_index, slice_set}
 use Rattle.ec_regs.specs.Managers.{is_set, is_buffered}
 use Rattle.ec_al.specs.declared.state.State.{State}
 use Rattle.ec_al.specs.declared.state.State.TheVariants.{SafeOp, Op}
@@ -35,6 +35,11 @@ with_manager s n m = record s { managers = slice_set s.managers n m }
 abbrev pub input_put : SlaveState → ℕ → ℕ → Option SlaveState
 input_put s i x = if is_running s.al.state then option_map (with_manager s 3) (app_put (manager_at s.managers 3) i x) else None
 
+-- the first n bytes of these inputs one after the other; one that is denied changes nothing
+unfoldable pub inputs_put : SlaveState → List ℕ → ℕ → SlaveState
+inputs_put s inputs zero = s
+inputs_put s inputs (suc n) = unwrap_or (input_put (inputs_put s inputs n) n (slice_index inputs n)) (inputs_put s inputs n)
+
 -- the application reads byte i of the outputs: nothing where it is denied
 abbrev pub output_got : SlaveState → ℕ → Option Got
 output_got s i = if is_running s.al.state then app_got (manager_at s.managers 2) i else None
@@ -43,3 +48,8 @@ output_got s i = if is_running s.al.state then app_got (manager_at s.managers 2)
 abbrev pub output_taken : SlaveState → Option Got → SlaveState
 output_taken s None = s
 output_taken s (Some got) = with_manager s 2 (after_get (manager_at s.managers 2) (Some got))
+
+-- the first n bytes of the outputs one after the other
+unfoldable pub outputs_taken : SlaveState → ℕ → SlaveState
+outputs_taken s zero = s
+outputs_taken s (suc n) = output_taken (outputs_taken s n) (output_got (outputs_taken s n) n)

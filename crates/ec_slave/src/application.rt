@@ -3,7 +3,7 @@
 ghost use Rattle.std.specs.Prelude.{◌≡◌, ◌<◌, [], ◌∷◌, length, is_some, option_map, unwrap_or};
 ghost use Rattle.ec_sync.specs.Manager.{no_manager};
 ghost use Rattle.ec_slave.specs.State.{power_on};
-ghost use Rattle.ec_slave.specs.Application.{is_running as runs_in, outputs_shown, get_size, put_size, input_put, output_got, output_taken};
+ghost use Rattle.ec_slave.specs.Application.{is_running as runs_in, outputs_shown, get_size, put_size, input_put, inputs_put, output_got, output_taken, outputs_taken};
 
 use crate::fmmus::read_fmmus;
 use crate::slave::Slave;
@@ -65,6 +65,18 @@ impl Slave {
         self.managers[3].app_put(place, byte)
     }
 
+    /// The application writes all bytes of the inputs, as many as `app_sizes` says, as by `app_put` one after the other: they
+    /// are published.
+    pub fn app_put_all(&mut self, inputs: &[u8])
+        requires { length inputs.now ≡ put_size self.old }
+        ensures { self.new ≡ inputs_put self.old inputs.now (length inputs.now) }
+    {
+        self.is_sound();
+        if !inputs.is_empty() {
+            self.managers[3].app_put_all(inputs);
+        }
+    }
+
     /// The application reads byte `place` of the outputs: byte 0 opens a view of what is published, the last byte closes it.
     /// `None`, and nothing changes, exactly where it is denied: in SAFEOP and OP alone, on manager 2 enabled, buffered and
     /// written by the ring, and below its length, the bytes after the first on an open view.
@@ -76,6 +88,17 @@ impl Slave {
             return None;
         }
         self.managers[2].app_get(place)
+    }
+
+    /// The application reads all bytes of the outputs, as many as `app_sizes` says, as by `app_get` one after the other.
+    pub fn app_get_all(&mut self)
+        ensures { self.new ≡ outputs_taken self.old (get_size self.old) }
+    {
+        self.is_sound();
+        let (output_count, _) = self.app_sizes();
+        if output_count > 0 {
+            self.managers[2].app_get_all();
+        }
     }
 }
 

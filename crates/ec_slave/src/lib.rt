@@ -15,6 +15,3 @@ mod slave;
 mod sound;
 
 pub use crate::slave::Slave;
-
-#[cfg(test)]
-mod tests;

@@ -24,7 +24,7 @@ mod writing;
 
 use crate::logical::managers::access_managers;
 use crate::logical::reading::read_logical;
-pub(crate) use crate::logical::runs::end_of_alike;
+pub(crate) use crate::logical::runs::{are_ungoverned, cut, end_of_alike};
 use crate::logical::writing::write_logical;
 use crate::role::Role;
 use crate::slave::Slave;
@@ -41,21 +41,8 @@ impl Slave {
         ensures bytes { bytes.new ≡ overlay bytes.old (read_bit self.old.memory self.old.managers (fmmus self.old) (record { from = from; bits = 8 * length bytes.old })) }
         ensures some { result ≡ some_read self.old.memory self.old.managers (fmmus self.old) (record { from = from; bits = 8 * length bytes.old }) }
     {
-        let is_read = read_logical(
-            &self.memory,
-            &self.managers,
-            self.fmmus.as_slice(),
-            from,
-            bytes,
-        );
-        access_managers(
-            &mut self.managers,
-            true,
-            false,
-            self.fmmus.as_slice(),
-            from,
-            bytes,
-        );
+        let is_read = read_logical(&self.memory, &self.managers, &self.fmmus, from, bytes);
+        access_managers(&mut self.managers, true, false, &self.fmmus, from, bytes);
         is_read
     }
 
@@ -65,7 +52,7 @@ impl Slave {
         ensures slave { self.new ≡ logical_after self.old reading true (record { from = from; bits = 8 * length bytes.now }) bytes.now }
         ensures some { result ≡ some_written self.old.managers (fmmus self.old) (record { from = from; bits = 8 * length bytes.now }) bytes.now }
     {
-        let fmmus = self.fmmus.as_slice();
+        let fmmus = &self.fmmus;
         let in_memory = write_logical(&mut self.memory, &self.managers, fmmus, from, bytes);
         let in_manager = access_managers(&mut self.managers, reading, true, fmmus, from, bytes);
         in_memory | in_manager
@@ -80,18 +67,13 @@ impl Slave {
         ensures added { result ≡ from_bool (some_read self.old.memory self.old.managers (fmmus self.old) (record { from = from; bits = 8 * length bytes.old }))
             + 2 * from_bool (some_written self.old.managers (fmmus self.old) (record { from = from; bits = 8 * length bytes.old }) bytes.old) }
     {
-        let is_read = read_logical(
-            &self.memory,
-            &self.managers,
-            self.fmmus.as_slice(),
-            from,
-            bytes,
-        );
+        let is_read = read_logical(&self.memory, &self.managers, &self.fmmus, from, bytes);
         let is_written = self.write_bits(true, from, received);
         is_read as u16 + 2 * is_written as u16
     }
 
     /// The same, with a copy of its own.
+    #[inline(never)]
     fn read_write_copied_bits(&mut self, from: u64, bytes: &mut [u8]) -> u16
         requires small { from + 8 * length bytes.old < 2 ^ 64 }
         requires few { length bytes.old < 2048 }
@@ -203,6 +185,7 @@ impl Slave {
     }
 
     /// Answers a datagram that reads and writes: a slave whose type takes no part in such datagrams lets it pass.
+    #[tactic(auto, using(crate::proofs::Answered::exchanged_datagram, crate::proofs::Answered::exchanged_state, crate::proofs::Answered::passed_datagram, crate::proofs::Answered::passed_state))]
     pub(crate) fn process_lrw(&mut self, header: Header, part: &mut [u8])
         requires spelt { IsSpelling part.old }
         requires read { (more : Bool) (d : Datagram) → IsDatagram d → part.old ≡ spelling more d

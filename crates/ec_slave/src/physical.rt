@@ -17,9 +17,11 @@ mod bytes;
 mod managers;
 
 use crate::fmmus::read_fmmus;
-use crate::physical::bytes::{end_of_part, owner, read_over, reads_byte, write_physical};
+use crate::physical::bytes::{
+    end_of_part, owner, read_over, read_slice, reads_byte, write_physical,
+};
 use crate::physical::managers::access_managers;
-use crate::role::{Role, adp_after_slave};
+use crate::role::{Encounter, Role};
 use crate::slave::Slave;
 use ec_al::Al;
 use ec_fmmu::FmmuTable;
@@ -57,8 +59,33 @@ fn renew_fmmus(fmmus: &mut FmmuTable, memory: &[u8], from: usize)
 
 impl Slave {
     /// Reads into the `count` bytes of a datagram from `at` on, all of which it reads and that have this governor, or
-    /// none, as far as they lie in the RAM.
+    /// none, as far as they lie in the RAM: at once where what they show lies together.
     fn read_part(
+        &self,
+        owner: Option<usize>,
+        joining: bool,
+        from: usize,
+        at: usize,
+        count: usize,
+        bytes: &mut [u8],
+    )
+        requires small { from + length bytes.old < 2 ^ 32 }
+        requires inside { at + count ≤ length bytes.old }
+        requires reads { (i : ℕ) → at ≤ i → i < at + count → may_read_byte self.now.managers (within from (length bytes.old)) (from + i) ≡ true }
+        requires memory { (i : ℕ) → at ≤ i → i < at + count → from + i < 0x3000 }
+        requires within { IfSome owner (λ n. n < length self.now.managers) }
+        requires owner { (a : ℕ) → ram_start ≤ a → from + at ≤ a → a < from + at + count → owner ≡ governor_of self.now.managers a }
+        ensures { bytes.new ≡ retold bytes.old (λ i. if within at count i then byte_read self.now joining (record { from = from; bytes = bytes.old }) i else None) }
+    {
+        match self.shown_together(owner, from + at, count) {
+            Some(shown) => read_slice(joining, &mut bytes[at..at + count], shown),
+            None => self.read_part_each(owner, joining, from, at, count, bytes),
+        }
+    }
+
+    /// The same, byte by byte.
+    #[inline(never)]
+    fn read_part_each(
         &self,
         owner: Option<usize>,
         joining: bool,
@@ -211,6 +238,7 @@ impl Slave {
     }
 
     /// The same, with a copy of its own.
+    #[inline(never)]
     fn read_write_copied_bytes(&mut self, joining: bool, from: usize, bytes: &mut [u8]) -> u16
         requires small { from + length bytes.old < 2 ^ 32 }
         requires few { length bytes.old < 2048 }
@@ -270,9 +298,9 @@ impl Slave {
             → self.new ≡ (meets_physically self.old d).slave }
     {
         let counter = read_counter(part);
-        let role = Role::of(header.command, header.adp(), self);
-        let added = self.access_physical_data(role, header.ado(), part);
-        write_adp(part, adp_after_slave(header.command, header.adp()));
+        let met = Encounter::of(header.command, header.adp(), self);
+        let added = self.access_physical_data(met.role, header.ado(), part);
+        write_adp(part, met.adp);
         write_counter(part, counter.wrapping_add(added));
     }
 }

@@ -1,6 +1,7 @@
-ghost use Rattle.std.specs.Prelude.{◌≡◌, if◌then◌else◌};
+ghost use Rattle.std.specs.Prelude.{◌≡◌, ◌<◌, ◌+◌, ◌%◌, if◌then◌else◌};
 ghost use Rattle.ec_slave.specs.Roles.{adp_after, role_of};
 ghost use Rattle.ec_slave.specs.State.{station_of};
+ghost use Rattle.ec_slave.specs.declared.role.Encounter.{Encounter};
 ghost use Rattle.ec_slave.specs.declared.role.Role.TheVariants.{Nothing, Read, Write};
 
 use crate::slave::Slave;
@@ -24,27 +25,6 @@ pub(crate) enum Role {
 }
 
 impl Role {
-    /// The role of a slave that a datagram with the ADP reaches, by the table of commands (ETG.1000.4, "EtherCAT
-    /// commands"). Only a command that names a station asks for the slave's address.
-    pub fn of(command: Command, adp: u16, slave: &Slave) -> Role
-        ensures { result ≡ role_of command adp (station_of slave.now) }
-    {
-        match command {
-            Command::Nop | Command::Lrd | Command::Lwr | Command::Lrw => Role::Nothing,
-            Command::Aprd => Role::Read.only_if(adp == 0),
-            Command::Apwr => Role::Write.only_if(adp == 0),
-            Command::Aprw => Role::ReadWrite.only_if(adp == 0),
-            Command::Fprd => Role::Read.only_if(adp == slave.station_address()),
-            Command::Fpwr => Role::Write.only_if(adp == slave.station_address()),
-            Command::Fprw => Role::ReadWrite.only_if(adp == slave.station_address()),
-            Command::Brd => Role::OrRead,
-            Command::Bwr => Role::Write,
-            Command::Brw => Role::OrReadWrite,
-            Command::Armw => Role::read_or_write(adp == 0),
-            Command::Frmw => Role::read_or_write(adp == slave.station_address()),
-        }
-    }
-
     fn only_if(self, is_meant: bool) -> Role
         ensures { result ≡ (if is_meant then self else Nothing) }
     {
@@ -56,17 +36,62 @@ impl Role {
     {
         if is_meant { Role::Read } else { Role::Write }
     }
+
+    /// In this role, and the ADP stays.
+    fn leaving(self, adp: u16) -> Encounter
+        ensures { result ≡ record { role = self; adp = adp } }
+    {
+        Encounter { role: self, adp }
+    }
+
+    /// In this role, and the slave is counted.
+    fn counting(self, adp: u16) -> Encounter
+        ensures { result ≡ record { role = self; adp = (adp + 1) % 65536 } }
+    {
+        Encounter {
+            role: self,
+            adp: adp.wrapping_add(1),
+        }
+    }
 }
 
-/// The ADP of a datagram that leaves a slave, by the same table.
-pub(crate) fn adp_after_slave(command: Command, adp: u16) -> u16
-    ensures { result ≡ adp_after command adp }
-{
-    match command {
-        Command::Aprd | Command::Apwr | Command::Aprw => adp.wrapping_add(1),
-        Command::Brd | Command::Bwr | Command::Brw => adp.wrapping_add(1),
-        Command::Armw => adp.wrapping_add(1),
-        Command::Nop | Command::Fprd | Command::Fpwr | Command::Fprw => adp,
-        Command::Lrd | Command::Lwr | Command::Lrw | Command::Frmw => adp,
+/// How a physical datagram meets a slave.
+#[derive(Clone, Copy)]
+pub(crate) struct Encounter {
+    /// What the slave does with its data.
+    pub role: Role,
+    /// The ADP with which it leaves.
+    pub adp: u16,
+}
+
+impl Encounter {
+    /// How a datagram with this command and ADP meets a slave, by the table of commands (ETG.1000.4, "EtherCAT
+    /// commands"): each slave counts a position, reached or not, and a station's number stays. Only a command that names a
+    /// station asks for the slave's address.
+    pub fn of(command: Command, adp: u16, slave: &Slave) -> Encounter
+        ensures role { result.role ≡ role_of command adp (station_of slave.now) }
+        ensures adp { result.adp ≡ adp_after command adp }
+        ensures word { result.adp < 65536 }
+    {
+        match command {
+            Command::Nop | Command::Lrd | Command::Lwr | Command::Lrw => Role::Nothing.leaving(adp),
+            Command::Aprd => Role::Read.only_if(adp == 0).counting(adp),
+            Command::Apwr => Role::Write.only_if(adp == 0).counting(adp),
+            Command::Aprw => Role::ReadWrite.only_if(adp == 0).counting(adp),
+            Command::Fprd => Role::Read
+                .only_if(adp == slave.station_address())
+                .leaving(adp),
+            Command::Fpwr => Role::Write
+                .only_if(adp == slave.station_address())
+                .leaving(adp),
+            Command::Fprw => Role::ReadWrite
+                .only_if(adp == slave.station_address())
+                .leaving(adp),
+            Command::Brd => Role::OrRead.counting(adp),
+            Command::Bwr => Role::Write.counting(adp),
+            Command::Brw => Role::OrReadWrite.counting(adp),
+            Command::Armw => Role::read_or_write(adp == 0).counting(adp),
+            Command::Frmw => Role::read_or_write(adp == slave.station_address()).leaving(adp),
+        }
     }
 }

@@ -1,4 +1,4 @@
-ghost use Rattle.std.specs.Prelude.{◌≡◌, ◌+◌, ◌*◌, ◌<◌, ◌≤◌, length, IfOk, IfSome, if◌then◌else◌, [], ◌∷◌, Option, Some, None, nat_lt};
+ghost use Rattle.std.specs.Prelude.{◌≡◌, ◌+◌, ◌*◌, ◌<◌, ◌≤◌, ◌^◌, ℕ, length, slice_index, IfOk, IfSome, if◌then◌else◌, [], ◌∷◌, Option, Some, None, nat_lt};
 ghost use Rattle.ec_regs.specs.Memory.{ram_start};
 ghost use Rattle.ec_sync.specs.Manager.{no_manager};
 ghost use Rattle.ec_sync.specs.Governing.{governor as governor_of};
@@ -89,6 +89,18 @@ fn new_managers(alloc: Global) -> Result<Vec<Manager>, AllocError>
     Ok(managers)
 }
 
+/// So many bytes from a place on, if there are as many.
+fn part_of(bytes: &[u8], at: usize, count: usize) -> Option<&[u8]>
+    requires { at + count < 2 ^ 64 }
+    ensures long { IfSome result (λ xs. length xs.now ≡ count) }
+    ensures bytes { IfSome result (λ xs. (k : ℕ) → k < count → slice_index xs.now k ≡ slice_index bytes.now (at + k)) }
+{
+    if bytes.len() < at + count {
+        return None;
+    }
+    Some(&bytes[at..at + count])
+}
+
 impl Slave {
     /// A slave of a type that was just switched on. Each later call finds the memory that it needs.
     ///
@@ -174,6 +186,34 @@ impl Slave {
         match owner {
             None => self.memory[address],
             Some(place) => self.managers[place].shown_byte(address),
+        }
+    }
+
+    /// What the `count` addresses from `first` on read that have this governor, or none, where that lies together: in
+    /// the RAM itself, or in the value of the governor. None says nothing.
+    pub(crate) fn shown_together(
+        &self,
+        owner: Option<usize>,
+        first: usize,
+        count: usize,
+    ) -> Option<&[u8]>
+        requires inside { first + count < 2 ^ 32 }
+        requires within { IfSome owner (λ n. n < length self.now.managers) }
+        requires owner { (a : ℕ) → ram_start ≤ a → first ≤ a → a < first + count → owner ≡ governor_of self.now.managers a }
+        ensures long { IfSome result (λ xs. length xs.now ≡ count) }
+        ensures bytes { IfSome result (λ xs. (k : ℕ) → k < count → slice_index xs.now k ≡ byte_at self.now (first + k)) }
+    {
+        if first < RAM_START {
+            return None;
+        }
+        match owner {
+            None => part_of(&self.memory, first, count),
+            Some(place) => {
+                let manager = &self.managers[place];
+                let start = manager.settings().start as usize;
+                let at = first.checked_sub(start)?;
+                part_of(manager.shown(), at, count)
+            }
         }
     }
 

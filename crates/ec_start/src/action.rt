@@ -21,7 +21,7 @@ pub const MAX_DATA: usize = 1024;
 const FIRST_STATION: u16 = 0x1001;
 
 /// What an SDO request transfers.
-#[derive(Clone, Copy, Debug, PartialEq, Eq)]
+#[derive(Clone, Copy)]
 pub enum Transfer {
     /// A download of this value.
     Download(Value),
@@ -30,7 +30,7 @@ pub enum Transfer {
 }
 
 /// An SDO request of the start-up to one slave.
-#[derive(Clone, Copy, Debug, PartialEq, Eq)]
+#[derive(Clone, Copy)]
 pub struct Request {
     /// The index of the object.
     pub index: u16,
@@ -42,7 +42,7 @@ pub struct Request {
 
 /// One action of a start-up: an init command, or a wait with all its polls. Slaves are counted from 0 in the order of the
 /// table.
-#[derive(Clone, Copy, Debug, PartialEq, Eq)]
+#[derive(Clone, Copy)]
 pub enum Action {
     /// Counts the slaves.
     CountSlaves,

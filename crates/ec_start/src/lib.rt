@@ -10,8 +10,6 @@ mod phase;
 mod requests;
 mod script;
 mod startup;
-#[cfg(test)]
-mod tests;
 mod verdict;
 
 pub use crate::action::{Action, Request, Transfer};

@@ -14,7 +14,7 @@ use ec_link::Settings;
 use ec_regs::Pdo;
 
 /// What a place is in a run of requests.
-#[derive(Clone, Copy, Debug, PartialEq, Eq)]
+#[derive(Clone, Copy)]
 pub enum Seek {
     /// The place of this request.
     Found(Request),

@@ -12,7 +12,7 @@ use ec_al::State;
 use ec_link::Settings;
 
 /// A run of actions for each slave, slave after slave; the opening is for all slaves at once.
-#[derive(Clone, Copy, Debug, PartialEq, Eq)]
+#[derive(Clone, Copy)]
 pub enum Stretch {
     /// The slaves are counted, asked for INIT and cleared.
     Opening,
@@ -35,7 +35,7 @@ pub enum Stretch {
 }
 
 /// A place in the script.
-#[derive(Clone, Copy, Debug, PartialEq, Eq)]
+#[derive(Clone, Copy)]
 pub struct Cursor {
     /// The stretch.
     pub stretch: Stretch,
@@ -46,7 +46,7 @@ pub struct Cursor {
 }
 
 /// A step of the script: where it is, and its action.
-#[derive(Clone, Copy, Debug, PartialEq, Eq)]
+#[derive(Clone, Copy)]
 pub struct Step {
     pub cursor: Cursor,
     pub action: Action,

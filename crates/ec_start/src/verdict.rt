@@ -16,7 +16,7 @@ use ec_link::Settings;
 use ec_regs::{AlWord, Device, SiiControl};
 
 /// What a returned datagram says of the action that it was sent for.
-#[derive(Clone, Copy, Debug, PartialEq, Eq)]
+#[derive(Clone, Copy)]
 pub enum Verdict {
     /// The action is done.
     Next,

@@ -1,6 +1,6 @@
 //! Bytes of the slave's application.
 
-ghost use Rattle.std.specs.Prelude.{◌≡◌, is_some, unwrap_or, option_map};
+ghost use Rattle.std.specs.Prelude.{◌≡◌, length, None, is_some, unwrap_or, option_map};
 ghost use Rattle.ec_sync.specs.Manager.{may_app_put as application_may_put, may_app_get as application_may_get, app_put as put_by_application, app_got, after_get};
 
 use crate::manager::Manager;
@@ -33,6 +33,14 @@ impl Manager {
         self.buffer.put(place, byte)
     }
 
+    /// The application writes all bytes in turn, where there is one at least: the last one publishes them.
+    pub fn app_put_all(&mut self, value: &[u8])
+        requires { length value.now ≡ length self.old.buffer.published }
+        ensures { self.new ≡ record self.old { buffer = record self.old.buffer { published = value.now; draft = None } } }
+    {
+        self.buffer.put_all(value);
+    }
+
     /// The application reads byte `place`: byte 0 opens a view of the published value, the last byte closes it. `None`,
     /// and nothing changes, exactly where it is denied: it must be an enabled buffered manager that the ring writes, the
     /// place below its length, and a view open for the bytes after the first.
@@ -44,5 +52,12 @@ impl Manager {
             return None;
         }
         self.buffer.get(place)
+    }
+
+    /// The application reads all bytes of what is published in turn, where there is one at least: the last one closes its view.
+    pub fn app_get_all(&mut self)
+        ensures { self.new ≡ record self.old { buffer = record self.old.buffer { view = None } } }
+    {
+        self.buffer.get_all();
     }
 }

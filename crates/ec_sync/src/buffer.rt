@@ -1,6 +1,6 @@
 //! What a buffered manager holds.
 
-ghost use Rattle.std.specs.Prelude.{◌≡◌, ◌+◌, ◌-◌, ◌<◌, ◌≤◌, ◌++◌, length, take, drop, slice_set, IfOk, Some, is_some, unwrap_or, option_map, true, ℕ, List};
+ghost use Rattle.std.specs.Prelude.{◌≡◌, ◌+◌, ◌-◌, ◌<◌, ◌≤◌, ◌++◌, length, take, drop, slice_set, IfOk, Some, None, is_some, unwrap_or, option_map, true, ℕ, List};
 ghost use Rattle.ec_bits.specs.Bits.{zeros};
 ghost use Rattle.ec_regs.specs.Memory.{ram_end};
 ghost use Rattle.ec_sync.specs.Buffer.{emptied_buffer, publishing, draft_next, app_written, app_read, after_read};
@@ -122,6 +122,15 @@ impl Buffer {
         true
     }
 
+    /// The application writes all bytes, which publishes them and closes a draft.
+    pub fn put_all(&mut self, value: &[u8])
+        requires { length value.now ≡ length self.old.published }
+        ensures { self.new ≡ record self.old { published = value.now; draft = None } }
+    {
+        copy_front(&mut self.published, value, self.len);
+        self.is_drafting = false;
+    }
+
     /// Opens a draft of zeros.
     fn open_draft(&mut self)
         ensures { self.new ≡ record self.old { draft = Some (zeros (length self.old.published)) } }
@@ -161,6 +170,13 @@ impl Buffer {
         }
         self.is_viewing = place + 1 != self.len;
         Some(self.seen[place])
+    }
+
+    /// The application reads all bytes, which closes a view.
+    pub fn get_all(&mut self)
+        ensures { self.new ≡ record self.old { view = None } }
+    {
+        self.is_viewing = false;
     }
 }
 

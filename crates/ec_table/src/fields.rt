@@ -18,7 +18,7 @@ pub const MAX_U16: u32 = u16::MAX as u32;
 pub const MAX_U8: u32 = u8::MAX as u32;
 
 /// A kind of table in a document.
-#[derive(Clone, Copy, Debug, PartialEq, Eq)]
+#[derive(Clone, Copy)]
 pub enum Shape {
     Document,
     Type,

@@ -12,8 +12,6 @@ mod read;
 mod rows;
 mod slaves;
 mod table;
-#[cfg(test)]
-mod tests;
 mod types;
 mod variables;
 

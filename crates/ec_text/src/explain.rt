@@ -16,7 +16,7 @@ Each line is a run of bits that go the same way. Bits count from 0, the lowest f
 ";
 
 /// Bits of an object one after another that go the same way.
-#[derive(Clone, Copy, Debug)]
+#[derive(Clone, Copy)]
 struct Run {
     /// The first among the object bits of the slave.
     from: usize,
@@ -25,7 +25,7 @@ struct Run {
 }
 
 /// One direction of a plan: its links, and for each bit of its image the place of its variable.
-#[derive(Debug, Drop)]
+#[derive(Drop)]
 struct Image<'a> {
     direction: Direction,
     links: &'a [Link],
@@ -141,7 +141,7 @@ fn runs_of(
 }
 
 /// A plan and its table, with what is looked up in them.
-#[derive(Debug, Drop)]
+#[derive(Drop)]
 struct Explained<'a> {
     alloc: Global,
     table: &'a Table,

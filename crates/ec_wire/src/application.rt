@@ -8,7 +8,7 @@ ghost use Rattle.ec_wire.specs.Segments.{IsAnswer};
 use ec_ring::Ring;
 use ec_slave::Slave;
 
-/// The most bytes of process data of a slave in a direction: its RAM has three buffers for them.
+/// The most bytes of inputs of a slave: its RAM has three buffers for them.
 const MOST_DATA: usize = 2730;
 
 /// A slave's application: what it makes of its outputs.
@@ -41,25 +41,27 @@ impl App for Echo {
 
     fn step(&mut self, outputs: &[u8], inputs: &mut [u8]) {
         let shown = outputs.len().min(inputs.len());
-        inputs.fill(0);
         inputs[..shown].copy_from_slice(&outputs[..shown]);
+        inputs[shown..].fill(0);
     }
 }
 
-/// The application reads its outputs, as many as it may read now.
-fn read_outputs(slave: &mut Slave, outputs: &mut [u8])
-    requires { length outputs.old ≡ get_size slave.old }
-    ensures seen { outputs.new ≡ outputs_seen slave.old }
-    ensures read { slave.new ≡ outputs_read slave.old }
+/// The outputs that the application sees, as many as it may read now.
+fn outputs_of(slave: &Slave, count: usize) -> &[u8]
+    requires { count ≡ get_size slave.now }
+    ensures { result.now ≡ outputs_seen slave.now }
 {
     slave.is_sound();
-    if outputs.is_empty() {
-        return;
-    }
-    outputs.copy_from_slice(slave.outputs());
-    // the first byte opens a view, and the last one closes it
-    slave.app_get(0);
-    slave.app_get(outputs.len() - 1);
+    let outputs = slave.outputs();
+    &outputs[..count]
+}
+
+/// The application reads its outputs, as many as it may read now.
+fn read_outputs(slave: &mut Slave)
+    ensures { slave.new ≡ outputs_read slave.old }
+{
+    slave.is_sound();
+    slave.app_get_all();
 }
 
 /// The application writes its inputs, as many as it may write now.
@@ -68,28 +70,25 @@ fn write_inputs(slave: &mut Slave, inputs: &[u8])
     ensures { slave.new ≡ inputs_written slave.old inputs.now }
 {
     slave.is_sound();
-    for place in 0..inputs.len() {
-        slave.app_put(place, inputs[place]);
-    }
+    slave.app_put_all(inputs);
 }
 
-/// An application reads all output bytes, steps and writes all input bytes.
-fn step_application<A: App>(slave: &mut Slave, app: &mut A, outputs: &mut [u8], inputs: &mut [u8])
-    requires outputs { length outputs.old ≡ get_size slave.old }
+/// An application sees all output bytes, steps and writes all input bytes.
+fn step_application<A: App>(slave: &mut Slave, app: &mut A, output_count: usize, inputs: &mut [u8])
+    requires outputs { output_count ≡ get_size slave.old }
     requires inputs { length inputs.old ≡ put_size slave.old }
     ensures stepped { HasStepped (A.shows app.old) slave.old slave.new }
     ensures later { (o i : List ℕ) → A.shows app.new o i → A.shows app.old o i }
 {
-    read_outputs(slave, outputs);
-    app.step(outputs, inputs);
+    app.step(outputs_of(slave, output_count), inputs);
+    read_outputs(slave);
     write_inputs(slave, inputs);
 }
 
-/// A slave's firmware steps; then its application, where it has process data now. It has them in `outputs` and `inputs`.
-#[tactic(auto, using(crate::proofs::Applying::few_read, crate::proofs::Applying::few_written))]
-fn serve_slave<A: App>(slave: &mut Slave, app: &mut A, outputs: &mut [u8], inputs: &mut [u8])
-    requires outputs { length outputs.old ≡ 2730 }
-    requires inputs { length inputs.old ≡ 2730 }
+/// A slave's firmware steps; then its application, where it has process data now. It makes its inputs in `inputs`.
+#[tactic(auto, using(crate::proofs::Applying::few_written))]
+fn serve_slave<A: App>(slave: &mut Slave, app: &mut A, inputs: &mut [u8])
+    requires { length inputs.old ≡ 2730 }
     ensures served { IsServed (A.shows app.old) slave.old slave.new }
     ensures later { (o i : List ℕ) → A.shows app.new o i → A.shows app.old o i }
 {
@@ -98,9 +97,7 @@ fn serve_slave<A: App>(slave: &mut Slave, app: &mut A, outputs: &mut [u8], input
     if output_count == 0 && input_count == 0 {
         return;
     }
-    let outputs = &mut outputs[..output_count];
-    let inputs = &mut inputs[..input_count];
-    step_application(slave, app, outputs, inputs);
+    step_application(slave, app, output_count, &mut inputs[..input_count]);
 }
 
 /// Each slave is served, in order.
@@ -108,10 +105,9 @@ fn serve_slaves<A: App>(ring: &mut Ring, app: &mut A)
     ensures served { AreServed (A.shows app.old) ring.old ring.new }
     ensures later { (o i : List ℕ) → A.shows app.new o i → A.shows app.old o i }
 {
-    let mut outputs = [0; MOST_DATA];
     let mut inputs = [0; MOST_DATA];
     for place in 0..ring.len() {
-        serve_slave(ring.slave_mut(place), app, &mut outputs, &mut inputs);
+        serve_slave(ring.slave_mut(place), app, &mut inputs);
     }
 }
 

@@ -11,8 +11,6 @@ mod memory;
 mod payload;
 mod segment;
 mod startup;
-#[cfg(test)]
-mod tests;
 mod udp;
 mod wire;
 

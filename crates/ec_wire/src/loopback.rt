@@ -1,5 +1,4 @@
 //! A master's wire and its segment on two sockets in one thread.
-ghost use Rattle.std.specs.Prelude.{◌≡◌};
 ghost use Rattle.ec_wire.specs.Wires.{silent};
 
 use crate::application::{App, answer};
@@ -18,7 +17,7 @@ pub struct Sockets {
 }
 
 impl Sockets {
-    /// Two sockets, the master's being told the segment's port.
+    /// Two sockets that are connected with each other: neither receives what comes from elsewhere.
     ///
     /// # Errors
     ///
@@ -26,6 +25,7 @@ impl Sockets {
     pub fn bind<R: Net>(rt: &R) -> Result<Sockets, SocketFault> {
         let segment = UdpWire::bind_impatient(rt)?;
         let master = UdpWire::connect(rt, segment.port())?;
+        let segment = segment.connected_to(master.port())?;
         Ok(Sockets { master, segment })
     }
 }
@@ -38,6 +38,7 @@ pub struct LoopWire<A: App> {
     ring: Ring,
     app: A,
     failures: u64,
+    buffer: [u8; MOST_BYTES],
 }
 
 impl<A: App> LoopWire<A> {
@@ -48,6 +49,7 @@ impl<A: App> LoopWire<A> {
             ring,
             app,
             failures: 0,
+            buffer: [0; MOST_BYTES],
         }
     }
 
@@ -58,24 +60,22 @@ impl<A: App> LoopWire<A> {
             ring,
             app,
             failures: _,
+            buffer: _,
         } = self;
         (ring, app)
     }
+}
 
-    /// The segment receives a payload and answers it, where it is a frame. Whether no call was a fault.
-    fn serve(&mut self) -> bool
-        ensures { self.new.failures ≡ self.old.failures }
-    {
-        let mut buffer = [0; MOST_BYTES];
-        let Some(count) = receive_on(&mut self.sockets.segment, &mut buffer) else {
-            return false;
-        };
-        let payload = &mut buffer[..count];
-        if !answer(&mut self.ring, &mut self.app, payload) {
-            return true;
-        }
-        send_on(&mut self.sockets.segment, payload)
+/// A segment receives a payload and answers it, where it is a frame. Whether no call was a fault.
+fn serve<A: App>(socket: &mut UdpWire, ring: &mut Ring, app: &mut A, buffer: &mut [u8]) -> bool {
+    let Some(count) = receive_on(socket, buffer) else {
+        return false;
+    };
+    let payload = &mut buffer[..count];
+    if !answer(ring, app, payload) {
+        return true;
     }
+    send_on(socket, payload)
 }
 
 impl<A: App> Wire for LoopWire<A> {
@@ -86,7 +86,13 @@ impl<A: App> Wire for LoopWire<A> {
     }
 
     fn send(&mut self, payload: &[u8]) {
-        let is_answered = send_on(&mut self.sockets.master, payload) && self.serve();
+        let is_answered = send_on(&mut self.sockets.master, payload)
+            && serve(
+                &mut self.sockets.segment,
+                &mut self.ring,
+                &mut self.app,
+                &mut self.buffer,
+            );
         if !is_answered {
             self.failures = self.failures.saturating_add(1);
         }

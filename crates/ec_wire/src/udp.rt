@@ -17,13 +17,21 @@ const PATIENCE: u64 = 500;
 /// A segment waits so many times in a row for a payload: a minute.
 const MOST_WAITS: u32 = 120;
 
+/// Whom a wire sends to.
+#[derive(Clone, Copy)]
+enum Peer {
+    /// The one that its socket is connected with, from whom alone it receives.
+    Connected,
+    /// Whoever sent the last payload that it received, once there was one.
+    Last(Option<SocketAddr>),
+}
+
 /// A UDP socket on 127.0.0.1 and its peer there. It doesn't tell what it carried.
 #[derive(Drop)]
 pub struct UdpWire {
     socket: UdpSocket,
     port: u16,
-    peer: Option<SocketAddr>,
-    follows: bool,
+    peer: Peer,
     waits: u32,
     failures: u64,
 }
@@ -50,24 +58,32 @@ fn open<R: Net>(rt: &R, port: u16) -> io::Result<(UdpSocket, u16)> {
 }
 
 impl UdpWire {
-    /// A wire on a port. Without a peer it sends to whoever sent the last payload that it received.
-    fn new<R: Net>(
-        rt: &R,
-        port: u16,
-        peer: Option<SocketAddr>,
-        waits: u32,
-    ) -> Result<UdpWire, SocketFault>
+    /// A wire on a port, which sends to whoever sent the last payload that it received.
+    fn new<R: Net>(rt: &R, port: u16, waits: u32) -> Result<UdpWire, SocketFault>
         ensures { IfOk result (λ w. w ≡ silent 0) }
     {
         match open(rt, port) {
             Ok((socket, port)) => Ok(UdpWire {
                 socket,
                 port,
-                peer,
-                follows: peer.is_none(),
+                peer: Peer::Last(None),
                 waits,
                 failures: 0,
             }),
+            Err(_) => Err(SocketFault),
+        }
+    }
+
+    /// The same wire to the one peer on a port, from which alone it receives.
+    pub(crate) fn connected_to(self, port: u16) -> Result<UdpWire, SocketFault>
+        ensures { IfOk result (λ w. w ≡ self) }
+    {
+        let mut wire = self;
+        match wire.socket.connect(here(port)) {
+            Ok(()) => {
+                wire.peer = Peer::Connected;
+                Ok(wire)
+            }
             Err(_) => Err(SocketFault),
         }
     }
@@ -81,17 +97,18 @@ impl UdpWire {
     pub fn bind<R: Net>(rt: &R, port: u16) -> Result<UdpWire, SocketFault>
         ensures { IfOk result (λ w. w ≡ silent 0) }
     {
-        UdpWire::new(rt, port, None, MOST_WAITS)
+        UdpWire::new(rt, port, MOST_WAITS)
     }
 
     /// The same on a port that the system picks, but the first receive that got nothing is a fault.
     pub(crate) fn bind_impatient<R: Net>(rt: &R) -> Result<UdpWire, SocketFault>
         ensures { IfOk result (λ w. w ≡ silent 0) }
     {
-        UdpWire::new(rt, 0, None, 1)
+        UdpWire::new(rt, 0, 1)
     }
 
-    /// A master's wire to the segment on a port. A receive that got nothing in half a second is a fault.
+    /// A master's wire to the segment on a port, from which alone it receives. A receive that got nothing in half a second
+    /// is a fault.
     ///
     /// # Errors
     ///
@@ -99,7 +116,7 @@ impl UdpWire {
     pub fn connect<R: Net>(rt: &R, port: u16) -> Result<UdpWire, SocketFault>
         ensures { IfOk result (λ w. w ≡ silent 0) }
     {
-        UdpWire::new(rt, 0, Some(here(port)), 1)
+        UdpWire::bind_impatient(rt)?.connected_to(port)
     }
 
     /// The port of the socket.
@@ -109,24 +126,39 @@ impl UdpWire {
 
     /// Sends a payload to the peer, and answers whether all of it was sent.
     fn has_sent(&self, payload: &[u8]) -> bool {
-        let Some(peer) = self.peer else {
-            return false;
-        };
         if payload.len() > MOST_BYTES {
             return false;
         }
-        match self.socket.send_to(payload, peer) {
+        let sent = match self.peer {
+            Peer::Connected => self.socket.send(payload),
+            Peer::Last(Some(peer)) => self.socket.send_to(payload, peer),
+            Peer::Last(None) => return false,
+        };
+        match sent {
             Ok(count) => count == payload.len(),
             Err(_) => false,
         }
     }
 
-    /// Waits for a payload, as often as it may, and answers how many bytes of it are in the buffer, and who sent it.
-    fn await_payload(&self, buffer: &mut [u8]) -> Option<(usize, SocketAddr)>
+    /// Receives a payload, and answers how many bytes of it are in the buffer, and whom to send to from now on.
+    fn receive(&self, buffer: &mut [u8]) -> io::Result<(usize, Peer)>
+        ensures { IfOk result (λ came. came.0 ≤ length buffer.new) }
+    {
+        match self.peer {
+            Peer::Connected => Ok((self.socket.recv(buffer)?, Peer::Connected)),
+            Peer::Last(_) => {
+                let (count, sender) = self.socket.recv_from(buffer)?;
+                Ok((count, Peer::Last(Some(sender))))
+            }
+        }
+    }
+
+    /// Waits for a payload, as often as it may, and answers the same.
+    fn await_payload(&self, buffer: &mut [u8]) -> Option<(usize, Peer)>
         ensures { IfSome result (λ came. came.0 ≤ length buffer.new) }
     {
         for _ in 0..self.waits {
-            match self.socket.recv_from(buffer) {
+            match self.receive(buffer) {
                 Ok(came) => return Some(came),
                 Err(error) if error.kind() == ErrorKind::WouldBlock => {}
                 Err(_) => return None,
@@ -152,13 +184,11 @@ impl Wire for UdpWire {
 
     fn recv(&mut self, buffer: &mut [u8]) -> usize {
         let room = buffer.len().min(MOST_BYTES);
-        let Some((count, sender)) = self.await_payload(&mut buffer[..room]) else {
+        let Some((count, peer)) = self.await_payload(&mut buffer[..room]) else {
             self.failures = self.failures.saturating_add(1);
             return 0;
         };
-        if self.follows {
-            self.peer = Some(sender);
-        }
+        self.peer = peer;
         count
     }
 }

@@ -26,6 +26,7 @@ pub mod StepLaws
 pub mod RoundTrips
 pub mod Runs
 pub mod Using
+pub mod Ways
 pub mod Whole
 pub mod NewWorlds
 pub mod Turning

@@ -244,18 +244,30 @@ starting w t slots = record w { start = t; slots = slots }
 abbrev first_flight : List ℕ → ℕ → Flight
 first_flight bytes number = record { bytes = bytes; number = number; part = 0; passed = 0 }
 
-pub start-step : (w : WorldState) (s t : StartState) (bytes : List ℕ) (slots : List (Option Flight)) → can_start w ≡ true → s ≡ resumed w.start w.start.phase → t ≡ asked s
-    → (next_frame s ≡ Send → IsFrame bytes (bare_payload (frame_of (action_of s) s.next)))
-    → slots ≡ filled (first_flight bytes s.next ∷ []) w.slots → IsStep w StartNext (starting w t slots) true
-start-step w s t bytes slots can is after written put =
+-- it is to send a frame, with the number that is next
+abbrev IsToSend : WorldState → StartState → Type 0
+IsToSend w s = (s.phase ≡ Idle) × (s.next ≡ w.start.next) × (s.next < last_number)
+
+to-send : (w : WorldState) (s : StartState) → can_start w ≡ true → s ≡ resumed w.start w.start.phase → IsToSend w s
+to-send w s can is =
     let up = and_parts (not (is_up w.start)) (not (awaits w.start) && ((nones w.slots == length w.slots) && nat_lt w.start.next last_number)) can in
     let waits = and_parts (not (awaits w.start)) ((nones w.slots == length w.slots) && nat_lt w.start.next last_number) up.1 in
     let room = and_parts (nones w.slots == length w.slots) (nat_lt w.start.next last_number) waits.1 in
     let few : w.start.next < last_number = ltb-true w.start.next last_number room.1 in
     let g = goes w.start w.start.phase refl (is-not (is_up w.start) up.0) (is-not (awaits w.start) waits.0) in
-    let idle : s.phase ≡ Idle = ap (λ (x : StartState). x.phase) is ∙ g.idle in
     let number : s.next ≡ w.start.next = ap (λ (x : StartState). x.next) is ∙ g.number in
-    let more = left s idle (omega (arith, few, number)) in
+    (ap (λ (x : StartState). x.phase) is ∙ g.idle, number, omega (arith, few, number))
+
+pub next-sends : (w : WorldState) (s : StartState) → can_start w ≡ true → s ≡ resumed w.start w.start.phase → next_frame s ≡ Send
+next-sends w s can is = let h = to-send w s can is in (left s h.0 h.2).1
+
+pub start-step : (w : WorldState) (s t : StartState) (bytes : List ℕ) (slots : List (Option Flight)) → can_start w ≡ true → s ≡ resumed w.start w.start.phase → t ≡ asked s
+    → (next_frame s ≡ Send → IsFrame bytes (bare_payload (frame_of (action_of s) s.next)))
+    → slots ≡ filled (first_flight bytes s.next ∷ []) w.slots → IsStep w StartNext (starting w t slots) true
+start-step w s t bytes slots can is after written put =
+    let h = to-send w s can is in
+    let number : s.next ≡ w.start.next = h.1 in
+    let more = left s h.0 h.2 in
     record {
       can = sym can;
       happens = λ m. record {

@@ -1,11 +1,11 @@
 -- Slots of which all from some number on are free: the first ones tell what all do.
 use Rattle.std.proofs.Common.{ℕ, zero, suc, ◌+◌, ◌-◌, ◌≤◌, ◌<◌, ◌≡◌, ◌&&◌, Bool, true, false, cond, nat_lt, List, [], ◌∷◌, length, get_or, take, Option, Some, None, is_none, option_map, refl, sym, ◌∙◌, ap, arith, position}
 use Rattle.std.proofs.lemmas.Bool.{lt-ltb, le-ltb, ltb-true, ltb-false}
-use Rattle.std.specs.List.{list_all, count_by, position_or_len}
+use Rattle.std.specs.List.{count_by, fold, position_or_len}
 use Rattle.ec_world.specs.declared.progress.Progress.{Progress}
 use Rattle.ec_world.specs.World.{Flight, flight_progress, flights_progress}
 use Rattle.ec_cycle.specs.Closing.{nones}
-use Rattle.ec_world.specs.Slots.{AreInUse}
+use Rattle.ec_world.specs.Slots.{AreInUse, way_behind}
 use Rattle.ec_world.proofs.Filling.{nones_counted}
 
 abbrev Slot : Type 0
@@ -29,20 +29,22 @@ free_counted xs us h =
     ap (λ (n : ℕ). (length xs - length us) + n) (sym (nones_counted us) ∙ ap (λ (ys : List Slot). nones ys) h.is)
     ∙ (sym (count_first (length us) xs h.behind.within h.behind.free) ∙ nones_counted xs)
 
--- ---- a test that lets a free slot pass
+-- ---- the way behind the frames
 
-rest_passes : (test : Option Progress → Bool) (xs : List Slot) → test None ≡ true → ((i : ℕ) → get_or xs i None ≡ None) → list_all test (flights_progress xs) ≡ true
-rest_passes test [] good free = refl
-rest_passes test (None ∷ xs) good free = ap (λ (b : Bool). b && list_all test (flights_progress xs)) good ∙ rest_passes test xs good (λ i. free (suc i))
-rest_passes test (Some f ∷ xs) good free = absurd (let e : Some f ≡ None = free 0 in cc)
+rest_free : (f : Progress) (xs : List Slot) (far : ℕ) → ((i : ℕ) → get_or xs i None ≡ None) → far ≡ fold (way_behind f) far (flights_progress xs)
+rest_free f [] far free = refl
+rest_free f (None ∷ xs) far free = rest_free f xs far (λ i. free (suc i))
+rest_free f (Some g ∷ xs) far free = absurd (let e : Some g ≡ None = free 0 in cc)
 
-first_pass : (test : Option Progress → Bool) (k : ℕ) (xs : List Slot) → test None ≡ true → ((i : ℕ) → k ≤ i → get_or xs i None ≡ None) → list_all test (flights_progress (take k xs)) ≡ list_all test (flights_progress xs)
-first_pass test zero xs good free = sym (rest_passes test xs good (λ i. free i (omega arith)))
-first_pass test (suc k) [] good free = refl
-first_pass test (suc k) (o ∷ xs) good free = ap (λ (b : Bool). test (option_map flight_progress o) && b) (first_pass test k xs good (λ i l. free (suc i) (omega arith)))
+first_behind : (f : Progress) (k : ℕ) (xs : List Slot) (far : ℕ) → ((i : ℕ) → k ≤ i → get_or xs i None ≡ None)
+    → fold (way_behind f) far (flights_progress (take k xs)) ≡ fold (way_behind f) far (flights_progress xs)
+first_behind f zero xs far free = rest_free f xs far (λ i. free i (omega arith))
+first_behind f (suc k) [] far free = refl
+first_behind f (suc k) (o ∷ xs) far free = first_behind f k xs (way_behind f far (option_map flight_progress o)) (λ i l. free (suc i) (omega arith))
 
-pub all_in_use : (test : Option Progress → Bool) (xs us : List Slot) → test None ≡ true → AreInUse xs us → list_all test (flights_progress us) ≡ list_all test (flights_progress xs)
-all_in_use test xs us good h = ap (λ (ys : List Slot). list_all test (flights_progress ys)) h.is ∙ first_pass test (length us) xs good h.behind.free
+pub behind_in_use : (f : Progress) (far : ℕ) (xs us : List Slot) → AreInUse xs us → fold (way_behind f) far (flights_progress us) ≡ fold (way_behind f) far (flights_progress xs)
+behind_in_use f far xs us h =
+    ap (λ (ys : List Slot). fold (way_behind f) far (flights_progress ys)) h.is ∙ first_behind f (length us) xs far h.behind.free
 
 -- ---- the lowest free one
 

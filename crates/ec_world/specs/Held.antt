@@ -1,5 +1,6 @@
 -- What the code of a world says of the frames of a cycle, and of a payload that comes back.
 use Rattle.std.specs.Prelude.{ℕ, ◌<◌, ◌≤◌, ◌≡◌, List, [], length, get_or, Bool, Option, Some, None}
+use Rattle.ec_frame.specs.Frame.{Payload, IsFrame}
 use Rattle.ec_start.specs.Running.{StartState, IsStartTaken}
 use Rattle.ec_cycle.specs.Master.{MasterState, OpenCycle, IsTaken}
 use Rattle.ec_world.specs.World.{ByStart, awaits, ready_with}
@@ -12,6 +13,10 @@ cycle_frames (Some c) = c.frames
 -- each has room in a slot
 abbrev pub FitSlots : List (List ℕ) → Type 0
 FitSlots frames = (k : ℕ) → k < length frames → length (get_or frames k []) ≤ 1472
+
+-- each is a frame of datagrams
+abbrev pub AreFrames : List (List ℕ) → Type 0
+AreFrames frames = (k : ℕ) → k < length frames → (p : Payload) × IsFrame (get_or frames k []) p
 
 -- a payload came back to the start-up, which makes the master ready where it ends so
 pub record IsAnswered (s : StartState) (m : MasterState) (payload : List ℕ) (t : StartState) (n : MasterState) : Type 0 where

@@ -12,6 +12,3 @@ mod world;
 pub use crate::event::Event;
 pub use crate::progress::Progress;
 pub use crate::world::World;
-
-#[cfg(test)]
-mod tests;

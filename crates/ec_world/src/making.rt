@@ -4,7 +4,7 @@ ghost use Rattle.ec_start.specs.Running.{IsStartTaken};
 ghost use Rattle.ec_world.specs.declared.event.Event.TheVariants.{StartNext, Set, Begin, Pass, Lose, Return, Close, Serve, AppPut, AppGet, Fault, Reset as ResetSlave};
 ghost use Rattle.ec_world.specs.Plain.{filled};
 ghost use Rattle.ec_world.specs.World.{IsStep, can_begin, can_start, awaits, ready_with, resumed, flights_from};
-ghost use Rattle.ec_world.specs.Held.{cycle_frames, FitSlots, IsHandedIn};
+ghost use Rattle.ec_world.specs.Held.{cycle_frames, AreFrames, FitSlots, IsHandedIn};
 
 use crate::event::Event;
 use crate::slots::Slots;
@@ -60,6 +60,7 @@ fn hand_in(start: &mut Startup, master: &mut Master<'_>, payload: &[u8])
 fn place_frames(master: &Master<'_>, number: u64, slots: &mut Slots)
     requires opened { is_some master.now.cycle ≡ true }
     requires fit { FitSlots (cycle_frames master.now.cycle) }
+    requires frames { AreFrames (cycle_frames master.now.cycle) }
     requires count { length (cycle_frames master.now.cycle) ≡ length master.now.plan.parts }
     ensures { slots.new ≡ filled (flights_from number 0 (cycle_frames master.now.cycle)) slots.old }
 {

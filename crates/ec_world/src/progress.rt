@@ -1,5 +1,6 @@
 ghost use Rattle.std.specs.Prelude.{◌≡◌};
-ghost use Rattle.ec_world.specs.Plain.{is_older, lets_by};
+ghost use Rattle.ec_world.specs.Plain.{is_older};
+ghost use Rattle.ec_world.specs.Slots.{way_behind};
 
 /// How far a frame is on its way. Its age is its number, and then its part.
 #[derive(Clone, Copy, Debug, PartialEq, Eq)]
@@ -20,14 +21,13 @@ impl Progress {
         self.number < other.number || (self.number == other.number && self.part < other.part)
     }
 
-    /// Whether the frame may pass its next slave as far as what another slot holds is concerned: no older frame there has
-    /// still to pass that slave.
-    pub fn is_let_by(&self, other: Option<Progress>) -> bool
-        ensures { result ≡ lets_by self.now other }
+    /// How many slaves the frame may pass, of so many, as far as another slot is concerned: no more than an older frame there.
+    pub fn way_behind(&self, far: usize, other: Option<Progress>) -> usize
+        ensures { result ≡ way_behind self.now far other }
     {
         match other {
-            Some(other) if other.is_older(self) => self.passed < other.passed,
-            _ => true,
+            Some(other) if other.is_older(self) => far.min(other.passed),
+            _ => far,
         }
     }
 }

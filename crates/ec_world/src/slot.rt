@@ -1,4 +1,5 @@
 ghost use Rattle.std.specs.Prelude.{◌≡◌, ◌≤◌, ◌<◌, length, Some, None, is_none, option_map};
+ghost use Rattle.ec_frame.specs.Frame.{Payload, IsFrame};
 ghost use Rattle.ec_world.specs.World.{flight_progress, Flight};
 ghost use Rattle.ec_world.specs.Slots.{HasPassed};
 
@@ -7,7 +8,7 @@ use ec_frame::Frame;
 use ec_ring::Ring;
 use std::marker::Model;
 
-/// Room for a frame on its way.
+/// Room for a frame on its way. What it holds is a frame of datagrams, so no slave has to test it.
 #[derive(Drop)]
 pub struct Slot {
     progress: Option<Progress>,
@@ -16,11 +17,14 @@ pub struct Slot {
 
 impl Model for Slot {
     ghost use Rattle.std.specs.Prelude.{Option, option_map};
+    ghost use Rattle.ec_world.specs.Slots.{HoldsFrame};
     ghost use Rattle.ec_world.specs.World.{Flight};
 
     ghost Value = { Option Flight };
 
     ghost view = { λ s. option_map (λ p. record { bytes = s.frame.items; number = p.number; part = p.part; passed = p.passed }) s.progress };
+
+    ghost invariant = { λ s. HoldsFrame s.progress s.frame.items };
 }
 
 /// Puts bytes in place of what is there.
@@ -66,7 +70,8 @@ impl Slot {
 
     /// A frame that has passed no slave comes in.
     pub fn put(&mut self, bytes: &[u8], number: u64, part: usize)
-        requires { length bytes.now ≤ 1472 }
+        requires room { length bytes.now ≤ 1472 }
+        requires frame { (p : Payload) × IsFrame bytes.now p }
         ensures { self.new ≡ Some (record { bytes = bytes.now; number = number; part = part; passed = 0 }) }
     {
         replace(&mut self.frame, bytes);
@@ -94,7 +99,8 @@ impl Slot {
             return;
         };
         prove!(progress.passed < ring.len());
-        let _ = ring.pass_one(self.frame.as_mut_slice(), progress.passed);
+        let slave = ring.slave_mut(progress.passed);
+        slave.pass(self.frame.as_mut_slice());
         progress.passed += 1;
     }
 }

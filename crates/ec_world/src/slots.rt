@@ -1,8 +1,9 @@
-ghost use Rattle.std.specs.Prelude.{◌≡◌, ◌≤◌, ◌<◌, ◌∷◌, [], length, replicate, get_or, set, position, Some, None, is_none, option_map, IfOk};
-ghost use Rattle.std.specs.List.{list_all, count_by};
+ghost use Rattle.std.specs.Prelude.{◌≡◌, ◌≤◌, ◌<◌, ◌∷◌, [], length, replicate, get_or, set, position, nat_lt, Some, None, is_none, option_map, IfOk};
+ghost use Rattle.std.specs.List.{list_all, count_by, fold};
+ghost use Rattle.ec_frame.specs.Frame.{Payload, IsFrame};
 ghost use Rattle.ec_world.specs.Plain.{lets_by, may_pass, may_return, filled};
 ghost use Rattle.ec_world.specs.World.{Flight, flight_progress, flights_progress};
-ghost use Rattle.ec_world.specs.Slots.{AreInUse, HavePassed};
+ghost use Rattle.ec_world.specs.Slots.{AreInUse, HavePassed, no_end, way_behind};
 
 use crate::progress::Progress;
 use crate::slot::Slot;
@@ -16,18 +17,36 @@ pub struct Slots {
     slots: Vec<Slot>,
     // the slots from here on are free, and needn't be looked at
     used: usize,
+    // a frame that has its way needn't look at the others at each slave
+    way: Way,
+}
+
+/// How many slaves the frame in a slot may pass, whatever other frames do before a new one comes.
+#[derive(Clone, Copy, Drop)]
+struct Way {
+    slot: usize,
+    until: usize,
+}
+
+impl Way {
+    /// The way of no frame.
+    fn none() -> Way
+        ensures { result.until ≡ 0 }
+    {
+        Way { slot: 0, until: 0 }
+    }
 }
 
 impl Model for Slots {
     ghost use Rattle.std.specs.Prelude.{List, Option};
-    ghost use Rattle.ec_world.specs.Slots.{AreFreeFrom};
+    ghost use Rattle.ec_world.specs.Slots.{AreHeld};
     ghost use Rattle.ec_world.specs.World.{Flight};
 
     ghost Value = { List (Option Flight) };
 
     ghost view = { λ s. s.slots.items };
 
-    ghost invariant = { λ s. AreFreeFrom s.slots.items s.used };
+    ghost invariant = { λ s. AreHeld s.slots.items s.used s.way.slot s.way.until };
 }
 
 /// How many of some slots are free.
@@ -44,14 +63,14 @@ fn first_free(slots: &[Slot]) -> Option<usize>
     slots.iter().position(|slot| slot.is_free())
 }
 
-/// Whether what some slots hold lets a frame by.
-fn all_let_by(slots: &[Slot], frame: &Progress) -> bool
-    ensures { result ≡ list_all (lets_by frame.now) (flights_progress slots.now) }
+/// How many slaves a frame may pass as far as what some slots hold is concerned.
+fn way_behind(slots: &[Slot], frame: &Progress) -> usize
+    ensures { result ≡ fold (way_behind frame.now) no_end (flights_progress slots.now) }
 {
     slots
         .iter()
         .map(|slot| slot.progress())
-        .all(|other| frame.is_let_by(other))
+        .fold(usize::MAX, |far, other| frame.way_behind(far, other))
 }
 
 impl Slots {
@@ -63,7 +82,11 @@ impl Slots {
         for n in 0..count {
             slots.push(Slot::new())?;
         }
-        Ok(Slots { slots, used: 0 })
+        Ok(Slots {
+            slots,
+            used: 0,
+            way: Way::none(),
+        })
     }
 
     /// How many slots there are.
@@ -100,20 +123,29 @@ impl Slots {
     }
 
     /// Whether the frame in a slot may pass its next slave, of so many: there is one, and every older frame has passed it.
-    pub fn may_pass(&self, slot: usize, slaves: usize) -> bool
-        ensures { result ≡ may_pass slaves (flights_progress self.now) (option_map flight_progress (get_or self.now slot None)) }
+    pub fn may_pass(&mut self, slot: usize, slaves: usize) -> bool
+        ensures may { result ≡ may_pass slaves (flights_progress self.old) (option_map flight_progress (get_or self.old slot None)) }
+        ensures kept { self.new ≡ self.old }
     {
         let Some(frame) = self.progress(slot) else {
             return false;
         };
-        frame.passed < slaves && self.let_by(&frame)
+        frame.passed < slaves && frame.passed < self.way_of(slot, &frame)
     }
 
-    /// Whether every older frame has passed the slave that a frame meets next.
-    fn let_by(&self, frame: &Progress) -> bool
-        ensures { result ≡ list_all (lets_by frame.now) (flights_progress self.now) }
+    /// How many slaves the frame in a slot may pass, or fewer, but more than it has passed where it may pass another.
+    fn way_of(&mut self, slot: usize, frame: &Progress) -> usize
+        requires there { option_map flight_progress (get_or self.old slot None) ≡ Some frame.now }
+        requires few { frame.now.passed < no_end }
+        ensures way { nat_lt frame.now.passed result ≡ list_all (lets_by frame.now) (flights_progress self.old) }
+        ensures kept { self.new ≡ self.old }
     {
-        all_let_by(self.in_use(), frame)
+        if self.way.slot == slot && frame.passed < self.way.until {
+            return self.way.until;
+        }
+        let until = way_behind(self.in_use(), frame);
+        self.way = Way { slot, until };
+        until
     }
 
     /// Whether the frame in a slot has passed all slaves, of so many.
@@ -151,10 +183,12 @@ impl Slots {
 
     /// A frame goes into the lowest free slot, if there is one.
     pub fn fill(&mut self, bytes: &[u8], number: u64, part: usize)
-        requires { length bytes.now ≤ 1472 }
+        requires room { length bytes.now ≤ 1472 }
+        requires frame { (p : Payload) × IsFrame bytes.now p }
         ensures { self.new ≡ filled (record { bytes = bytes.now; number = number; part = part; passed = 0 } ∷ []) self.old }
     {
         if let Some(place) = self.lowest_free() {
+            self.way = Way::none();
             self.slots[place].put(bytes, number, part);
             self.used = self.used.max(place + 1);
         }

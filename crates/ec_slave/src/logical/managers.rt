@@ -1,23 +1,26 @@
 //! What a logical datagram does to the sync managers.
 
-ghost use Rattle.std.specs.Prelude.{◌≡◌, ◌<◌, ◌≤◌, ◌+◌, ◌*◌, ◌^◌, ◌&&◌, ℕ, length, [], is_some, true, slice_index};
-ghost use Rattle.std.specs.Bool.{OnTrue};
+ghost use Rattle.std.specs.Prelude.{◌≡◌, ◌<◌, ◌≤◌, ◌+◌, ◌*◌, ◌^◌, ◌&&◌, ℕ, length, [], Some, IfSome, slice_index};
+ghost use Rattle.ec_bits.specs.Bits.{bit};
 ghost use Rattle.ec_regs.specs.Memory.{ram_end};
 ghost use Rattle.ec_fmmu.specs.Applied.{Place, touched_by_reading, touched_by_writing};
 ghost use Rattle.ec_slave.specs.Managers.{is_ungoverned, is_written_by, manager_after};
 ghost use Rattle.ec_slave.specs.Logical.{managers_exchanged, plain_bit, value_brought};
 ghost use Rattle.ec_slave.specs.Written.{some_manager_written};
 
-use crate::logical::runs::end_of_alike;
+use crate::logical::runs::are_ungoverned;
 use crate::logical::writing::Ungoverned;
-use crate::reach::{governor, read_manager, write_manager};
-use ec_fmmu::{Fmmu, apply_write, is_touched_by_reading, is_touched_by_writing, is_wholly_brought};
+use crate::reach::{read_manager, write_manager};
+use ec_bits::copy_by_words;
+use ec_fmmu::{
+    FmmuTable, apply_write, is_touched_by_reading, is_touched_by_writing, wholly_brought_from,
+};
 use ec_sync::{Manager, Touching, Writing};
 
 /// The bits of a logical datagram, as they are read.
 #[derive(Clone, Copy)]
 struct ReadBits<'a> {
-    fmmus: &'a [Fmmu],
+    fmmus: &'a FmmuTable,
     from: u64,
     bits: u64,
 }
@@ -37,7 +40,7 @@ impl Touching for ReadBits<'_> {
 #[derive(Clone, Copy)]
 struct Bits<'a> {
     lower: &'a [Manager],
-    fmmus: &'a [Fmmu],
+    fmmus: &'a FmmuTable,
     from: u64,
     bytes: &'a [u8],
     ghost fits: { from + 8 * length bytes.now < 2 ^ 64 },
@@ -75,23 +78,26 @@ impl Writing for Bits<'_> {
 }
 
 impl Bits<'_> {
-    /// Whether each bit of the `len` bytes from `start` on is brought a data bit, and no lower manager governs one of
-    /// them, so that none of what they held stays. False says nothing.
-    fn is_whole(&self, start: usize, len: usize) -> bool
+    /// The first of the data bits that are brought, one after the other, to the bits of the `len` bytes from `start` on,
+    /// of which no lower manager governs one: so none of what they held stays. None says nothing.
+    fn source(&self, start: usize, len: usize) -> Option<usize>
         requires some { 0 < len }
         requires inside { start + len ≤ ram_end }
-        ensures { OnTrue result ((k : ℕ) → k < 8 * len → is_some (plain_bit self.now.lower.now self.now.fmmus.now
-            (record { from = self.now.from; bits = 8 * length self.now.bytes.now }) self.now.bytes.now (8 * start + k)) ≡ true) }
+        ensures inside { IfSome result (λ at. at + 8 * len ≤ 8 * length self.now.bytes.now) }
+        ensures bits { IfSome result (λ at. (k : ℕ) → k < 8 * len → plain_bit self.now.lower.now self.now.fmmus.now
+            (record { from = self.now.from; bits = 8 * length self.now.bytes.now }) self.now.bytes.now (8 * start + k)
+            ≡ Some (bit self.now.bytes.now (at + k))) }
     {
+        if !are_ungoverned(self.lower, start, len) {
+            return None;
+        }
         let bits = 8 * self.bytes.len() as u64;
         let (first, count) = (8 * start as u32, 8 * len as u32);
-        end_of_alike(self.lower, start, start + len) == start + len
-            && governor(self.lower, start).is_none()
-            && is_wholly_brought(self.fmmus, self.from, bits, first, count)
+        wholly_brought_from(self.fmmus, self.from, bits, first, count)
     }
 
-    /// Fills a value that begins at `start`: 0 in each bit that isn't brought. Zeros are written first only where
-    /// something of what it held might stay.
+    /// Fills a value that begins at `start`: 0 in each bit that isn't brought. One that is brought whole, as one run, is
+    /// one copy.
     fn bring(&self, start: usize, value: &mut [u8])
         requires some { 0 < length value.old }
         requires inside { start + length value.old ≤ ram_end }
@@ -99,9 +105,23 @@ impl Bits<'_> {
         ensures { value.new ≡ value_brought self.now.lower.now self.now.fmmus.now
             (record { from = self.now.from; bits = 8 * length self.now.bytes.now }) self.now.bytes.now start (length value.old) }
     {
-        if !self.is_whole(start, value.len()) {
-            value.fill(0);
+        match self.source(start, value.len()) {
+            Some(at) => {
+                let count = 8 * value.len();
+                copy_by_words(value, 0, self.bytes, at, count);
+            }
+            None => self.bring_parts(start, value),
         }
+    }
+
+    /// Fills a value that begins at `start` with zeros, and then with what is brought.
+    #[inline(never)]
+    fn bring_parts(&self, start: usize, value: &mut [u8])
+        requires { start + length value.old ≤ ram_end }
+        ensures { value.new ≡ value_brought self.now.lower.now self.now.fmmus.now
+            (record { from = self.now.from; bits = 8 * length self.now.bytes.now }) self.now.bytes.now start (length value.old) }
+    {
+        value.fill(0);
         let rights = Ungoverned {
             managers: self.lower,
         };
@@ -116,7 +136,7 @@ fn access_manager(
     manager: &mut Manager,
     reading: bool,
     writing: bool,
-    fmmus: &[Fmmu],
+    fmmus: &FmmuTable,
     from: u64,
     bytes: &[u8],
 ) -> bool
@@ -152,7 +172,7 @@ pub(crate) fn access_managers(
     managers: &mut [Manager],
     reading: bool,
     writing: bool,
-    fmmus: &[Fmmu],
+    fmmus: &FmmuTable,
     from: u64,
     bytes: &[u8],
 ) -> bool

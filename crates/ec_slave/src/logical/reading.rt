@@ -14,12 +14,14 @@ ghost use Rattle.ec_slave.specs.Sights.{seen_behind as behind_it, seen_bit as bi
 use crate::logical::runs::count_alike;
 use crate::reach::governor;
 use ec_bits::{copy_by_words, get};
-use ec_fmmu::{Fmmu, ReadableBits, ReadableRuns, apply_read, is_touched_by_reading, show_by_bits};
+use ec_fmmu::{
+    FmmuTable, ReadableBits, ReadableRuns, apply_read, is_touched_by_reading, show_by_bits,
+};
 use ec_sync::Manager;
 
 /// Whether a datagram that reads gets at a manager: it touches its first and its last byte, and it
 /// may read there.
-fn is_readable(manager: &Manager, fmmus: &[Fmmu], from: u64, bits: u64) -> bool
+fn is_readable(manager: &Manager, fmmus: &FmmuTable, from: u64, bits: u64) -> bool
     ensures { let place : Place = record { from = from; bits = bits } in
         result ≡ (covers (touched_by_reading fmmus.now place) manager.now && may_read manager.now) }
 {
@@ -153,7 +155,7 @@ fn show_alike(sight: &Sight<'_>, physical: u32, count: usize, bytes: &mut [u8], 
     requires four { length sight.now.managers.now ≡ length sight.now.readable.now }
     requires alike { (a : ℕ) → physical / 8 ≤ a → a ≤ (physical + count - 1) / 8
         → governor_of sight.now.managers.now a ≡ governor_of sight.now.managers.now (physical / 8) }
-    requires front { (n a : ℕ) → n < length sight.now.managers.now → physical / 8 ≤ a → a ≤ (physical + count - 1) / 8
+    requires front { (n a : ℕ) → governor_of sight.now.managers.now (physical / 8) ≡ Some n → physical / 8 ≤ a → a ≤ (physical + count - 1) / 8
         → in_first_buffer (manager_at sight.now.managers.now n) a ≡ in_first_buffer (manager_at sight.now.managers.now n) (physical / 8) }
     requires to_ram { physical + count ≤ 8 * ram_end }
     requires inside { to + count ≤ 8 * length bytes.old }
@@ -189,7 +191,7 @@ impl ReadableRuns for Sight<'_> {
 pub(crate) fn read_logical(
     memory: &[u8],
     managers: &[Manager],
-    fmmus: &[Fmmu],
+    fmmus: &FmmuTable,
     from: u64,
     bytes: &mut [u8],
 ) -> bool

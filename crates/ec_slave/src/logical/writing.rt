@@ -8,7 +8,7 @@ ghost use Rattle.ec_slave.specs.Written.{some_plain_written};
 
 use crate::logical::runs::end_of_alike;
 use crate::reach::governor;
-use ec_fmmu::{Fmmu, WritableBytes, apply_write};
+use ec_fmmu::{FmmuTable, WritableBytes, apply_write};
 use ec_sync::Manager;
 
 /// The bytes that no manager governs.
@@ -41,7 +41,7 @@ impl WritableBytes for Ungoverned<'_> {
 pub(crate) fn write_logical(
     memory: &mut [u8],
     managers: &[Manager],
-    fmmus: &[Fmmu],
+    fmmus: &FmmuTable,
     from: u64,
     bytes: &[u8],
 ) -> bool

@@ -1,14 +1,14 @@
 //! Which bytes a physical datagram reads and writes, and what it leaves in the memory itself.
 
-ghost use Rattle.std.specs.Prelude.{◌≡◌, ◌+◌, ◌<◌, ◌≤◌, ◌^◌, ℕ, Bool, if◌then◌else◌, bit_or, length, Some, None, IfSome};
+ghost use Rattle.std.specs.Prelude.{◌≡◌, ◌+◌, ◌-◌, ◌<◌, ◌≤◌, ◌^◌, ℕ, Bool, if◌then◌else◌, bit_or, length, slice_index, Some, None, IfSome};
 ghost use Rattle.std.specs.Bool.{OnTrue};
 ghost use Rattle.ec_bits.specs.Bits.{within};
 ghost use Rattle.ec_regs.specs.Memory.{ram_start};
 ghost use Rattle.ec_sync.specs.Governing.{governor as governor_of};
-ghost use Rattle.ec_slave.specs.Access.{Window, byte_from, is_kept, may_read_byte, may_write_byte, memory_written, some_byte_written};
+ghost use Rattle.ec_slave.specs.Access.{Window, byte_from, is_kept, may_read_byte, may_write_byte, memory_written, retold, some_byte_written};
 ghost use Rattle.ec_slave.specs.Telling.{set_told};
 
-use crate::logical::end_of_alike;
+use crate::logical::{cut, end_of_alike};
 use crate::reach::governor;
 use ec_regs::registers::{RAM_END, RAM_START, SYNC_MANAGERS, SYNC_MANAGERS_END};
 use ec_regs::{is_stored, takes_writes};
@@ -118,7 +118,28 @@ fn store_byte(memory: &mut [u8], managers: &[Manager], address: usize, byte: u8)
 }
 
 /// Writes the bytes of a datagram into the memory itself, and answers whether one is written there or behind a manager.
+/// Registers have no governor, and are few: they are asked for byte by byte.
 pub(crate) fn write_physical(
+    memory: &mut [u8],
+    managers: &[Manager],
+    is_busy: bool,
+    from: usize,
+    bytes: &[u8],
+) -> bool
+    requires room { length memory.old ≡ 0x3000 }
+    requires small { from + length bytes.now < 2 ^ 32 }
+    ensures memory { memory.new ≡ memory_written managers.now (record { from = from; bytes = bytes.now }) memory.old }
+    ensures some { result ≡ some_byte_written managers.now is_busy (record { from = from; bytes = bytes.now }) }
+{
+    if from < RAM_START {
+        write_each(memory, managers, is_busy, from, bytes)
+    } else {
+        write_parts(memory, managers, is_busy, from, bytes)
+    }
+}
+
+/// Writes the bytes of a datagram, byte by byte, and answers whether one is written.
+fn write_each(
     memory: &mut [u8],
     managers: &[Manager],
     is_busy: bool,
@@ -138,6 +159,71 @@ pub(crate) fn write_physical(
     is_some
 }
 
+/// Writes the bytes of a datagram that begins in the RAM, and answers whether one is written. Who governs bytes, and
+/// whether they may be written, is asked once for each part of which all or none are.
+fn write_parts(
+    memory: &mut [u8],
+    managers: &[Manager],
+    is_busy: bool,
+    from: usize,
+    bytes: &[u8],
+) -> bool
+    requires room { length memory.old ≡ 0x3000 }
+    requires small { from + length bytes.now < 2 ^ 32 }
+    requires ram { ram_start ≤ from }
+    ensures memory { memory.new ≡ memory_written managers.now (record { from = from; bytes = bytes.now }) memory.old }
+    ensures some { result ≡ some_byte_written managers.now is_busy (record { from = from; bytes = bytes.now }) }
+{
+    let len = bytes.len();
+    let mut is_some = false;
+    let mut done = 0;
+    while done < len {
+        let first = from + done;
+        let count = end_of_written(managers, first, from + len) - first;
+        is_some |= writes_byte(managers, is_busy, from, len, first);
+        store_part(memory, managers, first, &bytes[done..done + count]);
+        done += count;
+    }
+    is_some
+}
+
+/// The end of the bytes from `start` on, and below `end`, which lie in the RAM or behind it, of which a datagram writes
+/// all or none, and of which the memory itself keeps all or none.
+fn end_of_written(managers: &[Manager], start: usize, end: usize) -> usize
+    requires some { start < end }
+    requires ram { ram_start ≤ start }
+    ensures inside { (start < result) × (result ≤ end) }
+    ensures writes { (busy : Bool) (touched : ℕ → Bool) (a : ℕ) → start ≤ a → a < result
+        → may_write_byte managers.now busy touched a ≡ may_write_byte managers.now busy touched start }
+    ensures kept { (a : ℕ) → start ≤ a → a < result → is_kept managers.now a ≡ is_kept managers.now start }
+{
+    let stop = cut(start, end, RAM_END);
+    end_of_alike(managers, start, stop)
+}
+
+/// Stores a part of the bytes of a datagram, of which the memory itself keeps all or none.
+fn store_part(memory: &mut [u8], managers: &[Manager], start: usize, bytes: &[u8])
+    requires room { length memory.old ≡ 0x3000 }
+    requires some { 0 < length bytes.now }
+    requires alike { (a : ℕ) → start ≤ a → a < start + length bytes.now → is_kept managers.now a ≡ is_kept managers.now start }
+    requires fits { start + length bytes.now < 2 ^ 32 }
+    ensures { memory.new ≡ retold memory.old (λ a. if within start (length bytes.now) a
+        then (if is_kept managers.now a then Some (slice_index bytes.now (a - start)) else None) else None) }
+{
+    if is_kept(managers, start) {
+        store_slice(memory, start, bytes);
+    }
+}
+
+/// Stores bytes at the addresses from `start` on.
+fn store_slice(memory: &mut [u8], start: usize, bytes: &[u8])
+    requires { start + length bytes.now ≤ length memory.old }
+    ensures { memory.new ≡ retold memory.old (λ a. if within start (length bytes.now) a
+        then Some (slice_index bytes.now (a - start)) else None) }
+{
+    memory[start..start + bytes.len()].copy_from_slice(bytes);
+}
+
 /// The byte that a datagram has for an address.
 pub(crate) fn byte_for(from: usize, bytes: &[u8], address: usize) -> Option<u8>
     ensures { result ≡ byte_from (record { from = from; bytes = bytes.now }) address }
@@ -151,4 +237,27 @@ pub(crate) fn read_over(joining: bool, byte: u8, shown: u8) -> u8
     ensures { result ≡ (if joining then bit_or byte shown else shown) }
 {
     if joining { byte | shown } else { shown }
+}
+
+/// What data bytes become by a read of as many.
+pub(crate) fn read_slice(joining: bool, bytes: &mut [u8], shown: &[u8])
+    requires { length shown.now ≡ length bytes.old }
+    ensures { bytes.new ≡ retold bytes.old (λ k. Some (if joining
+        then bit_or (slice_index bytes.old k) (slice_index shown.now k) else slice_index shown.now k)) }
+{
+    if joining {
+        join_slice(bytes, shown);
+    } else {
+        bytes.copy_from_slice(shown);
+    }
+}
+
+/// Joins bytes to data bytes by OR.
+fn join_slice(bytes: &mut [u8], shown: &[u8])
+    requires { length shown.now ≡ length bytes.old }
+    ensures { bytes.new ≡ retold bytes.old (λ k. Some (bit_or (slice_index bytes.old k) (slice_index shown.now k))) }
+{
+    for (k, byte) in bytes.iter_mut().enumerate() {
+        *byte |= shown[k];
+    }
 }

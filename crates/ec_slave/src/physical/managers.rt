@@ -1,12 +1,13 @@
 //! What a physical datagram does to the sync managers.
 
-ghost use Rattle.std.specs.Prelude.{◌≡◌, ◌+◌, ◌-◌, ◌<◌, ◌≤◌, ◌*◌, length, [], unwrap_or, true};
+ghost use Rattle.std.specs.Prelude.{◌≡◌, ◌+◌, ◌-◌, ◌<◌, ◌≤◌, ◌*◌, ℕ, length, [], unwrap_or, true};
 ghost use Rattle.ec_bits.specs.Bits.{within, zeros};
 ghost use Rattle.ec_regs.specs.Memory.{ram_end};
 ghost use Rattle.ec_sync.specs.Governing.{manager_byte};
 ghost use Rattle.ec_slave.specs.Managers.{is_ungoverned, manager_after};
 ghost use Rattle.ec_slave.specs.Access.{Window, is_configured as is_configured_at, manager_met, managers_met, setting_for, settings_written, touches, value_for};
 
+use crate::logical::are_ungoverned;
 use crate::physical::bytes::byte_for;
 use crate::reach::{governor, read_manager, write_manager};
 use ec_regs::registers::manager_address;
@@ -43,12 +44,29 @@ impl Writing for Bytes<'_> {
         absurd (all_touched w.from (length w.bytes.now) start len k first last inside untouched) };
 
     fn fill(&self, start: usize, value: &mut [u8]) {
-        value.fill(0);
-        self.fill_zeros(start, value);
+        if are_ungoverned(self.lower, start, value.len()) {
+            self.copy_own(start, value);
+        } else {
+            value.fill(0);
+            self.fill_zeros(start, value);
+        }
     }
 }
 
 impl Bytes<'_> {
+    /// Fills a value that begins at `start`, of which no byte lies under a lower-numbered manager.
+    fn copy_own(&self, start: usize, value: &mut [u8])
+        requires some { 0 < length value.old }
+        requires own { (a : ℕ) → start ≤ a → a < start + length value.old → is_ungoverned self.now.lower.now a ≡ true }
+        requires first { within self.now.from (length self.now.bytes.now) start ≡ true }
+        requires last { within self.now.from (length self.now.bytes.now) (start + length value.old - 1) ≡ true }
+        ensures { value.new ≡ value_for self.now.lower.now
+            (record { from = self.now.from; bytes = self.now.bytes.now }) start (length value.old) }
+    {
+        let place = start - self.from;
+        value.copy_from_slice(&self.bytes[place..place + value.len()]);
+    }
+
     /// Fills a value of zeros that begins at `start`: the bytes under a lower-numbered manager stay 0.
     fn fill_zeros(&self, start: usize, value: &mut [u8])
         requires some { 0 < length value.old }
@@ -86,6 +104,10 @@ fn is_configured(from: usize, bytes: &[u8], number: usize) -> bool
     requires { number < 4 }
     ensures { result ≡ is_configured_at (record { from = from; bytes = bytes.now }) number }
 {
+    let first = manager_address(number);
+    if first + 8 <= from || from.saturating_add(bytes.len()) <= first {
+        return false;
+    }
     let mut is_some = false;
     for k in 0..8 {
         is_some |= setting_for(from, bytes, number, k).is_some();

@@ -1,136 +1,107 @@
-use Rattle.std.proofs.Common.{ℕ, ap, ◌+◌, ◌-◌, ◌*◌, ◌<◌, ◌≡◌, ◌∙◌, sym, subst, arith, Option, Bool, None, length, get_or, unwrap_or, is_some, max, min}
-use Rattle.std.proofs.lemmas.List.{get_or_default}
+use Rattle.std.proofs.Common.{ℕ, ap, ◌+◌, ◌-◌, ◌*◌, ◌<◌, ◌≡◌, ◌∙◌, sym, arith, Option, Bool, None, length, unwrap_or, is_some, max, min}
 use Rattle.ec_bits.specs.Bits.{bit, overlay, any_below}
 use Rattle.ec_bits.proofs.BitLaws.{overlay_own, overlay_alike}
 use Rattle.ec_bits.proofs.AnyLaws.{any_below_none, any_below-alike}
-use Rattle.ec_regs.specs.declared.fmmu.FmmuSettings.{FmmuSettings}
-use Rattle.ec_regs.specs.Fmmus.{no_fmmu}
-use Rattle.ec_fmmu.specs.Pairs.{unmapped}
-use Rattle.ec_fmmu.specs.Ranges.{range_write_told}
-use Rattle.ec_fmmu.specs.Alone.{run_unmapped, run_written}
-use Rattle.ec_fmmu.proofs.AloneWriting.{alone_brings, run_brings, nothing_brought}
+use Rattle.ec_fmmu.specs.Alone.{brought_by, run_unmapped, run_written}
+use Rattle.ec_fmmu.proofs.AloneWriting.{run_brings, nothing_brought}
 use Rattle.ec_fmmu.proofs.writing.write_alone.Goals as goal
 
 pub returns-then-end-first-clause-any : goal.returns-then-end-first-clause-any
 returns-then-end-first-clause-any g c =
-    let fs = c.args.fmmus.now in
-    let place = c.args.place in
     let allowed = g.A.WritableBytes.allowed c.args.rights.now in
     let from = c.args.from in
     let bytes = c.args.bytes.now in
     let origin = c.args.origin in
     let xs = c.args.window.now in
     let bits = 8 * length xs in
-    let logical = c.run-run.result.logical in
-    let physical = c.run-run.result.physical in
-    let n = c.run-run.result.count in
+    let logical = c.args.run.logical in
+    let physical = c.args.run.physical in
+    let n = c.args.run.count in
     let first = c.max-first.result in
     let end = c.min-end.result in
-    let f = get_or fs place no_fmmu in
-    let item : c.index-fmmus-place.result ≡ f = c.index-fmmus-place.is ∙ get_or_default fs place (c.index-fmmus-place.result) no_fmmu (omega arith) in
-    let pairs : (q : ℕ) → unmapped f q ≡ run_unmapped logical physical n q
-    = subst (λ (m : FmmuSettings). (q : ℕ) → unmapped m q ≡ run_unmapped logical physical n q) item c.run-run.ensures.back in
     let a : first ≡ max (from - logical) (origin - physical) = omega arith in
     let b : end ≡ min (min (from + 8 * length bytes - logical) (origin + bits - physical)) n = omega arith in
     let to = physical + first - origin in
     let at = logical + first - from in
-    let same : (k : ℕ) → k < bits → range_write_told f fs allowed from bytes origin k ≡ run_written allowed (physical + first) bytes at to (end - first) k
-    = λ k l. alone_brings fs place allowed from bytes (origin + k) logical physical n c.requires.there c.requires.goes c.requires.alone pairs
-    ∙ run_brings allowed from bytes origin bits k logical physical n first end l a b in
-    let none : (k : ℕ) → k < bits → range_write_told f fs allowed from bytes origin k ≡ None
+    let told = λ (k : ℕ). brought_by allowed from bytes (origin + k) (run_unmapped logical physical n (origin + k)) in
+    let same : (k : ℕ) → k < bits → told k ≡ run_written allowed (physical + first) bytes at to (end - first) k
+    = λ k l. run_brings allowed from bytes origin bits k logical physical n first end l a b in
+    let none : (k : ℕ) → k < bits → told k ≡ None
     = λ k l. same k l ∙ nothing_brought allowed (physical + first) bytes at to first end k c.if-end-first.true in
-    sym (any_below_none bits (λ k. is_some (range_write_told f fs allowed from bytes origin k)) (λ k l. ap is_some (none k l)))
+    sym (any_below_none bits (λ k. is_some (told k)) (λ k l. ap is_some (none k l)))
 
 pub returns-then-end-first-clause-bits : goal.returns-then-end-first-clause-bits
 returns-then-end-first-clause-bits g c =
-    let fs = c.args.fmmus.now in
-    let place = c.args.place in
     let allowed = g.A.WritableBytes.allowed c.args.rights.now in
     let from = c.args.from in
     let bytes = c.args.bytes.now in
     let origin = c.args.origin in
     let xs = c.args.window.now in
     let bits = 8 * length xs in
-    let logical = c.run-run.result.logical in
-    let physical = c.run-run.result.physical in
-    let n = c.run-run.result.count in
+    let logical = c.args.run.logical in
+    let physical = c.args.run.physical in
+    let n = c.args.run.count in
     let first = c.max-first.result in
     let end = c.min-end.result in
-    let f = get_or fs place no_fmmu in
-    let item : c.index-fmmus-place.result ≡ f = c.index-fmmus-place.is ∙ get_or_default fs place (c.index-fmmus-place.result) no_fmmu (omega arith) in
-    let pairs : (q : ℕ) → unmapped f q ≡ run_unmapped logical physical n q
-    = subst (λ (m : FmmuSettings). (q : ℕ) → unmapped m q ≡ run_unmapped logical physical n q) item c.run-run.ensures.back in
     let a : first ≡ max (from - logical) (origin - physical) = omega arith in
     let b : end ≡ min (min (from + 8 * length bytes - logical) (origin + bits - physical)) n = omega arith in
     let to = physical + first - origin in
     let at = logical + first - from in
-    let same : (k : ℕ) → k < bits → range_write_told f fs allowed from bytes origin k ≡ run_written allowed (physical + first) bytes at to (end - first) k
-    = λ k l. alone_brings fs place allowed from bytes (origin + k) logical physical n c.requires.there c.requires.goes c.requires.alone pairs
-    ∙ run_brings allowed from bytes origin bits k logical physical n first end l a b in
-    let none : (k : ℕ) → k < bits → range_write_told f fs allowed from bytes origin k ≡ None
+    let told = λ (k : ℕ). brought_by allowed from bytes (origin + k) (run_unmapped logical physical n (origin + k)) in
+    let same : (k : ℕ) → k < bits → told k ≡ run_written allowed (physical + first) bytes at to (end - first) k
+    = λ k l. run_brings allowed from bytes origin bits k logical physical n first end l a b in
+    let none : (k : ℕ) → k < bits → told k ≡ None
     = λ k l. same k l ∙ nothing_brought allowed (physical + first) bytes at to first end k c.if-end-first.true in
-    sym (overlay_own xs (range_write_told f fs allowed from bytes origin) (λ k l. ap (λ (o : Option Bool). unwrap_or o (bit xs k)) (none k l)))
+    sym (overlay_own xs told (λ k l. ap (λ (o : Option Bool). unwrap_or o (bit xs k)) (none k l)))
 
 pub returns-clause-any : goal.returns-clause-any
 returns-clause-any g c =
-    let fs = c.args.fmmus.now in
-    let place = c.args.place in
     let allowed = g.A.WritableBytes.allowed c.args.rights.now in
     let from = c.args.from in
     let bytes = c.args.bytes.now in
     let origin = c.args.origin in
     let xs = c.args.window.now in
     let bits = 8 * length xs in
-    let logical = c.run-run.result.logical in
-    let physical = c.run-run.result.physical in
-    let n = c.run-run.result.count in
+    let logical = c.args.run.logical in
+    let physical = c.args.run.physical in
+    let n = c.args.run.count in
     let first = c.max-first.result in
     let end = c.min-end.result in
-    let f = get_or fs place no_fmmu in
-    let item : c.index-fmmus-place.result ≡ f = c.index-fmmus-place.is ∙ get_or_default fs place (c.index-fmmus-place.result) no_fmmu (omega arith) in
-    let pairs : (q : ℕ) → unmapped f q ≡ run_unmapped logical physical n q
-    = subst (λ (m : FmmuSettings). (q : ℕ) → unmapped m q ≡ run_unmapped logical physical n q) item c.run-run.ensures.back in
     let a : first ≡ max (from - logical) (origin - physical) = omega arith in
     let b : end ≡ min (min (from + 8 * length bytes - logical) (origin + bits - physical)) n = omega arith in
     let to = physical + first - origin in
     let at = logical + first - from in
-    let same : (k : ℕ) → k < bits → range_write_told f fs allowed from bytes origin k ≡ run_written allowed (physical + first) bytes at to (end - first) k
-    = λ k l. alone_brings fs place allowed from bytes (origin + k) logical physical n c.requires.there c.requires.goes c.requires.alone pairs
-    ∙ run_brings allowed from bytes origin bits k logical physical n first end l a b in
+    let told = λ (k : ℕ). brought_by allowed from bytes (origin + k) (run_unmapped logical physical n (origin + k)) in
+    let same : (k : ℕ) → k < bits → told k ≡ run_written allowed (physical + first) bytes at to (end - first) k
+    = λ k l. run_brings allowed from bytes origin bits k logical physical n first end l a b in
     let here : c.from-3.result ≡ origin = c.from-3.ensures in
     c.write_run.ensures.any
     ∙ (ap (λ (m : ℕ). any_below bits (λ k. is_some (run_written allowed (physical + first) bytes at (physical + first - m) (end - first) k))) here
-    ∙ any_below-alike bits (λ k. is_some (run_written allowed (physical + first) bytes at to (end - first) k)) (λ k. is_some (range_write_told f fs allowed from bytes origin k))
+    ∙ any_below-alike bits (λ k. is_some (run_written allowed (physical + first) bytes at to (end - first) k)) (λ k. is_some (told k))
     (λ k l. ap is_some (sym (same k l))))
 
 pub returns-clause-bits : goal.returns-clause-bits
 returns-clause-bits g c =
-    let fs = c.args.fmmus.now in
-    let place = c.args.place in
     let allowed = g.A.WritableBytes.allowed c.args.rights.now in
     let from = c.args.from in
     let bytes = c.args.bytes.now in
     let origin = c.args.origin in
     let xs = c.args.window.now in
     let bits = 8 * length xs in
-    let logical = c.run-run.result.logical in
-    let physical = c.run-run.result.physical in
-    let n = c.run-run.result.count in
+    let logical = c.args.run.logical in
+    let physical = c.args.run.physical in
+    let n = c.args.run.count in
     let first = c.max-first.result in
     let end = c.min-end.result in
-    let f = get_or fs place no_fmmu in
-    let item : c.index-fmmus-place.result ≡ f = c.index-fmmus-place.is ∙ get_or_default fs place (c.index-fmmus-place.result) no_fmmu (omega arith) in
-    let pairs : (q : ℕ) → unmapped f q ≡ run_unmapped logical physical n q
-    = subst (λ (m : FmmuSettings). (q : ℕ) → unmapped m q ≡ run_unmapped logical physical n q) item c.run-run.ensures.back in
     let a : first ≡ max (from - logical) (origin - physical) = omega arith in
     let b : end ≡ min (min (from + 8 * length bytes - logical) (origin + bits - physical)) n = omega arith in
     let to = physical + first - origin in
     let at = logical + first - from in
-    let same : (k : ℕ) → k < bits → range_write_told f fs allowed from bytes origin k ≡ run_written allowed (physical + first) bytes at to (end - first) k
-    = λ k l. alone_brings fs place allowed from bytes (origin + k) logical physical n c.requires.there c.requires.goes c.requires.alone pairs
-    ∙ run_brings allowed from bytes origin bits k logical physical n first end l a b in
+    let told = λ (k : ℕ). brought_by allowed from bytes (origin + k) (run_unmapped logical physical n (origin + k)) in
+    let same : (k : ℕ) → k < bits → told k ≡ run_written allowed (physical + first) bytes at to (end - first) k
+    = λ k l. run_brings allowed from bytes origin bits k logical physical n first end l a b in
     let here : c.from-3.result ≡ origin = c.from-3.ensures in
     c.write_run.ensures.bits
     ∙ (ap (λ (m : ℕ). overlay xs (run_written allowed (physical + first) bytes at (physical + first - m) (end - first))) here
-    ∙ overlay_alike xs (run_written allowed (physical + first) bytes at to (end - first)) (range_write_told f fs allowed from bytes origin)
+    ∙ overlay_alike xs (run_written allowed (physical + first) bytes at to (end - first)) told
     (λ k l. ap (λ (o : Option Bool). unwrap_or o (bit xs k)) (sym (same k l))))

@@ -1,9 +1,6 @@
-use Rattle.std.proofs.Common.{refl}
-use Rattle.ec_wire.proofs.Applying.{writing_next}
+use Rattle.std.proofs.Common.{◌∙◌, length, refl}
+use Rattle.ec_wire.proofs.Applying.{all_written}
 use Rattle.ec_wire.proofs.application.write_inputs.Goals as goal
 
-pub loop-place-preserved : goal.loop-place-preserved
-loop-place-preserved c = record {
-  writing = writing_next c.args.slave.now c.loop-place.slave c.app_put.new.self c.args.inputs.now c.loop-place.place c.is_sound.ensures c.requires c.loop-place-test.true c.loop-place.invariant.writing c.app_put.ensures.after;
-  end = refl;
-}
+pub returns : goal.returns
+returns c = c.app_put_all.ensures ∙ all_written c.args.slave.now c.args.inputs.now (length c.args.inputs.now) refl c.is_sound.ensures c.requires

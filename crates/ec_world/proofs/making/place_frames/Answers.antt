@@ -1,7 +1,13 @@
-use Rattle.std.proofs.Common.{◌<◌, ◌≤◌, ◌∙◌, arith, length, sym}
+use Rattle.std.proofs.Common.{ℕ, ◌<◌, ◌≤◌, ◌∙◌, List, arith, length, subst, sym}
+use Rattle.ec_frame.specs.Frame.{Payload, IsFrame}
 use Rattle.ec_world.specs.Held.{cycle_frames}
 use Rattle.ec_world.proofs.Filling.{frame-in, placed, all-placed}
 use Rattle.ec_world.proofs.making.place_frames.Goals as goal
+
+pub fill-requires-clause-frame : goal.fill-requires-clause-frame
+fill-requires-clause-frame c =
+    let l : c.loop-part.part < length (cycle_frames c.args.master.now.cycle) = omega (arith, c.loop-part-test.true, c.parts-part-end.ensures, c.requires.count) in
+    subst (λ (xs : List ℕ). (p : Payload) × IsFrame xs p) (sym (c.frame.ensures ∙ frame-in c.args.master.now.cycle c.loop-part.part)) (c.requires.frames c.loop-part.part l)
 
 pub loop-part-preserved : goal.loop-part-preserved
 loop-part-preserved c =

@@ -1,5 +1,4 @@
-use Rattle.std.proofs.Common.{◌/◌, ◌∙◌, sym}
-use Rattle.ec_slave.proofs.Sights.{governor-below}
+use Rattle.std.proofs.Common.{◌∙◌, sym}
 use Rattle.ec_slave.proofs.logical.reading.show_alike.Goals as goal
 
 pub show_plain-requires-clause-plain : goal.show_plain-requires-clause-plain
@@ -10,5 +9,4 @@ show_value-requires-clause-governed c = λ a lo hi. c.requires.alike a lo hi ∙
 
 pub show_value-requires-clause-front : goal.show_value-requires-clause-front
 show_value-requires-clause-front c = λ a lo hi.
-    c.requires.front c.in-Some.place a
-    (governor-below c.args.sight.now.managers.now (c.args.physical / 8) c.in-Some.place (sym c.governor.ensures.value ∙ c.in-Some.is)) lo hi
+    c.requires.front c.in-Some.place a (sym c.governor.ensures.value ∙ c.in-Some.is) lo hi

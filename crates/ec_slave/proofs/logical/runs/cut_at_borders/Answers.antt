@@ -22,7 +22,7 @@ returns-clause-governs c = λ a lo hi.
     governs_cut m c.args.start c.cut.result a (shorter c.args.start c.cut.result c.cut-before.result m.settings.start (omega (arith, x, y)) low) high lo hi
 
 pub returns-clause-front : goal.returns-clause-front
-returns-clause-front c = λ a lo hi.
+returns-clause-front c = λ here a lo hi.
     let m : Manager = c.args.manager.now in
     let b = c.bounds-bounds.ensures in
     let value_end : c.bounds-bounds.result.value_end ≡ m.settings.start + m.settings.length = ap (λ (x : Bounds). x.value_end) b in

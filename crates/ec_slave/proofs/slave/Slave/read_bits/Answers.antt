@@ -13,7 +13,7 @@ pub returns-clause-slave : goal.returns-clause-slave
 returns-clause-slave c =
     let s : SlaveState = c.args.self.now in
     let new : List Manager = c.access_managers.new.managers in
-    let fs : List FmmuSettings = c.as_slice-2.result.now in
+    let fs : List FmmuSettings = c.self.inside.fmmus in
     let ok = c.self.inside.managers.ok in
     let own = c.deref_mut.ensures.value in
     let long = c.access_managers.auto.managers in
@@ -26,5 +26,5 @@ returns-clause-slave c =
     let q : Place = record { from = c.args.from; bits = 8 * length c.read_logical-is_read.new.bytes } in
     let place : q ≡ p = ap (λ (n : ℕ). record { from = c.args.from; bits = 8 * n }) same in
     ap (λ (x : SlaveState). with_memory x c.self.inside.memory.items (take c.self.inside.managers.len (new ++ drop (length new) c.self.inside.managers.items))) c.self.view_is
-    ∙ slave_read s _ _ fs p q c.args.bytes.now c.read_logical-is_read.new.bytes memory (c.as_slice-2.ensures ∙ (c.self.invariant.decoded ∙ ap fmmus_of memory)) place
+    ∙ slave_read s _ _ fs p q c.args.bytes.now c.read_logical-is_read.new.bytes memory (c.self.invariant.decoded ∙ ap fmmus_of memory) place
     (front ∙ (c.access_managers.ensures.after ∙ ap (λ (ms : List Manager). managers_exchanged [] true false fs q c.read_logical-is_read.new.bytes ms) (own ∙ managers)))

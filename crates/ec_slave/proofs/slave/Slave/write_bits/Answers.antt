@@ -24,7 +24,7 @@ invariant_of-self c =
       room = ap length front ∙ (long ∙ (ap length own ∙ c.self.invariant.room));
       four = grind (arith, common_steps);
       decoded = c.self.invariant.decoded ∙ (ap fmmus_of (sym own)
-          ∙ (decoded-mapped c.deref.result.now c.as_slice-fmmus.result.now p c.args.bytes.now old
+          ∙ (decoded-mapped c.deref.result.now c.self.inside.fmmus p c.args.bytes.now old
           ∙ ap fmmus_of (sym (front ∙ c.write_logical-in_memory.ensures.memory))));
       image = c.self.invariant.image;
     }
@@ -33,7 +33,7 @@ pub returns-clause-slave : goal.returns-clause-slave
 returns-clause-slave c =
     let s : SlaveState = c.args.self.now in
     let p : Place = record { from = c.args.from; bits = 8 * length c.args.bytes.now } in
-    let fs : List FmmuSettings = c.as_slice-fmmus.result.now in
+    let fs : List FmmuSettings = c.self.inside.fmmus in
     let memory = ap (λ (x : SlaveState). x.memory) c.self.view_is in
     let managers = ap (λ (x : SlaveState). x.managers) c.self.view_is in
     let new : List ℕ = c.write_logical-in_memory.new.memory in
@@ -54,17 +54,17 @@ returns-clause-slave c =
     (front ∙ (c.write_logical-in_memory.ensures.memory
     ∙ (ap (λ (xs : List ℕ). overlay xs (plain_bit c.deref.result.now fs p c.args.bytes.now)) (own ∙ memory)
     ∙ ap (λ (ms : List Manager). overlay s.memory (plain_bit ms fs p c.args.bytes.now)) (c.deref.ensures.value ∙ managers))))
-    (c.as_slice-fmmus.ensures ∙ (c.self.invariant.decoded ∙ ap fmmus_of memory))
+    (c.self.invariant.decoded ∙ ap fmmus_of memory)
     (front_2 ∙ (c.access_managers-in_manager.ensures.after ∙ ap (λ (ms : List Manager). managers_exchanged [] c.args.reading true fs p c.args.bytes.now ms) (own_2 ∙ managers)))
 
 pub returns-clause-some : goal.returns-clause-some
 returns-clause-some c =
     let s : SlaveState = c.args.self.now in
     let p : Place = record { from = c.args.from; bits = 8 * length c.args.bytes.now } in
-    let fs : List FmmuSettings = c.as_slice-fmmus.result.now in
+    let fs : List FmmuSettings = c.self.inside.fmmus in
     let b : List ℕ = c.args.bytes.now in
     let memory = ap (λ (x : SlaveState). x.memory) c.self.view_is in
     let managers = ap (λ (x : SlaveState). x.managers) c.self.view_is in
     let own_2 = c.deref_mut-2.ensures.value in
     some_found s.managers c.deref.result.now c.deref_mut-2.result.now fs _ p b _ _ c.write_logical-in_memory.ensures.any (c.deref.ensures.value ∙ managers)
-    c.access_managers-in_manager.ensures.any (own_2 ∙ managers) (c.as_slice-fmmus.ensures ∙ (c.self.invariant.decoded ∙ ap fmmus_of memory))
+    c.access_managers-in_manager.ensures.any (own_2 ∙ managers) (c.self.invariant.decoded ∙ ap fmmus_of memory)

@@ -1,11 +1,24 @@
-use Rattle.std.proofs.Common.{◌≡◌, ◌∙◌, ◌∷◌, [], List, ℕ, ap, sym, true}
+use Rattle.std.proofs.Common.{◌≡◌, ◌∙◌, ◌∷◌, [], List, ℕ, ap, subst, sym, true}
+use Rattle.ec_frame.specs.Frame.{Payload, IsFrame}
+use Rattle.ec_frame.specs.Building.{bare_payload}
+use Rattle.ec_start.specs.Actions.{frame_of}
+use Rattle.ec_start.specs.Running.{action_of}
 use Rattle.ec_world.specs.Plain.{filled}
 use Rattle.ec_world.specs.World.{Flight, can_start}
-use Rattle.ec_world.proofs.Stepping.{world_of, start-step}
+use Rattle.ec_world.proofs.Stepping.{world_of, next-sends, start-step}
 use Rattle.ec_world.proofs.world.World.start_next.Goals as goal
 
 abbrev flight : List ℕ → ℕ → Flight
 flight bytes number = record { bytes = bytes; number = number; part = 0; passed = 0 }
+
+pub fill-requires-clause-frame : goal.fill-requires-clause-frame
+fill-requires-clause-frame c =
+    let v = c.self.inside in
+    let w = world_of v.plan.now v.start v.master v.ring v.slots v.got v.report in
+    let can : can_start w ≡ true = ap can_start c.self.view_is ∙ (sym c.can_start.ensures ∙ c.if-not-can_start.false) in
+    let s = c.resume.new.start in
+    subst (λ (xs : List ℕ). (p : Payload) × IsFrame xs p) (sym c.as_slice.ensures.value)
+    (bare_payload (frame_of (action_of s) s.next), c.next.ensures.written (c.next.ensures.answer ∙ next-sends w s can c.resume.ensures))
 
 pub returns : goal.returns
 returns c =

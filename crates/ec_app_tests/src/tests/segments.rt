@@ -1,0 +1,100 @@
+//! `ecat segment`, over the system's sockets.
+
+use crate::tests::Idle;
+use crate::tests::tables::THREE_SLAVES;
+use ec_app::run_command;
+use ec_wire::UdpWire;
+use std::net::Net;
+use std::process::Abort;
+use std::test::Fail;
+
+/// Which port a segment is told to listen on.
+#[derive(Clone, Copy, Debug, PartialEq, Eq, Drop)]
+enum Port {
+    Free,
+    InUse,
+    Zero,
+}
+
+/// A run of `ecat segment --frames 0`: its port and its input, how it ends, what it prints, and how what it tells begins.
+#[derive(Clone, Copy, Drop)]
+struct Segment<'a> {
+    port: Port,
+    input: &'a [u8],
+    status: u8,
+    printed: &'a str,
+    told: &'a str,
+}
+
+/// Runs `ecat segment` on a port, and compares how it ends.
+fn expect_segment<H: AllocGlobal + Net + Abort>(
+    rt: &H,
+    run: Segment,
+    port: u16,
+) -> Result<(), Fail> {
+    let mut output: Vec<u8> = Vec::new(rt.alloc());
+    let mut faults: Vec<u8> = Vec::new(rt.alloc());
+    let mut input = run.input;
+    let port = format!(in rt.alloc(); "{port}")?;
+    let args = ["ecat", "segment", "--frames", "0", "--port", port.as_str()];
+    let status = run_command(rt, &args, &mut input, &mut output, &mut faults, &mut Idle);
+    assert_eq!(rt;
+        (status, output.as_slice()),
+        (run.status, run.printed.as_bytes()),
+        "{port}"
+    );
+    assert!(rt; faults.starts_with(run.told.as_bytes()));
+    Ok(())
+}
+
+// The table comes first, then the port; it is told once the segment listens there.
+#[test]
+fn listens_and_counts(rt: HostRuntime) -> Result<(), Fail> {
+    let held = UdpWire::bind(&rt, 0)?;
+    let free = UdpWire::bind(&rt, 0)?.port();
+    for run in [
+        Segment {
+            port: Port::Free,
+            input: THREE_SLAVES.as_bytes(),
+            status: 0,
+            printed: "served 0 refused 0\n",
+            told: "ecat: listening on 127.0.0.1:",
+        },
+        Segment {
+            port: Port::InUse,
+            input: THREE_SLAVES.as_bytes(),
+            status: 4,
+            printed: "",
+            told: "ecat: 43 Socket\n",
+        },
+        Segment {
+            port: Port::InUse,
+            input: b"[[",
+            status: 3,
+            printed: "",
+            told: "ecat: 11 Toml\n",
+        },
+        Segment {
+            port: Port::Free,
+            input: b"\xff",
+            status: 4,
+            printed: "",
+            told: "ecat: 42 Input\n",
+        },
+        Segment {
+            port: Port::Zero,
+            input: b"",
+            status: 2,
+            printed: "",
+            told: "error: ",
+        },
+    ] {
+        let port = match run.port {
+            Port::Free => free,
+            Port::InUse => held.port(),
+            Port::Zero => 0,
+        };
+        expect_segment(&rt, run, port)?;
+    }
+    Ok(())
+}

@@ -1,0 +1,272 @@
+use crate::tests::described::{push_parts, push_plan, push_refusal};
+use crate::tests::tables::{
+    CHANGES, EMPTY_PLAN, SPLIT_VARIABLE, THREE_SLAVES, THREE_SLAVES_PLAN, TWO_UNITS_PLAN,
+};
+use ec_link::{LinkError, LinkFault, compile};
+use ec_table::{Table, read_table};
+use std::alloc::{AllocError, Global};
+use std::process::Abort;
+use std::test::Fail;
+
+mod described;
+mod tables;
+
+/// What is told of a table: its whole plan, or its parts alone, or why it has none.
+fn push_told(
+    alloc: Global,
+    text: &mut String,
+    table: &Table,
+    whole: bool,
+) -> Result<(), AllocError> {
+    match compile(alloc, table) {
+        Ok(plan) if whole => push_plan(text, &plan),
+        Ok(plan) => push_parts(text, &plan),
+        Err(error) => push_refusal(text, error),
+    }
+}
+
+/// What is told of the table that a text states.
+fn told_of(alloc: Global, text: &str, whole: bool) -> Result<String, Fail> {
+    let mut told = String::new(alloc);
+    let table = read_table(alloc, text)?;
+    push_told(alloc, &mut told, &table, whole)?;
+    Ok(told)
+}
+
+/// Compiles a text, and compares the parts of its plan, or why it has none.
+fn assert_parts(rt: &(impl AllocGlobal + Abort), text: &str, wanted: &str) -> Result<(), Fail> {
+    let told = told_of(rt.alloc(), text, false)?;
+    assert_eq!(rt; told.as_str(), wanted, "{text}");
+    Ok(())
+}
+
+/// Compiles a text, and compares its whole plan, or why it has none.
+fn assert_plan(rt: &(impl AllocGlobal + Abort), text: &str, wanted: &str) -> Result<(), Fail> {
+    let told = told_of(rt.alloc(), text, true)?;
+    assert_eq!(rt; told.as_str(), wanted, "{text}");
+    Ok(())
+}
+
+/// A text with the first place of `old` changed to `new`, or with `new` behind it.
+fn changed(alloc: Global, text: &str, old: &str, new: &str) -> Result<String, Fail> {
+    let (before, after) = if old.is_empty() {
+        (text, "")
+    } else {
+        text.split_once(old).ok_or("nothing to change")?
+    };
+    Ok(format!(in alloc; "{before}{new}{after}")?)
+}
+
+#[test]
+fn plans_three_slaves(rt: HostRuntime) -> Result<(), Fail> {
+    let (old, new) = ("type = \"di4\"", "type = \"di4\"\nunit = 1");
+    let units = changed(rt.alloc(), THREE_SLAVES, old, new)?;
+    let two_units = format!(in rt.alloc(); "version = 2\n{units}")?;
+    let split = format!(in rt.alloc(); "{two_units}{SPLIT_VARIABLE}")?;
+    for (text, wanted) in [
+        ("", EMPTY_PLAN),
+        (THREE_SLAVES, THREE_SLAVES_PLAN),
+        (two_units.as_str(), TWO_UNITS_PLAN),
+        (split.as_str(), "44 SplitVariable 4"),
+    ] {
+        assert_plan(&rt, text, wanted)?;
+    }
+    Ok(())
+}
+
+/// The first of two units has a slave that takes no part in LRW, and so its part goes by LWR and LRD.
+#[test]
+fn splits_the_part_of_a_unit(rt: HostRuntime) -> Result<(), Fail> {
+    let (old, new) = ("type = \"di4\"", "type = \"di4\"\nunit = 1");
+    let units = changed(rt.alloc(), THREE_SLAVES, old, new)?;
+    let (old, new) = ("in_start = 0\n", "in_start = 0\nlrw = false\n");
+    let split = changed(rt.alloc(), units.as_str(), old, new)?;
+    let text = format!(in rt.alloc(); "version = 2\n{split}")?;
+    assert_parts(&rt, text.as_str(), "65536 3 2/1 0, 65539 1 1 1")
+}
+
+/// Makes the change of a line `ANSWER: OLD => NEW`, `|` being the end of a line, and compares what is
+/// told.
+fn assert_change(rt: &(impl AllocGlobal + Abort), line: &str) -> Result<(), Fail> {
+    let (wanted, change) = line.split_once(": ").ok_or("no answer")?;
+    let change = change.replace(rt.alloc(), "|", "\n")?;
+    let (old, new) = change.as_str().split_once(" => ").ok_or("no change")?;
+    let text = changed(rt.alloc(), THREE_SLAVES, old, new)?;
+    assert_parts(rt, text.as_str(), wanted)
+}
+
+#[test]
+fn tells_the_first_fault(rt: HostRuntime) -> Result<(), Fail> {
+    for line in CHANGES.lines() {
+        assert_change(&rt, line)?;
+    }
+    Ok(())
+}
+
+/// So many bits in entries of 64 bits and one with the rest; up to 4096.
+fn push_entries(text: &mut String, bits: u32) -> Result<(), AllocError> {
+    let mut rest = bits;
+    for place in 1..65u8 {
+        let count = rest.min(64);
+        if count > 0 {
+            write!(text, "[0x7000, {place}, {count}], ")?;
+        }
+        rest -= count;
+    }
+    Ok(())
+}
+
+/// What a slave of a machine has: output bits, input bits, and whether its type has LRW.
+type Terminal = (u32, u32, bool);
+
+/// A type of its own and a slave.
+fn push_terminal(
+    text: &mut String,
+    place: usize,
+    unit: usize,
+    terminal: Terminal,
+) -> Result<(), AllocError> {
+    let (outs, ins, lrw) = terminal;
+    write!(
+        text,
+        "[[slave]]
+name = \"s{place}\"
+type = \"t{place}\"
+unit = {unit}
+[[type]]
+name = \"t{place}\"
+vendor = 1
+product = 1
+revision = 1
+out_start = 0x1100
+in_start = 0x1800
+lrw = {lrw}
+rxpdo = [ {{ index = 0x1600, entries = ["
+    )?;
+    push_entries(text, outs)?;
+    text.push_str("] } ]\ntxpdo = [ { index = 0x1A00, entries = [")?;
+    push_entries(text, ins)?;
+    text.push_str("] } ]\n")
+}
+
+/// A type of its own and a slave for each terminal, each in sync unit 0, or each in a unit of its own.
+fn machine(alloc: Global, terminals: &[Terminal], own_units: bool) -> Result<String, AllocError> {
+    let mut text = String::from_str(alloc, "version = 2\n")?;
+    for (place, terminal) in terminals.iter().enumerate() {
+        let unit = if own_units { place } else { 0 };
+        push_terminal(&mut text, place, unit, *terminal)?;
+    }
+    Ok(text)
+}
+
+/// Compiles a machine, and compares the parts of its plan, or why it has none.
+fn assert_machine(
+    rt: &(impl AllocGlobal + Abort),
+    terminals: &[Terminal],
+    own_units: bool,
+    wanted: &str,
+) -> Result<(), Fail> {
+    let text = machine(rt.alloc(), terminals, own_units)?;
+    assert_parts(rt, text.as_str(), wanted)
+}
+
+const FEW: Terminal = (4, 0, true);
+
+const FULL: Terminal = (2048, 0, true);
+
+const BOTH: Terminal = (2048, 2048, true);
+
+const SLOW: Terminal = (2048, 0, false);
+
+#[test]
+fn fills_parts(rt: HostRuntime) -> Result<(), Fail> {
+    let rows: [(&[Terminal], &str); 6] = [
+        (
+            &[FULL, FULL, FULL, FULL, FULL, (1136, 0, true), (1, 0, true)],
+            "65536 1422 12 0, 66958 1 2 0",
+        ),
+        (
+            &[FULL, FULL, FULL, FULL, FULL, (1137, 0, true), (1, 0, true)],
+            "65536 1280 10 0, 66816 143 4 0",
+        ),
+        (&[SLOW, SLOW, (1544, 0, false)], "65536 705 3/0 0"),
+        (
+            &[SLOW, SLOW, (1545, 0, false)],
+            "65536 512 2/0 0, 66048 194 1/0 0",
+        ),
+        (&[FULL, (1, 2049, true)], "21 TooManyBits 1"),
+        (
+            &[BOTH; 64],
+            "65536 1280 15 0, 66816 1280 15 0, 68096 1280 15 0, 69376 1280 15 0, \
+             70656 1280 15 0, 71936 1280 15 0, 73216 1280 15 0, 74496 1280 15 0, \
+             75776 1280 15 0, 77056 1280 15 0, 78336 1280 15 0, 79616 1280 15 0, \
+             80896 1024 12 0",
+        ),
+    ];
+    for (terminals, wanted) in rows {
+        assert_machine(&rt, terminals, false, wanted)?;
+    }
+    Ok(())
+}
+
+#[test]
+fn counts_slaves_and_parts(rt: HostRuntime) -> Result<(), Fail> {
+    assert_machine(&rt, &[FEW; 65], false, "22 TooManySlaves 65")?;
+    assert_machine(&rt, &[FEW; 33], true, "23 TooManyParts 33")
+}
+
+#[test]
+fn says_what_is_wrong(rt: HostRuntime) -> Result<(), Fail> {
+    let refused = LinkError::Refused;
+    let told = [
+        (LinkError::Memory, "out of memory"),
+        (
+            refused(LinkFault::WrongDirection(7)),
+            "link 7: the slave assigns the entry in the other direction",
+        ),
+        (
+            refused(LinkFault::NoEntry(7)),
+            "link 7: the slave assigns no such entry",
+        ),
+        (
+            refused(LinkFault::OutsideEntry(7)),
+            "link 7: bits past the entry or the variable",
+        ),
+        (
+            refused(LinkFault::LinkedTwice(7)),
+            "link 7: a bit is linked twice",
+        ),
+        (
+            refused(LinkFault::EntryTwice(7)),
+            "slave 7: an entry is assigned twice",
+        ),
+        (
+            refused(LinkFault::TooManyBits(7)),
+            "slave 7: over 2048 bits in a direction",
+        ),
+        (
+            refused(LinkFault::TooManySlaves(65)),
+            "65 slaves, and 64 are the most",
+        ),
+        (
+            refused(LinkFault::TooManyParts(33)),
+            "33 parts, and 32 are the most",
+        ),
+        (
+            refused(LinkFault::AreasOverlap(7)),
+            "slave 7: two areas overlap",
+        ),
+        (
+            refused(LinkFault::OutsideRam(7)),
+            "slave 7: an area leaves the RAM",
+        ),
+        (
+            refused(LinkFault::SplitVariable(7)),
+            "variable 7: links from two sync units",
+        ),
+    ];
+    for (error, wanted) in told {
+        assert_eq!(rt; format!(in rt.alloc(); "{error}")?.as_str(), wanted);
+    }
+    Ok(())
+}

@@ -1,0 +1,277 @@
+//! Scripts over three slaves: what lines stand for, which are bad, and what is printed of them.
+ghost use Rattle.std.specs.Prelude.{◌≡◌, length, IfOk};
+ghost use Rattle.ec_link.specs.Faults.{compile_fault};
+ghost use Rattle.ec_link.specs.Plan.{plan_of};
+
+use ec_link::{Plan, compile};
+use ec_regs::Identity;
+use ec_script::Act::{Cycle, One, Ready, Show};
+use ec_script::{Act, Line, ScriptError, read_script, run_line, split_script};
+use ec_table::{Table, read_table};
+use ec_world::Event::{
+    AppGet, AppPut, Begin, Close, Fault, Lose, Pass, Reset, Return, Serve, Set, StartNext,
+};
+use ec_world::World;
+use std::alloc::{AllocError, Global};
+use std::process::Abort;
+use std::test::Fail;
+
+/// Three slaves: 4 outputs; 4 inputs; 12 outputs and 16 inputs.
+const TABLE: &str = r#"type = [
+  { name = "do4", vendor = 0xABCD, product = 1, revision = 1, out_start = 0x1100, in_start = 0, rxpdo = [ { index = 0x1600, entries = [[0x7000, 1, 4]] } ] },
+  { name = "di4", vendor = 0xABCD, product = 2, revision = 1, out_start = 0, in_start = 0x1100, txpdo = [ { index = 0x1A00, entries = [[0x6000, 1, 4]] } ] },
+  { name = "mix", vendor = 0xABCD, product = 3, revision = 1, mailbox = [0x1000, 128, 0x1080, 128], out_start = 0x1100, in_start = 0x1400, rxpdo = [ { index = 0x1600, entries = [[0x7010, 1, 12]] } ], txpdo = [ { index = 0x1A00, entries = [[0x6010, 1, 16]] } ] },
+]
+slave = [ { name = "s0", type = "do4" }, { name = "s1", type = "di4" }, { name = "s2", type = "mix" } ]
+variable = [ { name = "a", dir = "out", bits = 4 }, { name = "b", dir = "out", bits = 12 }, { name = "c", dir = "in", bits = 4 }, { name = "d", dir = "in", bits = 16 } ]
+link = [ { var = "a", slave = "s0", index = 0x7000, sub = 1 }, { var = "b", slave = "s2", index = 0x7010, sub = 1 }, { var = "c", slave = "s1", index = 0x6000, sub = 1 }, { var = "d", slave = "s2", index = 0x6010, sub = 1 } ]
+"#;
+
+/// Lines, and what each stands for.
+const ACTS: [(&str, Act); 19] = [
+    ("start", One(StartNext)),
+    ("set a 10", One(Set(0, 10))),
+    ("set d 0018", One(Set(3, 18))),
+    ("begin", One(Begin)),
+    ("pass 3", One(Pass(3))),
+    ("lose 63", One(Lose(63))),
+    ("return 0", One(Return(0))),
+    ("close", One(Close)),
+    ("serve 2", One(Serve(2))),
+    ("put 1 0 255", One(AppPut(1, 0, 255))),
+    ("get 2 1", One(AppGet(2, 1))),
+    ("fault 1", One(Fault(1))),
+    ("reset 0", One(Reset(0))),
+    ("pass 18446744073709551615", One(Pass(18446744073709551615))),
+    (
+        "set b 18446744073709551615",
+        One(Set(1, 18446744073709551615)),
+    ),
+    ("ready", Ready),
+    ("cycle", Cycle),
+    ("show", Show),
+    ("show\r\n", Show),
+];
+
+/// Scripts with the number of their first bad line; `;` stands for the end of a line.
+const BAD_LINES: [(&str, usize); 20] = [
+    ("begin;;start 1;stop", 3),
+    ("start ", 1),
+    ("set a", 1),
+    ("set 0 1", 1),
+    ("set A 1", 1),
+    ("set a 1 1", 1),
+    ("set a 0x1", 1),
+    ("begin 0", 1),
+    ("lose", 1),
+    ("lose a", 1),
+    ("return 1 1", 1),
+    ("close now", 1),
+    ("serve s0", 1),
+    ("put 0 0 -1", 1),
+    ("put 0 0 0 0", 1),
+    ("get 0", 1),
+    ("fault 0.0", 1),
+    ("reset 99999999999999999999", 1),
+    ("show c", 1),
+    ("cycle;\t;cycle", 2),
+];
+
+/// What scripts print. None of the first row's events can be made by slaves that were just switched on.
+const RUNS: [(&str, &str); 6] = [
+    (
+        "pass 0;lose 0;return 0;close;serve 3;put 0 0 1;get 0 0;fault 0;reset 3;set c 1;set a 16;begin;cycle",
+        "no 1;no 2;no 3;no 4;no 5;no 6;no 7;no 8;no 9;no 10;no 11;no 12;no 13;",
+    ),
+    ("show;set a 15;show", "c 0;d 0;c 0;d 0;"),
+    (
+        "start;start;lose 0;close;ready;ready",
+        "no 2;failed 32;ready;no 6;",
+    ),
+    (
+        "ready;put 1 0 9;begin;pass 0;pass 0;put 1 0 6;pass 0;return 0;close;show",
+        "ready;report taken missing 0 counters 6 al 0008;c 9;d 0;",
+    ),
+    (
+        "ready;set b 2748;begin;set b 0;pass 0;pass 0;pass 0;get 2 0;get 2 1;get 2 2",
+        "ready;byte bc;byte 0a;no 10;",
+    ),
+    (
+        "ready;reset 0;reset 1;reset 2;cycle;cycle",
+        "ready;report untaken missing 0 counters 0 al 0001;report untaken missing 0 counters 0 al 0001;",
+    ),
+];
+
+/// The same with a first slave that takes no part in LRW.
+const SPLIT_RUNS: [(&str, &str); 3] = [
+    (
+        "ready;cycle",
+        "ready;report taken missing 0 counters 2/2 al 0008;",
+    ),
+    (
+        "ready;reset 0;cycle",
+        "ready;report untaken missing 0 counters 1/2 al 0009;",
+    ),
+    (
+        "ready;begin;lose 0;close",
+        "ready;report untaken missing 1 counters - al 0000;",
+    ),
+];
+
+/// The same with the second slave in a sync unit of its own.
+const TWO_UNITS_RUNS: [(&str, &str); 3] = [
+    (
+        "ready;cycle",
+        "ready;report 0 taken 1 taken missing 0 counters 5 1 al 0008;",
+    ),
+    (
+        "ready;begin;lose 1;pass 0;pass 0;pass 0;return 0;close",
+        "ready;report 0 taken 1 untaken missing 1 counters 5 - al 0008;",
+    ),
+    (
+        "ready;begin;close",
+        "ready;report 0 untaken 1 untaken missing 2 counters - - al 0000;",
+    ),
+];
+
+/// Texts, and the table and the script in them.
+const HALVES: [(&str, (&str, &str)); 8] = [
+    ("", ("", "")),
+    ("a\n", ("a\n", "")),
+    ("%%", ("", "")),
+    ("a\n%%", ("a\n", "")),
+    ("a\n%%\nb\n%%\n", ("a\n", "b\n%%\n")),
+    ("a\r\n%%\r\nb", ("a\r\n", "b")),
+    ("a%%\nb\n", ("a%%\nb\n", "")),
+    ("%% \n%%%\n %%\n%%\r", ("%% \n%%%\n %%\n%%\r", "")),
+];
+
+/// Whether a text is read as one line that stands for an act.
+fn stands_for(alloc: Global, table: &Table, text: &str, act: Act) -> Result<bool, Fail> {
+    let lines = read_script(alloc, table, text)?;
+    Ok(lines.as_slice() == [Line { number: 1, act }].as_slice())
+}
+
+#[test]
+fn lines_stand_for_acts(rt: HostRuntime) -> Result<(), Fail> {
+    let table = read_table(rt.alloc(), TABLE)?;
+    for (text, act) in ACTS {
+        let stands = stands_for(rt.alloc(), &table, text, act)?;
+        assert!(rt; stands, "{text}");
+    }
+    Ok(())
+}
+
+/// Whether a script in which `;` stands for the end of a line has its first bad line there.
+fn is_bad_at(alloc: Global, table: &Table, script: &str, line: usize) -> Result<bool, Fail> {
+    let text = with_lines(alloc, script)?;
+    let refused = read_script(alloc, table, text.as_str()).err();
+    Ok(refused == Some(ScriptError::BadScript(line)))
+}
+
+#[test]
+fn tells_the_first_bad_line(rt: HostRuntime) -> Result<(), Fail> {
+    let table = read_table(rt.alloc(), TABLE)?;
+    for (script, line) in BAD_LINES {
+        let is_bad = is_bad_at(rt.alloc(), &table, script, line)?;
+        assert!(rt; is_bad, "{script}");
+    }
+    Ok(())
+}
+
+/// The identity of each slave of a table.
+fn identities_of(alloc: Global, table: &Table) -> Result<Vec<Identity>, AllocError>
+    ensures { IfOk result (λ v. length v.items ≡ length table.now.slaves) }
+{
+    let mut identities = Vec::new(alloc);
+    for slave in 0..table.slaves().len() {
+        identities.push(table.identity_of(slave))?;
+    }
+    Ok(identities)
+}
+
+/// What lines print, one after another.
+fn said(
+    alloc: Global,
+    world: &mut World<'_>,
+    table: &Table,
+    lines: &[Line],
+) -> Result<String, AllocError>
+    requires { world.old.plan ≡ plan_of table.now }
+{
+    let mut printed = String::new(alloc);
+    for line in lines {
+        let text = run_line(alloc, world, table, line)?;
+        printed.push_str(text.as_str())?;
+    }
+    Ok(printed)
+}
+
+/// What a script prints over a new world of a table.
+fn printed(alloc: Global, table: &Table, plan: &Plan, script: &str) -> Result<String, Fail>
+    requires accepted { compile_fault table.now ≡ None }
+    requires plan { plan.now ≡ plan_of table.now }
+{
+    let lines = read_script(alloc, table, script)?;
+    let identities = identities_of(alloc, table)?;
+    let mut world = World::new(alloc, table, plan, identities.as_slice())?;
+    Ok(said(alloc, &mut world, table, lines.as_slice())?)
+}
+
+/// A script in which `;` stands for the end of a line.
+fn with_lines(alloc: Global, script: &str) -> Result<String, AllocError> {
+    script.replace(alloc, ";", "\n")
+}
+
+/// Whether a script over a table prints what it is to.
+fn prints(alloc: Global, table: &Table, plan: &Plan, run: &(&str, &str)) -> Result<bool, Fail>
+    requires accepted { compile_fault table.now ≡ None }
+    requires plan { plan.now ≡ plan_of table.now }
+{
+    let script = with_lines(alloc, run.0)?;
+    let wanted = with_lines(alloc, run.1)?;
+    let printed = printed(alloc, table, plan, script.as_str())?;
+    Ok(printed.as_str() == wanted.as_str())
+}
+
+/// Scripts over a table, each with what it prints.
+fn expect_runs<H: AllocGlobal + Abort>(
+    rt: &H,
+    table: &str,
+    runs: &[(&str, &str)],
+) -> Result<(), Fail> {
+    let table = read_table(rt.alloc(), table)?;
+    let plan = compile(rt.alloc(), &table)?;
+    for run in runs {
+        let prints = prints(rt.alloc(), &table, &plan, run)?;
+        assert!(rt; prints, "{}", run.0);
+    }
+    Ok(())
+}
+
+#[test]
+fn prints_what_lines_say(rt: HostRuntime) -> Result<(), Fail> {
+    expect_runs(&rt, TABLE, &RUNS)
+}
+
+#[test]
+fn reports_split_parts(rt: HostRuntime) -> Result<(), Fail> {
+    let entries = "entries = [[0x7000, 1, 4]] } ]";
+    let split = "entries = [[0x7000, 1, 4]] } ], lrw = false";
+    let table = TABLE.replace(rt.alloc(), entries, split)?;
+    expect_runs(&rt, table.as_str(), &SPLIT_RUNS)
+}
+
+#[test]
+fn reports_unit_by_unit(rt: HostRuntime) -> Result<(), Fail> {
+    let table = TABLE.replace(rt.alloc(), "type = \"di4\"", "type = \"di4\", unit = 1")?;
+    let table = format!(in rt.alloc(); "version = 2\n{table}")?;
+    expect_runs(&rt, table.as_str(), &TWO_UNITS_RUNS)
+}
+
+#[test]
+fn splits_at_the_divider(rt: HostRuntime) {
+    for (text, halves) in HALVES {
+        assert_eq!(rt; split_script(text), halves, "{text}");
+    }
+}

@@ -1,0 +1,32 @@
+use Rattle.std.proofs.Common.{ℕ, ◌≡◌, ◌<◌, ◌≤◌, ◌⊎◌, ◌∙◌, nat_lt, sym, inl, inr, arith}
+use Rattle.std.proofs.lemmas.Bool.{lt-ltb, le-ltb}
+use Rattle.ec_regs.specs.Memory.{ram_end}
+use Rattle.ec_slave.proofs.Windows.{write-alike, kept-alike}
+use Rattle.ec_slave.proofs.physical.bytes.end_of_written.Goals as goal
+
+-- both behind the end of the memory, or both before it
+same_side : (a b : ℕ) → ((a < ram_end) × (b < ram_end)) ⊎ ((ram_end ≤ a) × (ram_end ≤ b)) → nat_lt a ram_end ≡ nat_lt b ram_end
+same_side a b h = elim h [
+  | inl x ↦ lt-ltb a ram_end x.0 ∙ sym (lt-ltb b ram_end x.1)
+  | inr x ↦ le-ltb a ram_end x.0 ∙ sym (le-ltb b ram_end x.1)
+]
+
+side : (a start stop result : ℕ) → start ≤ a → a < result → result ≤ stop → (stop ≤ ram_end) ⊎ (ram_end ≤ start) → nat_lt a ram_end ≡ nat_lt start ram_end
+side a start stop result lo hi low border = same_side a start (elim border [
+  | inl x ↦ inl (omega arith, omega arith)
+  | inr x ↦ inr (omega arith, omega arith)
+])
+
+pub returns-clause-writes : goal.returns-clause-writes
+returns-clause-writes c = λ busy touched a lo hi.
+    let ram = c.requires.ram in
+    write-alike c.args.managers.now busy touched a c.args.start (omega (arith, ram, lo)) ram
+    (side a c.args.start c.cut-stop.result c.end_of_alike.result lo hi c.end_of_alike.ensures.inside.1 c.cut-stop.ensures.aside)
+    (c.end_of_alike.ensures.governor a lo hi) (λ n l. c.end_of_alike.ensures.front n a l lo hi)
+
+pub returns-clause-kept : goal.returns-clause-kept
+returns-clause-kept c = λ a lo hi.
+    let ram = c.requires.ram in
+    kept-alike c.args.managers.now a c.args.start (omega (arith, ram, lo)) ram
+    (side a c.args.start c.cut-stop.result c.end_of_alike.result lo hi c.end_of_alike.ensures.inside.1 c.cut-stop.ensures.aside)
+    (c.end_of_alike.ensures.governor a lo hi)

@@ -1,0 +1,12 @@
+use Rattle.std.proofs.Common.{◌≡◌, ◌+◌, length}
+use Rattle.ec_bits.specs.Bits.{any_below, within}
+use Rattle.ec_slave.specs.Access.{may_write_byte}
+use Rattle.ec_slave.proofs.Told.{told_along}
+use Rattle.ec_slave.proofs.Windows.{kept_byte}
+use Rattle.ec_slave.proofs.physical.bytes.write_each.Given as goal
+
+abbrev pub invariant-loop-i : goal.invariant-loop-i
+invariant-loop-i l = record {
+  memory : l.memory ≡ told_along l.i l.from l.initial.memory (kept_byte l.managers (record { from = l.from; bytes = l.bytes }));
+  some : l.is_some ≡ any_below l.i (λ k. may_write_byte l.managers l.is_busy (within l.from (length l.bytes)) (l.from + k));
+}

@@ -1,0 +1,185 @@
+//! What is done to a slave, and what must be seen of it.
+use ec_frame::{Builder, Command, check};
+use ec_slave::Slave;
+use std::process::Abort;
+use std::test::Fail;
+
+/// A step. Rows are hexadecimal digits with blanks between fields.
+#[derive(Clone, Copy, Drop)]
+pub enum Step<'a> {
+    /// A write from a physical address on, of which at least one byte counts.
+    Writes(u16, &'a str),
+    /// A write of which no byte is taken.
+    WritesInVain(u16, &'a str),
+    /// A datagram by command and address: its data as they are sent and as they come back, and its counter.
+    Answers(Command, u32, &'a str, &'a str, u8),
+    /// A frame as it is sent and as it comes back.
+    Passes(&'a str, &'a str),
+    /// The byte at a physical address.
+    Shows(u16, Option<u8>),
+    /// The station address.
+    Station(u16),
+    /// The published outputs.
+    Outputs(&'a str),
+    /// How many bytes the application may get, and put.
+    Sizes(usize, usize),
+    /// The application puts a byte of the inputs; whether it may.
+    Puts(usize, u8, bool),
+    /// The application gets a byte of the outputs.
+    Gets(usize, Option<u8>),
+    /// A firmware step.
+    Serves,
+    /// A state is asked for, the firmware steps, and the AL status register reads so.
+    Asks(&'a str, &'a str),
+    /// A message is written into the mailbox at 0x1000, and the firmware steps.
+    Sends(&'a str),
+    /// The mailbox at 0x1080 is read.
+    Replies(&'a str),
+    /// The application has a fault; whether it counts.
+    Faults(bool),
+    /// The slave is switched off and on.
+    Resets,
+}
+
+/// The bytes of a row of hexadecimal digits.
+pub fn bytes_of(rt: &(impl AllocGlobal + Abort), row: &str) -> Result<Vec<u8>, Fail> {
+    let mut bytes = Vec::new(rt.alloc());
+    for word in row.split_whitespace() {
+        bytes.extend_from_slice(&hex::decode(rt.alloc(), word)?)?;
+    }
+    Ok(bytes)
+}
+
+/// The bytes of a mailbox of 128 bytes: a message and zeros.
+fn mailbox_of(rt: &(impl AllocGlobal + Abort), row: &str) -> Result<Vec<u8>, Fail> {
+    let mut bytes = bytes_of(rt, row)?;
+    for _ in bytes.len()..128 {
+        bytes.push(0)?;
+    }
+    Ok(bytes)
+}
+
+/// Passes a payload that is a frame.
+pub fn pass_frame(slave: &mut Slave, frame: &mut [u8]) -> Result<(), Fail> {
+    check(frame)?;
+    slave.pass(frame);
+    Ok(())
+}
+
+/// Passes a frame, and compares what comes back.
+fn assert_passed(
+    rt: &(impl AllocGlobal + Abort),
+    slave: &mut Slave,
+    sent: &str,
+    back: &str,
+) -> Result<(), Fail> {
+    let mut frame = bytes_of(rt, sent)?;
+    pass_frame(slave, &mut frame)?;
+    assert_eq!(rt; frame.as_slice(), bytes_of(rt, back)?.as_slice(), "{sent}");
+    Ok(())
+}
+
+/// Passes a datagram, and compares its data and its counter as they come back.
+fn assert_met(
+    rt: &impl Abort,
+    slave: &mut Slave,
+    command: Command,
+    address: u32,
+    sent: &[u8],
+    back: &[u8],
+    counter: u8,
+) -> Result<(), Fail> {
+    let mut builder = Builder::new();
+    builder.add(command, 0, address, sent)?;
+    let mut frame = builder.finish();
+    slave.pass(frame.as_mut_slice());
+    let met = frame.as_slice();
+    assert_eq!(rt; met.get(12..12 + back.len()), Some(back), "at {address}");
+    assert_eq!(rt;
+        met.get(12 + back.len()..),
+        Some([counter, 0].as_slice()),
+        "at {address}"
+    );
+    Ok(())
+}
+
+/// Writes from a physical address on; the data come back as they were.
+fn assert_written(
+    rt: &(impl AllocGlobal + Abort),
+    slave: &mut Slave,
+    ado: u16,
+    bytes: &[u8],
+    counter: u8,
+) -> Result<(), Fail> {
+    let address = 65536 * u32::from(ado);
+    assert_met(rt, slave, Command::Apwr, address, bytes, bytes, counter)
+}
+
+/// Asks for a state.
+fn assert_state(
+    rt: &(impl AllocGlobal + Abort),
+    slave: &mut Slave,
+    control: &str,
+    status: &str,
+) -> Result<(), Fail> {
+    assert_written(rt, slave, 0x0120, &bytes_of(rt, control)?, 1)?;
+    slave.serve();
+    let status = bytes_of(rt, status)?;
+    assert_met(rt, slave, Command::Aprd, 0x0130_0000, &[0; 6], &status, 1)
+}
+
+/// What frames do.
+fn take_frame(rt: &(impl AllocGlobal + Abort), slave: &mut Slave, step: Step) -> Result<(), Fail> {
+    match step {
+        Step::Writes(ado, row) => assert_written(rt, slave, ado, &bytes_of(rt, row)?, 1),
+        Step::WritesInVain(ado, row) => assert_written(rt, slave, ado, &bytes_of(rt, row)?, 0),
+        Step::Answers(command, address, sent, back, counter) => {
+            let (sent, back) = (bytes_of(rt, sent)?, bytes_of(rt, back)?);
+            assert_met(rt, slave, command, address, &sent, &back, counter)
+        }
+        Step::Passes(sent, back) => assert_passed(rt, slave, sent, back),
+        Step::Asks(control, status) => assert_state(rt, slave, control, status),
+        Step::Sends(row) => {
+            assert_written(rt, slave, 0x1000, &mailbox_of(rt, row)?, 1)?;
+            slave.serve();
+            Ok(())
+        }
+        Step::Replies(row) => {
+            let reply = mailbox_of(rt, row)?;
+            assert_met(rt, slave, Command::Aprd, 0x1080_0000, &[0; 128], &reply, 1)
+        }
+        _ => Ok(()),
+    }
+}
+
+/// What is done and seen at the slave itself.
+fn take_call(rt: &(impl AllocGlobal + Abort), slave: &mut Slave, step: Step) -> Result<(), Fail> {
+    match step {
+        Step::Shows(address, byte) => assert_eq!(rt; slave.byte(address), byte, "at {address}"),
+        Step::Station(address) => assert_eq!(rt; slave.station_address(), address),
+        Step::Outputs(row) => {
+            assert_eq!(rt; slave.outputs(), bytes_of(rt, row)?.as_slice());
+        }
+        Step::Sizes(get, put) => assert_eq!(rt; slave.app_sizes(), (get, put)),
+        Step::Puts(place, byte, may) => assert_eq!(rt; slave.app_put(place, byte), may),
+        Step::Gets(place, byte) => assert_eq!(rt; slave.app_get(place), byte),
+        Step::Serves => slave.serve(),
+        Step::Faults(counts) => assert_eq!(rt; slave.fault(), counts),
+        Step::Resets => slave.reset(),
+        _ => {}
+    }
+    Ok(())
+}
+
+/// Takes all steps, in their order.
+pub fn take_all(
+    rt: &(impl AllocGlobal + Abort),
+    slave: &mut Slave,
+    steps: &[Step],
+) -> Result<(), Fail> {
+    for step in steps {
+        take_frame(rt, slave, *step)?;
+        take_call(rt, slave, *step)?;
+    }
+    Ok(())
+}

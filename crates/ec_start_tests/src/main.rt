@@ -1,0 +1,7 @@
+//! Start-ups step by step, by the public calls of `ec_start`.
+#![tactic(auto)]
+
+#[cfg(test)]
+mod tests;
+
+fn main() {}

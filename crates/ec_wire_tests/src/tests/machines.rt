@@ -1,0 +1,140 @@
+//! Machines to run: their tables, plans, slaves and start-ups.
+ghost use Rattle.std.specs.Prelude.{IfOk, IfSome};
+ghost use Rattle.ec_link.specs.Usable.{IsUsable};
+
+use ec_cycle::Master;
+use ec_link::{Plan, compile};
+use ec_ring::Ring;
+use ec_slave::Slave;
+use ec_start::{Phase, Startup};
+use ec_table::read_table;
+use ec_wire::{MemoryWire, Wire, bring_up_wire};
+use std::alloc::{AllocError, Global};
+use std::test::Fail;
+
+/// Three slaves: 4 outputs; 4 inputs; 12 outputs and 16 inputs. Variable `d` is what slave 2 makes of `b`.
+pub const THREE_SLAVES: &str = r#"type = [
+  { name = "do4", vendor = 0xABCD, product = 1, revision = 1, out_start = 0x1100, in_start = 0, rxpdo = [ { index = 0x1600, entries = [[0x7000, 1, 4]] } ] },
+  { name = "di4", vendor = 0xABCD, product = 2, revision = 1, out_start = 0, in_start = 0x1100, txpdo = [ { index = 0x1A00, entries = [[0x6000, 1, 4]] } ] },
+  { name = "mix", vendor = 0xABCD, product = 3, revision = 1, mailbox = [0x1000, 128, 0x1080, 128], out_start = 0x1100, in_start = 0x1400, rxpdo = [ { index = 0x1600, entries = [[0x7010, 1, 12]] } ], txpdo = [ { index = 0x1A00, entries = [[0x6010, 1, 16]] } ] },
+]
+slave = [ { name = "s0", type = "do4" }, { name = "s1", type = "di4" }, { name = "s2", type = "mix" } ]
+variable = [ { name = "a", dir = "out", bits = 4 }, { name = "b", dir = "out", bits = 12 }, { name = "c", dir = "in", bits = 4 }, { name = "d", dir = "in", bits = 16 } ]
+link = [ { var = "a", slave = "s0", index = 0x7000, sub = 1 }, { var = "b", slave = "s2", index = 0x7010, sub = 1 }, { var = "c", slave = "s1", index = 0x6000, sub = 1 }, { var = "d", slave = "s2", index = 0x6010, sub = 1 } ]
+"#;
+
+/// A table of 64 slaves of 2048 bits each way, in 13 parts. Its input variable is what the last slave makes of its output
+/// variable.
+pub fn full_table(alloc: Global) -> Result<String, AllocError> {
+    let mut entries = String::new(alloc);
+    for sub in 1..33u8 {
+        entries.push_str(format!(in alloc; "[0x7000, {sub}, 64], ")?.as_str())?;
+    }
+    let mut text = format!(in alloc;
+        "variable = [ {{ name = \"a\", dir = \"out\", bits = 64 }}, {{ name = \"b\", dir = \"in\", bits = 64 }} ]
+link = [ {{ var = \"a\", slave = \"s63\", index = 0x7000, sub = 1 }}, {{ var = \"b\", slave = \"s63\", index = 0x7000, sub = 1 }} ]
+[[type]]
+name = \"full\"
+vendor = 1
+product = 1
+revision = 1
+out_start = 0x1100
+in_start = 0x1800
+rxpdo = [ {{ index = 0x1600, entries = [{entries}] }} ]
+txpdo = [ {{ index = 0x1A00, entries = [{entries}] }} ]
+"
+    )?;
+    for place in 0..64u8 {
+        let slave = format!(in alloc; "[[slave]]\nname = \"s{place}\"\ntype = \"full\"\n")?;
+        text.push_str(slave.as_str())?;
+    }
+    Ok(text)
+}
+
+/// The plan of a table; none where it has a fault.
+fn compiled(alloc: Global, text: &str) -> Option<Plan>
+    ensures { IfSome result IsUsable }
+{
+    let Ok(table) = read_table(alloc, text) else {
+        return None;
+    };
+    let Ok(plan) = compile(alloc, &table) else {
+        return None;
+    };
+    Some(plan)
+}
+
+/// The plan of a table.
+pub fn plan_of(alloc: Global, text: &str) -> Result<Plan, Fail>
+    ensures { IfOk result IsUsable }
+{
+    match compiled(alloc, text) {
+        Some(plan) => Ok(plan),
+        None => Err("a table without a plan".into()),
+    }
+}
+
+/// What must be there.
+pub fn there<T: Drop>(value: Option<T>) -> Result<T, Fail> {
+    match value {
+        Some(value) => Ok(value),
+        None => Err("a machine that can't be had".into()),
+    }
+}
+
+/// The slaves of a plan as they are switched on.
+pub fn ring_of(alloc: Global, plan: &Plan) -> Result<Ring, AllocError> {
+    let mut slaves = Vec::new(alloc);
+    for settings in plan.slaves() {
+        let identity = settings.kind.device().identity(0);
+        slaves.push(Slave::new(alloc, settings.kind.copied(alloc)?, identity)?)?;
+    }
+    Ok(Ring::new(slaves))
+}
+
+/// A start-up of a plan.
+pub fn startup_of(alloc: Global, plan: &Plan) -> Option<Startup> {
+    if Startup::can_start(plan) {
+        Startup::new(alloc, plan, 0).ok()
+    } else {
+        None
+    }
+}
+
+/// Brings the slaves up over a wire. Whether they have come up, and the master is ready.
+pub fn are_up<W: Wire>(startup: &mut Startup, wire: &mut W, master: &mut Master<'_>) -> bool {
+    bring_up_wire(startup, wire);
+    match startup.phase() {
+        Phase::Ready => master.ready(startup),
+        _ => return false,
+    }
+    true
+}
+
+/// Brings the slaves of a plan up over memory, and makes the master ready.
+pub fn brought_up(alloc: Global, plan: &Plan, master: &mut Master<'_>) -> Option<Ring> {
+    let mut startup = startup_of(alloc, plan)?;
+    let ring = ring_of(alloc, plan).ok()?;
+    let mut wire = MemoryWire::new(alloc, ring, 3000, u64::MAX).ok()?;
+    if are_up(&mut startup, &mut wire, master) {
+        Some(wire.into_ring())
+    } else {
+        None
+    }
+}
+
+/// Sets an output variable, where it holds the value.
+pub fn set(master: &mut Master<'_>, variable: usize, value: u64) {
+    if master.can_set(variable, value) {
+        master.set(variable, value);
+    }
+}
+
+/// The value of a variable; 0 where there is none.
+pub fn value_of(master: &Master<'_>, variable: usize) -> u64 {
+    if variable < master.variables() {
+        master.get(variable)
+    } else {
+        0
+    }
+}

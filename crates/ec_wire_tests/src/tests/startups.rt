@@ -1,0 +1,79 @@
+//! Start-ups over wires.
+use crate::tests::machines::{THREE_SLAVES, plan_of, ring_of, startup_of, there};
+use ec_start::{StartError, Startup};
+use ec_wire::{MemoryWire, Wire, bring_up_wire};
+use std::alloc::Global;
+use std::test::Fail;
+
+/// How a start-up ended, and its next number.
+type Ended = (Option<Result<(), StartError>>, u64);
+
+/// Runs a start-up over a wire.
+fn run<W: Wire>(startup: &mut Startup, wire: &mut W) -> Ended {
+    bring_up_wire(startup, wire);
+    (startup.outcome(), startup.next_number())
+}
+
+/// How a start-up of the three slaves over memory ends whose call of this number is a fault.
+fn ended_by(alloc: Global, call: u64) -> Result<Ended, Fail> {
+    let plan = plan_of(alloc, THREE_SLAVES)?;
+    let mut startup = there(startup_of(alloc, &plan))?;
+    let mut wire = MemoryWire::new(alloc, ring_of(alloc, &plan)?, 75, call)?;
+    Ok(run(&mut startup, &mut wire))
+}
+
+#[test]
+fn comes_up_or_is_lost(rt: HostRuntime) -> Result<(), Fail> {
+    let rows = [
+        (u64::MAX, Ok(()), 75),
+        (150, Ok(()), 75),
+        (0, Err(StartError::Lost), 1),
+        (1, Err(StartError::Lost), 1),
+        (74, Err(StartError::Lost), 38),
+        (149, Err(StartError::Lost), 75),
+    ];
+    for (call, outcome, next) in rows {
+        assert_eq!(rt;
+            ended_by(rt.alloc(), call)?,
+            (Some(outcome), next),
+            "call {call}"
+        );
+    }
+    Ok(())
+}
+
+/// A wire that brings nothing but payloads of one byte.
+#[derive(Drop)]
+struct Strange {
+    received: u64,
+}
+
+impl Wire for Strange {
+    ghost use Rattle.ec_wire.specs.Wires.{silent};
+
+    ghost state = { λ w. silent 0 };
+
+    fn failures(&self) -> u64 {
+        0
+    }
+
+    fn send(&mut self, _payload: &[u8]) {}
+
+    fn recv(&mut self, buffer: &mut [u8]) -> usize {
+        self.received = self.received.saturating_add(1);
+        buffer.len().min(1)
+    }
+}
+
+#[test]
+fn strange_payloads_end_it(rt: HostRuntime) -> Result<(), Fail> {
+    let plan = plan_of(rt.alloc(), THREE_SLAVES)?;
+    let mut startup = there(startup_of(rt.alloc(), &plan))?;
+    let mut wire = Strange { received: 0 };
+    assert_eq!(rt;
+        run(&mut startup, &mut wire),
+        (Some(Err(StartError::Lost)), 1)
+    );
+    assert_eq!(rt; wire.received, 64);
+    Ok(())
+}

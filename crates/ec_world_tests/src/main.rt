@@ -1,0 +1,7 @@
+//! Worlds moved by events, by the public calls of `ec_world`.
+#![tactic(auto)]
+
+#[cfg(test)]
+mod tests;
+
+fn main() {}

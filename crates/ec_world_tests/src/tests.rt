@@ -1,0 +1,453 @@
+//! Worlds of the table with three slaves, event after event.
+ghost use Rattle.std.specs.Prelude.{◌≡◌, None};
+ghost use Rattle.ec_link.specs.Faults.{compile_fault};
+ghost use Rattle.ec_link.specs.Plan.{plan_of};
+
+mod steps;
+
+use self::steps::Step::{
+    Byte, Denied, Empty, Ended, Holds, Makes, NoReport, Publishes, Reads, Reports, Rises, Runs,
+};
+use self::steps::{expect_steps, made, new_world, pass_slaves, rise, turn};
+use ec_cycle::Report;
+use ec_link::Predicted::{Lrw, Split};
+use ec_link::{Plan, Predicted, compile};
+use ec_start::StartError;
+use ec_table::{Table, read_table};
+use ec_world::Event::{
+    AppGet, AppPut, Begin, Close, Fault, Lose, Pass, Reset, Return, Serve, Set, StartNext,
+};
+use ec_world::{Event, World};
+use std::process::Abort;
+use std::test::Fail;
+
+/// Three slaves: 4 outputs; 4 inputs; 12 outputs and 16 inputs.
+const TABLE: &str = r#"type = [
+  { name = "do4", vendor = 0xABCD, product = 1, revision = 1, out_start = 0x1100, in_start = 0, rxpdo = [ { index = 0x1600, entries = [[0x7000, 1, 4]] } ] },
+  { name = "di4", vendor = 0xABCD, product = 2, revision = 1, out_start = 0, in_start = 0x1100, txpdo = [ { index = 0x1A00, entries = [[0x6000, 1, 4]] } ] },
+  { name = "mix", vendor = 0xABCD, product = 3, revision = 1, mailbox = [0x1000, 128, 0x1080, 128], out_start = 0x1100, in_start = 0x1400, rxpdo = [ { index = 0x1600, entries = [[0x7010, 1, 12]] } ], txpdo = [ { index = 0x1A00, entries = [[0x6010, 1, 16]] } ] },
+]
+slave = [ { name = "s0", type = "do4" }, { name = "s1", type = "di4" }, { name = "s2", type = "mix" } ]
+variable = [ { name = "a", dir = "out", bits = 4 }, { name = "b", dir = "out", bits = 12 }, { name = "c", dir = "in", bits = 4 }, { name = "d", dir = "in", bits = 16 } ]
+link = [ { var = "a", slave = "s0", index = 0x7000, sub = 1 }, { var = "b", slave = "s2", index = 0x7010, sub = 1 }, { var = "c", slave = "s1", index = 0x6000, sub = 1 }, { var = "d", slave = "s2", index = 0x6010, sub = 1 } ]
+"#;
+
+/// The same, where the first slave takes no part in LRW.
+const WITHOUT_LRW: &str = r#"type = [
+  { name = "do4", vendor = 0xABCD, product = 1, revision = 1, out_start = 0x1100, in_start = 0, rxpdo = [ { index = 0x1600, entries = [[0x7000, 1, 4]] } ], lrw = false },
+  { name = "di4", vendor = 0xABCD, product = 2, revision = 1, out_start = 0, in_start = 0x1100, txpdo = [ { index = 0x1A00, entries = [[0x6000, 1, 4]] } ] },
+  { name = "mix", vendor = 0xABCD, product = 3, revision = 1, mailbox = [0x1000, 128, 0x1080, 128], out_start = 0x1100, in_start = 0x1400, rxpdo = [ { index = 0x1600, entries = [[0x7010, 1, 12]] } ], txpdo = [ { index = 0x1A00, entries = [[0x6010, 1, 16]] } ] },
+]
+slave = [ { name = "s0", type = "do4" }, { name = "s1", type = "di4" }, { name = "s2", type = "mix" } ]
+variable = [ { name = "a", dir = "out", bits = 4 }, { name = "b", dir = "out", bits = 12 }, { name = "c", dir = "in", bits = 4 }, { name = "d", dir = "in", bits = 16 } ]
+link = [ { var = "a", slave = "s0", index = 0x7000, sub = 1 }, { var = "b", slave = "s2", index = 0x7010, sub = 1 }, { var = "c", slave = "s1", index = 0x6000, sub = 1 }, { var = "d", slave = "s2", index = 0x6010, sub = 1 } ]
+"#;
+
+/// The same, where the second slave is a sync unit of its own.
+const TWO_UNITS: &str = r#"version = 2
+type = [
+  { name = "do4", vendor = 0xABCD, product = 1, revision = 1, out_start = 0x1100, in_start = 0, rxpdo = [ { index = 0x1600, entries = [[0x7000, 1, 4]] } ] },
+  { name = "di4", vendor = 0xABCD, product = 2, revision = 1, out_start = 0, in_start = 0x1100, txpdo = [ { index = 0x1A00, entries = [[0x6000, 1, 4]] } ] },
+  { name = "mix", vendor = 0xABCD, product = 3, revision = 1, mailbox = [0x1000, 128, 0x1080, 128], out_start = 0x1100, in_start = 0x1400, rxpdo = [ { index = 0x1600, entries = [[0x7010, 1, 12]] } ], txpdo = [ { index = 0x1A00, entries = [[0x6010, 1, 16]] } ] },
+]
+slave = [ { name = "s0", type = "do4" }, { name = "s1", type = "di4", unit = 1 }, { name = "s2", type = "mix" } ]
+variable = [ { name = "a", dir = "out", bits = 4 }, { name = "b", dir = "out", bits = 12 }, { name = "c", dir = "in", bits = 4 }, { name = "d", dir = "in", bits = 16 } ]
+link = [ { var = "a", slave = "s0", index = 0x7000, sub = 1 }, { var = "b", slave = "s2", index = 0x7010, sub = 1 }, { var = "c", slave = "s1", index = 0x6000, sub = 1 }, { var = "d", slave = "s2", index = 0x6010, sub = 1 } ]
+"#;
+
+/// A frame in slot 0 past all three slaves and back.
+const ROUND: [Event; 4] = [Pass(0), Pass(0), Pass(0), Return(0)];
+
+// The outputs and inputs of a cycle, and what can be seen on its way.
+#[test]
+fn a_cycle(rt: HostRuntime) -> Result<(), Fail> {
+    let steps = [
+        Ended(None),
+        NoReport,
+        Denied(Begin),
+        Denied(Close),
+        Rises,
+        Ended(Some(Ok(()))),
+        Denied(StartNext),
+        Makes(Set(0, 10)),
+        Makes(Set(1, 291)),
+        Denied(Set(0, 16)),
+        Denied(Set(2, 1)),
+        Makes(AppPut(1, 0, 5)),
+        Makes(AppPut(2, 0, 239)),
+        Makes(AppPut(2, 1, 190)),
+        Denied(AppPut(3, 0, 1)),
+        Makes(Begin),
+        Denied(Begin),
+        Holds(0, 75, 0, 0),
+        Empty(1),
+        Makes(Set(0, 0)),
+        Denied(Return(0)),
+        Runs(&ROUND, 4),
+        Empty(0),
+        Denied(Pass(0)),
+        Makes(Close),
+        Reports(&[true], &[Some(Lrw(6))], 0x0008),
+        Reads(0, 0),
+        Reads(1, 291),
+        Reads(2, 5),
+        Reads(3, 48879),
+        Publishes(0, &[0x0a]),
+        Publishes(1, &[]),
+        Publishes(2, &[0x23, 0x01]),
+        Byte(None),
+        Makes(AppGet(2, 0)),
+        Byte(Some(0x23)),
+        Makes(AppGet(2, 1)),
+        Byte(Some(0x01)),
+        Denied(AppGet(2, 2)),
+        Denied(Serve(3)),
+        Makes(Serve(2)),
+    ];
+    expect_steps(&rt, TABLE, &steps)
+}
+
+// A frame that comes back after its cycle was closed is not one of the next cycle, and doesn't overtake.
+#[test]
+fn a_late_return(rt: HostRuntime) -> Result<(), Fail> {
+    let steps = [
+        Rises,
+        Makes(Begin),
+        Makes(Close),
+        Reports(&[false], &[None], 0),
+        Makes(Begin),
+        Holds(0, 75, 0, 0),
+        Holds(1, 76, 0, 0),
+        Denied(Pass(1)),
+        Makes(Pass(0)),
+        Makes(Pass(1)),
+        Denied(Pass(1)),
+        Runs(&[Pass(0), Pass(0), Return(0)], 3),
+        Empty(0),
+        Makes(Close),
+        Reports(&[false], &[None], 0),
+        Runs(&[Pass(1), Pass(1), Return(1)], 3),
+        Denied(Close),
+    ];
+    expect_steps(&rt, TABLE, &steps)
+}
+
+// A frame that is lost after the first slave; the slave's application reads what it took.
+#[test]
+fn a_loss(rt: HostRuntime) -> Result<(), Fail> {
+    let steps = [
+        Rises,
+        Makes(Set(0, 10)),
+        Runs(&[Begin, Pass(0), Lose(0)], 3),
+        Denied(Lose(0)),
+        Makes(AppGet(0, 0)),
+        Byte(Some(0x0a)),
+        Makes(Close),
+        Reports(&[false], &[None], 0),
+    ];
+    expect_steps(&rt, TABLE, &steps)
+}
+
+// Without LRW a part has two counters: one for writing and one for reading.
+#[test]
+fn slaves_without_lrw(rt: HostRuntime) -> Result<(), Fail> {
+    let steps = [
+        Rises,
+        Makes(Begin),
+        Runs(&ROUND, 4),
+        Makes(Close),
+        Reports(&[true], &[Some(Split { write: 2, read: 2 })], 0x0008),
+        Makes(Reset(1)),
+        Makes(Begin),
+        Runs(&ROUND, 4),
+        Makes(Close),
+        Reports(&[false], &[Some(Split { write: 2, read: 1 })], 0x0009),
+        Denied(Fault(1)),
+    ];
+    expect_steps(&rt, WITHOUT_LRW, &steps)
+}
+
+// Each unit is judged by its own parts.
+#[test]
+fn two_units(rt: HostRuntime) -> Result<(), Fail> {
+    let second = [Pass(1), Pass(1), Pass(1), Return(1)];
+    let steps = [
+        Rises,
+        Makes(Begin),
+        Holds(1, 75, 1, 0),
+        Denied(Pass(1)),
+        Makes(Lose(0)),
+        Runs(&second, 4),
+        Makes(Close),
+        Reports(&[false, true], &[None, Some(Lrw(1))], 0x0008),
+        Makes(Reset(1)),
+        Makes(Begin),
+        Runs(&ROUND, 4),
+        Runs(&second, 4),
+        Makes(Close),
+        Reports(&[true, false], &[Some(Lrw(5)), Some(Lrw(0))], 0x0009),
+    ];
+    expect_steps(&rt, TWO_UNITS, &steps)
+}
+
+/// An event in a cycle of the three slaves, and what comes of it.
+struct Case {
+    /// How many slaves the frame has passed by then.
+    at: usize,
+    event: Event,
+    /// The working counter that comes back, if the frame does.
+    counter: Option<Predicted>,
+    is_taken: bool,
+}
+
+/// Trouble before and after each slave's pass.
+const CASES: [Case; 16] = [
+    Case {
+        at: 0,
+        event: Reset(0),
+        counter: Some(Lrw(4)),
+        is_taken: false,
+    },
+    Case {
+        at: 1,
+        event: Reset(1),
+        counter: Some(Lrw(5)),
+        is_taken: false,
+    },
+    Case {
+        at: 2,
+        event: Reset(2),
+        counter: Some(Lrw(3)),
+        is_taken: false,
+    },
+    Case {
+        at: 0,
+        event: Fault(0),
+        counter: Some(Lrw(4)),
+        is_taken: false,
+    },
+    Case {
+        at: 1,
+        event: Fault(1),
+        counter: Some(Lrw(6)),
+        is_taken: true,
+    },
+    Case {
+        at: 2,
+        event: Fault(2),
+        counter: Some(Lrw(4)),
+        is_taken: false,
+    },
+    Case {
+        at: 1,
+        event: Reset(0),
+        counter: Some(Lrw(6)),
+        is_taken: true,
+    },
+    Case {
+        at: 2,
+        event: Reset(1),
+        counter: Some(Lrw(6)),
+        is_taken: true,
+    },
+    Case {
+        at: 3,
+        event: Reset(2),
+        counter: Some(Lrw(6)),
+        is_taken: true,
+    },
+    Case {
+        at: 1,
+        event: Fault(0),
+        counter: Some(Lrw(6)),
+        is_taken: true,
+    },
+    Case {
+        at: 2,
+        event: Fault(1),
+        counter: Some(Lrw(6)),
+        is_taken: true,
+    },
+    Case {
+        at: 3,
+        event: Fault(2),
+        counter: Some(Lrw(6)),
+        is_taken: true,
+    },
+    Case {
+        at: 0,
+        event: Lose(0),
+        counter: None,
+        is_taken: false,
+    },
+    Case {
+        at: 1,
+        event: Lose(0),
+        counter: None,
+        is_taken: false,
+    },
+    Case {
+        at: 2,
+        event: Lose(0),
+        counter: None,
+        is_taken: false,
+    },
+    Case {
+        at: 3,
+        event: Lose(0),
+        counter: None,
+        is_taken: false,
+    },
+];
+
+/// Whether a report says what a case does.
+fn is_told(report: &Report, case: &Case) -> bool {
+    report.counters().as_slice() == [case.counter].as_slice()
+        && report.is_taken() == case.is_taken
+        && report.missing() == usize::from(case.counter.is_none())
+}
+
+/// A cycle of a new world, with an event between. Whether what comes of it is what the case says.
+fn is_right(world: &mut World<'_>, case: &Case) -> bool {
+    rise(world);
+    made(world, Begin);
+    pass_slaves(world, case.at, Some(case.event));
+    made(world, Return(0));
+    made(world, Close);
+    match world.report() {
+        Some(report) => is_told(report, case),
+        None => false,
+    }
+}
+
+/// Expects of new worlds of a table what the cases say.
+fn expect_cases(rt: &(impl AllocGlobal + Abort), table: &Table, plan: &Plan) -> Result<(), Fail>
+    requires accepted { compile_fault table.now ≡ None }
+    requires plan { plan.now ≡ plan_of table.now }
+{
+    for case in &CASES {
+        let mut world = new_world(rt.alloc(), table, plan)?;
+        let is_right = is_right(&mut world, case);
+        assert!(rt; is_right, "{:?}", case.event);
+    }
+    Ok(())
+}
+
+#[test]
+fn trouble_in_a_cycle(rt: HostRuntime) -> Result<(), Fail> {
+    let table = read_table(rt.alloc(), TABLE)?;
+    let plan = compile(rt.alloc(), &table)?;
+    expect_cases(&rt, &table, &plan)
+}
+
+/// Whether a start-up may end so, where an event came between.
+fn may_end(outcome: Option<Result<(), StartError>>, event: Event) -> bool {
+    match (event, outcome) {
+        (Lose(_), Some(Err(StartError::Lost))) => true,
+        (Reset(_), Some(Ok(()))) => true,
+        (Reset(_), Some(Err(StartError::Counter { .. }))) => true,
+        (Reset(_), Some(Err(StartError::TooSlow { .. }))) => true,
+        (Fault(_), Some(Ok(()))) => true,
+        (Fault(_), Some(Err(StartError::AlError { code: 1, .. }))) => true,
+        _ => false,
+    }
+}
+
+/// So many frames of a start-up, which nothing disturbs.
+fn turns(world: &mut World<'_>, frames: usize) {
+    for _ in 0..frames {
+        turn(world, 0, None);
+    }
+}
+
+/// A start-up in which an event comes to one frame. Whether it ends as it may.
+fn ends_so(world: &mut World<'_>, frame: usize, at: usize, event: Event) -> bool {
+    turns(world, frame);
+    if !turn(world, at, Some(event)) {
+        made(world, Close);
+    }
+    rise(world);
+    may_end(world.outcome(), event)
+}
+
+/// Whether the next start-up ends Ready, where this one failed.
+fn is_ready_next(world: &mut World<'_>) -> bool {
+    if world.is_ready() {
+        return true;
+    }
+    turn(world, 0, None);
+    rise(world);
+    world.is_ready()
+}
+
+/// Frames of a start-up: one of each phase, the first and the last.
+const FRAMES: [usize; 8] = [0, 4, 7, 12, 25, 40, 70, 74];
+
+/// Trouble in a start-up.
+const TROUBLE: [Event; 7] = [
+    Lose(0),
+    Reset(0),
+    Reset(1),
+    Reset(2),
+    Fault(0),
+    Fault(1),
+    Fault(2),
+];
+
+/// Expects of new worlds that they rise, after trouble at a place of a frame of their start-up.
+fn expect_rises(
+    rt: &(impl AllocGlobal + Abort),
+    table: &Table,
+    plan: &Plan,
+    at: usize,
+    event: Event,
+) -> Result<(), Fail>
+    requires accepted { compile_fault table.now ≡ None }
+    requires plan { plan.now ≡ plan_of table.now }
+{
+    for frame in &FRAMES {
+        let mut world = new_world(rt.alloc(), table, plan)?;
+        let rises = ends_so(&mut world, *frame, at, event) && is_ready_next(&mut world);
+        assert!(rt; rises, "{frame} {at} {event:?}");
+    }
+    Ok(())
+}
+
+/// Expects this of each trouble at a place.
+fn expect_trouble(
+    rt: &(impl AllocGlobal + Abort),
+    table: &Table,
+    plan: &Plan,
+    at: usize,
+) -> Result<(), Fail>
+    requires accepted { compile_fault table.now ≡ None }
+    requires plan { plan.now ≡ plan_of table.now }
+{
+    for event in &TROUBLE {
+        expect_rises(rt, table, plan, at, *event)?;
+    }
+    Ok(())
+}
+
+/// Expects this at each place.
+fn expect_all_trouble(
+    rt: &(impl AllocGlobal + Abort),
+    table: &Table,
+    plan: &Plan,
+) -> Result<(), Fail>
+    requires accepted { compile_fault table.now ≡ None }
+    requires plan { plan.now ≡ plan_of table.now }
+{
+    for at in 0..4 {
+        expect_trouble(rt, table, plan, at)?;
+    }
+    Ok(())
+}
+
+// A frame of a start-up is lost before or after a slave's pass, or a slave is reset, or has a fault there.
+#[test]
+fn trouble_in_a_start_up(rt: HostRuntime) -> Result<(), Fail> {
+    let table = read_table(rt.alloc(), TABLE)?;
+    let plan = compile(rt.alloc(), &table)?;
+    expect_all_trouble(&rt, &table, &plan)
+}
