@@ -38,6 +38,23 @@ fn expect_loop<H: AllocGlobal + Net + Abort>(rt: &H, run: Loop) {
     );
 }
 
+/// Runs so many cycles of a table, and compares what is printed.
+pub fn expect_cycles<H: AllocGlobal + Net + Abort>(
+    rt: &H,
+    cycles: &str,
+    table: &str,
+    printed: &str,
+) {
+    let run = Loop {
+        cycles,
+        input: table.as_bytes(),
+        status: 0,
+        printed,
+        told: "",
+    };
+    expect_loop(rt, run);
+}
+
 // Outputs come back as inputs one cycle later; a slave without outputs shows 0.
 #[test]
 fn runs_cycles(rt: HostRuntime) {
