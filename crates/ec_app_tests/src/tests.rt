@@ -1,5 +1,6 @@
 //! The program's worked rows, over memory.
 
+mod echoes;
 mod loops;
 mod machines;
 mod plans;

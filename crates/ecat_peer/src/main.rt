@@ -13,7 +13,6 @@ mod judge;
 mod liar;
 mod payloads;
 mod plain;
-mod random;
 mod segment;
 mod tables;
 

@@ -1,8 +1,8 @@
 //! A segment under payloads at random: over a wire in memory, and over the system's sockets.
 use crate::payloads::random_payload;
 use crate::plain::{is_frame, may_answer};
-use crate::random::Random;
 use ec_frame::Frame;
+use ec_random::Random;
 use ec_ring::Ring;
 use ec_wire::{Echo, UdpWire, Wire, serve_segment};
 use std::alloc::AllocError;

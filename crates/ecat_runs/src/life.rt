@@ -5,9 +5,9 @@ ghost use Rattle.ec_link.specs.Plan.{plan_of};
 
 use crate::events::{Kind, next_event, next_move};
 use crate::model::Model;
-use crate::random::Random;
 use ec_cycle::Report;
 use ec_link::Plan;
+use ec_random::Random;
 use ec_regs::Identity;
 use ec_table::Table;
 use ec_world::{Event, World};

@@ -1,7 +1,6 @@
 //! Long runs, from a seed. Worlds of tables at random get events at random: one world gets them one by one, another the same in lists.
 //! Each must be made where the table of events lets it, and nowhere else; both worlds must show the same after each list; and at the
-//! end an undisturbed cycle must take every sync unit whose slaves are well. And `ecat loop` must print of each table what a world gives
-//! for the same events.
+//! end an undisturbed cycle must take every sync unit whose slaves are well.
 //!
 //!     ecat_runs [SEED [TABLES [EVENTS]]]
 //!
@@ -10,10 +9,7 @@
 
 mod events;
 mod life;
-mod loops;
 mod model;
-mod random;
-mod tables;
 
 ghost use Rattle.std.specs.Prelude.{◌≡◌, None, length, IfOk};
 ghost use Rattle.ec_link.specs.Faults.{compile_fault};
@@ -21,16 +17,13 @@ ghost use Rattle.ec_link.specs.Plan.{plan_of};
 
 use crate::events::Kind;
 use crate::life::{Seen, live};
-use crate::loops::is_same;
-use crate::random::Random;
-use crate::tables::random_table;
 use ec_link::{Plan, compile};
+use ec_random::{Random, random_table};
 use ec_regs::Identity;
 use ec_table::{Table, read_table};
 use std::alloc::{AllocError, Global};
 use std::env::Env;
 use std::io::Write;
-use std::net::Net;
 use std::process::ExitCode;
 use std::{env, io};
 
@@ -104,7 +97,6 @@ struct Sum {
     made: u64,
     taken: u32,
     untaken: u32,
-    loops: u32,
     is_right: bool,
 }
 
@@ -117,12 +109,6 @@ impl Sum {
         self.taken = self.taken.saturating_add(seen.taken);
         self.untaken = self.untaken.saturating_add(seen.untaken);
         self.is_right = self.is_right && seen.is_right;
-    }
-
-    /// A loop more, which printed what it must or didn't.
-    fn add_loop(&mut self, is_same: bool) {
-        self.loops = self.loops.saturating_add(1);
-        self.is_right = self.is_right && is_same;
     }
 }
 
@@ -154,10 +140,9 @@ fn identities_of(alloc: Global, table: &Table) -> Result<Vec<Identity>, AllocErr
     Ok(identities)
 }
 
-/// The worlds of a table, and its loop.
-fn live_each<H: AllocGlobal + Net>(
-    rt: &H,
-    text: &str,
+/// The worlds of a table.
+fn live_each(
+    alloc: Global,
     table: &Table,
     plan: &Plan,
     random: &mut Random,
@@ -167,56 +152,53 @@ fn live_each<H: AllocGlobal + Net>(
     requires accepted { compile_fault table.now ≡ None }
     requires plan { plan.now ≡ plan_of table.now }
 {
-    let alloc = rt.alloc();
     let identities = identities_of(alloc, table)?;
     for kind in WORLDS {
         sum.add(live(alloc, table, plan, &identities, random, kind, events)?);
     }
-    sum.add_loop(is_same(rt, text, table, plan, &identities)?);
     Ok(())
 }
 
-/// The worlds of a text, and its loop. A text that is no table is wrong.
-fn live_all<H: AllocGlobal + Net>(
-    rt: &H,
+/// The worlds of a text. A text that is no table is wrong.
+fn live_all(
+    alloc: Global,
     text: &str,
     random: &mut Random,
     events: u64,
     sum: &mut Sum,
 ) -> Result<(), AllocError> {
-    let Ok(table) = read_table(rt.alloc(), text) else {
+    let Ok(table) = read_table(alloc, text) else {
         sum.is_right = false;
         return Ok(());
     };
-    let Ok(plan) = compile(rt.alloc(), &table) else {
+    let Ok(plan) = compile(alloc, &table) else {
         sum.is_right = false;
         return Ok(());
     };
-    live_each(rt, text, &table, &plan, random, events, sum)
+    live_each(alloc, &table, &plan, random, events, sum)
 }
 
 /// All tables.
-fn run<H: AllocGlobal + Net>(rt: &H, task: Task) -> Result<Sum, AllocError> {
+fn run(alloc: Global, task: Task) -> Result<Sum, AllocError> {
     let mut sum = Sum {
         worlds: 0,
         tried: 0,
         made: 0,
         taken: 0,
         untaken: 0,
-        loops: 0,
         is_right: true,
     };
     let events = u64::from(task.events / 10);
     for table in 0..task.tables {
         let mut random = Random::new(task.seed.wrapping_add(u64::from(table)));
-        let text = random_table(rt.alloc(), &mut random)?;
-        live_all(rt, text.as_str(), &mut random, events, &mut sum)?;
+        let text = random_table(alloc, &mut random)?;
+        live_all(alloc, text.as_str(), &mut random, events, &mut sum)?;
     }
     Ok(sum)
 }
 
 /// Does what the arguments ask for, and prints its figures.
-fn print_run<H: AllocGlobal + Env + Net, W: Write>(rt: &H, output: &mut W) -> io::Result<bool> {
+fn print_run<H: AllocGlobal + Env, W: Write>(rt: &H, output: &mut W) -> io::Result<bool> {
     let args: Vec<String> = env::args(rt)?.collect(rt.alloc())?;
     let Some(task) = task_of(args.as_slice()) else {
         writeln!(output, "ecat_runs [SEED [TABLES [EVENTS]]]")?;
@@ -228,13 +210,12 @@ fn print_run<H: AllocGlobal + Env + Net, W: Write>(rt: &H, output: &mut W) -> io
         made,
         taken,
         untaken,
-        loops,
         is_right,
-    } = run(rt, task)?;
+    } = run(rt.alloc(), task)?;
     let verdict = if is_right { "all" } else { "NOT" };
     writeln!(
         output,
-        "worlds {worlds}; events {tried} made {made}; units at the end taken {taken} untaken {untaken}; loops {loops}; {verdict} as it must be"
+        "worlds {worlds}; events {tried} made {made}; units at the end taken {taken} untaken {untaken}; {verdict} as it must be"
     )?;
     Ok(is_right)
 }

@@ -1,4 +1,4 @@
-//! `ecat sim`, over memory.
+//! `ecat sim`, over memory; and on tables at random it and `ecat plan` beside the crates below.
 
 ghost use Rattle.std.specs.Prelude.{◌≡◌, None};
 ghost use Rattle.ec_link.specs.Faults.{compile_fault};
@@ -9,10 +9,10 @@ use crate::tests::tables::THREE_SLAVES;
 use crate::tests::{Run, expect_run};
 use ec_app::{Line, Refusal, identities_of, plan_text, read_script, run_line};
 use ec_link::{Plan, compile};
+use ec_random::{Random, random_script, random_table};
 use ec_table::{Table, read_table};
 use ec_world::World;
 use std::alloc::{AllocError, Global};
-use std::fmt::Write as _;
 use std::net::Net;
 use std::process::Abort;
 use std::test::Fail;
@@ -233,130 +233,6 @@ fn runs_long_scripts(rt: HostRuntime) -> Result<(), Fail> {
     expect_sim(&rt, THREE_SLAVES, script.as_str(), 0, printed.as_str(), "")
 }
 
-/// Numbers in an order that a seed decides.
-#[derive(Drop)]
-struct Numbers {
-    state: u64,
-}
-
-impl Numbers {
-    /// A number below a limit.
-    fn below(&mut self, limit: u64) -> u64 {
-        self.state = self
-            .state
-            .wrapping_mul(6_364_136_223_846_793_005)
-            .wrapping_add(1_442_695_040_888_963_407);
-        (self.state >> 33) % limit.max(1)
-    }
-}
-
-/// The type of a slave, with so many output and input bits; its slave takes part in LRW or doesn't.
-fn write_type(
-    text: &mut String,
-    slave: u64,
-    outs: u64,
-    ins: u64,
-    lrw: bool,
-) -> Result<(), AllocError> {
-    writeln!(
-        text,
-        "[[type]]\nname = \"t{slave}\"\nvendor = 1\nproduct = {outs}\nrevision = {ins}\nlrw = {lrw}"
-    )?;
-    writeln!(text, "out_start = 0x1100\nin_start = 0x1800")?;
-    write_pdo(text, "rxpdo", "0x1600", "0x7000", outs)?;
-    write_pdo(text, "txpdo", "0x1A00", "0x6000", ins)
-}
-
-/// A process data object with one entry, unless that has no bits.
-fn write_pdo(
-    text: &mut String,
-    name: &str,
-    index: &str,
-    entry: &str,
-    bits: u64,
-) -> Result<(), AllocError> {
-    if bits > 0 {
-        writeln!(
-            text,
-            "{name} = [ {{ index = {index}, entries = [[{entry}, 1, {bits}]] }} ]"
-        )?;
-    }
-    Ok(())
-}
-
-/// A variable that is linked with all bits of a slave in one direction.
-fn write_variable(
-    text: &mut String,
-    slave: u64,
-    direction: &str,
-    entry: &str,
-    bits: u64,
-) -> Result<(), AllocError> {
-    if bits > 0 {
-        writeln!(
-            text,
-            "[[variable]]\nname = \"{direction}{slave}\"\ndir = \"{direction}\"\nbits = {bits}"
-        )?;
-        writeln!(
-            text,
-            "[[link]]\nvar = \"{direction}{slave}\"\nslave = \"s{slave}\"\nindex = {entry}\nsub = 1"
-        )?;
-    }
-    Ok(())
-}
-
-/// A slave of a type of its own, which numbers decide.
-fn write_slave(text: &mut String, slave: u64, numbers: &mut Numbers) -> Result<(), AllocError> {
-    let (outs, ins) = (numbers.below(20), numbers.below(20));
-    let (lrw, unit) = (numbers.below(4) > 0, numbers.below(3));
-    write_type(text, slave, outs, ins, lrw)?;
-    writeln!(
-        text,
-        "[[slave]]\nname = \"s{slave}\"\ntype = \"t{slave}\"\nunit = {unit}"
-    )?;
-    write_variable(text, slave, "out", "0x7000", outs)?;
-    write_variable(text, slave, "in", "0x6000", ins)
-}
-
-/// A table that numbers decide: up to four slaves, in up to three units.
-fn random_table(alloc: Global, numbers: &mut Numbers) -> Result<String, AllocError> {
-    let mut text = String::from_str(alloc, "version = 2\n")?;
-    for slave in 0..numbers.below(5) {
-        write_slave(&mut text, slave, numbers)?;
-    }
-    Ok(text)
-}
-
-/// A line of a script that numbers decide.
-fn write_line(text: &mut String, numbers: &mut Numbers) -> Result<(), AllocError> {
-    let (first, second, byte) = (numbers.below(5), numbers.below(3), numbers.below(256));
-    match numbers.below(16) {
-        0 => writeln!(text, "start"),
-        1 => writeln!(text, "begin"),
-        2 => writeln!(text, "pass {first}"),
-        3 => writeln!(text, "lose {second}"),
-        4 => writeln!(text, "return {second}"),
-        5 => writeln!(text, "close"),
-        6 => writeln!(text, "serve {first}"),
-        7 => writeln!(text, "put {first} {second} {byte}"),
-        8 => writeln!(text, "get {first} {second}"),
-        9 => writeln!(text, "fault {first}"),
-        10 => writeln!(text, "reset {first}"),
-        11 | 12 => writeln!(text, "ready"),
-        13 | 14 => writeln!(text, "cycle"),
-        _ => writeln!(text, "show"),
-    }
-}
-
-/// A script of twenty lines behind a start-up.
-fn random_script(alloc: Global, numbers: &mut Numbers) -> Result<String, AllocError> {
-    let mut text = String::from_str(alloc, "ready\n")?;
-    for _ in 0..20 {
-        write_line(&mut text, numbers)?;
-    }
-    Ok(text)
-}
-
 /// What the lines of a script print, by the crate below.
 fn said(
     alloc: Global,
@@ -421,9 +297,9 @@ fn expect_answers<H: AllocGlobal + Net + Abort>(
 
 /// The same of a table and a script that a seed decides.
 fn expect_joined<H: AllocGlobal + Net + Abort>(rt: &H, seed: u64) -> Result<(), Fail> {
-    let mut numbers = Numbers { state: seed };
-    let table = random_table(rt.alloc(), &mut numbers)?;
-    let script = random_script(rt.alloc(), &mut numbers)?;
+    let mut random = Random::new(seed);
+    let table = random_table(rt.alloc(), &mut random)?;
+    let script = random_script(rt.alloc(), &mut random)?;
     expect_answers(rt, table.as_str(), script.as_str())
 }
 

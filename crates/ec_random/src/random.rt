@@ -1,5 +1,5 @@
 //! Numbers that a seed decides.
-ghost use Rattle.std.specs.Prelude.{◌<◌};
+ghost use Rattle.std.specs.Prelude.{◌<◌, ◌≡◌};
 
 use rand_core::Rng;
 use rand_pcg::Pcg32;
@@ -11,6 +11,7 @@ pub struct Random {
 }
 
 impl Random {
+    /// The source of a seed.
     pub fn new(seed: u64) -> Random {
         Random {
             words: Pcg32::new(seed, 54),
@@ -26,15 +27,20 @@ impl Random {
     }
 
     /// A place below a limit; 0 where the limit is 0.
-    pub fn place(&mut self, limit: usize) -> usize {
+    pub fn place(&mut self, limit: usize) -> usize
+        ensures below { 0 < limit → result < limit }
+        ensures zero { limit ≡ 0 → result ≡ 0 }
+    {
         let word = self.words.next_u32() as usize;
         word.checked_rem(limit).unwrap_or(0)
     }
 
+    /// Any byte.
     pub fn byte(&mut self) -> u8 {
         self.below(256) as u8
     }
 
+    /// Any word.
     pub fn word(&mut self) -> u32 {
         self.words.next_u32()
     }

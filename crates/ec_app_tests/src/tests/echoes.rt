@@ -1,24 +1,21 @@
-//! The cycles of `ecat loop` beside the same as events of a world.
-ghost use Rattle.std.specs.Prelude.{◌≡◌, None, length};
+//! The cycles of `ecat loop` as events of a world, whose slaves' applications show their outputs as their inputs.
+ghost use Rattle.std.specs.Prelude.{◌≡◌, None};
 ghost use Rattle.ec_link.specs.Faults.{compile_fault};
 ghost use Rattle.ec_link.specs.Plan.{plan_of};
 
-use ec_app::run_command;
+use ec_app::identities_of;
 use ec_link::Plan;
-use ec_regs::Identity;
 use ec_script::write_report;
 use ec_table::{Direction, Table};
-use ec_wire::Echo;
 use ec_world::{Event, World};
 use std::alloc::{AllocError, Global};
 use std::fmt::Write as _;
-use std::net::Net;
-
-/// So many cycles are run.
-const CYCLES: u64 = 3;
 
 /// A slave's inputs have fewer bytes.
 const MANY_BYTES: usize = 4096;
+
+/// More frames than any start-up has.
+const MANY_FRAMES: usize = 20_000;
 
 /// A byte of a slave's outputs; 0 where there is none.
 fn output(world: &World<'_>, slave: usize, place: usize) -> u8 {
@@ -58,7 +55,7 @@ fn pass(world: &mut World<'_>, slot: usize) {
 
 /// A start-up that nothing disturbs.
 fn start_up(world: &mut World<'_>) {
-    for _ in 0..20_000 {
+    for _ in 0..MANY_FRAMES {
         if !world.step(Event::StartNext) || world.is_ready() {
             return;
         }
@@ -115,50 +112,20 @@ fn write_inputs(text: &mut String, world: &World<'_>, table: &Table) -> Result<(
     Ok(())
 }
 
-/// What a world of a table prints of its cycles.
-fn text_of_world(
-    alloc: Global,
-    table: &Table,
-    plan: &Plan,
-    identities: &[Identity],
-) -> Result<String, AllocError>
+/// What a world of a table says of so many cycles.
+pub fn looped(alloc: Global, table: &Table, plan: &Plan, cycles: u64) -> Result<String, AllocError>
     requires accepted { compile_fault table.now ≡ None }
     requires plan { plan.now ≡ plan_of table.now }
-    requires one_each { length identities.now ≡ length table.now.slaves }
 {
+    let identities = identities_of(alloc, table)?;
+    let mut world = World::new(alloc, table, plan, identities.as_slice())?;
     let mut text = String::from_str(alloc, "ready\n")?;
-    let mut world = World::new(alloc, table, plan, identities)?;
     start_up(&mut world);
-    for number in 0..CYCLES {
-        set_outputs(&mut world, table, number + 1);
+    for cycle in 0..cycles {
+        set_outputs(&mut world, table, cycle.saturating_add(1));
         run_cycle(&mut world, plan.parts().len());
         write_line(alloc, &mut text, &world, table, plan)?;
     }
     write_inputs(&mut text, &world, table)?;
     Ok(text)
-}
-
-/// What `ecat loop` prints of the cycles of a text.
-fn text_of_loop<H: AllocGlobal + Net>(rt: &H, text: &str) -> Vec<u8> {
-    let (mut output, mut faults) = (Vec::new(rt.alloc()), Vec::new(rt.alloc()));
-    let mut input = text.as_bytes();
-    let args = ["ecat", "loop", "--cycles", "3"];
-    run_command(rt, &args, &mut input, &mut output, &mut faults, &mut Echo);
-    output
-}
-
-/// Whether `ecat loop` prints what a world of the table gives for the same events.
-pub fn is_same<H: AllocGlobal + Net>(
-    rt: &H,
-    text: &str,
-    table: &Table,
-    plan: &Plan,
-    identities: &[Identity],
-) -> Result<bool, AllocError>
-    requires accepted { compile_fault table.now ≡ None }
-    requires plan { plan.now ≡ plan_of table.now }
-    requires one_each { length identities.now ≡ length table.now.slaves }
-{
-    let told = text_of_world(rt.alloc(), table, plan, identities)?;
-    Ok(text_of_loop(rt, text).as_slice() == told.as_bytes())
 }

@@ -3,11 +3,11 @@ use crate::random::Random;
 use std::alloc::{AllocError, Global};
 use std::fmt::Write as _;
 
-/// The entries of a process data object at random, each with a variable that is linked with all of its bits, or with none.
+/// The objects of a slave in one direction.
 struct Objects<'a> {
     direction: &'a str,
     pdos: &'a str,
-    /// The index of the first process data object, and of its entries.
+    /// The index of the process data object, and of its entries.
     index: u32,
     entry: u32,
 }
@@ -45,7 +45,7 @@ fn write_link(
     )
 }
 
-/// The objects of a slave in a direction: one process data object with up to three entries.
+/// The objects of a slave in a direction: no process data object, or one with up to three entries, of which most are linked.
 fn write_objects(
     random: &mut Random,
     text: &mut String,
@@ -53,6 +53,9 @@ fn write_objects(
     objects: &Objects<'_>,
     slave: u32,
 ) -> Result<(), AllocError> {
+    if random.in_hundred(10) {
+        return Ok(());
+    }
     let (pdos, index, entry) = (objects.pdos, objects.index, objects.entry);
     write!(text, "{pdos} = [ {{ index = {index}, entries = [")?;
     for sub in 1..1 + random.below(4) {
@@ -65,6 +68,21 @@ fn write_objects(
     writeln!(text, "] }} ]")
 }
 
+/// The head of a slave's type: who made it, whether it takes part in LRW, where its process data begins, and its mailbox, if any.
+fn write_type(random: &mut Random, text: &mut String, slave: u32) -> Result<(), AllocError> {
+    let (product, revision) = (random.below(20), random.below(20));
+    let is_whole = random.in_hundred(75);
+    writeln!(
+        text,
+        "[[type]]\nname = \"t{slave}\"\nvendor = 1\nproduct = {product}\nrevision = {revision}\nlrw = {is_whole}"
+    )?;
+    writeln!(text, "out_start = 0x1100\nin_start = 0x1400")?;
+    if random.in_hundred(30) {
+        writeln!(text, "mailbox = [0x1000, 64, 0x1080, 64]")?;
+    }
+    Ok(())
+}
+
 /// A slave of a type of its own.
 fn write_slave(
     random: &mut Random,
@@ -73,15 +91,7 @@ fn write_slave(
     slave: u32,
     has_units: bool,
 ) -> Result<(), AllocError> {
-    let is_whole = random.in_hundred(75);
-    writeln!(
-        text,
-        "[[type]]\nname = \"t{slave}\"\nvendor = 1\nproduct = {slave}\nrevision = 1\nlrw = {is_whole}"
-    )?;
-    writeln!(text, "out_start = 0x1100\nin_start = 0x1400")?;
-    if random.in_hundred(30) {
-        writeln!(text, "mailbox = [0x1000, 64, 0x1080, 64]")?;
-    }
+    write_type(random, text, slave)?;
     write_objects(random, text, links, &OUTPUTS, slave)?;
     write_objects(random, text, links, &INPUTS, slave)?;
     writeln!(text, "[[slave]]\nname = \"s{slave}\"\ntype = \"t{slave}\"")?;
@@ -92,7 +102,8 @@ fn write_slave(
     Ok(())
 }
 
-/// A table of up to five slaves, of either version.
+/// The text of a link table of up to five slaves, of either version, in up to three units: slaves with and without a mailbox, outputs,
+/// inputs and LRW. It ends in a line feed, or is empty. It is for tests: no more is promised than that it is made, or memory refused.
 pub fn random_table(alloc: Global, random: &mut Random) -> Result<String, AllocError> {
     let (mut text, mut links) = (String::new(alloc), String::new(alloc));
     let has_units = random.in_hundred(50);
