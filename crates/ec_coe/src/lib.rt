@@ -20,6 +20,3 @@ pub use crate::message::{
 };
 pub use crate::reply::{Reply, read_reply};
 pub use crate::value::{Size, Value};
-
-#[cfg(test)]
-mod tests;

@@ -10,8 +10,6 @@ mod datagram;
 mod error;
 mod field;
 pub mod laws;
-#[cfg(test)]
-mod tests;
 mod walk;
 
 pub use crate::builder::{Builder, Frame, Full};

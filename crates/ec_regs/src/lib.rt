@@ -23,6 +23,3 @@ pub use crate::slave_type::{
     are_within_limits, copied_pdos, have_own_indices,
 };
 pub use crate::words::{AlWord, SiiControl};
-
-#[cfg(test)]
-mod tests;

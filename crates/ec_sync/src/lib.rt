@@ -18,6 +18,3 @@ mod touching;
 pub use crate::bounds::Bounds;
 pub use crate::manager::Manager;
 pub use crate::touching::{Range, Reach, Touching, Writing};
-
-#[cfg(test)]
-mod tests;

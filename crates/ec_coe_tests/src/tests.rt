@@ -1,5 +1,5 @@
 //! Messages as they stand on the wire, to a slave with one PDO in each direction.
-use crate::{
+use ec_coe::{
     BadMailbox, Dictionary, Message, Reply, Value, read_message, read_reply, write_message,
 };
 use ec_regs::{Device, Entry, Listed, Mailbox, Pdo, SlaveType};

@@ -7,7 +7,10 @@ ghost use Rattle.ec_frame.specs.Fields.{with_adp, with_counter, with_data};
 ghost use Rattle.ec_frame.specs.Kept.{IsDatagram-with_adp, IsDatagram-with_counter};
 ghost use Rattle.ec_frame.specs.Kept.{IsDatagram-with_data};
 
-use super::*;
+use ec_frame::{
+    Builder, Command, Frame, FrameError, Full, Handler, Header, Places, check, cut_counter,
+    cut_heading, pass, read_counter, read_data, write_address, write_adp, write_counter,
+};
 use std::process::Abort;
 use std::test::Fail;
 

@@ -1,8 +1,8 @@
-use crate::registers::{
+use ec_regs::registers::{
     AL_CONTROL, AL_STATUS, AL_STATUS_CODE, SII_ADDRESS, SII_CONTROL, SII_DATA, STATION_ADDRESS,
     fmmu_address, manager_address,
 };
-use crate::{
+use ec_regs::{
     AlWord, CONTROL_OUTPUTS, Device, Entry, FmmuSettings, Listed, Mailbox, ManagerSettings, Pdo,
     SiiControl, SlaveType, decode_fmmu, decode_manager, encode_fmmu, encode_manager, is_stored,
     takes_writes,

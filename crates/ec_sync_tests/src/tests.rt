@@ -1,8 +1,8 @@
 ghost use Rattle.std.specs.Prelude.{◌==◌, ◌||◌};
 ghost use Rattle.ec_bits.specs.Bits.{zeros};
 
-use super::*;
 use ec_regs::{CONTROL_INPUTS, CONTROL_MAILBOX_IN, ManagerSettings};
+use ec_sync::{Manager, Range, Reach, Touching, Writing};
 use std::test::Fail;
 
 /// Two buffered bytes at 0x1100 that the ring writes.

@@ -6,7 +6,7 @@ use Rattle.ec_frame.specs.Datagram.{Datagram, adp_of, spelling}
 use Rattle.ec_frame.specs.Fields.{header_of, with_adp, with_counter}
 use Rattle.ec_frame.specs.Kept.{IsDatagram-with_adp, IsDatagram-with_counter}
 use Rattle.ec_frame.proofs.Writes.{data_rejoined}
-use Rattle.ec_frame.proofs.tests.MarkerHandler.handle.Goals as goal
+use Rattle.ec_frame_tests.proofs.tests.MarkerHandler.handle.Goals as goal
 
 pub returns-clause-datagram : goal.returns-clause-datagram
 returns-clause-datagram c = λ more d good e.
