@@ -112,7 +112,7 @@ fn read_alone<M: ReadableRuns>(run: Run, memory: &M, from: u64, bytes: &mut [u8]
 /// Reads the data bits that lie in the range of the FMMU at a place, if it reads: as one run where
 /// no other range meets it, and else bit by bit.
 fn read_fmmu<M: ReadableRuns>(
-    table: &FmmuTable,
+    fmmus: &FmmuTable,
     place: usize,
     memory: &M,
     from: u64,
@@ -122,16 +122,16 @@ fn read_fmmu<M: ReadableRuns>(
     requires fits { from + 8 * length bytes.old < 2 ^ 64 }
     requires there { place < 4 }
     ensures any { result ≡ any_below (8 * length bytes.old)
-        (λ i. is_some (range_read_told (get_or table.now place no_fmmu) table.now (M.shown memory.now) from i)) }
+        (λ i. is_some (range_read_told (get_or fmmus.now place no_fmmu) fmmus.now (M.shown memory.now) from i)) }
     ensures bits { bytes.new
-        ≡ overlay bytes.old (range_read_told (get_or table.now place no_fmmu) table.now (M.shown memory.now) from) }
+        ≡ overlay bytes.old (range_read_told (get_or fmmus.now place no_fmmu) fmmus.now (M.shown memory.now) from) }
 {
-    match table.read_way(place) {
+    match fmmus.read_way(place) {
         Way::Closed => false,
         Way::Alone(run) => read_alone(run, memory, from, bytes),
         Way::Shared => {
-            let fmmus = table.as_slice();
-            read_range(fmmus, &fmmus[place], memory, from, bytes)
+            let all = fmmus.as_slice();
+            read_range(all, &all[place], memory, from, bytes)
         }
     }
 }
@@ -171,7 +171,7 @@ fn read_range<M: ReadableBits>(
 /// all others stay. Answers whether a bit was read. Only bits in the ranges of FMMUs that read are
 /// looked at.
 pub fn apply_read<M: ReadableRuns>(
-    table: &FmmuTable,
+    fmmus: &FmmuTable,
     memory: &M,
     from: u64,
     bytes: &mut [u8],
@@ -179,12 +179,12 @@ pub fn apply_read<M: ReadableRuns>(
     requires can { M.can_show memory.now }
     requires fits { from + 8 * length bytes.old < 2 ^ 64 }
     ensures any { result ≡ any_below (8 * length bytes.old)
-        (λ i. is_some (read_told table.now (M.shown memory.now) from i)) }
-    ensures bits { bytes.new ≡ overlay bytes.old (read_told table.now (M.shown memory.now) from) }
+        (λ i. is_some (read_told fmmus.now (M.shown memory.now) from i)) }
+    ensures bits { bytes.new ≡ overlay bytes.old (read_told fmmus.now (M.shown memory.now) from) }
 {
     let mut any = false;
-    for place in 0..table.read_end() {
-        any |= read_fmmu(table, place, memory, from, bytes);
+    for place in 0..fmmus.read_end() {
+        any |= read_fmmu(fmmus, place, memory, from, bytes);
     }
     any
 }

@@ -21,6 +21,7 @@ pub mod AgainstAll
 -- What private functions and the proofs go by: no public contract rests on it.
 pub mod Held
 pub mod Mapped
+pub mod Encounters
 pub mod Sights
 pub mod Written
 pub mod Telling

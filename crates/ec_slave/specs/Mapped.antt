@@ -6,7 +6,6 @@ use Rattle.ec_frame.specs.Datagram.{Datagram}
 use Rattle.ec_fmmu.specs.Alone.{AreApart}
 use Rattle.ec_fmmu.specs.Applied.{Place}
 use Rattle.ec_slave.specs.declared.role.Role.{Role}
-use Rattle.ec_slave.specs.declared.role.Role.TheVariants.{ReadWrite}
 use Rattle.ec_slave.specs.Roles.{is_reading, is_writing}
 use Rattle.ec_slave.specs.State.{SlaveState, Met, fmmus}
 use Rattle.ec_slave.specs.Logical.{meets_logical, only_if, read_bit, some_read, some_written}
@@ -27,10 +26,6 @@ count_after s role p bytes =
 
 abbrev pub meets_mapped : Role → SlaveState → Datagram → Met
 meets_mapped role s d = meets_logical (is_reading role) (is_writing role) (weight role) s d
-
--- LRW at a slave whose type takes part in it, and at one whose type doesn't
-abbrev pub meets_lrw : SlaveState → Datagram → Met
-meets_lrw s d = if s.kind.lrw then meets_mapped ReadWrite s d else record { slave = s; datagram = d }
 
 -- nothing that is read of the memory is written there, so that a datagram that does both may write first
 pub record MayWriteFirst (s : SlaveState) : Type 0 where

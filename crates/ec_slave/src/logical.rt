@@ -15,7 +15,7 @@ ghost use Rattle.ec_slave.specs.State.{fmmus};
 ghost use Rattle.ec_slave.specs.LogicalLaws.{Misses};
 ghost use Rattle.ec_slave.specs.Logical.{logical_after, read_bit, some_read, some_written};
 ghost use Rattle.ec_slave.specs.Roles.{is_reading, is_writing};
-ghost use Rattle.ec_slave.specs.Mapped.{MayWriteFirst, data_after, count_after, meets_lrw, meets_mapped};
+ghost use Rattle.ec_slave.specs.Mapped.{MayWriteFirst, data_after, count_after, meets_mapped};
 
 mod managers;
 mod reading;
@@ -182,21 +182,5 @@ impl Slave {
         let counter = read_counter(part);
         let added = self.access_logical_data(role, header.address, part);
         write_counter(part, counter.wrapping_add(added));
-    }
-
-    /// Answers a datagram that reads and writes: a slave whose type takes no part in such datagrams lets it pass.
-    #[tactic(auto, using(crate::proofs::Answered::exchanged_datagram, crate::proofs::Answered::exchanged_state, crate::proofs::Answered::passed_datagram, crate::proofs::Answered::passed_state))]
-    pub(crate) fn process_lrw(&mut self, header: Header, part: &mut [u8])
-        requires spelt { IsSpelling part.old }
-        requires read { (more : Bool) (d : Datagram) → IsDatagram d → part.old ≡ spelling more d
-            → header ≡ header_of more d }
-        ensures datagram { (more : Bool) (d : Datagram) → IsDatagram d → part.old ≡ spelling more d
-            → part.new ≡ spelling more (meets_lrw self.old d).datagram }
-        ensures state { (more : Bool) (d : Datagram) → IsDatagram d → part.old ≡ spelling more d
-            → self.new ≡ (meets_lrw self.old d).slave }
-    {
-        if self.dictionary.kind().lrw() {
-            self.process_logical(Role::ReadWrite, header, part);
-        }
     }
 }

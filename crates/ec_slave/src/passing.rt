@@ -6,9 +6,9 @@ ghost use Rattle.ec_slave.specs.Keeping.{meets-keeps};
 ghost use Rattle.ec_slave.specs.Sound.{IsSlave};
 ghost use Rattle.ec_slave.specs.Meeting.{IsPassed, datagram_met, slave_met};
 
-use crate::role::Role;
+use crate::role::Encounter;
 use crate::slave::Slave;
-use ec_frame::{Command, Handler, Header, pass};
+use ec_frame::{Handler, Header, pass};
 
 impl Slave {
     /// A frame passes the slave: its datagrams act in order, each on the slave as the one before
@@ -34,12 +34,10 @@ impl Handler for Slave {
 
     fn handle(&mut self, part: &mut [u8]) {
         let header = Header::read(part);
-        match header.command {
-            Command::Nop => {}
-            Command::Lrd => self.process_logical(Role::Read, header, part),
-            Command::Lwr => self.process_logical(Role::Write, header, part),
-            Command::Lrw => self.process_lrw(header, part),
-            _ => self.process_physical(header, part),
+        match Encounter::of(header.command, header.adp(), self) {
+            Encounter::Passing => {}
+            Encounter::Physical { role, adp } => self.process_physical(role, adp, header, part),
+            Encounter::Logical(role) => self.process_logical(role, header, part),
         }
     }
 }

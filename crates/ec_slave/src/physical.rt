@@ -9,7 +9,7 @@ ghost use Rattle.ec_bits.specs.Bits.{within};
 ghost use Rattle.std.specs.Bool.{OnTrue};
 ghost use Rattle.ec_frame.specs.Datagram.{Datagram, IsDatagram, IsSpelling, spelling};
 ghost use Rattle.ec_frame.specs.Fields.{header_of, with_data};
-ghost use Rattle.ec_slave.specs.Meeting.{meets_physically};
+ghost use Rattle.ec_slave.specs.Encounters.{meets_addressed};
 ghost use Rattle.ec_slave.specs.Access.{Window, byte_read, may_read_byte, meeting, retold, slave_after, some_byte_read, some_byte_written};
 ghost use Rattle.ec_slave.specs.State.{fmmus_of};
 
@@ -21,7 +21,7 @@ use crate::physical::bytes::{
     end_of_part, owner, read_over, read_slice, reads_byte, write_physical,
 };
 use crate::physical::managers::access_managers;
-use crate::role::{Encounter, Role};
+use crate::role::Role;
 use crate::slave::Slave;
 use ec_al::Al;
 use ec_fmmu::FmmuTable;
@@ -287,20 +287,19 @@ impl Slave {
         self.access_bytes(role, ado as usize, content)
     }
 
-    /// Answers a physical datagram whose header was read.
-    pub(crate) fn process_physical(&mut self, header: Header, part: &mut [u8])
+    /// Answers a physical datagram whose header was read, and which leaves with this ADP.
+    pub(crate) fn process_physical(&mut self, role: Role, adp: u16, header: Header, part: &mut [u8])
         requires spelt { IsSpelling part.old }
         requires read { (more : Bool) (d : Datagram) → IsDatagram d → part.old ≡ spelling more d
             → header ≡ header_of more d }
         ensures datagram { (more : Bool) (d : Datagram) → IsDatagram d → part.old ≡ spelling more d
-            → part.new ≡ spelling more (meets_physically self.old d).datagram }
+            → part.new ≡ spelling more (meets_addressed role adp self.old d).datagram }
         ensures state { (more : Bool) (d : Datagram) → IsDatagram d → part.old ≡ spelling more d
-            → self.new ≡ (meets_physically self.old d).slave }
+            → self.new ≡ (meets_addressed role adp self.old d).slave }
     {
         let counter = read_counter(part);
-        let met = Encounter::of(header.command, header.adp(), self);
-        let added = self.access_physical_data(met.role, header.ado(), part);
-        write_adp(part, met.adp);
+        let added = self.access_physical_data(role, header.ado(), part);
+        write_adp(part, adp);
         write_counter(part, counter.wrapping_add(added));
     }
 }

@@ -1,13 +1,12 @@
-ghost use Rattle.std.specs.Prelude.{◌≡◌, ◌<◌, ◌+◌, ◌%◌, if◌then◌else◌};
-ghost use Rattle.ec_slave.specs.Roles.{adp_after, role_of};
-ghost use Rattle.ec_slave.specs.State.{station_of};
-ghost use Rattle.ec_slave.specs.declared.role.Encounter.{Encounter};
+ghost use Rattle.std.specs.Prelude.{◌≡◌, ◌+◌, ◌%◌, if◌then◌else◌};
+ghost use Rattle.ec_slave.specs.Encounters.{encounter_of};
+ghost use Rattle.ec_slave.specs.declared.role.Encounter.TheVariants.{Physical};
 ghost use Rattle.ec_slave.specs.declared.role.Role.TheVariants.{Nothing, Read, Write};
 
 use crate::slave::Slave;
 use ec_frame::Command;
 
-/// What a slave does with the data of a physical datagram.
+/// What a slave does with the data of a datagram.
 #[derive(Clone, Copy, Debug, PartialEq, Eq)]
 pub(crate) enum Role {
     /// It lets the datagram pass.
@@ -39,42 +38,48 @@ impl Role {
 
     /// In this role, and the ADP stays.
     fn leaving(self, adp: u16) -> Encounter
-        ensures { result ≡ record { role = self; adp = adp } }
+        ensures { result ≡ Physical self adp }
     {
-        Encounter { role: self, adp }
+        Encounter::Physical { role: self, adp }
     }
 
     /// In this role, and the slave is counted.
     fn counting(self, adp: u16) -> Encounter
-        ensures { result ≡ record { role = self; adp = (adp + 1) % 65536 } }
+        ensures { result ≡ Physical self ((adp + 1) % 65536) }
     {
-        Encounter {
+        Encounter::Physical {
             role: self,
             adp: adp.wrapping_add(1),
         }
     }
 }
 
-/// How a physical datagram meets a slave.
+/// How a datagram meets a slave.
 #[derive(Clone, Copy)]
-pub(crate) struct Encounter {
-    /// What the slave does with its data.
-    pub role: Role,
-    /// The ADP with which it leaves.
-    pub adp: u16,
+pub(crate) enum Encounter {
+    /// It passes as it came.
+    Passing,
+    /// By an address of the memory.
+    Physical {
+        /// What the slave does with its data.
+        role: Role,
+        /// The ADP with which it leaves.
+        adp: u16,
+    },
+    /// Through the FMMUs, in this role.
+    Logical(Role),
 }
 
 impl Encounter {
     /// How a datagram with this command and ADP meets a slave, by the table of commands (ETG.1000.4, "EtherCAT
-    /// commands"): each slave counts a position, reached or not, and a station's number stays. Only a command that names a
-    /// station asks for the slave's address.
+    /// commands"): each slave counts a position, reached or not, and a station's number stays; a slave whose type takes
+    /// no part in LRW lets it pass. Only a command that names a station asks for the slave's address.
+    #[inline]
     pub fn of(command: Command, adp: u16, slave: &Slave) -> Encounter
-        ensures role { result.role ≡ role_of command adp (station_of slave.now) }
-        ensures adp { result.adp ≡ adp_after command adp }
-        ensures word { result.adp < 65536 }
+        ensures { result ≡ encounter_of command adp slave.now }
     {
         match command {
-            Command::Nop | Command::Lrd | Command::Lwr | Command::Lrw => Role::Nothing.leaving(adp),
+            Command::Nop => Encounter::Passing,
             Command::Aprd => Role::Read.only_if(adp == 0).counting(adp),
             Command::Apwr => Role::Write.only_if(adp == 0).counting(adp),
             Command::Aprw => Role::ReadWrite.only_if(adp == 0).counting(adp),
@@ -90,6 +95,15 @@ impl Encounter {
             Command::Brd => Role::OrRead.counting(adp),
             Command::Bwr => Role::Write.counting(adp),
             Command::Brw => Role::OrReadWrite.counting(adp),
+            Command::Lrd => Encounter::Logical(Role::Read),
+            Command::Lwr => Encounter::Logical(Role::Write),
+            Command::Lrw => {
+                if slave.dictionary.kind().lrw() {
+                    Encounter::Logical(Role::ReadWrite)
+                } else {
+                    Encounter::Passing
+                }
+            }
             Command::Armw => Role::read_or_write(adp == 0).counting(adp),
             Command::Frmw => Role::read_or_write(adp == slave.station_address()).leaving(adp),
         }

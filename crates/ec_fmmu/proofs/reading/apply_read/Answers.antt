@@ -11,13 +11,13 @@ use Rattle.ec_fmmu.proofs.reading.apply_read.Goals as goal
 pub loop-place-init : goal.loop-place-init
 loop-place-init g c =
     record {
-      bits = telling_none _ _ _ (λ i d. absurd (none_passed c.args.table.now (λ f. reads_to f (c.args.from + i)) d));
-      any = counted_none _ _ _ (λ i d. absurd (none_passed c.args.table.now (λ f. reads_to f (c.args.from + i)) d));
+      bits = telling_none _ _ _ (λ i d. absurd (none_passed c.args.fmmus.now (λ f. reads_to f (c.args.from + i)) d));
+      any = counted_none _ _ _ (λ i d. absurd (none_passed c.args.fmmus.now (λ f. reads_to f (c.args.from + i)) d));
     }
 
 pub loop-place-preserved : goal.loop-place-preserved
 loop-place-preserved g c =
-    let fs = c.args.table.now in
+    let fs = c.args.fmmus.now in
     let from = c.args.from in
     let n = c.loop-place.place in
     let f = read_told fs (g.M.ReadableBits.shown c.args.memory.now) from in
@@ -44,7 +44,7 @@ loop-place-preserved g c =
 
 pub returns-clause-bits : goal.returns-clause-bits
 returns-clause-bits g c =
-    let fs = c.args.table.now in
+    let fs = c.args.fmmus.now in
     let from = c.args.from in
     let n = c.loop-place.place in
     let shown = g.M.ReadableBits.shown c.args.memory.now in
@@ -56,7 +56,7 @@ returns-clause-bits g c =
 
 pub returns-clause-any : goal.returns-clause-any
 returns-clause-any g c =
-    let fs = c.args.table.now in
+    let fs = c.args.fmmus.now in
     let from = c.args.from in
     let n = c.loop-place.place in
     let shown = g.M.ReadableBits.shown c.args.memory.now in

@@ -7,8 +7,8 @@ use Rattle.ec_fmmu.proofs.reading.apply_read.Given as goal
 
 abbrev pub invariant-loop-place : goal.invariant-loop-place
 invariant-loop-place g l =
-    let told = read_told l.table (g.M.ReadableBits.shown l.memory) l.from in
+    let told = read_told l.fmmus (g.M.ReadableBits.shown l.memory) l.from in
     record {
-      bits : Telling l.fn.bytes told (λ i. passed l.place l.table (λ f. reads_to f (l.from + i)) ≡ true) l.bytes;
-      any : Counted told (8 * length l.fn.bytes) (λ i. passed l.place l.table (λ f. reads_to f (l.from + i)) ≡ true) l.any;
+      bits : Telling l.fn.bytes told (λ i. passed l.place l.fmmus (λ f. reads_to f (l.from + i)) ≡ true) l.bytes;
+      any : Counted told (8 * length l.fn.bytes) (λ i. passed l.place l.fmmus (λ f. reads_to f (l.from + i)) ≡ true) l.any;
     }

@@ -11,7 +11,7 @@ use Rattle.ec_fmmu.proofs.reading.read_fmmu.Goals as goal
 
 pub returns-in-Closed-clause-any : goal.returns-in-Closed-clause-any
 returns-in-Closed-clause-any g c =
-    let fs = c.args.table.now in
+    let fs = c.args.fmmus.now in
     let k = c.args.place in
     let shown = g.M.ReadableBits.shown c.args.memory.now in
     let from = c.args.from in
@@ -23,7 +23,7 @@ returns-in-Closed-clause-any g c =
 
 pub returns-in-Closed-clause-bits : goal.returns-in-Closed-clause-bits
 returns-in-Closed-clause-bits g c =
-    let fs = c.args.table.now in
+    let fs = c.args.fmmus.now in
     let k = c.args.place in
     let shown = g.M.ReadableBits.shown c.args.memory.now in
     let from = c.args.from in
@@ -35,7 +35,7 @@ returns-in-Closed-clause-bits g c =
 
 pub returns-in-Alone-clause-any : goal.returns-in-Alone-clause-any
 returns-in-Alone-clause-any g c =
-    let fs = c.args.table.now in
+    let fs = c.args.fmmus.now in
     let k = c.args.place in
     let shown = g.M.ReadableBits.shown c.args.memory.now in
     let from = c.args.from in
@@ -52,7 +52,7 @@ returns-in-Alone-clause-any g c =
 
 pub returns-in-Alone-clause-bits : goal.returns-in-Alone-clause-bits
 returns-in-Alone-clause-bits g c =
-    let fs = c.args.table.now in
+    let fs = c.args.fmmus.now in
     let k = c.args.place in
     let shown = g.M.ReadableBits.shown c.args.memory.now in
     let from = c.args.from in

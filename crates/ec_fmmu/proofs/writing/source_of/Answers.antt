@@ -6,7 +6,7 @@ use Rattle.ec_fmmu.proofs.writing.source_of.Goals as goal
 
 pub returns-in-Alone-clause-pairs : goal.returns-in-Alone-clause-pairs
 returns-in-Alone-clause-pairs c =
-    let fs = c.args.table.now in
+    let fs = c.args.fmmus.now in
     let place = c.args.place in
     let from = c.args.from in
     let bits = c.args.bits in

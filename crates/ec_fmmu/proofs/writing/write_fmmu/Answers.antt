@@ -11,7 +11,7 @@ use Rattle.ec_fmmu.proofs.writing.write_fmmu.Goals as goal
 
 pub returns-in-Closed-clause-any : goal.returns-in-Closed-clause-any
 returns-in-Closed-clause-any g c =
-    let fs = c.args.table.now in
+    let fs = c.args.fmmus.now in
     let place = c.args.place in
     let allowed = g.A.WritableBytes.allowed c.args.rights.now in
     let from = c.args.from in
@@ -25,7 +25,7 @@ returns-in-Closed-clause-any g c =
 
 pub returns-in-Closed-clause-bits : goal.returns-in-Closed-clause-bits
 returns-in-Closed-clause-bits g c =
-    let fs = c.args.table.now in
+    let fs = c.args.fmmus.now in
     let place = c.args.place in
     let allowed = g.A.WritableBytes.allowed c.args.rights.now in
     let from = c.args.from in
@@ -39,7 +39,7 @@ returns-in-Closed-clause-bits g c =
 
 pub returns-in-Alone-clause-any : goal.returns-in-Alone-clause-any
 returns-in-Alone-clause-any g c =
-    let fs = c.args.table.now in
+    let fs = c.args.fmmus.now in
     let place = c.args.place in
     let allowed = g.A.WritableBytes.allowed c.args.rights.now in
     let from = c.args.from in
@@ -58,7 +58,7 @@ returns-in-Alone-clause-any g c =
 
 pub returns-in-Alone-clause-bits : goal.returns-in-Alone-clause-bits
 returns-in-Alone-clause-bits g c =
-    let fs = c.args.table.now in
+    let fs = c.args.fmmus.now in
     let place = c.args.place in
     let allowed = g.A.WritableBytes.allowed c.args.rights.now in
     let from = c.args.from in

@@ -1,7 +1,7 @@
-use Rattle.std.proofs.Common.{◌≡◌, ◌<◌, ◌∙◌, None, ap, subst, sym, arith, length, ℕ}
+use Rattle.std.proofs.Common.{◌≡◌, ◌<◌, ◌∙◌, None, ap, sym, arith, length}
 use Rattle.ec_sync.specs.Manager.{Manager}
 use Rattle.ec_slave.specs.State.{SlaveState, manager_at}
-use Rattle.ec_slave.specs.Application.{get_size, outputs_taken, with_manager}
+use Rattle.ec_slave.specs.Application.{get_size, with_manager}
 use Rattle.ec_slave.proofs.Applications.{indexed}
 use Rattle.ec_slave.proofs.WholeOutputs.{all_taken, none_taken, with_view}
 use Rattle.ec_slave.proofs.slave.Slave.app_get_all.Goals as goal
