@@ -1,13 +1,11 @@
 -- What the code computes on one byte.
-use Rattle.std.proofs.Common.{ℕ, ◌+◌, ◌-◌, ◌*◌, ◌/◌, ◌%◌, ◌^◌, ◌<◌, ◌≤◌, ◌≡◌, ◌≢◌, ◌⊎◌, true, false, sym, ◌∙◌, ap, subst, inl, inr, arith, min, max, bit_and, bit_or, List, slice_index, ◌==◌, pow_pos, if◌then◌else◌}
+use Rattle.std.proofs.Common.{ℕ, ◌+◌, ◌-◌, ◌*◌, ◌/◌, ◌%◌, ◌^◌, ◌<◌, ◌≤◌, ◌≡◌, false, sym, ◌∙◌, ap, inl, inr, arith, min, max, bit_and, bit_or, List, slice_index, pow_pos, if◌then◌else◌}
 use Rattle.std.proofs.lemmas.Nat.{shr-shr, shr_split, mod_below}
-use Rattle.std.proofs.lemmas.Bool.Decides.{nat_tests}
 use Rattle.ec_bits.proofs.AnyLaws.{if_true, if_false, within_true, within_below, within_above}
-use Rattle.std.specs.Int.{bit_at, bit_not, from_bool}
-use Rattle.std.proofs.lemmas.Nat.Bits.{bit_at_set_same, bit_at_set_other, bit_at_clear_same, bit_at_clear_other, same_from_bits, bit_at_above, bit_at_and, bit_at_or, bit_at_not, bit_at-lt, bit_at-zero, bit_at_cat_low, bit_at_cat_high, bit_at_ones, bit_at_ones_above, ones_shr}
-use Rattle.std.proofs.lemmas.Bool.{cases_eq, cases_lt, eq-eqb, ne_eqb}
-use Rattle.ec_bits.specs.Bits.{bytes_touched}
-use Rattle.ec_bits.specs.Bits.{with_bit, bit, within}
+use Rattle.std.specs.Int.{bit_at, from_bool}
+use Rattle.std.proofs.lemmas.Nat.Bits.{bit_at_and, bit_at_or, bit_at_not, bit_at-lt, bit_at-zero, bit_at_cat_low, bit_at_cat_high, bit_at_ones, bit_at_ones_above, ones_shr}
+use Rattle.std.proofs.lemmas.Bool.{cases_lt}
+use Rattle.ec_bits.specs.Bits.{bit, within}
 use Rattle.ec_bits.proofs.BitLaws.{bit_number}
 use Rattle.std.specs.Int.{w8}
 

@@ -1,5 +1,5 @@
 -- A mailbox gives each message once: what each operation does to the message that is there, and then whole runs.
-use Rattle.std.proofs.Common.{ℕ, ◌+◌, ◌&&◌, ◌≡◌, ◌⊎◌, inl, inr, List, [], ◌∷◌, ◌++◌, length, Bool, true, false, if◌then◌else◌, nat_le, Option, Some, None, is_some, is_none, unwrap_or, option_map, refl, sym, ap, subst}
+use Rattle.std.proofs.Common.{ℕ, ◌&&◌, ◌≡◌, ◌⊎◌, inl, inr, List, [], ◌∷◌, ◌++◌, length, Bool, true, false, if◌then◌else◌, nat_le, Option, Some, None, is_some, is_none, unwrap_or, option_map, refl, sym, ap, subst}
 use Rattle.ec_regs.specs.Managers.{is_mailbox, is_ring_written, is_ring_read}
 use Rattle.ec_sync.specs.Buffer.{Buffer, Got, app_written, publishing}
 use Rattle.ec_sync.specs.Manager.{Manager, no_manager, may_app_put, app_got, after_get, is_enabled, padded}

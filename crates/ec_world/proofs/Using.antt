@@ -1,5 +1,5 @@
 -- Slots of which all from some number on are free: the first ones tell what all do.
-use Rattle.std.proofs.Common.{ℕ, zero, suc, ◌+◌, ◌-◌, ◌≤◌, ◌<◌, ◌≡◌, ◌&&◌, Bool, true, false, cond, nat_lt, List, [], ◌∷◌, length, get_or, take, Option, Some, None, is_none, option_map, refl, sym, ◌∙◌, ap, arith, position}
+use Rattle.std.proofs.Common.{ℕ, zero, suc, ◌+◌, ◌-◌, ◌≤◌, ◌<◌, ◌≡◌, Bool, true, false, cond, nat_lt, List, [], ◌∷◌, length, get_or, take, Option, Some, None, is_none, option_map, refl, sym, ◌∙◌, ap, arith, position}
 use Rattle.std.proofs.lemmas.Bool.{lt-ltb, le-ltb, ltb-true, ltb-false}
 use Rattle.std.specs.List.{count_by, fold, position_or_len}
 use Rattle.ec_world.specs.declared.progress.Progress.{Progress}

@@ -1,4 +1,4 @@
-use Rattle.std.proofs.Common.{◌*◌, ◌≡◌, length}
+use Rattle.std.proofs.Common.{◌*◌, ◌≡◌}
 use Rattle.ec_bits.specs.Bits.{copied}
 use Rattle.ec_bits.proofs.by_words.shift_over.Given as goal
 
