@@ -13,6 +13,3 @@ pub use crate::machine::Al;
 pub use crate::state::State;
 pub use crate::status_code::StatusCode;
 pub use crate::transition::{Checks, Requested};
-
-#[cfg(test)]
-mod tests;

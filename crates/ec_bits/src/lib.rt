@@ -10,8 +10,6 @@ mod by_words;
 mod copying;
 mod fields;
 pub mod laws;
-#[cfg(test)]
-mod tests;
 
 ghost use Rattle.std.specs.Prelude.{◌≡◌, ◌<◌, ◌*◌, length, is_some};
 ghost use Rattle.ec_bits.specs.Bits.{bit, put as with_put, put_told as with_put_told, within as is_within};

@@ -17,8 +17,6 @@ mod matching;
 mod renewing;
 mod report;
 mod run;
-#[cfg(test)]
-mod tests;
 
 pub use crate::error::CycleError;
 pub use crate::master::Master;

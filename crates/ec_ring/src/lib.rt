@@ -7,6 +7,3 @@ mod ring;
 
 pub use crate::error::NotAFrame;
 pub use crate::ring::Ring;
-
-#[cfg(test)]
-mod tests;

@@ -6,6 +6,3 @@ pub mod laws;
 mod turns;
 
 pub use crate::turns::bring_up;
-
-#[cfg(test)]
-mod tests;

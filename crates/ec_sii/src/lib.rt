@@ -9,6 +9,3 @@ mod port;
 
 pub use crate::image::Image;
 pub use crate::port::Port;
-
-#[cfg(test)]
-mod tests;

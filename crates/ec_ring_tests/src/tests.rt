@@ -1,6 +1,6 @@
 //! Frames past rings of slaves that were just switched on.
-use crate::{NotAFrame, Ring};
 use ec_regs::{Identity, SlaveType};
+use ec_ring::{NotAFrame, Ring};
 use ec_slave::Slave;
 use std::alloc::{AllocError, Global};
 use std::process::Abort;

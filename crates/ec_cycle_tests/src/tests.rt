@@ -5,7 +5,7 @@ use self::steps::Step::{
     Begins, Closes, Denied, Foreign, Keeps, Next, NotOpen, Reads, Ready, Refused, Sends, Sets,
 };
 use self::steps::expect_steps;
-use crate::CycleError;
+use ec_cycle::CycleError;
 use ec_link::Predicted::{Lrw, Split};
 use std::test::Fail;
 

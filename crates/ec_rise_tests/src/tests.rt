@@ -1,11 +1,11 @@
 //! Start-ups of three real slaves.
 
-use crate::bring_up;
 use crate::tests::table::{OTHER_PDO, SHORT_ENTRY, THREE_SLAVES};
 use ec_frame::Frame;
 use ec_link::{Plan, compile};
 use ec_regs::{Device, Identity};
 use ec_ring::Ring;
+use ec_rise::bring_up;
 use ec_slave::Slave;
 use ec_start::{NextFrame, Phase, StartError, Startup, Taken};
 use ec_table::read_table;

@@ -2,7 +2,7 @@
 ghost use Rattle.std.specs.Prelude.{IfOk};
 ghost use Rattle.ec_link.specs.Usable.{IsUsable};
 
-use crate::{CycleError, Master, Report, Taken};
+use ec_cycle::{CycleError, Master, Report, Taken};
 use ec_link::{Plan, Predicted, compile};
 use ec_table::read_table;
 use std::alloc::Global;

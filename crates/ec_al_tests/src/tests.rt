@@ -1,4 +1,4 @@
-use crate::{Al, Checks, State};
+use ec_al::{Al, Checks, State};
 use std::process::Abort;
 
 const PASSED: Checks = Checks {

@@ -1,5 +1,5 @@
-use crate::{Image, Port};
 use ec_regs::{Identity, Mailbox};
+use ec_sii::{Image, Port};
 use std::process::Abort;
 
 const IDENTITY: Identity = Identity {

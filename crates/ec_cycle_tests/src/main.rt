@@ -1,0 +1,7 @@
+//! Cycles of a master, by its public calls.
+#![tactic(auto)]
+
+#[cfg(test)]
+mod tests;
+
+fn main() {}

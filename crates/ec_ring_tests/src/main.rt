@@ -1,0 +1,7 @@
+//! Frames past several slaves, by the public calls of `ec_ring`.
+#![tactic(auto)]
+
+#[cfg(test)]
+mod tests;
+
+fn main() {}
