@@ -68,13 +68,26 @@ abbrev pub EndsAlone : {R A : Type 0} → Result Request Notice → (input_old i
 EndsAlone (Ok request) input_old input_new app_old app_new = LeavesAlone (command_of request) input_old input_new app_old app_new
 EndsAlone (Err told) input_old input_new app_old app_new = (input_new ≡ input_old) × (app_new ≡ app_old)
 
+-- what a command leaves of the input: all of it, where it reads none
+abbrev pub LeavesInput : {R : Type 0} → Command → (old new : R) → Type 0
+LeavesInput (PassOf slaves text) old new = new ≡ old
+LeavesInput (PlanOf explained) old new = Unit {0}
+LeavesInput SimOf old new = Unit {0}
+LeavesInput (LoopOf cycles) old new = Unit {0}
+LeavesInput (SegmentOf frames port) old new = Unit {0}
+
+-- what a run leaves of it: all, too, where there is something to tell in place of a command
+abbrev pub EndsUnread : {R : Type 0} → Result Request Notice → (old new : R) → Type 0
+EndsUnread (Ok request) old new = LeavesInput (command_of request) old new
+EndsUnread (Err told) old new = new ≡ old
+
 -- what is told where an argument isn't text
 abbrev pub not_text : List ℕ
 not_text = codes "error: an argument of the command line isn't text" ++ 10 ∷ []
 
 -- how a run ends whose arguments the system gives: as with some arguments; or, where they can't be read, with nothing
--- printed, and what is told in its place
-abbrev pub EndsSomehow : (given : Option (List ℕ)) → (output faults : Stream) → ℕ → Type 0
-EndsSomehow given output faults status =
-    ((args : List (List ℕ)) × (read : Result Request Notice) × Reads args read × Ends read given output faults status)
-    ⊎ ((output.new ≡ output.old) × (Tells faults status (Err Memory) ⊎ ((status ≡ 2) × AppendsPart faults.old faults.new not_text)))
+-- read or printed, and what is told in its place
+abbrev pub EndsSomehow : {R : Type 0} → (given : Option (List ℕ)) → (input_old input_new : R) → (output faults : Stream) → ℕ → Type 0
+EndsSomehow given input_old input_new output faults status =
+    ((args : List (List ℕ)) × (read : Result Request Notice) × Reads args read × Ends read given output faults status × EndsUnread read input_old input_new)
+    ⊎ ((input_new ≡ input_old) × (output.new ≡ output.old) × (Tells faults status (Err Memory) ⊎ ((status ≡ 2) × AppendsPart faults.old faults.new not_text)))

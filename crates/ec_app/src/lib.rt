@@ -27,4 +27,4 @@ pub use crate::sim::{identities_of, print_sim};
 pub use ec_rise::bring_up;
 pub use ec_script::{Act, Line, ScriptError, read_script, run_line};
 pub use ec_text::plan_text;
-pub use ec_wire::App;
+pub use ec_wire::{App, MemoryWire, UdpWire, bring_up_wire, serve_segment};

@@ -29,7 +29,7 @@ pub fn run_program<H: Env + AllocGlobal + Net, R: Read, W: Write, F: Write>(
     output: &mut W,
     faults: &mut F,
 ) -> u8
-    ensures ends { EndsSomehow (R.remaining input.old)
+    ensures ends { EndsSomehow (R.remaining input.old) input.old input.new
         (record { old = W.contents output.old; new = W.contents output.new })
         (record { old = F.contents faults.old; new = F.contents faults.new }) result }
     ensures status { Contains (0 ∷ 2 ∷ 3 ∷ 4 ∷ []) result }

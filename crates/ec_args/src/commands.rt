@@ -95,6 +95,9 @@ Lines of a script:
   cycle           a cycle is run: begin, each frame past all slaves and back, close
   show            the input variables are printed
 
+An event that can't be made prints `no` and the line's number. The end of a start-up prints `ready`,
+or `failed` and the number of its refusal, which `ecat loop --help` lists.
+
 Refusals are those of `ecat plan` and
   39 BadScript LINE  a line is none of these; LINE counts from 1 behind the line `%%`";
 
@@ -109,10 +112,22 @@ Lines, in this order:
                      working counters of each part, and the slaves' AL states
   NAME VALUE         for each input variable: its value at the end
 
-Refusals are those of `ecat plan`, of the start-up, and
-  32 Lost            a socket was faulty in the start-up
-  37 Wire            a socket was faulty in a cycle; exit status 4
-  43 Socket          there is no such socket; exit status 4";
+Refusals are those of `ecat plan` and, of the start-up and the cycles,
+   9 BadMailbox SLAVE      what the slave's mailbox held is no reply to the request
+  26 Count SEEN            SEEN slaves are there, and not as many as the table has
+  27 Identity SLAVE VENDOR PRODUCT REVISION
+                           the slave is another device than its type says
+  28 Counter STEP          a frame came back with another working counter than it must have
+  29 AlError SLAVE CODE    the slave refused a state, and shows this AL status code
+  30 Abort SLAVE CODE      the slave aborted a transfer with this code
+  31 TooSlow STEP          a wait wasn't over after 1000 polls
+  32 Lost                  a socket was faulty in the start-up
+  36 NumbersSpent          no frame number is left
+  37 Wire                  a socket was faulty in a cycle; exit status 4
+  38 Mapping SLAVE INDEX SUBINDEX SEEN
+                           an object of the slave's PDO mapping holds SEEN, and not what its
+                           type says
+  43 Socket                there is no such socket; exit status 4";
 
 /// What stands below the arguments of `ecat segment`.
 const SEGMENT_LINES: &str = "\
