@@ -3,7 +3,7 @@
 use Rattle.std.proofs.Common.{ℕ, zero, suc, ◌+◌, ◌<◌, ◌≤◌, ◌≡◌, ◌≢◌, ◌⊎◌, ◌==◌, ◌&&◌, not, Bool, true, false, Option, Some, None, refl, sym, ◌∙◌, ap, subst, inl, inr, arith, List, [], ◌∷◌, ◌++◌, length, map, get_or, set, is_none, if◌then◌else◌, option_map, unwrap_or, slice_get, get_or-set_same, get_or-set_other, length-set}
 use Rattle.std.specs.List.{list_all}
 use Rattle.std.proofs.lemmas.Bool.{cases_Bool, cases_eq, and_parts, and_from, eqb-true, eq-eqb}
-use Rattle.std.proofs.lemmas.List.{length-map}
+use Rattle.std.proofs.lemmas.List.{length-map, append-nil, append_assoc}
 use Rattle.ec_bits.proofs.AnyLaws.{if_true, if_false}
 use Rattle.ec_link.specs.Meaning.{Meaning, share_of}
 use Rattle.ec_link.specs.Shares.{unit_of_part}
@@ -35,6 +35,29 @@ run_keeps R m ok h p (e ∷ es) all r = run_keeps R m ok h (unwrap_or (step m p 
     one None q = r
     one (Some x) q = h p e x (and_parts (ok e) (list_all ok es) all).0 q r
 
+-- two runs, one after the other
+run_joins : (m : Meaning) (p : Plain) (xs ys : List Event) → (run m p (xs ++ ys)).plain ≡ (run m (run m p xs).plain ys).plain
+run_joins m p [] ys = refl
+run_joins m p (x ∷ xs) ys = run_joins m (unwrap_or (step m p x) p) xs ys
+
+-- what each event of a run keeps, told with the events before it, the run keeps
+pub run_tells : (R : List Event → Plain → Type 0) (m : Meaning) (p : Plain) (es : List Event)
+    → ((before behind : List Event) (e : Event) (q : Plain) → es ≡ before ++ (e ∷ behind) → step m (run m p before).plain e ≡ Some q → R before (run m p before).plain → R (before ++ (e ∷ [])) q)
+    → ((before : List Event) (e : Event) → R before (run m p before).plain → R (before ++ (e ∷ [])) (run m p before).plain)
+    → R [] p → R es (run m p es).plain
+run_tells R m p es made idle first = go [] es refl first
+  where
+    go : (done rest : List Event) → es ≡ done ++ rest → R done (run m p done).plain → R es (run m p es).plain
+    go done [] is r = subst (λ (xs : List Event). R xs (run m p xs).plain) (sym (is ∙ append-nil done)) r
+    go done (e ∷ rest) is r = go (done ++ (e ∷ [])) rest (is ∙ sym (append_assoc done (e ∷ []) rest)) (one (step m (run m p done).plain e) refl)
+      where
+        at : (run m p (done ++ (e ∷ []))).plain ≡ unwrap_or (step m (run m p done).plain e) (run m p done).plain
+        at = run_joins m p done (e ∷ [])
+
+        one : (o : Option Plain) → step m (run m p done).plain e ≡ o → R (done ++ (e ∷ [])) (run m p (done ++ (e ∷ []))).plain
+        one None q = subst (R (done ++ (e ∷ []))) (sym (at ∙ ap (λ o. unwrap_or o (run m p done).plain) q)) (idle done e r)
+        one (Some x) q = subst (R (done ++ (e ∷ []))) (sym (at ∙ ap (λ o. unwrap_or o (run m p done).plain) q)) (made done rest e x is q r)
+
 any_event : Event → Bool
 any_event e = true
 
@@ -46,7 +69,7 @@ all_any (e ∷ es) = all_any es
 -- ---- frames in slots
 
 -- a slot of the filled ones has one of the new frames, or what it had
-filled_has : {X : Type 0} (R : X → Type 0) (fs : List X) (os : List (Option X)) → ((i : ℕ) (x : X) → slice_get fs i ≡ Some x → R x)
+pub filled_has : {X : Type 0} (R : X → Type 0) (fs : List X) (os : List (Option X)) → ((i : ℕ) (x : X) → slice_get fs i ≡ Some x → R x)
     → ((k : ℕ) (x : X) → get_or os k None ≡ Some x → R x) → (k : ℕ) (x : X) → get_or (filled fs os) k None ≡ Some x → R x
 filled_has R fs [] new old k x e = absurd (none_some x e)
 filled_has R [] (o ∷ os) new old k x e = old k x e
@@ -56,7 +79,7 @@ filled_has R (f ∷ fs) (Some g ∷ os) new old zero x e = old 0 x e
 filled_has R (f ∷ fs) (Some g ∷ os) new old (suc k) x e = filled_has R (f ∷ fs) os new (λ i y q. old (suc i) y q) k x e
 
 -- and where there is room, each of the new frames has a slot
-filled_holds : {X : Type 0} (fs : List X) (os : List (Option X)) (i : ℕ) (x : X) → length fs ≤ nones os → slice_get fs i ≡ Some x → (k : ℕ) × (get_or (filled fs os) k None ≡ Some x)
+pub filled_holds : {X : Type 0} (fs : List X) (os : List (Option X)) (i : ℕ) (x : X) → length fs ≤ nones os → slice_get fs i ≡ Some x → (k : ℕ) × (get_or (filled fs os) k None ≡ Some x)
 filled_holds [] os i x room e = absurd (none_some x e)
 filled_holds (f ∷ fs) [] i x room e = absurd (omega (arith, room))
 filled_holds (f ∷ fs) (None ∷ os) zero x room e = (0, e)
@@ -69,7 +92,7 @@ pub record IsNew (number : ℕ) (image : List ℕ) (f : PlainFrame) : Type 0 whe
   pub snapshot : f.snapshot ≡ image
   pub notes : f.notes ≡ []
 
-new_one : (number k : ℕ) (image us : List ℕ) (i : ℕ) (f : PlainFrame) → slice_get (new_frames number image k us) i ≡ Some f → IsNew number image f
+pub new_one : (number k : ℕ) (image us : List ℕ) (i : ℕ) (f : PlainFrame) → slice_get (new_frames number image k us) i ≡ Some f → IsNew number image f
 new_one number k image [] i f e = absurd (none_some f e)
 new_one number k image (u ∷ us) zero f e = subst (λ (x : PlainFrame). IsNew number image x) (some_same _ f e) (record { number_is = refl; snapshot = refl; notes = refl })
 new_one number k image (u ∷ us) (suc i) f e = new_one number (k + 1) image us i f e
@@ -85,7 +108,7 @@ as_many number k image [] = refl
 as_many number k image (u ∷ us) = ap (λ (n : ℕ). suc n) (as_many number (k + 1) image us)
 
 -- the slots after one was set
-set_has : {X : Type 0} (R : X → Type 0) (os : List (Option X)) (j : ℕ) (o : Option X) → ((x : X) → o ≡ Some x → R x) → ((k : ℕ) (x : X) → get_or os k None ≡ Some x → R x)
+pub set_has : {X : Type 0} (R : X → Type 0) (os : List (Option X)) (j : ℕ) (o : Option X) → ((x : X) → o ≡ Some x → R x) → ((k : ℕ) (x : X) → get_or os k None ≡ Some x → R x)
     → (k : ℕ) (x : X) → get_or (set os j o) k None ≡ Some x → R x
 set_has R [] j o own old k x e = old k x e
 set_has R (u ∷ os) zero o own old zero x e = own x e
@@ -101,11 +124,10 @@ pub record Carry (number : ℕ) (image : List ℕ) (p : Plain) : Type 0 where
   pub below : (k : ℕ) (f : PlainFrame) → frame_at p k ≡ Some f → f.number < p.next
   pub same : (k : ℕ) (f : PlainFrame) → frame_at p k ≡ Some f → f.number ≡ number → f.snapshot ≡ image
 
-pub AreBelow : Plain → Type 0
+abbrev pub AreBelow : Plain → Type 0
 AreBelow p = (k : ℕ) (f : PlainFrame) → frame_at p k ≡ Some f → f.number < p.next
 
 below_step : (m : Meaning) (p : Plain) (e : Event) (q : Plain) → any_event e ≡ true → step m p e ≡ Some q → AreBelow p → AreBelow q
-unfolding AreBelow
 below_step m p e q ok h b = by (leaves m p e q h)
   where
     by : Leaves m p e q → (k : ℕ) (f : PlainFrame) → frame_at q k ≡ Some f → f.number < q.next
@@ -116,7 +138,7 @@ below_step m p e q ok h b = by (leaves m p e q h)
         (λ i g there. let x = (new_one p.next 0 p.outputs m.parts i g there).number_is in omega (arith, x, next))
         (λ i g there. let x = b i g there in omega (arith, x, next))
         k f (ap (λ os. get_or os k None) (sym slots) ∙ at)
-    by (Moves j g there inside is) k f at =
+    by (Moves j g own there inside is) k f at =
         let next : q.next ≡ p.next = ap (λ (x : Plain). x.next) is in
         let x = set_has (λ (y : PlainFrame). y.number < p.next) p.slots j (Some (with_note g (met_note m (length g.notes) g (plain_slave p (length g.notes)))))
         (λ y own. let z = b j g there in let w = ap (λ (y : PlainFrame). y.number) (some_same _ y own) in omega (arith, z, w)) b k f (ap (λ (x : Plain). frame_at x k) (sym is) ∙ at) in
@@ -131,7 +153,6 @@ below_step m p e q ok h b = by (leaves m p e q h)
         omega (arith, x, next)
 
 same_step : (n : ℕ) (image : List ℕ) (m : Meaning) (p : Plain) (e : Event) (q : Plain) → any_event e ≡ true → step m p e ≡ Some q → Carry n image p → Carry n image q
-unfolding AreBelow
 same_step n image m p e q ok h c = by (leaves m p e q h)
   where
     R : PlainFrame → Type 0
@@ -150,7 +171,7 @@ same_step n image m p e q ok h c = by (leaves m p e q h)
         filled_has (λ (g : PlainFrame). g.number ≡ n → g.snapshot ≡ image) (new_frames p.next p.outputs 0 m.parts) p.slots
         (λ i g there own. absurd (let x = (new_one p.next 0 p.outputs m.parts i g there).number_is in let y = c.past in omega (arith, x, y, own)))
         c.same k f (ap (λ os. get_or os k None) (sym slots) ∙ at))
-    by (Moves j g there inside is) = made (let x = c.past in let next = ap (λ (x : Plain). x.next) is in omega (arith, x, next)) (λ k f at.
+    by (Moves j g own there inside is) = made (let x = c.past in let next = ap (λ (x : Plain). x.next) is in omega (arith, x, next)) (λ k f at.
         set_has (λ (y : PlainFrame). y.number ≡ n → y.snapshot ≡ image) p.slots j (Some (with_note g (met_note m (length g.notes) g (plain_slave p (length g.notes)))))
         (λ y own num. let same = some_same _ y own in sym (ap (λ (y : PlainFrame). y.snapshot) same) ∙ c.same j g there (ap (λ (y : PlainFrame). y.number) same ∙ num))
         c.same k f (ap (λ (x : Plain). frame_at x k) (sym is) ∙ at))
@@ -161,7 +182,6 @@ same_step n image m p e q ok h c = by (leaves m p e q h)
 
 -- before a cycle begins, frames have earlier numbers
 pub begun_below : (m : Meaning) (p begun : Plain) → IsBegun m p begun → AreBelow p
-unfolding AreBelow
 begun_below m p begun b = subst (λ (x : Plain). (k : ℕ) (f : PlainFrame) → frame_at x k ≡ Some f → f.number < x.next) (sym b.reached)
     (run_keeps AreBelow m any_event (below_step m) b.first b.before (all_any b.before) (λ k f at. absurd (none_some f (sym (b.no_frame k) ∙ at))))
 
@@ -170,7 +190,6 @@ begins_of : (m : Meaning) (p q : Plain) → step m p Begin ≡ Some q → Leaves
 begins_of m p q h = leaves m p Begin q h
 
 pub snapshots_law : SnapshotsLaw
-unfolding AreBelow
 snapshots_law m p begun after b = (run_keeps (Carry p.next p.outputs) m any_event (same_step p.next p.outputs m) begun after (all_any after) first).same
   where
     below : (k : ℕ) (f : PlainFrame) → frame_at p k ≡ Some f → f.number < p.next
@@ -390,7 +409,7 @@ peaceful_step number m p e q ok h c = by (leaves m p e q h)
           (λ i g there own. ap (list_all is_full) (new_one p.next 0 p.outputs m.parts i g there).notes) c.full);
       cycle = λ d is own. absurd (let n = ap (λ (x : Cycle). x.number) (some_same _ d (sym cycle ∙ is)) in let x = c.past in omega (arith, x, n, own));
     }
-    by (Moves j g there inside is) =
+    by (Moves j g own there inside is) =
         let t = length g.notes in
         let y = with_note g (met_note m t g (plain_slave p t)) in
         let good = working_full m t g (plain_slave p t) (c.working t inside) in
@@ -427,13 +446,12 @@ peaceful_step number m p e q ok h c = by (leaves m p e q h)
             let num : r.value.number ≡ number = sym (same_number r.value) ∙ (ap (λ (x : Cycle). x.number) r.is ∙ own) in
             subst (Complete number (set p.slots j None)) r.is (kept_more number p.slots j g r.value there (c.full j g there) num (c.cycle r.value r.there num))
 
-none_there : {X Y : Type 0} (xs : List X) (k : ℕ) (y : Y) → get_or (map (λ x. None) xs) k None ≡ Some y → ⊥
+pub none_there : {X Y : Type 0} (xs : List X) (k : ℕ) (y : Y) → get_or (map (λ x. None) xs) k None ≡ Some y → ⊥
 none_there [] k y e = none_some y e
 none_there (x ∷ xs) zero y e = none_some y e
 none_there (x ∷ xs) (suc k) y e = none_there xs k y e
 
 pub peaceful_begun : (m : Meaning) (p begun : Plain) → IsBegun m p begun → ((s : ℕ) → s < length p.slaves → (plain_slave p s).health ≡ Working) → Peaceful p.next begun
-unfolding AreBelow
 peaceful_begun m p begun b works = by (leaves m p Begin begun b.begins)
   where
     below : (k : ℕ) (f : PlainFrame) → frame_at p k ≡ Some f → f.number < p.next
@@ -466,7 +484,7 @@ peaceful_begun m p begun b works = by (leaves m p Begin begun b.begins)
     by (Stays slots next cycle) = absurd (let n = ap (λ (x : Plain). x.next) is in omega (arith, next, n))
     by (Closes slots next cycle) = absurd (let n = ap (λ (x : Plain). x.next) is in omega (arith, next, n))
     by (Begins slots next cycle slaves room) = made room
-    by (Moves j g there inside q) = absurd (let n = ap (λ (x : Plain). x.next) is in let o = ap (λ (x : Plain). x.next) q in omega (arith, o, n))
+    by (Moves j g own there inside q) = absurd (let n = ap (λ (x : Plain). x.next) is in let o = ap (λ (x : Plain). x.next) q in omega (arith, o, n))
     by (Loses j own q) = absurd (let n = ap (λ (x : Plain). x.next) is in let o = ap (λ (x : Plain). x.next) q in omega (arith, o, n))
     by (Returns j g there q) = absurd (let n = ap (λ (x : Plain). x.next) is in let o = ap (λ (x : Plain). x.next) q in omega (arith, o, n))
 

@@ -33,5 +33,6 @@ pub mod Turning
 pub mod Promising
 pub mod Tracing
 pub mod Histories
+pub mod Published
 pub mod Accepted
 pub mod Newly

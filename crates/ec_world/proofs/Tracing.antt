@@ -44,7 +44,7 @@ pub data Leaves (m : Meaning) (p : Plain) (e : Event) (q : Plain) : Type 0 where
   Stays : q.slots ≡ p.slots → q.next ≡ p.next → q.cycle ≡ p.cycle → Leaves m p e q
   Begins : q.slots ≡ filled (new_frames p.next p.outputs 0 m.parts) p.slots → q.next ≡ p.next + 1
       → q.cycle ≡ Some (record { number = p.next; kept = map (λ u. None) m.parts }) → q.slaves ≡ p.slaves → length m.parts ≤ nones p.slots → Leaves m p e q
-  Moves : (k : ℕ) (f : PlainFrame) → frame_at p k ≡ Some f → length f.notes < length p.slaves → q ≡ moved m p k f → Leaves m p e q
+  Moves : (k : ℕ) (f : PlainFrame) → e ≡ Pass k → frame_at p k ≡ Some f → length f.notes < length p.slaves → q ≡ moved m p k f → Leaves m p e q
   Loses : (k : ℕ) → e ≡ Lose k → q ≡ record p { slots = set p.slots k None } → Leaves m p e q
   Returns : (k : ℕ) (f : PlainFrame) → frame_at p k ≡ Some f → q ≡ record p { cycle = option_map (keeping f) p.cycle; slots = set p.slots k None } → Leaves m p e q
   Closes : q.slots ≡ p.slots → q.next ≡ p.next → q.cycle ≡ None → Leaves m p e q
@@ -74,7 +74,7 @@ leaves m p Begin q e =
     room false off h = absurd (none_some q h)
 leaves m p (Pass k) q e =
     let r = guarded_map _ (moved m p k) (frame_at p k) q e in
-    Moves k r.value r.there (inside (may_pass (length p.slaves) (all_progress p.slots) (option_map progress_of (frame_at p k))) refl e r.value r.there) (sym r.is)
+    Moves k r.value refl r.there (inside (may_pass (length p.slaves) (all_progress p.slots) (option_map progress_of (frame_at p k))) refl e r.value r.there) (sym r.is)
   where
     inside : (b : Bool) → may_pass (length p.slaves) (all_progress p.slots) (option_map progress_of (frame_at p k)) ≡ b
         → (if b then option_map (moved m p k) (frame_at p k) else None) ≡ Some q → (f : PlainFrame) → frame_at p k ≡ Some f → length f.notes < length p.slaves

@@ -1,6 +1,6 @@
 -- What a user is promised, in words of the image, the links and the values of slaves. It is proved of every world that shows a
 -- plain state, so of every world from the step on that makes it Ready.
-use Rattle.std.specs.Prelude.{ℕ, not, ◌*◌, ◌<◌, ◌≡◌, ◌≢◌, ◌⊎◌, ◌==◌, ◌&&◌, ◌||◌, List, length, map, get_or, Bool, true, false, if◌then◌else◌, Some, None, slice_get}
+use Rattle.std.specs.Prelude.{ℕ, not, ◌*◌, ◌<◌, ◌≡◌, ◌≢◌, ◌⊎◌, ◌==◌, ◌&&◌, ◌||◌, List, ◌∷◌, ◌++◌, length, map, get_or, Bool, true, false, if◌then◌else◌, Some, None, slice_get}
 use Rattle.std.specs.List.{list_all}
 use Rattle.ec_bits.specs.Bits.{bit, bytes_of_bits}
 use Rattle.ec_slave.specs.Exchange.{with_outputs}
@@ -121,6 +121,34 @@ abbrev pub SnapshotsLaw : Type 0
 SnapshotsLaw =
     (m : Meaning) (p begun : Plain) (after : List Event) → IsBegun m p begun
     → (k : ℕ) (f : PlainFrame) → frame_at (run m begun after).plain k ≡ Some f → f.number ≡ p.next → f.snapshot ≡ p.outputs
+
+-- As the frame of part k of the cycle with this number passed slave s, it noted n. That pass is one of the events since the
+-- cycle began, and the note is of the slave as it stood then: of a slave that gave its whole share it is what it published.
+pub record IsNotedAt (m : Meaning) (begun : Plain) (number : ℕ) (after : List Event) (k s : ℕ) (n : Note) : Type 0 where
+  -- the pass, and the events before and behind it
+  pub before : List Event
+  pub slot : ℕ
+  pub behind : List Event
+  pub split : after ≡ before ++ (Pass slot ∷ behind)
+  -- it was made, by the frame in its slot
+  pub next : Plain
+  pub made : step m (run m begun before).plain (Pass slot) ≡ Some next
+  pub frame : PlainFrame
+  pub there : frame_at (run m begun before).plain slot ≡ Some frame
+  pub number_is : frame.number ≡ number
+  pub part_is : frame.part ≡ k
+  pub meets : next_slave frame ≡ s
+  -- and this is the note
+  pub is : n ≡ met_note m s frame (plain_slave (run m begun before).plain s)
+  pub published : (v : List ℕ) → n ≡ Full v → v ≡ (plain_slave (run m begun before).plain s).inputs.published
+
+-- What an open cycle keeps of a slave was noted as the frame of its part passed the slave, since the cycle began.
+abbrev pub PublishedLaw : Type 0
+PublishedLaw =
+    (m : Meaning) (p begun : Plain) (after : List Event) (c : Cycle) → IsBegun m p begun
+    → (run m begun after).plain.cycle ≡ Some c → c.number ≡ p.next
+    → (k s : ℕ) (notes : List Note) (n : Note) → get_or c.kept k None ≡ Some notes → slice_get notes s ≡ Some n
+    → IsNotedAt m begun p.next after k s n
 
 -- A slave in OP stays there until it has a fault or is reset.
 abbrev pub WorkingLaw : Type 0

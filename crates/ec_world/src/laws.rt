@@ -3,7 +3,7 @@ ghost use Rattle.ec_world.specs.Laws.{RoundTrip, CycleLaw, StepsShow, RunsShow, 
 ghost use Rattle.ec_world.specs.Whole.{WholeLaw, CompiledLaw};
 ghost use Rattle.ec_world.specs.Example.{AcceptedLaw};
 ghost use Rattle.ec_world.specs.NewWorld.{NewUpLaw, NewRunLaw};
-ghost use Rattle.ec_world.specs.Promises.{OutputsLaw, SnapshotsLaw, NotesLaw, InputsLaw, WorkingLaw, TakenLaw};
+ghost use Rattle.ec_world.specs.Promises.{OutputsLaw, SnapshotsLaw, NotesLaw, InputsLaw, PublishedLaw, WorkingLaw, TakenLaw};
 
 /// A cyclic frame that passes a slave in OP gives its outputs exactly the linked bits of the image that it was made of, and 0
 /// elsewhere; it changes nothing else of the slave, no other slave and nothing of the image.
@@ -30,6 +30,12 @@ pub fn notes_are_published()
 #[tactic(auto, using(crate::proofs::Promising::inputs_law))]
 pub fn inputs_are_linked()
     ensures { InputsLaw }
+{}
+
+/// What a cycle keeps of a slave was noted as the frame of the slave's part passed it, in an event since this cycle began: where
+/// the slave gave its whole share, these are the inputs that it published at that moment.
+pub fn notes_are_of_their_pass()
+    ensures { PublishedLaw }
 {}
 
 /// A slave in OP stays there until it has a fault or is reset.
