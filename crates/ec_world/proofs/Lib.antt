@@ -34,5 +34,6 @@ pub mod Promising
 pub mod Tracing
 pub mod Histories
 pub mod Published
+pub mod Quiet
 pub mod Accepted
 pub mod Newly

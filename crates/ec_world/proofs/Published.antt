@@ -11,7 +11,7 @@ use Rattle.ec_world.specs.Plain.{Plain, PlainFrame, Note, Full, Cycle, step, run
 use Rattle.ec_world.specs.Promises.{IsBegun, IsNotedAt, PublishedLaw}
 use Rattle.ec_world.proofs.Tracing.{mapped, guarded, Leaves, Stays, Begins, Moves, Loses, Returns, Closes, leaves}
 use Rattle.ec_world.proofs.Promising.{notes_law}
-use Rattle.ec_world.proofs.Histories.{run_tells, begun_below, filled_has, new_one, set_has, none_there}
+use Rattle.ec_world.proofs.Histories.{run_tells, begun_below, filled_has, new_one, set_has, set_at, keeping_number, none_there}
 
 none_some : {X : Type 0} (x : X) → None ≡ Some x → ⊥
 none_some x e = cc
@@ -87,15 +87,6 @@ noted_now m begun number done j q f s n made there own meets is =
       published = λ v e. (notes_law m s f (plain_slave p s)).full v (sym note ∙ e);
     }
 
--- a list after one of its elements was set
-set_at : {X : Type 0} (R : ℕ → X → Type 0) (os : List (Option X)) (j : ℕ) (x : X) → R j x → ((k : ℕ) (y : X) → get_or os k None ≡ Some y → R k y)
-    → (k : ℕ) (y : X) → get_or (set os j (Some x)) k None ≡ Some y → R k y
-set_at R [] j x new old k y e = old k y e
-set_at R (o ∷ os) zero x new old zero y e = subst (R 0) (some_same x y e) new
-set_at R (o ∷ os) zero x new old (suc k) y e = old (suc k) y e
-set_at R (o ∷ os) (suc j) x new old zero y e = old 0 y e
-set_at R (o ∷ os) (suc j) x new old (suc k) y e = set_at (λ i. R (suc i)) os j x new (λ i z q. old (suc i) z q) k y e
-
 -- a frame comes back to its own cycle
 kept_on : (R : ℕ → List Note → Type 0) (number : ℕ) (g : PlainFrame) (c : Cycle) → (g.number ≡ number → R g.part g.notes) → c.number ≡ number
     → ((k : ℕ) (notes : List Note) → get_or c.kept k None ≡ Some notes → R k notes) → (k : ℕ) (notes : List Note) → get_or (keeping g c).kept k None ≡ Some notes → R k notes
@@ -103,13 +94,6 @@ kept_on R number g c new own old k notes e = elim (cases_Bool ((g.number == c.nu
   | inl on ↦ set_at R c.kept g.part g.notes (new (eqb-true _ _ (and_parts (g.number == c.number) _ on).0 ∙ own)) old k notes (ap (λ (x : Cycle). get_or x.kept k None) (sym (if_true _ _ _ on)) ∙ e)
   | inr off ↦ old k notes (ap (λ (x : Cycle). get_or x.kept k None) (sym (if_false _ _ _ off)) ∙ e)
 ]
-
-same_number : (g : PlainFrame) (c : Cycle) → (keeping g c).number ≡ c.number
-same_number g c = go ((g.number == c.number) && is_none (get_or c.kept g.part None))
-  where
-    go : (b : Bool) → (if b then record c { kept = set c.kept g.part (Some g.notes) } else c).number ≡ c.number
-    go true = refl
-    go false = refl
 
 traced_step : (m : Meaning) (begun : Plain) (number : ℕ) (done : List Event) (e : Event) (q : Plain)
     → step m (run m begun done).plain e ≡ Some q → Traced m begun number done (run m begun done).plain → Traced m begun number (done ++ (e ∷ [])) q
@@ -176,7 +160,7 @@ traced_step m begun number done e q h c = by (leaves m p e q h)
         back : (d : Cycle) → option_map (keeping g) p.cycle ≡ Some d → d.number ≡ number → K d
         back d at own =
             let r = mapped (keeping g) p.cycle d at in
-            let num : r.value.number ≡ number = sym (same_number g r.value) ∙ (ap (λ (x : Cycle). x.number) r.is ∙ own) in
+            let num : r.value.number ≡ number = sym (keeping_number g r.value) ∙ (ap (λ (x : Cycle). x.number) r.is ∙ own) in
             subst K r.is (kept_on (AreNoted m begun number (done ++ (e ∷ []))) number g r.value (now.frames j g there) num (now.kept r.value r.there num))
 
 traced_begun : (m : Meaning) (p begun : Plain) → IsBegun m p begun → Traced m begun p.next [] begun

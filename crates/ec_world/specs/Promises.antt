@@ -1,7 +1,6 @@
 -- What a user is promised, in words of the image, the links and the values of slaves. It is proved of every world that shows a
 -- plain state, so of every world from the step on that makes it Ready.
-use Rattle.std.specs.Prelude.{ℕ, not, ◌*◌, ◌<◌, ◌≡◌, ◌≢◌, ◌⊎◌, ◌==◌, ◌&&◌, ◌||◌, List, ◌∷◌, ◌++◌, length, map, get_or, Bool, true, false, if◌then◌else◌, Some, None, slice_get}
-use Rattle.std.specs.List.{list_all}
+use Rattle.std.specs.Prelude.{ℕ, ◌*◌, ◌<◌, ◌≡◌, ◌≢◌, ◌⊎◌, ◌==◌, ◌&&◌, ◌||◌, List, ◌∷◌, ◌++◌, length, map, get_or, Bool, true, false, if◌then◌else◌, Option, Some, None, slice_get}
 use Rattle.ec_bits.specs.Bits.{bit, bytes_of_bits}
 use Rattle.ec_slave.specs.Exchange.{with_outputs}
 use Rattle.ec_link.specs.Shares.{has_outs, has_ins, unit_of_part}
@@ -156,27 +155,40 @@ WorkingLaw =
     (m : Meaning) (p : Plain) (e : Event) (q : Plain) (s : ℕ) → step m p e ≡ Some q → e ≢ Fault s → e ≢ ResetSlave s
     → (plain_slave p s).health ≡ Working → (plain_slave q s).health ≡ Working
 
--- a loss, a fault or a reset
-abbrev pub disturbs : Event → Bool
-disturbs StartNext = false
-disturbs (Set v x) = false
-disturbs Begin = false
-disturbs (Pass k) = false
-disturbs (Lose k) = true
-disturbs (Return k) = false
-disturbs Close = false
-disturbs (Serve s) = false
-disturbs (AppPut s i x) = false
-disturbs (AppGet s i) = false
-disturbs (Fault s) = true
-disturbs (ResetSlave s) = true
+-- a frame of a part of unit u, in the cycle with this number
+abbrev pub is_of_unit : Meaning → (number u : ℕ) → PlainFrame → Bool
+is_of_unit m number u f = (f.number == number) && (unit_of_part m f.part == u)
 
--- Only a loss, a fault, a reset or an early close can keep a unit from being taken: where all slaves are in OP as a cycle
--- begins, no event disturbs, and all its frames are back, a close takes every unit.
+-- the slot holds one
+abbrev pub holds_of_unit : Meaning → (number u : ℕ) → Option PlainFrame → Bool
+holds_of_unit m number u None = false
+holds_of_unit m number u (Some f) = is_of_unit m number u f
+
+-- An event disturbs unit u in a cycle: the loss of a frame of one of its parts, or a fault or a reset of one of its slaves.
+abbrev pub disturbs : Meaning → (number u : ℕ) → Plain → Event → Bool
+disturbs m number u p StartNext = false
+disturbs m number u p (Set v x) = false
+disturbs m number u p Begin = false
+disturbs m number u p (Pass k) = false
+disturbs m number u p (Lose k) = holds_of_unit m number u (frame_at p k)
+disturbs m number u p (Return k) = false
+disturbs m number u p Close = false
+disturbs m number u p (Serve s) = false
+disturbs m number u p (AppPut s i x) = false
+disturbs m number u p (AppGet s i) = false
+disturbs m number u p (Fault s) = unit_of_slave m s == u
+disturbs m number u p (ResetSlave s) = unit_of_slave m s == u
+
+-- A cycle is quiet for unit u: as it begins all slaves of the unit are in OP, no event since then disturbs the unit, and none of
+-- the unit's frames is still on its way.
+pub record IsQuiet (m : Meaning) (p begun : Plain) (after : List Event) (u : ℕ) : Type 0 where
+  pub working : (s : ℕ) → s < length p.slaves → unit_of_slave m s ≡ u → (plain_slave p s).health ≡ Working
+  pub undisturbed : (before behind : List Event) (e : Event) → after ≡ before ++ (e ∷ behind) → disturbs m p.next u (run m begun before).plain e ≡ false
+  pub back : (k : ℕ) (f : PlainFrame) → frame_at (run m begun after).plain k ≡ Some f → is_of_unit m p.next u f ≡ false
+
+-- Only a loss, a fault, a reset or an early close can keep a unit from being taken, and only such as are its own: where a
+-- cycle is quiet for a unit, a close takes the unit, whatever becomes of other units.
 abbrev pub TakenLaw : Type 0
 TakenLaw =
-    (m : Meaning) (p begun : Plain) (after : List Event) (c : Cycle) → IsBegun m p begun
-    → ((s : ℕ) → s < length p.slaves → (plain_slave p s).health ≡ Working) → list_all (λ e. not (disturbs e)) after ≡ true
-    → (run m begun after).plain.cycle ≡ Some c → c.number ≡ p.next
-    → ((k : ℕ) (f : PlainFrame) → frame_at (run m begun after).plain k ≡ Some f → f.number ≢ p.next)
-    → (u : ℕ) → unit_full m c u ≡ true
+    (m : Meaning) (p begun : Plain) (after : List Event) (c : Cycle) (u : ℕ) → IsBegun m p begun → IsQuiet m p begun after u
+    → (run m begun after).plain.cycle ≡ Some c → c.number ≡ p.next → unit_full m c u ≡ true

@@ -44,7 +44,9 @@ pub fn slaves_stay_in_op()
     ensures { WorkingLaw }
 {}
 
-/// Only a loss, a fault, a reset or an early close can keep a unit from being taken.
+/// Only a loss, a fault, a reset or an early close can keep a unit from being taken, and only its own: the loss of a frame of
+/// one of its parts, a fault or a reset of one of its slaves, or a close before its frames are back. What becomes of other
+/// units doesn't matter.
 pub fn quiet_cycles_are_taken()
     ensures { TakenLaw }
 {}
