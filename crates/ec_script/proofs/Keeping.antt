@@ -123,7 +123,7 @@ closed false old new p h = same_kept old new (ap (λ (w : WorldState). w.slaves)
 made_kept : (e : Event) (old new : WorldState) → IsStep old e new true → AreFrames old.slots → Kept old new
 made_kept StartNext old new step h =
     let p : Sends old new = step.happens refl in
-    sent old new _ (ap (λ (w : WorldState). w.slaves) p.is) (ap (λ (w : WorldState). w.slots) p.is) ((p.payload, p.spelled), tt) h
+    sent old new _ (ap (λ (w : WorldState). w.slaves) p.is) (ap (λ (w : WorldState). w.slots) p.is) ((_, p.spelled), tt) h
 made_kept (Set v x) old new step h = let p = step.happens refl in same_kept old new (ap (λ (w : WorldState). w.slaves) p) (ap (λ (w : WorldState). w.slots) p) h
 made_kept Begin old new step h = begun old new (step.happens refl) h
 made_kept (Pass k) old new step h = passed old k new (step.happens refl) h

@@ -10,6 +10,7 @@ use Rattle.ec_al.specs.declared.state.State.{State}
 use Rattle.ec_al.specs.declared.state.State.TheVariants.{Init, PreOp, SafeOp, Op}
 use Rattle.ec_frame.specs.Datagram.{Datagram, IsDatagram}
 use Rattle.ec_frame.specs.Frame.{Payload, with_datagrams}
+use Rattle.ec_frame.specs.Building.{bare_payload}
 use Rattle.ec_slave.specs.State.{SlaveState, power_on}
 use Rattle.ec_slave.specs.Meeting.{passes, Passed, slave_met, datagram_met}
 use Rattle.ec_slave.specs.Application.{input_put, output_got, output_taken}
@@ -468,15 +469,16 @@ module _ (flags : List Bool) (w : WorldState) (r : Rising flags w) (low : is_up 
       let v : Starting = record { start = s; slaves = w.slaves; troubles = fs; slot = None } in
       let flight : Flight = record { bytes = h.bytes; number = w.start.next; part = 0; passed = 0 } in
       let c : Carried = record { number = s.next; passed = 0; datagram = datagram_of (action_of s) s.next } in
-      let told : h.payload.datagrams ≡ frame_of (action_of s) s.next
-      = h.datagrams ∙ (ap (λ (x : StartState). frame_of (action_of x) w.start.next) (sym same) ∙ ap (λ (n : ℕ). frame_of (action_of s) n) (sym g.next)) in
+      let load : Payload = bare_payload (frame_of (action_of (resumed w.start w.start.phase)) w.start.next) in
+      let told : load.datagrams ≡ frame_of (action_of s) s.next
+      = ap (λ (x : StartState). frame_of (action_of x) w.start.next) (sym same) ∙ ap (λ (n : ℕ). frame_of (action_of s) n) (sym g.next) in
       let one = filled-one flight w.slots r.some_slots none in
       let is : w2 ≡ record w { start = sending s; slots = filled (flight ∷ []) w.slots }
       = h.is ∙ ap (λ (x : StartState). record w { start = sending x; slots = filled (flight ∷ []) w.slots }) (sym same) in
       subst (Rising fs) (sym is) (record {
         same_plan = g.plan ∙ r.same_plan;
         slot = Some c;
-        starts = happens-starts ends v _ (SendsNext g.idle (second-good h.payload.datagrams s.next (datagram_of (action_of s) s.next) h.spelled.each told) refl) g.starts;
+        starts = happens-starts ends v _ (SendsNext g.idle (second-good load.datagrams s.next (datagram_of (action_of s) s.next) h.spelled.each told) refl) g.starts;
         slots = record {
           flight = flight;
           first = one.first;
@@ -484,7 +486,7 @@ module _ (flags : List Bool) (w : WorldState) (r : Rising flags w) (low : is_up 
           number = sym g.next;
           part = refl;
           passed = refl;
-          carried = record { payload = h.payload; spelled = h.spelled; datagrams = told };
+          carried = record { payload = load; spelled = h.spelled; datagrams = told };
         };
         some_slots = omega (arith, filled-length (flight ∷ []) w.slots, r.some_slots);
         fit = r.fit;

@@ -14,6 +14,7 @@ use Rattle.ec_slave.specs.Application.{input_put, output_got, output_taken}
 use Rattle.ec_slave.specs.Faulting.{faulted}
 use Rattle.ec_link.specs.Plan.{PlanState}
 use Rattle.ec_frame.specs.Frame.{IsFrame}
+use Rattle.ec_frame.specs.Datagram.{Datagram}
 use Rattle.ec_frame.specs.Building.{bare_payload}
 use Rattle.ec_start.specs.Actions.{frame_of}
 use Rattle.ec_start.specs.Running.{StartState, IsStartTaken, action_of, begun, asked, asked_by, next_frame, next_frame_by, sending, last_number}
@@ -272,9 +273,8 @@ start-step w s t bytes slots can is after written put =
       can = sym can;
       happens = λ m. record {
         bytes = bytes;
-        payload = bare_payload (frame_of (action_of s) s.next);
-        spelled = written more.1;
-        datagrams = ap (λ (x : StartState). frame_of (action_of x) s.next) is ∙ ap (λ (n : ℕ). frame_of (action_of (resumed w.start w.start.phase)) n) number;
+        spelled = subst (λ (ds : List Datagram). IsFrame bytes (bare_payload ds))
+            (ap (λ (x : StartState). frame_of (action_of x) s.next) is ∙ ap (λ (n : ℕ). frame_of (action_of (resumed w.start w.start.phase)) n) number) (written more.1);
         is = ap (λ (x : StartState). starting w x slots) (after ∙ (more.0 ∙ ap sending is))
             ∙ ap (λ (xs : List (Option Flight)). starting w (sending (resumed w.start w.start.phase)) xs) (put ∙ ap (λ (n : ℕ). filled (first_flight bytes n ∷ []) w.slots) number);
       };

@@ -5,6 +5,7 @@ use Rattle.std.specs.List.{list_all, AllByRecursion}
 use Rattle.std.proofs.lemmas.List.{length-map}
 use Rattle.ec_frame.specs.Datagram.{Datagram, IsDatagram}
 use Rattle.ec_frame.specs.Frame.{Payload, with_datagrams}
+use Rattle.ec_frame.specs.Building.{bare_payload}
 use Rattle.ec_slave.specs.State.{SlaveState}
 use Rattle.ec_slave.specs.Meeting.{passes, Passed, slave_met, datagram_met}
 use Rattle.ec_slave.specs.Serving.{served}
@@ -232,17 +233,17 @@ send-one n w u one idle few e step =
     let can : can_happen w StartNext ≡ true = rw (idle, free, low) refl in
     let p : Sends w u = step.happens (step.can ∙ can) in
     let f : Flight = record { bytes = p.bytes; number = w.start.next; part = 0; passed = 0 } in
-    let told : p.payload.datagrams ≡ frame_of (action_of w.start) w.start.next
-    = p.datagrams ∙ ap (λ (q : Phase). frame_of (action_of (resumed w.start q)) w.start.next) idle in
+    let load : Payload = bare_payload (frame_of (action_of (resumed w.start w.start.phase)) w.start.next) in
+    let told : load.datagrams ≡ frame_of (action_of w.start) w.start.next = ap (λ (q : Phase). frame_of (action_of (resumed w.start q)) w.start.next) idle in
     record {
       made = step.can ∙ can;
       start = ap (λ (x : WorldState). x.start) p.is ∙ ap (λ (q : Phase). sending (resumed w.start q)) idle;
       slaves = ap (λ (x : WorldState). x.slaves) p.is;
-      good = second-good p.payload.datagrams w.start.next (datagram_of (action_of w.start) w.start.next) p.spelled.each told;
+      good = second-good load.datagrams w.start.next (datagram_of (action_of w.start) w.start.next) p.spelled.each told;
       slot = record {
         bytes = p.bytes;
         slots = ap (λ (x : WorldState). x.slots) p.is ∙ (ap (λ (os : List (Option Flight)). filled (f ∷ []) os) e ∙ ap (λ (os : List (Option Flight)). Some f ∷ os) (none-filled n));
-        carried = record { payload = p.payload; spelled = p.spelled; datagrams = told };
+        carried = record { payload = load; spelled = p.spelled; datagrams = told };
       };
     }
 

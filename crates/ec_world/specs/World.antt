@@ -3,7 +3,8 @@ use Rattle.std.specs.Prelude.{ℕ, ◌+◌, ◌≡◌, ◌==◌, ◌&&◌, ◌||
 use Rattle.ec_regs.specs.Types.{plain_kind, device_identity}
 use Rattle.ec_sync.specs.Buffer.{Got}
 use Rattle.ec_al.specs.Al as al
-use Rattle.ec_frame.specs.Frame.{Payload, IsFrame}
+use Rattle.ec_frame.specs.Frame.{IsFrame}
+use Rattle.ec_frame.specs.Building.{bare_payload}
 use Rattle.ec_slave.specs.State.{SlaveState, power_on}
 use Rattle.ec_slave.specs.Serving.{served}
 use Rattle.ec_slave.specs.Faulting.{faulted}
@@ -157,12 +158,10 @@ resumed s (Sent number) = s
 resumed s Ready = s
 resumed s (Failed failure) = begun s.plan s.next
 
--- its next frame goes into the lowest slot
+-- its next frame, with nothing behind the datagrams, goes into the lowest slot
 pub record Sends (old new : WorldState) : Type 0 where
   pub bytes : List ℕ
-  pub payload : Payload
-  pub spelled : IsFrame bytes payload
-  pub datagrams : payload.datagrams ≡ frame_of (action_of (resumed old.start old.start.phase)) old.start.next
+  pub spelled : IsFrame bytes (bare_payload (frame_of (action_of (resumed old.start old.start.phase)) old.start.next))
   pub is : new ≡ record old {
     start = sending (resumed old.start old.start.phase);
     slots = filled (record { bytes = bytes; number = old.start.next; part = 0; passed = 0 } ∷ []) old.slots;
