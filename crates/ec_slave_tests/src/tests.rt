@@ -2,6 +2,7 @@
 //! file, so it stays in INIT; `firmware` does.
 mod borders;
 mod firmware;
+mod runs;
 mod steps;
 
 use self::steps::Step::{
