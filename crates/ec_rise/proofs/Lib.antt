@@ -43,6 +43,7 @@ pub mod Sound
 pub mod CompleteLaws
 pub mod Composes
 pub mod Theorem
+pub mod Beginnings
 pub mod Carrying
 pub mod Up
 pub mod Devices

@@ -1,6 +1,8 @@
 -- Every run of a world that starts up: up to the step that makes it ready, and from then on without a cycle.
-use Rattle.std.proofs.Common.{ℕ, ◌+◌, ◌-◌, ◌*◌, ◌%◌, ◌<◌, ◌≤◌, ◌≡◌, ◌==◌, Bool, true, false, Option, Some, None, refl, sym, ◌∙◌, ap, subst, inl, inr, arith, if◌then◌else◌, List, [], ◌∷◌, length, get_or}
+use Rattle.std.proofs.Common.{ℕ, ◌+◌, ◌-◌, ◌*◌, ◌%◌, ◌<◌, ◌≤◌, ◌≡◌, ◌==◌, Bool, true, false, Option, Some, None, refl, sym, ◌∙◌, ap, subst, inl, inr, arith, if◌then◌else◌, List, [], ◌∷◌, length, get_or, replicate, drop}
+use Rattle.std.proofs.lemmas.Bool.{cases_Bool, and_parts, eqb-true}
 use Rattle.std.proofs.lemmas.List.{length-replicate}
+use Rattle.ec_bits.proofs.AnyLaws.{if_true, if_false}
 use Rattle.ec_regs.specs.Types.{SlaveKind}
 use Rattle.ec_frame.specs.Datagram.{Datagram, IsDatagram}
 use Rattle.ec_slave.specs.State.{SlaveState, power_on}
@@ -16,9 +18,9 @@ use Rattle.ec_start.specs.declared.error.StartError.TheVariants.{Lost, TooSlow}
 use Rattle.ec_start.specs.declared.verdict.Verdict.{Verdict}
 use Rattle.ec_start.specs.declared.verdict.Verdict.TheVariants.{Next, Shows, Again, Fails}
 use Rattle.ec_start.specs.Verdicts.{verdict}
-use Rattle.ec_start.specs.Running.{StartState, action_of, type_of, taken, judged, begun}
+use Rattle.ec_start.specs.Running.{StartState, sending, action_of, type_of, taken, judged, begun}
 use Rattle.ec_start.specs.declared.phase.Phase.TheVariants.{Idle, Sent, Ready, Failed}
-use Rattle.ec_rise.specs.Stages.{Config, Talk, Before, Up, end_of}
+use Rattle.ec_rise.specs.Stages.{Config, Talk, Stage, Leads, Before, Up, end_of}
 use Rattle.ec_rise.specs.Standing.{IsOfKind, IsConfigured, IsSilent, IsUpAt, IsFaultedAt, Talks, Stands}
 use Rattle.ec_rise.specs.Frames.{Arrives}
 use Rattle.ec_rise.proofs.Resets.{power_on_is, reset_stands}
@@ -30,7 +32,7 @@ use Rattle.ec_start.specs.Planned.{IsStartable}
 use Rattle.ec_rise.proofs.Assigns.{assignment-held}
 use Rattle.ec_rise.proofs.Ends.{script-leads, asked-frame}
 use Rattle.ec_rise.specs.Starting.{Carried, Starting, slave_at, trouble_at, kind_at, no_plan, AreAhead, AreSlaves, IsBetween, Instant, Between, UnderWay, Adrift, Over, IsReady, Starts, PassLaw, LaterLaw, TakeLaw, SlaveLaw}
-use Rattle.ec_rise.specs.Runs.{with_passed, with_start, with_sent, with_begun, with_empty, with_lost, AreStartable, ends_of, Happens, Sends, Passes, Loses, Returns, Strays, Closes, Serves, Puts, Gets, Faults, Resets, Runs, Stops, Steps, Begins, HoldsAll, Works, HasFault, Shown, Working, Faulted, WasReset, StartUpLaw, IsNew}
+use Rattle.ec_rise.specs.Runs.{is_idle, is_beginning, with_passed, with_start, with_sent, with_begun, with_empty, with_lost, AreStartable, ends_of, Happens, Sends, Passes, Loses, Returns, Strays, Closes, Serves, Puts, Gets, Faults, Resets, Runs, Stops, Steps, Begins, HoldsAll, Works, HasFault, Shown, Working, Faulted, WasReset, StartUpLaw, IsNew}
 use Rattle.ec_rise.proofs.Composes.{pass-starts, pass-slaves, take-starts, slave-starts, Keeps}
 
 -- ---- the laws
@@ -66,8 +68,41 @@ sent-arrives (AwaitState t to) number = record { to_come = λ l. refl; gone_by =
 sent-arrives (SendRequest t counter b r) number = record { to_come = λ l. refl; gone_by = record { command = refl; address = refl } }
 sent-arrives (AwaitReply t b r) number = record { to_come = λ l. refl; gone_by = record { command = refl; address = refl } }
 
-sent-starts : (ends : ℕ → Config) (w : Starting) → AreSlaves w → IsDatagram (datagram_of (action_of w.start) w.start.next) → IsBetween ends w → Starts ends (with_sent w)
-sent-starts ends w h good b = record {
+-- the first frame clears the flags: whatever slaves stood at, a start-up leads them from before its first action on
+abbrev cleared : Starting → Starting
+cleared w = record { start = w.start; slaves = w.slaves; troubles = replicate (length w.start.plan) false; slot = w.slot }
+
+from-before : (ps : List Settings) (i : ℕ) (st end : Stage) → i < length ps → Leads i st (script ps) end → Leads i Before (script ps) end
+from-before [] i st end l h = absurd (omega (arith, l))
+from-before (p ∷ ps) i st end l h = h
+
+cleared-between : (ends : ℕ → Config) (w : Starting) → AreSlaves w → IsBetween ends w → w.start.place ≡ 0 → IsBetween ends (cleared w)
+cleared-between ends w h b e = record {
+  idle = b.idle;
+  empty = b.empty;
+  inside = b.inside;
+  stages = λ i. Before;
+  ahead = record {
+    each = λ i l. subst (λ (k : ℕ). Leads i Before (drop k (script w.start.plan)) (Up (ends i))) (sym e)
+        (from-before w.start.plan i (b.stages i) (Up (ends i)) l (subst (λ (k : ℕ). Leads i (b.stages i) (drop k (script w.start.plan)) (Up (ends i))) e (b.ahead.each i l)));
+  };
+  stand = record { each = λ i l. record { slave = h.each i l; at = inl tt } };
+}
+
+cleared-slaves : (w : Starting) → AreSlaves w → AreSlaves (cleared w)
+cleared-slaves w h = record { slaves = h.slaves; troubles = length-replicate {A = Bool} (length w.start.plan) false; few = h.few; each = h.each }
+
+-- with these flags
+abbrev sent-with : Starting → List Bool → Starting
+sent-with w flags = record {
+  start = sending w.start;
+  slaves = w.slaves;
+  troubles = flags;
+  slot = Some (record { number = w.start.next; passed = 0; datagram = datagram_of (action_of w.start) w.start.next });
+}
+
+sent-between : (ends : ℕ → Config) (w : Starting) → AreSlaves w → IsDatagram (datagram_of (action_of w.start) w.start.next) → IsBetween ends w → Starts ends (sent-with w w.troubles)
+sent-between ends w h good b = record {
   slaves = record { slaves = h.slaves; troubles = h.troubles; few = h.few; each = h.each };
   instant = UnderWay (record {
     carried = record { number = w.start.next; passed = 0; datagram = datagram_of (action_of w.start) w.start.next };
@@ -82,6 +117,17 @@ sent-starts ends w h good b = record {
     met = record { passed = λ i l. absurd (omega (arith, l)); to_come = λ i l m. b.stand.each i m };
   });
 }
+
+sent-starts : (ends : ℕ → Config) (w : Starting) → AreSlaves w → IsDatagram (datagram_of (action_of w.start) w.start.next) → IsBetween ends w → Starts ends (with_sent w)
+sent-starts ends w h good b = elim (cases_Bool (is_beginning w.start)) [
+  | inl on ↦
+      let place : w.start.place ≡ 0 = eqb-true w.start.place 0 (and_parts (is_idle w.start.phase) (w.start.place == 0) on).1 in
+      subst (λ (flags : List Bool). Starts ends (sent-with w flags)) (sym (if_true (is_beginning w.start) (replicate (length w.start.plan) false) w.troubles on))
+      (sent-between ends (cleared w) (cleared-slaves w h) good (cleared-between ends w h b place))
+  | inr off ↦
+      subst (λ (flags : List Bool). Starts ends (sent-with w flags)) (sym (if_false (is_beginning w.start) (replicate (length w.start.plan) false) w.troubles off))
+      (sent-between ends w h good b)
+]
 
 -- ---- a start-up begins, in a new world or after a failure
 
@@ -100,7 +146,7 @@ script-ahead (p ∷ ps) few h = record { each = λ i l. script-leads no_plan p p
 pub begun-starts : (w : Starting) → AreSlaves w → AreStartable w.start.plan → Starts (ends_of w.start.plan) (with_begun w)
 unfolding begun
 begun-starts w h planned = record {
-  slaves = record { slaves = h.slaves; troubles = length-replicate {A = Bool} (length w.start.plan) false; few = h.few; each = h.each };
+  slaves = record { slaves = h.slaves; troubles = h.troubles; few = h.few; each = h.each };
   instant = Between (record {
     idle = refl;
     empty = refl;

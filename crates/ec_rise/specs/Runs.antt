@@ -1,6 +1,6 @@
 -- The runs of a world that starts up, and what its slaves are when it is ready.
-use Rattle.std.specs.Prelude.{ℕ, ◌+◌, ◌<◌, ◌≡◌, ◌≢◌, List, length, set, get_or, replicate, Bool, true, false, Some, None, unwrap_or}
-use Rattle.ec_frame.specs.Datagram.{IsDatagram}
+use Rattle.std.specs.Prelude.{ℕ, ◌+◌, ◌<◌, ◌≡◌, ◌≢◌, ◌==◌, ◌&&◌, List, length, set, get_or, replicate, Bool, true, false, if◌then◌else◌, Some, None, unwrap_or}
+use Rattle.ec_frame.specs.Datagram.{Datagram, IsDatagram}
 use Rattle.ec_al.specs.declared.state.State.TheVariants.{Op, SafeOp}
 use Rattle.ec_slave.specs.State.{SlaveState, power_on, manager_at}
 use Rattle.ec_slave.specs.Meeting.{slave_met, datagram_met}
@@ -12,7 +12,8 @@ use Rattle.ec_link.specs.declared.settings.Settings.{Settings}
 use Rattle.ec_start.specs.Actions.{datagram_of}
 use Rattle.ec_start.specs.declared.error.StartError.{StartError}
 use Rattle.ec_start.specs.declared.error.StartError.TheVariants.{Lost}
-use Rattle.ec_start.specs.Running.{StartState, action_of, sending, taken, begun}
+use Rattle.ec_start.specs.Running.{StartState, action_of, sending, taken, given_up, begun}
+use Rattle.ec_start.specs.declared.phase.Phase.{Phase}
 use Rattle.ec_start.specs.declared.phase.Phase.TheVariants.{Idle, Sent, Ready, Failed}
 use Rattle.ec_start.specs.Planned.{IsStartable}
 use Rattle.ec_rise.specs.Stages.{end_of, Config}
@@ -33,16 +34,40 @@ with_start w s = record { start = s; slaves = w.slaves; troubles = w.troubles; s
 abbrev pub with_slave : Starting → ℕ → SlaveState → Bool → Starting
 with_slave w k t b = record { start = w.start; slaves = set w.slaves k t; troubles = set w.troubles k b; slot = w.slot }
 
+abbrev pub is_idle : Phase → Bool
+is_idle Idle = true
+is_idle (Sent number) = false
+is_idle Ready = false
+is_idle (Failed error) = false
+
+-- it hasn't sent a frame yet: it is at its first action, which is never tried again
+abbrev pub is_beginning : StartState → Bool
+is_beginning s = is_idle s.phase && (s.place == 0)
+
+-- As it begins it is at its beginning; and whatever is sent, answered or given up, it is not.
+pub record BeginsOnce (s : StartState) : Type 0 where
+  pub begins : (number : ℕ) → is_beginning (begun s.plan number) ≡ true
+  pub sent : is_beginning (sending s) ≡ false
+  pub answered : (d : Datagram) → is_beginning (taken s d) ≡ false
+  pub ends : is_beginning (given_up s) ≡ false
+
+abbrev pub BeginningLaw : Type 0
+BeginningLaw = (s : StartState) → BeginsOnce s
+
+-- the flags as a frame is sent: the first frame of a start-up clears them
+abbrev pub flags_sent : StartState → List Bool → List Bool
+flags_sent s flags = if is_beginning s then replicate (length s.plan) false else flags
+
 abbrev pub with_sent : Starting → Starting
 with_sent w = record {
   start = sending w.start;
   slaves = w.slaves;
-  troubles = w.troubles;
+  troubles = flags_sent w.start w.troubles;
   slot = Some (record { number = w.start.next; passed = 0; datagram = datagram_of (action_of w.start) w.start.next });
 }
 
 abbrev pub with_begun : Starting → Starting
-with_begun w = record { start = begun w.start.plan w.start.next; slaves = w.slaves; troubles = replicate (length w.start.plan) false; slot = None }
+with_begun w = record { start = begun w.start.plan w.start.next; slaves = w.slaves; troubles = w.troubles; slot = None }
 
 abbrev pub with_empty : Starting → Starting
 with_empty w = record { start = w.start; slaves = w.slaves; troubles = w.troubles; slot = None }
@@ -99,7 +124,7 @@ pub record HasFault (i : ℕ) (p : Settings) (s : SlaveState) : Type 0 where
   pub locked : (manager_at s.managers 2).locked ≡ true
   pub unlocked : (n : ℕ) → n < 4 → n ≢ 2 → (manager_at s.managers n).locked ≡ false
 
--- it works, or it had a fault or a reset in this start-up
+-- it works, or it had a fault or a reset since the first frame of this start-up was sent
 pub data Shown (i : ℕ) (p : Settings) (trouble : Bool) (s : SlaveState) : Type 0 where
   Working : Works i p s → Shown i p trouble s
   Faulted : trouble ≡ true → HasFault i p s → Shown i p trouble s
@@ -111,8 +136,8 @@ pub record IsNew (ps : List Settings) (w : Starting) : Type 0 where
   pub start : w ≡ with_begun w
   pub slaves : AreSlaves w
 
--- After every run of a new world that makes it ready, each slave works as the plan says, or it had a fault or a reset among
--- the events of that start-up, and then holds what a fault leaves, or is as the power comes on.
+-- After every run of a new world that makes it ready, each slave works as the plan says, or it had a fault or a reset since the
+-- first frame of that start-up was sent, and then holds what a fault leaves, or is as the power comes on.
 abbrev pub StartUpLaw : Type 0
 StartUpLaw =
     (ps : List Settings) → AreStartable ps → (w v : Starting) → IsNew ps w → Runs w v → v.start.phase ≡ Ready → (i : ℕ) → i < length ps

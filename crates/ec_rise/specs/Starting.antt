@@ -29,7 +29,7 @@ pub record Carried : Type 0 where
 pub record Starting : Type 0 where
   pub start : StartState
   pub slaves : List SlaveState
-  -- whether each had a fault or a reset in this start-up
+  -- whether each had a fault or a reset since the first frame of this start-up was sent
   pub troubles : List Bool
   pub slot : Option Carried
 

@@ -1,14 +1,19 @@
 //! Laws of the definitions: each is the contract of a function that does nothing.
 
 ghost use Rattle.ec_rise.specs.Keeping.{StandingLaw, GoneLaw, ForOthersLaw, FrameLaw};
-ghost use Rattle.ec_rise.specs.Runs.{StartUpLaw};
+ghost use Rattle.ec_rise.specs.Runs.{BeginningLaw, StartUpLaw};
 ghost use Rattle.ec_rise.specs.Undisturbed.{RoundLaw};
 ghost use Rattle.ec_rise.specs.ComesUp.{AgainLaw, ComesUpLaw, CompiledPlansLaw, CompiledUpLaw};
 
 /// After every run of a new world that makes it ready, each slave works as the plan says, or it had a fault or a reset
-/// among the events of that start-up.
+/// since the first frame of that start-up was sent.
 pub fn start_up()
     ensures { StartUpLaw }
+{}
+
+/// A start-up is at its beginning as it begins; once a frame was sent or answered, or it was given up, it is not.
+pub fn beginning()
+    ensures { BeginningLaw }
 {}
 
 /// A start-up that nothing disturbs is Ready after one frame for each action of its script, from slaves in any state.

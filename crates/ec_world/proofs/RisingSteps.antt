@@ -1,5 +1,5 @@
 -- Every event keeps a world that starts up one.
-use Rattle.std.proofs.Common.{ℕ, zero, suc, ◌+◌, ◌<◌, ◌≤◌, ◌≡◌, ◌≢◌, ◌==◌, ◌||◌, not, Bool, true, false, Option, Some, None, refl, sym, ◌∙◌, ap, subst, inl, inr, arith, if◌then◌else◌, List, [], ◌∷◌, length, set, get_or, replicate, option_map, is_some, nat_lt, unwrap_or}
+use Rattle.std.proofs.Common.{ℕ, zero, suc, ◌+◌, ◌<◌, ◌≤◌, ◌≡◌, ◌≢◌, ◌==◌, ◌||◌, not, Bool, true, false, Option, Some, None, refl, sym, ◌∙◌, ap, subst, inl, inr, arith, if◌then◌else◌, List, [], ◌∷◌, length, set, get_or, option_map, is_some, nat_lt, unwrap_or}
 use Rattle.std.specs.List.{AllByRecursion}
 use Rattle.std.proofs.lemmas.Bool.{cases_Bool, cases_eq, both_ways, and_parts, eqb-true, ltb-true}
 use Rattle.std.proofs.Math.ListN.{length-set}
@@ -29,7 +29,7 @@ use Rattle.ec_start.specs.declared.phase.Phase.TheVariants.{Idle, Sent, Ready, F
 use Rattle.ec_rise.specs.Stages.{Config}
 use Rattle.ec_rise.specs.Starting.{Starting, Carried, Starts, Instant, Between, UnderWay, Adrift, Over, IsReady, trouble_at}
 use Rattle.ec_rise.specs.Slots.{IsCarried}
-use Rattle.ec_rise.specs.Runs.{AreStartable, ends_of, with_begun, with_slave as with_slave_at, Sends as SendsNext, Passes as PassesOne, Loses as LosesOne, Returns as ReturnsOne, Strays, Closes as ClosesOne, Serves, Puts as PutsOne, Gets as GetsOne, Faults, Resets}
+use Rattle.ec_rise.specs.Runs.{AreStartable, ends_of, flags_sent, with_begun, with_slave as with_slave_at, Sends as SendsNext, Passes as PassesOne, Loses as LosesOne, Returns as ReturnsOne, Strays, Closes as ClosesOne, Serves, Puts as PutsOne, Gets as GetsOne, Faults, Resets}
 use Rattle.ec_rise.proofs.Theorem.{taken-plan, happens-starts, begun-starts, frame-passes}
 use Rattle.ec_rise.proofs.Carrying.{second-carried}
 use Rattle.ec_world.specs.declared.event.Event.{Event}
@@ -37,7 +37,7 @@ use Rattle.ec_world.specs.declared.event.Event.TheVariants.{StartNext, Set, Begi
 use Rattle.ec_world.specs.Plain.{filled, may_pass, may_return}
 use Rattle.ec_world.specs.World.{WorldState, Flight, no_slave, slave_of, flight_at, flight_progress, flights_progress, is_up, awaits, phase_awaits, phase_ready, is_slave, can_happen, resumed, ready_with, ByStart, Sends, Passes, Returns, StartReturns, GivesUp, Closes, Happens, with_slave}
 use Rattle.ec_world.specs.Lengths.{AllFit}
-use Rattle.ec_world.specs.Whole.{flags_cleared, flags_after}
+use Rattle.ec_world.specs.Whole.{flags_after}
 use Rattle.ec_world.specs.Rising.{IsInSlot, SlotsHold, seen_of, Rising}
 use Rattle.ec_world.proofs.Lengths.{met-fit, on-fits, fault-fits, put-fits, get-fits, serve-fits}
 use Rattle.ec_world.proofs.InSlots.{get_or-set_default}
@@ -437,13 +437,13 @@ module _ (flags : List Bool) (w : WorldState) (r : Rising flags w) (low : is_up 
   no-slot (Some c) h none = absurd (none_some h.flight (sym (none 0) ∙ h.first))
 
   -- what begins anew, or goes on
-  pub record Goes (s : StartState) (fs : List Bool) : Type 0 where
+  pub record Goes (s : StartState) : Type 0 where
     pub idle : s.phase ≡ Idle
     pub next : s.next ≡ w.start.next
     pub plan : s.plan ≡ w.start.plan
-    pub starts : Starts (ends_of w.plan.slaves) (record { start = s; slaves = w.slaves; troubles = fs; slot = None })
+    pub starts : Starts (ends_of w.plan.slaves) (record { start = s; slaves = w.slaves; troubles = flags; slot = None })
 
-  anew : (f : StartError) → AreStartable w.plan.slaves → Goes (begun w.start.plan w.start.next) (replicate (length w.start.plan) false)
+  anew : (f : StartError) → AreStartable w.plan.slaves → Goes (begun w.start.plan w.start.next)
   unfolding begun
   anew f planned = record {
     idle = refl;
@@ -454,7 +454,7 @@ module _ (flags : List Bool) (w : WorldState) (r : Rising flags w) (low : is_up 
   }
 
   goes-on : (p : Phase) → w.start.phase ≡ p → awaits w.start ≡ false → AreStartable w.plan.slaves → ((k : ℕ) → get_or w.slots k None ≡ None)
-      → Goes (resumed w.start p) (flags_cleared (length w.start.plan) flags p)
+      → Goes (resumed w.start p)
   goes-on Idle e off planned none = record { idle = e; next = refl; plan = refl; starts = subst (λ (o : Option Carried). Starts (ends_of w.plan.slaves) (seen_of w flags o)) (no-slot r.slot r.slots none) r.starts }
   goes-on (Sent n) e off planned none = absurd (both_ways _ off (ap (λ (q : Phase). phase_awaits q) e))
   goes-on Ready e off planned none = absurd (both_ways _ low (ap (λ (q : Phase). phase_ready q) e))
@@ -463,10 +463,10 @@ module _ (flags : List Bool) (w : WorldState) (r : Rising flags w) (low : is_up 
   second-good : (ds : List Datagram) (number : ℕ) (d : Datagram) → AllByRecursion IsDatagram ds → ds ≡ numbered number 0 ∷ d ∷ [] → IsDatagram d
   second-good ds number d h e = let q : AllByRecursion IsDatagram (numbered number 0 ∷ d ∷ []) = subst (AllByRecursion IsDatagram) e h in q.1.0
 
-  sends-by : (s : StartState) (fs : List Bool) (w2 : WorldState) → s ≡ resumed w.start w.start.phase → Goes s fs → ((k : ℕ) → get_or w.slots k None ≡ None) → Sends w w2 → Rising fs w2
-  sends-by s fs w2 same g none h =
+  sends-by : (s : StartState) (w2 : WorldState) → s ≡ resumed w.start w.start.phase → Goes s → ((k : ℕ) → get_or w.slots k None ≡ None) → Sends w w2 → Rising (flags_sent s flags) w2
+  sends-by s w2 same g none h =
       let ends = ends_of w.plan.slaves in
-      let v : Starting = record { start = s; slaves = w.slaves; troubles = fs; slot = None } in
+      let v : Starting = record { start = s; slaves = w.slaves; troubles = flags; slot = None } in
       let flight : Flight = record { bytes = h.bytes; number = w.start.next; part = 0; passed = 0 } in
       let c : Carried = record { number = s.next; passed = 0; datagram = datagram_of (action_of s) s.next } in
       let load : Payload = bare_payload (frame_of (action_of (resumed w.start w.start.phase)) w.start.next) in
@@ -475,7 +475,7 @@ module _ (flags : List Bool) (w : WorldState) (r : Rising flags w) (low : is_up 
       let one = filled-one flight w.slots r.some_slots none in
       let is : w2 ≡ record w { start = sending s; slots = filled (flight ∷ []) w.slots }
       = h.is ∙ ap (λ (x : StartState). record w { start = sending x; slots = filled (flight ∷ []) w.slots }) (sym same) in
-      subst (Rising fs) (sym is) (record {
+      subst (Rising (flags_sent s flags)) (sym is) (record {
         same_plan = g.plan ∙ r.same_plan;
         slot = Some c;
         starts = happens-starts ends v _ (SendsNext g.idle (second-good load.datagrams s.next (datagram_of (action_of s) s.next) h.spelled.each told) refl) g.starts;
@@ -496,13 +496,13 @@ module _ (flags : List Bool) (w : WorldState) (r : Rising flags w) (low : is_up 
         no_report = r.no_report;
       })
 
-  start-rises : (w2 : WorldState) → AreStartable w.plan.slaves → can_happen w StartNext ≡ true → Sends w w2 → Rising (flags_cleared (length w.start.plan) flags w.start.phase) w2
+  start-rises : (w2 : WorldState) → AreStartable w.plan.slaves → can_happen w StartNext ≡ true → Sends w w2 → Rising (flags_sent (resumed w.start w.start.phase) flags) w2
   start-rises w2 planned can h =
       let a = and_parts (not (is_up w.start)) _ can in
       let b = and_parts (not (awaits w.start)) _ a.1 in
       let none = all-empty (and_parts (nones w.slots == length w.slots) _ b.1).0 in
       let off : awaits w.start ≡ false = off-from (awaits w.start) b.0 in
-      sends-by (resumed w.start w.start.phase) (flags_cleared (length w.start.plan) flags w.start.phase) w2 refl (goes-on w.start.phase refl off planned none) none h
+      sends-by (resumed w.start w.start.phase) w2 refl (goes-on w.start.phase refl off planned none) none h
     where
       off-from : (c : Bool) → not c ≡ true → c ≡ false
       off-from true e = absurd (let z : false ≡ true = e in cc)

@@ -11,31 +11,23 @@ use Rattle.ec_link.specs.Faults.{compile_fault}
 use Rattle.ec_link.specs.Plan.{PlanState, plan_of}
 use Rattle.ec_link.specs.Meaning.{meaning}
 use Rattle.ec_link.specs.Usable.{IsUsable}
-use Rattle.ec_start.specs.declared.phase.Phase.{Phase}
-use Rattle.ec_start.specs.declared.phase.Phase.TheVariants.{Idle, Sent, Ready, Failed}
 use Rattle.ec_start.specs.Running.{begun}
 use Rattle.ec_rise.specs.Starting.{trouble_at}
-use Rattle.ec_rise.specs.Runs.{AreStartable}
+use Rattle.ec_rise.specs.Runs.{AreStartable, flags_sent}
 use Rattle.ec_world.specs.declared.event.Event.{Event}
 use Rattle.ec_world.specs.declared.event.Event.TheVariants.{StartNext, Set, Begin, Pass, Lose, Return, Close, Serve, AppPut, AppGet, Fault, Reset as ResetSlave}
 use Rattle.ec_world.specs.Plain.{Plain, PlainSlave, Health, Working, Faulted, Reset, plain_slave, run}
-use Rattle.ec_world.specs.World.{WorldState, is_up, IsStep}
+use Rattle.ec_world.specs.World.{WorldState, is_up, resumed, IsStep}
 use Rattle.ec_world.specs.Shows.{Shows}
 use Rattle.ec_world.specs.Laws.{IsRun}
 use Rattle.ec_table.specs.Sound as table
 
 -- ---- the flags
 
--- A start-up that begins anew after a failure clears them, and a fault or a reset sets its slave's.
-abbrev pub flags_cleared : ℕ → List Bool → Phase → List Bool
-flags_cleared n flags Idle = flags
-flags_cleared n flags (Sent number) = flags
-flags_cleared n flags Ready = flags
-flags_cleared n flags (Failed failure) = replicate n false
-
--- the flags after an event that was made
+-- The flags after an event that was made: the first frame of a start-up clears them, in a new world and after a failure, and a
+-- fault or a reset sets its slave's.
 abbrev pub flags_after : WorldState → Event → List Bool → List Bool
-flags_after w StartNext flags = flags_cleared (length w.start.plan) flags w.start.phase
+flags_after w StartNext flags = flags_sent (resumed w.start w.start.phase) flags
 flags_after w (Set v x) flags = flags
 flags_after w Begin flags = flags
 flags_after w (Pass k) flags = flags
@@ -72,7 +64,7 @@ plain_of w = record {
   slots = map (λ o. None) w.slots;
 }
 
--- it shows this, and who doesn't work had a fault or a reset in that start-up
+-- it shows this, and who doesn't work had a fault or a reset since the first frame of that start-up was sent
 pub record IsReadyWorld (flags : List Bool) (w : WorldState) : Type 0 where
   pub shows : Shows w (plain_of w)
   pub told : (i : ℕ) → i < length w.plan.slaves → ((plain_slave (plain_of w) i).health ≡ Working) ⊎ (trouble_at flags i ≡ true)
