@@ -10,7 +10,8 @@ use Rattle.ec_fmmu.specs.Pairs.{mapped, reaches}
 use Rattle.ec_fmmu.specs.Sets.{target, readers}
 use Rattle.ec_fmmu.specs.Applied.{read_told}
 use Rattle.ec_fmmu.specs.Ranges.{reads_to, range_read_told}
-use Rattle.ec_fmmu.specs.Alone.{IsAlone, run_mapped, run_shown}
+use Rattle.ec_fmmu.specs.Alone.{IsAlone, run_mapped}
+use Rattle.ec_fmmu.specs.Apart.{run_shown}
 use Rattle.ec_fmmu.proofs.PairLaws.{none_or_some, none_is_not_some, mapped_from_pair, pair_reaches}
 use Rattle.ec_fmmu.proofs.RangeLaws.{reading_pair}
 

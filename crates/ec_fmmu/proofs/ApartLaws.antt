@@ -2,7 +2,8 @@
 use Rattle.std.proofs.Common.{ℕ, ◌<◌, ◌≡◌, List, length, [], get_or, true, inl, inr}
 use Rattle.ec_regs.specs.declared.fmmu.FmmuSettings.{FmmuSettings}
 use Rattle.ec_regs.specs.Fmmus.{no_fmmu}
-use Rattle.ec_fmmu.specs.Alone.{AreApart, IsUnwritten}
+use Rattle.ec_fmmu.specs.Alone.{IsUnwritten}
+use Rattle.ec_fmmu.specs.Apart.{AreApart}
 use Rattle.ec_fmmu.specs.Sets.{source, writers}
 use Rattle.ec_fmmu.proofs.PairLaws.{none_or_some, pair_reaches_physical}
 use Rattle.ec_fmmu.proofs.RangeLaws.{reading_pair}

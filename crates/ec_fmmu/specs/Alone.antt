@@ -1,11 +1,12 @@
--- An FMMU whose range no other one's meets, and runs of bits.
+-- An FMMU whose range no other one's meets, and its pairs as a run, as the code goes through them.
 use Rattle.std.specs.Prelude.{ℕ, ◌+◌, ◌-◌, ◌*◌, ◌/◌, ◌<◌, ◌≡◌, ◌≢◌, List, length, get_or, Bool, true, if◌then◌else◌, Option, Some, None, option_map}
 use Rattle.ec_bits.specs.Bits.{bit, within}
 use Rattle.ec_regs.specs.declared.fmmu.FmmuSettings.{FmmuSettings}
 use Rattle.ec_regs.specs.Fmmus.{no_fmmu}
 use Rattle.ec_fmmu.specs.Applied.{inside_place}
 use Rattle.ec_fmmu.specs.Pairs.{reaches, reaches_physical}
-use Rattle.ec_fmmu.specs.Sets.{readers, source, target, writers}
+-- ec_slave names these two here
+pub use Rattle.ec_fmmu.specs.Apart.{AreApart, run_shown}
 
 -- no other FMMU that reads has a logical bit of the range of FMMU k
 abbrev pub IsAlone : List FmmuSettings → ℕ → Type 0
@@ -23,17 +24,9 @@ abbrev pub IsUnwritten : List FmmuSettings → FmmuSettings → Type 0
 IsUnwritten fs f = (k : ℕ) → k < length fs → (get_or fs k no_fmmu).writes ≡ true
     → (q : ℕ) → reaches_physical (get_or fs k no_fmmu) q ≡ true → reaches_physical f q ≡ true → ⊥
 
--- a physical bit that is read is not written
-abbrev pub AreApart : List FmmuSettings → Type 0
-AreApart fs = (l q : ℕ) → target (readers fs) l ≡ Some q → source (writers fs) q ≡ None
-
 -- the physical bit of a logical bit in a run
 abbrev pub run_mapped : ℕ → ℕ → ℕ → ℕ → Option ℕ
 run_mapped logical physical n l = if within logical n l then Some (physical + (l - logical)) else None
-
--- what n bits from a physical bit on show, told as the bits from `to` on
-abbrev pub run_shown : (ℕ → Option Bool) → ℕ → ℕ → ℕ → ℕ → Option Bool
-run_shown shown physical to n i = if within to n i then shown (physical + (i - to)) else None
 
 -- the logical bit of a physical bit in a run
 abbrev pub run_unmapped : ℕ → ℕ → ℕ → ℕ → Option ℕ

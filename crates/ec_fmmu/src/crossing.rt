@@ -1,7 +1,8 @@
 //! Whether what is read may be written as well.
 
 ghost use Rattle.std.specs.Bool.{OnTrue};
-ghost use Rattle.ec_fmmu.specs.Alone.{AreApart, IsUnwritten};
+ghost use Rattle.ec_fmmu.specs.Alone.{IsUnwritten};
+ghost use Rattle.ec_fmmu.specs.Apart.{AreApart};
 
 use crate::mapping::Fmmu;
 

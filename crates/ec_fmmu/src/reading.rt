@@ -2,7 +2,8 @@ ghost use Rattle.std.specs.Prelude.{◌≡◌, ◌<◌, ◌+◌, ◌*◌, ◌^�
 ghost use Rattle.ec_bits.specs.Bits.{overlay, any_below};
 ghost use Rattle.ec_regs.specs.Memory.{ram_start, ram_end};
 ghost use Rattle.ec_regs.specs.Fmmus.{no_fmmu};
-ghost use Rattle.ec_fmmu.specs.Alone.{run_mapped, run_shown};
+ghost use Rattle.ec_fmmu.specs.Alone.{run_mapped};
+ghost use Rattle.ec_fmmu.specs.Apart.{run_shown};
 ghost use Rattle.ec_fmmu.specs.Applied.{read_told};
 ghost use Rattle.ec_fmmu.specs.Ranges.{range_read_told};
 ghost use Rattle.ec_fmmu.specs.Ways.{IsInRam};

@@ -3,7 +3,7 @@
 ghost use Rattle.std.specs.Prelude.{◌≡◌, ◌+◌, ◌<◌, ◌≤◌, ◌^◌, ℕ, None, true, false, get_or, length};
 ghost use Rattle.std.specs.Bool.{OnTrue};
 ghost use Rattle.ec_regs.specs.Fmmus.{no_fmmu};
-ghost use Rattle.ec_fmmu.specs.Alone.{AreApart};
+ghost use Rattle.ec_fmmu.specs.Apart.{AreApart};
 ghost use Rattle.ec_fmmu.specs.Applied.{data_bit_for};
 ghost use Rattle.ec_fmmu.specs.Pairs.{reaches};
 ghost use Rattle.ec_fmmu.specs.Sets.{target, readers};
@@ -79,7 +79,7 @@ impl Model for FmmuTable {
     ghost use Rattle.std.specs.Prelude.{◌≡◌, ◌≤◌, List, length};
     ghost use Rattle.std.specs.Bool.{OnTrue};
     ghost use Rattle.ec_regs.specs.declared.fmmu.FmmuSettings.{FmmuSettings};
-    ghost use Rattle.ec_fmmu.specs.Alone.{AreApart};
+    ghost use Rattle.ec_fmmu.specs.Apart.{AreApart};
     ghost use Rattle.ec_fmmu.specs.Stretches.{IsAround};
     ghost use Rattle.ec_fmmu.specs.Ways.{AreClosedFrom, AreReadWays, AreWriteWays};
 

@@ -2,7 +2,8 @@ use Rattle.std.proofs.Common.{ℕ, ap, ◌+◌, ◌-◌, ◌*◌, ◌<◌, ◌�
 use Rattle.ec_bits.specs.Bits.{bit}
 use Rattle.ec_bits.proofs.BitLaws.{overlay_own, overlay_alike}
 use Rattle.ec_bits.proofs.AnyLaws.{any_below_none, any_below-alike}
-use Rattle.ec_fmmu.specs.Alone.{run_mapped, run_shown}
+use Rattle.ec_fmmu.specs.Alone.{run_mapped}
+use Rattle.ec_fmmu.specs.Apart.{run_shown}
 use Rattle.ec_fmmu.proofs.AloneLaws.{run_tells, run_empty}
 use Rattle.ec_fmmu.proofs.reading.read_alone.Goals as goal
 

@@ -2,7 +2,7 @@ use Rattle.std.proofs.Common.{ℕ, List, ap, ◌+◌, ◌-◌, ◌*◌, ◌<◌,
 use Rattle.std.proofs.lemmas.Bool.{cases_lt}
 use Rattle.ec_bits.proofs.AnyLaws.{if_true, if_false, within_true, within_below, within_above}
 use Rattle.ec_bits.proofs.Overlays.{Telling, telling_none, telling_next, telling_end, Counted, counted_none, counted_next, counted_end}
-use Rattle.ec_fmmu.specs.Alone.{run_shown}
+use Rattle.ec_fmmu.specs.Apart.{run_shown}
 use Rattle.ec_fmmu.proofs.reading.show_by_bits.Goals as goal
 
 pub loop-k-init : goal.loop-k-init

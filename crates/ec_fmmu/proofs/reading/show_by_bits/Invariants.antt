@@ -1,6 +1,6 @@
 use Rattle.std.proofs.Common.{◌<◌, ◌+◌, ◌*◌, length}
 use Rattle.ec_bits.proofs.Overlays.{Telling, Counted}
-use Rattle.ec_fmmu.specs.Alone.{run_shown}
+use Rattle.ec_fmmu.specs.Apart.{run_shown}
 use Rattle.ec_fmmu.proofs.reading.show_by_bits.Given as goal
 
 abbrev pub invariant-loop-k : goal.invariant-loop-k
