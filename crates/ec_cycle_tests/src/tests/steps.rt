@@ -3,7 +3,9 @@ ghost use Rattle.std.specs.Prelude.{IfOk};
 ghost use Rattle.ec_link.specs.Usable.{IsUsable};
 
 use ec_cycle::{CycleError, Master, Report, Taken};
+use ec_frame::Frame;
 use ec_link::{Plan, Predicted, compile};
+use ec_start::{NextFrame, Phase, Startup};
 use ec_table::read_table;
 use std::alloc::Global;
 use std::process::Abort;
@@ -55,6 +57,31 @@ fn plan_of(alloc: Global, text: &str) -> Result<Plan, Fail>
     Ok(plan)
 }
 
+/// A start-up of no slaves that has sent its only frame, with this number, and got it back as it was sent.
+fn ended_startup(rt: &(impl AllocGlobal + Abort), number: u64) -> Result<Startup, Fail> {
+    let plan = plan_of(rt.alloc(), "")?;
+    assert!(rt; Startup::can_start(&plan));
+    let mut startup = Startup::new(rt.alloc(), &plan, number)?;
+    let mut frame = Frame::new();
+    assert_eq!(rt; startup.next(&mut frame), NextFrame::Send);
+    assert_eq!(rt; startup.take(frame.as_slice()), Taken::Kept);
+    Ok(startup)
+}
+
+/// The master becomes ready by a start-up whose next number is this.
+fn make_ready(
+    rt: &(impl AllocGlobal + Abort),
+    master: &mut Master,
+    number: u64,
+) -> Result<(), Fail> {
+    let last = number.checked_sub(1).ok_or("a number behind another")?;
+    let startup = ended_startup(rt, last)?;
+    assert_eq!(rt; startup.phase(), Phase::Ready);
+    assert_eq!(rt; startup.next_number(), number);
+    master.ready(&startup);
+    Ok(())
+}
+
 fn set(rt: &impl Abort, master: &mut Master, variable: usize, value: u64) {
     assert!(rt; master.can_set(variable, value));
     master.set(variable, value);
@@ -89,10 +116,9 @@ fn assert_report(
     assert_eq!(rt; report.al_word(), al_word);
 }
 
-/// What is done with the image and the numbers.
+/// What is done with the image, and what is seen of the numbers.
 fn take_call(rt: &impl Abort, master: &mut Master, step: Step) {
     match step {
-        Step::Ready(number) => master.become_ready(number),
         Step::Sets(variable, value) => set(rt, master, variable, value),
         Step::Denied(variable, value) => assert!(rt; !master.can_set(variable, value)),
         Step::Reads(variable, value) => assert_value(rt, master, variable, value),
@@ -101,13 +127,14 @@ fn take_call(rt: &impl Abort, master: &mut Master, step: Step) {
     }
 }
 
-/// What is done with cycles.
+/// What is done with start-ups and cycles.
 fn take_cycle(
     rt: &(impl AllocGlobal + Abort),
     master: &mut Master,
     step: Step,
 ) -> Result<(), Fail> {
     match step {
+        Step::Ready(number) => make_ready(rt, master, number)?,
         Step::Begins => assert_eq!(rt; master.begin(), Ok(())),
         Step::Refused(error) => assert_eq!(rt; master.begin(), Err(error)),
         Step::Sends(part, row) => assert_frame(rt, master, part, &bytes_of(rt.alloc(), row)?),
