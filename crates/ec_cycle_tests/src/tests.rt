@@ -1,4 +1,5 @@
-//! Cycles of the table with three slaves, as tables of steps; what comes back is written by hand.
+//! Cycles as tables of steps; what comes back is written by hand. These are of the table with three slaves.
+mod full;
 mod steps;
 
 use self::steps::Step::{

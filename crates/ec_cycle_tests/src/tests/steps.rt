@@ -7,11 +7,11 @@ use ec_frame::Frame;
 use ec_link::{Plan, Predicted, compile};
 use ec_start::{NextFrame, Phase, Startup};
 use ec_table::read_table;
-use std::alloc::Global;
+use std::alloc::{AllocError, Global};
 use std::process::Abort;
 use std::test::Fail;
 
-/// A step. Rows are hexadecimal digits with blanks between fields.
+/// A step. Rows are hexadecimal digits with blanks between fields; the field `+7` stands for seven bytes of zeros.
 #[derive(Clone, Copy, Drop)]
 pub enum Step<'a> {
     /// A start-up ended Ready, with this next number.
@@ -40,11 +40,22 @@ pub enum Step<'a> {
     NotOpen,
 }
 
-/// The bytes of a row of hexadecimal digits.
+/// Appends so many zeros.
+fn push_zeros(bytes: &mut Vec<u8>, count: u16) -> Result<(), AllocError> {
+    for _ in 0..count {
+        bytes.push(0)?;
+    }
+    Ok(())
+}
+
+/// The bytes of a row.
 fn bytes_of(alloc: Global, row: &str) -> Result<Vec<u8>, Fail> {
     let mut bytes = Vec::new(alloc);
     for field in row.split_whitespace() {
-        bytes.extend_from_slice(&hex::decode(alloc, field)?)?;
+        match field.strip_prefix("+") {
+            Some(count) => push_zeros(&mut bytes, count.parse::<u16>()?)?,
+            None => bytes.extend_from_slice(&hex::decode(alloc, field)?)?,
+        }
     }
     Ok(bytes)
 }
