@@ -26,6 +26,8 @@ enum Trouble {
     Reset(usize),
     /// A slave's application faults, where it is in OP.
     Fault(usize),
+    /// A byte of the frame becomes 0.
+    Zeroed(usize),
 }
 
 fn plan_of(alloc: Global, text: &str) -> Result<Plan, Fail> {
@@ -39,8 +41,8 @@ fn startup_of(rt: &(impl AllocGlobal + Abort), plan: &Plan, from: u64) -> Result
     Ok(Startup::new(rt.alloc(), plan, from)?)
 }
 
-/// The three slaves as they are switched on, their revisions being told.
-fn ring_of(alloc: Global, plan: &Plan, revisions: [u32; 3]) -> Result<Ring, Fail> {
+/// The slaves of a plan as they are switched on, one for each revision that is told.
+fn ring_of(alloc: Global, plan: &Plan, revisions: &[u32]) -> Result<Ring, Fail> {
     let mut slaves = Vec::new(alloc);
     for (settings, (place, revision)) in plan.slaves().iter().zip(revisions.iter().enumerate()) {
         let identity = Identity {
@@ -77,7 +79,7 @@ fn all_show(ring: &Ring, status: u8) -> bool {
 fn three_slaves_come_up(rt: HostRuntime) -> Result<(), Fail> {
     let plan = plan_of(rt.alloc(), THREE_SLAVES)?;
     let mut startup = startup_of(&rt, &plan, 0)?;
-    let mut ring = ring_of(rt.alloc(), &plan, [1; 3])?;
+    let mut ring = ring_of(rt.alloc(), &plan, &[1; 3])?;
     brought_up(&mut startup, &mut ring)?;
     assert_eq!(rt; startup.outcome(), Some(Ok(())));
     assert_eq!(rt; startup.next_number(), 75);
@@ -86,62 +88,119 @@ fn three_slaves_come_up(rt: HostRuntime) -> Result<(), Fail> {
     Ok(())
 }
 
-// Slave 1 shows revision 2 where its type has 1; no slave has left INIT.
+/// A start-up that failed begins anew.
+fn begin_anew(startup: &mut Startup) -> Result<(), Fail> {
+    if !startup.has_failed() {
+        return Err("a failure".into());
+    }
+    startup.restart();
+    Ok(())
+}
+
+/// Over a ring that isn't the plan's a start-up fails after so many frames, and so does a second one, from the next number. A
+/// third, over the plan's own slaves, ends Ready.
+fn fails_until_right(
+    rt: &(impl AllocGlobal + Abort),
+    wrong: &mut Ring,
+    error: StartError,
+    frames: u8,
+) -> Result<(), Fail> {
+    let plan = plan_of(rt.alloc(), THREE_SLAVES)?;
+    let mut startup = startup_of(rt, &plan, 0)?;
+    let each = u64::from(frames);
+    for sent in [each, 2 * each] {
+        brought_up(&mut startup, wrong)?;
+        assert_eq!(rt; startup.phase(), Phase::Failed(error));
+        assert_eq!(rt; startup.next_number(), sent);
+        begin_anew(&mut startup)?;
+    }
+    let mut right = ring_of(rt.alloc(), &plan, &[1; 3])?;
+    brought_up(&mut startup, &mut right)?;
+    assert_eq!(rt; startup.outcome(), Some(Ok(())));
+    assert_eq!(rt; startup.next_number(), 2 * each + 75);
+    Ok(())
+}
+
+// The first frame counts two slaves of three.
+#[test]
+fn a_slave_is_missing(rt: HostRuntime) -> Result<(), Fail> {
+    let plan = plan_of(rt.alloc(), THREE_SLAVES)?;
+    let mut ring = ring_of(rt.alloc(), &plan, &[1; 2])?;
+    fails_until_right(&rt, &mut ring, StartError::Count { seen: 2 }, 1)
+}
+
+// Slave 1 shows revision 2 where its type has 1: told by the third of its words, the sixth that is read. No slave has left INIT.
 #[test]
 fn another_revision(rt: HostRuntime) -> Result<(), Fail> {
     let plan = plan_of(rt.alloc(), THREE_SLAVES)?;
-    let mut startup = startup_of(&rt, &plan, 0)?;
-    let mut ring = ring_of(rt.alloc(), &plan, [1, 2, 1])?;
-    brought_up(&mut startup, &mut ring)?;
+    let mut ring = ring_of(rt.alloc(), &plan, &[1, 2, 1])?;
     let seen = Device {
         vendor: 0xABCD,
         product: 2,
         revision: 2,
     };
     let error = StartError::Identity { slave: 1, seen };
-    assert_eq!(rt; startup.outcome(), Some(Err(error)));
+    fails_until_right(&rt, &mut ring, error, 21)?;
     assert!(rt; all_show(&ring, 1));
     Ok(())
 }
 
+// The last frame has no number. Begun anew it has none at all; one from number 0 comes up over the same slaves.
 #[test]
 fn numbers_are_spent(rt: HostRuntime) -> Result<(), Fail> {
     let plan = plan_of(rt.alloc(), THREE_SLAVES)?;
     let mut startup = startup_of(&rt, &plan, u64::MAX - 74)?;
-    let mut ring = ring_of(rt.alloc(), &plan, [1; 3])?;
-    brought_up(&mut startup, &mut ring)?;
-    assert_eq!(rt; startup.outcome(), Some(Err(StartError::NumbersSpent)));
+    let mut ring = ring_of(rt.alloc(), &plan, &[1; 3])?;
+    for _ in 0..2 {
+        brought_up(&mut startup, &mut ring)?;
+        assert_eq!(rt; startup.outcome(), Some(Err(StartError::NumbersSpent)));
+        assert_eq!(rt; startup.next_number(), u64::MAX);
+        begin_anew(&mut startup)?;
+    }
+    let mut second = startup_of(&rt, &plan, 0)?;
+    brought_up(&mut second, &mut ring)?;
+    assert_eq!(rt; second.outcome(), Some(Ok(())));
+    assert_eq!(rt; second.next_number(), 75);
     Ok(())
 }
 
-/// A slave is reset, or has a fault.
-fn make_trouble(ring: &mut Ring, trouble: Trouble) {
+/// A slave is reset, or has a fault, or a byte of the frame becomes 0.
+fn make_trouble(ring: &mut Ring, payload: &mut [u8], trouble: Trouble) {
     match trouble {
         Trouble::Reset(place) if place < ring.len() => ring.slave_mut(place).reset(),
         Trouble::Fault(place) if place < ring.len() => {
             ring.slave_mut(place).fault();
         }
+        Trouble::Zeroed(place) if place < payload.len() => payload[place] = 0,
         _ => {}
     }
 }
 
+/// A frame passes the slaves from one place on, up to another.
+fn pass_slaves(ring: &mut Ring, payload: &mut [u8], from: usize, to: usize) -> Result<(), Fail> {
+    for place in from..to {
+        if place < ring.len() {
+            ring.pass_one(payload, place)?;
+        }
+    }
+    Ok(())
+}
+
 /// A frame passes all slaves; the trouble comes before the slave at a place, or behind all of them. False where the frame is
-/// lost.
+/// lost there: then it has passed the slaves before that place and no other.
 fn pass_in_trouble(
     ring: &mut Ring,
     payload: &mut [u8],
     at: usize,
     trouble: Trouble,
 ) -> Result<bool, Fail> {
-    for place in 0..4 {
-        if place == at {
-            make_trouble(ring, trouble);
-        }
-        if place < ring.len() {
-            ring.pass_one(payload, place)?;
-        }
+    pass_slaves(ring, payload, 0, at)?;
+    if trouble == Trouble::Lost {
+        return Ok(false);
     }
-    Ok(trouble != Trouble::Lost)
+    make_trouble(ring, payload, trouble);
+    pass_slaves(ring, payload, at, 3)?;
+    Ok(true)
 }
 
 /// Each slave serves once.
@@ -198,20 +257,21 @@ fn may_end(outcome: Option<Result<(), StartError>>, trouble: Trouble) -> bool {
         (Trouble::Reset(_), Some(Err(StartError::TooSlow { .. }))) => true,
         (Trouble::Fault(_), Some(Ok(()))) => true,
         (Trouble::Fault(_), Some(Err(StartError::AlError { code: 1, .. }))) => true,
+        (Trouble::Zeroed(_), Some(Err(StartError::BadMailbox { slave: 2 }))) => true,
         _ => false,
     }
 }
 
-/// New slaves meet trouble in the frame of a number, and then come up undisturbed.
+/// New slaves meet trouble in the frame of a number, and then come up undisturbed. It answers the number behind the last frame.
 fn rise_twice(
     rt: &(impl AllocGlobal + Abort),
     plan: &Plan,
     number: u64,
     at: usize,
     trouble: Trouble,
-) -> Result<(), Fail> {
+) -> Result<u64, Fail> {
     let mut startup = startup_of(rt, plan, 0)?;
-    let mut ring = ring_of(rt.alloc(), plan, [1; 3])?;
+    let mut ring = ring_of(rt.alloc(), plan, &[1; 3])?;
     rise_in_trouble(&mut startup, &mut ring, number, at, trouble)?;
     assert!(rt;
         may_end(startup.outcome(), trouble),
@@ -226,7 +286,7 @@ fn rise_twice(
         Some(Ok(())),
         "{number} {at} {trouble:?}"
     );
-    Ok(())
+    Ok(startup.next_number())
 }
 
 /// Trouble of a kind, at a slave.
@@ -234,7 +294,7 @@ fn at_slave(kind: Trouble, slave: usize) -> Trouble {
     match kind {
         Trouble::Reset(_) => Trouble::Reset(slave),
         Trouble::Fault(_) => Trouble::Fault(slave),
-        Trouble::None | Trouble::Lost => kind,
+        Trouble::None | Trouble::Lost | Trouble::Zeroed(_) => kind,
     }
 }
 
@@ -263,9 +323,17 @@ fn trouble_everywhere(rt: &(impl AllocGlobal + Abort), kind: Trouble) -> Result<
     Ok(())
 }
 
+// Each frame, before slave 0 and behind each slave's pass: whoever it had passed, the second start-up takes 75 frames.
 #[test]
 fn a_frame_is_lost(rt: HostRuntime) -> Result<(), Fail> {
-    trouble_everywhere(&rt, Trouble::Lost)
+    let plan = plan_of(rt.alloc(), THREE_SLAVES)?;
+    for number in 0..75 {
+        for at in 0..4 {
+            let next = rise_twice(&rt, &plan, number, at, Trouble::Lost)?;
+            assert_eq!(rt; next, number + 76);
+        }
+    }
+    Ok(())
 }
 
 #[test]
@@ -277,6 +345,18 @@ fn a_slave_is_reset(rt: HostRuntime) -> Result<(), Fail> {
 #[test]
 fn a_slave_has_a_fault(rt: HostRuntime) -> Result<(), Fail> {
     trouble_everywhere(&rt, Trouble::Fault(0))
+}
+
+// Frame 36 brings slave 2's first reply, from byte 34 on: its length is 10 at first, its type 3 at byte 39, and byte 44 is the
+// high one of its index. With a 0 there it is no reply that fits.
+#[test]
+fn a_reply_does_not_fit(rt: HostRuntime) -> Result<(), Fail> {
+    let plan = plan_of(rt.alloc(), THREE_SLAVES)?;
+    for place in [34, 39, 44] {
+        let next = rise_twice(&rt, &plan, 36, 3, Trouble::Zeroed(place))?;
+        assert_eq!(rt; next, 37 + 75);
+    }
+    Ok(())
 }
 
 /// The next frame passes all slaves, none of which serves, and is taken back.
@@ -301,7 +381,7 @@ fn turns_unserved(startup: &mut Startup, ring: &mut Ring, count: usize) {
 fn no_slave_serves(rt: HostRuntime) -> Result<(), Fail> {
     let plan = plan_of(rt.alloc(), THREE_SLAVES)?;
     let mut startup = startup_of(&rt, &plan, 0)?;
-    let mut ring = ring_of(rt.alloc(), &plan, [1; 3])?;
+    let mut ring = ring_of(rt.alloc(), &plan, &[1; 3])?;
     turns_unserved(&mut startup, &mut ring, 2000);
     let error = StartError::TooSlow { step: 10 };
     assert_eq!(rt; startup.outcome(), Some(Err(error)));
@@ -310,17 +390,7 @@ fn no_slave_serves(rt: HostRuntime) -> Result<(), Fail> {
     Ok(())
 }
 
-/// How a start-up of the three slaves ends where the slaves are those of another table.
-fn end_over(rt: &(impl AllocGlobal + Abort), slaves: &str) -> Result<Phase, Fail> {
-    let plan = plan_of(rt.alloc(), THREE_SLAVES)?;
-    let other = plan_of(rt.alloc(), slaves)?;
-    let mut startup = startup_of(rt, &plan, 0)?;
-    let mut ring = ring_of(rt.alloc(), &other, [1; 3])?;
-    brought_up(&mut startup, &mut ring)?;
-    Ok(startup.phase())
-}
-
-// Slave 2 has an output entry of 11 bits, or no PDO 0x1600.
+// Slave 2 has an output entry of 11 bits, or no PDO 0x1600: told by its second reply, or by its first.
 #[test]
 fn another_mapping(rt: HostRuntime) -> Result<(), Fail> {
     let mapping = StartError::Mapping {
@@ -333,9 +403,11 @@ fn another_mapping(rt: HostRuntime) -> Result<(), Fail> {
         slave: 2,
         code: 0x0602_0000,
     };
-    let rows = [(SHORT_ENTRY, mapping), (OTHER_PDO, abort)];
-    for (slaves, error) in rows {
-        assert_eq!(rt; end_over(&rt, slaves)?, Phase::Failed(error));
+    let rows = [(SHORT_ENTRY, mapping, 39), (OTHER_PDO, abort, 37)];
+    for (slaves, error, frames) in rows {
+        let other = plan_of(rt.alloc(), slaves)?;
+        let mut ring = ring_of(rt.alloc(), &other, &[1; 3])?;
+        fails_until_right(&rt, &mut ring, error, frames)?;
     }
     Ok(())
 }
