@@ -28,6 +28,7 @@ pub mod Runs
 pub mod Using
 pub mod Ways
 pub mod Whole
+pub mod ScriptLengths
 pub mod NewWorlds
 pub mod Turning
 pub mod Promising

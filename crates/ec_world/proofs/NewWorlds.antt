@@ -18,6 +18,7 @@ use Rattle.ec_rise.specs.ComesUp.{IsUpAndWorks}
 use Rattle.ec_world.specs.World.{WorldState}
 use Rattle.ec_world.specs.Laws.{IsRun}
 use Rattle.ec_world.specs.NewWorld.{no_identity, IsOfType, NewUpLaw, NewRunLaw, undisturbed}
+use Rattle.ec_world.proofs.ScriptLengths.{script_fits}
 use Rattle.ec_world.proofs.Turning.{turns-all}
 
 device-on : (p : Settings) (i : Identity) → IsOfType p.kind.device i → IsDevice p.kind (power_on p.kind i)
@@ -60,9 +61,10 @@ new-slots : (t : Contents) (is : List Identity) → (new_world (plan_of t) is).s
 new-slots t is = refl
 
 pub new_run : NewRunLaw
-new_run t is sound free e h room v made run =
+new_run t is sound free e h v made run =
     let ps : List Settings = (plan_of t).slaves in
     let w : WorldState = new_world (plan_of t) is in
+    let room = script_fits t sound free in
     let up = compiled-up t sound free 0 (switched_on ps is) (devices t is sound free e h) in
     let n : length w.slaves ≡ length t.slaves = length-on ps is (same t is sound free e h) ∙ many t is sound free e h in
     let r = turns-all (length (script ps)) 63 w v made

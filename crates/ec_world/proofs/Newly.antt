@@ -40,5 +40,5 @@ told-new t is w es v made new run =
 
 pub up-new : (t : Contents) (is : List Identity) (w : WorldState) (es : List Event) (v : WorldState) (made : ℕ) → IsNew t is w → IsUndisturbed t is es → IsRun w es v made → ComesUp t v
 up-new t is w es v made new quiet run =
-    new_run t is new.sound new.accepted new.one_each quiet.devices quiet.numbers v made
+    new_run t is new.sound new.accepted new.one_each quiet.devices v made
     (subst (λ (xs : List Event). IsRun (new_world (plan_of t) is) xs v made) quiet.is (subst (λ (x : WorldState). IsRun x es v made) new.is run))

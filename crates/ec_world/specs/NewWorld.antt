@@ -1,5 +1,5 @@
 -- A new world of a table that `compile` accepts, undisturbed, is Ready after one frame for each action of the script.
-use Rattle.std.specs.Prelude.{ℕ, zero, suc, ◌+◌, ◌<◌, ◌≤◌, ◌≡◌, List, [], ◌∷◌, ◌++◌, length, get_or, None}
+use Rattle.std.specs.Prelude.{ℕ, zero, suc, ◌+◌, ◌<◌, ◌≡◌, List, [], ◌∷◌, ◌++◌, length, get_or, None}
 use Rattle.ec_regs.specs.declared.slave_type.Device.{Device}
 use Rattle.ec_regs.specs.declared.slave_type.Identity.{Identity}
 use Rattle.ec_regs.specs.Types.{plain_kind, device_identity}
@@ -11,7 +11,6 @@ use Rattle.ec_link.specs.Meaning.{slave_at}
 use Rattle.ec_start.specs.Scripts.{script}
 use Rattle.ec_rise.specs.Undisturbed.{Rising, turns}
 use Rattle.ec_rise.specs.ComesUp.{IsUpAndWorks}
-use Rattle.ec_cycle.specs.Master.{cycle_limit}
 use Rattle.ec_world.specs.declared.event.Event.{Event}
 use Rattle.ec_world.specs.declared.event.Event.TheVariants.{StartNext, Pass, Return, Serve}
 use Rattle.ec_world.specs.World.{WorldState}
@@ -57,12 +56,11 @@ abbrev pub undisturbed : ℕ → ℕ → List Event
 undisturbed n zero = []
 undisturbed n (suc k) = frame_events n ++ undisturbed n k
 
--- After these events a new world is ready, where there are numbers enough.
+-- After these events a new world is ready.
 abbrev pub NewRunLaw : Type 0
 NewRunLaw =
     (t : Contents) (identities : List Identity) → table.IsSound t → compile_fault t ≡ None → length identities ≡ length t.slaves
     → ((i : ℕ) → i < length t.slaves → IsOfType (slave_at (plan_of t) i).kind.device (get_or identities i no_identity))
-    → length (script (plan_of t).slaves) ≤ cycle_limit
     → (v : WorldState) (made : ℕ) → IsRun (new_world (plan_of t) identities) (undisturbed (length t.slaves) (length (script (plan_of t).slaves))) v made
     → IsUpAndWorks (plan_of t).slaves (0 + length (script (plan_of t).slaves)) (rising_of v)
 
@@ -73,7 +71,6 @@ AreOfTypes t identities = (i : ℕ) → i < length t.slaves → IsOfType (slave_
 -- the events of a start-up that nothing disturbs, over devices of the table's types
 pub record IsUndisturbed (t : Contents) (identities : List Identity) (events : List Event) : Type 0 where
   pub devices : AreOfTypes t identities
-  pub numbers : length (script (plan_of t).slaves) ≤ cycle_limit
   pub is : events ≡ undisturbed (length t.slaves) (length (script (plan_of t).slaves))
 
 -- the start-up is Ready, after a frame for each of its steps, and every slave is in OP as planned
