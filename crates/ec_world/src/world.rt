@@ -157,7 +157,7 @@ impl<'p> World<'p> {
         self.plan
     }
 
-    /// Whether its start-up ended Ready, with all slaves in OP.
+    /// Whether its start-up ended Ready. That stays so when a slave has a fault or is reset afterwards.
     pub fn is_ready(&self) -> bool
         ensures { result ≡ is_up self.now.start }
     {
