@@ -20,6 +20,7 @@ use Rattle.ec_cycle.specs.Master.{OpenCycle}
 use Rattle.ec_world.specs.Plain.{Note, Other, Short, Full, Cycle, is_full, all_full, unit_full, noted_bit, notes_of_part, taken_bit, inputs_taken}
 use Rattle.ec_world.specs.FrameShows.{note_at}
 use Rattle.ec_world.specs.Shows.{CycleShows, said, CountersPredicted}
+use Rattle.ec_world.specs.Promises.{IsCounted}
 use Rattle.ec_world.proofs.Settings.{get_or-mapped}
 use Rattle.ec_world.proofs.Knowing.{share_is}
 use Rattle.ec_world.proofs.Lists.{all_from-each, all_from-alike, nones-alike, there_too, map-alike, all_each}
@@ -118,14 +119,40 @@ good_counters : (plan : PlanState) (k : ℕ) (o : Option KeptPart) → is_good p
 good_counters plan k None e = absurd (let z : false ≡ true = e in cc)
 good_counters plan k (Some q) e = ap (λ x. Some x) (counters_equal q.counters (predicted plan k) (and_parts (q.broadcast == length plan.slaves) (same_counters q.counters (predicted plan k)) e).1)
 
+-- each part of a taken unit is good
+good_part : (plan : PlanState) (kept : List (Option KeptPart)) (k : ℕ) → length kept ≡ length plan.parts → k < length plan.parts → unit_taken plan kept (part_at plan.parts k).unit ≡ true
+    → is_good plan k (get_or kept k None) ≡ true
+good_part plan kept k len there on =
+    let u = (part_at plan.parts k).unit in
+    let z : 0 + k ≡ k = omega arith in
+    sym (if_true (u == u) (is_good plan k (get_or kept k None)) true (eq-eqb u u refl))
+    ∙ subst (λ (n : ℕ). (if (part_at plan.parts n).unit == u then is_good plan n (get_or kept k None) else true) ≡ true) z
+    (all_from-each (λ j o. if (part_at plan.parts j).unit == u then is_good plan j o else true) 0 kept k None on (omega (arith, len, there)))
+
+counted_one : (plan : PlanState) (kept : List (Option KeptPart)) (k : ℕ) (o : Option KeptPart) → get_or kept k None ≡ o → is_good plan k o ≡ true → IsCounted plan kept (report_of plan kept) k
+counted_one plan kept k None at e = absurd (let z : false ≡ true = e in cc)
+counted_one plan kept k (Some q) at e =
+    let both = and_parts (q.broadcast == length plan.slaves) (same_counters q.counters (predicted plan k)) e in
+    record {
+      part = q;
+      back = at;
+      broadcast = eqb-true q.broadcast (length plan.slaves) both.0;
+      counters = counters_equal q.counters (predicted plan k) both.1;
+      told = get_or-mapped (λ (o : Option KeptPart). option_map (λ q. q.counters) o) kept k None ∙ ap (λ (o : Option KeptPart). option_map (λ q. q.counters) o) at;
+    }
+
+-- each part of a unit that the plain machine takes came back with the predicted counters
+pub counted : (plan : PlanState) (c : OpenCycle) (q : Cycle) (k : ℕ) → CycleShows plan c q → k < length plan.parts → unit_full (meaning plan) q (unit_of_part (meaning plan) k) ≡ true
+    → IsCounted plan c.kept (report_of plan c.kept) k
+counted plan c q k h there on =
+    let u = (part_at plan.parts k).unit in
+    let taken : unit_taken plan c.kept u ≡ true = taken_is_full plan c q u h ∙ (ap (unit_full (meaning plan) q) (sym (unit_is plan k)) ∙ on) in
+    counted_one plan c.kept k (get_or c.kept k None) refl (good_part plan c.kept k h.each_part there taken)
+
 -- a taken unit has the predicted counters
 pub counters_predicted : (plan : PlanState) (kept : List (Option KeptPart)) → length kept ≡ length plan.parts → CountersPredicted plan (report_of plan kept)
 counters_predicted plan kept len i k b taken there unit =
     let u = get_or plan.units i 0 in
     let on : unit_taken plan kept u ≡ true = sym (get_or-map (unit_taken plan kept) plan.units i 0 false b) ∙ taken in
-    let z : 0 + k ≡ k = omega arith in
-    let own : is_good plan k (get_or kept k None) ≡ true
-    = sym (if_true ((part_at plan.parts k).unit == u) (is_good plan k (get_or kept k None)) true (eq-eqb _ _ unit))
-    ∙ subst (λ (n : ℕ). (if (part_at plan.parts n).unit == u then is_good plan n (get_or kept k None) else true) ≡ true) z
-    (all_from-each (λ j o. if (part_at plan.parts j).unit == u then is_good plan j o else true) 0 kept k None on (omega arith)) in
+    let own : is_good plan k (get_or kept k None) ≡ true = good_part plan kept k len there (ap (unit_taken plan kept) unit ∙ on) in
     get_or-mapped (λ (o : Option KeptPart). option_map (λ q. q.counters) o) kept k None ∙ good_counters plan k (get_or kept k None) own

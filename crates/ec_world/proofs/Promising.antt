@@ -1,5 +1,5 @@
 -- What is promised to a user, of each world that shows a plain state.
-use Rattle.std.proofs.Common.{ℕ, suc, ◌+◌, ◌*◌, ◌<◌, ◌≡◌, ◌≢◌, ◌==◌, ◌&&◌, ◌||◌, Bool, true, false, Option, Some, None, refl, sym, ◌∙◌, ap, subst, inl, inr, arith, List, [], ◌∷◌, length, get_or, set, is_some, if◌then◌else◌, option_map, option_and_then, unwrap_or, nat_lt, slice_get, get_or-set_same, get_or-set_other}
+use Rattle.std.proofs.Common.{ℕ, suc, ◌+◌, ◌*◌, ◌<◌, ◌≡◌, ◌≢◌, ◌==◌, ◌&&◌, ◌||◌, Bool, true, false, Option, Some, None, refl, sym, ◌∙◌, ap, subst, inl, inr, arith, List, [], ◌∷◌, length, get_or, set, is_some, if◌then◌else◌, option_map, option_and_then, unwrap_or, nat_lt, slice_get, get_or-set_same, get_or-set_other, length-set}
 use Rattle.std.specs.List.{list_all}
 use Rattle.std.proofs.lemmas.Bool.{cases_Bool, and_parts, ltb-true, eqb-true, eq-eqb}
 use Rattle.std.proofs.lemmas.List.{length-map, length-replicate}
@@ -20,20 +20,21 @@ use Rattle.ec_link.specs.Usable.{IsUsable}
 use Rattle.ec_link.specs.Plan.{PlanState}
 use Rattle.ec_link.proofs.LinkLaws.{ins_linked}
 use Rattle.ec_cycle.specs.Closing.{ReportState, report_of, inputs_closed, all_from}
-use Rattle.ec_cycle.specs.Master.{OpenCycle, closed}
+use Rattle.ec_cycle.specs.Master.{OpenCycle}
 use Rattle.ec_world.specs.Plain.{Plain, PlainSlave, PlainFrame, Health, Note, Other, Short, Full, Cycle, Working, Faulted, Reset, unit_full, all_full, is_full, Closed, giving, plain_slave, linked_outputs, inputs_taken, taken_bit, noted_bit, notes_of_part, progress_of, all_progress, may_pass, lets_by}
-use Rattle.ec_world.specs.World.{WorldState, slave_of, no_slave, flight_at, flight_progress, flights_progress, Passes, Closes, ByStart, GivesUp}
+use Rattle.ec_world.specs.declared.progress.Progress.{Progress}
+use Rattle.ec_world.specs.World.{WorldState, Flight, slave_of, no_slave, flight_at, flight_progress, flights_progress, Passes, Closes, ByStart, GivesUp}
 use Rattle.ec_world.specs.Exchanging.{given_by, given_in, slave_left}
 use Rattle.ec_world.specs.FrameShows.{note_at}
-use Rattle.ec_world.specs.Shows.{Shows, CycleShows, CyclesShow, CountersPredicted}
-use Rattle.ec_world.specs.Promises.{AreLinked, has_outputs_for, IsPublished, OutputsLaw, FallsShort, NotesLaw, IsNoted, IsMissed, NotBack, FellShort, unit_of_slave, InputsLaw}
+use Rattle.ec_world.specs.Shows.{Shows, CycleShows, CyclesShow}
+use Rattle.ec_world.specs.Promises.{AreLinked, has_outputs_for, IsPublished, OutputsLaw, FallsShort, NotesLaw, IsNoted, IsMissed, NotBack, FellShort, unit_of_slave, IsCounted, InputsLaw}
 use Rattle.ec_world.proofs.FramePass.{frame_pass}
 use Rattle.ec_world.proofs.FrameSteps.{pass_can}
 use Rattle.ec_world.proofs.InSlots.{flight_pairs}
 use Rattle.ec_world.proofs.Lists.{all_from-each, all_each, there_too}
 use Rattle.ec_world.proofs.Knowing.{share_is}
 use Rattle.ec_world.proofs.MasterSteps.{open_both}
-use Rattle.ec_world.proofs.CloseLaws.{inputs_same, report_said, counters_predicted}
+use Rattle.ec_world.proofs.CloseLaws.{inputs_same, report_said, counted}
 
 none_some : {X : Type 0} (x : X) → None ≡ Some x → ⊥
 none_some x e = cc
@@ -65,6 +66,12 @@ left_working m t f q s e =
     by true = refl
     by false = refl
 
+same_way : (x : Flight) (g : PlainFrame) → x.number ≡ g.number → x.part ≡ g.part → x.passed ≡ length g.notes → flight_progress x ≡ progress_of g
+same_way x g number part passed =
+    ap (λ (n : ℕ). record { number = n; part = x.part; passed = x.passed }) number
+    ∙ (ap (λ (n : ℕ). record { number = g.number; part = n; passed = x.passed }) part
+    ∙ ap (λ (n : ℕ). record { number = g.number; part = g.part; passed = n }) passed)
+
 pub outputs_law : OutputsLaw
 outputs_law old p k f new sound s there working h =
     let m = meaning old.plan in
@@ -94,11 +101,17 @@ outputs_law old p k f new sound s there working h =
     let well : q.health ≡ Working = ap (λ (e : PlainFrame). (plain_slave p (length e.notes)).health) own ∙ working in
     let left : slave_of new t ≡ (if has_outputs_for m g t then with_outputs y (linked_outputs m t g.snapshot) else y)
     = ap (λ (ss : List SlaveState). get_or ss t no_slave) slaves ∙ (get_or-set_same old.slaves t after no_slave inside ∙ (one.slave ∙ left_working m t g q y well)) in
-    subst (λ (e : PlainFrame). IsPublished old e new) own (record {
+    let on : Flight = record x { bytes = pass.bytes; passed = x.passed + 1 } in
+    let same : flight_progress x ≡ progress_of g = same_way x g both.number both.part both.passed in
+    subst (λ (e : PlainFrame). IsPublished old k e new) own (record {
       value = linked_outputs m t g.snapshot;
       linked = linked m t g.snapshot;
       slave = left;
       others = λ u ne. ap (λ (ss : List SlaveState). get_or ss u no_slave) slaves ∙ get_or-set_other old.slaves t u after no_slave ne;
+      count = ap length slaves ∙ length-set old.slaves t after;
+      flight = on;
+      goes_on = ap (λ (r : Progress). record r { passed = r.passed + 1 }) same;
+      slots = ap (λ (w : WorldState). w.slots) pass.is;
       rest = pass.is ∙ ap (λ os. record old { slaves = new.slaves; slots = os }) (sym (ap (λ (w : WorldState). w.slots) pass.is));
     })
 
@@ -291,7 +304,6 @@ inputs_law old p q new sound s opened h =
     let same : both.cycle ≡ q = some_same both.cycle q (sym both.is ∙ opened) in
     let shows : CycleShows old.plan c q = subst (CycleShows old.plan c) same both.shows in
     let report : ReportState = report_of old.master.plan c.kept in
-    let world : WorldState = record old { master = closed old.master c; report = Some report } in
     let inputs : new.master.inputs ≡ inputs_taken m q old.master.inputs
     = ap (λ (w : WorldState). w.master.inputs) closes.is ∙ (ap (λ (x : PlanState). inputs_closed x c.kept old.master.inputs) s.same_plan ∙ inputs_same old.plan c q old.master.inputs sound shows) in
     record {
@@ -302,7 +314,11 @@ inputs_law old p q new sound s opened h =
       missed = missed m q;
       report = report;
       reported = ap (λ (w : WorldState). w.report) closes.is;
+      units = ap (λ (x : PlanState). x.units) s.same_plan;
       says = ap (λ (x : PlanState). (report_of x c.kept).taken) s.same_plan ∙ ap (λ (x : Closed). x.taken) (report_said old.plan c q shows);
-      counters = subst (λ (x : PlanState). CountersPredicted old.plan (report_of x c.kept)) (sym s.same_plan) (counters_predicted old.plan c.kept shows.each_part);
+      missing = ap (λ (x : Closed). x.missing) (report_said old.plan c q shows);
+      cycle = c;
+      was_open = closes.is_open;
+      counted = λ k there on. subst (λ (x : PlanState). IsCounted old.plan c.kept (report_of x c.kept) k) (sym s.same_plan) (counted old.plan c q k shows there on);
       rest = closes.is ∙ sym (ap (λ (w : WorldState). record old { master = record old.master { inputs = w.master.inputs; cycle = None }; report = w.report }) closes.is);
     }

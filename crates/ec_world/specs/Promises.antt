@@ -1,18 +1,20 @@
 -- What a user is promised, in words of the image, the links and the values of slaves. It is proved of every world that shows a
 -- plain state, so of every world from the step on that makes it Ready.
-use Rattle.std.specs.Prelude.{ℕ, ◌*◌, ◌<◌, ◌≡◌, ◌≢◌, ◌⊎◌, ◌==◌, ◌&&◌, ◌||◌, List, ◌∷◌, ◌++◌, length, map, get_or, Bool, true, false, if◌then◌else◌, Option, Some, None, slice_get}
+use Rattle.std.specs.Prelude.{ℕ, ◌+◌, ◌*◌, ◌<◌, ◌≡◌, ◌≢◌, ◌⊎◌, ◌==◌, ◌&&◌, ◌||◌, List, ◌∷◌, ◌++◌, length, map, get_or, set, Bool, true, false, if◌then◌else◌, Option, Some, None, slice_get}
 use Rattle.ec_bits.specs.Bits.{bit, bytes_of_bits}
 use Rattle.ec_slave.specs.Exchange.{with_outputs}
-use Rattle.ec_link.specs.Shares.{has_outs, has_ins, unit_of_part}
+use Rattle.ec_link.specs.Shares.{has_outs, has_ins, predicted, unit_of_part}
 use Rattle.ec_link.specs.Meaning.{Meaning, Linked, share_of, meaning}
+use Rattle.ec_link.specs.Plan.{PlanState}
 use Rattle.ec_link.specs.Usable.{IsUsable}
-use Rattle.ec_cycle.specs.Closing.{ReportState}
+use Rattle.ec_cycle.specs.Closing.{KeptPart, ReportState, nones}
+use Rattle.ec_cycle.specs.Master.{OpenCycle}
 use Rattle.ec_world.specs.declared.event.Event.{Event}
 use Rattle.ec_world.specs.declared.event.Event.TheVariants.{StartNext, Set, Begin, Pass, Lose, Return, Close, Serve, AppPut, AppGet, Fault, Reset as ResetSlave}
 use Rattle.ec_world.specs.Plain.{Plain, PlainSlave, PlainFrame, Note, Short, Full, Cycle, Working, Faulted, Reset, unit_full, met_note, plain_slave, frame_at, step, run}
-use Rattle.ec_world.specs.World.{WorldState, IsStep, slave_of}
+use Rattle.ec_world.specs.World.{WorldState, Flight, IsStep, slave_of, flight_progress}
 use Rattle.ec_world.specs.FrameShows.{out_bit}
-use Rattle.ec_world.specs.Shows.{Shows, CountersPredicted}
+use Rattle.ec_world.specs.Shows.{Shows}
 
 -- ---- a cyclic frame passes a slave in OP
 
@@ -29,20 +31,25 @@ next_slave f = length f.notes
 abbrev pub has_outputs_for : Meaning → PlainFrame → ℕ → Bool
 has_outputs_for m f s = ((share_of m s).part == f.part) && has_outs (share_of m s)
 
--- A frame passed the slave. Where it carries its outputs, the slave publishes them: they are exactly the linked bits of the
--- image that the frame was made of, and 0 elsewhere. Nothing else of the slave changes, and no other slave, nor the image.
-pub record IsPublished (old : WorldState) (f : PlainFrame) (new : WorldState) : Type 0 where
+-- The frame in slot k passed the slave. Where it carries its outputs, the slave publishes them: they are exactly the linked
+-- bits of the image that the frame was made of, and 0 elsewhere. Nothing else of the slave changes, and no other slave, nor the
+-- image. The frame is one slave further, and no other slot changes.
+pub record IsPublished (old : WorldState) (k : ℕ) (f : PlainFrame) (new : WorldState) : Type 0 where
   pub value : List ℕ
   pub linked : AreLinked (meaning old.plan) (next_slave f) f.snapshot value
   pub slave : slave_of new (next_slave f)
       ≡ (if has_outputs_for (meaning old.plan) f (next_slave f) then with_outputs (slave_of old (next_slave f)) value else slave_of old (next_slave f))
   pub others : (t : ℕ) → t ≢ next_slave f → slave_of new t ≡ slave_of old t
+  pub count : length new.slaves ≡ length old.slaves
+  pub flight : Flight
+  pub goes_on : flight_progress flight ≡ record { number = f.number; part = f.part; passed = next_slave f + 1 }
+  pub slots : new.slots ≡ set old.slots k (Some flight)
   pub rest : new ≡ record old { slaves = new.slaves; slots = new.slots }
 
 abbrev pub OutputsLaw : Type 0
 OutputsLaw =
     (old : WorldState) (p : Plain) (k : ℕ) (f : PlainFrame) (new : WorldState) → IsUsable old.plan → Shows old p → frame_at p k ≡ Some f
-    → (plain_slave p (next_slave f)).health ≡ Working → IsStep old (Pass k) new true → IsPublished old f new
+    → (plain_slave p (next_slave f)).health ≡ Working → IsStep old (Pass k) new true → IsPublished old k f new
 
 -- ---- what a frame notes of a slave
 
@@ -78,9 +85,18 @@ pub data IsMissed (m : Meaning) (c : Cycle) (u : ℕ) : Type 0 where
 abbrev pub unit_of_slave : Meaning → ℕ → ℕ
 unit_of_slave m s = unit_of_part m (share_of m s).part
 
+-- Part k came back: every slave answered its broadcast, and its working counters, which the report gives, are the predicted ones.
+pub record IsCounted (plan : PlanState) (kept : List (Option KeptPart)) (report : ReportState) (k : ℕ) : Type 0 where
+  pub part : KeptPart
+  pub back : get_or kept k None ≡ Some part
+  pub broadcast : part.broadcast ≡ length plan.slaves
+  pub counters : part.counters ≡ predicted plan k
+  pub told : get_or report.counters k None ≡ Some part.counters
+
 -- A cycle was closed. Of a unit that is taken each linked bit of the inputs is the one that its slave published as the frame
--- passed it; of another unit no bit changes, nor does a bit without a link. The report says which units were taken, and the
--- working counters of those are the predicted ones. Nothing else of the world changes.
+-- passed it; of another unit no bit changes, nor does a bit without a link. Each part of a unit that is taken came back with
+-- the predicted working counters. The report names the units of the plan, says of each whether it was taken, and how many
+-- parts are missing. Nothing else of the world changes.
 pub record IsClosedAs (old : WorldState) (c : Cycle) (new : WorldState) : Type 0 where
   pub taken : (b : ℕ) (i : Linked) → b < 8 * length old.master.inputs → (meaning old.plan).in_source b ≡ Some i
       → unit_full (meaning old.plan) c (unit_of_slave (meaning old.plan) i.slave) ≡ true
@@ -92,8 +108,12 @@ pub record IsClosedAs (old : WorldState) (c : Cycle) (new : WorldState) : Type 0
   pub missed : (u : ℕ) → unit_full (meaning old.plan) c u ≡ false → IsMissed (meaning old.plan) c u
   pub report : ReportState
   pub reported : new.report ≡ Some report
+  pub units : report.units ≡ (meaning old.plan).units
   pub says : report.taken ≡ map (unit_full (meaning old.plan) c) (meaning old.plan).units
-  pub counters : CountersPredicted old.plan report
+  pub missing : report.missing ≡ nones c.kept
+  pub cycle : OpenCycle
+  pub was_open : old.master.cycle ≡ Some cycle
+  pub counted : (k : ℕ) → k < length old.plan.parts → unit_full (meaning old.plan) c (unit_of_part (meaning old.plan) k) ≡ true → IsCounted old.plan cycle.kept report k
   pub rest : new ≡ record old { master = record old.master { inputs = new.master.inputs; cycle = None }; report = new.report }
 
 abbrev pub InputsLaw : Type 0

@@ -6,7 +6,7 @@ ghost use Rattle.ec_world.specs.NewWorld.{NewUpLaw, NewRunLaw};
 ghost use Rattle.ec_world.specs.Promises.{OutputsLaw, SnapshotsLaw, NotesLaw, InputsLaw, PublishedLaw, WorkingLaw, TakenLaw};
 
 /// A cyclic frame that passes a slave in OP gives its outputs exactly the linked bits of the image that it was made of, and 0
-/// elsewhere; it changes nothing else of the slave, no other slave and nothing of the image.
+/// elsewhere; it changes nothing else of the slave, no other slave, no other frame and nothing of the image.
 #[tactic(auto, using(crate::proofs::Promising::outputs_law))]
 pub fn outputs_are_linked()
     ensures { OutputsLaw }
@@ -24,9 +24,10 @@ pub fn notes_are_published()
     ensures { NotesLaw }
 {}
 
-/// A closed cycle sets the linked inputs of a unit to exactly the bits that were published as its frames passed, with the
-/// working counters as predicted, or it changes none of them: then a frame of the unit was lost or isn't back, or it passed a
-/// slave that fell short.
+/// A closed cycle sets the linked inputs of a unit to exactly the bits that were published as its frames passed: each part of it
+/// came back, all slaves answered its broadcast, and its working counters are the predicted ones. Or it changes none of them:
+/// then a frame of the unit was lost or isn't back, or it passed a slave that fell short. The report says which units were
+/// taken, and how many parts are missing.
 #[tactic(auto, using(crate::proofs::Promising::inputs_law))]
 pub fn inputs_are_linked()
     ensures { InputsLaw }
