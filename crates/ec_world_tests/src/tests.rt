@@ -132,18 +132,58 @@ fn a_late_return(rt: HostRuntime) -> Result<(), Fail> {
     expect_steps(&rt, TABLE, &steps)
 }
 
-// A frame that is lost after the first slave; the slave's application reads what it took.
+// An application that has written the first byte of its inputs alone has published nothing: the bytes before come again.
+#[test]
+fn half_written_inputs(rt: HostRuntime) -> Result<(), Fail> {
+    let steps = [
+        Rises,
+        Runs(&[AppPut(1, 0, 5), AppPut(2, 0, 239), AppPut(2, 1, 190)], 3),
+        Makes(Begin),
+        Runs(&ROUND, 4),
+        Makes(Close),
+        Reads(3, 48879),
+        Makes(AppPut(2, 0, 17)),
+        Makes(Begin),
+        Runs(&ROUND, 4),
+        Makes(Close),
+        Reports(&[true], &[Some(Lrw(6))], 0x0008),
+        Reads(2, 5),
+        Reads(3, 48879),
+        Makes(AppPut(2, 1, 34)),
+        Makes(Begin),
+        Runs(&ROUND, 4),
+        Makes(Close),
+        Reads(2, 5),
+        Reads(3, 8721),
+    ];
+    expect_steps(&rt, TABLE, &steps)
+}
+
+// A frame that is lost after the first slave; the slave's application reads what it took. The inputs stay what they were: zero
+// before the first frame came back, and then what that one brought.
 #[test]
 fn a_loss(rt: HostRuntime) -> Result<(), Fail> {
     let steps = [
         Rises,
         Makes(Set(0, 10)),
+        Runs(&[AppPut(1, 0, 5), AppPut(2, 0, 239), AppPut(2, 1, 190)], 3),
         Runs(&[Begin, Pass(0), Lose(0)], 3),
         Denied(Lose(0)),
+        Publishes(0, &[0x0a]),
         Makes(AppGet(0, 0)),
         Byte(Some(0x0a)),
         Makes(Close),
         Reports(&[false], &[None], 0),
+        Reads(2, 0),
+        Reads(3, 0),
+        Makes(Begin),
+        Runs(&ROUND, 4),
+        Makes(Close),
+        Runs(&[AppPut(1, 0, 9), AppPut(2, 0, 1), AppPut(2, 1, 2)], 3),
+        Runs(&[Begin, Pass(0), Lose(0), Close], 4),
+        Reports(&[false], &[None], 0),
+        Reads(2, 5),
+        Reads(3, 48879),
     ];
     expect_steps(&rt, TABLE, &steps)
 }

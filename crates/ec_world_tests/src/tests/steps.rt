@@ -93,6 +93,7 @@ fn is_report(
 ) -> bool {
     report.units_taken() == units
         && report.counters().as_slice() == counters
+        && report.missing() == counters.iter().filter(|counter| counter.is_none()).count()
         && report.al_word() == al_word
 }
 
