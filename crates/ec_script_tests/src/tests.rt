@@ -77,8 +77,9 @@ const BAD_LINES: [(&str, usize); 20] = [
     ("cycle;\t;cycle", 2),
 ];
 
-/// What scripts print. None of the first row's events can be made by slaves that were just switched on.
-const RUNS: [(&str, &str); 6] = [
+/// What scripts print. None of the first row's events can be made by slaves that were just switched on. In the last row the frame
+/// of the closed cycle is still before the first slave, so that of the next one can't pass, and its cycle stays open.
+const RUNS: [(&str, &str); 7] = [
     (
         "pass 0;lose 0;return 0;close;serve 3;put 0 0 1;get 0 0;fault 0;reset 3;set c 1;set a 16;begin;cycle",
         "no 1;no 2;no 3;no 4;no 5;no 6;no 7;no 8;no 9;no 10;no 11;no 12;no 13;",
@@ -99,6 +100,10 @@ const RUNS: [(&str, &str); 6] = [
     (
         "ready;reset 0;reset 1;reset 2;cycle;cycle",
         "ready;report untaken missing 0 counters 0 al 0001;report untaken missing 0 counters 0 al 0001;",
+    ),
+    (
+        "ready;begin;close;cycle;close",
+        "ready;report untaken missing 1 counters - al 0000;no 4;report untaken missing 1 counters - al 0000;",
     ),
 ];
 
