@@ -17,4 +17,4 @@ mod touching;
 
 pub use crate::bounds::Bounds;
 pub use crate::manager::Manager;
-pub use crate::touching::{Range, Reach, Touching, Writing};
+pub use crate::touching::{Reach, Touching, Writing};

@@ -54,34 +54,3 @@ impl Touching for Reach {
         address >= self.from && address - self.from < self.len
     }
 }
-
-/// The bytes that a physical datagram writes from an address on.
-#[derive(Clone, Copy)]
-pub struct Range<'a> {
-    /// The first address.
-    pub from: usize,
-    /// The bytes.
-    pub bytes: &'a [u8],
-}
-
-impl Touching for Range<'_> {
-    ghost touched = { λ r a. within r.from (length r.bytes.now) a };
-
-    fn touches(&self, address: usize) -> bool {
-        address >= self.from && address - self.from < self.bytes.len()
-    }
-}
-
-impl Writing for Range<'_> {
-    ghost use Rattle.ec_sync.specs.Touching.{cut_out, all_touched};
-
-    ghost written = { λ r start len. cut_out r.from r.bytes.now start len };
-
-    ghost zero_untouched = { λ r start len k first last inside untouched.
-        absurd (all_touched r.from (length r.bytes.now) start len k first last inside untouched) };
-
-    fn fill(&self, start: usize, value: &mut [u8]) {
-        let place = start - self.from;
-        value.copy_from_slice(&self.bytes[place..place + value.len()]);
-    }
-}

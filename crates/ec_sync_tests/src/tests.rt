@@ -1,8 +1,8 @@
-ghost use Rattle.std.specs.Prelude.{◌==◌, ◌||◌};
-ghost use Rattle.ec_bits.specs.Bits.{zeros};
+ghost use Rattle.std.specs.Prelude.{◌==◌, ◌||◌, ◌+◌, ◌-◌, length, slice_range};
+ghost use Rattle.ec_bits.specs.Bits.{within, zeros};
 
 use ec_regs::{CONTROL_INPUTS, CONTROL_MAILBOX_IN, ManagerSettings};
-use ec_sync::{Manager, Range, Reach, Touching, Writing};
+use ec_sync::{Manager, Reach, Touching, Writing};
 use std::test::Fail;
 
 /// Two buffered bytes at 0x1100 that the ring writes.
@@ -23,6 +23,35 @@ const INPUTS: ManagerSettings = ManagerSettings {
 
 /// The last byte of the RAM.
 const LAST: usize = 0x2fff;
+
+/// Writes bytes from an address on.
+#[derive(Clone, Copy)]
+struct Range<'a> {
+    from: usize,
+    bytes: &'a [u8],
+}
+
+impl Touching for Range<'_> {
+    ghost touched = { λ r a. within r.from (length r.bytes.now) a };
+
+    fn touches(&self, address: usize) -> bool {
+        address >= self.from && address - self.from < self.bytes.len()
+    }
+}
+
+impl Writing for Range<'_> {
+    ghost use Rattle.ec_sync.specs.Touching.{all_touched};
+
+    ghost written = { λ r start len. slice_range r.bytes.now (start - r.from) (start - r.from + len) };
+
+    ghost zero_untouched = { λ r start len k first last inside untouched.
+        absurd (all_touched r.from (length r.bytes.now) start len k first last inside untouched) };
+
+    fn fill(&self, start: usize, value: &mut [u8]) {
+        let place = start - self.from;
+        value.copy_from_slice(&self.bytes[place..place + value.len()]);
+    }
+}
 
 /// Writes 0 at two bytes, and none between.
 #[derive(Drop)]
@@ -203,6 +232,27 @@ fn untouched_bytes_are_zero(rt: HostRuntime) -> Result<(), Fail> {
     assert!(rt; manager.ring_write(&full));
     assert!(rt; manager.ring_write(&ends));
     assert_eq!(rt; manager.published(), [0, 0, 0, 0].as_slice());
+    Ok(())
+}
+
+// All bytes at once are as one after the other: a half written draft and an open view are closed.
+#[test]
+fn all_bytes_at_once(rt: HostRuntime) -> Result<(), Fail> {
+    let mut manager = Manager::new(rt.alloc())?;
+    manager.configure(INPUTS);
+    assert!(rt; manager.app_put(0, 5));
+    if manager.may_app_put() && manager.published().len() == 2 {
+        manager.app_put_all(&[7, 8]);
+    }
+    assert_eq!(rt; manager.published(), [7, 8].as_slice());
+    assert!(rt; !manager.app_put(1, 6), "the draft is closed");
+
+    manager.configure(OUTPUTS);
+    assert_eq!(rt; manager.app_get(0), Some(0));
+    if manager.may_app_get() {
+        manager.app_get_all();
+    }
+    assert_eq!(rt; manager.app_get(1), None, "the view is closed");
     Ok(())
 }
 
