@@ -194,6 +194,10 @@ none_put s inputs e = ap (inputs_put s inputs) e
 pub whole_put : (s : SlaveState) (inputs : List ℕ) → IsSlave s → length inputs ≡ put_size s → 0 < length inputs → length inputs ≡ length (manager_at s.managers 3).buffer.published
 whole_put s inputs good e l = let k = may-write s (length inputs) good e l in sym k.whole
 
+-- the application has the right
+pub allowed_put : (s : SlaveState) (inputs : List ℕ) → IsSlave s → length inputs ≡ put_size s → 0 < length inputs → may_app_put (manager_at s.managers 3) ≡ true
+allowed_put s inputs good e l = let k = may-write s (length inputs) good e l in k.may
+
 -- ---- a list that is empty, or not
 
 pub not_empty : (b : Bool) (n : ℕ) → b ≡ (n == 0) → b ≡ false → 0 < n

@@ -1,9 +1,11 @@
 -- The registers of a manager are the bytes of its settings, and the calls are the steps of a run.
-use Rattle.std.proofs.Common.{ℕ, zero, suc, ◌+◌, ◌*◌, ◌/◌, ◌%◌, ◌<◌, ◌≡◌, slice_index, refl, arith}
+use Rattle.std.proofs.Common.{ℕ, zero, suc, ◌+◌, ◌*◌, ◌/◌, ◌%◌, ◌<◌, ◌≡◌, slice_index, refl, sym, arith}
+use Rattle.ec_bits.proofs.AnyLaws.{if_true}
 use Rattle.ec_regs.specs.Managers.{manager_bytes}
 use Rattle.ec_sync.specs.Manager.{Manager}
 use Rattle.ec_sync.specs.Governing.{manager_byte}
 use Rattle.ec_sync.specs.Runs.{RegistersReadBack, CallsAreSteps}
+use Rattle.ec_sync.proofs.AllBytes.{all_put, all_got}
 
 low_and_high : (n : ℕ) → n % 256 + 256 * (n / 256) ≡ n
 low_and_high n = omega arith
@@ -29,9 +31,12 @@ calls_law = record {
   empty = λ m. refl;
   publish_zeros = λ m. refl;
   ring_write = λ m touched written. refl;
+  store = λ m value may. sym (if_true _ _ _ may);
   ring_read = λ m touched. refl;
   app_put = λ m i x. refl;
+  app_put_all = all_put;
   app_get = λ m i. refl;
+  app_get_all = all_got;
   mailbox_take = λ m. refl;
   mailbox_put = λ m message. refl;
 }

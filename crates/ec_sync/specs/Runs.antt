@@ -1,13 +1,14 @@
 -- Whole runs of one manager: any list of accesses of the ring, bytes of the application, messages of the firmware and
 -- changes of the settings, in any order, granted or denied. That each step is what the call of that name does is the law
 -- `CallsAreSteps`.
-use Rattle.std.specs.Prelude.{ℕ, suc, ◌+◌, ◌==◌, ◌&&◌, ◌≡◌, ◌<◌, List, [], ◌∷◌, ◌++◌, length, Bool, true, false, if◌then◌else◌, slice_index, slice_set, Option, Some, None, is_some, unwrap_or, option_map, Contains}
+use Rattle.std.specs.Prelude.{ℕ, zero, suc, ◌+◌, ◌==◌, ◌&&◌, ◌≡◌, ◌<◌, List, [], ◌∷◌, ◌++◌, length, Bool, true, false, if◌then◌else◌, slice_index, slice_set, Option, Some, None, is_some, unwrap_or, option_map, Contains}
 use Rattle.std.specs.List.{All}
 use Rattle.ec_bits.specs.Bits.{zeros}
 use Rattle.ec_regs.specs.declared.manager.ManagerSettings.{ManagerSettings}
 use Rattle.ec_regs.specs.Managers.{settings_of, manager_bytes, is_mailbox}
 use Rattle.ec_sync.specs.Buffer.{Got}
-use Rattle.ec_sync.specs.Manager.{Manager, no_manager, buffer_length, empty_manager, zeros_published, may_read, may_write, ring_written, ring_read, shown, app_put, app_got, after_get, message_in, message_taken, may_put_message, padded, message_put}
+use Rattle.ec_sync.specs.Manager.{Manager, no_manager, buffer_length, empty_manager, zeros_published, may_read, may_write, may_app_put, may_app_get, ring_written, ring_read, shown, app_put, app_got, after_get, message_in, message_taken, may_put_message, padded, message_put}
+use Rattle.ec_sync.specs.Sound.{IsManager}
 use Rattle.ec_sync.specs.Governing.{manager_byte, covers, after_ring_write, after_ring_read}
 
 -- Of an access of the ring it counts whether it touches the first and the last byte, and the value that it leaves.
@@ -157,7 +158,18 @@ pub record RegistersReadBack : Type 0 where
   pub read_back : (m : Manager) → settings_of (manager_byte m) ≡ m.settings
   pub bytes : (m : Manager) (k : ℕ) → k < 8 → ¬ (k ≡ 5) → ¬ (k ≡ 7) → manager_byte m k ≡ slice_index (manager_bytes m.settings) k
 
--- What the contract of each call says of the manager after it is the step of that name.
+-- each byte of a value put in turn, the first one as byte i
+abbrev pub puts_from : ℕ → List ℕ → List Operation
+puts_from i [] = []
+puts_from i (x ∷ xs) = AppPut i x ∷ puts_from (i + 1) xs
+
+-- n bytes got in turn, the first one as byte i
+abbrev pub gets_from : ℕ → ℕ → List Operation
+gets_from i zero = []
+gets_from i (suc n) = AppGet i ∷ gets_from (i + 1) n
+
+-- What the contract of each call says of the manager after it is the step of that name, or, of a call that takes all
+-- bytes of a value, the steps of all of them.
 pub record CallsAreSteps : Type 0 where
   pub configure : (m : Manager) (settings : ManagerSettings) → empty_manager settings m.locked ≡ step m (Configure settings)
   pub set_locked : (m : Manager) (locked : Bool) → record m { locked = locked } ≡ step m (Lock locked)
@@ -165,8 +177,13 @@ pub record CallsAreSteps : Type 0 where
   pub publish_zeros : (m : Manager) → zeros_published m ≡ step m PublishZeros
   pub ring_write : (m : Manager) (touched : ℕ → Bool) (written : ℕ → ℕ → List ℕ)
       → after_ring_write touched written m ≡ step m (RingWrite (covers touched m) (written m.settings.start m.settings.length))
+  pub store : (m : Manager) (value : List ℕ) → may_write m ≡ true → ring_written m value ≡ step m (RingWrite true value)
   pub ring_read : (m : Manager) (touched : ℕ → Bool) → after_ring_read touched m ≡ step m (RingRead (covers touched m))
   pub app_put : (m : Manager) (i x : ℕ) → unwrap_or (app_put m i x) m ≡ step m (AppPut i x)
+  pub app_put_all : (m : Manager) (value : List ℕ) → IsManager m → may_app_put m ≡ true → length value ≡ length m.buffer.published
+      → record m { buffer = record m.buffer { published = value; draft = None } } ≡ run m (puts_from 0 value)
   pub app_get : (m : Manager) (i : ℕ) → after_get m (app_got m i) ≡ step m (AppGet i)
+  pub app_get_all : (m : Manager) → IsManager m → may_app_get m ≡ true
+      → record m { buffer = record m.buffer { view = None } } ≡ run m (gets_from 0 (length m.buffer.published))
   pub mailbox_take : (m : Manager) → message_taken m ≡ step m MessageTake
   pub mailbox_put : (m : Manager) (message : List ℕ) → message_put m message ≡ step m (MessagePut message)

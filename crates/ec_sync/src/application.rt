@@ -1,6 +1,6 @@
 //! Bytes of the slave's application.
 
-ghost use Rattle.std.specs.Prelude.{◌≡◌, length, None, is_some, unwrap_or, option_map};
+ghost use Rattle.std.specs.Prelude.{◌≡◌, true, length, None, is_some, unwrap_or, option_map};
 ghost use Rattle.ec_sync.specs.Manager.{may_app_put as application_may_put, may_app_get as application_may_get, app_put as put_by_application, app_got, after_get};
 
 use crate::manager::Manager;
@@ -33,9 +33,10 @@ impl Manager {
         self.buffer.put(place, byte)
     }
 
-    /// The application writes all bytes in turn, where there is one at least: the last one publishes them.
+    /// The application writes all bytes in turn, as by `app_put`: the last one publishes them. The caller asks for the right.
     pub fn app_put_all(&mut self, value: &[u8])
-        requires { length value.now ≡ length self.old.buffer.published }
+        requires allowed { application_may_put self.old ≡ true }
+        requires long { length value.now ≡ length self.old.buffer.published }
         ensures { self.new ≡ record self.old { buffer = record self.old.buffer { published = value.now; draft = None } } }
     {
         self.buffer.put_all(value);
@@ -54,8 +55,10 @@ impl Manager {
         self.buffer.get(place)
     }
 
-    /// The application reads all bytes of what is published in turn, where there is one at least: the last one closes its view.
+    /// The application reads all bytes of what is published in turn, as by `app_get`: the last one closes its view. The
+    /// caller asks for the right.
     pub fn app_get_all(&mut self)
+        requires { application_may_get self.old ≡ true }
         ensures { self.new ≡ record self.old { buffer = record self.old.buffer { view = None } } }
     {
         self.buffer.get_all();

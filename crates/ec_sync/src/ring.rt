@@ -24,14 +24,15 @@ impl Manager {
         true
     }
 
-    /// Stores the value that an access writes, whatever rights it has: what [`ring_write`] does
-    /// where it is granted, for a caller that has asked for the rights itself.
+    /// Stores the value that an access writes: what [`ring_write`] does where it is granted, for a
+    /// caller that has asked for the rights itself.
     ///
     /// [`ring_write`]: Manager::ring_write
     #[tactic(auto, using(crate::proofs::Lengths::buffer_length_set))]
     pub fn store<W: Writing>(&mut self, writing: &W)
         requires set { is_set self.old.settings ≡ true }
         requires inside { LiesInRam self.old.settings }
+        requires allowed { may_write self.old ≡ true }
         requires covered { covers (W.touched writing.now) self.old ≡ true }
         ensures { let m = self.old.settings in
             self.new ≡ ring_written self.old (W.written writing.now m.start m.length) }

@@ -1,13 +1,21 @@
 use Rattle.std.proofs.Common.{◌≡◌, ◌<◌, ◌∙◌, ap, sym, arith, length}
-use Rattle.ec_sync.specs.Manager.{Manager}
+use Rattle.ec_sync.specs.Manager.{Manager, may_app_put}
 use Rattle.ec_slave.specs.State.{SlaveState, manager_at}
 use Rattle.ec_slave.specs.Application.{with_manager}
 use Rattle.ec_slave.proofs.Applications.{indexed}
-use Rattle.ec_slave.proofs.WholeInputs.{all_put, empty, none_put, not_empty, whole_put, with_published}
+use Rattle.ec_slave.proofs.WholeInputs.{all_put, allowed_put, empty, none_put, not_empty, whole_put, with_published}
 use Rattle.ec_slave.proofs.slave.Slave.app_put_all.Goals as goal
 
-pub app_put_all-requires : goal.app_put_all-requires
-app_put_all-requires c =
+pub app_put_all-requires-clause-allowed : goal.app_put_all-requires-clause-allowed
+app_put_all-requires-clause-allowed c =
+    let s : SlaveState = c.args.self.now in
+    let four : 3 < length c.self.inside.managers.items = omega (arith, c.self.invariant.four) in
+    let here : c.index_mut.result.now ≡ manager_at s.managers 3 = indexed _ s.managers 3 _ four c.index_mut.ensures.value (ap (λ (x : SlaveState). x.managers) c.self.view_is) in
+    let some : 0 < length c.args.inputs.now = not_empty c.is_empty.result (length c.args.inputs.now) c.is_empty.ensures c.if-not-is_empty.true in
+    ap (λ (m : Manager). may_app_put m) here ∙ allowed_put s c.args.inputs.now c.is_sound.ensures c.requires some
+
+pub app_put_all-requires-clause-long : goal.app_put_all-requires-clause-long
+app_put_all-requires-clause-long c =
     let s : SlaveState = c.args.self.now in
     let four : 3 < length c.self.inside.managers.items = omega (arith, c.self.invariant.four) in
     let here : c.index_mut.result.now ≡ manager_at s.managers 3 = indexed _ s.managers 3 _ four c.index_mut.ensures.value (ap (λ (x : SlaveState). x.managers) c.self.view_is) in
