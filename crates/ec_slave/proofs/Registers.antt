@@ -1,28 +1,28 @@
 -- What a slave's registers, managers and bits are after a datagram.
-use Rattle.std.proofs.Common.{ℕ, zero, suc, ◌+◌, ◌-◌, ◌*◌, ◌%◌, ◌<◌, ◌≤◌, ◌≡◌, ◌==◌, ◌&&◌, ◌||◌, not, Bool, true, false, Option, Some, None, refl, sym, ◌∙◌, ap, inl, inr, arith, if◌then◌else◌, List, [], ◌∷◌, length, slice_index, unwrap_or, nat_lt}
+use Rattle.std.proofs.Common.{ℕ, zero, suc, ◌+◌, ◌-◌, ◌*◌, ◌/◌, ◌%◌, ◌<◌, ◌≤◌, ◌≡◌, ◌==◌, ◌&&◌, ◌||◌, not, Bool, true, false, Option, Some, None, refl, sym, ◌∙◌, ap, inl, inr, arith, if◌then◌else◌, List, [], ◌∷◌, length, slice_index, unwrap_or, nat_lt}
 use Rattle.std.proofs.lemmas.Bool.{and_left, and_right, and_from, cases_Bool, both_ways, false_from_ne_true, false≢true, eqb-true, lt-leb, lt-ltb}
 use Rattle.std.proofs.lemmas.List.{length-replicate}
 use Rattle.ec_bits.specs.Bits.{bit, within, zeros}
 use Rattle.ec_bits.proofs.AnyLaws.{if_true, if_false, within_above, within_below, within_parts, within_true}
 use Rattle.ec_bits.proofs.BitLaws.{bit-overlay, bit-zeros}
 use Rattle.ec_regs.specs.Memory.{ram_start, is_stored}
-use Rattle.ec_regs.specs.Managers.{is_set}
+use Rattle.ec_regs.specs.Managers.{is_mailbox, is_set}
 use Rattle.ec_frame.specs.declared.command.Command.{Command}
 use Rattle.ec_frame.specs.declared.command.Command.TheVariants.{Nop, Aprd, Apwr, Aprw, Fprd, Fpwr, Fprw, Brd, Bwr, Brw, Lrd, Lwr, Lrw, Armw, Frmw}
 use Rattle.ec_frame.specs.Datagram.{Datagram, adp_of}
 use Rattle.ec_al.specs.Al.{Al, requesting, status_word}
 use Rattle.ec_sii.specs.Port.{Sii, address_written, addressed, byte_for, command_place, commanded, sii_byte, written}
-use Rattle.ec_sync.specs.Manager.{Manager, empty_manager, may_read, may_write}
+use Rattle.ec_sync.specs.Manager.{Manager, empty_manager, may_read, may_write, ring_written, shown}
 use Rattle.ec_slave.specs.Roles.{role_of, is_reading, is_writing}
-use Rattle.ec_slave.specs.State.{SlaveState, Met, manager_at, station_of}
+use Rattle.ec_slave.specs.State.{SlaveState, Met, fmmus, manager_at, station_of}
 use Rattle.ec_slave.specs.Sound.{IsSlave}
 use Rattle.ec_slave.specs.Managers.{manager_after}
-use Rattle.ec_slave.specs.AgainstAll.{each_from, governs_among, value_among}
+use Rattle.ec_slave.specs.AgainstAll.{bits_among, each_from, governs_among, value_among}
 use Rattle.ec_slave.specs.Access.{Window, byte_at, is_configured, is_kept, managers_met, meeting, memory_written, register_byte, settings_written, slave_after, touches}
-use Rattle.ec_slave.specs.Logical.{plain_bit, meets_logical}
+use Rattle.ec_slave.specs.Logical.{brought, meets_logical, only_if, place_of}
 use Rattle.ec_slave.specs.Meeting.{window_of, meets, meets_by, meets_physically, slave_met}
-use Rattle.ec_slave.specs.MeetingLaws.{writes_at, RegistersAfterWrite, ManagersAfterWrite, MovesBits, LogicalBitByBit, ValueBitByBit}
-use Rattle.ec_slave.proofs.AgainstAll.{physical_against_all}
+use Rattle.ec_slave.specs.MeetingLaws.{writes_at, RegistersAfterWrite, ManagersAfterWrite, MovesBits, LogicalBitByBit, IsValueWritten, ValueBitByBit}
+use Rattle.ec_slave.proofs.AgainstAll.{logical_against_all, physical_against_all}
 use Rattle.ec_slave.proofs.Broadcast.{set-start}
 use Rattle.ec_slave.proofs.Bytes.{written_at}
 use Rattle.ec_slave.proofs.SomeWritten.{or-cases}
@@ -243,7 +243,33 @@ logical_bit_by_bit = record {
   both = λ s d e l. moves true true 2 s d (met-as s d Lrw e ∙ if_true _ _ _ l);
 }
 
+-- what a written manager shows
+shown-written : (m : Manager) (v : List ℕ) → shown (ring_written m v) ≡ v
+shown-written m v = by (is_mailbox m.settings) refl
+  where
+    by : (b : Bool) → is_mailbox m.settings ≡ b → shown (ring_written m v) ≡ v
+    by true e = rw e (rw e refl)
+    by false e = rw e (rw e refl)
+
+-- the value of manager n after a datagram that was met as a logical one that writes
+value-written : (reading : Bool) (weight : ℕ) (s : SlaveState) (d : Datagram) (n : ℕ) → n < length s.managers → meets s d ≡ meets_logical reading true weight s d
+    → IsValueWritten s d n
+unfolding meets_logical
+value-written reading weight s d n inside e written k l =
+    let m : Manager = manager_at s.managers n in
+    let v : List ℕ = bits_among s.managers (fmmus s) (place_of d) d.data_bytes n m.settings.start m.settings.length in
+    let after : manager_at (slave_met s d).managers n ≡ ring_written m v
+    = ap (λ (x : Met). manager_at x.slave.managers n) e
+    ∙ (ap (λ (ms : List Manager). manager_at ms n) (logical_against_all reading true (fmmus s) (place_of d) d.data_bytes s.managers)
+    ∙ (each-first _ s.managers n inside ∙ if_true _ _ _ written)) in
+    ap (λ (x : Manager). bit (shown x) k) after
+    ∙ (ap (λ (xs : List ℕ). bit xs k) (shown-written m v)
+    ∙ (bit-overlay (zeros m.settings.length) _ k (omega (arith, length-replicate {A = ℕ} m.settings.length 0, l))
+    ∙ ap (λ (b : Bool). unwrap_or (only_if (governs_among s.managers n ((8 * m.settings.start + k) / 8)) (brought (fmmus s) (place_of d) d.data_bytes (8 * m.settings.start + k))) b)
+    (bit-zeros m.settings.length k)))
+
 pub value_bit_by_bit : ValueBitByBit
-value_bit_by_bit lower fs p bytes start len k l =
-    bit-overlay (zeros len) _ k (omega (arith, length-replicate {A = ℕ} len 0, l))
-    ∙ ap (λ (b : Bool). unwrap_or (plain_bit lower fs p bytes (8 * start + k)) b) (bit-zeros len k)
+value_bit_by_bit = record {
+  write = λ s d n inside e. value-written false 1 s d n inside (met-as s d Lwr e);
+  both = λ s d n inside e l. value-written true 2 s d n inside (met-as s d Lrw e ∙ if_true _ _ _ l);
+}

@@ -18,6 +18,7 @@ pub mod LogicalLaws
 pub mod FirmwareLaws
 pub mod Exchange
 pub mod AgainstAll
+pub mod Steps
 -- What private functions and the proofs go by: no public contract rests on it.
 pub mod Held
 pub mod Mapped

@@ -1,17 +1,18 @@
 -- Laws of a whole meeting: what a slave's registers, managers and bits are after a datagram.
-use Rattle.std.specs.Prelude.{ℕ, ◌+◌, ◌-◌, ◌*◌, ◌<◌, ◌≤◌, ◌≡◌, ◌&&◌, List, length, Bool, true, false, if◌then◌else◌, slice_index, unwrap_or}
+use Rattle.std.specs.Prelude.{ℕ, ◌+◌, ◌-◌, ◌*◌, ◌/◌, ◌<◌, ◌≤◌, ◌≡◌, ◌&&◌, length, Bool, true, false, if◌then◌else◌, slice_index, unwrap_or}
 use Rattle.ec_bits.specs.Bits.{bit, within}
-use Rattle.ec_regs.specs.declared.fmmu.FmmuSettings.{FmmuSettings}
 use Rattle.ec_regs.specs.Memory.{ram_start, is_stored}
 use Rattle.ec_frame.specs.declared.command.Command.TheVariants.{Lrd, Lwr, Lrw}
 use Rattle.ec_frame.specs.Datagram.{Datagram, adp_of, ado_of}
-use Rattle.ec_sync.specs.Manager.{Manager, empty_manager}
-use Rattle.ec_fmmu.specs.Applied.{Place}
+use Rattle.ec_sync.specs.Manager.{Manager, empty_manager, shown}
+use Rattle.ec_fmmu.specs.Applied.{touched_by_writing}
 use Rattle.ec_slave.specs.Roles.{role_of, is_writing}
 use Rattle.ec_slave.specs.State.{SlaveState, manager_at, station_of, fmmus}
 use Rattle.ec_slave.specs.Sound.{IsSlave}
+use Rattle.ec_slave.specs.Managers.{is_written_by}
+use Rattle.ec_slave.specs.AgainstAll.{governs_among}
 use Rattle.ec_slave.specs.Access.{byte_at, touches, is_configured, settings_written}
-use Rattle.ec_slave.specs.Logical.{only_if, place_of, plain_bit, read_bit, value_brought}
+use Rattle.ec_slave.specs.Logical.{brought, only_if, place_of, plain_bit, read_bit}
 use Rattle.ec_slave.specs.Meeting.{window_of, slave_met, datagram_met}
 
 -- the datagram writes at the slave, by its command and the address that it has
@@ -49,9 +50,16 @@ pub record LogicalBitByBit : Type 0 where
   pub write : (s : SlaveState) (d : Datagram) → d.command ≡ Lwr → MovesBits false true s d
   pub both : (s : SlaveState) (d : Datagram) → d.command ≡ Lrw → s.kind.lrw ≡ true → MovesBits true true s d
 
--- Of the value that it writes into a manager each bit is what the write set brings there, outside the bytes that
--- lower-numbered managers govern; all others are 0.
-abbrev pub ValueBitByBit : Type 0
-ValueBitByBit =
-    (lower : List Manager) (fs : List FmmuSettings) (p : Place) (bytes : List ℕ) (start len k : ℕ) → k < 8 * len
-    → bit (value_brought lower fs p bytes start len) k ≡ unwrap_or (plain_bit lower fs p bytes (8 * start + k)) false
+-- Of the value that a logical datagram writes into a manager each bit is what the write set brings there, in the bytes
+-- that this manager itself governs; all others are 0.
+abbrev pub IsValueWritten : SlaveState → Datagram → ℕ → Type 0
+IsValueWritten s d n =
+    let m : Manager = manager_at s.managers n in
+    is_written_by (touched_by_writing (fmmus s) (place_of d)) (governs_among s.managers n) m ≡ true
+    → (k : ℕ) → k < 8 * m.settings.length
+    → bit (shown (manager_at (slave_met s d).managers n)) k
+    ≡ unwrap_or (only_if (governs_among s.managers n ((8 * m.settings.start + k) / 8)) (brought (fmmus s) (place_of d) d.data_bytes (8 * m.settings.start + k))) false
+
+pub record ValueBitByBit : Type 0 where
+  pub write : (s : SlaveState) (d : Datagram) (n : ℕ) → n < length s.managers → d.command ≡ Lwr → IsValueWritten s d n
+  pub both : (s : SlaveState) (d : Datagram) (n : ℕ) → n < length s.managers → d.command ≡ Lrw → s.kind.lrw ≡ true → IsValueWritten s d n

@@ -6,6 +6,7 @@ ghost use Rattle.ec_slave.specs.Sound.{MetIsSlave, PowerOnIsSlave};
 ghost use Rattle.ec_slave.specs.Laws.{CountsWhatItChanges, HeadingStays, WritesByByte, ReadsByByte, CountsByRole};
 ghost use Rattle.ec_slave.specs.MeetingLaws.{LogicalBitByBit, ManagersAfterWrite, RegistersAfterWrite, ValueBitByBit};
 ghost use Rattle.ec_slave.specs.AgainstAll.{LogicalAgainstAll, PhysicalAgainstAll};
+ghost use Rattle.ec_slave.specs.Steps.{AccessesAreSteps, ManagersGoByRuns};
 ghost use Rattle.ec_slave.specs.LogicalLaws.{BroadcastLaw, ExchangeLaw, MappedLaw, MissesLaw};
 ghost use Rattle.ec_slave.specs.FirmwareLaws.{AssignmentsStay, FirstReplyIsOne, PowerOnAssigns, RestsQuietly, ServesKeepAssignments, ServesKeepBuffers, ServesKeepSettings, StatesAreEntered};
 
@@ -89,6 +90,19 @@ pub fn physical_against_all()
 /// A logical datagram does to each manager what it does to it among all managers as they were.
 pub fn logical_against_all()
     ensures { LogicalAgainstAll }
+{}
+
+/// What an access does to a manager is a step of a manager's run, of which the laws of `ec_sync` speak.
+#[tactic(auto, using(crate::proofs::Steps::accesses_are_steps))]
+pub fn accesses_are_steps()
+    ensures { AccessesAreSteps }
+{}
+
+/// Whatever datagrams, firmware and application do, each manager of a slave goes by a run of a few steps that are theirs:
+/// what is proved of all runs holds of it.
+#[tactic(auto, using(crate::proofs::Steps::managers_go_by_runs))]
+pub fn managers_go_by_runs()
+    ensures { ManagersGoByRuns }
 {}
 
 /// A broadcast read of registers changes no slave and counts one.
