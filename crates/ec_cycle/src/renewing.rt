@@ -11,16 +11,11 @@ ghost use Rattle.ec_cycle.specs.Kept.{IsMade};
 ghost use Rattle.ec_cycle.specs.Renewing.{front_bytes, process_spelled};
 
 use crate::run::{Run, copy_runs};
+use ec_frame::field::{FRAME_HEADER_LEN, HEADER_LEN, INDEX, OVERHEAD};
 use ec_link::{PartPlan, Plan};
 
-/// In a datagram: where its index stands.
-const INDEX: usize = 1;
-/// In a datagram: where its data begin.
-const CONTENT: usize = 10;
-/// What a datagram has beside its data.
-const OVERHEAD: usize = 12;
 /// In a frame: where the datagram begins that names it, behind the frame's header.
-const NAME: usize = 2;
+const NAME: usize = FRAME_HEADER_LEN;
 /// In a frame: where the broadcast begins, behind the ten bytes of the name.
 const STATUS: usize = NAME + OVERHEAD + 10;
 /// In a frame: where the process datagrams begin, behind the two bytes of the AL status.
@@ -33,7 +28,7 @@ fn renumber(front: &mut [u8], number: u64)
 {
     let index = (number % 256) as u8;
     front[NAME + INDEX] = index;
-    front[NAME + CONTENT..NAME + CONTENT + 8].copy_from_slice(&number.to_le_bytes());
+    front[NAME + HEADER_LEN..NAME + HEADER_LEN + 8].copy_from_slice(&number.to_le_bytes());
     front[STATUS + INDEX] = index;
 }
 
@@ -93,7 +88,7 @@ fn refill(process: &mut [u8], plan: &Plan, part: usize, runs: &[Run], image: &[u
     if bytes == 0 {
         return;
     }
-    let sent = &mut process[CONTENT..CONTENT + bytes];
+    let sent = &mut process[HEADER_LEN..HEADER_LEN + bytes];
     refresh(plan, part, runs, image, sent);
 }
 

@@ -3,12 +3,12 @@
 ghost use Rattle.std.specs.Prelude.{◌≡◌, ◌/◌, ◌%◌, ◌==◌, leb};
 
 /// The bytes of the frame's header, before the datagrams.
-pub(crate) const FRAME_HEADER_LEN: usize = 2;
+pub const FRAME_HEADER_LEN: usize = 2;
 
 /// In a datagram: the command's number.
 pub(crate) const COMMAND: usize = 0;
 /// In a datagram: the index that the master gives.
-pub(crate) const INDEX: usize = 1;
+pub const INDEX: usize = 1;
 /// In a datagram: the four bytes of the address. ADP is the first two of them.
 pub(crate) const ADDRESS: usize = 2;
 /// In a datagram: ADO, the other two bytes of the address.
@@ -20,11 +20,11 @@ pub(crate) const FLAGS_HIGH: usize = 7;
 /// In a datagram: the event request word.
 pub(crate) const IRQ: usize = 8;
 /// The bytes of a datagram before its data.
-pub(crate) const HEADER_LEN: usize = 10;
+pub const HEADER_LEN: usize = 10;
 /// The bytes of the working counter, after the data.
 pub(crate) const COUNTER_LEN: usize = 2;
 /// What a datagram has beside its data.
-pub(crate) const OVERHEAD: usize = 12;
+pub const OVERHEAD: usize = 12;
 
 /// How many bytes of datagrams a frame has at most: what an Ethernet frame leaves a UDP payload,
 /// 1500 - 20 - 8, without the frame's header.

@@ -8,7 +8,7 @@ mod command;
 mod cursor;
 mod datagram;
 mod error;
-mod field;
+pub mod field;
 pub mod laws;
 mod walk;
 
