@@ -1,14 +1,16 @@
 -- Slaves that differ in nothing that a start-up knows of.
 use Rattle.std.proofs.Common.{ℕ, ◌+◌, ◌*◌, ◌<◌, ◌≡◌, Bool, false, Option, Some, None, refl, sym, ◌∙◌, ap, subst, inl, inr, arith, List, length, slice_index}
 use Rattle.ec_regs.specs.Types.{SlaveKind}
-use Rattle.ec_sync.specs.Manager.{Manager}
+use Rattle.ec_regs.specs.declared.manager.ManagerSettings.{ManagerSettings}
+use Rattle.ec_sync.specs.Buffer.{emptied_buffer}
+use Rattle.ec_sync.specs.Manager.{Manager, buffer_length}
 use Rattle.ec_al.specs.declared.state.State.{State}
 use Rattle.ec_al.specs.declared.state.State.TheVariants.{Init, PreOp, SafeOp, Op}
 use Rattle.ec_al.specs.Al.{Al}
 use Rattle.ec_slave.specs.State.{SlaveState, manager_at, station_of}
 use Rattle.ec_coe.specs.Objects.{Assignment, all_assigned}
 use Rattle.ec_rise.specs.Stages.{Rise, Stays, Climbs, Claim, Talk, Config, Stage, Before, Called, Down, Up, answered}
-use Rattle.ec_rise.specs.Standing.{IsOfKind, IsConfigured, IsAssigned, Claims, IsSilent, Talks, IsInInit, IsIn, StaysIn, Rises, IsUpAt, AreClear, IsDownAt, Reached, IsGone, HadFault, Stands}
+use Rattle.ec_rise.specs.Standing.{IsOfKind, unviewed, HoldsZeros, IsConfigured, IsAssigned, Claims, IsSilent, Talks, IsInInit, IsIn, StaysIn, Rises, IsUpAt, AreClear, IsDownAt, Reached, IsGone, HadFault, Stands}
 
 -- the control word in a memory
 abbrev pub word_of : List ℕ → ℕ
@@ -26,11 +28,12 @@ front-refl m = record { settings = refl; locked = refl; mail = refl }
 pub record SameFronts (ms ns : List Manager) : Type 0 where
   pub four : length ns ≡ length ms
   pub each : (n : ℕ) → SameFront (manager_at ms n) (manager_at ns n)
+  pub outputs : unviewed (manager_at ns 2).buffer ≡ unviewed (manager_at ms 2).buffer
 
 pub fronts-refl : (ms : List Manager) → SameFronts ms ms
-fronts-refl ms = record { four = refl; each = λ n. front-refl (manager_at ms n) }
+fronts-refl ms = record { four = refl; each = λ n. front-refl (manager_at ms n); outputs = refl }
 
--- all but the AL state machine, buffers, and an SII that becomes idle
+-- all but the AL state machine, the inputs, the view of the outputs, and an SII that becomes idle
 pub record Alike (s t : SlaveState) : Type 0 where
   pub kind : t.kind ≡ s.kind
   pub room : length t.memory ≡ length s.memory
@@ -61,6 +64,9 @@ slave-alike kind s t a init h = record {
   unlocked_in_init = λ e n l. (a.managers.each n).locked ∙ h.unlocked_in_init (init e) n l;
 }
 
+zeros-alike : (s t : SlaveState) → Alike s t → HoldsZeros (manager_at s.managers 2) → HoldsZeros (manager_at t.managers 2)
+zeros-alike s t a h = a.managers.outputs ∙ (h ∙ ap (λ (m : ManagerSettings). emptied_buffer (buffer_length m)) (sym (a.managers.each 2).settings))
+
 pub configured-alike : (i : ℕ) (c : Config) (s t : SlaveState) → Alike s t → IsConfigured i c s → IsConfigured i c t
 configured-alike i c s t a h = record {
   station_is = station-alike s t a ∙ h.station_is;
@@ -68,6 +74,7 @@ configured-alike i c s t a h = record {
   fmmus = λ n k l b. a.memory (0x0600 + 16 * n + k) (omega arith) ∙ h.fmmus n k l b;
   idle = λ e. a.idle (h.idle e);
   no_letters = λ n l b. (a.managers.each n).mail ∙ h.no_letters n l b;
+  outputs = zeros-alike s t a h.outputs;
 }
 
 pub claims-alike : (c : Claim) (a b : Assignment) → b ≡ a → Claims c a → Claims c b
@@ -117,6 +124,7 @@ clear-alike : (s t : SlaveState) → Alike s t → AreClear s → AreClear t
 clear-alike s t a h = record {
   settings = λ n l. (a.managers.each n).settings ∙ h.settings n l;
   no_letters = λ n l. (a.managers.each n).mail ∙ h.no_letters n l;
+  outputs = zeros-alike s t a h.outputs;
 }
 
 pub down-rest : (f m : Bool) (s t : SlaveState) → Alike s t → IsInInit t → IsDownAt f m s → IsDownAt f m t

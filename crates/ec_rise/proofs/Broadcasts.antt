@@ -20,7 +20,7 @@ use Rattle.ec_start.specs.declared.action.Action.{Action}
 use Rattle.ec_start.specs.declared.action.Action.TheVariants.{AskInit, ClearFmmus, ClearManagers, ClearStations}
 use Rattle.ec_start.specs.Actions.{datagram_of}
 use Rattle.ec_rise.specs.Stages.{Stage, Called, Down, after}
-use Rattle.ec_rise.specs.Standing.{IsInInit, AreClear, IsDownAt, Stands}
+use Rattle.ec_rise.specs.Standing.{HoldsZeros, IsInInit, AreClear, IsDownAt, Stands}
 use Rattle.ec_rise.specs.Frames.{IsWriting, Arrives, IsOther, MayRepeat, Met}
 use Rattle.ec_rise.proofs.Resets.{get_or-zeros}
 use Rattle.ec_rise.proofs.Writes.{Wrote, wrote, set_by, unconfigured, slave-wrote}
@@ -126,6 +126,7 @@ clear-wrote : (w : Window) (s t : SlaveState) → length s.managers ≡ 4 → ((
 clear-wrote w s t four u h k = record {
   settings = λ n l. ap (λ (m : Manager). m.settings) (h.managers n (omega (arith, four, l)) ∙ if_false _ _ _ (u n l)) ∙ k.settings n l;
   no_letters = λ n l. ap (λ (m : Manager). m.mail) (h.managers n (omega (arith, four, l)) ∙ if_false _ _ _ (u n l)) ∙ k.no_letters n l;
+  outputs = subst HoldsZeros (sym (h.managers 2 (omega (arith, four)) ∙ if_false _ _ _ (u 2 (omega arith)))) k.outputs;
 }
 
 abbrev pub fmmus-cleared : Window
@@ -182,6 +183,7 @@ clear-managers kind i f m trouble s h =
         managers = λ e. record {
           settings = λ n l. ap (λ (x : Manager). x.settings) (w.managers n (omega (arith, four, l)) ∙ cleared-by n (manager_at s.managers n) l);
           no_letters = λ n l. ap (λ (x : Manager). x.mail) (w.managers n (omega (arith, four, l)) ∙ cleared-by n (manager_at s.managers n) l);
+          outputs = subst HoldsZeros (sym (w.managers 2 (omega (arith, four)) ∙ cleared-by 2 (manager_at s.managers 2) (omega arith))) refl;
         };
       });
     }

@@ -1,9 +1,9 @@
 -- A fault of a slave that stands at a stage, and what its application reads and writes.
-use Rattle.std.proofs.Common.{ℕ, ◌<◌, ◌≡◌, ◌≢◌, ◌⊎◌, Bool, true, false, Option, Some, None, refl, sym, ◌∙◌, ap, subst, inl, inr, arith, if◌then◌else◌, List, length, set, unwrap_or, option_map, length-set, get_or-set_same, get_or-set_other}
+use Rattle.std.proofs.Common.{ℕ, ◌<◌, ◌≡◌, ◌≢◌, ◌⊎◌, Bool, true, false, Option, Some, None, refl, sym, ◌∙◌, ap, subst, inl, inr, arith, if◌then◌else◌, List, length, set, unwrap_or, option_map, nat_lt, ◌==◌, length-set, get_or-set_same, get_or-set_other}
 use Rattle.std.proofs.lemmas.Bool.{cases_Bool, cases_eq, both_ways}
 use Rattle.ec_bits.proofs.AnyLaws.{if_true, if_false}
 use Rattle.ec_regs.specs.Types.{SlaveKind}
-use Rattle.ec_sync.specs.Buffer.{Buffer, Got, app_written, app_read}
+use Rattle.ec_sync.specs.Buffer.{Buffer, Got, view_next, app_written, app_read}
 use Rattle.ec_sync.specs.Manager.{Manager, no_manager, may_app_put, may_app_get, app_put, app_got}
 use Rattle.ec_al.specs.declared.state.State.{State}
 use Rattle.ec_al.specs.declared.state.State.TheVariants.{Init, PreOp, SafeOp, Op}
@@ -13,7 +13,7 @@ use Rattle.ec_slave.specs.State.{SlaveState, manager_at, power_on}
 use Rattle.ec_slave.specs.Application.{is_running, with_manager, input_put, output_got, output_taken}
 use Rattle.ec_slave.specs.Faulting.{faulted, locked_empty}
 use Rattle.ec_rise.specs.Stages.{Rise, Stays, Climbs, Config, Stage, Before, Called, Down, Up, Talk}
-use Rattle.ec_rise.specs.Standing.{IsOfKind, Rises, IsSilent, Talks, IsUpAt, Reached, IsGone, IsFaulted, IsTop, HadFault, Stands}
+use Rattle.ec_rise.specs.Standing.{unviewed, HoldsZeros, IsOfKind, Rises, IsSilent, Talks, IsUpAt, Reached, IsGone, IsFaulted, IsTop, HadFault, Stands}
 use Rattle.ec_rise.proofs.Alike.{SameFront, front-refl, SameFronts, Alike, stands-alike}
 
 -- ---- a fault
@@ -89,6 +89,7 @@ fault-at i c s e l quiet top u =
           fmmus = u.configured.fmmus;
           idle = u.configured.idle;
           no_letters = λ n a b. mail_two s.managers n two (u.configured.no_letters n a b);
+          outputs = subst HoldsZeros (sym (own_two s.managers two)) refl;
         };
         silent = record {
           no_letter = mail_two s.managers 0 two silent.no_letter;
@@ -161,23 +162,28 @@ fault-stands kind i st trouble s e h = subst (λ (t : SlaveState). Stands kind i
 
 -- ---- the application
 
--- a manager whose buffer alone is another
-buffer-front : (ms : List Manager) (n : ℕ) (b : Buffer) → n < length ms → SameFronts ms (set ms n (record (manager_at ms n) { buffer = b }))
-buffer-front ms n b l = record {
+-- a manager whose buffer alone is another, and of the outputs' no more than the view
+buffer-front : (ms : List Manager) (n : ℕ) (b : Buffer) → n < length ms → (n ≡ 2 → unviewed b ≡ unviewed (manager_at ms n).buffer) → SameFronts ms (set ms n (record (manager_at ms n) { buffer = b }))
+buffer-front ms n b l same = record {
   four = length-set ms n _;
   each = λ k. elim (cases_eq k n) [
     | inl e ↦ subst (λ (j : ℕ). SameFront (manager_at ms j) (manager_at (set ms n (record (manager_at ms n) { buffer = b })) j)) (sym e)
         (subst (λ (m : Manager). SameFront (manager_at ms n) m) (sym (get_or-set_same ms n (record (manager_at ms n) { buffer = b }) no_manager l)) (record { settings = refl; locked = refl; mail = refl }))
     | inr ne ↦ subst (λ (m : Manager). SameFront (manager_at ms k) m) (sym (get_or-set_other ms n k (record (manager_at ms n) { buffer = b }) no_manager ne)) (front-refl (manager_at ms k))
   ];
+  outputs = elim (cases_eq 2 n) [
+    | inl e ↦ subst (λ (j : ℕ). unviewed (manager_at (set ms n (record (manager_at ms n) { buffer = b })) j).buffer ≡ unviewed (manager_at ms j).buffer) (sym e)
+        (ap (λ (m : Manager). unviewed m.buffer) (get_or-set_same ms n (record (manager_at ms n) { buffer = b }) no_manager l) ∙ same (sym e))
+    | inr ne ↦ ap (λ (m : Manager). unviewed m.buffer) (get_or-set_other ms n 2 (record (manager_at ms n) { buffer = b }) no_manager ne)
+  ];
 }
 
-buffer-alike : (s : SlaveState) (n : ℕ) (b : Buffer) → n < length s.managers → Alike s (with_manager s n (record (manager_at s.managers n) { buffer = b }))
-buffer-alike s n b l = record {
+buffer-alike : (s : SlaveState) (n : ℕ) (b : Buffer) → n < length s.managers → (n ≡ 2 → unviewed b ≡ unviewed (manager_at s.managers n).buffer) → Alike s (with_manager s n (record (manager_at s.managers n) { buffer = b }))
+buffer-alike s n b l same = record {
   kind = refl;
   room = refl;
   memory = λ a k. refl;
-  managers = buffer-front s.managers n b l;
+  managers = buffer-front s.managers n b l same;
   idle = λ e. e;
   outs = refl;
   ins = refl;
@@ -186,7 +192,7 @@ buffer-alike s n b l = record {
 -- it changes one buffer, of a slave that runs, or nothing
 pub data Buffered (s : SlaveState) (n : ℕ) (t : SlaveState) : Type 0 where
   Left : t ≡ s → Buffered s n t
-  Changed : (b : Buffer) → is_running s.al.state ≡ true → t ≡ with_manager s n (record (manager_at s.managers n) { buffer = b }) → Buffered s n t
+  Changed : (b : Buffer) → is_running s.al.state ≡ true → (n ≡ 2 → unviewed b ≡ unviewed (manager_at s.managers n).buffer) → t ≡ with_manager s n (record (manager_at s.managers n) { buffer = b }) → Buffered s n t
 
 put-buffered : (s : SlaveState) (i x : ℕ) → Buffered s 3 (unwrap_or (input_put s i x) s)
 put-buffered s i x = elim (cases_Bool (is_running s.al.state)) [
@@ -196,26 +202,42 @@ put-buffered s i x = elim (cases_Bool (is_running s.al.state)) [
 ]
   where
     by_right : is_running s.al.state ≡ true → (b : Bool) (o : Option Buffer) → Buffered s 3 (unwrap_or (option_map (with_manager s 3) (if b then option_map (λ b. record (manager_at s.managers 3) { buffer = b }) o else None)) s)
-    by_right y true (Some b) = Changed b y refl
+    by_right y true (Some b) = Changed b y (λ e. absurd (omega (arith, e))) refl
     by_right y true None = Left refl
     by_right y false o = Left refl
+
+no-got : (g : Got) → (let o : Option Got = None in o ≡ Some g) → ⊥
+no-got g e = cc
+
+got-same : (g h : Got) → Some g ≡ Some h → g ≡ h
+got-same g h e = cc
+
+-- a read changes the view alone
+read-leaves : (b : Buffer) (i : ℕ) (g : Got) → app_read b i ≡ Some g → unviewed g.buffer ≡ unviewed b
+unfolding app_read
+read-leaves b i g e = by (nat_lt i (length b.published)) (if i == 0 then Some b.published else b.view) e
+  where
+    by : (inside : Bool) (v : Option (List ℕ)) → (if inside then view_next b i v else None) ≡ Some g → unviewed g.buffer ≡ unviewed b
+    by true (Some v) q = sym (ap (λ (x : Got). unviewed x.buffer) (got-same _ g q))
+    by true None q = absurd (no-got g q)
+    by false v q = absurd (no-got g q)
 
 got-buffered : (s : SlaveState) (i : ℕ) → Buffered s 2 (output_taken s (output_got s i))
 got-buffered s i = elim (cases_Bool (is_running s.al.state)) [
   | inr n ↦ Left (ap (output_taken s) (if_false (is_running s.al.state) (app_got (manager_at s.managers 2) i) None n))
   | inl y ↦ subst (λ (o : Option Got). Buffered s 2 (output_taken s o)) (sym (if_true (is_running s.al.state) (app_got (manager_at s.managers 2) i) None y))
-      (by_right y (may_app_get (manager_at s.managers 2)) (app_read (manager_at s.managers 2).buffer i))
+      (by_right y (may_app_get (manager_at s.managers 2)) (app_read (manager_at s.managers 2).buffer i) refl)
 ]
   where
-    by_right : is_running s.al.state ≡ true → (b : Bool) (o : Option Got) → Buffered s 2 (output_taken s (if b then o else None))
-    by_right y true (Some g) = Changed g.buffer y refl
-    by_right y true None = Left refl
-    by_right y false o = Left refl
+    by_right : is_running s.al.state ≡ true → (b : Bool) (o : Option Got) → app_read (manager_at s.managers 2).buffer i ≡ o → Buffered s 2 (output_taken s (if b then o else None))
+    by_right y true (Some g) q = Changed g.buffer y (λ e. read-leaves (manager_at s.managers 2).buffer i g q) refl
+    by_right y true None q = Left refl
+    by_right y false o q = Left refl
 
 buffered-stands : (kind : SlaveKind) (i : ℕ) (st : Stage) (trouble : Bool) (s t : SlaveState) (n : ℕ) → n < 4 → Buffered s n t → Stands kind i st trouble s → Stands kind i st trouble t
 buffered-stands kind i st trouble s t n l (Left e) h = subst (λ (x : SlaveState). Stands kind i st trouble x) (sym e) h
-buffered-stands kind i st trouble s t n l (Changed b y e) h = subst (λ (x : SlaveState). Stands kind i st trouble x) (sym e)
-    (stands-alike kind i st trouble s (with_manager s n (record (manager_at s.managers n) { buffer = b })) (buffer-alike s n b (let f = h.slave.four in omega arith)) refl
+buffered-stands kind i st trouble s t n l (Changed b y same e) h = subst (λ (x : SlaveState). Stands kind i st trouble x) (sym e)
+    (stands-alike kind i st trouble s (with_manager s n (record (manager_at s.managers n) { buffer = b })) (buffer-alike s n b (let f = h.slave.four in omega arith) same) refl
     (λ g. absurd (both_ways (is_running s.al.state) (ap is_running (gone-state st s g)) y)) h)
 
 pub put-stands : (kind : SlaveKind) (i : ℕ) (st : Stage) (trouble : Bool) (s : SlaveState) (place byte : ℕ) → Stands kind i st trouble s → Stands kind i st trouble (unwrap_or (input_put s place byte) s)

@@ -24,7 +24,7 @@ use Rattle.ec_start.specs.declared.action.Transfer.{Transfer}
 use Rattle.ec_start.specs.declared.action.Transfer.TheVariants.{Download, Upload}
 use Rattle.ec_start.specs.Actions.{filled, request_bytes, request_command, request_message}
 use Rattle.ec_rise.specs.Stages.{Config, Stage, Before, Called, Down, Up, Talk}
-use Rattle.ec_rise.specs.Standing.{IsOfKind, IsConfigured, IsSent, Claims, Talks, IsUpAt, IsDownAt, Reached, IsGone, HadFault, Stands}
+use Rattle.ec_rise.specs.Standing.{HoldsZeros, IsOfKind, IsConfigured, IsSent, Claims, Talks, IsUpAt, IsDownAt, Reached, IsGone, HadFault, Stands}
 use Rattle.ec_rise.proofs.Alike.{rises-alike, word_of}
 use Rattle.ec_rise.proofs.Serves.{stands-decided, stands-finished}
 use Rattle.ec_rise.proofs.Claiming.{reply-claims}
@@ -159,6 +159,7 @@ replied-up i c k s t talk four u h r = record {
     fmmus = λ n b l m. ap (λ (x : List ℕ). slice_index x (0x0600 + 16 * n + b)) r.memory ∙ u.configured.fmmus n b l m;
     idle = λ e. ap (λ p. p.busy) r.sii ∙ u.configured.idle e;
     no_letters = λ n a b. ap (λ (m : Manager). m.mail) (r.others n a) ∙ u.configured.no_letters n a b;
+    outputs = subst HoldsZeros (sym (r.others 2 (omega arith))) u.configured.outputs;
   };
   unlocked = λ n l. r.locked n ∙ u.unlocked n l;
   rises = rises-alike c.rise s t (ap (λ (m : List ℕ). slice_index m 0x0120 + 256 * slice_index m 0x0121) r.memory) r.al u.rises;

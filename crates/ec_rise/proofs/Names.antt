@@ -19,7 +19,7 @@ use Rattle.ec_start.specs.Plans.{settings_at, fmmu_at}
 use Rattle.ec_start.specs.declared.action.Action.TheVariants.{NameSlave}
 use Rattle.ec_start.specs.Actions.{station, datagram_of}
 use Rattle.ec_rise.specs.Stages.{Stage, Before, Called, Down, Up, fresh, after, Fits, IsClear}
-use Rattle.ec_rise.specs.Standing.{AreClear, IsDownAt, IsUpAt, Stands}
+use Rattle.ec_rise.specs.Standing.{HoldsZeros, AreClear, IsDownAt, IsUpAt, Stands}
 use Rattle.ec_rise.specs.Frames.{IsWriting, Arrives, Met}
 use Rattle.ec_rise.proofs.Passing.{others-stay, other-met}
 use Rattle.ec_rise.proofs.Resets.{get_or-zeros}
@@ -95,6 +95,7 @@ named-up i s t h room four unlocked k =
             ∙ (subst (λ (x : ℕ). slice_index s.memory x ≡ 0) (adds n b) (k.fmmus refl (16 * n + b) (omega (arith, l, m))) ∙ sym (ap (λ f. slice_index (fmmu_bytes f) b) (fmmu-none n) ∙ no-bytes b));
         idle = λ e. absurd (both_ways false refl e);
         no_letters = λ n a l. ap (λ (m : Manager). m.mail) (same n l) ∙ clear.no_letters n l;
+        outputs = subst HoldsZeros (sym (same 2 (omega arith))) clear.outputs;
       };
       unlocked = λ n l. ap (λ (m : Manager). m.locked) (same n l) ∙ unlocked n l;
       rises = init-wrote (naming i) s t room refl refl h k.init;

@@ -22,7 +22,7 @@ use Rattle.ec_start.specs.declared.action.Action.{Action}
 use Rattle.ec_start.specs.declared.action.Action.TheVariants.{AskState}
 use Rattle.ec_start.specs.Actions.{station, at, sent}
 use Rattle.ec_rise.specs.Stages.{Rise, Stays, Climbs, Config, Stage, Up, Talk, told, climbing, after, CanTell, CanClimb}
-use Rattle.ec_rise.specs.Standing.{IsOfKind, IsConfigured, Rises, IsSilent, Talks, IsUpAt, IsTop, Stands}
+use Rattle.ec_rise.specs.Standing.{HoldsZeros, IsOfKind, IsConfigured, Rises, IsSilent, Talks, IsUpAt, IsTop, Stands}
 use Rattle.ec_rise.specs.Frames.{Untouched, ReadsOn, Arrives, IsOther, MayRepeat, Met}
 use Rattle.ec_rise.proofs.Alike.{claims-alike}
 use Rattle.ec_rise.proofs.Passing.{IsOne, one-ask-state, station-zero}
@@ -123,6 +123,7 @@ ask-configured i c state s t h room four k = record {
   fmmus = λ n b l m. ask-leaves state s t (0x0600 + 16 * n + b) h (omega arith) (inr (omega arith)) ∙ k.fmmus n b l m;
   idle = λ e. ap (λ (q : Sii). q.busy) h.sii ∙ (ask-busy s.sii state ∙ k.idle e);
   no_letters = λ n l m. ap (λ (x : Manager). x.mail) (ask-manager state s t n h four m) ∙ k.no_letters n l m;
+  outputs = subst HoldsZeros (sym (ask-manager state s t 2 h four (omega arith))) k.outputs;
 }
 
 ask-control : (state : State) (s t : SlaveState) → Wrote (asking state) s t → length s.memory ≡ 0x3000 → control_word t ≡ state_number state

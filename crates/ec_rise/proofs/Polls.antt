@@ -180,7 +180,7 @@ await-rises (Climbs from other) to s (step, same) e n (up, inr (inl h)) = in-sta
 await-rises (Climbs from other) to s (step, same) e n (up, inr (inr h)) = absurd (both_ways s.al.error e h.error)
 
 pub rise-configured : (i : ℕ) (c : Config) (r : Rise) (s : SlaveState) → IsConfigured i c s → IsConfigured i (record c { rise = r }) s
-rise-configured i c r s k = record { station_is = k.station_is; settings = k.settings; fmmus = k.fmmus; idle = k.idle; no_letters = k.no_letters }
+rise-configured i c r s k = record { station_is = k.station_is; settings = k.settings; fmmus = k.fmmus; idle = k.idle; no_letters = k.no_letters; outputs = k.outputs }
 
 pub rise-silent : (c : Config) (r : Rise) (s : SlaveState) → IsSilent c s → IsSilent (record c { rise = r }) s
 rise-silent c r s k = record { no_letter = k.no_letter; no_reply = k.no_reply; assigned = record { outs = k.assigned.outs; ins = k.assigned.ins } }
@@ -256,7 +256,7 @@ command-at s = high (from_bool s.sii.busy) (from_bool s.sii.error)
     high x y = omega arith
 
 idle-configured : (i : ℕ) (c : Config) (s : SlaveState) → s.sii.busy ≡ false → IsConfigured i c s → IsConfigured i (record c { idle = true }) s
-idle-configured i c s e k = record { station_is = k.station_is; settings = k.settings; fmmus = k.fmmus; idle = λ _. e; no_letters = k.no_letters }
+idle-configured i c s e k = record { station_is = k.station_is; settings = k.settings; fmmus = k.fmmus; idle = λ _. e; no_letters = k.no_letters; outputs = k.outputs }
 
 idle-silent : (c : Config) (s : SlaveState) → IsSilent c s → IsSilent (record c { idle = true }) s
 idle-silent c s k = record { no_letter = k.no_letter; no_reply = k.no_reply; assigned = record { outs = k.assigned.outs; ins = k.assigned.ins } }

@@ -269,6 +269,7 @@ emptied-up i c d s f none done u = record {
     fmmus = λ n k l m. u.configured.fmmus n k l m ∙ ap (λ fs. slice_index (fmmu_bytes (fmmu_at fs n)) k) (sym f.fmmus);
     idle = λ e. u.configured.idle (sym f.idle ∙ e);
     no_letters = λ n a l. emptied-others s n a l ∙ u.configured.no_letters n a l;
+    outputs = u.configured.outputs;
   };
   unlocked = λ n l. emptied-lock s n l ∙ u.unlocked n l;
   rises = subst (λ (r : Rise). Rises r (emptied s)) (sym f.rise) (rises-alike c.rise s (emptied s) refl refl u.rises);

@@ -51,6 +51,7 @@ power_on_down kind identity f m = record {
   managers = λ _. record {
     settings = λ n l. ap (λ (x : Manager). x.settings) (empty_at n);
     no_letters = λ n l. ap (λ (x : Manager). x.mail) (empty_at n);
+    outputs = refl;
   };
 }
 

@@ -28,7 +28,7 @@ use Rattle.ec_start.specs.declared.action.Request.{Request}
 use Rattle.ec_start.specs.Actions.{station, filled, request_bytes, request_message}
 use Rattle.ec_rise.specs.Stages.{Config, Up, Talk, CanTell}
 use Rattle.ec_start.specs.Planned.{AreMailboxes, IsRequest}
-use Rattle.ec_rise.specs.Standing.{IsOfKind, IsSilent, Talks, IsUpAt, IsTop, Stands}
+use Rattle.ec_rise.specs.Standing.{HoldsZeros, IsOfKind, IsSilent, Talks, IsUpAt, IsTop, Stands}
 use Rattle.ec_rise.specs.Frames.{Arrives, Met}
 use Rattle.ec_rise.proofs.Alike.{claims-alike, rises-alike}
 use Rattle.ec_rise.proofs.Passing.{one-send}
@@ -160,6 +160,7 @@ pub record Delivered (b : Mailbox) (counter : ℕ) (r : Request) (s t : SlaveSta
   pub settings : (n : ℕ) → n < 4 → (manager_at t.managers n).settings ≡ (manager_at s.managers n).settings
   pub locked : (n : ℕ) → n < 4 → (manager_at t.managers n).locked ≡ (manager_at s.managers n).locked
   pub mail : (n : ℕ) → 1 ≤ n → n < 4 → (manager_at t.managers n).mail ≡ (manager_at s.managers n).mail
+  pub outputs : manager_at t.managers 2 ≡ manager_at s.managers 2
   pub al : t.al ≡ s.al
   pub busy : t.sii.busy ≡ s.sii.busy
   pub outs : t.outs ≡ s.outs
@@ -207,6 +208,7 @@ delivered i counter c b r s four h u none =
       settings = λ n l. ap (λ (ms : List Manager). (manager_at ms n).settings) e ∙ letter-settings s.managers x n l;
       locked = λ n l. ap (λ (ms : List Manager). (manager_at ms n).locked) e ∙ letter-locked s.managers x n l;
       mail = λ n a l. ap (λ (ms : List Manager). (manager_at ms n).mail) e ∙ letter-mail s.managers x n a l;
+      outputs = ap (λ (ms : List Manager). manager_at ms 2) e;
       al = if_false _ _ _ (within_below b.receive_start (length (sending b counter r).bytes) 0x0120 (omega (arith, ram, rs)));
       busy = aside-busy (sending b counter r) s.sii (omega (arith, ram, rs));
       outs = refl;
@@ -239,6 +241,7 @@ delivered-up i counter c b r s t room none boxes q low h u =
         fmmus = λ n k l m. byte (0x0600 + 16 * n + k) (omega (arith, l, m)) ∙ u.configured.fmmus n k l m;
         idle = λ e. h.busy ∙ u.configured.idle e;
         no_letters = λ n a l. h.mail n (omega (arith, a)) l ∙ u.configured.no_letters n a l;
+        outputs = subst HoldsZeros (sym h.outputs) u.configured.outputs;
       };
       unlocked = λ n l. h.locked n l ∙ u.unlocked n l;
       rises = rises-alike c.rise s t (ap (λ (x : ℕ). x + 256 * slice_index t.memory 0x0121) (byte 0x0120 (omega arith)) ∙ ap (λ (x : ℕ). slice_index s.memory 0x0120 + 256 * x) (byte 0x0121 (omega arith))) h.al u.rises;

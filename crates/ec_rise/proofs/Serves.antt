@@ -20,7 +20,7 @@ use Rattle.ec_slave.specs.Serving.{unlocked_empty, managers_entered, with_al, re
 use Rattle.ec_sii.specs.Port.{Sii}
 use Rattle.ec_sii.specs.Port as port
 use Rattle.ec_rise.specs.Stages.{Rise, Stays, Climbs, Config, Stage, Before, Called, Down, Up, IsStepUp}
-use Rattle.ec_rise.specs.Standing.{IsOfKind, IsInInit, Rises, IsUpAt, IsDownAt, Reached, IsGone, HadFault, Stands}
+use Rattle.ec_rise.specs.Standing.{unviewed, IsOfKind, IsInInit, Rises, IsUpAt, IsDownAt, Reached, IsGone, HadFault, Stands}
 use Rattle.ec_rise.proofs.Alike.{SameFront, front-refl, SameFronts, fronts-refl, Alike, slave-alike, stands-alike, down-rest, up-rest}
 
 -- ---- the managers, where a state is entered
@@ -45,6 +45,7 @@ zeros-front ms l = record {
         (record { settings = refl; locked = refl; mail = refl }))
     | inr ne ↦ subst (λ (m : Manager). SameFront (manager_at ms n) m) (sym (get_or-set_other ms 3 n (zeros_published (manager_at ms 3)) no_manager ne)) (front-refl (manager_at ms n))
   ];
+  outputs = ap (λ (m : Manager). unviewed m.buffer) (get_or-set_other ms 3 2 (zeros_published (manager_at ms 3)) no_manager (λ q. omega (arith, q)));
 }
 
 -- no state is left for INIT

@@ -22,7 +22,7 @@ use Rattle.ec_start.specs.Plans.{settings_at, fmmu_at}
 use Rattle.ec_start.specs.declared.action.Action.TheVariants.{AskWord, SetManager, SetFmmu}
 use Rattle.ec_start.specs.Actions.{station, word_place}
 use Rattle.ec_rise.specs.Stages.{Rise, Stays, Climbs, Config, Up, Talk, CanTell, IsLow}
-use Rattle.ec_rise.specs.Standing.{IsConfigured, IsSilent, Talks, IsUpAt, IsTop, Rises, Claims, Stands}
+use Rattle.ec_rise.specs.Standing.{HoldsZeros, IsConfigured, IsSilent, Talks, IsUpAt, IsTop, Rises, Claims, Stands}
 use Rattle.ec_rise.specs.Frames.{Arrives, Met}
 use Rattle.ec_rise.proofs.Alike.{claims-alike, rises-alike, word_of}
 use Rattle.ec_rise.proofs.Passing.{one-ask-word, one-set-manager, one-set-fmmu}
@@ -83,6 +83,14 @@ set-mail w n m e = by (is_configured w n)
     by true = refl
     by false = e
 
+-- new settings leave zeros
+set-zeros : (w : Window) (n : ℕ) (m : Manager) → HoldsZeros m → HoldsZeros (set_by w n m)
+set-zeros w n m h = by (is_configured w n)
+  where
+    by : (b : Bool) → HoldsZeros (if b then empty_manager (settings_written w n m) m.locked else m)
+    by true = refl
+    by false = h
+
 -- a slave that is silent, after registers were set: what is left to show is what they set
 pub set-up : (i : ℕ) (c d : Config) (s t : SlaveState) (w : Window) → Aside w → Wrote w s t → length s.memory ≡ 0x3000 → length s.managers ≡ 4 → c.talk ≡ None
     → d.talk ≡ None → d.outs ≡ c.outs → d.ins ≡ c.ins → d.rise ≡ c.rise
@@ -101,6 +109,7 @@ set-up i c d s t w h k room four none free eo ei er settings fmmus idle u =
         fmmus = fmmus;
         idle = idle;
         no_letters = λ n a l. mail n l (u.configured.no_letters n a l);
+        outputs = subst HoldsZeros (sym (k.managers 2 (omega (arith, four)))) (set-zeros w 2 (manager_at s.managers 2) u.configured.outputs);
       };
       unlocked = λ n l. ap (λ (m : Manager). m.locked) (k.managers n (omega (arith, four, l))) ∙ (set-locked w n (manager_at s.managers n) ∙ u.unlocked n l);
       rises = subst (λ (r : Rise). Rises r t) (sym er) (rises-alike c.rise s t (aside-word w s t h k room) (aside-al w s t h k) u.rises);

@@ -103,7 +103,7 @@ pub data Runs : Starting → Starting → Type 0 where
   Steps : (w u v : Starting) → Happens w u → Runs u v → Runs w v
   Begins : (w v : Starting) (f : StartError) → w.start.phase ≡ Failed f → w.slot ≡ None → Runs (with_begun w) v → Runs w v
 
--- all that the plan sets
+-- all that the plan sets; its outputs are zeros
 pub record HoldsAll (i : ℕ) (p : Settings) (s : SlaveState) : Type 0 where
   pub configured : IsConfigured i (end_of p) s
   pub silent : IsSilent (end_of p) s

@@ -4,6 +4,8 @@ use Rattle.std.specs.Option.{ForSome}
 use Rattle.ec_regs.specs.Managers.{no_settings}
 use Rattle.ec_regs.specs.Fmmus.{fmmu_bytes}
 use Rattle.ec_regs.specs.Types.{SlaveKind}
+use Rattle.ec_sync.specs.Buffer.{Buffer, emptied_buffer}
+use Rattle.ec_sync.specs.Manager.{Manager, buffer_length}
 use Rattle.ec_al.specs.declared.state.State.{State}
 use Rattle.ec_al.specs.declared.state.State.TheVariants.{Init, SafeOp, Op}
 use Rattle.ec_al.specs.States.{state_number}
@@ -36,13 +38,22 @@ pub record IsOfKind (kind : SlaveKind) (s : SlaveState) : Type 0 where
 
 -- ---- what is known by the actions so far
 
--- what was set is held
+-- a buffer but for its reader's view
+abbrev pub unviewed : Buffer → Buffer
+unviewed b = record b { view = None }
+
+-- It holds what its settings left: zeros, and no draft. A reader's view may be open.
+abbrev pub HoldsZeros : Manager → Type 0
+HoldsZeros m = unviewed m.buffer ≡ emptied_buffer (buffer_length m.settings)
+
+-- what was set is held, and the outputs are zeros
 pub record IsConfigured (i : ℕ) (c : Config) (s : SlaveState) : Type 0 where
   pub station_is : station_of s ≡ station i
   pub settings : (n : ℕ) → n < 4 → (manager_at s.managers n).settings ≡ settings_at c.managers n
   pub fmmus : (n k : ℕ) → n < 4 → k < 16 → slice_index s.memory (0x0600 + 16 * n + k) ≡ slice_index (fmmu_bytes (fmmu_at c.fmmus n)) k
   pub idle : c.idle ≡ true → s.sii.busy ≡ false
   pub no_letters : (n : ℕ) → 2 ≤ n → n < 4 → (manager_at s.managers n).mail ≡ None
+  pub outputs : HoldsZeros (manager_at s.managers 2)
 
 -- in INIT without an error; a request that waits can only be phase 1's
 pub record IsInInit (s : SlaveState) : Type 0 where
@@ -127,6 +138,7 @@ pub record IsUpAt (i : ℕ) (c : Config) (s : SlaveState) : Type 0 where
 pub record AreClear (s : SlaveState) : Type 0 where
   pub settings : (n : ℕ) → n < 4 → (manager_at s.managers n).settings ≡ no_settings
   pub no_letters : (n : ℕ) → n < 4 → (manager_at s.managers n).mail ≡ None
+  pub outputs : HoldsZeros (manager_at s.managers 2)
 
 pub record IsDownAt (f m : Bool) (s : SlaveState) : Type 0 where
   pub init : IsInInit s
