@@ -1,12 +1,15 @@
 -- A world whose start-up is ready shows a plain state.
 use Rattle.std.proofs.Common.{ℕ, zero, suc, ◌<◌, ◌≡◌, ◌⊎◌, Bool, true, false, Option, Some, None, refl, sym, ◌∙◌, ap, subst, inl, inr, arith, List, [], ◌∷◌, length, map, get_or, option_map}
 use Rattle.std.proofs.lemmas.Bool.{cases_lt, and_from, and_left}
-use Rattle.std.proofs.lemmas.List.{get_or_past, get_or-map, length-map}
+use Rattle.std.proofs.lemmas.List.{get_or_past, get_or-map, length-map, length-replicate}
 use Rattle.ec_bits.specs.Bits.{bytes_of_bits}
 use Rattle.ec_bits.proofs.AnyLaws.{if_true, if_false}
 use Rattle.ec_regs.specs.declared.manager.ManagerSettings.{ManagerSettings}
 use Rattle.ec_regs.specs.Managers.{no_settings}
 use Rattle.ec_regs.specs.Fmmus.{no_fmmu}
+use Rattle.ec_regs.specs.declared.slave_type.Identity.{Identity}
+use Rattle.ec_regs.specs.Types.{SlaveKind}
+use Rattle.ec_sync.specs.Buffer.{Buffer, emptied_buffer}
 use Rattle.ec_sync.specs.Manager.{Manager, no_manager, buffer_length}
 use Rattle.ec_al.specs.declared.state.State.TheVariants.{Init}
 use Rattle.ec_slave.specs.State.{SlaveState, manager_at, power_on}
@@ -18,7 +21,7 @@ use Rattle.ec_start.specs.Planned.{IsStartable}
 use Rattle.ec_rise.specs.Stages.{end_of}
 use Rattle.ec_start.specs.declared.phase.Phase.{Phase}
 use Rattle.ec_start.specs.declared.phase.Phase.TheVariants.{Idle, Sent, Ready, Failed}
-use Rattle.ec_rise.specs.Standing.{IsOfKind}
+use Rattle.ec_rise.specs.Standing.{IsOfKind, unviewed}
 use Rattle.ec_rise.specs.Stages.{Config}
 use Rattle.ec_start.specs.declared.error.StartError.{StartError}
 use Rattle.ec_cycle.specs.Master.{OpenCycle}
@@ -34,7 +37,7 @@ use Rattle.ec_world.specs.SlaveShows.{Holds, IsQuiet, HoldsData, IsAs, SlaveShow
 use Rattle.ec_world.specs.Shows.{CyclesShow, said}
 use Rattle.ec_world.specs.Lengths.{AllFit}
 use Rattle.ec_world.specs.Rising.{SlotsHold, seen_of, Rising}
-use Rattle.ec_world.specs.Whole.{health_of, plain_slave_of, plain_of, IsReadyWorld}
+use Rattle.ec_world.specs.Whole.{health_of, plain_slave_of, plain_of, ShowsZeros, IsReadyWorld}
 use Rattle.ec_world.proofs.Settings.{get_or-mapped, some_bits, no_bits, set_for_ins, unset}
 use Rattle.ec_world.proofs.Mapped.{third_held, fourth_held}
 use Rattle.ec_world.proofs.SlaveSteps.{out_length}
@@ -57,6 +60,14 @@ end-fmmus p = refl
 
 end-managers : (p : Settings) → (end_of p).managers ≡ p.managers
 end-managers p = refl
+
+-- zeros of some length are zeros of their own
+shows-zeros : (b : Buffer) (n : ℕ) → unviewed b ≡ emptied_buffer n → ShowsZeros b
+shows-zeros b n h = h ∙ ap (λ (k : ℕ). emptied_buffer k) (sym (ap (λ (x : Buffer). length x.published) h ∙ length-replicate {A = ℕ} n 0))
+
+on-zeros : (kind : SlaveKind) (identity : Identity) → ShowsZeros (plain_slave_of (power_on kind identity)).outputs
+unfolding power_on
+on-zeros kind identity = shows-zeros (manager_at (power_on kind identity).managers 2).buffer (buffer_length no_settings) refl
 
 module _ (i : ℕ) (p : Settings) (s : SlaveState) (listed : AreListed p) (good : IsStartable p) (slave : IsOfKind p.kind s) (fit : AllFit s) where
   four-managers : length p.managers ≡ 4
@@ -140,6 +151,12 @@ module _ (i : ℕ) (p : Settings) (s : SlaveState) (listed : AreListed p) (good 
   slave-told flag (rise.Faulted t h) = inr t
   slave-told flag (rise.WasReset t h) = inr t
 
+  -- the outputs, whatever befell it
+  pub slave-zeros : (flag : Bool) → Shown i p flag s → ShowsZeros (plain_slave_of s).outputs
+  slave-zeros flag (rise.Working h) = shows-zeros (manager_at s.managers 2).buffer _ h.holds.configured.outputs
+  slave-zeros flag (rise.Faulted t h) = shows-zeros (manager_at s.managers 2).buffer _ h.holds.configured.outputs
+  slave-zeros flag (rise.WasReset t h) = subst (λ (x : SlaveState). ShowsZeros (plain_slave_of x).outputs) (sym h) (on-zeros s.kind s.identity)
+
 -- ---- the world
 
 no-frames : (os : List (Option Flight)) → ((k : ℕ) → get_or os k None ≡ None) → flights_progress os ≡ all_progress (map (λ o. None) os)
@@ -205,4 +222,6 @@ ready-world flags w sound planned r up =
       };
       told = λ i l. subst (λ (q : PlainSlave). (q.health ≡ Working) ⊎ (trouble_at flags i ≡ true)) (sym (at i l))
           (slave-told i (settings_of w.plan i) (slave_of w i) (listed w.plan sound i l) (planned.each i l) (kind i l) (r.fit i) (trouble_at flags i) (shown i l));
+      zeros = λ i l. subst (λ (q : PlainSlave). ShowsZeros q.outputs) (sym (at i l))
+          (slave-zeros i (settings_of w.plan i) (slave_of w i) (listed w.plan sound i l) (planned.each i l) (kind i l) (r.fit i) (trouble_at flags i) (shown i l));
     }

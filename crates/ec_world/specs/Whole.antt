@@ -12,6 +12,8 @@ use Rattle.ec_link.specs.Plan.{PlanState, plan_of}
 use Rattle.ec_link.specs.Meaning.{meaning}
 use Rattle.ec_link.specs.Usable.{IsUsable}
 use Rattle.ec_start.specs.Running.{begun}
+use Rattle.ec_sync.specs.Buffer.{Buffer, emptied_buffer}
+use Rattle.ec_rise.specs.Standing.{unviewed}
 use Rattle.ec_rise.specs.Starting.{trouble_at}
 use Rattle.ec_rise.specs.Runs.{AreStartable, flags_sent}
 use Rattle.ec_world.specs.declared.event.Event.{Event}
@@ -51,6 +53,10 @@ health_of Op = Working
 abbrev pub plain_slave_of : SlaveState → PlainSlave
 plain_slave_of s = record { health = health_of s.al.state; outputs = (manager_at s.managers 2).buffer; inputs = (manager_at s.managers 3).buffer }
 
+-- zeros, and no draft; a reader's view may be open
+abbrev pub ShowsZeros : Buffer → Type 0
+ShowsZeros b = unviewed b ≡ emptied_buffer (length b.published)
+
 -- its image and its number, no cycle, no report, no frame, and each slave's own values
 abbrev pub plain_of : WorldState → Plain
 plain_of w = record {
@@ -64,10 +70,12 @@ plain_of w = record {
   slots = map (λ o. None) w.slots;
 }
 
--- it shows this, and who doesn't work had a fault or a reset since the first frame of that start-up was sent
+-- It shows this; who doesn't work had a fault or a reset since the first frame of that start-up was sent; and the outputs of each
+-- slave are zeros.
 pub record IsReadyWorld (flags : List Bool) (w : WorldState) : Type 0 where
   pub shows : Shows w (plain_of w)
   pub told : (i : ℕ) → i < length w.plan.slaves → ((plain_slave (plain_of w) i).health ≡ Working) ⊎ (trouble_at flags i ≡ true)
+  pub zeros : (i : ℕ) → i < length w.plan.slaves → ShowsZeros (plain_slave (plain_of w) i).outputs
 
 -- ---- a new world
 
