@@ -278,7 +278,7 @@ taken_law m p begun after c u b quiet opened own = all_places (λ k notes. if un
   where
     end : Peaceful m p.next u (run m begun after).plain
     end = run_tells (λ done x. Peaceful m p.next u x) m begun after
-        (λ before behind e q is h r. peaceful_step m p.next u (run m begun before).plain e q (quiet.undisturbed before behind e is) h r)
+        (λ before behind e q is h r. peaceful_step m p.next u (run m begun before).plain e q (quiet.undisturbed before behind e q is h) h r)
         (λ before e r. r) (peaceful_begun m p begun u b quiet.working)
 
     whole : Complete m p.next u (run m begun after).plain.slots c

@@ -199,11 +199,12 @@ disturbs m number u p (AppGet s i) = false
 disturbs m number u p (Fault s) = unit_of_slave m s == u
 disturbs m number u p (ResetSlave s) = unit_of_slave m s == u
 
--- A cycle is quiet for unit u: as it begins all slaves of the unit are in OP, no event since then disturbs the unit, and none of
--- the unit's frames is still on its way.
+-- A cycle is quiet for unit u: as it begins all slaves of the unit are in OP, no event that was made since then disturbs the
+-- unit, and none of the unit's frames is still on its way.
 pub record IsQuiet (m : Meaning) (p begun : Plain) (after : List Event) (u : ℕ) : Type 0 where
   pub working : (s : ℕ) → s < length p.slaves → unit_of_slave m s ≡ u → (plain_slave p s).health ≡ Working
-  pub undisturbed : (before behind : List Event) (e : Event) → after ≡ before ++ (e ∷ behind) → disturbs m p.next u (run m begun before).plain e ≡ false
+  pub undisturbed : (before behind : List Event) (e : Event) (next : Plain) → after ≡ before ++ (e ∷ behind) → step m (run m begun before).plain e ≡ Some next
+      → disturbs m p.next u (run m begun before).plain e ≡ false
   pub back : (k : ℕ) (f : PlainFrame) → frame_at (run m begun after).plain k ≡ Some f → is_of_unit m p.next u f ≡ false
 
 -- Only a loss, a fault, a reset or an early close can keep a unit from being taken, and only such as are its own: where a
