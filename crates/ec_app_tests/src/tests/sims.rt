@@ -299,7 +299,7 @@ fn expect_answers<H: AllocGlobal + Net + Abort>(
 fn expect_joined<H: AllocGlobal + Net + Abort>(rt: &H, seed: u64) -> Result<(), Fail> {
     let mut random = Random::new(seed);
     let table = random_table(rt.alloc(), &mut random)?;
-    let script = random_script(rt.alloc(), &mut random)?;
+    let script = random_script(rt.alloc(), &mut random, table.as_str())?;
     expect_answers(rt, table.as_str(), script.as_str())
 }
 
