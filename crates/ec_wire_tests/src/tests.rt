@@ -1,5 +1,6 @@
 //! Cycles, start-ups and segments over wires of memory and sockets.
 mod cycles;
 mod machines;
+mod rounds;
 mod sockets;
 mod startups;

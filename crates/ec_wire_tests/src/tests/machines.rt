@@ -92,13 +92,18 @@ pub fn ring_of(alloc: Global, plan: &Plan) -> Result<Ring, AllocError> {
     Ok(Ring::new(slaves))
 }
 
-/// A start-up of a plan.
-pub fn startup_of(alloc: Global, plan: &Plan) -> Option<Startup> {
+/// A start-up of a plan whose first frame has this number.
+pub fn startup_from(alloc: Global, plan: &Plan, number: u64) -> Option<Startup> {
     if Startup::can_start(plan) {
-        Startup::new(alloc, plan, 0).ok()
+        Startup::new(alloc, plan, number).ok()
     } else {
         None
     }
+}
+
+/// A start-up of a plan.
+pub fn startup_of(alloc: Global, plan: &Plan) -> Option<Startup> {
+    startup_from(alloc, plan, 0)
 }
 
 /// Brings the slaves up over a wire. Whether they have come up, and the master is ready.
@@ -111,9 +116,14 @@ pub fn are_up<W: Wire>(startup: &mut Startup, wire: &mut W, master: &mut Master<
     true
 }
 
-/// Brings the slaves of a plan up over memory, and makes the master ready.
-pub fn brought_up(alloc: Global, plan: &Plan, master: &mut Master<'_>) -> Option<Ring> {
-    let mut startup = startup_of(alloc, plan)?;
+/// Brings the slaves of a plan up over memory by frames from this number on, and makes the master ready.
+pub fn brought_up_from(
+    alloc: Global,
+    plan: &Plan,
+    master: &mut Master<'_>,
+    number: u64,
+) -> Option<Ring> {
+    let mut startup = startup_from(alloc, plan, number)?;
     let ring = ring_of(alloc, plan).ok()?;
     let mut wire = MemoryWire::new(alloc, ring, 3000, u64::MAX).ok()?;
     if are_up(&mut startup, &mut wire, master) {
@@ -121,6 +131,11 @@ pub fn brought_up(alloc: Global, plan: &Plan, master: &mut Master<'_>) -> Option
     } else {
         None
     }
+}
+
+/// Brings the slaves of a plan up over memory, and makes the master ready.
+pub fn brought_up(alloc: Global, plan: &Plan, master: &mut Master<'_>) -> Option<Ring> {
+    brought_up_from(alloc, plan, master, 0)
 }
 
 /// Sets an output variable, where it holds the value.
