@@ -83,6 +83,14 @@ fn segment_answers_frames(rt: HostRuntime) -> Result<(), Fail> {
     Ok(())
 }
 
+/// So many frames were answered, and nothing else came.
+fn all_answered(answered: u32) -> Served {
+    Served {
+        answered,
+        refused: 0,
+    }
+}
+
 /// A client sends three frames and is gone before they are answered.
 fn send_and_go<R: Net>(rt: &R, wire: &UdpWire, sent: &[u8]) -> Result<(), Fail> {
     let client = UdpSocket::bind(rt, here(0))?;
@@ -90,7 +98,7 @@ fn send_and_go<R: Net>(rt: &R, wire: &UdpWire, sent: &[u8]) -> Result<(), Fail> 
 }
 
 /// Serves a client that is gone.
-fn serve_silent<R: Net + AllocGlobal>(rt: &R) -> Result<(Served, u64), Fail> {
+fn serve_gone<R: Net + AllocGlobal>(rt: &R) -> Result<(Served, u64), Fail> {
     let sent = hex::decode(rt.alloc(), READ)?;
     let mut ring = three_slaves(rt.alloc())?;
     let mut wire = UdpWire::bind(rt, 0)?;
@@ -99,14 +107,38 @@ fn serve_silent<R: Net + AllocGlobal>(rt: &R) -> Result<(Served, u64), Fail> {
     Ok((served, wire.failures()))
 }
 
-// Nobody reads what is sent back.
+// Nobody is there any more to whom answers are sent.
+#[test]
+fn client_that_is_gone(rt: HostRuntime) -> Result<(), Fail> {
+    assert_eq!(rt; serve_gone(&rt)?, (all_answered(3), 0));
+    Ok(())
+}
+
+/// Serves a client that sends three frames and never reads, and then another one. What came of both, the second one's answer,
+/// and the wire's faults.
+fn serve_after_silent<R: Net + AllocGlobal>(
+    rt: &R,
+    silent: &UdpSocket,
+) -> Result<(Served, Served, String, u64), Fail> {
+    let sent = hex::decode(rt.alloc(), READ)?;
+    let mut ring = three_slaves(rt.alloc())?;
+    let mut ends = open_ends(rt)?;
+    send_all(silent, &ends.wire, &[&sent, &sent, &sent])?;
+    let first = serve_segment(&mut ring, &mut Echo, &mut ends.wire, 3)?;
+    send_all(&ends.client, &ends.wire, &[&sent])?;
+    let second = serve_segment(&mut ring, &mut Echo, &mut ends.wire, 1)?;
+    let (answer, _) = answer_to(rt.alloc(), &ends.client)?;
+    Ok((first, second, answer, ends.wire.failures()))
+}
+
+// A client's socket is open, and nobody reads what is sent back to it.
 #[test]
 fn silent_client(rt: HostRuntime) -> Result<(), Fail> {
-    let served = Served {
-        answered: 3,
-        refused: 0,
-    };
-    assert_eq!(rt; serve_silent(&rt)?, (served, 0));
+    let silent = UdpSocket::bind(&rt, here(0))?;
+    let (first, second, answer, failures) = serve_after_silent(&rt, &silent)?;
+    assert_eq!(rt; (first, second), (all_answered(3), all_answered(1)));
+    assert_eq!(rt; (answer.as_str(), failures), (ANSWER, 0));
+    assert_eq!(rt; answer_to(rt.alloc(), &silent)?.0.as_str(), ANSWER);
     Ok(())
 }
 
