@@ -1,5 +1,5 @@
-//! Runs of bits through one FMMU, from each first bit to each other one and of each length up to 40, over ones and over
-//! zeros, against bits that are put one by one.
+//! Runs of bits through one FMMU, from each first bit to each other one and of each length up to 40, over ones, over zeros
+//! and over bits that differ, against bits that are put one by one.
 ghost use Rattle.std.specs.Prelude.{◌≤◌, ◌<◌, ◌+◌};
 
 use super::plain_slave;
@@ -20,6 +20,14 @@ const WRITES: u8 = 2;
 
 /// Eight bytes of data, from logical address 0x00010000 on.
 const DATA: [u8; 8] = [0x9d, 0x2c, 0x63, 0xf0, 0x5a, 0x17, 0xc8, 0x71];
+
+/// What stands in the memory: ones and zeros, where a bit changed beside a run shows, and bits that differ, where one from
+/// a wrong place does.
+const MEMORIES: [[u8; 8]; 3] = [
+    [0xff; 8],
+    [0; 8],
+    [0xa5, 0x3c, 0x96, 0xf1, 0x0e, 0x72, 0x4b, 0xd8],
+];
 
 /// So many bits from a bit of logical byte 0x00010001 on, and of physical byte 0x1801: one byte and more lie on both sides
 /// of them, in the data and in the eight bytes of memory from 0x1800 on.
@@ -57,7 +65,9 @@ impl Run {
     }
 
     /// How many bytes of memory have a bit of it.
-    fn byte_count(&self) -> u8 {
+    fn byte_count(&self) -> u8
+        ensures { result ≤ 6 }
+    {
         (self.physical + self.count + 7) / 8
     }
 
@@ -119,23 +129,30 @@ fn expect_exchange(
 }
 
 /// Sets an FMMU and, over its physical bytes, manager 3, of which the application puts the value, and reads the data.
-fn expect_value_read(rt: &impl Abort, slave: &mut Slave, run: Run, value: u8) -> Result<(), Fail> {
+fn expect_value_read(
+    rt: &impl Abort,
+    slave: &mut Slave,
+    run: Run,
+    memory: &[u8; 8],
+) -> Result<(), Fail> {
     let reads = run.registers(READS);
     let manager = [1, 0x18, run.byte_count(), 0, 0x20, 0, 1, 0];
     expect_back(rt, slave, run, Apwr, 0x0600_0000, &reads, &reads)?;
     expect_back(rt, slave, run, Apwr, 0x0818_0000, &manager, &manager)?;
-    for place in 0..run.byte_count() {
-        assert!(rt; slave.app_put(usize::from(place), value));
+    for place in 0..usize::from(run.byte_count()) {
+        assert!(rt;
+            slave.app_put(place, memory[1 + place]),
+            "byte {place} of {run:?}"
+        );
     }
-    let data = run.read(&[value; 8]);
-    expect_back(rt, slave, run, Lrd, 0x0001_0000, &DATA, &data)
+    expect_back(rt, slave, run, Lrd, 0x0001_0000, &DATA, &run.read(memory))
 }
 
 // Plain memory, of which no manager has a byte.
 #[test]
 fn each_short_run_of_memory(rt: HostRuntime) -> Result<(), Fail> {
     let mut slave = plain_slave(rt.alloc())?;
-    for memory in [[0xff; 8], [0; 8]] {
+    for memory in MEMORIES {
         for start in 0..8 {
             for physical in 0..8 {
                 for count in 1..41 {
@@ -158,7 +175,7 @@ fn each_short_run_of_a_value(rt: HostRuntime) -> Result<(), Fail> {
     let mut slave = plain_slave(rt.alloc())?;
     let to_safeop = [Asks("0200", "020000000000"), Asks("0400", "040000000000")];
     take_all(&rt, &mut slave, &to_safeop)?;
-    for value in [0xff, 0] {
+    for memory in MEMORIES {
         for start in 0..8 {
             for physical in 0..8 {
                 for count in 1..41 {
@@ -167,7 +184,7 @@ fn each_short_run_of_a_value(rt: HostRuntime) -> Result<(), Fail> {
                         physical,
                         count,
                     };
-                    expect_value_read(&rt, &mut slave, run, value)?;
+                    expect_value_read(&rt, &mut slave, run, &memory)?;
                 }
             }
         }
