@@ -50,7 +50,7 @@ const BACK: &str = "3310 \
     0764 0300 3001 0280 0000 0800 0300 \
     0c64 00000100 0300 0000 5aefbe 0600";
 
-// The frame is of the image at its begin, and comes back once.
+// The frame is of the image at its begin, and comes back once. The next one has nothing of what came back.
 #[test]
 fn cycle_of_three_slaves(rt: HostRuntime) -> Result<(), Fail> {
     let sent = "3310 \
@@ -73,6 +73,14 @@ fn cycle_of_three_slaves(rt: HostRuntime) -> Result<(), Fail> {
         Reads(3, 48879),
         Reads(1, 291),
         Foreign(BACK),
+        Begins,
+        Sends(
+            0,
+            "3310 \
+             0065 0000 0000 0a80 0000 6500000000000000 0000 0000 \
+             0765 0000 3001 0280 0000 0000 0000 \
+             0c65 00000100 0300 0000 002301 0000",
+        ),
     ];
     expect_steps(&rt, TABLE, &steps)
 }
