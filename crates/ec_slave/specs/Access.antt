@@ -4,7 +4,7 @@ use Rattle.std.specs.Prelude.{ℕ, ◌+◌, ◌-◌, ◌*◌, ◌/◌, ◌%◌, 
 use Rattle.std.specs.Int.{from_bool, to_le_bytes, w16}
 use Rattle.ec_bits.specs.Bits.{any_below, within, zeros}
 use Rattle.ec_regs.specs.declared.manager.ManagerSettings.{ManagerSettings}
-use Rattle.ec_regs.specs.Memory.{ram_start, ram_end, is_stored, takes_writes}
+use Rattle.ec_regs.specs.Memory.{number_of_fmmus, number_of_sync_managers, ram_size, station_address, al_control, al_status, al_status_code, sii_control, fmmus, sync_managers, manager_place, ram_start, ram_end, is_stored, takes_writes}
 use Rattle.ec_regs.specs.Managers.{settings_of}
 use Rattle.ec_sync.specs.Manager.{Manager, empty_manager}
 use Rattle.ec_sync.specs.Governing.{governor, manager_byte, shown_byte}
@@ -41,13 +41,13 @@ retold xs f = retold_from 0 xs f
 -- and its code; the SII port; the sync managers. Every other register reads 0.
 unfoldable pub register_byte : SlaveState → ℕ → ℕ
 register_byte s a =
-    if (a == 0x0004) || (a == 0x0005) then 4
-    else (if a == 0x0006 then 8
-    else (if within 0x0010 2 a || (within 0x0120 2 a || within 0x0600 64 a) then slice_index s.memory a
-    else (if within 0x0130 2 a then slice_index (to_le_bytes w16 (status_word s.al)) (a - 0x0130)
-    else (if within 0x0134 2 a then slice_index (to_le_bytes w16 s.al.code) (a - 0x0134)
-    else (if within 0x0502 10 a then sii_byte s.sii a
-    else (if within 0x0800 32 a then manager_byte (manager_at s.managers ((a - 0x0800) / 8)) (a % 8)
+    if (a == number_of_fmmus) || (a == number_of_sync_managers) then 4
+    else (if a == ram_size then 8
+    else (if within station_address 2 a || (within al_control 2 a || within fmmus 64 a) then slice_index s.memory a
+    else (if within al_status 2 a then slice_index (to_le_bytes w16 (status_word s.al)) (a - al_status)
+    else (if within al_status_code 2 a then slice_index (to_le_bytes w16 s.al.code) (a - al_status_code)
+    else (if within sii_control 10 a then sii_byte s.sii a
+    else (if within sync_managers 32 a then manager_byte (manager_at s.managers ((a - sync_managers) / 8)) (a % 8)
     else 0))))))
 
 -- a byte of the RAM: what its governor shows there, or as it lies in the memory
@@ -81,14 +81,14 @@ byte_read s joining w k =
 -- a byte that is kept in the memory itself: a stored register, the managers' aside, or a byte of the RAM under no manager
 unfoldable pub is_kept : List Manager → ℕ → Bool
 is_kept ms a =
-    if nat_lt a ram_start then is_stored a && not (within 0x0800 32 a) else nat_lt a ram_end && is_none (governor ms a)
+    if nat_lt a ram_start then is_stored a && not (within sync_managers 32 a) else nat_lt a ram_end && is_none (governor ms a)
 
 abbrev pub memory_written : List Manager → Window → List ℕ → List ℕ
 memory_written ms w memory = retold memory (λ a. if is_kept ms a then byte_from w a else None)
 
 -- what a datagram stores in byte k of manager n's eight
 abbrev pub setting_for : Window → ℕ → ℕ → Option ℕ
-setting_for w n k = if is_stored (0x0800 + 8 * n + k) then byte_from w (0x0800 + 8 * n + k) else None
+setting_for w n k = if is_stored (manager_place n + k) then byte_from w (manager_place n + k) else None
 
 -- it writes one of the bytes 0..4 or 6
 abbrev pub is_configured : Window → ℕ → Bool
@@ -114,13 +114,13 @@ managers_met lower reads writes w n [] = []
 managers_met lower reads writes w n (m ∷ ms) =
     manager_met lower reads writes w n m ∷ managers_met (lower ++ m ∷ []) reads writes w (n + 1) ms
 
--- The whole slave after a datagram that reads, writes or does both. A write of byte 0x0120 marks an AL request; the SII
--- port takes the bytes 0x0502 to 0x0507.
+-- The whole slave after a datagram that reads, writes or does both. A write of the first byte of AL control marks an AL
+-- request; the SII port takes the bytes of its control and its address.
 unfoldable pub slave_after : SlaveState → Bool → Bool → Window → SlaveState
 slave_after s reads writes w = record s {
   memory = if writes then memory_written s.managers w s.memory else s.memory;
   managers = managers_met [] reads writes w 0 s.managers;
-  al = if writes && touches w 0x0120 then requesting s.al else s.al;
+  al = if writes && touches w al_control then requesting s.al else s.al;
   sii = if writes then written s.sii w.from w.bytes else s.sii;
 }
 

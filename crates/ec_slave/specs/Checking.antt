@@ -3,24 +3,26 @@
 use Rattle.std.specs.Prelude.{ℕ, ◌+◌, ◌*◌, ◌%◌, ◌==◌, ◌&&◌, List, Bool, true, if◌then◌else◌, slice_index, Option, Some, None}
 use Rattle.ec_bits.specs.Bits.{bytes_of_bits}
 use Rattle.ec_regs.specs.declared.slave_type.Mailbox.{Mailbox}
+use Rattle.ec_regs.specs.Managers.{mailbox_out_control, mailbox_in_control, outputs_control, inputs_control}
+use Rattle.ec_regs.specs.Memory.{al_control}
 use Rattle.ec_regs.specs.Objects.{bits_assigned}
 use Rattle.ec_sync.specs.Manager.{Manager, is_enabled}
 use Rattle.ec_al.specs.declared.transition.Checks.{Checks}
 use Rattle.ec_coe.specs.Objects.{assigned}
 use Rattle.ec_slave.specs.State.{SlaveState, manager_at}
 
--- bits 0..3 of a manager's control byte: its mode and its direction
+-- bits 0..3 of the usual control bytes: a manager's mode and its direction
 abbrev pub mailbox_out : ℕ
-mailbox_out = 6
+mailbox_out = mailbox_out_control % 16
 
 abbrev pub mailbox_in : ℕ
-mailbox_in = 2
+mailbox_in = mailbox_in_control % 16
 
 abbrev pub outputs_mode : ℕ
-outputs_mode = 4
+outputs_mode = outputs_control % 16
 
 abbrev pub inputs_mode : ℕ
-inputs_mode = 0
+inputs_mode = inputs_control % 16
 
 -- an enabled manager of this start, length, mode and direction
 abbrev pub is_manager : Manager → ℕ → ℕ → ℕ → Bool
@@ -45,6 +47,6 @@ checks_of s = record {
   inputs = process_check (manager_at s.managers 3) (bits_assigned s.kind.inputs (assigned s.ins)) s.kind.in_start inputs_mode;
 }
 
--- the AL control word, registers 0x0120 and 0x0121
+-- the AL control word, two registers, the low byte first
 abbrev pub control_word : SlaveState → ℕ
-control_word s = slice_index s.memory 0x0120 + 256 * slice_index s.memory 0x0121
+control_word s = slice_index s.memory al_control + 256 * slice_index s.memory (al_control + 1)

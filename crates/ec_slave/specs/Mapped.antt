@@ -2,6 +2,7 @@
 use Rattle.std.specs.Prelude.{ℕ, ◌+◌, ◌*◌, ◌&&◌, ◌≡◌, List, length, if◌then◌else◌}
 use Rattle.std.specs.Int.{from_bool}
 use Rattle.ec_bits.specs.Bits.{overlay}
+use Rattle.ec_regs.specs.Memory.{ram_end}
 use Rattle.ec_frame.specs.Datagram.{Datagram}
 use Rattle.ec_fmmu.specs.Alone.{AreApart}
 use Rattle.ec_fmmu.specs.Applied.{Place}
@@ -29,5 +30,5 @@ meets_mapped role s d = meets_logical (is_reading role) (is_writing role) (weigh
 
 -- nothing that is read of the memory is written there, so that a datagram that does both may write first
 pub record MayWriteFirst (s : SlaveState) : Type 0 where
-  pub room : length s.memory ≡ 0x3000
+  pub room : length s.memory ≡ ram_end
   pub apart : AreApart (fmmus s)

@@ -1,7 +1,7 @@
 -- Laws of a whole meeting: what a slave's registers, managers and bits are after a datagram.
 use Rattle.std.specs.Prelude.{ℕ, ◌+◌, ◌-◌, ◌*◌, ◌/◌, ◌<◌, ◌≤◌, ◌≡◌, ◌&&◌, length, Bool, true, false, if◌then◌else◌, slice_index, unwrap_or}
 use Rattle.ec_bits.specs.Bits.{bit, within}
-use Rattle.ec_regs.specs.Memory.{ram_start, is_stored}
+use Rattle.ec_regs.specs.Memory.{sii_control, sync_managers, ram_start, is_stored}
 use Rattle.ec_frame.specs.declared.command.Command.TheVariants.{Lrd, Lwr, Lrw}
 use Rattle.ec_frame.specs.Datagram.{Datagram, adp_of, ado_of}
 use Rattle.ec_sync.specs.Manager.{Manager, empty_manager, shown}
@@ -23,7 +23,7 @@ writes_at s d = is_writing (role_of d.command (adp_of d) (station_of s))
 -- what it read before.
 abbrev pub RegistersAfterWrite : Type 0
 RegistersAfterWrite =
-    (s : SlaveState) (d : Datagram) (a : ℕ) → IsSlave s → writes_at s d ≡ true → a < 0x0800 → within 0x0502 6 a ≡ false
+    (s : SlaveState) (d : Datagram) (a : ℕ) → IsSlave s → writes_at s d ≡ true → a < sync_managers → within sii_control 6 a ≡ false
     → byte_at (slave_met s d) a ≡ (if touches (window_of d) a && is_stored a then slice_index d.data_bytes (a - ado_of d) else byte_at s a)
 
 -- A writing datagram over registers alone: each manager of which it writes a setting has the settings that its bytes then

@@ -2,6 +2,7 @@
 use Rattle.std.specs.Prelude.{ℕ, ◌≡◌, ◌<◌, ◌≤◌, ◌^◌, List, length, slice_index}
 use Rattle.ec_sync.specs.Sound.{IsManager}
 use Rattle.ec_regs.specs.declared.slave_type.Identity.{Identity}
+use Rattle.ec_regs.specs.Memory.{ram_end}
 use Rattle.ec_regs.specs.Types.{SlaveKind}
 use Rattle.ec_frame.specs.Datagram.{Datagram}
 use Rattle.ec_slave.specs.State.{SlaveState, manager_at, power_on}
@@ -9,7 +10,7 @@ use Rattle.ec_slave.specs.Meeting.{slave_met}
 
 pub record IsSlave (s : SlaveState) : Type 0 where
   -- the memory has all its addresses
-  pub memory : length s.memory ≡ 0x3000
+  pub memory : length s.memory ≡ ram_end
   -- there are four managers, and their values are as long as their settings say
   pub managers : length s.managers ≡ 4
   pub each_manager : (n : ℕ) → IsManager (manager_at s.managers n)

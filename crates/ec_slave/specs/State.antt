@@ -4,6 +4,7 @@ use Rattle.ec_bits.specs.Bits.{zeros}
 use Rattle.ec_regs.specs.declared.slave_type.Identity.{Identity}
 use Rattle.ec_regs.specs.declared.fmmu.FmmuSettings.{FmmuSettings}
 use Rattle.ec_regs.specs.Types.{SlaveKind}
+use Rattle.ec_regs.specs.Memory.{station_address, fmmu_place, ram_end}
 use Rattle.ec_regs.specs.Fmmus.{fmmu_of}
 use Rattle.ec_frame.specs.Datagram.{Datagram}
 use Rattle.ec_sync.specs.Manager.{Manager, no_manager}
@@ -16,7 +17,7 @@ pub record SlaveState : Type 0 where
   -- the type that it is of
   pub kind : SlaveKind
   pub identity : Identity
-  -- One byte for each address: below 0x1000 what datagrams stored, the sync managers' registers and the SII port
+  -- One byte for each address: below `ram_start` what datagrams stored, the sync managers' registers and the SII port
   -- aside; from there on the RAM as it is where no manager governs it.
   pub memory : List ℕ
   -- the four sync managers
@@ -35,23 +36,23 @@ pub record SlaveState : Type 0 where
 abbrev pub with_memory : SlaveState → List ℕ → List Manager → SlaveState
 with_memory s memory managers = record s { memory = memory; managers = managers }
 
--- the station address, registers 0x0010 and 0x0011 (ETG.1000.4, "Station address")
+-- the station address, two registers, the low byte first (ETG.1000.4, "Station address")
 abbrev pub station_of : SlaveState → ℕ
-station_of s = slice_index s.memory 0x0010 + 256 * slice_index s.memory 0x0011
+station_of s = slice_index s.memory station_address + 256 * slice_index s.memory (station_address + 1)
 
 abbrev pub manager_at : List Manager → ℕ → Manager
 manager_at ms n = get_or ms n no_manager
 
 -- the four FMMUs, as their registers say
 abbrev pub fmmus_of : List ℕ → List FmmuSettings
-fmmus_of memory = map (λ n. fmmu_of (λ k. slice_index memory (0x0600 + 16 * n + k))) (0 ∷ 1 ∷ 2 ∷ 3 ∷ [])
+fmmus_of memory = map (λ n. fmmu_of (λ k. slice_index memory (fmmu_place n + k))) (0 ∷ 1 ∷ 2 ∷ 3 ∷ [])
 
 abbrev pub fmmus : SlaveState → List FmmuSettings
 fmmus s = fmmus_of s.memory
 
 -- how many addresses there are: the RAM ends there
 unfoldable pub memory_length : ℕ
-memory_length = 0x3000
+memory_length = ram_end
 
 -- A slave that was just switched on: every register that a datagram can write, and the RAM, are 0, the managers are empty,
 -- the state is INIT without an error, and all PDOs of the type are assigned in order.

@@ -8,21 +8,21 @@ ghost use Rattle.ec_slave.specs.Faulting.{faulted, locked_empty};
 
 use crate::slave::Slave;
 use ec_al::{Checks, State};
-use ec_regs::Mailbox;
 use ec_regs::registers::AL_CONTROL;
+use ec_regs::{CONTROL_INPUTS, CONTROL_MAILBOX_IN, CONTROL_MAILBOX_OUT, CONTROL_OUTPUTS, Mailbox};
 use ec_sync::Manager;
 
 /// Bits 0 to 3 of the control byte of the mailbox that the ring writes.
-const MAILBOX_OUT: u8 = 0b0110;
+const MAILBOX_OUT: u8 = CONTROL_MAILBOX_OUT % 16;
 
 /// Bits 0 to 3 of the control byte of the mailbox that the ring reads.
-const MAILBOX_IN: u8 = 0b0010;
+const MAILBOX_IN: u8 = CONTROL_MAILBOX_IN % 16;
 
 /// Bits 0 to 3 of the control byte of outputs.
-const OUTPUTS: u8 = 0b0100;
+const OUTPUTS: u8 = CONTROL_OUTPUTS % 16;
 
 /// Bits 0 to 3 of the control byte of inputs.
-const INPUTS: u8 = 0b0000;
+const INPUTS: u8 = CONTROL_INPUTS % 16;
 
 /// Whether a manager is enabled and has this start, this length in bytes, and these bits 0 to 3 of its control byte.
 fn is_manager(manager: &Manager, start: u16, len: usize, mode: u8) -> bool

@@ -1,6 +1,7 @@
 //! The FMMUs of a slave, kept decoded beside the registers that they stand in.
 
 ghost use Rattle.std.specs.Prelude.{◌≡◌, ◌+◌, ◌*◌, ◌<◌, length, slice_index};
+ghost use Rattle.ec_regs.specs.Memory.{fmmu_place, ram_end};
 ghost use Rattle.ec_regs.specs.Fmmus.{fmmu_of};
 ghost use Rattle.ec_slave.specs.State.{fmmus_of};
 
@@ -10,9 +11,9 @@ use ec_regs::registers::fmmu_address;
 
 /// FMMU `number` as its sixteen registers stand.
 fn fmmu_at(memory: &[u8], number: usize) -> Fmmu
-    requires room { length memory.now ≡ 0x3000 }
+    requires room { length memory.now ≡ ram_end }
     requires four { number < 4 }
-    ensures { result ≡ fmmu_of (λ k. slice_index memory.now (1536 + 16 * number + k)) }
+    ensures { result ≡ fmmu_of (λ k. slice_index memory.now (fmmu_place number + k)) }
 {
     let at = fmmu_address(number);
     let mut record = [0; 16];
@@ -22,7 +23,7 @@ fn fmmu_at(memory: &[u8], number: usize) -> Fmmu
 
 /// The four FMMUs as their registers stand.
 pub(crate) fn read_fmmus(memory: &[u8]) -> FmmuTable
-    requires { length memory.now ≡ 0x3000 }
+    requires { length memory.now ≡ ram_end }
     ensures { result ≡ fmmus_of memory.now }
 {
     FmmuTable::new([

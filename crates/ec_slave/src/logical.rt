@@ -26,12 +26,10 @@ use crate::logical::managers::access_managers;
 use crate::logical::reading::read_logical;
 pub(crate) use crate::logical::runs::{are_ungoverned, cut, end_of_alike};
 use crate::logical::writing::write_logical;
+use crate::passing::MAX_DATA;
 use crate::role::Role;
 use crate::slave::Slave;
 use ec_frame::{Header, cut_counter, cut_heading, read_counter, write_counter};
-
-/// The data of a datagram have at most so many bytes.
-const MAX_DATA: usize = 2047;
 
 impl Slave {
     /// A datagram that reads through the FMMUs, and whether a bit was read.

@@ -10,6 +10,9 @@ use crate::role::Encounter;
 use crate::slave::Slave;
 use ec_frame::{Handler, Header, pass};
 
+/// The data of a datagram have at most so many bytes.
+pub(crate) const MAX_DATA: usize = 2047;
+
 impl Slave {
     /// A frame passes the slave: its datagrams act in order, each on the slave as the one before
     /// left it. Allocates nothing.

@@ -1,7 +1,7 @@
 //! Physical datagrams at a slave.
 
 ghost use Rattle.std.specs.Prelude.{◌≡◌, ◌+◌, ◌*◌, ◌<◌, ◌≤◌, ◌^◌, ℕ, Bool, true, false, None, IfSome, length, if◌then◌else◌, nat_lt};
-ghost use Rattle.ec_regs.specs.Memory.{ram_start};
+ghost use Rattle.ec_regs.specs.Memory.{fmmu_place, ram_start, ram_end};
 ghost use Rattle.ec_sync.specs.Governing.{governor as governor_of};
 ghost use Rattle.ec_al.specs.Al.{requesting};
 ghost use Rattle.std.specs.Int.{from_bool};
@@ -17,6 +17,7 @@ mod bytes;
 mod managers;
 
 use crate::fmmus::read_fmmus;
+use crate::passing::MAX_DATA;
 use crate::physical::bytes::{
     end_of_part, owner, read_over, read_slice, reads_byte, write_physical,
 };
@@ -27,9 +28,6 @@ use ec_al::Al;
 use ec_fmmu::FmmuTable;
 use ec_frame::{Header, cut_counter, cut_heading, read_counter, write_adp, write_counter};
 use ec_regs::registers::{AL_CONTROL, FMMUS_END, RAM_START};
-
-/// The data of a datagram have at most so many bytes.
-const MAX_DATA: usize = 2047;
 
 /// Whether `len` bytes from `from` on have an address.
 fn is_touched(from: usize, len: usize, address: usize) -> bool
@@ -49,8 +47,8 @@ fn request_if(al: &mut Al, is_written: bool)
 
 /// Decodes the FMMUs again after a write from an address on that their registers don't all lie below.
 fn renew_fmmus(fmmus: &mut FmmuTable, memory: &[u8], from: usize)
-    requires { length memory.now ≡ 0x3000 }
-    ensures { fmmus.new ≡ (if nat_lt from 1600 then fmmus_of memory.now else fmmus.old) }
+    requires { length memory.now ≡ ram_end }
+    ensures { fmmus.new ≡ (if nat_lt from (fmmu_place 4) then fmmus_of memory.now else fmmus.old) }
 {
     if from < FMMUS_END {
         *fmmus = read_fmmus(memory);
@@ -72,7 +70,7 @@ impl Slave {
         requires small { from + length bytes.old < 2 ^ 32 }
         requires inside { at + count ≤ length bytes.old }
         requires reads { (i : ℕ) → at ≤ i → i < at + count → may_read_byte self.now.managers (within from (length bytes.old)) (from + i) ≡ true }
-        requires memory { (i : ℕ) → at ≤ i → i < at + count → from + i < 0x3000 }
+        requires memory { (i : ℕ) → at ≤ i → i < at + count → from + i < ram_end }
         requires within { IfSome owner (λ n. n < length self.now.managers) }
         requires owner { (a : ℕ) → ram_start ≤ a → from + at ≤ a → a < from + at + count → owner ≡ governor_of self.now.managers a }
         ensures { bytes.new ≡ retold bytes.old (λ i. if within at count i then byte_read self.now joining (record { from = from; bytes = bytes.old }) i else None) }
@@ -97,7 +95,7 @@ impl Slave {
         requires small { from + length bytes.old < 2 ^ 32 }
         requires inside { at + count ≤ length bytes.old }
         requires reads { (i : ℕ) → at ≤ i → i < at + count → may_read_byte self.now.managers (within from (length bytes.old)) (from + i) ≡ true }
-        requires memory { (i : ℕ) → at ≤ i → i < at + count → from + i < 0x3000 }
+        requires memory { (i : ℕ) → at ≤ i → i < at + count → from + i < ram_end }
         requires within { IfSome owner (λ n. n < length self.now.managers) }
         requires owner { (a : ℕ) → ram_start ≤ a → from + at ≤ a → a < from + at + count → owner ≡ governor_of self.now.managers a }
         ensures { bytes.new ≡ retold bytes.old (λ i. if within at count i then byte_read self.now joining (record { from = from; bytes = bytes.old }) i else None) }
@@ -189,7 +187,7 @@ impl Slave {
     /// Whether a datagram over `len` bytes from `from` on reads the byte at an address that it touches.
     fn reads(&self, from: usize, len: usize, address: usize) -> bool
         ensures value { result ≡ may_read_byte self.now.managers (within from len) address }
-        ensures inside { OnTrue result (address < 0x3000) }
+        ensures inside { OnTrue result (address < ram_end) }
     {
         reads_byte(&self.managers, from, len, address)
     }

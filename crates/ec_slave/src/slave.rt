@@ -1,5 +1,5 @@
 ghost use Rattle.std.specs.Prelude.{◌≡◌, ◌+◌, ◌*◌, ◌<◌, ◌≤◌, ◌^◌, ℕ, length, slice_index, IfOk, IfSome, if◌then◌else◌, [], ◌∷◌, Option, Some, None, nat_lt};
-ghost use Rattle.ec_regs.specs.Memory.{ram_start};
+ghost use Rattle.ec_regs.specs.Memory.{ram_start, ram_end};
 ghost use Rattle.ec_sync.specs.Manager.{no_manager};
 ghost use Rattle.ec_sync.specs.Governing.{governor as governor_of};
 ghost use Rattle.ec_slave.specs.Access.{byte_at, register_byte};
@@ -72,7 +72,7 @@ impl Model for Slave {
 #[tactic(auto, unfolding(crate::specs::State::memory_length))]
 fn memory_len() -> usize
     ensures value { result ≡ memory_length }
-    ensures is { result ≡ 0x3000 }
+    ensures is { result ≡ ram_end }
 {
     RAM_END
 }
@@ -138,7 +138,7 @@ impl Slave {
     /// What an address reads now, as a datagram would find it; none past the RAM's end.
     #[tactic(auto, unfolding(crate::specs::Access::byte_at))]
     pub fn byte(&self, address: u16) -> Option<u8>
-        ensures { result ≡ (if nat_lt address 0x3000 then Some (byte_at self.now address) else None) }
+        ensures { result ≡ (if nat_lt address ram_end then Some (byte_at self.now address) else None) }
     {
         let address = address as usize;
         if address < RAM_END {
@@ -151,7 +151,7 @@ impl Slave {
     /// What an address reads.
     #[tactic(auto, unfolding(crate::specs::Access::byte_at))]
     pub(crate) fn byte_at(&self, address: usize) -> u8
-        requires { address < 0x3000 }
+        requires { address < ram_end }
         ensures { result ≡ byte_at self.now address }
     {
         if address < RAM_START {
@@ -162,7 +162,7 @@ impl Slave {
 
     /// What an address reads that has this governor, or none, if it lies in the RAM.
     pub(crate) fn byte_under(&self, owner: Option<usize>, address: usize) -> u8
-        requires inside { address < 0x3000 }
+        requires inside { address < ram_end }
         requires within { IfSome owner (λ n. n < length self.now.managers) }
         requires owner { ram_start ≤ address → owner ≡ governor_of self.now.managers address }
         ensures { result ≡ byte_at self.now address }
@@ -178,7 +178,7 @@ impl Slave {
     #[tactic(auto, unfolding(crate::specs::Access::byte_at))]
     fn ram_byte(&self, owner: Option<usize>, address: usize) -> u8
         requires ram { ram_start ≤ address }
-        requires inside { address < 0x3000 }
+        requires inside { address < ram_end }
         requires within { IfSome owner (λ n. n < length self.now.managers) }
         requires owner { owner ≡ governor_of self.now.managers address }
         ensures { result ≡ byte_at self.now address }
@@ -220,7 +220,7 @@ impl Slave {
     /// What the address of a register reads.
     #[tactic(auto, unfolding(crate::specs::Access::byte_at))]
     fn register_at(&self, address: usize) -> u8
-        requires { address < 0x1000 }
+        requires { address < ram_start }
         ensures { result ≡ byte_at self.now address }
     {
         self.register(address)
@@ -229,7 +229,7 @@ impl Slave {
     /// What a register reads.
     #[tactic(auto, unfolding(crate::specs::Access::register_byte))]
     fn register(&self, address: usize) -> u8
-        requires { address < 0x1000 }
+        requires { address < ram_start }
         ensures { result ≡ register_byte self.now address }
     {
         match address {

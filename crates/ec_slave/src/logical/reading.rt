@@ -51,7 +51,7 @@ fn seen_behind(manager: &Manager, is_readable: bool, physical: u32) -> Option<bo
 /// What a physical bit shows, where `readable` says of each manager whether the datagram gets at
 /// it.
 fn seen_bit(memory: &[u8], managers: &[Manager], readable: &[bool], physical: u32) -> Option<bool>
-    requires room { length memory.now ≡ 0x3000 }
+    requires room { length memory.now ≡ ram_end }
     requires four { length managers.now ≡ length readable.now }
     requires inside { physical < 8 * ram_end }
     ensures { result ≡ bit_seen memory.now managers.now readable.now physical }
@@ -75,7 +75,7 @@ impl ReadableBits for Sight<'_> {
     ghost use Rattle.std.specs.Prelude.{◌≡◌, length};
     ghost use Rattle.ec_slave.specs.Sights.{seen_bit as bit_seen};
 
-    ghost can_show = { λ s. (length s.memory.now ≡ 0x3000)
+    ghost can_show = { λ s. (length s.memory.now ≡ ram_end)
         × (length s.managers.now ≡ length s.readable.now) };
 
     ghost shown = { λ s q. bit_seen s.memory.now s.managers.now s.readable.now q };
@@ -88,7 +88,7 @@ impl ReadableBits for Sight<'_> {
 /// Brings a run of bits that no manager governs to the data.
 fn show_plain(sight: &Sight<'_>, physical: u32, count: usize, bytes: &mut [u8], to: usize) -> bool
     requires some { 0 < count }
-    requires room { length sight.now.memory.now ≡ 0x3000 }
+    requires room { length sight.now.memory.now ≡ ram_end }
     requires plain { (a : ℕ) → physical / 8 ≤ a
         → a ≤ (physical + count - 1) / 8
         → governor_of sight.now.managers.now a ≡ None }
@@ -115,7 +115,7 @@ fn show_value(
     to: usize,
 ) -> bool
     requires some { 0 < count }
-    requires room { length sight.now.memory.now ≡ 0x3000 }
+    requires room { length sight.now.memory.now ≡ ram_end }
     requires four { length sight.now.managers.now ≡ length sight.now.readable.now }
     requires governed { (a : ℕ) → physical / 8 ≤ a
         → a ≤ (physical + count - 1) / 8
@@ -151,7 +151,7 @@ fn show_value(
 /// them, or none, and all lie before the end of its value, or none.
 fn show_alike(sight: &Sight<'_>, physical: u32, count: usize, bytes: &mut [u8], to: usize) -> bool
     requires some { 0 < count }
-    requires room { length sight.now.memory.now ≡ 0x3000 }
+    requires room { length sight.now.memory.now ≡ ram_end }
     requires four { length sight.now.managers.now ≡ length sight.now.readable.now }
     requires alike { (a : ℕ) → physical / 8 ≤ a → a ≤ (physical + count - 1) / 8
         → governor_of sight.now.managers.now a ≡ governor_of sight.now.managers.now (physical / 8) }
@@ -195,7 +195,7 @@ pub(crate) fn read_logical(
     from: u64,
     bytes: &mut [u8],
 ) -> bool
-    requires room { length memory.now ≡ 0x3000 }
+    requires room { length memory.now ≡ ram_end }
     requires four { length managers.now ≡ 4 }
     requires fits { from + 8 * length bytes.old < 2 ^ 64 }
     ensures bits { let place : Place = record { from = from; bits = 8 * length bytes.old } in

@@ -1,6 +1,7 @@
 //! What a logical datagram writes into the memory itself.
 
 ghost use Rattle.std.specs.Prelude.{◌≡◌, ◌<◌, ◌+◌, ◌*◌, ◌^◌, length};
+ghost use Rattle.ec_regs.specs.Memory.{ram_end};
 ghost use Rattle.ec_bits.specs.Bits.{overlay};
 ghost use Rattle.ec_fmmu.specs.Applied.{Place};
 ghost use Rattle.ec_slave.specs.Logical.{plain_bit};
@@ -45,7 +46,7 @@ pub(crate) fn write_logical(
     from: u64,
     bytes: &[u8],
 ) -> bool
-    requires room { length memory.old ≡ 0x3000 }
+    requires room { length memory.old ≡ ram_end }
     requires fits { from + 8 * length bytes.now < 2 ^ 64 }
     ensures memory { let place : Place = record { from = from; bits = 8 * length bytes.now } in
         memory.new ≡ overlay memory.old (plain_bit managers.now fmmus.now place bytes.now) }

@@ -3,7 +3,7 @@
 ghost use Rattle.std.specs.Prelude.{◌≡◌, ◌+◌, ◌-◌, ◌<◌, ◌≤◌, ◌^◌, ℕ, Bool, if◌then◌else◌, bit_or, length, slice_index, Some, None, IfSome};
 ghost use Rattle.std.specs.Bool.{OnTrue};
 ghost use Rattle.ec_bits.specs.Bits.{within};
-ghost use Rattle.ec_regs.specs.Memory.{ram_start};
+ghost use Rattle.ec_regs.specs.Memory.{ram_start, ram_end};
 ghost use Rattle.ec_sync.specs.Governing.{governor as governor_of};
 ghost use Rattle.ec_slave.specs.Access.{Window, byte_from, is_kept, may_read_byte, may_write_byte, memory_written, retold, some_byte_written};
 ghost use Rattle.ec_slave.specs.Telling.{set_told};
@@ -18,7 +18,7 @@ use ec_sync::Manager;
 #[tactic(auto, unfolding(crate::specs::Access::may_read_byte))]
 pub(crate) fn reads_byte(managers: &[Manager], from: usize, len: usize, address: usize) -> bool
     ensures value { result ≡ may_read_byte managers.now (within from len) address }
-    ensures inside { OnTrue result (address < 0x3000) }
+    ensures inside { OnTrue result (address < ram_end) }
 {
     if address < RAM_START {
         return true;
@@ -99,7 +99,7 @@ pub(crate) fn writes_byte(
 #[tactic(auto, unfolding(crate::specs::Access::is_kept))]
 fn is_kept(managers: &[Manager], address: usize) -> bool
     ensures value { result ≡ is_kept managers.now address }
-    ensures inside { OnTrue result (address < 0x3000) }
+    ensures inside { OnTrue result (address < ram_end) }
 {
     if address < RAM_START {
         return is_stored(address) && !(SYNC_MANAGERS..SYNC_MANAGERS_END).contains(&address);
@@ -109,7 +109,7 @@ fn is_kept(managers: &[Manager], address: usize) -> bool
 
 /// Stores a byte where the memory itself keeps it.
 fn store_byte(memory: &mut [u8], managers: &[Manager], address: usize, byte: u8)
-    requires { length memory.old ≡ 0x3000 }
+    requires { length memory.old ≡ ram_end }
     ensures { memory.new ≡ set_told memory.old address (if is_kept managers.now address then Some byte else None) }
 {
     if is_kept(managers, address) {
@@ -126,7 +126,7 @@ pub(crate) fn write_physical(
     from: usize,
     bytes: &[u8],
 ) -> bool
-    requires room { length memory.old ≡ 0x3000 }
+    requires room { length memory.old ≡ ram_end }
     requires small { from + length bytes.now < 2 ^ 32 }
     ensures memory { memory.new ≡ memory_written managers.now (record { from = from; bytes = bytes.now }) memory.old }
     ensures some { result ≡ some_byte_written managers.now is_busy (record { from = from; bytes = bytes.now }) }
@@ -146,7 +146,7 @@ fn write_each(
     from: usize,
     bytes: &[u8],
 ) -> bool
-    requires room { length memory.old ≡ 0x3000 }
+    requires room { length memory.old ≡ ram_end }
     requires small { from + length bytes.now < 2 ^ 32 }
     ensures memory { memory.new ≡ memory_written managers.now (record { from = from; bytes = bytes.now }) memory.old }
     ensures some { result ≡ some_byte_written managers.now is_busy (record { from = from; bytes = bytes.now }) }
@@ -168,7 +168,7 @@ fn write_parts(
     from: usize,
     bytes: &[u8],
 ) -> bool
-    requires room { length memory.old ≡ 0x3000 }
+    requires room { length memory.old ≡ ram_end }
     requires small { from + length bytes.now < 2 ^ 32 }
     requires ram { ram_start ≤ from }
     ensures memory { memory.new ≡ memory_written managers.now (record { from = from; bytes = bytes.now }) memory.old }
@@ -203,7 +203,7 @@ fn end_of_written(managers: &[Manager], start: usize, end: usize) -> usize
 
 /// Stores a part of the bytes of a datagram, of which the memory itself keeps all or none.
 fn store_part(memory: &mut [u8], managers: &[Manager], start: usize, bytes: &[u8])
-    requires room { length memory.old ≡ 0x3000 }
+    requires room { length memory.old ≡ ram_end }
     requires some { 0 < length bytes.now }
     requires alike { (a : ℕ) → start ≤ a → a < start + length bytes.now → is_kept managers.now a ≡ is_kept managers.now start }
     requires fits { start + length bytes.now < 2 ^ 32 }
