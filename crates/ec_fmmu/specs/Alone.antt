@@ -5,8 +5,6 @@ use Rattle.ec_regs.specs.declared.fmmu.FmmuSettings.{FmmuSettings}
 use Rattle.ec_regs.specs.Fmmus.{no_fmmu}
 use Rattle.ec_fmmu.specs.Applied.{inside_place}
 use Rattle.ec_fmmu.specs.Pairs.{reaches, reaches_physical}
--- ec_slave names these two here
-pub use Rattle.ec_fmmu.specs.Apart.{AreApart, run_shown}
 
 -- no other FMMU that reads has a logical bit of the range of FMMU k
 abbrev pub IsAlone : List FmmuSettings → ℕ → Type 0

@@ -13,7 +13,7 @@ use Rattle.ec_frame.specs.Datagram.{Datagram, adp_of, ado_of}
 use Rattle.ec_al.specs.Al.{Al, requesting}
 use Rattle.ec_slave.specs.Roles.{role_of, adp_after, is_reading, is_writing}
 use Rattle.ec_slave.specs.State.{SlaveState, manager_at, station_of}
-use Rattle.ec_slave.specs.Access.{Window, touches, meeting, slave_after, is_configured}
+use Rattle.ec_slave.specs.Physical.{Window, touches, meeting, physical_after, is_configured}
 use Rattle.ec_slave.specs.Meeting.{window_of, meets, meets_by, slave_met, datagram_met}
 use Rattle.ec_slave.specs.Checking.{control_word}
 use Rattle.ec_start.specs.declared.action.Action.{Action}
@@ -34,12 +34,12 @@ reads-none s d c = ap (λ (x : Command). is_reading (role_of x (adp_of d) (stati
 writes-all : (s : SlaveState) (d : Datagram) → d.command ≡ Bwr → is_writing (role_of d.command (adp_of d) (station_of s)) ≡ true
 writes-all s d c = ap (λ (x : Command). is_writing (role_of x (adp_of d) (station_of s))) c
 
-pub broadcast-write : (s : SlaveState) (d : Datagram) → d.command ≡ Bwr → slave_met s d ≡ slave_after s false true (window_of d)
+pub broadcast-write : (s : SlaveState) (d : Datagram) → d.command ≡ Bwr → slave_met s d ≡ physical_after s false true (window_of d)
 unfolding meets meeting
 broadcast-write s d c =
     ap (λ (x : Command). (meets_by x s d).slave) c
-    ∙ (ap (λ (b : Bool). slave_after s b (is_writing (role_of d.command (adp_of d) (station_of s))) (window_of d)) (reads-none s d c)
-    ∙ ap (λ (b : Bool). slave_after s false b (window_of d)) (writes-all s d c))
+    ∙ (ap (λ (b : Bool). physical_after s b (is_writing (role_of d.command (adp_of d) (station_of s))) (window_of d)) (reads-none s d c)
+    ∙ ap (λ (b : Bool). physical_after s false b (window_of d)) (writes-all s d c))
 
 -- the datagram goes on as it came, with its ADP grown
 writing-on : (s : SlaveState) (e d : Datagram) (j : ℕ) → d.command ≡ Bwr → IsWriting e d (j % 65536) → IsWriting e (datagram_met s d) ((j + 1) % 65536)
@@ -64,11 +64,11 @@ window-is e d adp w h q = ap (λ (x : ℕ). record { from = x; bytes = d.data_by
 -- what each slave owes at such an action
 pub pass-broadcast : (kind : SlaveKind) (i : ℕ) (st : Stage) (trouble : Bool) (a : Action) (number : ℕ) (e d : Datagram) (s : SlaveState) (w : Window)
     → e.command ≡ Bwr → window_of e ≡ w → (IsOther a i → ⊥) → (MayRepeat a (datagram_met s d) → ⊥)
-    → (Stands kind i st trouble s → Stands kind i (after i st a) trouble (slave_after s false true w))
+    → (Stands kind i st trouble s → Stands kind i (after i st a) trouble (physical_after s false true w))
     → IsWriting e d (i % 65536) → Stands kind i st trouble s
     → Met kind i st trouble a (datagram_met s d) (slave_met s d) × IsWriting e (datagram_met s d) ((i + 1) % 65536)
 pass-broadcast kind i st trouble a number e d s w c win one never step h stands =
-    let q : slave_met s d ≡ slave_after s false true w = broadcast-write s d (h.command ∙ c) ∙ ap (λ (x : Window). slave_after s false true x) (window-is e d (i % 65536) w h win) in (
+    let q : slave_met s d ≡ physical_after s false true w = broadcast-write s d (h.command ∙ c) ∙ ap (λ (x : Window). physical_after s false true x) (window-is e d (i % 65536) w h win) in (
       record {
         other = λ o. absurd (one o);
         repeated = λ o. absurd (never o);
@@ -82,15 +82,15 @@ pass-broadcast kind i st trouble a number e d s w c win one never step h stands 
 abbrev pub init-asked : Window
 init-asked = record { from = 0x0120; bytes = 0x11 ∷ 0 ∷ [] }
 
-init-called : (kind : SlaveKind) (i : ℕ) (st : Stage) (trouble : Bool) (s : SlaveState) → Stands kind i st trouble s → Stands kind i Called trouble (slave_after s false true init-asked)
+init-called : (kind : SlaveKind) (i : ℕ) (st : Stage) (trouble : Bool) (s : SlaveState) → Stands kind i st trouble s → Stands kind i Called trouble (physical_after s false true init-asked)
 init-called kind i st trouble s h =
-    let w : Wrote init-asked s (slave_after s false true init-asked) = wrote s init-asked (omega arith) in
+    let w : Wrote init-asked s (physical_after s false true init-asked) = wrote s init-asked (omega arith) in
     let room = h.slave.room in
     record {
-      slave = slave-wrote kind init-asked s (slave_after s false true init-asked) w h.slave;
+      slave = slave-wrote kind init-asked s (physical_after s false true init-asked) w h.slave;
       at = inl (inl (
         ap (λ (x : Al). x.requested) (w.al ∙ if_true (touches init-asked 0x0120) (requesting s.al) s.al refl),
-        ap (λ (x : ℕ). x + 256 * slice_index (slave_after s false true init-asked).memory 0x0121) (w.taken 0x0120 (omega arith) (omega arith) refl refl refl)
+        ap (λ (x : ℕ). x + 256 * slice_index (physical_after s false true init-asked).memory 0x0121) (w.taken 0x0120 (omega arith) (omega arith) refl refl refl)
             ∙ ap (λ (x : ℕ). 0x11 + 256 * x) (w.taken 0x0121 (omega arith) (omega arith) refl refl refl),
       ));
     }
@@ -132,18 +132,18 @@ clear-wrote w s t four u h k = record {
 abbrev pub fmmus-cleared : Window
 fmmus-cleared = record { from = 0x0600; bytes = zeros 64 }
 
-clear-fmmus : (kind : SlaveKind) (i : ℕ) (f m : Bool) (trouble : Bool) (s : SlaveState) → Stands kind i (Down f m) trouble s → Stands kind i (Down true m) trouble (slave_after s false true fmmus-cleared)
+clear-fmmus : (kind : SlaveKind) (i : ℕ) (f m : Bool) (trouble : Bool) (s : SlaveState) → Stands kind i (Down f m) trouble s → Stands kind i (Down true m) trouble (physical_after s false true fmmus-cleared)
 clear-fmmus kind i f m trouble s h =
-    let w : Wrote fmmus-cleared s (slave_after s false true fmmus-cleared) = wrote s fmmus-cleared (omega arith) in
+    let w : Wrote fmmus-cleared s (physical_after s false true fmmus-cleared) = wrote s fmmus-cleared (omega arith) in
     let k = down-of kind i f m trouble s h in
     let room = h.slave.room in
     record {
-      slave = slave-wrote kind fmmus-cleared s (slave_after s false true fmmus-cleared) w h.slave;
+      slave = slave-wrote kind fmmus-cleared s (physical_after s false true fmmus-cleared) w h.slave;
       at = inl (record {
-        init = init-wrote fmmus-cleared s (slave_after s false true fmmus-cleared) room refl refl w k.init;
+        init = init-wrote fmmus-cleared s (physical_after s false true fmmus-cleared) room refl refl w k.init;
         fmmus = λ e b l. w.taken (0x0600 + b) (omega (arith, room, l)) (omega (arith, l)) (within_true 0x0600 64 (0x0600 + b) (omega arith) (omega (arith, l))) (stored-fmmu b l)
             (within_below 0x0800 32 (0x0600 + b) (omega (arith, l))) ∙ get_or-zeros 64 (0x0600 + b - 0x0600);
-        managers = λ e. clear-wrote fmmus-cleared s (slave_after s false true fmmus-cleared) h.slave.four (λ n l. unconfigured fmmus-cleared n (inl (omega arith))) w (k.managers e);
+        managers = λ e. clear-wrote fmmus-cleared s (physical_after s false true fmmus-cleared) h.slave.four (λ n l. unconfigured fmmus-cleared n (inl (omega arith))) w (k.managers e);
       });
     }
   where
@@ -169,16 +169,16 @@ cleared-by (suc (suc zero)) m l = refl
 cleared-by (suc (suc (suc zero))) m l = refl
 cleared-by (suc (suc (suc (suc n)))) m l = absurd (omega arith)
 
-clear-managers : (kind : SlaveKind) (i : ℕ) (f m : Bool) (trouble : Bool) (s : SlaveState) → Stands kind i (Down f m) trouble s → Stands kind i (Down f true) trouble (slave_after s false true managers-cleared)
+clear-managers : (kind : SlaveKind) (i : ℕ) (f m : Bool) (trouble : Bool) (s : SlaveState) → Stands kind i (Down f m) trouble s → Stands kind i (Down f true) trouble (physical_after s false true managers-cleared)
 clear-managers kind i f m trouble s h =
-    let w : Wrote managers-cleared s (slave_after s false true managers-cleared) = wrote s managers-cleared (omega arith) in
+    let w : Wrote managers-cleared s (physical_after s false true managers-cleared) = wrote s managers-cleared (omega arith) in
     let k = down-of kind i f m trouble s h in
     let room = h.slave.room in
     let four = h.slave.four in
     record {
-      slave = slave-wrote kind managers-cleared s (slave_after s false true managers-cleared) w h.slave;
+      slave = slave-wrote kind managers-cleared s (physical_after s false true managers-cleared) w h.slave;
       at = inl (record {
-        init = init-wrote managers-cleared s (slave_after s false true managers-cleared) room refl refl w k.init;
+        init = init-wrote managers-cleared s (physical_after s false true managers-cleared) room refl refl w k.init;
         fmmus = λ e b l. w.untouched (0x0600 + b) (omega (arith, room, l)) (within_below 0x0800 32 (0x0600 + b) (omega (arith, l))) ∙ k.fmmus e b l;
         managers = λ e. record {
           settings = λ n l. ap (λ (x : Manager). x.settings) (w.managers n (omega (arith, four, l)) ∙ cleared-by n (manager_at s.managers n) l);
@@ -199,17 +199,17 @@ pass-clear-managers kind i f m trouble number d s arrives h =
 abbrev pub stations-cleared : Window
 stations-cleared = record { from = 0x0010; bytes = zeros 2 }
 
-clear-stations : (kind : SlaveKind) (i : ℕ) (f m : Bool) (trouble : Bool) (s : SlaveState) → Stands kind i (Down f m) trouble s → Stands kind i (Down f m) trouble (slave_after s false true stations-cleared)
+clear-stations : (kind : SlaveKind) (i : ℕ) (f m : Bool) (trouble : Bool) (s : SlaveState) → Stands kind i (Down f m) trouble s → Stands kind i (Down f m) trouble (physical_after s false true stations-cleared)
 clear-stations kind i f m trouble s h =
-    let w : Wrote stations-cleared s (slave_after s false true stations-cleared) = wrote s stations-cleared (omega arith) in
+    let w : Wrote stations-cleared s (physical_after s false true stations-cleared) = wrote s stations-cleared (omega arith) in
     let k = down-of kind i f m trouble s h in
     let room = h.slave.room in
     record {
-      slave = slave-wrote kind stations-cleared s (slave_after s false true stations-cleared) w h.slave;
+      slave = slave-wrote kind stations-cleared s (physical_after s false true stations-cleared) w h.slave;
       at = inl (record {
-        init = init-wrote stations-cleared s (slave_after s false true stations-cleared) room refl refl w k.init;
+        init = init-wrote stations-cleared s (physical_after s false true stations-cleared) room refl refl w k.init;
         fmmus = λ e b l. w.untouched (0x0600 + b) (omega (arith, room, l)) (within_above 0x0010 2 (0x0600 + b) (omega arith)) ∙ k.fmmus e b l;
-        managers = λ e. clear-wrote stations-cleared s (slave_after s false true stations-cleared) h.slave.four (λ n l. unconfigured stations-cleared n (inl (omega arith))) w (k.managers e);
+        managers = λ e. clear-wrote stations-cleared s (physical_after s false true stations-cleared) h.slave.four (λ n l. unconfigured stations-cleared n (inl (omega arith))) w (k.managers e);
       });
     }
 

@@ -9,7 +9,7 @@ use Rattle.ec_frame.specs.declared.command.Command.TheVariants.{Apwr, Fprd, Fpwr
 use Rattle.ec_frame.specs.Datagram.{Datagram, adp_of}
 use Rattle.ec_slave.specs.Roles.{role_of, is_reading, is_writing}
 use Rattle.ec_slave.specs.State.{SlaveState, station_of}
-use Rattle.ec_slave.specs.Access.{Window, touches, meeting, may_read_byte, may_write_byte, some_byte_read, some_byte_written}
+use Rattle.ec_slave.specs.Physical.{Window, touches, meeting, may_read_byte, may_write_byte, some_byte_read, some_byte_written}
 use Rattle.ec_slave.specs.Meeting.{window_of, meets, meets_by, meets_physically, datagram_met}
 use Rattle.ec_start.specs.Actions.{station, sent}
 use Rattle.ec_rise.proofs.Owns.{window-sent}

@@ -12,8 +12,8 @@ use Rattle.ec_sync.specs.Manager.{Manager, app_put}
 use Rattle.ec_sync.specs.Buffer.{Got}
 use Rattle.ec_slave.specs.Roles.{role_of, is_writing}
 use Rattle.ec_slave.specs.State.{SlaveState, Met as Meeting, station_of, power_on, manager_at}
-use Rattle.ec_slave.specs.Access.{meeting, slave_after}
-use Rattle.ec_slave.specs.Logical.{meets_logical}
+use Rattle.ec_slave.specs.Physical.{meeting, physical_after}
+use Rattle.ec_slave.specs.Logical.{meets_logically}
 use Rattle.ec_slave.specs.Meeting.{meets, meets_by, meets_physically, slave_met}
 use Rattle.std.specs.Prelude.{option_map}
 use Rattle.ec_rise.specs.Standing.{IsOfKind}
@@ -48,14 +48,14 @@ true-on kind s t e h = record {
 -- ---- any datagram
 
 physical-same : (s : SlaveState) (d : Datagram) → Same s (meets_physically s d).slave
-unfolding meeting slave_after
+unfolding meeting physical_after
 physical-same s d = record {
   identity = refl;
   image = either-image (is_writing (role_of d.command (adp_of d) (station_of s))) (written s.sii (ado_of d) d.data_bytes) s.sii s.sii.image (written-image s.sii (ado_of d) d.data_bytes) refl;
 }
 
-logical-same : (reads writes : Bool) (weight : ℕ) (s : SlaveState) (d : Datagram) → Same s (meets_logical reads writes weight s d).slave
-unfolding meets_logical
+logical-same : (reads writes : Bool) (weight : ℕ) (s : SlaveState) (d : Datagram) → Same s (meets_logically reads writes weight s d).slave
+unfolding meets_logically
 logical-same reads writes weight s d = record { identity = refl; image = refl }
 
 either-same : (s : SlaveState) (b : Bool) (x y : Meeting) → Same s x.slave → Same s y.slave → Same s (if b then x else y).slave
@@ -75,7 +75,7 @@ by-same Bwr s d = physical-same s d
 by-same Brw s d = physical-same s d
 by-same Lrd s d = logical-same true false 1 s d
 by-same Lwr s d = logical-same false true 1 s d
-by-same Lrw s d = either-same s s.kind.lrw (meets_logical true true 2 s d) (record { slave = s; datagram = d }) (logical-same true true 2 s d) (same-refl s)
+by-same Lrw s d = either-same s s.kind.lrw (meets_logically true true 2 s d) (record { slave = s; datagram = d }) (logical-same true true 2 s d) (same-refl s)
 by-same Armw s d = physical-same s d
 by-same Frmw s d = physical-same s d
 

@@ -15,8 +15,8 @@ use Rattle.ec_slave.specs.Keeping.{length-retold}
 use Rattle.ec_slave.specs.Roles.{role_of, is_reading, is_writing}
 use Rattle.ec_slave.specs.State.{SlaveState, Met as Meeting, manager_at, station_of}
 use Rattle.ec_slave.specs.Managers.{is_read_by, is_ungoverned, is_written_by, manager_after}
-use Rattle.ec_slave.specs.Access.{Window, touches, value_for, is_configured, settings_written, manager_met, managers_met, memory_written, slave_after, meeting}
-use Rattle.ec_slave.specs.Logical.{value_brought, managers_exchanged, meets_logical}
+use Rattle.ec_slave.specs.Physical.{Window, touches, physical_value, is_configured, settings_written, physical_manager, physical_managers, memory_written, physical_after, meeting}
+use Rattle.ec_slave.specs.Logical.{logical_value, logical_managers, meets_logically}
 use Rattle.ec_slave.specs.Meeting.{window_of, meets, meets_by, meets_physically, slave_met}
 use Rattle.ec_rise.specs.Standing.{IsOfKind}
 use Rattle.ec_rise.proofs.Writes.{length-met}
@@ -46,25 +46,25 @@ after-locked reads writes rt wt own v m = by (writes && is_written_by wt own m) 
     by false true = read-locked m
     by false false = refl
 
-met-locked : (lower : List Manager) (reads writes : Bool) (w : Window) (n : ℕ) (m : Manager) → (manager_met lower reads writes w n m).locked ≡ m.locked
-unfolding manager_met
+met-locked : (lower : List Manager) (reads writes : Bool) (w : Window) (n : ℕ) (m : Manager) → (physical_manager lower reads writes w n m).locked ≡ m.locked
+unfolding physical_manager
 met-locked lower reads writes w n m = by (writes && is_configured w n)
   where
-    by : (b : Bool) → locked_of (if b then empty_manager (settings_written w n m) m.locked else manager_after reads writes (touches w) (touches w) (is_ungoverned lower) (value_for lower w) m) ≡ m.locked
+    by : (b : Bool) → locked_of (if b then empty_manager (settings_written w n m) m.locked else manager_after reads writes (touches w) (touches w) (is_ungoverned lower) (physical_value lower w) m) ≡ m.locked
     by true = refl
-    by false = after-locked reads writes (touches w) (touches w) (is_ungoverned lower) (value_for lower w) m
+    by false = after-locked reads writes (touches w) (touches w) (is_ungoverned lower) (physical_value lower w) m
 
-all-met-locked : (lower ms : List Manager) (reads writes : Bool) (w : Window) (n k : ℕ) → (manager_at (managers_met lower reads writes w n ms) k).locked ≡ (manager_at ms k).locked
+all-met-locked : (lower ms : List Manager) (reads writes : Bool) (w : Window) (n k : ℕ) → (manager_at (physical_managers lower reads writes w n ms) k).locked ≡ (manager_at ms k).locked
 all-met-locked lower [] reads writes w n k = refl
 all-met-locked lower (m ∷ ms) reads writes w n zero = met-locked lower reads writes w n m
 all-met-locked lower (m ∷ ms) reads writes w n (suc k) = all-met-locked (lower ++ m ∷ []) ms reads writes w (n + 1) k
 
-all-exchanged-locked : (lower ms : List Manager) (reading writing : Bool) (fs : List FmmuSettings) (p : Place) (bytes : List ℕ) (k : ℕ) → (manager_at (managers_exchanged lower reading writing fs p bytes ms) k).locked ≡ (manager_at ms k).locked
+all-exchanged-locked : (lower ms : List Manager) (reading writing : Bool) (fs : List FmmuSettings) (p : Place) (bytes : List ℕ) (k : ℕ) → (manager_at (logical_managers lower reading writing fs p bytes ms) k).locked ≡ (manager_at ms k).locked
 all-exchanged-locked lower [] reading writing fs p bytes k = refl
-all-exchanged-locked lower (m ∷ ms) reading writing fs p bytes zero = after-locked reading writing (touched_by_reading fs p) (touched_by_writing fs p) (is_ungoverned lower) (value_brought lower fs p bytes) m
+all-exchanged-locked lower (m ∷ ms) reading writing fs p bytes zero = after-locked reading writing (touched_by_reading fs p) (touched_by_writing fs p) (is_ungoverned lower) (logical_value lower fs p bytes) m
 all-exchanged-locked lower (m ∷ ms) reading writing fs p bytes (suc k) = all-exchanged-locked (lower ++ m ∷ []) ms reading writing fs p bytes k
 
-length-exchanged : (lower ms : List Manager) (reading writing : Bool) (fs : List FmmuSettings) (p : Place) (bytes : List ℕ) → length (managers_exchanged lower reading writing fs p bytes ms) ≡ length ms
+length-exchanged : (lower ms : List Manager) (reading writing : Bool) (fs : List FmmuSettings) (p : Place) (bytes : List ℕ) → length (logical_managers lower reading writing fs p bytes ms) ≡ length ms
 length-exchanged lower [] reading writing fs p bytes = refl
 length-exchanged lower (m ∷ ms) reading writing fs p bytes = ap (λ (k : ℕ). suc k) (length-exchanged (lower ++ m ∷ []) ms reading writing fs p bytes)
 
@@ -81,8 +81,8 @@ same-room : (b : Bool) (xs ys : List ℕ) → length xs ≡ length ys → length
 same-room true xs ys e = e
 same-room false xs ys e = refl
 
-physical-slave : (kind : SlaveKind) (s : SlaveState) (reads writes : Bool) (w : Window) → IsOfKind kind s → IsOfKind kind (slave_after s reads writes w)
-unfolding slave_after
+physical-slave : (kind : SlaveKind) (s : SlaveState) (reads writes : Bool) (w : Window) → IsOfKind kind s → IsOfKind kind (physical_after s reads writes w)
+unfolding physical_after
 physical-slave kind s reads writes w h = record {
   kind_is = h.kind_is;
   room = same-room writes (memory_written s.managers w s.memory) s.memory (length-retold 0 s.memory _) ∙ h.room;
@@ -97,8 +97,8 @@ physically : (kind : SlaveKind) (s : SlaveState) (d : Datagram) → IsOfKind kin
 unfolding meeting
 physically kind s d h = physical-slave kind s (is_reading (role_of d.command (adp_of d) (station_of s))) (is_writing (role_of d.command (adp_of d) (station_of s))) (window_of d) h
 
-logically : (kind : SlaveKind) (reading writing : Bool) (weight : ℕ) (s : SlaveState) (d : Datagram) → IsOfKind kind s → IsOfKind kind (meets_logical reading writing weight s d).slave
-unfolding meets_logical
+logically : (kind : SlaveKind) (reading writing : Bool) (weight : ℕ) (s : SlaveState) (d : Datagram) → IsOfKind kind s → IsOfKind kind (meets_logically reading writing weight s d).slave
+unfolding meets_logically
 logically kind reading writing weight s d h = record {
   kind_is = h.kind_is;
   room = length-overlay s.memory _ ∙ h.room;
@@ -109,7 +109,7 @@ logically kind reading writing weight s d h = record {
   unlocked_in_init = λ e n l. all-exchanged-locked [] s.managers reading writing _ _ _ n ∙ h.unlocked_in_init e n l;
 }
 
-exchanging : (b : Bool) (kind : SlaveKind) (s : SlaveState) (d : Datagram) → IsOfKind kind s → (let m : Meeting = if b then meets_logical true true 2 s d else record { slave = s; datagram = d } in IsOfKind kind m.slave)
+exchanging : (b : Bool) (kind : SlaveKind) (s : SlaveState) (d : Datagram) → IsOfKind kind s → (let m : Meeting = if b then meets_logically true true 2 s d else record { slave = s; datagram = d } in IsOfKind kind m.slave)
 exchanging true kind s d h = logically kind true true 2 s d h
 exchanging false kind s d h = h
 

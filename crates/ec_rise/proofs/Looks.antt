@@ -10,7 +10,7 @@ use Rattle.ec_al.specs.declared.state.State.{State}
 use Rattle.ec_al.specs.declared.state.State.TheVariants.{Init, PreOp, SafeOp, Op}
 use Rattle.ec_al.specs.States.{state_number}
 use Rattle.ec_slave.specs.State.{SlaveState, Met as Meeting, with_answer}
-use Rattle.ec_slave.specs.Access.{byte_at, retold}
+use Rattle.ec_slave.specs.Physical.{byte_at, retold}
 use Rattle.ec_slave.specs.Meeting.{meets, slave_met, datagram_met}
 use Rattle.ec_slave.proofs.Broadcast.{broadcast_read}
 use Rattle.ec_slave.specs.Keeping.{length-retold}

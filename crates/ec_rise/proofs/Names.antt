@@ -12,7 +12,7 @@ use Rattle.ec_frame.specs.Datagram.{Datagram, IsDatagram, adp_of, ado_of}
 use Rattle.ec_frame.specs.Fields.{with_adp}
 use Rattle.ec_slave.specs.Roles.{role_of, adp_after, is_reading, is_writing}
 use Rattle.ec_slave.specs.State.{SlaveState, Met as Meeting, manager_at, station_of}
-use Rattle.ec_slave.specs.Access.{Window, meeting, slave_after}
+use Rattle.ec_slave.specs.Physical.{Window, meeting, physical_after}
 use Rattle.ec_slave.specs.Meeting.{window_of, meets, meets_by, slave_met, datagram_met}
 use Rattle.ec_slave.proofs.Bystanders.{other_position_passes}
 use Rattle.ec_start.specs.Plans.{settings_at, fmmu_at}
@@ -35,12 +35,12 @@ reads-none s d c e = ap (λ (x : Command). is_reading (role_of x (adp_of d) (sta
 writes-all : (s : SlaveState) (d : Datagram) → d.command ≡ Apwr → adp_of d ≡ 0 → is_writing (role_of d.command (adp_of d) (station_of s)) ≡ true
 writes-all s d c e = ap (λ (x : Command). is_writing (role_of x (adp_of d) (station_of s))) c ∙ ap is_writing (if_true _ _ _ (eq-eqb _ _ e))
 
-position-write : (s : SlaveState) (d : Datagram) → d.command ≡ Apwr → adp_of d ≡ 0 → slave_met s d ≡ slave_after s false true (window_of d)
+position-write : (s : SlaveState) (d : Datagram) → d.command ≡ Apwr → adp_of d ≡ 0 → slave_met s d ≡ physical_after s false true (window_of d)
 unfolding meets meeting
 position-write s d c e =
     ap (λ (x : Command). (meets_by x s d).slave) c
-    ∙ (ap (λ (b : Bool). slave_after s b (is_writing (role_of d.command (adp_of d) (station_of s))) (window_of d)) (reads-none s d c e)
-    ∙ ap (λ (b : Bool). slave_after s false b (window_of d)) (writes-all s d c e))
+    ∙ (ap (λ (b : Bool). physical_after s b (is_writing (role_of d.command (adp_of d) (station_of s))) (window_of d)) (reads-none s d c e)
+    ∙ ap (λ (b : Bool). physical_after s false b (window_of d)) (writes-all s d c e))
 
 position-on : (s : SlaveState) (e d : Datagram) (adp : ℕ) → d.command ≡ Apwr → adp_of d ≡ 0 → IsWriting e d adp → IsWriting e (datagram_met s d) ((adp + 1) % 65536)
 unfolding meets meeting
@@ -130,11 +130,11 @@ pass-name kind i t st trouble number d s l fits good arrives h = elim (cases_eq 
       let next : ((65536 - t + i) % 65536 + 1) % 65536 ≡ (65536 - t + (i + 1)) % 65536 = omega (arith, e, l) in
       let win : window_of d ≡ naming t = ap (λ (x : ℕ). record { from = x; bytes = d.data_bytes }) arrives.ado
       ∙ (ap (λ (x : List ℕ). record { from = ado_of (datagram_of (NameSlave t) number); bytes = x }) arrives.bytes ∙ window-sent Apwr (65536 - t) 0x0010 (station t % 256 ∷ station t / 256 ∷ []) number) in
-      let q : slave_met s d ≡ slave_after s false true (naming i) = position-write s d arrives.command adp ∙ (ap (λ (x : Window). slave_after s false true x) win ∙ ap (λ (x : ℕ). slave_after s false true (naming x)) e) in (
+      let q : slave_met s d ≡ physical_after s false true (naming i) = position-write s d arrives.command adp ∙ (ap (λ (x : Window). physical_after s false true x) win ∙ ap (λ (x : ℕ). physical_after s false true (naming x)) e) in (
         record {
           other = λ o. absurd (o e);
           repeated = λ o. absurd o;
-          ended = λ _. subst (λ (x : SlaveState). Stands kind i (after i st (NameSlave t)) trouble x) (sym q) (subst (λ (x : Stage). Stands kind i x trouble (slave_after s false true (naming i))) (sym (if_true _ _ _ (eq-eqb t i e)))
+          ended = λ _. subst (λ (x : SlaveState). Stands kind i (after i st (NameSlave t)) trouble x) (sym q) (subst (λ (x : Stage). Stands kind i x trouble (physical_after s false true (naming i))) (sym (if_true _ _ _ (eq-eqb t i e)))
               (up (clear-is (λ x. Stands kind i x trouble s → Stands kind i (Down true true) trouble s) st (fits.1 e) (λ z. z) h)));
         },
         subst (λ (x : ℕ). IsWriting (datagram_of (NameSlave t) number) (datagram_met s d) x) next (position-on s (datagram_of (NameSlave t) number) d ((65536 - t + i) % 65536) arrives.command adp arrives),
@@ -151,11 +151,11 @@ pass-name kind i t st trouble number d s l fits good arrives h = elim (cases_eq 
       )
 ]
   where
-    up : Stands kind i (Down true true) trouble s → Stands kind i (Up fresh) trouble (slave_after s false true (naming i))
+    up : Stands kind i (Down true true) trouble s → Stands kind i (Up fresh) trouble (physical_after s false true (naming i))
     up k =
-        let w : Wrote (naming i) s (slave_after s false true (naming i)) = wrote s (naming i) (omega arith) in
+        let w : Wrote (naming i) s (physical_after s false true (naming i)) = wrote s (naming i) (omega arith) in
         let r : IsDownAt true true s = down-of kind i true true trouble s k in
         record {
-          slave = slave-wrote kind (naming i) s (slave_after s false true (naming i)) w k.slave;
-          at = inl (named-up i s (slave_after s false true (naming i)) w k.slave.room k.slave.four (k.slave.unlocked_in_init r.init.state) r);
+          slave = slave-wrote kind (naming i) s (physical_after s false true (naming i)) w k.slave;
+          at = inl (named-up i s (physical_after s false true (naming i)) w k.slave.room k.slave.four (k.slave.unlocked_in_init r.init.state) r);
         }

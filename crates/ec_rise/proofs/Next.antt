@@ -12,7 +12,7 @@ use Rattle.ec_al.specs.States.{state_number}
 use Rattle.ec_al.specs.Al.{Al, requesting}
 use Rattle.ec_sii.specs.Laws.{read_command}
 use Rattle.ec_slave.specs.State.{SlaveState, station_of, manager_at}
-use Rattle.ec_slave.specs.Access.{Window, touches, slave_after}
+use Rattle.ec_slave.specs.Physical.{Window, touches, physical_after}
 use Rattle.ec_slave.specs.Meeting.{slave_met}
 use Rattle.ec_slave.specs.Checking.{checks_of}
 use Rattle.ec_slave.specs.Serving.{served}
@@ -160,10 +160,10 @@ own-datagram : (i : ℕ) (e d : Datagram) → Untouched i i e d → d ≡ e
 own-datagram i e d h = h.to_come (omega arith)
 
 own-slave : (s t : SlaveState) (i ado : ℕ) (bytes : List ℕ) (number : ℕ) (d : Datagram) → station_of s ≡ station i → i < 64 → d ≡ sent Fpwr (station i) ado bytes number → t ≡ slave_met s d
-    → t ≡ slave_after s false true (record { from = ado; bytes = bytes })
+    → t ≡ physical_after s false true (record { from = ado; bytes = bytes })
 own-slave s t i ado bytes number d e l q m =
     m ∙ (ap (slave_met s) q ∙ (own-write s (sent Fpwr (station i) ado bytes number) refl (let a : (station i % 65536 + 65536 * ado) % 65536 ≡ station_of s = omega (arith, e, l) in a)
-    ∙ ap (λ (w : Window). slave_after s false true w) (window-sent Fpwr (station i) ado bytes number)))
+    ∙ ap (λ (w : Window). physical_after s false true w) (window-sent Fpwr (station i) ado bytes number)))
 
 -- ---- a word of the SII
 
@@ -172,7 +172,7 @@ next-word : (kind : SlaveKind) (i which : ℕ) (c : Config) (number : ℕ) (d : 
 next-word kind i which c number d s t l h arrives m =
     let u : IsUpAt i c s = up-of kind i c s h.stands in
     let n6 : length (read_command (word_place which)) ≡ 6 = refl in
-    let q : t ≡ slave_after s false true (record { from = 0x0502; bytes = read_command (word_place which) })
+    let q : t ≡ physical_after s false true (record { from = 0x0502; bytes = read_command (word_place which) })
     = own-slave s t i 0x0502 (read_command (word_place which)) number d u.configured.station_is l (own-datagram i (datagram_of (AskWord i which) number) d arrives) m in
     let w = wrote s (record { from = 0x0502; bytes = read_command (word_place which) }) (omega (arith, n6)) in
     word-found kind.device s t which (h.bless refl) h.sure h.spelled (ap (λ (x : SlaveState). x.sii) q ∙ w.sii)
@@ -182,7 +182,7 @@ next-word kind i which c number d s t l h arrives m =
 abbrev asked-window : State → Window
 asked-window to = record { from = 0x0120; bytes = state_number to ∷ 0 ∷ [] }
 
-asks-now : (s t : SlaveState) (to : State) → t ≡ slave_after s false true (asked-window to) → t.al.requested ≡ true
+asks-now : (s t : SlaveState) (to : State) → t ≡ physical_after s false true (asked-window to) → t.al.requested ≡ true
 asks-now s t to q =
     let w = wrote s (asked-window to) (omega arith) in
     ap (λ (x : SlaveState). x.al.requested) q ∙ ap (λ (x : Al). x.requested) (w.al ∙ if_true (touches (asked-window to) 0x0120) (requesting s.al) s.al refl)
@@ -205,7 +205,7 @@ next-state kind i to c number d s t l h arrives m stood =
     let u : IsUpAt i c s = up-of kind i c s h.stands in
     let v : IsUpAt i (record c { rise = climbing c.rise to }) t = up-of kind i (record c { rise = climbing c.rise to }) t stood in
     let can = h.fits.2 refl in
-    let q : t ≡ slave_after s false true (asked-window to)
+    let q : t ≡ physical_after s false true (asked-window to)
     = own-slave s t i 0x0120 (state_number to ∷ 0 ∷ []) number d u.configured.station_is l (own-datagram i (datagram_of (AskState i to) number) d arrives) m in
     let held = holds-of kind i (record c { rise = climbing c.rise to }) t can.0 stood.slave v in
     risen kind i c c.rise to t can.1 (h.bless refl) (record { slave = held.slave; settings = held.settings; unlocked = held.unlocked; outs = held.outs; ins = held.ins })
@@ -226,7 +226,7 @@ next-reply kind i counter b r c number d s t l h arrives m stood =
     let can = h.fits.2 refl in
     let z = h.bless refl in
     let silent : IsSilent c s = subst (λ (o : Option Talk). Talks i c o s) can.1 u.talks in
-    let q : t ≡ slave_after s false true (sending b counter r)
+    let q : t ≡ physical_after s false true (sending b counter r)
     = own-slave s t i b.receive_start (filled b.receive_size (request_bytes counter r)) number d u.configured.station_is l (own-datagram i (datagram_of (SendRequest i counter b r) number) d arrives) m in
     let w = delivered i counter c b r s h.stands.slave.four can.2 u silent.no_letter in
     let letter : (manager_at t.managers 0).mail ≡ Some (sending b counter r).bytes = ap (λ (x : SlaveState). (manager_at x.managers 0).mail) q ∙ w.letter in

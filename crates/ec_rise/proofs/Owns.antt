@@ -14,7 +14,7 @@ use Rattle.ec_al.specs.Al.{Al, requesting}
 use Rattle.ec_sii.specs.Port.{Sii, written}
 use Rattle.ec_slave.specs.Roles.{role_of, adp_after, is_reading, is_writing}
 use Rattle.ec_slave.specs.State.{SlaveState, Met as Meeting, manager_at, station_of, power_on}
-use Rattle.ec_slave.specs.Access.{Window, touches, meeting, slave_after}
+use Rattle.ec_slave.specs.Physical.{Window, touches, meeting, physical_after}
 use Rattle.ec_slave.specs.Meeting.{window_of, meets, meets_by, slave_met, datagram_met}
 use Rattle.ec_slave.proofs.Bystanders.{other_station_passes}
 use Rattle.ec_slave.specs.Checking.{control_word}
@@ -36,12 +36,12 @@ reads-none s d c e = ap (λ (x : Command). is_reading (role_of x (adp_of d) (sta
 writes-all : (s : SlaveState) (d : Datagram) → d.command ≡ Fpwr → adp_of d ≡ station_of s → is_writing (role_of d.command (adp_of d) (station_of s)) ≡ true
 writes-all s d c e = ap (λ (x : Command). is_writing (role_of x (adp_of d) (station_of s))) c ∙ ap is_writing (if_true _ _ _ (eq-eqb _ _ e))
 
-pub own-write : (s : SlaveState) (d : Datagram) → d.command ≡ Fpwr → adp_of d ≡ station_of s → slave_met s d ≡ slave_after s false true (window_of d)
+pub own-write : (s : SlaveState) (d : Datagram) → d.command ≡ Fpwr → adp_of d ≡ station_of s → slave_met s d ≡ physical_after s false true (window_of d)
 unfolding meets meeting
 own-write s d c e =
     ap (λ (x : Command). (meets_by x s d).slave) c
-    ∙ (ap (λ (b : Bool). slave_after s b (is_writing (role_of d.command (adp_of d) (station_of s))) (window_of d)) (reads-none s d c e)
-    ∙ ap (λ (b : Bool). slave_after s false b (window_of d)) (writes-all s d c e))
+    ∙ (ap (λ (b : Bool). physical_after s b (is_writing (role_of d.command (adp_of d) (station_of s))) (window_of d)) (reads-none s d c e)
+    ∙ ap (λ (b : Bool). physical_after s false b (window_of d)) (writes-all s d c e))
 
 -- a slave that is gone isn't met
 gone-passes : (i : ℕ) (s : SlaveState) (d : Datagram) → i < 64 → IsDatagram d → d.command ≡ Fpwr → adp_of d ≡ station i → s ≡ power_on s.kind s.identity
@@ -66,8 +66,8 @@ window-sent c adp ado bytes number = let e : (adp % 65536 + 65536 * ado) / 65536
 pub pass-own : (kind : SlaveKind) (i : ℕ) (c : Config) (trouble : Bool) (a : Action) (number : ℕ) (d : Datagram) (s : SlaveState) (w : Window)
     → (one : IsOne a i number) → i < 64 → one.e.command ≡ Fpwr → window_of one.e ≡ w → one.ado < 65536 → after i (Up c) a ≡ Up (told c a) → (MayRepeat a (datagram_met s d) → ⊥) → (IsOther a i → ⊥)
     → (IsTop c.rise → ⊥)
-    → (IsOfKind kind s → IsUpAt i c s → IsOfKind kind (slave_after s false true w))
-    → (IsOfKind kind s → IsUpAt i c s → IsUpAt i (told c a) (slave_after s false true w))
+    → (IsOfKind kind s → IsUpAt i c s → IsOfKind kind (physical_after s false true w))
+    → (IsOfKind kind s → IsUpAt i c s → IsUpAt i (told c a) (physical_after s false true w))
     → IsDatagram d → Arrives a number i d → Stands kind i (Up c) trouble s
     → Met kind i (Up c) trouble a (datagram_met s d) (slave_met s d) × Arrives a number (i + 1) (datagram_met s d)
 pass-own kind i c trouble a number d s w one l cm win ado aft never self low keeps up good arrives h =
@@ -87,7 +87,7 @@ pass-own kind i c trouble a number d s w one l cm win ado aft never self low kee
     stood : Stands kind i (Up c) trouble s → d ≡ one.e → d.command ≡ Fpwr → adp_of d ≡ station i → Stands kind i (Up (told c a)) trouble (slave_met s d)
     stood h e cmd adp = elim h.at [
       | inl r ↦
-          let q : slave_met s d ≡ slave_after s false true w = own-write s d cmd (adp ∙ sym r.configured.station_is) ∙ ap (λ (x : Window). slave_after s false true x) (ap window_of e ∙ win) in
+          let q : slave_met s d ≡ physical_after s false true w = own-write s d cmd (adp ∙ sym r.configured.station_is) ∙ ap (λ (x : Window). physical_after s false true x) (ap window_of e ∙ win) in
           subst (λ (t : SlaveState). Stands kind i (Up (told c a)) trouble t) (sym q) (record { slave = keeps h.slave r; at = inl (up h.slave r) })
       | inr (f, inl g) ↦
           subst (λ (x : Meeting). Stands kind i (Up (told c a)) trouble x.slave) (sym (gone-passes i s d l good cmd adp g)) (record { slave = h.slave; at = inr (f, inl g) })
@@ -175,6 +175,6 @@ pub pass-ask-state : (kind : SlaveKind) (i : ℕ) (c : Config) (trouble : Bool) 
 pass-ask-state kind i c trouble state number d s l can good arrives h =
     pass-own kind i c trouble (AskState i state) number d s (asking state) (one-ask-state i state number) l refl (window-sent Fpwr (station i) 0x0120 (state_number state ∷ 0 ∷ []) number) (omega arith)
     (if_true _ _ _ (eq-eqb i i refl)) (λ r. r) (λ o. o refl) (low-top c.rise state can.1)
-    (λ k u. slave-wrote kind (asking state) s (slave_after s false true (asking state)) (wrote s (asking state) (omega arith)) k)
-    (λ k u. ask-up i c state s (slave_after s false true (asking state)) (wrote s (asking state) (omega arith)) k.room k.four can.0 can.1 u)
+    (λ k u. slave-wrote kind (asking state) s (physical_after s false true (asking state)) (wrote s (asking state) (omega arith)) k)
+    (λ k u. ask-up i c state s (physical_after s false true (asking state)) (wrote s (asking state) (omega arith)) k.room k.four can.0 can.1 u)
     good arrives h

@@ -15,7 +15,7 @@ use Rattle.ec_al.specs.States.{state_number}
 use Rattle.ec_sii.specs.Port.{sii_byte}
 use Rattle.ec_slave.specs.Roles.{role_of, adp_after, is_reading, is_writing, is_joining}
 use Rattle.ec_slave.specs.State.{SlaveState, Met as Meeting, station_of, power_on}
-use Rattle.ec_slave.specs.Access.{Window, touches, meeting, slave_after, byte_at, register_byte, byte_read, retold, may_read_byte}
+use Rattle.ec_slave.specs.Physical.{Window, touches, meeting, physical_after, byte_at, register_byte, byte_read, retold, may_read_byte}
 use Rattle.ec_slave.specs.Meeting.{window_of, meets, meets_by, slave_met, datagram_met}
 use Rattle.ec_slave.proofs.Bystanders.{other_station_passes}
 use Rattle.ec_slave.proofs.Broadcast.{registers-idle}
@@ -38,12 +38,12 @@ writes-none s d c e = ap (λ (x : Command). is_writing (role_of x (adp_of d) (st
 joins-none : (s : SlaveState) (d : Datagram) → d.command ≡ Fprd → adp_of d ≡ station_of s → is_joining (role_of d.command (adp_of d) (station_of s)) ≡ false
 joins-none s d c e = ap (λ (x : Command). is_joining (role_of x (adp_of d) (station_of s))) c ∙ ap is_joining (if_true _ _ _ (eq-eqb _ _ e))
 
-pub read-slave : (s : SlaveState) (d : Datagram) → d.command ≡ Fprd → adp_of d ≡ station_of s → slave_met s d ≡ slave_after s true false (window_of d)
+pub read-slave : (s : SlaveState) (d : Datagram) → d.command ≡ Fprd → adp_of d ≡ station_of s → slave_met s d ≡ physical_after s true false (window_of d)
 unfolding meets meeting
 read-slave s d c e =
     ap (λ (x : Command). (meets_by x s d).slave) c
-    ∙ (ap (λ (b : Bool). slave_after s b (is_writing (role_of d.command (adp_of d) (station_of s))) (window_of d)) (reads s d c e)
-    ∙ ap (λ (b : Bool). slave_after s true b (window_of d)) (writes-none s d c e))
+    ∙ (ap (λ (b : Bool). physical_after s b (is_writing (role_of d.command (adp_of d) (station_of s))) (window_of d)) (reads s d c e)
+    ∙ ap (λ (b : Bool). physical_after s true b (window_of d)) (writes-none s d c e))
 
 pub read-bytes : (s : SlaveState) (d : Datagram) → d.command ≡ Fprd → adp_of d ≡ station_of s → (datagram_met s d).data_bytes ≡ retold d.data_bytes (byte_read s false (window_of d))
 unfolding meets meeting
@@ -96,7 +96,7 @@ pass-poll kind i c trouble a number d s w one l cm win ado registers aft self up
     (by h.at cmd adp at_w, one.arrived (i + 1) (datagram_met s d) (record { to_come = λ k. absurd (omega arith); gone_by = reads-on s d one.e u.gone_by cmd }))
   where
     stays : d.command ≡ Fprd → adp_of d ≡ station_of s → window_of d ≡ w → slave_met s d ≡ s
-    stays cmd e q = read-slave s d cmd e ∙ (ap (λ (x : Window). slave_after s true false x) q ∙ registers-idle s w registers)
+    stays cmd e q = read-slave s d cmd e ∙ (ap (λ (x : Window). physical_after s true false x) q ∙ registers-idle s w registers)
 
     by : Reached i (Up c) s ⊎ ((trouble ≡ true) × (IsGone (Up c) s ⊎ HadFault i (Up c) s)) → d.command ≡ Fprd → adp_of d ≡ station i → window_of d ≡ w → Met kind i (Up c) trouble a (datagram_met s d) (slave_met s d)
     by (inl r) cmd adp q =

@@ -18,7 +18,7 @@ use Rattle.ec_frame.specs.Datagram.{Datagram, IsDatagram, adp_of}
 use Rattle.ec_slave.specs.Roles.{role_of, is_writing}
 use Rattle.ec_slave.specs.State.{SlaveState, Met as Meeting, manager_at, station_of}
 use Rattle.ec_slave.specs.Managers.{reads_under, is_ungoverned, is_read_by}
-use Rattle.ec_slave.specs.Access.{Window, touches, slave_after, manager_met, managers_met, may_read_byte, some_byte_read, some_byte_written, byte_read, byte_at, ram_byte, retold, meeting}
+use Rattle.ec_slave.specs.Physical.{Window, touches, physical_after, physical_manager, physical_managers, may_read_byte, some_byte_read, some_byte_written, byte_read, byte_at, ram_byte, retold, meeting}
 use Rattle.ec_slave.specs.Meeting.{window_of, meets, meets_by, slave_met, datagram_met}
 use Rattle.ec_coe.specs.Messages.{message_read}
 use Rattle.ec_regs.specs.Fmmus.{fmmu_bytes}
@@ -165,36 +165,36 @@ readable b s k r h l e =
 
 -- ---- the managers after the read
 
-met-kept : (lower : List Manager) (w : Window) (n : ℕ) (m : Manager) → may_read m ≡ false → manager_met lower true false w n m ≡ m
-unfolding manager_met
+met-kept : (lower : List Manager) (w : Window) (n : ℕ) (m : Manager) → may_read m ≡ false → physical_manager lower true false w n m ≡ m
+unfolding physical_manager
 met-kept lower w n m e = if_false _ _ _ (and_left (may_read m) _ e)
 
-met-read : (lower : List Manager) (w : Window) (n : ℕ) (m : Manager) → is_read_by (touches w) (is_ungoverned lower) m ≡ true → manager_met lower true false w n m ≡ ring_read m
-unfolding manager_met
+met-read : (lower : List Manager) (w : Window) (n : ℕ) (m : Manager) → is_read_by (touches w) (is_ungoverned lower) m ≡ true → physical_manager lower true false w n m ≡ ring_read m
+unfolding physical_manager
 met-read lower w n m e = if_true _ _ _ e
 
 list4 : (a b c d x y z v : Manager) → a ≡ x → b ≡ y → c ≡ z → d ≡ v → a ∷ b ∷ c ∷ d ∷ [] ≡ x ∷ y ∷ z ∷ v ∷ []
 list4 a b c d x y z v p q r s =
     ap (λ (k : Manager). k ∷ b ∷ c ∷ d ∷ []) p ∙ (ap (λ (k : Manager). x ∷ k ∷ c ∷ d ∷ []) q ∙ (ap (λ (k : Manager). x ∷ y ∷ k ∷ d ∷ []) r ∙ ap (λ (k : Manager). x ∷ y ∷ z ∷ k ∷ []) s))
 
-managers-after : (b : Mailbox) (s : SlaveState) (x : Manager) → Boxes b s → manager_met (manager_at s.managers 0 ∷ []) true false (asking b) 1 (manager_at s.managers 1) ≡ x
-    → managers_met [] true false (asking b) 0 s.managers ≡ manager_at s.managers 0 ∷ x ∷ manager_at s.managers 2 ∷ manager_at s.managers 3 ∷ []
+managers-after : (b : Mailbox) (s : SlaveState) (x : Manager) → Boxes b s → physical_manager (manager_at s.managers 0 ∷ []) true false (asking b) 1 (manager_at s.managers 1) ≡ x
+    → physical_managers [] true false (asking b) 0 s.managers ≡ manager_at s.managers 0 ∷ x ∷ manager_at s.managers 2 ∷ manager_at s.managers 3 ∷ []
 managers-after b s x h e =
     let m0 = manager_at s.managers 0 in let m1 = manager_at s.managers 1 in let m2 = manager_at s.managers 2 in let m3 = manager_at s.managers 3 in
-    ap (λ (ms : List Manager). managers_met [] true false (asking b) 0 ms) (four-of s.managers h.four)
+    ap (λ (ms : List Manager). physical_managers [] true false (asking b) 0 ms) (four-of s.managers h.four)
     ∙ list4 _ _ _ _ _ _ _ _ (met-kept [] (asking b) 0 m0 h.first_read) e (met-kept (m0 ∷ m1 ∷ []) (asking b) 2 m2 h.third) (met-kept (m0 ∷ m1 ∷ m2 ∷ []) (asking b) 3 m3 h.fourth)
 
 -- nothing to read
-pub unread : (b : Mailbox) (s : SlaveState) → Boxes b s → may_read (manager_at s.managers 1) ≡ false → slave_after s true false (asking b) ≡ s
-unfolding slave_after
+pub unread : (b : Mailbox) (s : SlaveState) → Boxes b s → may_read (manager_at s.managers 1) ≡ false → physical_after s true false (asking b) ≡ s
+unfolding physical_after
 unread b s h e = ap (λ (ms : List Manager). record s { managers = ms }) (managers-after b s (manager_at s.managers 1) h (met-kept (manager_at s.managers 0 ∷ []) (asking b) 1 (manager_at s.managers 1) e) ∙ sym (four-of s.managers h.four))
 
 -- the reply is read, and the mailbox empty
 abbrev pub emptied : SlaveState → SlaveState
 emptied s = record s { managers = manager_at s.managers 0 ∷ record (manager_at s.managers 1) { mail = None } ∷ manager_at s.managers 2 ∷ manager_at s.managers 3 ∷ [] }
 
-pub read-out : (b : Mailbox) (s : SlaveState) → Boxes b s → may_read (manager_at s.managers 1) ≡ true → slave_after s true false (asking b) ≡ emptied s
-unfolding slave_after
+pub read-out : (b : Mailbox) (s : SlaveState) → Boxes b s → may_read (manager_at s.managers 1) ≡ true → physical_after s true false (asking b) ≡ emptied s
+unfolding physical_after
 read-out b s h e = ap (λ (ms : List Manager). record s { managers = ms }) (managers-after b s (record (manager_at s.managers 1) { mail = None }) h
     (met-read (manager_at s.managers 0 ∷ []) (asking b) 1 (manager_at s.managers 1) (and_from _ _ e (and_from _ _ (covered b s h) (own-byte b s h))) ∙ if_true _ _ _ h.box))
 
@@ -313,7 +313,7 @@ pass-await-reply kind i b r c trouble number d s l can good arrives h =
 
     read : Found i b r c s → Boxes b s → IsUpAt i c s → d.command ≡ Fprd → adp_of d ≡ station_of s → window_of d ≡ asking b → d.counter ≡ 0 → Met kind i (Up c) trouble (AwaitReply i b r) (datagram_met s d) (slave_met s d)
     read (Nothing empty) bx u cmd e w z =
-        let same : slave_met s d ≡ s = read-slave s d cmd e ∙ (ap (λ (x : Window). slave_after s true false x) w ∙ unread b s bx empty) in
+        let same : slave_met s d ≡ s = read-slave s d cmd e ∙ (ap (λ (x : Window). physical_after s true false x) w ∙ unread b s bx empty) in
         let sum : (datagram_met s d).counter ≡ 0 = read-counter s d cmd e ∙ (ap (λ (x : Window). (d.counter + (from_bool (some_byte_read s.managers x) + 2 * 0)) % 65536) w
         ∙ (ap (λ (x : Bool). (d.counter + (from_bool x + 2 * 0)) % 65536) (some-read b s false bx empty) ∙ ap (λ (x : ℕ). (x + (from_bool false + 2 * 0)) % 65536) z)) in
         record {
@@ -322,7 +322,7 @@ pass-await-reply kind i b r c trouble number d s l can good arrives h =
           ended = λ m. absurd (let x = m.0 in omega (arith, x, sum));
         }
     read (Letter raw mail whole full none done) bx u cmd e w z =
-        let new : slave_met s d ≡ emptied s = read-slave s d cmd e ∙ (ap (λ (x : Window). slave_after s true false x) w ∙ read-out b s bx full) in
+        let new : slave_met s d ≡ emptied s = read-slave s d cmd e ∙ (ap (λ (x : Window). physical_after s true false x) w ∙ read-out b s bx full) in
         let sum : (datagram_met s d).counter ≡ 1 = read-counter s d cmd e ∙ (ap (λ (x : Window). (d.counter + (from_bool (some_byte_read s.managers x) + 2 * 0)) % 65536) w
         ∙ (ap (λ (x : Bool). (d.counter + (from_bool x + 2 * 0)) % 65536) (some-read b s true bx full) ∙ ap (λ (x : ℕ). (x + (from_bool true + 2 * 0)) % 65536) z)) in
         let bytes : (datagram_met s d).data_bytes ≡ raw = read-bytes s d cmd e ∙ (ap (λ (x : Window). retold x.bytes (byte_read s false x)) w ∙ raw-read b s raw bx mail whole full) in

@@ -16,7 +16,7 @@ use Rattle.ec_sync.specs.Manager.{Manager, may_write, is_enabled, message_in as 
 use Rattle.ec_sync.specs.Governing.{governor, covers, in_first_buffer}
 use Rattle.ec_slave.specs.State.{SlaveState, station_of, manager_at}
 use Rattle.ec_slave.specs.Managers.{writes_under}
-use Rattle.ec_slave.specs.Access.{touches, may_write_byte}
+use Rattle.ec_slave.specs.Physical.{touches, may_write_byte}
 use Rattle.ec_slave.specs.Meeting.{datagram_met}
 use Rattle.ec_coe.specs.declared.message.Message.{Message}
 use Rattle.ec_coe.specs.declared.value.Size.{Size}

@@ -17,7 +17,7 @@ use Rattle.ec_al.specs.Al.{Al}
 use Rattle.ec_slave.specs.State.{SlaveState, manager_at}
 use Rattle.ec_coe.specs.Objects.{Assignment, all_assigned}
 use Rattle.ec_slave.specs.Managers.{is_ungoverned, is_written_by}
-use Rattle.ec_slave.specs.Access.{Window, touches, byte_from, retold_from, is_configured, value_for, manager_met, managers_met, slave_after}
+use Rattle.ec_slave.specs.Physical.{Window, touches, byte_from, retold_from, is_configured, physical_value, physical_manager, physical_managers, physical_after}
 use Rattle.ec_slave.specs.Meeting.{slave_met, datagram_met}
 use Rattle.ec_slave.proofs.Bytes.{writes_by_byte}
 use Rattle.ec_slave.proofs.Windows.{from-inside}
@@ -49,7 +49,7 @@ retold-all k (x ∷ xs) (y ∷ ys) f e h =
     ∙ ap (λ (zs : List ℕ). y ∷ zs) (retold-all (k + 1) xs ys f (omega (arith, e)) (λ i l. let q : k + 1 + i ≡ k + suc i = omega arith in ap f q ∙ h (suc i) (omega (arith, l))))
 
 -- the whole value of a manager that no lower one reaches into
-pub whole-value : (w : Window) → value_for [] w w.from (length w.bytes) ≡ w.bytes
+pub whole-value : (w : Window) → physical_value [] w w.from (length w.bytes) ≡ w.bytes
 whole-value w = retold-all 0 (zeros (length w.bytes)) w.bytes _ (length-replicate {A = ℕ} (length w.bytes) 0) (λ i l. let z : 0 + i ≡ i = omega arith in ap (λ (k : ℕ). byte_from w (w.from + k)) z ∙ from-inside w i l)
 
 -- ---- one manager
@@ -68,12 +68,12 @@ unfolding is_set
 none-set m e = ap is_set e
 
 -- a manager that may not be written stays
-pub met-stays : (lower : List Manager) (w : Window) (n : ℕ) (m : Manager) → is_configured w n ≡ false → may_write m ≡ false → manager_met lower false true w n m ≡ m
-unfolding manager_met
+pub met-stays : (lower : List Manager) (w : Window) (n : ℕ) (m : Manager) → is_configured w n ≡ false → may_write m ≡ false → physical_manager lower false true w n m ≡ m
+unfolding physical_manager
 met-stays lower w n m u e = if_false _ _ _ u ∙ if_false _ _ _ (and_left (may_write m) _ e)
 
-met-written : (lower : List Manager) (w : Window) (n : ℕ) (m : Manager) → is_configured w n ≡ false → is_written_by (touches w) (is_ungoverned lower) m ≡ true → manager_met lower false true w n m ≡ ring_written m (value_for lower w m.settings.start m.settings.length)
-unfolding manager_met
+met-written : (lower : List Manager) (w : Window) (n : ℕ) (m : Manager) → is_configured w n ≡ false → is_written_by (touches w) (is_ungoverned lower) m ≡ true → physical_manager lower false true w n m ≡ ring_written m (physical_value lower w m.settings.start m.settings.length)
+unfolding physical_manager
 met-written lower w n m u e = if_false _ _ _ u ∙ if_true _ _ _ e
 
 -- ---- four managers
@@ -112,7 +112,7 @@ set-lies m h =
 
 -- the four managers after the request was written
 pub sent-managers : (i counter : ℕ) (c : Config) (b : Mailbox) (r : Request) (s : SlaveState) → length s.managers ≡ 4 → AreMailboxes b c.managers → IsUpAt i c s → (manager_at s.managers 0).mail ≡ None
-    → managers_met [] false true (sending b counter r) 0 s.managers
+    → physical_managers [] false true (sending b counter r) 0 s.managers
     ≡ record (manager_at s.managers 0) { mail = Some (sending b counter r).bytes } ∷ manager_at s.managers 1 ∷ manager_at s.managers 2 ∷ manager_at s.managers 3 ∷ []
 sent-managers i counter c b r s four h u none =
     let w : Window = sending b counter r in
@@ -133,14 +133,14 @@ sent-managers i counter c b r s four h u none =
     let touched : touches (sending b counter r) (m0.settings.start + 0) ≡ true = within_true b.receive_start (length (sending b counter r).bytes) (m0.settings.start + 0) (omega (arith, start)) (omega (arith, start, long, some)) in
     let own : any_below m0.settings.length (λ k. touches (sending b counter r) (m0.settings.start + k) && is_ungoverned [] (m0.settings.start + k)) ≡ true
     = any_below_from m0.settings.length (λ k. touches (sending b counter r) (m0.settings.start + k) && is_ungoverned [] (m0.settings.start + k)) 0 (omega (arith, len, some)) (and_from _ _ touched refl) in
-    let value : value_for [] (sending b counter r) m0.settings.start m0.settings.length ≡ (sending b counter r).bytes
-    = ap (λ (x : ℕ). value_for [] (sending b counter r) x m0.settings.length) start ∙ (ap (λ (x : ℕ). value_for [] (sending b counter r) b.receive_start x) (len ∙ sym long) ∙ whole-value (sending b counter r)) in
-    let first : manager_met [] false true (sending b counter r) 0 m0 ≡ record m0 { mail = Some (sending b counter r).bytes }
+    let value : physical_value [] (sending b counter r) m0.settings.start m0.settings.length ≡ (sending b counter r).bytes
+    = ap (λ (x : ℕ). physical_value [] (sending b counter r) x m0.settings.length) start ∙ (ap (λ (x : ℕ). physical_value [] (sending b counter r) b.receive_start x) (len ∙ sym long) ∙ whole-value (sending b counter r)) in
+    let first : physical_manager [] false true (sending b counter r) 0 m0 ≡ record m0 { mail = Some (sending b counter r).bytes }
     = met-written [] (sending b counter r) 0 m0 (free 0 (omega arith)) (and_from _ _ may (and_from _ _ cov own)) ∙ (ap (ring_written m0) value ∙ if_true _ _ _ box) in
     let no1 : may_write m1 ≡ false = and_right (is_enabled m1) _ (and_left _ _ (written-not-read m1.settings (ap is_ring_read e1 ∙ h.send_read))) in
     let no2 : may_write m2 ≡ false = unset-write m2 (none-set m2.settings (e2 ∙ h.no_outputs)) in
     let no3 : may_write m3 ≡ false = unset-write m3 (none-set m3.settings (e3 ∙ h.no_inputs)) in
-    ap (λ (ms : List Manager). managers_met [] false true (sending b counter r) 0 ms) (four-of s.managers four)
+    ap (λ (ms : List Manager). physical_managers [] false true (sending b counter r) 0 ms) (four-of s.managers four)
     ∙ list4 _ _ _ _ _ _ _ _ first (met-stays (m0 ∷ []) (sending b counter r) 1 m1 (free 1 (omega arith)) no1)
     (met-stays (m0 ∷ m1 ∷ []) (sending b counter r) 2 m2 (free 2 (omega arith)) no2)
     (met-stays (m0 ∷ m1 ∷ m2 ∷ []) (sending b counter r) 3 m3 (free 3 (omega arith)) no3)
@@ -191,8 +191,8 @@ letter-mail ms x (suc (suc (suc zero))) a l = refl
 letter-mail ms x (suc (suc (suc (suc n)))) a l = absurd (omega (arith, l))
 
 pub delivered : (i counter : ℕ) (c : Config) (b : Mailbox) (r : Request) (s : SlaveState) → length s.managers ≡ 4 → AreMailboxes b c.managers → IsUpAt i c s → (manager_at s.managers 0).mail ≡ None
-    → Delivered b counter r s (slave_after s false true (sending b counter r))
-unfolding slave_after
+    → Delivered b counter r s (physical_after s false true (sending b counter r))
+unfolding physical_after
 delivered i counter c b r s four h u none =
     let w : Window = sending b counter r in
     let x : List ℕ = (sending b counter r).bytes in
@@ -269,6 +269,6 @@ pass-send kind i counter b r c trouble number d s l can good arrives h =
     pass-own kind i c trouble (SendRequest i counter b r) number d s (sending b counter r) (one-send i counter b r number) l refl
     (window-sent Fpwr (station i) b.receive_start (filled b.receive_size (request_bytes counter r)) number) (let a = lies.1 in omega (arith, a, rs))
     (if_true _ _ _ (eq-eqb i i refl)) (λ o. o) (λ o. o refl) (low-top c.rise low)
-    (λ k u. delivered-slave kind b counter r s (slave_after s false true (sending b counter r)) (delivered i counter c b r s k.four boxes u (silent u).no_letter) k)
-    (λ k u. delivered-up i counter c b r s (slave_after s false true (sending b counter r)) k.room none boxes q (low-top c.rise low) (delivered i counter c b r s k.four boxes u (silent u).no_letter) u)
+    (λ k u. delivered-slave kind b counter r s (physical_after s false true (sending b counter r)) (delivered i counter c b r s k.four boxes u (silent u).no_letter) k)
+    (λ k u. delivered-up i counter c b r s (physical_after s false true (sending b counter r)) k.room none boxes q (low-top c.rise low) (delivered i counter c b r s k.four boxes u (silent u).no_letter) u)
     good arrives h

@@ -16,7 +16,7 @@ use Rattle.ec_al.specs.declared.state.State.TheVariants.{Init, PreOp, SafeOp, Op
 use Rattle.ec_sii.specs.Port.{Sii, written, byte_for, commanded, addressed, address_written}
 use Rattle.ec_sii.specs.Laws.{read_command}
 use Rattle.ec_slave.specs.State.{SlaveState, manager_at, station_of}
-use Rattle.ec_slave.specs.Access.{Window, slave_after, is_configured, settings_written}
+use Rattle.ec_slave.specs.Physical.{Window, physical_after, is_configured, settings_written}
 use Rattle.ec_slave.specs.Meeting.{slave_met, datagram_met}
 use Rattle.ec_start.specs.Plans.{settings_at, fmmu_at}
 use Rattle.ec_start.specs.declared.action.Action.TheVariants.{AskWord, SetManager, SetFmmu}
@@ -143,14 +143,14 @@ pub pass-ask-word : (kind : SlaveKind) (i which : ℕ) (c : Config) (trouble : B
 pass-ask-word kind i which c trouble number d s l can good arrives h =
     let w : Window = reading which in
     let n6 : length (reading which).bytes ≡ 6 = six which in
-    let t : SlaveState = slave_after s false true (reading which) in
+    let t : SlaveState = physical_after s false true (reading which) in
     let inside : 0x0502 + length (reading which).bytes ≤ ram_start = omega (arith, n6) in
-    let k : Wrote (reading which) s (slave_after s false true (reading which)) = wrote s (reading which) inside in
+    let k : Wrote (reading which) s (physical_after s false true (reading which)) = wrote s (reading which) inside in
     pass-own kind i c trouble (AskWord i which) number d s (reading which) (one-ask-word i which number) l refl (window-sent Fpwr (station i) 0x0502 (read_command (word_place which)) number) (omega arith)
     (if_true _ _ _ (eq-eqb i i refl)) (λ r. r) (λ o. o refl) (low-top c.rise can.0)
-    (λ q u. slave-wrote kind (reading which) s (slave_after s false true (reading which)) k q)
-    (λ q u. set-up i c (record c { idle = false }) s (slave_after s false true (reading which)) (reading which) (record { from = omega arith; registers = inside }) k q.room q.four can.1 can.1 refl refl refl
-    (λ n b. same-settings c i (reading which) s (slave_after s false true (reading which)) n k q.four b (unconfigured (reading which) n (inl (omega (arith, n6)))) u.configured)
+    (λ q u. slave-wrote kind (reading which) s (physical_after s false true (reading which)) k q)
+    (λ q u. set-up i c (record c { idle = false }) s (physical_after s false true (reading which)) (reading which) (record { from = omega arith; registers = inside }) k q.room q.four can.1 can.1 refl refl refl
+    (λ n b. same-settings c i (reading which) s (physical_after s false true (reading which)) n k q.four b (unconfigured (reading which) n (inl (omega (arith, n6)))) u.configured)
     (λ n b x y. k.untouched (0x0600 + 16 * n + b) (let f = q.room in omega (arith, f, x, y)) (within_above 0x0502 (length (reading which).bytes) (0x0600 + 16 * n + b) (omega (arith, n6))) ∙ u.configured.fmmus n b x y)
     (λ e. absurd (both_ways false refl e)) u)
     good arrives h
@@ -190,13 +190,13 @@ pub pass-set-fmmu : (kind : SlaveKind) (i n : ℕ) (f : FmmuSettings) (c : Confi
 pass-set-fmmu kind i n f c trouble number d s l can good arrives h =
     let low = can.0 in let there = can.1 in let four = can.2 in let none = can.3 in
     let b4 : n < 4 = omega (arith, there, four) in
-    let k : Wrote (mapping n f) s (slave_after s false true (mapping n f)) = wrote s (mapping n f) (omega (arith, b4)) in
+    let k : Wrote (mapping n f) s (physical_after s false true (mapping n f)) = wrote s (mapping n f) (omega (arith, b4)) in
     pass-own kind i c trouble (SetFmmu i n f) number d s (mapping n f) (one-set-fmmu i n f number) l refl (window-sent Fpwr (station i) (0x0600 + 16 * n) (fmmu_bytes f) number) (omega (arith, b4))
     (if_true _ _ _ (eq-eqb i i refl)) (λ r. r) (λ o. o refl) (low-top c.rise low)
-    (λ q u. slave-wrote kind (mapping n f) s (slave_after s false true (mapping n f)) k q)
-    (λ q u. set-up i c (record c { fmmus = set c.fmmus n f }) s (slave_after s false true (mapping n f)) (mapping n f) (record { from = omega arith; registers = omega (arith, b4) }) k q.room q.four none none refl refl refl
-    (λ j x. same-settings c i (mapping n f) s (slave_after s false true (mapping n f)) j k q.four x (unconfigured (mapping n f) j (inl (omega (arith, b4)))) u.configured)
-    (set-fmmus n f c i s (slave_after s false true (mapping n f)) k q.room b4 there u.configured)
+    (λ q u. slave-wrote kind (mapping n f) s (physical_after s false true (mapping n f)) k q)
+    (λ q u. set-up i c (record c { fmmus = set c.fmmus n f }) s (physical_after s false true (mapping n f)) (mapping n f) (record { from = omega arith; registers = omega (arith, b4) }) k q.room q.four none none refl refl refl
+    (λ j x. same-settings c i (mapping n f) s (physical_after s false true (mapping n f)) j k q.four x (unconfigured (mapping n f) j (inl (omega (arith, b4)))) u.configured)
+    (set-fmmus n f c i s (physical_after s false true (mapping n f)) k q.room b4 there u.configured)
     (λ e. ap (λ (p : Sii). p.busy) k.sii ∙ (aside-busy (mapping n f) s.sii (omega arith) ∙ u.configured.idle e)) u)
     good arrives h
 
@@ -237,12 +237,12 @@ pub pass-set-manager : (kind : SlaveKind) (i n : ℕ) (m : ManagerSettings) (c :
 pass-set-manager kind i n m c trouble number d s l can good arrives h =
     let low = can.0 in let there = can.1 in let four = can.2 in let none = can.3 in
     let b4 : n < 4 = omega (arith, there, four) in
-    let k : Wrote (managing n m) s (slave_after s false true (managing n m)) = wrote s (managing n m) (omega (arith, b4)) in
+    let k : Wrote (managing n m) s (physical_after s false true (managing n m)) = wrote s (managing n m) (omega (arith, b4)) in
     pass-own kind i c trouble (SetManager i n m) number d s (managing n m) (one-set-manager i n m number) l refl (window-sent Fpwr (station i) (0x0800 + 8 * n) (manager_bytes m) number) (omega (arith, b4))
     (if_true _ _ _ (eq-eqb i i refl)) (λ r. r) (λ o. o refl) (low-top c.rise low)
-    (λ q u. slave-wrote kind (managing n m) s (slave_after s false true (managing n m)) k q)
-    (λ q u. set-up i c (record c { managers = set c.managers n m }) s (slave_after s false true (managing n m)) (managing n m) (record { from = omega arith; registers = omega (arith, b4) }) k q.room q.four none none refl refl refl
-    (set-managers n m c i s (slave_after s false true (managing n m)) k q.four b4 there u.configured)
+    (λ q u. slave-wrote kind (managing n m) s (physical_after s false true (managing n m)) k q)
+    (λ q u. set-up i c (record c { managers = set c.managers n m }) s (physical_after s false true (managing n m)) (managing n m) (record { from = omega arith; registers = omega (arith, b4) }) k q.room q.four none none refl refl refl
+    (set-managers n m c i s (physical_after s false true (managing n m)) k q.four b4 there u.configured)
     (λ j b x y. k.untouched (0x0600 + 16 * j + b) (let f = q.room in omega (arith, f, x, y)) (within_below (0x0800 + 8 * n) 8 (0x0600 + 16 * j + b) (omega (arith, x, y))) ∙ u.configured.fmmus j b x y)
     (λ e. ap (λ (p : Sii). p.busy) k.sii ∙ (aside-busy (managing n m) s.sii (omega arith) ∙ u.configured.idle e)) u)
     good arrives h

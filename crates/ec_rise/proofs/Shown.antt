@@ -17,7 +17,7 @@ use Rattle.ec_al.specs.States.{state_number}
 use Rattle.ec_sii.specs.Port.{sii_byte}
 use Rattle.ec_sync.specs.Manager.{may_read}
 use Rattle.ec_slave.specs.State.{SlaveState, station_of, manager_at}
-use Rattle.ec_slave.specs.Access.{Window, byte_at, register_byte, byte_read, retold, some_byte_read}
+use Rattle.ec_slave.specs.Physical.{Window, byte_at, register_byte, byte_read, retold, some_byte_read}
 use Rattle.ec_slave.specs.Meeting.{window_of, datagram_met}
 use Rattle.ec_coe.specs.Messages.{message_read}
 use Rattle.ec_start.specs.declared.action.Action.TheVariants.{AwaitWord, AwaitState, AwaitReply}

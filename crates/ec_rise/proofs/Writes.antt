@@ -13,7 +13,7 @@ use Rattle.ec_al.specs.Al.{Al, requesting}
 use Rattle.ec_sii.specs.Port.{written}
 use Rattle.ec_slave.specs.State.{SlaveState, manager_at}
 use Rattle.ec_coe.specs.Objects.{Assignment, all_assigned}
-use Rattle.ec_slave.specs.Access.{Window, touches, is_kept, setting_for, is_configured, settings_written, manager_met, managers_met, slave_after}
+use Rattle.ec_slave.specs.Physical.{Window, touches, is_kept, setting_for, is_configured, settings_written, physical_manager, physical_managers, physical_after}
 use Rattle.ec_slave.proofs.Bytes.{writes_by_byte}
 use Rattle.ec_slave.proofs.Broadcast.{set-start}
 use Rattle.ec_slave.proofs.Windows.{from-outside}
@@ -32,19 +32,19 @@ registers-uncovered w own m l = elim (cases_Bool (is_set m.settings)) [
 abbrev pub set_by : Window → ℕ → Manager → Manager
 set_by w n m = if is_configured w n then empty_manager (settings_written w n m) m.locked else m
 
-one-set : (lower : List Manager) (w : Window) (n : ℕ) (m : Manager) → w.from + length w.bytes ≤ ram_start → manager_met lower false true w n m ≡ set_by w n m
-unfolding manager_met
+one-set : (lower : List Manager) (w : Window) (n : ℕ) (m : Manager) → w.from + length w.bytes ≤ ram_start → physical_manager lower false true w n m ≡ set_by w n m
+unfolding physical_manager
 one-set lower w n m l = ap (λ (x : Manager). if is_configured w n then empty_manager (settings_written w n m) m.locked else x) (if_false _ _ _ (registers-uncovered w (is_ungoverned lower) m l))
 
 pub set-at : (lower ms : List Manager) (w : Window) (n k : ℕ) → w.from + length w.bytes ≤ ram_start → k < length ms
-    → manager_at (managers_met lower false true w n ms) k ≡ set_by w (n + k) (manager_at ms k)
+    → manager_at (physical_managers lower false true w n ms) k ≡ set_by w (n + k) (manager_at ms k)
 set-at lower [] w n k l b = absurd (omega arith)
 set-at lower (m ∷ ms) w n zero l b = let e : n + 0 ≡ n = omega arith in one-set lower w n m l ∙ ap (λ (j : ℕ). set_by w j m) (sym e)
 set-at lower (m ∷ ms) w n (suc k) l b =
     let e : n + 1 + k ≡ n + suc k = omega arith in
     set-at (lower ++ m ∷ []) ms w (n + 1) k l (omega arith) ∙ ap (λ (j : ℕ). set_by w j (manager_at ms k)) e
 
-pub length-met : (lower ms : List Manager) (reads writes : Bool) (w : Window) (n : ℕ) → length (managers_met lower reads writes w n ms) ≡ length ms
+pub length-met : (lower ms : List Manager) (reads writes : Bool) (w : Window) (n : ℕ) → length (physical_managers lower reads writes w n ms) ≡ length ms
 length-met lower [] reads writes w n = refl
 length-met lower (m ∷ ms) reads writes w n = ap (λ (k : ℕ). suc k) (length-met (lower ++ m ∷ []) ms reads writes w (n + 1))
 
@@ -74,8 +74,8 @@ pub record Wrote (w : Window) (s t : SlaveState) : Type 0 where
   pub outs : t.outs ≡ s.outs
   pub ins : t.ins ≡ s.ins
 
-pub wrote : (s : SlaveState) (w : Window) → w.from + length w.bytes ≤ ram_start → Wrote w s (slave_after s false true w)
-unfolding slave_after
+pub wrote : (s : SlaveState) (w : Window) → w.from + length w.bytes ≤ ram_start → Wrote w s (physical_after s false true w)
+unfolding physical_after
 wrote s w l = record {
   kind = refl;
   room = (writes_by_byte s.managers w s.memory).0;

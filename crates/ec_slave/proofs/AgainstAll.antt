@@ -12,8 +12,8 @@ use Rattle.ec_sync.specs.Manager.{Manager, empty_manager, may_read, may_write, i
 use Rattle.ec_sync.specs.Governing.{governor, governs, covers}
 use Rattle.ec_fmmu.specs.Applied.{Place, touched_by_reading, touched_by_writing}
 use Rattle.ec_slave.specs.Managers.{gets_at, is_read_by, is_ungoverned, is_written_by, manager_after}
-use Rattle.ec_slave.specs.Access.{Window, touches, byte_from, retold_from, is_configured, settings_written, value_for, manager_met, managers_met}
-use Rattle.ec_slave.specs.Logical.{brought, value_brought, managers_exchanged}
+use Rattle.ec_slave.specs.Physical.{Window, touches, byte_from, retold_from, is_configured, settings_written, physical_value, physical_manager, physical_managers}
+use Rattle.ec_slave.specs.Logical.{brought, logical_value, logical_managers}
 use Rattle.ec_slave.specs.AgainstAll.{is_governor, governs_among, each_from, value_among, bits_among, PhysicalAgainstAll, LogicalAgainstAll}
 
 abbrev or_after : Option ℕ → Option ℕ → Option ℕ
@@ -124,16 +124,16 @@ owned-among : (lower : List Manager) (m : Manager) (ms : List Manager) → is_se
     → is_ungoverned lower (m.settings.start + k) ≡ governs_among (lower ++ m ∷ ms) (length lower) (m.settings.start + k)
 owned-among lower m ms s k l = own_among lower m ms (m.settings.start + k) (governs-value m k s l)
 
-value_for-among : (lower : List Manager) (m : Manager) (ms : List Manager) (w : Window) → is_set m.settings ≡ true
-    → value_for lower w m.settings.start m.settings.length ≡ value_among (lower ++ m ∷ ms) w (length lower) m.settings.start m.settings.length
-value_for-among lower m ms w h =
+physical_value-among : (lower : List Manager) (m : Manager) (ms : List Manager) (w : Window) → is_set m.settings ≡ true
+    → physical_value lower w m.settings.start m.settings.length ≡ value_among (lower ++ m ∷ ms) w (length lower) m.settings.start m.settings.length
+physical_value-among lower m ms w h =
     retold_alike 0 (zeros m.settings.length) _ _ (λ k l.
     let z : k < m.settings.length = let e = length-replicate {A = ℕ} m.settings.length 0 in omega (arith, e) in
     told_among lower m ms (m.settings.start + k) (byte_from w (m.settings.start + k)) (governs-value m k h z))
 
-value_brought-among : (lower : List Manager) (m : Manager) (ms : List Manager) (fs : List FmmuSettings) (p : Place) (bytes : List ℕ) → is_set m.settings ≡ true
-    → value_brought lower fs p bytes m.settings.start m.settings.length ≡ bits_among (lower ++ m ∷ ms) fs p bytes (length lower) m.settings.start m.settings.length
-value_brought-among lower m ms fs p bytes h =
+logical_value-among : (lower : List Manager) (m : Manager) (ms : List Manager) (fs : List FmmuSettings) (p : Place) (bytes : List ℕ) → is_set m.settings ≡ true
+    → logical_value lower fs p bytes m.settings.start m.settings.length ≡ bits_among (lower ++ m ∷ ms) fs p bytes (length lower) m.settings.start m.settings.length
+logical_value-among lower m ms fs p bytes h =
     overlay_alike (zeros m.settings.length) _ _ (λ k l. ap (λ o. unwrap_or o (bit (zeros m.settings.length) k))
     (let z : k < 8 * m.settings.length = let e = length-replicate {A = ℕ} m.settings.length 0 in omega (arith, e) in
     let at : m.settings.start + k / 8 ≡ (8 * m.settings.start + k) / 8 = omega arith in
@@ -146,21 +146,21 @@ physical_by all reads writes w n m =
     else manager_after reads writes (touches w) (touches w) (governs_among all n) (value_among all w n) m
 
 physical_from : (lower ms : List Manager) (reads writes : Bool) (w : Window)
-    → managers_met lower reads writes w (length lower) ms ≡ each_from (length lower) (physical_by (lower ++ ms) reads writes w) ms
-unfolding manager_met
+    → physical_managers lower reads writes w (length lower) ms ≡ each_from (length lower) (physical_by (lower ++ ms) reads writes w) ms
+unfolding physical_manager
 physical_from lower [] reads writes w = refl
 physical_from lower (m ∷ ms) reads writes w =
-    let one : manager_met lower reads writes w (length lower) m ≡ physical_by (lower ++ m ∷ ms) reads writes w (length lower) m
+    let one : physical_manager lower reads writes w (length lower) m ≡ physical_by (lower ++ m ∷ ms) reads writes w (length lower) m
     = ap (λ x. if writes && is_configured w (length lower) then empty_manager (settings_written w (length lower) m) m.locked else x)
-    (after_alike reads writes (touches w) (touches w) (is_ungoverned lower) (governs_among (lower ++ m ∷ ms) (length lower)) (value_for lower w) (value_among (lower ++ m ∷ ms) w (length lower)) m (owned-among lower m ms) (value_for-among lower m ms w)) in
+    (after_alike reads writes (touches w) (touches w) (is_ungoverned lower) (governs_among (lower ++ m ∷ ms) (length lower)) (physical_value lower w) (value_among (lower ++ m ∷ ms) w (length lower)) m (owned-among lower m ms) (physical_value-among lower m ms w)) in
     let next : length (lower ++ m ∷ []) ≡ length lower + 1 = length-append lower (m ∷ []) in
     let all : (lower ++ m ∷ []) ++ ms ≡ lower ++ m ∷ ms = append_assoc lower (m ∷ []) ms in
-    let rest : managers_met (lower ++ m ∷ []) reads writes w (length lower + 1) ms ≡ each_from (length lower + 1) (physical_by (lower ++ m ∷ ms) reads writes w) ms
-    = ap (λ k. managers_met (lower ++ m ∷ []) reads writes w k ms) (sym next)
+    let rest : physical_managers (lower ++ m ∷ []) reads writes w (length lower + 1) ms ≡ each_from (length lower + 1) (physical_by (lower ++ m ∷ ms) reads writes w) ms
+    = ap (λ k. physical_managers (lower ++ m ∷ []) reads writes w k ms) (sym next)
     ∙ (physical_from (lower ++ m ∷ []) ms reads writes w
     ∙ (ap (λ k. each_from k (physical_by ((lower ++ m ∷ []) ++ ms) reads writes w) ms) next
     ∙ ap (λ xs. each_from (length lower + 1) (physical_by xs reads writes w) ms) all)) in
-    ap (λ x. x ∷ managers_met (lower ++ m ∷ []) reads writes w (length lower + 1) ms) one
+    ap (λ x. x ∷ physical_managers (lower ++ m ∷ []) reads writes w (length lower + 1) ms) one
     ∙ ap (λ xs. physical_by (lower ++ m ∷ ms) reads writes w (length lower) m ∷ xs) rest
 
 pub physical_against_all : PhysicalAgainstAll
@@ -171,18 +171,18 @@ logical_by all reading writing fs p bytes n m =
     manager_after reading writing (touched_by_reading fs p) (touched_by_writing fs p) (governs_among all n) (bits_among all fs p bytes n) m
 
 logical_from : (lower ms : List Manager) (reading writing : Bool) (fs : List FmmuSettings) (p : Place) (bytes : List ℕ)
-    → managers_exchanged lower reading writing fs p bytes ms ≡ each_from (length lower) (logical_by (lower ++ ms) reading writing fs p bytes) ms
+    → logical_managers lower reading writing fs p bytes ms ≡ each_from (length lower) (logical_by (lower ++ ms) reading writing fs p bytes) ms
 logical_from lower [] reading writing fs p bytes = refl
 logical_from lower (m ∷ ms) reading writing fs p bytes =
-    let one : manager_after reading writing (touched_by_reading fs p) (touched_by_writing fs p) (is_ungoverned lower) (value_brought lower fs p bytes) m ≡ logical_by (lower ++ m ∷ ms) reading writing fs p bytes (length lower) m
-    = after_alike reading writing (touched_by_reading fs p) (touched_by_writing fs p) (is_ungoverned lower) (governs_among (lower ++ m ∷ ms) (length lower)) (value_brought lower fs p bytes) (bits_among (lower ++ m ∷ ms) fs p bytes (length lower)) m (owned-among lower m ms) (value_brought-among lower m ms fs p bytes) in
+    let one : manager_after reading writing (touched_by_reading fs p) (touched_by_writing fs p) (is_ungoverned lower) (logical_value lower fs p bytes) m ≡ logical_by (lower ++ m ∷ ms) reading writing fs p bytes (length lower) m
+    = after_alike reading writing (touched_by_reading fs p) (touched_by_writing fs p) (is_ungoverned lower) (governs_among (lower ++ m ∷ ms) (length lower)) (logical_value lower fs p bytes) (bits_among (lower ++ m ∷ ms) fs p bytes (length lower)) m (owned-among lower m ms) (logical_value-among lower m ms fs p bytes) in
     let next : length (lower ++ m ∷ []) ≡ length lower + 1 = length-append lower (m ∷ []) in
     let all : (lower ++ m ∷ []) ++ ms ≡ lower ++ m ∷ ms = append_assoc lower (m ∷ []) ms in
-    let rest : managers_exchanged (lower ++ m ∷ []) reading writing fs p bytes ms ≡ each_from (length lower + 1) (logical_by (lower ++ m ∷ ms) reading writing fs p bytes) ms
+    let rest : logical_managers (lower ++ m ∷ []) reading writing fs p bytes ms ≡ each_from (length lower + 1) (logical_by (lower ++ m ∷ ms) reading writing fs p bytes) ms
     = logical_from (lower ++ m ∷ []) ms reading writing fs p bytes
     ∙ (ap (λ k. each_from k (logical_by ((lower ++ m ∷ []) ++ ms) reading writing fs p bytes) ms) next
     ∙ ap (λ xs. each_from (length lower + 1) (logical_by xs reading writing fs p bytes) ms) all) in
-    ap (λ x. x ∷ managers_exchanged (lower ++ m ∷ []) reading writing fs p bytes ms) one
+    ap (λ x. x ∷ logical_managers (lower ++ m ∷ []) reading writing fs p bytes ms) one
     ∙ ap (λ xs. logical_by (lower ++ m ∷ ms) reading writing fs p bytes (length lower) m ∷ xs) rest
 
 pub logical_against_all : LogicalAgainstAll

@@ -17,8 +17,8 @@ use Rattle.ec_coe.specs.Objects.{indices, all_assigned, assigned}
 use Rattle.ec_coe.specs.Transfers.{contains, distinct}
 use Rattle.ec_coe.specs.Laws.{IsAssignment}
 use Rattle.ec_slave.specs.State.{SlaveState, manager_at, power_on}
-use Rattle.ec_slave.specs.Access.{meeting, slave_after}
-use Rattle.ec_slave.specs.Logical.{meets_logical}
+use Rattle.ec_slave.specs.Physical.{meeting, physical_after}
+use Rattle.ec_slave.specs.Logical.{meets_logically}
 use Rattle.ec_slave.specs.Meeting.{meets, meets_by, meets_physically, slave_met}
 use Rattle.ec_slave.specs.Application.{is_running, with_manager, output_got, output_taken}
 use Rattle.ec_slave.specs.Faulting.{faulted}
@@ -114,14 +114,14 @@ served-stays s h =
     }
 
 physically-stays : (s : SlaveState) (d : Datagram) → IsAssigned s → IsAssigned (meets_physically s d).slave
-unfolding meeting slave_after
+unfolding meeting physical_after
 physically-stays s d h = record { outputs = h.outputs; inputs = h.inputs }
 
-logically-stays : (reading writing : Bool) (weight : ℕ) (s : SlaveState) (d : Datagram) → IsAssigned s → IsAssigned (meets_logical reading writing weight s d).slave
-unfolding meets_logical
+logically-stays : (reading writing : Bool) (weight : ℕ) (s : SlaveState) (d : Datagram) → IsAssigned s → IsAssigned (meets_logically reading writing weight s d).slave
+unfolding meets_logically
 logically-stays reading writing weight s d h = record { outputs = h.outputs; inputs = h.inputs }
 
-exchanging-stays : (b : Bool) (s : SlaveState) (d : Datagram) → IsAssigned s → IsAssigned (if b then meets_logical true true 2 s d else record { slave = s; datagram = d }).slave
+exchanging-stays : (b : Bool) (s : SlaveState) (d : Datagram) → IsAssigned s → IsAssigned (if b then meets_logically true true 2 s d else record { slave = s; datagram = d }).slave
 exchanging-stays true s d h = logically-stays true true 2 s d h
 exchanging-stays false s d h = h
 

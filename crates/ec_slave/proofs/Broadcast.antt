@@ -10,7 +10,7 @@ use Rattle.ec_frame.specs.Datagram.{ado_of}
 use Rattle.ec_sync.specs.Manager.{Manager, may_read}
 use Rattle.ec_slave.specs.State.{SlaveState}
 use Rattle.ec_slave.specs.Managers.{is_read_by, is_ungoverned, manager_after}
-use Rattle.ec_slave.specs.Access.{Window, touches, byte_at, byte_read, may_read_byte, some_byte_read, retold, value_for, manager_met, managers_met, slave_after, meeting}
+use Rattle.ec_slave.specs.Physical.{Window, touches, byte_at, byte_read, may_read_byte, some_byte_read, retold, physical_value, physical_manager, physical_managers, physical_after, meeting}
 use Rattle.ec_slave.specs.Meeting.{meets, window_of}
 use Rattle.ec_slave.specs.LogicalLaws.{BroadcastLaw}
 use Rattle.ec_slave.proofs.AgainstAll.{retold_alike}
@@ -33,18 +33,18 @@ registers-covered w own m l = elim (cases_Bool (is_set m.settings)) [
 ]
 
 -- it leaves every manager as it was, if it only reads
-pub managers-read : (lower ms : List Manager) (reads : Bool) (w : Window) (n : ℕ) → w.from + length w.bytes ≤ ram_start → managers_met lower reads false w n ms ≡ ms
-unfolding manager_met
+pub managers-read : (lower ms : List Manager) (reads : Bool) (w : Window) (n : ℕ) → w.from + length w.bytes ≤ ram_start → physical_managers lower reads false w n ms ≡ ms
+unfolding physical_manager
 managers-read lower [] reads w n l = refl
 managers-read lower (m ∷ ms) reads w n l =
-    let one : manager_after reads false (touches w) (touches w) (is_ungoverned lower) (value_for lower w) m ≡ m
+    let one : manager_after reads false (touches w) (touches w) (is_ungoverned lower) (physical_value lower w) m ≡ m
     = if_false _ _ _ (and_right reads _ (registers-covered w (is_ungoverned lower) m l)) in
-    ap (λ x. x ∷ managers_met (lower ++ m ∷ []) reads false w (n + 1) ms) one
+    ap (λ x. x ∷ physical_managers (lower ++ m ∷ []) reads false w (n + 1) ms) one
     ∙ ap (λ xs. m ∷ xs) (managers-read (lower ++ m ∷ []) ms reads w (n + 1) l)
 
 -- registers belong to no manager
-pub registers-idle : (s : SlaveState) (w : Window) → w.from + length w.bytes ≤ ram_start → slave_after s true false w ≡ s
-unfolding slave_after
+pub registers-idle : (s : SlaveState) (w : Window) → w.from + length w.bytes ≤ ram_start → physical_after s true false w ≡ s
+unfolding physical_after
 registers-idle s w l = rw (managers-read [] s.managers true w 0 l) refl
 
 -- every register reads

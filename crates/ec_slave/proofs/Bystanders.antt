@@ -9,13 +9,13 @@ use Rattle.ec_slave.specs.declared.role.Role.{Role}
 use Rattle.ec_slave.specs.declared.role.Role.TheVariants.{Nothing}
 use Rattle.ec_slave.specs.Roles.{role_of, adp_after}
 use Rattle.ec_slave.specs.State.{SlaveState, station_of, with_answer}
-use Rattle.ec_slave.specs.Access.{Window, meeting, slave_after}
+use Rattle.ec_slave.specs.Physical.{Window, meeting, physical_after}
 use Rattle.ec_slave.specs.Meeting.{window_of, meets, meets_by, meets_physically, passes, slave_met}
 use Rattle.ec_slave.specs.Keeping.{adp_after-bound, length-meeting}
 use Rattle.ec_slave.specs.Laws.{OtherStationPasses, OtherPositionPasses, HeadingStays, KeepsHeading}
 use Rattle.ec_bits.proofs.BitLaws.{length-overlay}
 use Rattle.ec_bits.proofs.AnyLaws.{if_false}
-use Rattle.ec_slave.specs.Logical.{meets_logical}
+use Rattle.ec_slave.specs.Logical.{meets_logically}
 use Rattle.ec_slave.proofs.Idle.{slave_idle}
 
 kept-nothing : (s : SlaveState) (w : Window) → (meeting s Nothing w).slave ≡ s
@@ -89,12 +89,12 @@ physical_heading s d good =
 same_heading : (d : Datagram) → KeepsHeading d d
 same_heading d = record { command = refl; index = refl; ado = refl; reserved = refl; circulating = refl; irq = refl; data_length = refl }
 
-logical_heading : (reading writing : Bool) (weight : ℕ) (s : SlaveState) (d : Datagram) → KeepsHeading d (meets_logical reading writing weight s d).datagram
-unfolding meets_logical
+logical_heading : (reading writing : Bool) (weight : ℕ) (s : SlaveState) (d : Datagram) → KeepsHeading d (meets_logically reading writing weight s d).datagram
+unfolding meets_logically
 logical_heading reading writing weight s d =
     record { command = refl; index = refl; ado = refl; reserved = refl; circulating = refl; irq = refl; data_length = length-overlay d.data_bytes _ }
 
-lrw_heading : (b : Bool) (s : SlaveState) (d : Datagram) → KeepsHeading d (if b then meets_logical true true 2 s d else record { slave = s; datagram = d }).datagram
+lrw_heading : (b : Bool) (s : SlaveState) (d : Datagram) → KeepsHeading d (if b then meets_logically true true 2 s d else record { slave = s; datagram = d }).datagram
 lrw_heading true s d = logical_heading true true 2 s d
 lrw_heading false s d = same_heading d
 
@@ -122,17 +122,17 @@ heading_stays s d good = heading_by d.command s d good
 -- ---- what no datagram changes in a slave
 
 meeting-kept : (s : SlaveState) (role : Role) (w : Window) → ((meeting s role w).slave.kind ≡ s.kind) × ((meeting s role w).slave.identity ≡ s.identity)
-unfolding meeting slave_after
+unfolding meeting physical_after
 meeting-kept s role w = (refl, refl)
 
 logical-kept : (reading writing : Bool) (weight : ℕ) (s : SlaveState) (d : Datagram)
-    → ((meets_logical reading writing weight s d).slave.kind ≡ s.kind) × ((meets_logical reading writing weight s d).slave.identity ≡ s.identity)
-unfolding meets_logical
+    → ((meets_logically reading writing weight s d).slave.kind ≡ s.kind) × ((meets_logically reading writing weight s d).slave.identity ≡ s.identity)
+unfolding meets_logically
 logical-kept reading writing weight s d = (refl, refl)
 
 lrw-kept : (b : Bool) (s : SlaveState) (d : Datagram)
-    → ((if b then meets_logical true true 2 s d else record { slave = s; datagram = d }).slave.kind ≡ s.kind)
-    × ((if b then meets_logical true true 2 s d else record { slave = s; datagram = d }).slave.identity ≡ s.identity)
+    → ((if b then meets_logically true true 2 s d else record { slave = s; datagram = d }).slave.kind ≡ s.kind)
+    × ((if b then meets_logically true true 2 s d else record { slave = s; datagram = d }).slave.identity ≡ s.identity)
 lrw-kept true s d = logical-kept true true 2 s d
 lrw-kept false s d = (refl, refl)
 

@@ -3,7 +3,7 @@ use Rattle.std.proofs.Common.{ℕ, ◌+◌, ◌*◌, ◌<◌, ◌≡◌, if◌th
 use Rattle.std.specs.Int.{from_bool}
 use Rattle.ec_slave.specs.declared.role.Role.TheVariants.{Nothing, Read, Write, ReadWrite, OrRead, OrReadWrite}
 use Rattle.ec_sync.specs.Manager.{Manager}
-use Rattle.ec_slave.specs.Access.{Window, byte_read, some_byte_read, some_byte_written, meeting}
+use Rattle.ec_slave.specs.Physical.{Window, byte_read, some_byte_read, some_byte_written, meeting}
 use Rattle.ec_slave.proofs.Windows.{kept_byte}
 use Rattle.ec_slave.specs.Keeping.{length-retold}
 use Rattle.ec_slave.specs.Laws.{WritesByByte, IsWrittenAt, ReadsByByte, CountsByRole}

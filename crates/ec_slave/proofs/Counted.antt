@@ -24,9 +24,9 @@ use Rattle.ec_slave.specs.Roles.{role_of, is_reading, is_writing, is_joining}
 use Rattle.ec_slave.specs.State.{SlaveState, Met, manager_at, station_of, fmmus}
 use Rattle.ec_slave.specs.Sound.{IsSlave}
 use Rattle.ec_slave.specs.Managers.{gets_at, is_read_by, is_written_by, reads_under, writes_under}
-use Rattle.ec_slave.specs.Access.{Window, touches, byte_from, byte_read, retold, retold_from, is_kept, may_read_byte, may_write_byte, memory_written, is_configured, setting_for, managers_met, slave_after, some_byte_read, some_byte_written, meeting}
+use Rattle.ec_slave.specs.Physical.{Window, touches, byte_from, byte_read, retold, retold_from, is_kept, may_read_byte, may_write_byte, memory_written, is_configured, setting_for, physical_managers, physical_after, some_byte_read, some_byte_written, meeting}
 use Rattle.ec_slave.specs.AgainstAll.{each_from, governs_among, is_governor}
-use Rattle.ec_slave.specs.Logical.{place_of, readable_bit, read_bit, written_bit, plain_bit, managers_exchanged, only_if, some_read, some_written, meets_logical}
+use Rattle.ec_slave.specs.Logical.{place_of, readable_bit, read_bit, written_bit, plain_bit, logical_managers, only_if, some_read, some_written, meets_logically}
 use Rattle.ec_slave.specs.Written.{some_plain_written}
 use Rattle.ec_slave.specs.Meeting.{window_of, meets, meets_by, meets_physically}
 use Rattle.ec_slave.specs.Laws.{CountsWhatItChanges}
@@ -201,7 +201,7 @@ both-false true x y f h = refuted x y f h
 both-false false x y f h = refl
 
 managers-idle : (ms : List Manager) (busy reads writes : Bool) (w : Window) → (reads && some_byte_read ms w) ≡ false → (writes && some_byte_written ms busy w) ≡ false
-    → managers_met [] reads writes w 0 ms ≡ ms
+    → physical_managers [] reads writes w 0 ms ≡ ms
 managers-idle ms busy reads writes w fr fw =
     physical_against_all reads writes w ms
     ∙ each-idle-first _ ms (λ k l.
@@ -243,8 +243,8 @@ port-kept ms p w l f = elim (cases_Bool p.busy) [
 ]
 
 slave-idle : (s : SlaveState) (reads writes : Bool) (w : Window) → s.sii.address < 2 ^ 32
-    → (reads && some_byte_read s.managers w) ≡ false → (writes && some_byte_written s.managers s.sii.busy w) ≡ false → slave_after s reads writes w ≡ s
-unfolding slave_after
+    → (reads && some_byte_read s.managers w) ≡ false → (writes && some_byte_written s.managers s.sii.busy w) ≡ false → physical_after s reads writes w ≡ s
+unfolding physical_after
 slave-idle s reads writes w l fr fw =
     let managers = managers-idle s.managers s.sii.busy reads writes w fr fw in
     let memory = only-written writes (memory_written s.managers w s.memory) s.memory fw (λ f. memory-idle s.managers s.sii.busy w s.memory f) in
@@ -322,7 +322,7 @@ mapped-read-counts memory ms fs p n h =
     any_below_from p.bits (λ i. is_some (read_bit memory ms fs p i)) r.0 r.1 told
 
 mapped-managers-idle : (memory : List ℕ) (ms : List Manager) (reading writing : Bool) (fs : List FmmuSettings) (p : Place) (bytes : List ℕ)
-    → (reading && some_read memory ms fs p) ≡ false → (writing && some_written ms fs p bytes) ≡ false → managers_exchanged [] reading writing fs p bytes ms ≡ ms
+    → (reading && some_read memory ms fs p) ≡ false → (writing && some_written ms fs p bytes) ≡ false → logical_managers [] reading writing fs p bytes ms ≡ ms
 mapped-managers-idle memory ms reading writing fs p bytes fr fw =
     logical_against_all reading writing fs p bytes ms
     ∙ each-idle-first _ ms (λ k l.
@@ -339,9 +339,9 @@ untold true y o f h = no-option o (refuted (is_some o) y f h)
 untold false y o f h = refl
 
 logical-counts : (reading writing : Bool) (weight : ℕ) (s : SlaveState) (d : Datagram) → 1 ≤ weight → weight ≤ 2 → IsSlave s → d.counter < 65536
-    → (meets_logical reading writing weight s d).datagram.counter ≡ d.counter
-    → ((meets_logical reading writing weight s d).slave ≡ s) × ((meets_logical reading writing weight s d).datagram.data_bytes ≡ d.data_bytes)
-unfolding meets_logical
+    → (meets_logically reading writing weight s d).datagram.counter ≡ d.counter
+    → ((meets_logically reading writing weight s d).slave ≡ s) × ((meets_logically reading writing weight s d).datagram.data_bytes ≡ d.data_bytes)
+unfolding meets_logically
 logical-counts reading writing weight s d one two h c e =
     let p : Place = place_of d in
     let ms : List Manager = s.managers in
@@ -364,7 +364,7 @@ abbrev Unchanged : Met → SlaveState → Datagram → Type 0
 Unchanged m s d = (m.slave ≡ s) × (m.datagram.data_bytes ≡ d.data_bytes)
 
 exchanging-counts : (b : Bool) (s : SlaveState) (d : Datagram) → IsSlave s → d.counter < 65536
-    → (let m : Met = if b then meets_logical true true 2 s d else record { slave = s; datagram = d } in m.datagram.counter ≡ d.counter → Unchanged m s d)
+    → (let m : Met = if b then meets_logically true true 2 s d else record { slave = s; datagram = d } in m.datagram.counter ≡ d.counter → Unchanged m s d)
 exchanging-counts true s d h c e = logical-counts true true 2 s d (omega arith) (omega arith) h c e
 exchanging-counts false s d h c e = (refl, refl)
 

@@ -7,17 +7,17 @@ use Rattle.ec_sync.specs.Manager.{Manager, may_write}
 use Rattle.ec_sync.specs.Governing.{covers}
 use Rattle.ec_fmmu.specs.Applied.{Place, touched_by_reading, touched_by_writing}
 use Rattle.ec_slave.specs.Managers.{is_ungoverned, manager_after}
-use Rattle.ec_slave.specs.Logical.{value_brought, managers_exchanged}
+use Rattle.ec_slave.specs.Logical.{logical_value, logical_managers}
 use Rattle.ec_slave.specs.Written.{some_brought, some_manager_written}
 
 -- one of them
 abbrev pub one_exchanged : List Manager → Bool → Bool → List FmmuSettings → Place → List ℕ → Manager → Manager
 one_exchanged lower reading writing fs p bytes m =
-    manager_after reading writing (touched_by_reading fs p) (touched_by_writing fs p) (is_ungoverned lower) (value_brought lower fs p bytes) m
+    manager_after reading writing (touched_by_reading fs p) (touched_by_writing fs p) (is_ungoverned lower) (logical_value lower fs p bytes) m
 
 -- those from number n on have met it
 abbrev pub exchanged_from : List Manager → Bool → Bool → List FmmuSettings → Place → List ℕ → ℕ → List Manager
-exchanged_from ms reading writing fs p bytes n = take n ms ++ managers_exchanged (take n ms) reading writing fs p bytes (drop n ms)
+exchanged_from ms reading writing fs p bytes n = take n ms ++ logical_managers (take n ms) reading writing fs p bytes (drop n ms)
 
 pub exchanged_from-end : (ms : List Manager) (reading writing : Bool) (fs : List FmmuSettings) (p : Place) (bytes : List ℕ) → length ms ≡ 4
     → ms ≡ exchanged_from ms reading writing fs p bytes 4
@@ -44,17 +44,17 @@ pub exchanged_from-step : (ms before after : List Manager) (reading writing : Bo
 exchanged_from-step ms before after reading writing fs p bytes n d x l b h a =
     let A : List Manager = take n ms in
     let m : Manager = get_or ms n d in
-    let R : List Manager = managers_exchanged (A ++ m ∷ []) reading writing fs p bytes (drop (n + 1) ms) in
+    let R : List Manager = logical_managers (A ++ m ∷ []) reading writing fs p bytes (drop (n + 1) ms) in
     let eA : length A ≡ n = length-take-le n ms (omega arith) in
     let eT : take (n + 1) ms ≡ A ++ m ∷ [] = take_more ms n d l in
     let eD : drop n ms ≡ m ∷ drop (n + 1) ms = drop_more ms n d l in
-    let eB : before ≡ A ++ m ∷ R = b ∙ (ap (λ t. t ++ managers_exchanged t reading writing fs p bytes (drop (n + 1) ms)) eT ∙ append_assoc A (m ∷ []) R) in
+    let eB : before ≡ A ++ m ∷ R = b ∙ (ap (λ t. t ++ logical_managers t reading writing fs p bytes (drop (n + 1) ms)) eT ∙ append_assoc A (m ∷ []) R) in
     let tB : take n before ≡ A = ap (take n) eB ∙ take_front A (m ∷ R) n eA in
     let dB : drop n before ≡ m ∷ R = ap (drop n) eB ∙ drop_front A (m ∷ R) n eA in
     let nx : x ≡ one_exchanged A reading writing fs p bytes m
     = h ∙ (ap (λ t. one_exchanged t reading writing fs p bytes (get_or (drop n before) 0 d)) tB ∙ ap (λ t. one_exchanged A reading writing fs p bytes (get_or t 0 d)) dB) in
     a ∙ (ap (λ t. t ++ set (drop n before) 0 x) tB ∙ (ap (λ t. A ++ set t 0 x) dB ∙ (ap (λ y. A ++ y ∷ R) nx
-    ∙ ap (λ t. A ++ managers_exchanged A reading writing fs p bytes t) (sym eD))))
+    ∙ ap (λ t. A ++ logical_managers A reading writing fs p bytes t) (sym eD))))
 
 -- ---- the search
 

@@ -11,7 +11,7 @@ use Rattle.ec_regs.specs.Managers.{is_set}
 use Rattle.ec_sync.specs.Governing.{covers, governor, governs}
 use Rattle.ec_fmmu.specs.Applied.{Place, touched_by_reading, touched_by_writing}
 use Rattle.ec_slave.specs.Managers.{gets_at, is_ungoverned, manager_after}
-use Rattle.ec_slave.specs.Logical.{value_brought, managers_exchanged}
+use Rattle.ec_slave.specs.Logical.{logical_value, logical_managers}
 use Rattle.ec_slave.proofs.AgainstAll.{governs-value}
 
 position_from-take : (t : Manager → Bool) (k n : ℕ) (ms : List Manager) → position_from t k ms ≡ Some (k + n) → position_from t k (take n ms) ≡ None
@@ -76,19 +76,19 @@ others-untouched ms t n other l ne set governed =
       | inr f ↦ and_left _ _ f
     ]))
 
-pub length-managers_exchanged : (lower : List Manager) (reading writing : Bool) (fs : List FmmuSettings) (p : Place) (bytes : List ℕ) (ms : List Manager)
-    → length (managers_exchanged lower reading writing fs p bytes ms) ≡ length ms
-length-managers_exchanged lower reading writing fs p bytes [] = refl
-length-managers_exchanged lower reading writing fs p bytes (m ∷ ms) = ap suc (length-managers_exchanged (lower ++ m ∷ []) reading writing fs p bytes ms)
+pub length-logical_managers : (lower : List Manager) (reading writing : Bool) (fs : List FmmuSettings) (p : Place) (bytes : List ℕ) (ms : List Manager)
+    → length (logical_managers lower reading writing fs p bytes ms) ≡ length ms
+length-logical_managers lower reading writing fs p bytes [] = refl
+length-logical_managers lower reading writing fs p bytes (m ∷ ms) = ap suc (length-logical_managers (lower ++ m ∷ []) reading writing fs p bytes ms)
 
 -- a manager after a logical datagram depends on itself and the lower-numbered ones alone
 pub manager_at-exchanged : (lower : List Manager) (reading writing : Bool) (fs : List FmmuSettings) (p : Place) (bytes : List ℕ) (ms : List Manager) (n : ℕ) → n < length ms
-    → manager_at (managers_exchanged lower reading writing fs p bytes ms) n
-    ≡ manager_after reading writing (touched_by_reading fs p) (touched_by_writing fs p) (is_ungoverned (lower ++ take n ms)) (value_brought (lower ++ take n ms) fs p bytes) (manager_at ms n)
+    → manager_at (logical_managers lower reading writing fs p bytes ms) n
+    ≡ manager_after reading writing (touched_by_reading fs p) (touched_by_writing fs p) (is_ungoverned (lower ++ take n ms)) (logical_value (lower ++ take n ms) fs p bytes) (manager_at ms n)
 manager_at-exchanged lower reading writing fs p bytes [] n h = absurd (omega arith)
 manager_at-exchanged lower reading writing fs p bytes (m ∷ ms) zero h =
     let e : lower ++ [] ≡ lower = append-nil lower in
-    ap (λ xs. manager_after reading writing (touched_by_reading fs p) (touched_by_writing fs p) (is_ungoverned xs) (value_brought xs fs p bytes) m) (sym e)
+    ap (λ xs. manager_after reading writing (touched_by_reading fs p) (touched_by_writing fs p) (is_ungoverned xs) (logical_value xs fs p bytes) m) (sym e)
 manager_at-exchanged lower reading writing fs p bytes (m ∷ ms) (suc n) h =
     manager_at-exchanged (lower ++ m ∷ []) reading writing fs p bytes ms n (omega arith)
-    ∙ ap (λ xs. manager_after reading writing (touched_by_reading fs p) (touched_by_writing fs p) (is_ungoverned xs) (value_brought xs fs p bytes) (manager_at ms n)) (append_assoc lower (m ∷ []) (take n ms))
+    ∙ ap (λ xs. manager_after reading writing (touched_by_reading fs p) (touched_by_writing fs p) (is_ungoverned xs) (logical_value xs fs p bytes) (manager_at ms n)) (append_assoc lower (m ∷ []) (take n ms))

@@ -24,12 +24,12 @@ use Rattle.ec_slave.specs.State.{SlaveState, Met, manager_at, power_on, memory_l
 use Rattle.ec_slave.specs.Sound.{IsSlave, AreBytes, PowerOnIsSlave, MetIsSlave}
 use Rattle.ec_slave.specs.Roles.{role_of, is_reading, is_writing}
 use Rattle.ec_slave.specs.Managers.{is_read_by, is_ungoverned, is_written_by, manager_after}
-use Rattle.ec_slave.specs.Access.{Window, touches, is_configured, settings_written, value_for, manager_met, managers_met, memory_written, slave_after, meeting}
-use Rattle.ec_slave.specs.Logical.{value_brought, managers_exchanged, meets_logical}
+use Rattle.ec_slave.specs.Physical.{Window, touches, is_configured, settings_written, physical_value, physical_manager, physical_managers, memory_written, physical_after, meeting}
+use Rattle.ec_slave.specs.Logical.{logical_value, logical_managers, meets_logically}
 use Rattle.ec_slave.specs.Keeping.{length-retold}
 use Rattle.ec_slave.specs.Meeting.{window_of, meets, meets_by, meets_physically}
 use Rattle.ec_slave.proofs.AgainstAll.{writable-set}
-use Rattle.ec_slave.proofs.Governors.{length-managers_exchanged}
+use Rattle.ec_slave.proofs.Governors.{length-logical_managers}
 
 none_some : {X : Type 0} (x : X) → None ≡ Some x → ⊥
 none_some x e = cc
@@ -69,13 +69,13 @@ after-sound reads writes rt wt own v m len h = elim (cases_Bool (writes && is_wr
     by true = read-sound m h
     by false = h
 
-met-sound : (lower : List Manager) (reads writes : Bool) (w : Window) (n : ℕ) (m : Manager) → IsManager m → IsManager (manager_met lower reads writes w n m)
-unfolding manager_met
+met-sound : (lower : List Manager) (reads writes : Bool) (w : Window) (n : ℕ) (m : Manager) → IsManager m → IsManager (physical_manager lower reads writes w n m)
+unfolding physical_manager
 met-sound lower reads writes w n m h = by (writes && is_configured w n)
   where
-    by : (b : Bool) → (let x : Manager = if b then empty_manager (settings_written w n m) m.locked else manager_after reads writes (touches w) (touches w) (is_ungoverned lower) (value_for lower w) m in IsManager x)
+    by : (b : Bool) → (let x : Manager = if b then empty_manager (settings_written w n m) m.locked else manager_after reads writes (touches w) (touches w) (is_ungoverned lower) (physical_value lower w) m in IsManager x)
     by true = empty-sound (settings_written w n m) m.locked
-    by false = after-sound reads writes (touches w) (touches w) (is_ungoverned lower) (value_for lower w) m (λ a k. length-retold 0 (zeros k) _ ∙ length-replicate {A = ℕ} k 0) h
+    by false = after-sound reads writes (touches w) (touches w) (is_ungoverned lower) (physical_value lower w) m (λ a k. length-retold 0 (zeros k) _ ∙ length-replicate {A = ℕ} k 0) h
 
 -- ---- all of a slave
 
@@ -85,20 +85,20 @@ AreSound ms = (n : ℕ) → IsManager (manager_at ms n)
 rest-sound : (m : Manager) (ms : List Manager) → AreSound (m ∷ ms) → AreSound ms
 rest-sound m ms h n = h (suc n)
 
-all-met-sound : (lower ms : List Manager) (reads writes : Bool) (w : Window) (n : ℕ) → AreSound ms → AreSound (managers_met lower reads writes w n ms)
+all-met-sound : (lower ms : List Manager) (reads writes : Bool) (w : Window) (n : ℕ) → AreSound ms → AreSound (physical_managers lower reads writes w n ms)
 all-met-sound lower [] reads writes w n h k = h k
 all-met-sound lower (m ∷ ms) reads writes w n h zero = met-sound lower reads writes w n m (h zero)
 all-met-sound lower (m ∷ ms) reads writes w n h (suc k) = all-met-sound (lower ++ m ∷ []) ms reads writes w (n + 1) (rest-sound m ms h) k
 
-all-exchanged-sound : (lower ms : List Manager) (reading writing : Bool) (fs : List FmmuSettings) (p : Place) (bytes : List ℕ) → AreSound ms → AreSound (managers_exchanged lower reading writing fs p bytes ms)
+all-exchanged-sound : (lower ms : List Manager) (reading writing : Bool) (fs : List FmmuSettings) (p : Place) (bytes : List ℕ) → AreSound ms → AreSound (logical_managers lower reading writing fs p bytes ms)
 all-exchanged-sound lower [] reading writing fs p bytes h k = h k
 all-exchanged-sound lower (m ∷ ms) reading writing fs p bytes h zero =
-    after-sound reading writing (touched_by_reading fs p) (touched_by_writing fs p) (is_ungoverned lower) (value_brought lower fs p bytes) m (λ a k. length-overlay (zeros k) _ ∙ length-replicate {A = ℕ} k 0) (h zero)
+    after-sound reading writing (touched_by_reading fs p) (touched_by_writing fs p) (is_ungoverned lower) (logical_value lower fs p bytes) m (λ a k. length-overlay (zeros k) _ ∙ length-replicate {A = ℕ} k 0) (h zero)
 all-exchanged-sound lower (m ∷ ms) reading writing fs p bytes h (suc k) = all-exchanged-sound (lower ++ m ∷ []) ms reading writing fs p bytes (rest-sound m ms h) k
 
-length-managers_met : (lower : List Manager) (reads writes : Bool) (w : Window) (n : ℕ) (ms : List Manager) → length (managers_met lower reads writes w n ms) ≡ length ms
-length-managers_met lower reads writes w n [] = refl
-length-managers_met lower reads writes w n (m ∷ ms) = ap suc (length-managers_met (lower ++ m ∷ []) reads writes w (n + 1) ms)
+length-physical_managers : (lower : List Manager) (reads writes : Bool) (w : Window) (n : ℕ) (ms : List Manager) → length (physical_managers lower reads writes w n ms) ≡ length ms
+length-physical_managers lower reads writes w n [] = refl
+length-physical_managers lower reads writes w n (m ∷ ms) = ap suc (length-physical_managers (lower ++ m ∷ []) reads writes w (n + 1) ms)
 
 -- the managers of four, one by one
 pub four-sound : (ms : List Manager) → length ms ≡ 4 → (a b c d : Manager)
@@ -178,13 +178,13 @@ sii-keeps : (b : Bool) (p : Sii) (w : Window) → AreBytes w.bytes → p.address
 sii-keeps true p w h l = written-keeps p w.from w.bytes h l
 sii-keeps false p w h l = (refl, l)
 
-after-is : (s : SlaveState) (reads writes : Bool) (w : Window) → AreBytes w.bytes → IsSlave s → IsSlave (slave_after s reads writes w)
-unfolding slave_after
+after-is : (s : SlaveState) (reads writes : Bool) (w : Window) → AreBytes w.bytes → IsSlave s → IsSlave (physical_after s reads writes w)
+unfolding physical_after
 after-is s reads writes w b h =
     let k = sii-keeps writes s.sii w b h.word_address in
     record {
       memory = memory-long writes s.managers w s.memory ∙ h.memory;
-      managers = length-managers_met [] reads writes w 0 s.managers ∙ h.managers;
+      managers = length-physical_managers [] reads writes w 0 s.managers ∙ h.managers;
       each_manager = all-met-sound [] s.managers reads writes w 0 h.each_manager;
       image = k.0 ∙ h.image;
       word_address = k.1;
@@ -198,12 +198,12 @@ physically-is : (s : SlaveState) (d : Datagram) → AreBytes d.data_bytes → Is
 unfolding meeting
 physically-is s d b h = after-is s (is_reading (role_of d.command (adp_of d) (station_of s))) (is_writing (role_of d.command (adp_of d) (station_of s))) (window_of d) b h
 
-logically-is : (reading writing : Bool) (weight : ℕ) (s : SlaveState) (d : Datagram) → IsSlave s → IsSlave (meets_logical reading writing weight s d).slave
-unfolding meets_logical
+logically-is : (reading writing : Bool) (weight : ℕ) (s : SlaveState) (d : Datagram) → IsSlave s → IsSlave (meets_logically reading writing weight s d).slave
+unfolding meets_logically
 logically-is reading writing weight s d h =
     record {
       memory = length-overlay s.memory _ ∙ h.memory;
-      managers = length-managers_exchanged [] reading writing _ _ _ s.managers ∙ h.managers;
+      managers = length-logical_managers [] reading writing _ _ _ s.managers ∙ h.managers;
       each_manager = all-exchanged-sound [] s.managers reading writing _ _ _ h.each_manager;
       image = h.image;
       word_address = h.word_address;
@@ -214,7 +214,7 @@ logically-is reading writing weight s d h =
     }
 
 exchanging-is : (b : Bool) (s : SlaveState) (d : Datagram) → IsSlave s
-    → (let m : Met = if b then meets_logical true true 2 s d else record { slave = s; datagram = d } in IsSlave m.slave)
+    → (let m : Met = if b then meets_logically true true 2 s d else record { slave = s; datagram = d } in IsSlave m.slave)
 exchanging-is true s d h = logically-is true true 2 s d h
 exchanging-is false s d h = h
 

@@ -2,12 +2,12 @@
 use Rattle.std.proofs.Common.{ℕ, ◌+◌, ◌-◌, ◌<◌, ◌≡◌, List, [], ◌∷◌, ◌++◌, length, take, drop, get_or, set, Bool, refl, sym, ◌∙◌, ap, arith}
 use Rattle.std.proofs.lemmas.List.{take_more, drop_more, length-take-le, append_assoc}
 use Rattle.ec_sync.specs.Manager.{Manager}
-use Rattle.ec_slave.specs.Access.{Window, manager_met, managers_met}
+use Rattle.ec_slave.specs.Physical.{Window, physical_manager, physical_managers}
 use Rattle.ec_slave.proofs.Exchanges.{take_front, drop_front}
 
 -- those from number p on have met it
 abbrev pub met_from : List Manager → Bool → Bool → Window → ℕ → List Manager
-met_from ms reads writes w p = take p ms ++ managers_met (take p ms) reads writes w p (drop p ms)
+met_from ms reads writes w p = take p ms ++ physical_managers (take p ms) reads writes w p (drop p ms)
 
 pub met_from-end : (ms : List Manager) (reads writes : Bool) (w : Window) → length ms ≡ 4 → ms ≡ met_from ms reads writes w (4 - 0)
 met_from-end [] reads writes w e = absurd (omega arith)
@@ -17,25 +17,25 @@ met_from-end (a ∷ b ∷ c ∷ []) reads writes w e = absurd (omega arith)
 met_from-end (a ∷ b ∷ c ∷ d ∷ []) reads writes w e = refl
 met_from-end (a ∷ b ∷ c ∷ d ∷ x ∷ xs) reads writes w e = absurd (omega arith)
 
-pub met_from-start : (ms : List Manager) (reads writes : Bool) (w : Window) → met_from ms reads writes w 0 ≡ managers_met [] reads writes w 0 ms
+pub met_from-start : (ms : List Manager) (reads writes : Bool) (w : Window) → met_from ms reads writes w 0 ≡ physical_managers [] reads writes w 0 ms
 met_from-start ms reads writes w = refl
 
 -- one more, number p
 pub met_from-step : (ms before after : List Manager) (reads writes : Bool) (w : Window) (p : ℕ) (d : Manager) (x : Manager)
     → p < length ms → before ≡ met_from ms reads writes w (p + 1)
-    → x ≡ manager_met (take p before) reads writes w p (get_or (drop p before) 0 d)
+    → x ≡ physical_manager (take p before) reads writes w p (get_or (drop p before) 0 d)
     → after ≡ take p before ++ set (drop p before) 0 x
     → after ≡ met_from ms reads writes w p
 met_from-step ms before after reads writes w p d x l b n a =
     let A : List Manager = take p ms in
     let m : Manager = get_or ms p d in
-    let R : List Manager = managers_met (A ++ m ∷ []) reads writes w (p + 1) (drop (p + 1) ms) in
+    let R : List Manager = physical_managers (A ++ m ∷ []) reads writes w (p + 1) (drop (p + 1) ms) in
     let eA : length A ≡ p = length-take-le p ms (omega arith) in
     let eT : take (p + 1) ms ≡ A ++ m ∷ [] = take_more ms p d l in
     let eD : drop p ms ≡ m ∷ drop (p + 1) ms = drop_more ms p d l in
-    let eB : before ≡ A ++ m ∷ R = b ∙ (ap (λ t. t ++ managers_met t reads writes w (p + 1) (drop (p + 1) ms)) eT ∙ append_assoc A (m ∷ []) R) in
+    let eB : before ≡ A ++ m ∷ R = b ∙ (ap (λ t. t ++ physical_managers t reads writes w (p + 1) (drop (p + 1) ms)) eT ∙ append_assoc A (m ∷ []) R) in
     let tB : take p before ≡ A = ap (take p) eB ∙ take_front A (m ∷ R) p eA in
     let dB : drop p before ≡ m ∷ R = ap (drop p) eB ∙ drop_front A (m ∷ R) p eA in
-    let nx : x ≡ manager_met A reads writes w p m = n ∙ (ap (λ t. manager_met t reads writes w p (get_or (drop p before) 0 d)) tB ∙ ap (λ t. manager_met A reads writes w p (get_or t 0 d)) dB) in
+    let nx : x ≡ physical_manager A reads writes w p m = n ∙ (ap (λ t. physical_manager t reads writes w p (get_or (drop p before) 0 d)) tB ∙ ap (λ t. physical_manager A reads writes w p (get_or t 0 d)) dB) in
     a ∙ (ap (λ t. t ++ set (drop p before) 0 x) tB ∙ (ap (λ t. A ++ set t 0 x) dB ∙ (ap (λ y. A ++ y ∷ R) nx
-    ∙ ap (λ t. A ++ managers_met A reads writes w p t) (sym eD))))
+    ∙ ap (λ t. A ++ physical_managers A reads writes w p t) (sym eD))))

@@ -12,7 +12,7 @@ use Rattle.ec_sync.specs.Manager.{Manager, may_read, may_write}
 use Rattle.ec_fmmu.specs.Applied.{Place, leads_into, touched_by_reading, touched_by_writing}
 use Rattle.ec_slave.specs.State.{SlaveState, fmmus, with_memory}
 use Rattle.ec_slave.specs.Managers.{is_ungoverned, manager_after}
-use Rattle.ec_slave.specs.Logical.{place_of, read_bit, readable_bit, written_bit, plain_bit, brought, value_brought, managers_exchanged, only_if, some_read, some_written, logical_after, meets_logical}
+use Rattle.ec_slave.specs.Logical.{place_of, read_bit, readable_bit, written_bit, plain_bit, brought, logical_value, logical_managers, only_if, some_read, some_written, logical_after, meets_logically}
 use Rattle.ec_slave.specs.LogicalLaws.{Misses}
 use Rattle.ec_slave.specs.Roles.{is_reading, is_writing}
 use Rattle.ec_slave.specs.Mapped.{data_after, count_after, weight}
@@ -43,15 +43,15 @@ manager_kept s reading writing p own value m h =
     ∙ if_false _ _ _ (and_right reading _ (and_right (may_read m) _ (and_left _ _ (and_left _ _ (no_touch_reading s p m.settings.start h)))))
 
 managers_kept : (s : SlaveState) (lower ms : List Manager) (reading writing : Bool) (p : Place) (bytes : List ℕ) → Misses s p
-    → managers_exchanged lower reading writing (fmmus s) p bytes ms ≡ ms
+    → logical_managers lower reading writing (fmmus s) p bytes ms ≡ ms
 managers_kept s lower [] reading writing p bytes h = refl
 managers_kept s lower (m ∷ ms) reading writing p bytes h =
-    ap (λ x. x ∷ managers_exchanged (lower ++ m ∷ []) reading writing (fmmus s) p bytes ms) (manager_kept s reading writing p (is_ungoverned lower) (value_brought lower (fmmus s) p bytes) m h)
+    ap (λ x. x ∷ logical_managers (lower ++ m ∷ []) reading writing (fmmus s) p bytes ms) (manager_kept s reading writing p (is_ungoverned lower) (logical_value lower (fmmus s) p bytes) m h)
     ∙ ap (λ xs. m ∷ xs) (managers_kept s (lower ++ m ∷ []) ms reading writing p bytes h)
 
 pub misses : (reading writing : Bool) (weight : ℕ) (s : SlaveState) (d : Datagram) → Misses s (place_of d) → d.counter < 65536
-    → meets_logical reading writing weight s d ≡ record { slave = s; datagram = d }
-unfolding meets_logical
+    → meets_logically reading writing weight s d ≡ record { slave = s; datagram = d }
+unfolding meets_logically
 misses reading writing weight s d h c =
     let p = place_of d in
     let memory = overlay_own s.memory (λ q. only_if writing (plain_bit s.managers (fmmus s) p d.data_bytes q))
@@ -88,7 +88,7 @@ missed_count role s p bytes h =
 
 -- ---- a role that neither reads nor writes
 
-managers_left : (lower ms : List Manager) (fs : List FmmuSettings) (p : Place) (bytes : List ℕ) → ms ≡ managers_exchanged lower false false fs p bytes ms
+managers_left : (lower ms : List Manager) (fs : List FmmuSettings) (p : Place) (bytes : List ℕ) → ms ≡ logical_managers lower false false fs p bytes ms
 managers_left lower [] fs p bytes = refl
 managers_left lower (m ∷ ms) fs p bytes = ap (λ (xs : List Manager). m ∷ xs) (managers_left (lower ++ m ∷ []) ms fs p bytes)
 

@@ -13,40 +13,40 @@ use Rattle.ec_fmmu.specs.Applied.{Place, inside_place, touched_by_reading, touch
 use Rattle.ec_slave.specs.State.{SlaveState, fmmus, fmmus_of, with_memory}
 use Rattle.ec_slave.specs.Untouched.{byte-overlay}
 use Rattle.ec_slave.specs.Managers.{is_ungoverned, manager_after}
-use Rattle.ec_slave.specs.Logical.{value_brought, managers_exchanged, plain_bit, only_if, logical_after, some_written}
+use Rattle.ec_slave.specs.Logical.{logical_value, logical_managers, plain_bit, only_if, logical_after, some_written}
 use Rattle.ec_slave.specs.Written.{some_plain_written, some_manager_written}
 use Rattle.ec_slave.proofs.SomeWritten.{some_written-is}
 use Rattle.ec_slave.proofs.Decoded.{fmmus_of-alike}
 
 -- a read goes by where the bits lie, and not by what they are
 managers-unwritten : (lower ms : List Manager) (fs : List FmmuSettings) (p : Place) (b c : List ℕ)
-    → managers_exchanged lower true false fs p b ms ≡ managers_exchanged lower true false fs p c ms
+    → logical_managers lower true false fs p b ms ≡ logical_managers lower true false fs p c ms
 managers-unwritten lower [] fs p b c = refl
 managers-unwritten lower (m ∷ ms) fs p b c =
-    ap (λ (xs : List Manager). manager_after true false (touched_by_reading fs p) (touched_by_writing fs p) (is_ungoverned lower) (value_brought lower fs p b) m ∷ xs)
+    ap (λ (xs : List Manager). manager_after true false (touched_by_reading fs p) (touched_by_writing fs p) (is_ungoverned lower) (logical_value lower fs p b) m ∷ xs)
     (managers-unwritten (lower ++ m ∷ []) ms fs p b c)
 
 pub slave_read : (s : SlaveState) (memory : List ℕ) (managers : List Manager) (fs : List FmmuSettings) (p q : Place) (b c : List ℕ)
-    → memory ≡ s.memory → fs ≡ fmmus s → q ≡ p → managers ≡ managers_exchanged [] true false fs q c s.managers
+    → memory ≡ s.memory → fs ≡ fmmus s → q ≡ p → managers ≡ logical_managers [] true false fs q c s.managers
     → with_memory s memory managers ≡ logical_after s true false p b
 slave_read s memory managers fs p q b c m f e x =
     let own : memory ≡ overlay s.memory (λ i. only_if false (plain_bit s.managers (fmmus s) p b i))
     = m ∙ sym (overlay_own s.memory (λ i. only_if false (plain_bit s.managers (fmmus s) p b i)) (λ i l. refl)) in
-    let met : managers ≡ managers_exchanged [] true false (fmmus s) p b s.managers
-    = x ∙ (ap (λ (g : List FmmuSettings). managers_exchanged [] true false g q c s.managers) f
-    ∙ (ap (λ (r : Place). managers_exchanged [] true false (fmmus s) r c s.managers) e
+    let met : managers ≡ logical_managers [] true false (fmmus s) p b s.managers
+    = x ∙ (ap (λ (g : List FmmuSettings). logical_managers [] true false g q c s.managers) f
+    ∙ (ap (λ (r : Place). logical_managers [] true false (fmmus s) r c s.managers) e
     ∙ managers-unwritten [] s.managers (fmmus s) p c b)) in
     ap (λ (y : List ℕ). with_memory s y managers) own
     ∙ ap (λ (y : List Manager). with_memory s (overlay s.memory (λ i. only_if false (plain_bit s.managers (fmmus s) p b i))) y) met
 
 pub slave_written : (s : SlaveState) (reading : Bool) (memory : List ℕ) (managers : List Manager) (fs : List FmmuSettings) (p : Place) (b : List ℕ)
-    → memory ≡ overlay s.memory (plain_bit s.managers fs p b) → fs ≡ fmmus s → managers ≡ managers_exchanged [] reading true fs p b s.managers
+    → memory ≡ overlay s.memory (plain_bit s.managers fs p b) → fs ≡ fmmus s → managers ≡ logical_managers [] reading true fs p b s.managers
     → with_memory s memory managers ≡ logical_after s reading true p b
 slave_written s reading memory managers fs p b m f x =
     let own : memory ≡ overlay s.memory (plain_bit s.managers (fmmus s) p b)
     = m ∙ ap (λ (g : List FmmuSettings). overlay s.memory (plain_bit s.managers g p b)) f in
-    let met : managers ≡ managers_exchanged [] reading true (fmmus s) p b s.managers
-    = x ∙ ap (λ (g : List FmmuSettings). managers_exchanged [] reading true g p b s.managers) f in
+    let met : managers ≡ logical_managers [] reading true (fmmus s) p b s.managers
+    = x ∙ ap (λ (g : List FmmuSettings). logical_managers [] reading true g p b s.managers) f in
     ap (λ (y : List ℕ). with_memory s y managers) own
     ∙ ap (λ (y : List Manager). with_memory s (overlay s.memory (plain_bit s.managers (fmmus s) p b)) y) met
 

@@ -18,8 +18,8 @@ use Rattle.ec_slave.specs.State.{SlaveState, Met, fmmus, manager_at, station_of}
 use Rattle.ec_slave.specs.Sound.{IsSlave}
 use Rattle.ec_slave.specs.Managers.{manager_after}
 use Rattle.ec_slave.specs.AgainstAll.{bits_among, each_from, governs_among, value_among}
-use Rattle.ec_slave.specs.Access.{Window, byte_at, is_configured, is_kept, managers_met, meeting, memory_written, register_byte, settings_written, slave_after, touches}
-use Rattle.ec_slave.specs.Logical.{brought, meets_logical, only_if, place_of}
+use Rattle.ec_slave.specs.Physical.{Window, byte_at, is_configured, is_kept, physical_managers, meeting, memory_written, register_byte, settings_written, physical_after, touches}
+use Rattle.ec_slave.specs.Logical.{brought, meets_logically, only_if, place_of}
 use Rattle.ec_slave.specs.Meeting.{window_of, meets, meets_by, meets_physically, slave_met}
 use Rattle.ec_slave.specs.MeetingLaws.{writes_at, RegistersAfterWrite, ManagersAfterWrite, MovesBits, LogicalBitByBit, IsValueWritten, ValueBitByBit}
 use Rattle.ec_slave.proofs.AgainstAll.{logical_against_all, physical_against_all}
@@ -47,11 +47,11 @@ writing-physical Frmw s d e = refl
 
 -- the slave after a writing datagram, which may read as well
 written-slave : (s : SlaveState) (d : Datagram) → writes_at s d ≡ true
-    → slave_met s d ≡ slave_after s (is_reading (role_of d.command (adp_of d) (station_of s))) true (window_of d)
+    → slave_met s d ≡ physical_after s (is_reading (role_of d.command (adp_of d) (station_of s))) true (window_of d)
 unfolding meets meeting
 written-slave s d e =
     ap (λ (m : Met). m.slave) (writing-physical d.command s d e)
-    ∙ ap (λ (b : Bool). slave_after s (is_reading (role_of d.command (adp_of d) (station_of s))) b (window_of d)) e
+    ∙ ap (λ (b : Bool). physical_after s (is_reading (role_of d.command (adp_of d) (station_of s))) b (window_of d)) e
 
 -- ---- registers
 
@@ -147,14 +147,14 @@ requested-same true al = (refl, refl)
 requested-same false al = (refl, refl)
 
 registers-written : (s : SlaveState) (reads : Bool) (w : Window) (a : ℕ) → IsSlave s → a < 0x0800 → within 0x0502 6 a ≡ false
-    → byte_at (slave_after s reads true w) a ≡ (if touches w a && is_stored a then slice_index w.bytes (a - w.from) else byte_at s a)
-unfolding slave_after
+    → byte_at (physical_after s reads true w) a ≡ (if touches w a && is_stored a then slice_index w.bytes (a - w.from) else byte_at s a)
+unfolding physical_after
 registers-written s reads w a h l out =
     let inside : a < length s.memory = omega (arith, h.memory) in
     let at = written_at s.managers w s.memory a inside in
     let after : SlaveState = record s {
       memory = memory_written s.managers w s.memory;
-      managers = managers_met [] reads true w 0 s.managers;
+      managers = physical_managers [] reads true w 0 s.managers;
       al = if touches w 0x0120 then requesting s.al else s.al;
       sii = written s.sii w.from w.bytes;
     } in
@@ -207,9 +207,9 @@ unaccessed reads writes w own value m l = elim (cases_Bool (is_set m.settings)) 
 ]
 
 managers-written : (s : SlaveState) (reads : Bool) (w : Window) (n : ℕ) → n < length s.managers → w.from + length w.bytes ≤ ram_start
-    → manager_at (slave_after s reads true w).managers n
+    → manager_at (physical_after s reads true w).managers n
     ≡ (if is_configured w n then empty_manager (settings_written w n (manager_at s.managers n)) (manager_at s.managers n).locked else manager_at s.managers n)
-unfolding slave_after
+unfolding physical_after
 managers-written s reads w n i l =
     let m : Manager = manager_at s.managers n in
     ap (λ (ms : List Manager). manager_at ms n) (physical_against_all reads true w s.managers)
@@ -225,8 +225,8 @@ managers_after_write s d n i e l =
 -- ---- bits
 
 -- of a datagram that was met as a logical one
-moves : (reading writing : Bool) (weight : ℕ) (s : SlaveState) (d : Datagram) → meets s d ≡ meets_logical reading writing weight s d → MovesBits reading writing s d
-unfolding meets_logical
+moves : (reading writing : Bool) (weight : ℕ) (s : SlaveState) (d : Datagram) → meets s d ≡ meets_logically reading writing weight s d → MovesBits reading writing s d
+unfolding meets_logically
 moves reading writing weight s d e = record {
   data_bits = λ i l. ap (λ (m : Met). bit m.datagram.data_bytes i) e ∙ bit-overlay d.data_bytes _ i l;
   memory_bits = λ q l. ap (λ (m : Met). bit m.slave.memory q) e ∙ bit-overlay s.memory _ q l;
@@ -252,9 +252,9 @@ shown-written m v = by (is_mailbox m.settings) refl
     by false e = rw e (rw e refl)
 
 -- the value of manager n after a datagram that was met as a logical one that writes
-value-written : (reading : Bool) (weight : ℕ) (s : SlaveState) (d : Datagram) (n : ℕ) → n < length s.managers → meets s d ≡ meets_logical reading true weight s d
+value-written : (reading : Bool) (weight : ℕ) (s : SlaveState) (d : Datagram) (n : ℕ) → n < length s.managers → meets s d ≡ meets_logically reading true weight s d
     → IsValueWritten s d n
-unfolding meets_logical
+unfolding meets_logically
 value-written reading weight s d n inside e written k l =
     let m : Manager = manager_at s.managers n in
     let v : List ℕ = bits_among s.managers (fmmus s) (place_of d) d.data_bytes n m.settings.start m.settings.length in

@@ -9,7 +9,7 @@ use Rattle.ec_regs.specs.Managers.{is_set, span}
 use Rattle.ec_sync.specs.Bounds.{span_end_of}
 use Rattle.ec_sync.specs.Manager.{Manager, shown}
 use Rattle.ec_sync.specs.Governing.{governor, governs, in_first_buffer}
-use Rattle.ec_fmmu.specs.Alone.{run_shown}
+use Rattle.ec_fmmu.specs.Apart.{run_shown}
 use Rattle.ec_slave.specs.State.{manager_at}
 use Rattle.ec_slave.specs.Sights.{seen_bit, seen_under}
 

@@ -17,9 +17,9 @@ use Rattle.ec_fmmu.specs.Applied.{touched_by_reading, touched_by_writing}
 use Rattle.ec_slave.specs.Roles.{role_of, is_reading, is_writing}
 use Rattle.ec_slave.specs.State.{SlaveState, manager_at, fmmus, station_of}
 use Rattle.ec_slave.specs.Managers.{gets_at, is_written_by, manager_after}
-use Rattle.ec_slave.specs.Access.{Window, touches, is_configured, settings_written, slave_after, meeting}
+use Rattle.ec_slave.specs.Physical.{Window, touches, is_configured, settings_written, physical_after, meeting}
 use Rattle.ec_slave.specs.AgainstAll.{each_from, governs_among, value_among, bits_among}
-use Rattle.ec_slave.specs.Logical.{meets_logical, place_of}
+use Rattle.ec_slave.specs.Logical.{meets_logically, place_of}
 use Rattle.ec_slave.specs.Meeting.{meets, meets_by, meets_physically, slave_met, window_of}
 use Rattle.ec_slave.specs.Application.{is_running, with_manager, output_taken}
 use Rattle.ec_slave.specs.Serving.{served, request_decided, read_finished, message_served, managers_entered, unlocked_empty, reply_given, request_in, is_served, answer_to, is_init, is_safeop, is_preop}
@@ -150,8 +150,8 @@ accessed false true rt wt own value m =
     one_step is_of_ring 1 m _ (RingWrite (gets_at wt own m) (value m.settings.start m.settings.length)) (omega arith) refl (sym (writes_one rt wt own value m))
 accessed false false rt wt own value m = no_run is_of_ring 1 m
 
-physical_run : (s : SlaveState) (reads writes : Bool) (w : Window) → AreRunTo is_of_ring 1 s (slave_after s reads writes w)
-unfolding slave_after
+physical_run : (s : SlaveState) (reads writes : Bool) (w : Window) → AreRunTo is_of_ring 1 s (physical_after s reads writes w)
+unfolding physical_after
 physical_run s reads writes w =
     subst (λ (ms : List Manager). AllRunTo is_of_ring 1 s.managers ms) (sym (physical_against_all reads writes w s.managers))
     (each_run is_of_ring 1 0 _ s.managers (λ n m. either_run is_of_ring 1 (writes && is_configured w n) m _ _
@@ -163,14 +163,14 @@ physically_run s d =
     let role = role_of d.command (adp_of d) (station_of s) in
     physical_run s (is_reading role) (is_writing role) (window_of d)
 
-logically_run : (s : SlaveState) (reading writing : Bool) (weight : ℕ) (d : Datagram) → AreRunTo is_of_ring 1 s (meets_logical reading writing weight s d).slave
-unfolding meets_logical
+logically_run : (s : SlaveState) (reading writing : Bool) (weight : ℕ) (d : Datagram) → AreRunTo is_of_ring 1 s (meets_logically reading writing weight s d).slave
+unfolding meets_logically
 logically_run s reading writing weight d =
     subst (λ (ms : List Manager). AllRunTo is_of_ring 1 s.managers ms) (sym (logical_against_all reading writing (fmmus s) (place_of d) d.data_bytes s.managers))
     (each_run is_of_ring 1 0 _ s.managers (λ n m. accessed reading writing (touched_by_reading (fmmus s) (place_of d)) (touched_by_writing (fmmus s) (place_of d))
     (governs_among s.managers n) (bits_among s.managers (fmmus s) (place_of d) d.data_bytes n) m))
 
-lrw_run : (b : Bool) (s : SlaveState) (d : Datagram) → AreRunTo is_of_ring 1 s (if b then meets_logical true true 2 s d else record { slave = s; datagram = d }).slave
+lrw_run : (b : Bool) (s : SlaveState) (d : Datagram) → AreRunTo is_of_ring 1 s (if b then meets_logically true true 2 s d else record { slave = s; datagram = d }).slave
 lrw_run true s d = logically_run s true true 2 d
 lrw_run false s d = same_slave is_of_ring 1 s
 

@@ -6,7 +6,7 @@ use Rattle.std.proofs.lemmas.List.{places}
 use borrow.Rule.Slice.PartMut.{put_mid}
 use Rattle.ec_bits.specs.Bits.{within}
 use Rattle.ec_bits.proofs.AnyLaws.{if_true, if_false, within_true, within_below, within_above}
-use Rattle.ec_slave.specs.Access.{retold_from}
+use Rattle.ec_slave.specs.Physical.{retold_from}
 use Rattle.ec_slave.specs.Telling.{set_told}
 use Rattle.ec_slave.specs.Keeping.{length-retold}
 

@@ -11,7 +11,7 @@ use Rattle.ec_sync.specs.Manager.{Manager, may_write}
 use Rattle.ec_sync.specs.Governing.{covers, governor}
 use Rattle.ec_fmmu.specs.Applied.{Place, touched_by_writing, data_bit_for}
 use Rattle.ec_slave.specs.Managers.{is_ungoverned, is_written_by}
-use Rattle.ec_slave.specs.Logical.{brought, managers_exchanged, plain_bit}
+use Rattle.ec_slave.specs.Logical.{brought, logical_managers, plain_bit}
 use Rattle.ec_slave.specs.Written.{some_brought}
 use Rattle.ec_slave.proofs.Exchanges.{one_written, exchanged_from, written_from, written_from-next, take_front, drop_front}
 use Rattle.ec_slave.proofs.SomeWritten.{same_truth, if-some}
@@ -118,10 +118,10 @@ pub written_from-step : (ms before : List Manager) (reading writing : Bool) (fs 
 written_from-step ms before reading writing fs p bytes n d a b l was ha hb =
     let A : List Manager = take n ms in
     let m : Manager = get_or ms n d in
-    let R : List Manager = managers_exchanged (A ++ m ∷ []) reading writing fs p bytes (drop (n + 1) ms) in
+    let R : List Manager = logical_managers (A ++ m ∷ []) reading writing fs p bytes (drop (n + 1) ms) in
     let eA : length A ≡ n = length-take-le n ms (omega arith) in
     let eT : take (n + 1) ms ≡ A ++ m ∷ [] = take_more ms n d l in
-    let eB : before ≡ A ++ m ∷ R = was ∙ (ap (λ t. t ++ managers_exchanged t reading writing fs p bytes (drop (n + 1) ms)) eT ∙ append_assoc A (m ∷ []) R) in
+    let eB : before ≡ A ++ m ∷ R = was ∙ (ap (λ t. t ++ logical_managers t reading writing fs p bytes (drop (n + 1) ms)) eT ∙ append_assoc A (m ∷ []) R) in
     let tB : take n before ≡ A = ap (take n) eB ∙ take_front A (m ∷ R) n eA in
     let dB : drop n before ≡ m ∷ R = ap (drop n) eB ∙ drop_front A (m ∷ R) n eA in
     let by = λ (t : List Manager) (x : Manager). writing && is_written_by (touched_by_writing fs p) (is_ungoverned t) x in

@@ -18,7 +18,7 @@ use Rattle.ec_fmmu.proofs.PairLaws.{none_or_some}
 use Rattle.ec_fmmu.proofs.RangeLaws.{reading_pair}
 use Rattle.ec_slave.specs.State.{SlaveState, fmmus, manager_at, with_memory}
 use Rattle.ec_slave.specs.Managers.{gets_at, is_read_by, is_ungoverned, is_written_by, manager_after, reads_under, shown_under}
-use Rattle.ec_slave.specs.Logical.{logical_after, managers_exchanged, only_if, plain_bit, read_bit, readable_bit, some_read, value_brought}
+use Rattle.ec_slave.specs.Logical.{logical_after, logical_managers, only_if, plain_bit, read_bit, readable_bit, some_read, logical_value}
 use Rattle.ec_slave.specs.Mapped.{MayWriteFirst}
 use Rattle.ec_slave.proofs.AgainstAll.{gets_at-alike}
 use Rattle.ec_slave.proofs.Moves.{decoded-mapped}
@@ -102,18 +102,18 @@ settings_more (x ∷ ms) m = ap (λ (xs : List ManagerSettings). x.settings ∷ 
 -- ---- all managers, written first
 
 abbrev first_written : List Manager → List FmmuSettings → Place → List ℕ → List Manager → List Manager
-first_written lower fs p b ms = managers_exchanged lower false true fs p b ms
+first_written lower fs p b ms = logical_managers lower false true fs p b ms
 
 settings_first : (lower : List Manager) (fs : List FmmuSettings) (p : Place) (b : List ℕ) (ms : List Manager) → settings_in (first_written lower fs p b ms) ≡ settings_in ms
 settings_first lower fs p b [] = refl
 settings_first lower fs p b (m ∷ ms) =
-    let one = (alike_after (touched_by_reading fs p) (touched_by_writing fs p) (is_ungoverned lower) (value_brought lower fs p b) m).settings in
+    let one = (alike_after (touched_by_reading fs p) (touched_by_writing fs p) (is_ungoverned lower) (logical_value lower fs p b) m).settings in
     ap (λ (x : ManagerSettings). x ∷ settings_in (first_written (lower ++ m ∷ []) fs p b ms)) one
     ∙ ap (λ (xs : List ManagerSettings). m.settings ∷ xs) (settings_first (lower ++ m ∷ []) fs p b ms)
 
 alike_first : (lower : List Manager) (fs : List FmmuSettings) (p : Place) (b : List ℕ) (ms : List Manager) (n : ℕ) → Alike (manager_at ms n) (manager_at (first_written lower fs p b ms) n)
 alike_first lower fs p b [] n = alike_own no_manager
-alike_first lower fs p b (m ∷ ms) zero = alike_after (touched_by_reading fs p) (touched_by_writing fs p) (is_ungoverned lower) (value_brought lower fs p b) m
+alike_first lower fs p b (m ∷ ms) zero = alike_after (touched_by_reading fs p) (touched_by_writing fs p) (is_ungoverned lower) (logical_value lower fs p b) m
 alike_first lower fs p b (m ∷ ms) (suc n) = alike_first (lower ++ m ∷ []) fs p b ms n
 
 -- a manager that was written first, and is then read, is as if both were at once
@@ -138,21 +138,21 @@ both_at_once rt wt own their v w m same = elim (cases_Bool (is_written_by wt own
 ]
 
 managers_at_once : (lower others : List Manager) (fs : List FmmuSettings) (p : Place) (b c : List ℕ) (ms : List Manager) → settings_in others ≡ settings_in lower
-    → managers_exchanged others true false fs p c (first_written lower fs p b ms) ≡ managers_exchanged lower true true fs p b ms
+    → logical_managers others true false fs p c (first_written lower fs p b ms) ≡ logical_managers lower true true fs p b ms
 managers_at_once lower others fs p b c [] e = refl
 managers_at_once lower others fs p b c (m ∷ ms) e =
     let rt = touched_by_reading fs p in
     let wt = touched_by_writing fs p in
-    let x : Manager = manager_after false true rt wt (is_ungoverned lower) (value_brought lower fs p b) m in
-    let one : manager_after true false rt wt (is_ungoverned others) (value_brought others fs p c) x ≡ manager_after true true rt wt (is_ungoverned lower) (value_brought lower fs p b) m
-    = both_at_once rt wt (is_ungoverned lower) (is_ungoverned others) (value_brought lower fs p b) (value_brought others fs p c) m
+    let x : Manager = manager_after false true rt wt (is_ungoverned lower) (logical_value lower fs p b) m in
+    let one : manager_after true false rt wt (is_ungoverned others) (logical_value others fs p c) x ≡ manager_after true true rt wt (is_ungoverned lower) (logical_value lower fs p b) m
+    = both_at_once rt wt (is_ungoverned lower) (is_ungoverned others) (logical_value lower fs p b) (logical_value others fs p c) m
     (λ a. ap (λ (o : Option ℕ). is_none o) (governor_same lower others a e)) in
     let more : settings_in (others ++ x ∷ []) ≡ settings_in (lower ++ m ∷ [])
     = settings_more others x ∙ (ap (λ (xs : List ManagerSettings). xs ++ x.settings ∷ []) e
-    ∙ (ap (λ (y : ManagerSettings). settings_in lower ++ y ∷ []) (alike_after rt wt (is_ungoverned lower) (value_brought lower fs p b) m).settings
+    ∙ (ap (λ (y : ManagerSettings). settings_in lower ++ y ∷ []) (alike_after rt wt (is_ungoverned lower) (logical_value lower fs p b) m).settings
     ∙ sym (settings_more lower m))) in
-    ap (λ (y : Manager). y ∷ managers_exchanged (others ++ x ∷ []) true false fs p c (first_written (lower ++ m ∷ []) fs p b ms)) one
-    ∙ ap (λ (ys : List Manager). manager_after true true rt wt (is_ungoverned lower) (value_brought lower fs p b) m ∷ ys)
+    ap (λ (y : Manager). y ∷ logical_managers (others ++ x ∷ []) true false fs p c (first_written (lower ++ m ∷ []) fs p b ms)) one
+    ∙ ap (λ (ys : List Manager). manager_after true true rt wt (is_ungoverned lower) (logical_value lower fs p b) m ∷ ys)
     (managers_at_once (lower ++ m ∷ []) (others ++ x ∷ []) fs p b c ms more)
 
 -- ---- the slave
@@ -168,10 +168,10 @@ slave_at_once s p b c =
     let t : SlaveState = wrote s p b in
     let memory : overlay t.memory (λ q. only_if false (plain_bit t.managers (fmmus t) p c q)) ≡ t.memory
     = overlay_own t.memory (λ q. only_if false (plain_bit t.managers (fmmus t) p c q)) (λ i l. refl) in
-    let managers : managers_exchanged [] true false (fmmus t) p c t.managers ≡ managers_exchanged [] true true (fmmus s) p b s.managers
-    = ap (λ (fs : List FmmuSettings). managers_exchanged [] true false fs p c t.managers) (same_fmmus s p b)
+    let managers : logical_managers [] true false (fmmus t) p c t.managers ≡ logical_managers [] true true (fmmus s) p b s.managers
+    = ap (λ (fs : List FmmuSettings). logical_managers [] true false fs p c t.managers) (same_fmmus s p b)
     ∙ managers_at_once [] [] (fmmus s) p b c s.managers refl in
-    ap (λ (xs : List ℕ). with_memory t xs (managers_exchanged [] true false (fmmus t) p c t.managers)) memory
+    ap (λ (xs : List ℕ). with_memory t xs (logical_managers [] true false (fmmus t) p c t.managers)) memory
     ∙ ap (λ (ms : List Manager). with_memory s t.memory ms) managers
 
 -- ---- what is read

@@ -8,8 +8,8 @@ use Rattle.ec_sync.specs.Manager.{Manager, empty_manager}
 use Rattle.ec_sync.specs.Governing.{governor}
 use Rattle.ec_fmmu.specs.Applied.{Place, touched_by_reading, touched_by_writing}
 use Rattle.ec_slave.specs.Managers.{manager_after}
-use Rattle.ec_slave.specs.Access.{Window, touches, byte_from, retold, is_configured, settings_written, managers_met}
-use Rattle.ec_slave.specs.Logical.{brought, only_if, managers_exchanged}
+use Rattle.ec_slave.specs.Physical.{Window, touches, byte_from, retold, is_configured, settings_written, physical_managers}
+use Rattle.ec_slave.specs.Logical.{brought, only_if, logical_managers}
 
 abbrev pub is_governor : ℕ → Option ℕ → Bool
 is_governor n None = false
@@ -37,7 +37,7 @@ bits_among all fs p bytes n start len =
 abbrev pub PhysicalAgainstAll : Type 0
 PhysicalAgainstAll =
     (reads writes : Bool) (w : Window) (ms : List Manager)
-    → managers_met [] reads writes w 0 ms
+    → physical_managers [] reads writes w 0 ms
     ≡ each_from 0 (λ n m. if writes && is_configured w n then empty_manager (settings_written w n m) m.locked
     else manager_after reads writes (touches w) (touches w) (governs_among ms n) (value_among ms w n) m) ms
 
@@ -45,5 +45,5 @@ PhysicalAgainstAll =
 abbrev pub LogicalAgainstAll : Type 0
 LogicalAgainstAll =
     (reading writing : Bool) (fs : List FmmuSettings) (p : Place) (bytes : List ℕ) (ms : List Manager)
-    → managers_exchanged [] reading writing fs p bytes ms
+    → logical_managers [] reading writing fs p bytes ms
     ≡ each_from 0 (λ n m. manager_after reading writing (touched_by_reading fs p) (touched_by_writing fs p) (governs_among ms n) (bits_among ms fs p bytes n) m) ms

@@ -9,7 +9,7 @@ use Rattle.ec_slave.specs.declared.role.Role.{Role}
 use Rattle.ec_slave.specs.declared.role.Role.TheVariants.{Read, Write, ReadWrite}
 use Rattle.ec_slave.specs.Roles.{role_of, adp_after}
 use Rattle.ec_slave.specs.State.{SlaveState, Met, station_of, with_answer}
-use Rattle.ec_slave.specs.Access.{meeting}
+use Rattle.ec_slave.specs.Physical.{meeting}
 use Rattle.ec_slave.specs.Meeting.{window_of}
 use Rattle.ec_slave.specs.Mapped.{meets_mapped}
 

@@ -9,9 +9,9 @@ use Rattle.ec_slave.specs.declared.role.Role.{Role}
 use Rattle.ec_slave.specs.declared.role.Role.TheVariants.{Nothing, Read, Write, ReadWrite, OrRead, OrReadWrite}
 use Rattle.ec_slave.specs.Roles.{role_of, adp_after}
 use Rattle.ec_slave.specs.State.{SlaveState, station_of}
-use Rattle.ec_slave.specs.Access.{retold_from, Window, meeting}
+use Rattle.ec_slave.specs.Physical.{retold_from, Window, meeting}
 use Rattle.ec_bits.proofs.BitLaws.{length-overlay}
-use Rattle.ec_slave.specs.Logical.{meets_logical}
+use Rattle.ec_slave.specs.Logical.{meets_logically}
 use Rattle.ec_slave.specs.Meeting.{window_of, meets, meets_physically, meets_by, datagram_met}
 
 pub length-retold : (k : ℕ) (xs : List ℕ) (f : ℕ → Option ℕ) → length (retold_from k xs f) ≡ length xs
@@ -63,14 +63,14 @@ physically-keeps s d h =
       e,
     )
 
-pub logically-keeps : (reading writing : Bool) (weight : ℕ) (s : SlaveState) (d : Datagram) → IsDatagram d → IsDatagram (meets_logical reading writing weight s d).datagram × (length (meets_logical reading writing weight s d).datagram.data_bytes ≡ length d.data_bytes)
-unfolding meets_logical
+pub logically-keeps : (reading writing : Bool) (weight : ℕ) (s : SlaveState) (d : Datagram) → IsDatagram d → IsDatagram (meets_logically reading writing weight s d).datagram × (length (meets_logically reading writing weight s d).datagram.data_bytes ≡ length d.data_bytes)
+unfolding meets_logically
 logically-keeps reading writing weight s d h =
     let e = length-overlay d.data_bytes _ in
     (record { index = h.index; address = h.address; reserved = h.reserved; irq = h.irq; data_bytes = omega (arith, e, h.data_bytes); counter = omega arith }, e)
 
 lrw-keeps : (b : Bool) (s : SlaveState) (d : Datagram) → IsDatagram d
-    → IsDatagram (if b then meets_logical true true 2 s d else record { slave = s; datagram = d }).datagram × (length (if b then meets_logical true true 2 s d else record { slave = s; datagram = d }).datagram.data_bytes ≡ length d.data_bytes)
+    → IsDatagram (if b then meets_logically true true 2 s d else record { slave = s; datagram = d }).datagram × (length (if b then meets_logically true true 2 s d else record { slave = s; datagram = d }).datagram.data_bytes ≡ length d.data_bytes)
 lrw-keeps true s d h = logically-keeps true true 2 s d h
 lrw-keeps false s d h = (h, refl)
 

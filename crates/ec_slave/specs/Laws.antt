@@ -7,7 +7,7 @@ use Rattle.ec_slave.specs.declared.role.Role.{Role}
 use Rattle.ec_slave.specs.declared.role.Role.TheVariants.{Nothing, Read, Write, ReadWrite, OrRead, OrReadWrite}
 use Rattle.ec_slave.specs.State.{SlaveState, station_of}
 use Rattle.ec_sync.specs.Manager.{Manager}
-use Rattle.ec_slave.specs.Access.{Window, touches, byte_at, byte_read, is_kept, may_read_byte, memory_written, retold, some_byte_read, some_byte_written, meeting}
+use Rattle.ec_slave.specs.Physical.{Window, touches, byte_at, byte_read, is_kept, may_read_byte, memory_written, retold, some_byte_read, some_byte_written, meeting}
 use Rattle.ec_slave.specs.Meeting.{meets, slave_met, datagram_met}
 use Rattle.ec_slave.specs.Sound.{IsSlave}
 

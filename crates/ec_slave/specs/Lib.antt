@@ -2,7 +2,7 @@
 pub mod State
 pub mod Roles
 pub mod Managers
-pub mod Access
+pub mod Physical
 pub mod Logical
 pub mod Meeting
 pub mod Application

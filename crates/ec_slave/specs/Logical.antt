@@ -45,15 +45,15 @@ plain_bit ms fs p bytes q = if is_ungoverned ms (q / 8) then brought fs p bytes 
 
 -- The value that a written manager gets, of its start and length: 0 in all untouched bits, and in the bytes that a
 -- lower-numbered manager governs.
-abbrev pub value_brought : List Manager → List FmmuSettings → Place → List ℕ → ℕ → ℕ → List ℕ
-value_brought lower fs p bytes start len = overlay (zeros len) (λ k. plain_bit lower fs p bytes (8 * start + k))
+abbrev pub logical_value : List Manager → List FmmuSettings → Place → List ℕ → ℕ → ℕ → List ℕ
+logical_value lower fs p bytes start len = overlay (zeros len) (λ k. plain_bit lower fs p bytes (8 * start + k))
 
 -- each manager after the datagram; `lower` are the managers before the first
-abbrev pub managers_exchanged : List Manager → Bool → Bool → List FmmuSettings → Place → List ℕ → List Manager → List Manager
-managers_exchanged lower reading writing fs p bytes [] = []
-managers_exchanged lower reading writing fs p bytes (m ∷ ms) =
-    manager_after reading writing (touched_by_reading fs p) (touched_by_writing fs p) (is_ungoverned lower) (value_brought lower fs p bytes) m
-    ∷ managers_exchanged (lower ++ m ∷ []) reading writing fs p bytes ms
+abbrev pub logical_managers : List Manager → Bool → Bool → List FmmuSettings → Place → List ℕ → List Manager → List Manager
+logical_managers lower reading writing fs p bytes [] = []
+logical_managers lower reading writing fs p bytes (m ∷ ms) =
+    manager_after reading writing (touched_by_reading fs p) (touched_by_writing fs p) (is_ungoverned lower) (logical_value lower fs p bytes) m
+    ∷ logical_managers (lower ++ m ∷ []) reading writing fs p bytes ms
 
 -- ---- both
 
@@ -70,12 +70,12 @@ some_written ms fs p bytes = any_below (8 * ram_end) (λ q. is_some (written_bit
 abbrev pub logical_after : SlaveState → Bool → Bool → Place → List ℕ → SlaveState
 logical_after s reading writing p bytes = with_memory s
     (overlay s.memory (λ q. only_if writing (plain_bit s.managers (fmmus s) p bytes q)))
-    (managers_exchanged [] reading writing (fmmus s) p bytes s.managers)
+    (logical_managers [] reading writing (fmmus s) p bytes s.managers)
 
 -- One slave on one logical datagram that reads, writes or does both. A read counts 1, a write `weight`. What a write
 -- takes is the data as received.
-unfoldable pub meets_logical : Bool → Bool → ℕ → SlaveState → Datagram → Met
-meets_logical reading writing weight s d =
+unfoldable pub meets_logically : Bool → Bool → ℕ → SlaveState → Datagram → Met
+meets_logically reading writing weight s d =
     let p = place_of d in
     record {
       slave = logical_after s reading writing p d.data_bytes;

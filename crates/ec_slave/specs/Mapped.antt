@@ -4,12 +4,12 @@ use Rattle.std.specs.Int.{from_bool}
 use Rattle.ec_bits.specs.Bits.{overlay}
 use Rattle.ec_regs.specs.Memory.{ram_end}
 use Rattle.ec_frame.specs.Datagram.{Datagram}
-use Rattle.ec_fmmu.specs.Alone.{AreApart}
+use Rattle.ec_fmmu.specs.Apart.{AreApart}
 use Rattle.ec_fmmu.specs.Applied.{Place}
 use Rattle.ec_slave.specs.declared.role.Role.{Role}
 use Rattle.ec_slave.specs.Roles.{is_reading, is_writing}
 use Rattle.ec_slave.specs.State.{SlaveState, Met, fmmus}
-use Rattle.ec_slave.specs.Logical.{meets_logical, only_if, read_bit, some_read, some_written}
+use Rattle.ec_slave.specs.Logical.{meets_logically, only_if, read_bit, some_read, some_written}
 
 -- what a write counts
 abbrev pub weight : Role → ℕ
@@ -26,7 +26,7 @@ count_after s role p bytes =
     + weight role * from_bool (is_writing role && some_written s.managers (fmmus s) p bytes)
 
 abbrev pub meets_mapped : Role → SlaveState → Datagram → Met
-meets_mapped role s d = meets_logical (is_reading role) (is_writing role) (weight role) s d
+meets_mapped role s d = meets_logically (is_reading role) (is_writing role) (weight role) s d
 
 -- nothing that is read of the memory is written there, so that a datagram that does both may write first
 pub record MayWriteFirst (s : SlaveState) : Type 0 where

@@ -6,8 +6,8 @@ use Rattle.ec_frame.specs.Datagram.{Datagram, adp_of, ado_of}
 use Rattle.ec_frame.specs.Frame.{Payload, IsFrame, with_datagrams}
 use Rattle.ec_slave.specs.Roles.{role_of, adp_after}
 use Rattle.ec_slave.specs.State.{SlaveState, Met, station_of, with_answer}
-use Rattle.ec_slave.specs.Access.{Window, meeting}
-use Rattle.ec_slave.specs.Logical.{meets_logical}
+use Rattle.ec_slave.specs.Physical.{Window, meeting}
+use Rattle.ec_slave.specs.Logical.{meets_logically}
 
 abbrev pub window_of : Datagram → Window
 window_of d = record { from = ado_of d; bytes = d.data_bytes }
@@ -30,9 +30,9 @@ meets_by Fprw s d = meets_physically s d
 meets_by Brd s d = meets_physically s d
 meets_by Bwr s d = meets_physically s d
 meets_by Brw s d = meets_physically s d
-meets_by Lrd s d = meets_logical true false 1 s d
-meets_by Lwr s d = meets_logical false true 1 s d
-meets_by Lrw s d = if s.kind.lrw then meets_logical true true 2 s d else record { slave = s; datagram = d }
+meets_by Lrd s d = meets_logically true false 1 s d
+meets_by Lwr s d = meets_logically false true 1 s d
+meets_by Lrw s d = if s.kind.lrw then meets_logically true true 2 s d else record { slave = s; datagram = d }
 meets_by Armw s d = meets_physically s d
 meets_by Frmw s d = meets_physically s d
 

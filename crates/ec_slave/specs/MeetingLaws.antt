@@ -11,7 +11,7 @@ use Rattle.ec_slave.specs.State.{SlaveState, manager_at, station_of, fmmus}
 use Rattle.ec_slave.specs.Sound.{IsSlave}
 use Rattle.ec_slave.specs.Managers.{is_written_by}
 use Rattle.ec_slave.specs.AgainstAll.{governs_among}
-use Rattle.ec_slave.specs.Access.{byte_at, touches, is_configured, settings_written}
+use Rattle.ec_slave.specs.Physical.{byte_at, touches, is_configured, settings_written}
 use Rattle.ec_slave.specs.Logical.{brought, only_if, place_of, plain_bit, read_bit}
 use Rattle.ec_slave.specs.Meeting.{window_of, slave_met, datagram_met}
 

@@ -7,7 +7,7 @@ use Rattle.ec_regs.specs.declared.fmmu.FmmuSettings.{FmmuSettings}
 use Rattle.ec_sync.specs.Manager.{Manager}
 use Rattle.ec_sync.specs.Governing.{governor}
 use Rattle.ec_fmmu.specs.Applied.{Place, touched_by_writing, data_bit_for}
-use Rattle.ec_slave.specs.Logical.{plain_bit, value_brought}
+use Rattle.ec_slave.specs.Logical.{plain_bit, logical_value}
 
 set-told : (ys : List ℕ) (n a : ℕ) (o : Option Bool) → ((b : Bool) → o ≡ Some b → a ≢ n / 8) → get_or (put_told ys n o) a 0 ≡ get_or ys a 0
 unfolding put
@@ -54,6 +54,6 @@ no-bit lower fs p bytes start k b untouched at =
     = ap (λ q. is_some (data_bit_for fs p q)) (sym place) ∙ none_passes 8 (λ j. is_some (data_bit_for fs p (8 * (start + k) + j))) (b % 8) untouched few in
     none-brought (is_none (governor lower ((8 * start + b) / 8))) (data_bit_for fs p (8 * start + b)) bytes none
 
-pub untouched-zero : (lower : List Manager) (fs : List FmmuSettings) (p : Place) (bytes : List ℕ) (start len k : ℕ) → k < len → touched_by_writing fs p (start + k) ≡ false → slice_index (value_brought lower fs p bytes start len) k ≡ 0
+pub untouched-zero : (lower : List Manager) (fs : List FmmuSettings) (p : Place) (bytes : List ℕ) (start len k : ℕ) → k < len → touched_by_writing fs p (start + k) ≡ false → slice_index (logical_value lower fs p bytes start len) k ≡ 0
 untouched-zero lower fs p bytes start len k inside untouched =
     byte-overlay (zeros len) (λ b. plain_bit lower fs p bytes (8 * start + b)) k (λ b at. no-bit lower fs p bytes start k b untouched at) ∙ get_or-replicate len k 0 0 inside

@@ -10,7 +10,7 @@ ghost use Rattle.std.specs.Bool.{OnTrue};
 ghost use Rattle.ec_frame.specs.Datagram.{Datagram, IsDatagram, IsSpelling, spelling};
 ghost use Rattle.ec_frame.specs.Fields.{header_of, with_data};
 ghost use Rattle.ec_slave.specs.Encounters.{meets_addressed};
-ghost use Rattle.ec_slave.specs.Access.{Window, byte_read, may_read_byte, meeting, retold, slave_after, some_byte_read, some_byte_written};
+ghost use Rattle.ec_slave.specs.Physical.{Window, byte_read, may_read_byte, meeting, retold, physical_after, some_byte_read, some_byte_written};
 ghost use Rattle.ec_slave.specs.State.{fmmus_of};
 
 mod bytes;
@@ -25,16 +25,10 @@ use crate::physical::managers::access_managers;
 use crate::role::Role;
 use crate::slave::Slave;
 use ec_al::Al;
+use ec_bits::within;
 use ec_fmmu::FmmuTable;
 use ec_frame::{Header, cut_counter, cut_heading, read_counter, write_adp, write_counter};
 use ec_regs::registers::{AL_CONTROL, FMMUS_END, RAM_START};
-
-/// Whether `len` bytes from `from` on have an address.
-fn is_touched(from: usize, len: usize, address: usize) -> bool
-    ensures { result ≡ within from len address }
-{
-    address >= from && address - from < len
-}
 
 /// Marks an AL request, or not.
 fn request_if(al: &mut Al, is_written: bool)
@@ -169,15 +163,15 @@ impl Slave {
     }
 
     /// Writes the bytes of a datagram, and answers whether one was written.
-    #[tactic(auto, unfolding(crate::specs::Access::slave_after))]
+    #[tactic(auto, unfolding(crate::specs::Physical::physical_after))]
     fn write_bytes(&mut self, reads: bool, from: usize, bytes: &[u8]) -> bool
         requires { from + length bytes.now < 2 ^ 32 }
-        ensures slave { self.new ≡ slave_after self.old reads true (record { from = from; bytes = bytes.now }) }
+        ensures slave { self.new ≡ physical_after self.old reads true (record { from = from; bytes = bytes.now }) }
         ensures some { result ≡ some_byte_written self.old.managers self.old.sii.busy (record { from = from; bytes = bytes.now }) }
     {
         let is_busy = self.port.is_busy();
         let is_some = write_physical(&mut self.memory, &self.managers, is_busy, from, bytes);
-        request_if(&mut self.al, is_touched(from, bytes.len(), AL_CONTROL));
+        request_if(&mut self.al, within(from, bytes.len(), AL_CONTROL));
         self.port.write(from, bytes);
         access_managers(&mut self.managers, reads, true, from, bytes);
         renew_fmmus(&mut self.fmmus, &self.memory, from);
@@ -193,10 +187,10 @@ impl Slave {
     }
 
     /// What a read does to the managers: a mailbox that it had is empty. Registers belong to none.
-    #[tactic(auto, unfolding(crate::specs::Access::slave_after))]
+    #[tactic(auto, unfolding(crate::specs::Physical::physical_after))]
     fn after_read(&mut self, from: usize, bytes: &[u8])
         requires { from + length bytes.now < 2 ^ 32 }
-        ensures { self.new ≡ slave_after self.old true false (record { from = from; bytes = bytes.now }) }
+        ensures { self.new ≡ physical_after self.old true false (record { from = from; bytes = bytes.now }) }
     {
         if from + bytes.len() > RAM_START {
             access_managers(&mut self.managers, true, false, from, bytes);
@@ -206,7 +200,7 @@ impl Slave {
     /// A datagram that reads.
     fn read_bytes(&mut self, joining: bool, from: usize, bytes: &mut [u8]) -> u16
         requires { from + length bytes.old < 2 ^ 32 }
-        ensures slave { self.new ≡ slave_after self.old true false (record { from = from; bytes = bytes.old }) }
+        ensures slave { self.new ≡ physical_after self.old true false (record { from = from; bytes = bytes.old }) }
         ensures bytes { bytes.new ≡ retold bytes.old (byte_read self.old joining (record { from = from; bytes = bytes.old })) }
         ensures added { result ≡ from_bool (some_byte_read self.old.managers (record { from = from; bytes = bytes.old })) }
     {
@@ -225,7 +219,7 @@ impl Slave {
     ) -> u16
         requires small { from + length bytes.old < 2 ^ 32 }
         requires same { received.now ≡ bytes.old }
-        ensures slave { self.new ≡ slave_after self.old true true (record { from = from; bytes = bytes.old }) }
+        ensures slave { self.new ≡ physical_after self.old true true (record { from = from; bytes = bytes.old }) }
         ensures bytes { bytes.new ≡ retold bytes.old (byte_read self.old joining (record { from = from; bytes = bytes.old })) }
         ensures added { result ≡ from_bool (some_byte_read self.old.managers (record { from = from; bytes = bytes.old }))
             + 2 * from_bool (some_byte_written self.old.managers self.old.sii.busy (record { from = from; bytes = bytes.old })) }
@@ -240,7 +234,7 @@ impl Slave {
     fn read_write_copied_bytes(&mut self, joining: bool, from: usize, bytes: &mut [u8]) -> u16
         requires small { from + length bytes.old < 2 ^ 32 }
         requires few { length bytes.old < 2048 }
-        ensures slave { self.new ≡ slave_after self.old true true (record { from = from; bytes = bytes.old }) }
+        ensures slave { self.new ≡ physical_after self.old true true (record { from = from; bytes = bytes.old }) }
         ensures bytes { bytes.new ≡ retold bytes.old (byte_read self.old joining (record { from = from; bytes = bytes.old })) }
         ensures added { result ≡ from_bool (some_byte_read self.old.managers (record { from = from; bytes = bytes.old }))
             + 2 * from_bool (some_byte_written self.old.managers self.old.sii.busy (record { from = from; bytes = bytes.old })) }
@@ -252,7 +246,7 @@ impl Slave {
     }
 
     /// Meets the bytes of a datagram in a role, and answers what the working counter grows by.
-    #[tactic(auto, using(crate::proofs::Idle::slave_idle), unfolding(crate::specs::Access::meeting))]
+    #[tactic(auto, using(crate::proofs::Idle::slave_idle), unfolding(crate::specs::Physical::meeting))]
     fn access_bytes(&mut self, role: Role, from: usize, bytes: &mut [u8]) -> u16
         requires small { from + length bytes.old < 2 ^ 32 }
         requires few { length bytes.old < 2048 }

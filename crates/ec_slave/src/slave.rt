@@ -2,7 +2,7 @@ ghost use Rattle.std.specs.Prelude.{◌≡◌, ◌+◌, ◌*◌, ◌<◌, ◌≤
 ghost use Rattle.ec_regs.specs.Memory.{ram_start, ram_end};
 ghost use Rattle.ec_sync.specs.Manager.{no_manager};
 ghost use Rattle.ec_sync.specs.Governing.{governor as governor_of};
-ghost use Rattle.ec_slave.specs.Access.{byte_at, register_byte};
+ghost use Rattle.ec_slave.specs.Physical.{byte_at, register_byte};
 ghost use Rattle.ec_slave.specs.State.{SlaveState, memory_length, power_on, station_of};
 
 use crate::fmmus::read_fmmus;
@@ -136,7 +136,7 @@ impl Slave {
     }
 
     /// What an address reads now, as a datagram would find it; none past the RAM's end.
-    #[tactic(auto, unfolding(crate::specs::Access::byte_at))]
+    #[tactic(auto, unfolding(crate::specs::Physical::byte_at))]
     pub fn byte(&self, address: u16) -> Option<u8>
         ensures { result ≡ (if nat_lt address ram_end then Some (byte_at self.now address) else None) }
     {
@@ -149,7 +149,7 @@ impl Slave {
     }
 
     /// What an address reads.
-    #[tactic(auto, unfolding(crate::specs::Access::byte_at))]
+    #[tactic(auto, unfolding(crate::specs::Physical::byte_at))]
     pub(crate) fn byte_at(&self, address: usize) -> u8
         requires { address < ram_end }
         ensures { result ≡ byte_at self.now address }
@@ -175,7 +175,7 @@ impl Slave {
     }
 
     /// What an address of the RAM reads that has this governor, or none.
-    #[tactic(auto, unfolding(crate::specs::Access::byte_at))]
+    #[tactic(auto, unfolding(crate::specs::Physical::byte_at))]
     fn ram_byte(&self, owner: Option<usize>, address: usize) -> u8
         requires ram { ram_start ≤ address }
         requires inside { address < ram_end }
@@ -218,7 +218,7 @@ impl Slave {
     }
 
     /// What the address of a register reads.
-    #[tactic(auto, unfolding(crate::specs::Access::byte_at))]
+    #[tactic(auto, unfolding(crate::specs::Physical::byte_at))]
     fn register_at(&self, address: usize) -> u8
         requires { address < ram_start }
         ensures { result ≡ byte_at self.now address }
@@ -227,7 +227,7 @@ impl Slave {
     }
 
     /// What a register reads.
-    #[tactic(auto, unfolding(crate::specs::Access::register_byte))]
+    #[tactic(auto, unfolding(crate::specs::Physical::register_byte))]
     fn register(&self, address: usize) -> u8
         requires { address < ram_start }
         ensures { result ≡ register_byte self.now address }

@@ -4,6 +4,8 @@ ghost use Rattle.std.specs.Prelude.{◌≡◌, ◌+◌, ◌-◌, ◌<◌, ◌≤
 ghost use Rattle.ec_bits.specs.Bits.{within};
 ghost use Rattle.ec_regs.specs.Memory.{ram_end};
 
+use ec_bits::within;
+
 /// An access of the ring to a slave's memory: which bytes one datagram touches.
 pub trait Touching {
     ghost use Rattle.std.specs.Prelude.{ℕ, Bool};
@@ -51,6 +53,6 @@ impl Touching for Reach {
     ghost touched = { λ r a. within r.from r.len a };
 
     fn touches(&self, address: usize) -> bool {
-        address >= self.from && address - self.from < self.len
+        within(self.from, self.len, address)
     }
 }

@@ -4,7 +4,7 @@ use Rattle.std.proofs.lemmas.List.{length_push, length-map}
 use Rattle.ec_frame.specs.Datagram.{Datagram, adp_of, ado_of}
 use Rattle.ec_frame.specs.Frame.{with_datagrams}
 use Rattle.ec_slave.specs.State.{SlaveState, with_answer}
-use Rattle.ec_slave.specs.Access.{byte_at, retold}
+use Rattle.ec_slave.specs.Physical.{byte_at, retold}
 use Rattle.ec_slave.specs.Keeping.{length-retold}
 use Rattle.ec_slave.specs.Meeting.{meets, passes, Passed, IsPassed}
 use Rattle.ec_slave.proofs.Broadcast.{broadcast_read}

@@ -24,8 +24,8 @@ use Rattle.ec_slave.specs.Keeping.{length-retold}
 use Rattle.ec_slave.specs.Roles.{role_of, is_reading, is_writing}
 use Rattle.ec_slave.specs.State.{SlaveState, Met as Meeting, manager_at, station_of, power_on}
 use Rattle.ec_slave.specs.Managers.{manager_after, is_written_by, is_read_by, is_ungoverned}
-use Rattle.ec_slave.specs.Access.{Window, touches, value_for, is_configured, settings_written, manager_met, managers_met, slave_after, meeting}
-use Rattle.ec_slave.specs.Logical.{value_brought, managers_exchanged, meets_logical}
+use Rattle.ec_slave.specs.Physical.{Window, touches, physical_value, is_configured, settings_written, physical_manager, physical_managers, physical_after, meeting}
+use Rattle.ec_slave.specs.Logical.{logical_value, logical_managers, meets_logically}
 use Rattle.ec_slave.specs.Meeting.{window_of, meets, meets_by, meets_physically, slave_met}
 use Rattle.ec_slave.specs.Application.{input_put, output_got, output_taken, with_manager, is_running}
 use Rattle.ec_coe.specs.declared.message.Message.{Message}
@@ -96,38 +96,38 @@ set-fits (x ∷ ms) zero m h f (suc n) = h (suc n)
 set-fits (x ∷ ms) (suc k) m h f zero = h zero
 set-fits (x ∷ ms) (suc k) m h f (suc n) = set-fits ms k m (rest-fits x ms h) f n
 
-met-fits : (lower : List Manager) (reads writes : Bool) (w : Window) (n : ℕ) (m : Manager) → IsFitting m → IsFitting (manager_met lower reads writes w n m)
-unfolding manager_met
+met-fits : (lower : List Manager) (reads writes : Bool) (w : Window) (n : ℕ) (m : Manager) → IsFitting m → IsFitting (physical_manager lower reads writes w n m)
+unfolding physical_manager
 met-fits lower reads writes w n m h = by (writes && is_configured w n)
   where
-    by : (b : Bool) → (let x : Manager = if b then empty_manager (settings_written w n m) m.locked else manager_after reads writes (touches w) (touches w) (is_ungoverned lower) (value_for lower w) m in IsFitting x)
+    by : (b : Bool) → (let x : Manager = if b then empty_manager (settings_written w n m) m.locked else manager_after reads writes (touches w) (touches w) (is_ungoverned lower) (physical_value lower w) m in IsFitting x)
     by true = empty-fits (settings_written w n m) m.locked
-    by false = after-fits reads writes (touches w) (touches w) (is_ungoverned lower) (value_for lower w) m (λ a k. length-retold 0 (zeros k) _ ∙ length-replicate {A = ℕ} k 0) h
+    by false = after-fits reads writes (touches w) (touches w) (is_ungoverned lower) (physical_value lower w) m (λ a k. length-retold 0 (zeros k) _ ∙ length-replicate {A = ℕ} k 0) h
 
-all-met-fit : (lower ms : List Manager) (reads writes : Bool) (w : Window) (n : ℕ) → Fit ms → Fit (managers_met lower reads writes w n ms)
+all-met-fit : (lower ms : List Manager) (reads writes : Bool) (w : Window) (n : ℕ) → Fit ms → Fit (physical_managers lower reads writes w n ms)
 all-met-fit lower [] reads writes w n h k = h k
 all-met-fit lower (m ∷ ms) reads writes w n h zero = met-fits lower reads writes w n m (h zero)
 all-met-fit lower (m ∷ ms) reads writes w n h (suc k) = all-met-fit (lower ++ m ∷ []) ms reads writes w (n + 1) (rest-fits m ms h) k
 
-all-exchanged-fit : (lower ms : List Manager) (reading writing : Bool) (fs : List FmmuSettings) (p : Place) (bytes : List ℕ) → Fit ms → Fit (managers_exchanged lower reading writing fs p bytes ms)
+all-exchanged-fit : (lower ms : List Manager) (reading writing : Bool) (fs : List FmmuSettings) (p : Place) (bytes : List ℕ) → Fit ms → Fit (logical_managers lower reading writing fs p bytes ms)
 all-exchanged-fit lower [] reading writing fs p bytes h k = h k
 all-exchanged-fit lower (m ∷ ms) reading writing fs p bytes h zero =
-    after-fits reading writing (touched_by_reading fs p) (touched_by_writing fs p) (is_ungoverned lower) (value_brought lower fs p bytes) m (λ a k. length-overlay (zeros k) _ ∙ length-replicate {A = ℕ} k 0) (h zero)
+    after-fits reading writing (touched_by_reading fs p) (touched_by_writing fs p) (is_ungoverned lower) (logical_value lower fs p bytes) m (λ a k. length-overlay (zeros k) _ ∙ length-replicate {A = ℕ} k 0) (h zero)
 all-exchanged-fit lower (m ∷ ms) reading writing fs p bytes h (suc k) = all-exchanged-fit (lower ++ m ∷ []) ms reading writing fs p bytes (rest-fits m ms h) k
 
-physical-fits : (s : SlaveState) (reads writes : Bool) (w : Window) → AllFit s → AllFit (slave_after s reads writes w)
-unfolding slave_after
+physical-fits : (s : SlaveState) (reads writes : Bool) (w : Window) → AllFit s → AllFit (physical_after s reads writes w)
+unfolding physical_after
 physical-fits s reads writes w h = all-met-fit [] s.managers reads writes w 0 h
 
 physically : (s : SlaveState) (d : Datagram) → AllFit s → AllFit (meets_physically s d).slave
 unfolding meeting
 physically s d h = physical-fits s (is_reading (role_of d.command (adp_of d) (station_of s))) (is_writing (role_of d.command (adp_of d) (station_of s))) (window_of d) h
 
-logically : (reading writing : Bool) (weight : ℕ) (s : SlaveState) (d : Datagram) → AllFit s → AllFit (meets_logical reading writing weight s d).slave
-unfolding meets_logical
+logically : (reading writing : Bool) (weight : ℕ) (s : SlaveState) (d : Datagram) → AllFit s → AllFit (meets_logically reading writing weight s d).slave
+unfolding meets_logically
 logically reading writing weight s d h = all-exchanged-fit [] s.managers reading writing _ _ _ h
 
-exchanging : (b : Bool) (s : SlaveState) (d : Datagram) → AllFit s → (let m : Meeting = if b then meets_logical true true 2 s d else record { slave = s; datagram = d } in AllFit m.slave)
+exchanging : (b : Bool) (s : SlaveState) (d : Datagram) → AllFit s → (let m : Meeting = if b then meets_logically true true 2 s d else record { slave = s; datagram = d } in AllFit m.slave)
 exchanging true s d h = logically true true 2 s d h
 exchanging false s d h = h
 

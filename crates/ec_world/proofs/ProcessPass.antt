@@ -7,7 +7,7 @@ use Rattle.ec_frame.specs.Datagram.{Datagram}
 use Rattle.ec_bits.proofs.AnyLaws.{if_true, if_false}
 use Rattle.ec_fmmu.specs.Applied.{Place}
 use Rattle.ec_slave.specs.State.{SlaveState, Met, with_answer}
-use Rattle.ec_slave.specs.Logical.{place_of, meets_logical}
+use Rattle.ec_slave.specs.Logical.{place_of, meets_logically}
 use Rattle.ec_slave.specs.LogicalLaws.{Misses}
 use Rattle.ec_slave.specs.Exchange.{outputs_from, inputs_into}
 use Rattle.ec_fmmu.specs.Areas.{Area, Spans}
@@ -70,7 +70,7 @@ small f gs h few = let e = sum_of-le f h gs in omega arith
 -- ---- one datagram
 
 lrw_meets : (s : SlaveState) (number address : ℕ) (bytes : List ℕ) (n : ℕ) → s.kind.lrw ≡ true
-    → meets s (process_datagram Lrw number address bytes n) ≡ meets_logical true true 2 s (process_datagram Lrw number address bytes n)
+    → meets s (process_datagram Lrw number address bytes n) ≡ meets_logically true true 2 s (process_datagram Lrw number address bytes n)
 unfolding meets
 lrw_meets s number address bytes n h = if_true _ _ _ h
 
@@ -79,15 +79,15 @@ lrw_misses : (s : SlaveState) (number address : ℕ) (bytes : List ℕ) (n : ℕ
 unfolding meets
 lrw_misses s number address bytes n h l = go s.kind.lrw
   where
-    go : (b : Bool) → (if b then meets_logical true true 2 s (process_datagram Lrw number address bytes n) else record { slave = s; datagram = process_datagram Lrw number address bytes n }) ≡ record { slave = s; datagram = process_datagram Lrw number address bytes n }
+    go : (b : Bool) → (if b then meets_logically true true 2 s (process_datagram Lrw number address bytes n) else record { slave = s; datagram = process_datagram Lrw number address bytes n }) ≡ record { slave = s; datagram = process_datagram Lrw number address bytes n }
     go true = misses true true 2 s (process_datagram Lrw number address bytes n) h l
     go false = refl
 
-lwr_meets : (s : SlaveState) (number address : ℕ) (bytes : List ℕ) (n : ℕ) → meets s (process_datagram Lwr number address bytes n) ≡ meets_logical false true 1 s (process_datagram Lwr number address bytes n)
+lwr_meets : (s : SlaveState) (number address : ℕ) (bytes : List ℕ) (n : ℕ) → meets s (process_datagram Lwr number address bytes n) ≡ meets_logically false true 1 s (process_datagram Lwr number address bytes n)
 unfolding meets
 lwr_meets s number address bytes n = refl
 
-lrd_meets : (s : SlaveState) (number address : ℕ) (bytes : List ℕ) (n : ℕ) → meets s (process_datagram Lrd number address bytes n) ≡ meets_logical true false 1 s (process_datagram Lrd number address bytes n)
+lrd_meets : (s : SlaveState) (number address : ℕ) (bytes : List ℕ) (n : ℕ) → meets s (process_datagram Lrd number address bytes n) ≡ meets_logically true false 1 s (process_datagram Lrd number address bytes n)
 unfolding meets
 lrd_meets s number address bytes n = refl
 

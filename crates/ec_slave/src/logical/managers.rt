@@ -5,7 +5,7 @@ ghost use Rattle.ec_bits.specs.Bits.{bit};
 ghost use Rattle.ec_regs.specs.Memory.{ram_end};
 ghost use Rattle.ec_fmmu.specs.Applied.{Place, touched_by_reading, touched_by_writing};
 ghost use Rattle.ec_slave.specs.Managers.{is_ungoverned, is_written_by, manager_after};
-ghost use Rattle.ec_slave.specs.Logical.{managers_exchanged, plain_bit, value_brought};
+ghost use Rattle.ec_slave.specs.Logical.{logical_managers, plain_bit, logical_value};
 ghost use Rattle.ec_slave.specs.Written.{some_manager_written};
 
 use crate::logical::runs::are_ungoverned;
@@ -62,10 +62,10 @@ impl Touching for Bits<'_> {
 impl Writing for Bits<'_> {
     ghost use Rattle.std.specs.Prelude.{◌*◌, length};
     ghost use Rattle.ec_fmmu.specs.Applied.{Place};
-    ghost use Rattle.ec_slave.specs.Logical.{value_brought};
+    ghost use Rattle.ec_slave.specs.Logical.{logical_value};
     ghost use Rattle.ec_slave.specs.Untouched.{untouched-zero};
 
-    ghost written = { λ w start len. value_brought w.lower.now w.fmmus.now
+    ghost written = { λ w start len. logical_value w.lower.now w.fmmus.now
         (record { from = w.from; bits = 8 * length w.bytes.now }) w.bytes.now start len };
 
     ghost zero_untouched = { λ w start len k first last inside untouched.
@@ -102,7 +102,7 @@ impl Bits<'_> {
         requires some { 0 < length value.old }
         requires inside { start + length value.old ≤ ram_end }
         requires small { (k : ℕ) → slice_index value.old k < 256 }
-        ensures { value.new ≡ value_brought self.now.lower.now self.now.fmmus.now
+        ensures { value.new ≡ logical_value self.now.lower.now self.now.fmmus.now
             (record { from = self.now.from; bits = 8 * length self.now.bytes.now }) self.now.bytes.now start (length value.old) }
     {
         match self.source(start, value.len()) {
@@ -118,7 +118,7 @@ impl Bits<'_> {
     #[inline(never)]
     fn bring_parts(&self, start: usize, value: &mut [u8])
         requires { start + length value.old ≤ ram_end }
-        ensures { value.new ≡ value_brought self.now.lower.now self.now.fmmus.now
+        ensures { value.new ≡ logical_value self.now.lower.now self.now.fmmus.now
             (record { from = self.now.from; bits = 8 * length self.now.bytes.now }) self.now.bytes.now start (length value.old) }
     {
         value.fill(0);
@@ -146,7 +146,7 @@ fn access_manager(
     ensures after { let place : Place = record { from = from; bits = 8 * length bytes.now } in
         manager.new ≡ manager_after reading writing
         (touched_by_reading fmmus.now place) (touched_by_writing fmmus.now place)
-        (is_ungoverned lower.now) (value_brought lower.now fmmus.now place bytes.now) manager.old }
+        (is_ungoverned lower.now) (logical_value lower.now fmmus.now place bytes.now) manager.old }
 {
     let access = Bits {
         lower,
@@ -182,7 +182,7 @@ pub(crate) fn access_managers(
         result ≡ (writing && some_manager_written [] fmmus.now place bytes.now managers.old) }
     ensures after { let place : Place = record { from = from; bits = 8 * length bytes.now } in
         managers.new
-        ≡ managers_exchanged [] reading writing fmmus.now place bytes.now managers.old }
+        ≡ logical_managers [] reading writing fmmus.now place bytes.now managers.old }
 {
     let mut is_written = false;
     for k in 0..4 {

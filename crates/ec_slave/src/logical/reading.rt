@@ -5,7 +5,7 @@ ghost use Rattle.ec_bits.specs.Bits.{any_below, overlay};
 ghost use Rattle.ec_regs.specs.Memory.{ram_end};
 ghost use Rattle.ec_sync.specs.Manager.{may_read};
 ghost use Rattle.ec_sync.specs.Governing.{covers, governor as governor_of, in_first_buffer};
-ghost use Rattle.ec_fmmu.specs.Alone.{run_shown};
+ghost use Rattle.ec_fmmu.specs.Apart.{run_shown};
 ghost use Rattle.ec_fmmu.specs.Applied.{Place, touched_by_reading};
 ghost use Rattle.ec_slave.specs.Logical.{read_bit, some_read};
 ghost use Rattle.ec_slave.specs.State.{manager_at};

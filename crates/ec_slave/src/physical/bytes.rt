@@ -5,7 +5,7 @@ ghost use Rattle.std.specs.Bool.{OnTrue};
 ghost use Rattle.ec_bits.specs.Bits.{within};
 ghost use Rattle.ec_regs.specs.Memory.{ram_start, ram_end};
 ghost use Rattle.ec_sync.specs.Governing.{governor as governor_of};
-ghost use Rattle.ec_slave.specs.Access.{Window, byte_from, is_kept, may_read_byte, may_write_byte, memory_written, retold, some_byte_written};
+ghost use Rattle.ec_slave.specs.Physical.{Window, byte_from, is_kept, may_read_byte, may_write_byte, memory_written, retold, some_byte_written};
 ghost use Rattle.ec_slave.specs.Telling.{set_told};
 
 use crate::logical::{cut, end_of_alike};
@@ -15,7 +15,7 @@ use ec_regs::{is_stored, takes_writes};
 use ec_sync::Manager;
 
 /// Whether a datagram over `len` bytes from `from` on reads the byte at an address that it touches.
-#[tactic(auto, unfolding(crate::specs::Access::may_read_byte))]
+#[tactic(auto, unfolding(crate::specs::Physical::may_read_byte))]
 pub(crate) fn reads_byte(managers: &[Manager], from: usize, len: usize, address: usize) -> bool
     ensures value { result ≡ may_read_byte managers.now (within from len) address }
     ensures inside { OnTrue result (address < ram_end) }
@@ -69,7 +69,7 @@ pub(crate) fn owner(managers: &[Manager], address: usize) -> Option<usize>
 }
 
 /// Whether a datagram over `len` bytes from `from` on writes the byte at an address that it touches.
-#[tactic(auto, unfolding(crate::specs::Access::may_write_byte))]
+#[tactic(auto, unfolding(crate::specs::Physical::may_write_byte))]
 pub(crate) fn writes_byte(
     managers: &[Manager],
     is_busy: bool,
@@ -96,7 +96,7 @@ pub(crate) fn writes_byte(
 
 /// Whether a byte is kept in the memory itself: a stored register that is no sync manager's, or a byte of the RAM
 /// that no manager governs.
-#[tactic(auto, unfolding(crate::specs::Access::is_kept))]
+#[tactic(auto, unfolding(crate::specs::Physical::is_kept))]
 fn is_kept(managers: &[Manager], address: usize) -> bool
     ensures value { result ≡ is_kept managers.now address }
     ensures inside { OnTrue result (address < ram_end) }

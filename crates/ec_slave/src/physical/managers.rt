@@ -5,11 +5,12 @@ ghost use Rattle.ec_bits.specs.Bits.{within, zeros};
 ghost use Rattle.ec_regs.specs.Memory.{ram_end};
 ghost use Rattle.ec_sync.specs.Governing.{manager_byte};
 ghost use Rattle.ec_slave.specs.Managers.{is_ungoverned, manager_after};
-ghost use Rattle.ec_slave.specs.Access.{Window, is_configured as is_configured_at, manager_met, managers_met, setting_for, settings_written, touches, value_for};
+ghost use Rattle.ec_slave.specs.Physical.{Window, is_configured as is_configured_at, physical_manager, physical_managers, setting_for, settings_written, touches, physical_value};
 
 use crate::logical::are_ungoverned;
 use crate::physical::bytes::byte_for;
 use crate::reach::{governor, read_manager, write_manager};
+use ec_bits::within;
 use ec_regs::registers::manager_address;
 use ec_regs::{ManagerSettings, decode_manager, is_stored};
 use ec_sync::{Manager, Reach, Touching, Writing};
@@ -29,16 +30,16 @@ impl Touching for Bytes<'_> {
     ghost touched = { λ w a. within w.from (length w.bytes.now) a };
 
     fn touches(&self, address: usize) -> bool {
-        address >= self.from && address - self.from < self.bytes.len()
+        within(self.from, self.bytes.len(), address)
     }
 }
 
 impl Writing for Bytes<'_> {
     ghost use Rattle.std.specs.Prelude.{length};
     ghost use Rattle.ec_sync.specs.Touching.{all_touched};
-    ghost use Rattle.ec_slave.specs.Access.{Window, value_for};
+    ghost use Rattle.ec_slave.specs.Physical.{Window, physical_value};
 
-    ghost written = { λ w start len. value_for w.lower.now (record { from = w.from; bytes = w.bytes.now }) start len };
+    ghost written = { λ w start len. physical_value w.lower.now (record { from = w.from; bytes = w.bytes.now }) start len };
 
     ghost zero_untouched = { λ w start len k first last inside untouched.
         absurd (all_touched w.from (length w.bytes.now) start len k first last inside untouched) };
@@ -60,7 +61,7 @@ impl Bytes<'_> {
         requires own { (a : ℕ) → start ≤ a → a < start + length value.old → is_ungoverned self.now.lower.now a ≡ true }
         requires first { within self.now.from (length self.now.bytes.now) start ≡ true }
         requires last { within self.now.from (length self.now.bytes.now) (start + length value.old - 1) ≡ true }
-        ensures { value.new ≡ value_for self.now.lower.now
+        ensures { value.new ≡ physical_value self.now.lower.now
             (record { from = self.now.from; bytes = self.now.bytes.now }) start (length value.old) }
     {
         let place = start - self.from;
@@ -74,7 +75,7 @@ impl Bytes<'_> {
         requires zeroed { value.old ≡ zeros (length value.old) }
         requires first { within self.now.from (length self.now.bytes.now) start ≡ true }
         requires last { within self.now.from (length self.now.bytes.now) (start + length value.old - 1) ≡ true }
-        ensures { value.new ≡ value_for self.now.lower.now
+        ensures { value.new ≡ physical_value self.now.lower.now
             (record { from = self.now.from; bytes = self.now.bytes.now }) start (length value.old) }
     {
         for (k, byte) in value.iter_mut().enumerate() {
@@ -142,7 +143,7 @@ fn settings_after(manager: &Manager, from: usize, bytes: &[u8], number: usize) -
 }
 
 /// One manager meets a datagram.
-#[tactic(auto, unfolding(crate::specs::Access::manager_met))]
+#[tactic(auto, unfolding(crate::specs::Physical::physical_manager))]
 fn access_manager(
     lower: &[Manager],
     manager: &mut Manager,
@@ -153,7 +154,7 @@ fn access_manager(
     bytes: &[u8],
 )
     requires { number < 4 }
-    ensures { manager.new ≡ manager_met lower.now reads writes (record { from = from; bytes = bytes.now }) number manager.old }
+    ensures { manager.new ≡ physical_manager lower.now reads writes (record { from = from; bytes = bytes.now }) number manager.old }
 {
     if writes && is_configured(from, bytes, number) {
         let settings = settings_after(manager, from, bytes, number);
@@ -173,7 +174,7 @@ fn take_access(
     bytes: &[u8],
 )
     ensures { manager.new ≡ manager_after reads writes (touches (record { from = from; bytes = bytes.now }))
-        (touches (record { from = from; bytes = bytes.now })) (is_ungoverned lower.now) (value_for lower.now (record { from = from; bytes = bytes.now })) manager.old }
+        (touches (record { from = from; bytes = bytes.now })) (is_ungoverned lower.now) (physical_value lower.now (record { from = from; bytes = bytes.now })) manager.old }
 {
     if writes && write_manager(lower, manager, &Bytes { lower, from, bytes }) {
         return;
@@ -194,7 +195,7 @@ pub(crate) fn access_managers(
     bytes: &[u8],
 )
     requires { length managers.old ≡ 4 }
-    ensures { managers.new ≡ managers_met [] reads writes (record { from = from; bytes = bytes.now }) 0 managers.old }
+    ensures { managers.new ≡ physical_managers [] reads writes (record { from = from; bytes = bytes.now }) 0 managers.old }
 {
     for k in 0..4 {
         let place = 3 - k;

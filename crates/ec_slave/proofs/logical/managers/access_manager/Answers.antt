@@ -3,7 +3,7 @@ use Rattle.std.proofs.lemmas.Bool.{and_left, and_right}
 use Rattle.ec_bits.proofs.AnyLaws.{if_false}
 use Rattle.ec_fmmu.specs.Applied.{Place, touched_by_reading, touched_by_writing}
 use Rattle.ec_slave.specs.Managers.{is_ungoverned}
-use Rattle.ec_slave.specs.Logical.{value_brought}
+use Rattle.ec_slave.specs.Logical.{logical_value}
 use Rattle.ec_slave.proofs.Reached.{manager-read}
 use Rattle.ec_slave.proofs.logical.managers.access_manager.Goals as goal
 use Rattle.ec_slave.proofs.logical.managers.access_manager.Goals.{else-writing-via-then-writing+else-write_manager, else-writing-via-else-writing}
@@ -13,7 +13,7 @@ returns-then-reading-clause-after c =
     let p : Place = record { from = c.args.from; bits = 8 * length c.args.bytes.now } in
     let rt = touched_by_reading c.args.fmmus.now p in
     let wt = touched_by_writing c.args.fmmus.now p in
-    let value = value_brought c.args.lower.now c.args.fmmus.now p c.args.bytes.now in
+    let value = logical_value c.args.lower.now c.args.fmmus.now p c.args.bytes.now in
     elim c.else-writing.branch [
       | else-writing-via-then-writing+else-write_manager w ↦
           manager-read c.args.reading c.args.writing rt wt (is_ungoverned c.args.lower.now) value c.args.manager.now _ _ c.if-reading.true

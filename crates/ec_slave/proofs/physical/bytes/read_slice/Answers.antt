@@ -1,7 +1,7 @@
 use Rattle.std.proofs.Common.{rules, ℕ, ◌≡◌, ◌∙◌, Option, Some, List, ap, sym, arith, length, get_or, slice_index, bit_or, if◌then◌else◌}
 use Rattle.std.proofs.lemmas.Grind.{same_number_lists}
 use Rattle.ec_bits.proofs.AnyLaws.{if_false}
-use Rattle.ec_slave.specs.Access.{retold_from}
+use Rattle.ec_slave.specs.Physical.{retold_from}
 use Rattle.ec_slave.specs.Keeping.{length-retold}
 use Rattle.ec_slave.proofs.Told.{get-retold0}
 use Rattle.ec_slave.proofs.physical.bytes.read_slice.Goals as goal

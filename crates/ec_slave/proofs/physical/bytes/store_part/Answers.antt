@@ -2,7 +2,7 @@ use Rattle.std.proofs.Common.{ℕ, ◌+◌, ◌-◌, ◌<◌, ◌≡◌, ◌∙�
 use Rattle.std.proofs.lemmas.Bool.{cases_Bool}
 use Rattle.ec_bits.specs.Bits.{within}
 use Rattle.ec_bits.proofs.AnyLaws.{if_true, if_false, within_parts}
-use Rattle.ec_slave.specs.Access.{is_kept}
+use Rattle.ec_slave.specs.Physical.{is_kept}
 use Rattle.ec_slave.proofs.Told.{retold-alike, retold-none}
 use Rattle.ec_slave.proofs.Windows.{kept-below}
 use Rattle.ec_slave.proofs.physical.bytes.store_part.Goals as goal

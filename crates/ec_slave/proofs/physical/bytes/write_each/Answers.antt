@@ -1,7 +1,7 @@
 use Rattle.std.proofs.Common.{◌≡◌, ◌+◌, length, ℕ, Bool, List, ◌∙◌, ap, arith}
 use Rattle.ec_bits.specs.Bits.{within}
 use Rattle.ec_sync.specs.Manager.{Manager}
-use Rattle.ec_slave.specs.Access.{Window, may_write_byte}
+use Rattle.ec_slave.specs.Physical.{Window, may_write_byte}
 use Rattle.ec_slave.proofs.Choices.{any-none, any-or}
 use Rattle.ec_slave.proofs.Told.{told_along, told-none, told-step, retold-along}
 use Rattle.ec_slave.proofs.Windows.{kept_byte, kept-inside, kept-outside}

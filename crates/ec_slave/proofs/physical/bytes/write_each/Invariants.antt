@@ -1,6 +1,6 @@
 use Rattle.std.proofs.Common.{◌≡◌, ◌+◌, length}
 use Rattle.ec_bits.specs.Bits.{any_below, within}
-use Rattle.ec_slave.specs.Access.{may_write_byte}
+use Rattle.ec_slave.specs.Physical.{may_write_byte}
 use Rattle.ec_slave.proofs.Told.{told_along}
 use Rattle.ec_slave.proofs.Windows.{kept_byte}
 use Rattle.ec_slave.proofs.physical.bytes.write_each.Given as goal

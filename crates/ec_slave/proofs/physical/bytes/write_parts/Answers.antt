@@ -1,7 +1,7 @@
 use Rattle.std.proofs.Common.{ℕ, ◌≡◌, ◌+◌, ◌-◌, ◌<◌, ◌≤◌, ◌∙◌, ap, sym, arith, length, take, drop, slice_index, List, Bool, Option, Some, None, if◌then◌else◌}
 use Rattle.ec_bits.specs.Bits.{within}
 use Rattle.ec_sync.specs.Manager.{Manager}
-use Rattle.ec_slave.specs.Access.{Window, is_kept, may_write_byte, retold}
+use Rattle.ec_slave.specs.Physical.{Window, is_kept, may_write_byte, retold}
 use Rattle.ec_slave.proofs.Choices.{any-none, any-joined}
 use Rattle.ec_slave.proofs.Told.{told_along, told-none, told-next_at, retold-along, length-part, get-part}
 use Rattle.ec_slave.proofs.Windows.{kept_byte, kept-outside, from-at}

@@ -1,7 +1,7 @@
 use Rattle.std.proofs.Common.{ℕ, Bool, is_some, ◌+◌, ◌*◌, ◌≤◌, ◌≡◌, ◌⊎◌, ◌∙◌, ap, sym, inl, inr, arith, false, length}
 use Rattle.ec_bits.specs.Bits.{any_below}
 use Rattle.ec_bits.proofs.AnyLaws.{any_below_none, if_none}
-use Rattle.ec_slave.specs.Access.{Window, setting_for}
+use Rattle.ec_slave.specs.Physical.{Window, setting_for}
 use Rattle.ec_slave.proofs.Choices.{any-none, any-or}
 use Rattle.ec_slave.proofs.Windows.{from-outside}
 use Rattle.ec_slave.proofs.physical.managers.is_configured.Goals as goal

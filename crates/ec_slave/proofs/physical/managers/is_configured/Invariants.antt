@@ -1,6 +1,6 @@
 use Rattle.std.proofs.Common.{◌≡◌, is_some}
 use Rattle.ec_bits.specs.Bits.{any_below}
-use Rattle.ec_slave.specs.Access.{setting_for}
+use Rattle.ec_slave.specs.Physical.{setting_for}
 use Rattle.ec_slave.proofs.physical.managers.is_configured.Given as goal
 
 abbrev pub invariant-loop-k : goal.invariant-loop-k

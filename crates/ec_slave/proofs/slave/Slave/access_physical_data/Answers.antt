@@ -1,7 +1,7 @@
 use Rattle.std.proofs.Common.{◌≡◌, ◌<◌, ◌+◌, ◌∙◌, ◌++◌, ap, List, ℕ, length, arith, refl}
 use Rattle.std.proofs.lemmas.List.{length-append}
 use Rattle.byteorder.specs.Endian.{little_bytes}
-use Rattle.ec_slave.specs.Access.{meeting}
+use Rattle.ec_slave.specs.Physical.{meeting}
 use Rattle.ec_slave.proofs.Answered.{data_written}
 use Rattle.ec_slave.proofs.slave.Slave.access_physical_data.Goals as goal
 

@@ -1,5 +1,5 @@
 use Rattle.std.proofs.Common.{◌≤◌, ◌+◌, length, sym, arith}
-use Rattle.ec_slave.specs.Access.{Window}
+use Rattle.ec_slave.specs.Physical.{Window}
 use Rattle.ec_slave.proofs.Broadcast.{registers-idle}
 use Rattle.ec_slave.proofs.slave.Slave.after_read.Goals as goal
 

@@ -1,7 +1,7 @@
 use Rattle.std.proofs.Common.{◌≡◌, List, length, ap, sym, ◌∙◌, subst}
 use Rattle.std.proofs.lemmas.Bool.{OnTrue_at, OnTrue_from}
 use Rattle.ec_regs.specs.declared.fmmu.FmmuSettings.{FmmuSettings}
-use Rattle.ec_fmmu.specs.Alone.{AreApart}
+use Rattle.ec_fmmu.specs.Apart.{AreApart}
 use Rattle.ec_slave.specs.State.{SlaveState, fmmus, fmmus_of}
 use Rattle.ec_slave.specs.Mapped.{MayWriteFirst}
 use Rattle.ec_slave.proofs.slave.Slave.may_write_first.Goals as goal

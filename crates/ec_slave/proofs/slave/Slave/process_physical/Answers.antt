@@ -1,7 +1,7 @@
 use Rattle.std.proofs.Common.{◌≡◌, ◌∙◌, ap, arith, refl}
 use Rattle.ec_frame.specs.Datagram.{IsDatagram, spelling}
 use Rattle.ec_frame.specs.Fields.{header_of, with_adp, with_data}
-use Rattle.ec_slave.specs.Access.{Meeting, Window, meeting}
+use Rattle.ec_slave.specs.Physical.{Meeting, Window, meeting}
 use Rattle.ec_slave.proofs.Answered.{adp-good, answer-is, data-good, meeting-is}
 use Rattle.ec_slave.proofs.slave.Slave.process_physical.Goals as goal
 

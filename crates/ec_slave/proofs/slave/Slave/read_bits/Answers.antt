@@ -4,7 +4,7 @@ use Rattle.ec_regs.specs.declared.fmmu.FmmuSettings.{FmmuSettings}
 use Rattle.ec_sync.specs.Manager.{Manager}
 use Rattle.ec_fmmu.specs.Applied.{Place}
 use Rattle.ec_slave.specs.State.{SlaveState, fmmus_of, with_memory}
-use Rattle.ec_slave.specs.Logical.{managers_exchanged}
+use Rattle.ec_slave.specs.Logical.{logical_managers}
 use Rattle.ec_slave.proofs.Exchanges.{take_front}
 use Rattle.ec_slave.proofs.Moves.{slave_read}
 use Rattle.ec_slave.proofs.slave.Slave.read_bits.Goals as goal
@@ -27,4 +27,4 @@ returns-clause-slave c =
     let place : q ≡ p = ap (λ (n : ℕ). record { from = c.args.from; bits = 8 * n }) same in
     ap (λ (x : SlaveState). with_memory x c.self.inside.memory.items (take c.self.inside.managers.len (new ++ drop (length new) c.self.inside.managers.items))) c.self.view_is
     ∙ slave_read s _ _ fs p q c.args.bytes.now c.read_logical-is_read.new.bytes memory (c.self.invariant.decoded ∙ ap fmmus_of memory) place
-    (front ∙ (c.access_managers.ensures.after ∙ ap (λ (ms : List Manager). managers_exchanged [] true false fs q c.read_logical-is_read.new.bytes ms) (own ∙ managers)))
+    (front ∙ (c.access_managers.ensures.after ∙ ap (λ (ms : List Manager). logical_managers [] true false fs q c.read_logical-is_read.new.bytes ms) (own ∙ managers)))

@@ -2,7 +2,7 @@ use Rattle.std.proofs.Common.{◌≡◌, ◌+◌, length, ℕ, Bool, Option, ◌
 use Rattle.std.proofs.lemmas.List.{set-get_or}
 use Rattle.ec_bits.specs.Bits.{any_below}
 use Rattle.ec_slave.specs.State.{SlaveState}
-use Rattle.ec_slave.specs.Access.{Window, byte_read, may_read_byte, touches}
+use Rattle.ec_slave.specs.Physical.{Window, byte_read, may_read_byte, touches}
 use Rattle.ec_slave.proofs.Choices.{any-none, any-hit, any-miss}
 use Rattle.ec_slave.proofs.Told.{told_along, told-none, told-step0, retold-whole}
 use Rattle.ec_slave.proofs.Windows.{read-denied, read-given}

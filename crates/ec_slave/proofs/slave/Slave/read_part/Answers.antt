@@ -3,7 +3,7 @@ use borrow.Rule.Slice.PartMut.{put_mid}
 use Rattle.ec_bits.specs.Bits.{within}
 use Rattle.ec_bits.proofs.AnyLaws.{if_true, if_false, within_true, within_below, within_above}
 use Rattle.ec_slave.specs.State.{SlaveState}
-use Rattle.ec_slave.specs.Access.{Window, byte_at, byte_read, may_read_byte, retold_from, touches}
+use Rattle.ec_slave.specs.Physical.{Window, byte_at, byte_read, may_read_byte, retold_from, touches}
 use Rattle.ec_slave.specs.Keeping.{length-retold}
 use Rattle.ec_slave.proofs.Told.{get-retold0, get-part, length-part, slice-retold}
 use Rattle.ec_slave.proofs.Windows.{over}

@@ -1,6 +1,6 @@
 use Rattle.std.proofs.Common.{◌≡◌, ◌+◌, ℕ, refl, ◌∙◌, ap, arith}
 use Rattle.ec_slave.specs.State.{SlaveState}
-use Rattle.ec_slave.specs.Access.{Window, byte_read}
+use Rattle.ec_slave.specs.Physical.{Window, byte_read}
 use Rattle.ec_slave.proofs.Told.{told_along, told-none, told-step, told-part}
 use Rattle.ec_slave.proofs.Windows.{read-given-at}
 use Rattle.ec_slave.proofs.slave.Slave.read_part_each.Goals as goal

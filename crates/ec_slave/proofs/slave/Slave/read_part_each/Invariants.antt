@@ -1,5 +1,5 @@
 use Rattle.std.proofs.Common.{◌≡◌}
-use Rattle.ec_slave.specs.Access.{byte_read}
+use Rattle.ec_slave.specs.Physical.{byte_read}
 use Rattle.ec_slave.proofs.Told.{told_along}
 use Rattle.ec_slave.proofs.slave.Slave.read_part_each.Given as goal
 

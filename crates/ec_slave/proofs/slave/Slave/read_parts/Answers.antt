@@ -6,7 +6,7 @@ use Rattle.ec_regs.specs.Memory.{ram_start}
 use Rattle.ec_sync.specs.Manager.{Manager}
 use Rattle.ec_sync.specs.Governing.{governor}
 use Rattle.ec_slave.specs.State.{SlaveState}
-use Rattle.ec_slave.specs.Access.{Window, byte_read, may_read_byte, touches}
+use Rattle.ec_slave.specs.Physical.{Window, byte_read, may_read_byte, touches}
 use Rattle.ec_slave.proofs.Choices.{any-none, any-part}
 use Rattle.ec_slave.proofs.Told.{told_along, told-none, told-next, told-left, retold-whole, get-told_outside, length-told_along}
 use Rattle.ec_slave.proofs.Windows.{read-denied, read-inside, read-own}

@@ -1,6 +1,6 @@
 use Rattle.std.proofs.Common.{◌≡◌, ◌≤◌, ◌+◌, ◌-◌}
 use Rattle.ec_bits.specs.Bits.{any_below, within}
-use Rattle.ec_slave.specs.Access.{byte_read, may_read_byte}
+use Rattle.ec_slave.specs.Physical.{byte_read, may_read_byte}
 use Rattle.ec_slave.proofs.Told.{told_along}
 use Rattle.ec_slave.proofs.slave.Slave.read_parts.Given as goal
 

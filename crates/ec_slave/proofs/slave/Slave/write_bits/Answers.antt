@@ -5,7 +5,7 @@ use Rattle.ec_regs.specs.declared.fmmu.FmmuSettings.{FmmuSettings}
 use Rattle.ec_sync.specs.Manager.{Manager}
 use Rattle.ec_fmmu.specs.Applied.{Place}
 use Rattle.ec_slave.specs.State.{SlaveState, fmmus_of, with_memory}
-use Rattle.ec_slave.specs.Logical.{managers_exchanged, plain_bit}
+use Rattle.ec_slave.specs.Logical.{logical_managers, plain_bit}
 use Rattle.ec_slave.proofs.Exchanges.{take_front}
 use Rattle.ec_slave.proofs.Moves.{slave_written, decoded-mapped, some_found}
 use Rattle.ec_slave.proofs.slave.Slave.write_bits.Goals as goal
@@ -55,7 +55,7 @@ returns-clause-slave c =
     ∙ (ap (λ (xs : List ℕ). overlay xs (plain_bit c.deref.result.now fs p c.args.bytes.now)) (own ∙ memory)
     ∙ ap (λ (ms : List Manager). overlay s.memory (plain_bit ms fs p c.args.bytes.now)) (c.deref.ensures.value ∙ managers))))
     (c.self.invariant.decoded ∙ ap fmmus_of memory)
-    (front_2 ∙ (c.access_managers-in_manager.ensures.after ∙ ap (λ (ms : List Manager). managers_exchanged [] c.args.reading true fs p c.args.bytes.now ms) (own_2 ∙ managers)))
+    (front_2 ∙ (c.access_managers-in_manager.ensures.after ∙ ap (λ (ms : List Manager). logical_managers [] c.args.reading true fs p c.args.bytes.now ms) (own_2 ∙ managers)))
 
 pub returns-clause-some : goal.returns-clause-some
 returns-clause-some c =

@@ -3,7 +3,7 @@ use Rattle.std.proofs.lemmas.Grind.{common_steps}
 use Rattle.ec_regs.specs.declared.fmmu.FmmuSettings.{FmmuSettings}
 use Rattle.ec_sync.specs.Manager.{Manager}
 use Rattle.ec_slave.specs.State.{fmmus_of}
-use Rattle.ec_slave.specs.Access.{Window, memory_written}
+use Rattle.ec_slave.specs.Physical.{Window, memory_written}
 use Rattle.ec_slave.proofs.Decoded.{decoded-kept}
 use Rattle.ec_sii.specs.Port.{Sii}
 use Rattle.ec_slave.proofs.Assigning.{written-image}

@@ -4,7 +4,7 @@ use Rattle.ec_bits.specs.Bits.{bit, within, overlay, any_below}
 use Rattle.ec_bits.proofs.AnyLaws.{if_false, within_true, within_below, within_above, any_below-alike}
 use Rattle.ec_bits.proofs.BitLaws.{overlay_alike}
 use Rattle.ec_bits.proofs.Overlays.{Telling, telling_none, telling_overlay, telling_fewer, telling_end, counted_none, counted_part, counted_fewer, counted_end}
-use Rattle.ec_fmmu.specs.Alone.{run_shown}
+use Rattle.ec_fmmu.specs.Apart.{run_shown}
 use Rattle.ec_slave.specs.Sights.{seen_bit}
 use Rattle.ec_slave.proofs.Runs.{run_part}
 use Rattle.ec_slave.proofs.logical.reading.SightReadableRuns.show_run.Goals as goal

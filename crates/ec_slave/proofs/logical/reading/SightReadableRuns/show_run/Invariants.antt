@@ -1,6 +1,6 @@
 use Rattle.std.proofs.Common.{◌<◌, ◌≤◌, ◌+◌, ◌-◌, ◌*◌, length}
 use Rattle.ec_bits.proofs.Overlays.{Telling, Counted}
-use Rattle.ec_fmmu.specs.Alone.{run_shown}
+use Rattle.ec_fmmu.specs.Apart.{run_shown}
 use Rattle.ec_slave.specs.Sights.{seen_bit}
 use Rattle.ec_slave.proofs.logical.reading.SightReadableRuns.show_run.Given as goal
 

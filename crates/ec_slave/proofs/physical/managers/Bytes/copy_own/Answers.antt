@@ -4,7 +4,7 @@ use Rattle.std.proofs.lemmas.List.{places, length-replicate}
 use Rattle.ec_bits.specs.Bits.{zeros}
 use Rattle.ec_bits.proofs.AnyLaws.{if_true, within_parts}
 use Rattle.ec_sync.specs.Governing.{governor}
-use Rattle.ec_slave.specs.Access.{Window, byte_from, retold_from}
+use Rattle.ec_slave.specs.Physical.{Window, byte_from, retold_from}
 use Rattle.ec_slave.specs.Keeping.{length-retold}
 use Rattle.ec_slave.proofs.Told.{get-retold0}
 use Rattle.ec_slave.proofs.Windows.{from-at}

@@ -3,7 +3,7 @@ use Rattle.std.proofs.lemmas.List.{set-get_or}
 use Rattle.ec_bits.proofs.AnyLaws.{if_true, if_false, within_parts}
 use Rattle.ec_sync.specs.Manager.{Manager}
 use Rattle.ec_sync.specs.Governing.{governor}
-use Rattle.ec_slave.specs.Access.{Window, byte_from, retold}
+use Rattle.ec_slave.specs.Physical.{Window, byte_from, retold}
 use Rattle.ec_slave.proofs.Choices.{none-from}
 use Rattle.ec_slave.proofs.Told.{told_along, told-none, told-step0, retold-whole}
 use Rattle.ec_slave.proofs.Windows.{from-at}

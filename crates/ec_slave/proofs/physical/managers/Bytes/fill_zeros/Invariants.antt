@@ -1,6 +1,6 @@
 use Rattle.std.proofs.Common.{◌≡◌, ◌+◌, is_none, if◌then◌else◌, None}
 use Rattle.ec_sync.specs.Governing.{governor}
-use Rattle.ec_slave.specs.Access.{byte_from}
+use Rattle.ec_slave.specs.Physical.{byte_from}
 use Rattle.ec_slave.proofs.Told.{told_along}
 use Rattle.ec_slave.proofs.physical.managers.Bytes.fill_zeros.Given as goal
 

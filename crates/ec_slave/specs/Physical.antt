@@ -99,27 +99,27 @@ settings_written w n m = settings_of (λ k. unwrap_or (setting_for w n k) (manag
 
 -- The value that a written manager gets, of its start and length: 0 in all bytes that the datagram doesn't touch, and in
 -- those that a lower-numbered manager governs.
-abbrev pub value_for : List Manager → Window → ℕ → ℕ → List ℕ
-value_for lower w start len = retold (zeros len) (λ k. if is_ungoverned lower (start + k) then byte_from w (start + k) else None)
+abbrev pub physical_value : List Manager → Window → ℕ → ℕ → List ℕ
+physical_value lower w start len = retold (zeros len) (λ k. if is_ungoverned lower (start + k) then byte_from w (start + k) else None)
 
 -- manager n after the datagram, `lower` being the lower-numbered ones: new settings empty it
-unfoldable pub manager_met : List Manager → Bool → Bool → Window → ℕ → Manager → Manager
-manager_met lower reads writes w n m =
+unfoldable pub physical_manager : List Manager → Bool → Bool → Window → ℕ → Manager → Manager
+physical_manager lower reads writes w n m =
     if writes && is_configured w n then empty_manager (settings_written w n m) m.locked
-    else manager_after reads writes (touches w) (touches w) (is_ungoverned lower) (value_for lower w) m
+    else manager_after reads writes (touches w) (touches w) (is_ungoverned lower) (physical_value lower w) m
 
 -- each manager after it, the first being number n
-abbrev pub managers_met : List Manager → Bool → Bool → Window → ℕ → List Manager → List Manager
-managers_met lower reads writes w n [] = []
-managers_met lower reads writes w n (m ∷ ms) =
-    manager_met lower reads writes w n m ∷ managers_met (lower ++ m ∷ []) reads writes w (n + 1) ms
+abbrev pub physical_managers : List Manager → Bool → Bool → Window → ℕ → List Manager → List Manager
+physical_managers lower reads writes w n [] = []
+physical_managers lower reads writes w n (m ∷ ms) =
+    physical_manager lower reads writes w n m ∷ physical_managers (lower ++ m ∷ []) reads writes w (n + 1) ms
 
 -- The whole slave after a datagram that reads, writes or does both. A write of the first byte of AL control marks an AL
 -- request; the SII port takes the bytes of its control and its address.
-unfoldable pub slave_after : SlaveState → Bool → Bool → Window → SlaveState
-slave_after s reads writes w = record s {
+unfoldable pub physical_after : SlaveState → Bool → Bool → Window → SlaveState
+physical_after s reads writes w = record s {
   memory = if writes then memory_written s.managers w s.memory else s.memory;
-  managers = managers_met [] reads writes w 0 s.managers;
+  managers = physical_managers [] reads writes w 0 s.managers;
   al = if writes && touches w al_control then requesting s.al else s.al;
   sii = if writes then written s.sii w.from w.bytes else s.sii;
 }
@@ -143,7 +143,7 @@ pub record Meeting : Type 0 where
 -- received. A read counts 1; a write counts 1, in a datagram that reads as well 2.
 unfoldable pub meeting : SlaveState → Role → Window → Meeting
 meeting s role w = record {
-  slave = slave_after s (is_reading role) (is_writing role) w;
+  slave = physical_after s (is_reading role) (is_writing role) w;
   bytes = if is_reading role then retold w.bytes (byte_read s (is_joining role) w) else w.bytes;
   added = from_bool (is_reading role && some_byte_read s.managers w)
       + (if is_reading role then 2 else 1) * from_bool (is_writing role && some_byte_written s.managers s.sii.busy w);
