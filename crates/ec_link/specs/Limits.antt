@@ -38,10 +38,11 @@ pub record AreSeated (n : ℕ) (ps : List PartPlan) (seats : List Seat) : Type 0
 abbrev pub IsPlacedLow : Variable → Type 0
 IsPlacedLow v = v.from ≤ 2 ^ 60
 
--- its bits are counted without overflow
+-- it has a bit, and its bits are counted without overflow
 pub record IsShortWire (w : Wire) : Type 0 where
   pub variable_bit : w.variable_bit ≤ 255
   pub object_bit : w.object_bit ≤ 65791
+  pub some : 0 < w.count
   pub count : w.count ≤ 255
 
 -- the variables of the wires are there

@@ -12,6 +12,7 @@ mod objects;
 mod plan;
 mod settings;
 mod sizes;
+mod spans;
 mod split;
 mod wires;
 

@@ -1,0 +1,54 @@
+ghost use Rattle.std.specs.Prelude.{◌≡◌, ◌+◌, ◌<◌, ◌≤◌, ◌^◌, ℕ, true, false, All, IfOk, Some};
+ghost use Rattle.std.specs.BTreeMap.{get};
+ghost use Rattle.std.specs.Ordering.{nat_cmp};
+ghost use Rattle.ec_link.specs.Wires.{linked_twice};
+ghost use Rattle.ec_link.specs.Spans.{span_from, AreApart, IsMet};
+ghost use Rattle.ec_link.specs.Faults.{first_at};
+ghost use Rattle.ec_link.specs.Limits.{IsShortWire};
+
+use crate::wires::{Wire, is_out};
+use std::alloc::{AllocError, Global};
+use std::collections::BTreeMap;
+
+/// Where a wire begins on the line that has 2^17 numbers for the outputs of each slave and as many for each variable.
+fn span_from(wire: &Wire) -> u128
+    requires { IsShortWire wire.now }
+    ensures value { result ≡ span_from wire.now }
+    ensures low { result < 2 ^ 100 }
+{
+    if is_out(wire.direction) {
+        (1 << 18) * wire.slave as u128 + wire.object_bit as u128
+    } else {
+        (1 << 18) * wire.variable as u128 + ((1 << 17) + wire.variable_bit as u128)
+    }
+}
+
+/// Whether one of the spans, which are given by their ends, shares a number with those from `from` to before `end`. No two of
+/// them share one, so only the last that begins before `end` can.
+fn is_met(ends: &BTreeMap<u128, u128>, from: u128, end: u128) -> bool
+    requires { AreApart ends.now }
+    ensures hit { result ≡ true → IsMet ends.now from end }
+    ensures miss { result ≡ false → (a b : ℕ) → get nat_cmp ends.now a ≡ Some b → a < end → b ≤ from }
+{
+    match ends.range(..end).next_back() {
+        Some((_, last)) => *last > from,
+        None => false,
+    }
+}
+
+/// The first wire that gives a bit which an earlier one gives, in a turn for each wire, by a map of those so far.
+pub fn first_met(alloc: Global, wires: &[Wire]) -> Result<Option<usize>, AllocError>
+    requires { All IsShortWire wires.now }
+    ensures { IfOk result (λ o. o ≡ first_at (linked_twice wires.now) 0 wires.now) }
+{
+    let mut ends = BTreeMap::new(alloc);
+    for (place, wire) in wires.iter().enumerate() {
+        let from = span_from(wire);
+        let end = from + wire.count as u128;
+        if is_met(&ends, from, end) {
+            return Ok(Some(place));
+        }
+        ends.insert(from, end)?;
+    }
+    Ok(None)
+}
