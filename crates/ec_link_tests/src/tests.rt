@@ -1,6 +1,7 @@
 use crate::tests::described::{push_parts, push_plan, push_refusal};
 use crate::tests::tables::{
-    CHANGES, EMPTY_PLAN, SPLIT_VARIABLE, THREE_SLAVES, THREE_SLAVES_PLAN, TWO_UNITS_PLAN,
+    ASSIGNMENTS, CHANGES, EMPTY_PLAN, SPLIT_VARIABLE, THREE_SLAVES, THREE_SLAVES_PLAN,
+    TWO_UNITS_PLAN,
 };
 use ec_link::{LinkError, LinkFault, compile};
 use ec_table::{Table, read_table};
@@ -213,6 +214,139 @@ fn fills_parts(rt: HostRuntime) -> Result<(), Fail> {
 fn counts_slaves_and_parts(rt: HostRuntime) -> Result<(), Fail> {
     assert_machine(&rt, &[FEW; 65], false, "22 TooManySlaves 65")?;
     assert_machine(&rt, &[FEW; 33], true, "23 TooManyParts 33")
+}
+
+/// A link to 0x7000 of a slave: the variable `o` or `i`, the slave, the subindex, and the first bit of each and how many.
+type Joined<'a> = (&'a str, usize, u8, [u8; 3]);
+
+/// A machine with an output and an input variable of 64 bits each, and links.
+fn linked_machine(
+    alloc: Global,
+    terminals: &[Terminal],
+    links: &[Joined<'_>],
+) -> Result<String, AllocError> {
+    let mut text = machine(alloc, terminals, false)?;
+    for (variable, direction) in [("o", "out"), ("i", "in")] {
+        write!(
+            text,
+            "[[variable]]\nname = \"{variable}\"\ndir = \"{direction}\"\nbits = 64\n"
+        )?;
+    }
+    for (variable, slave, sub, [from, entry_bit, count]) in links {
+        write!(
+            text,
+            "[[link]]
+var = \"{variable}\"
+slave = \"s{slave}\"
+index = 0x7000
+sub = {sub}
+bits = [{from}, {entry_bit}, {count}]
+"
+        )?;
+    }
+    Ok(text)
+}
+
+/// Compiles a machine with links, and compares why it has no plan.
+fn assert_refused(
+    rt: &(impl AllocGlobal + Abort),
+    terminals: &[Terminal],
+    links: &[Joined<'_>],
+    wanted: &str,
+) -> Result<(), Fail> {
+    let text = linked_machine(rt.alloc(), terminals, links)?;
+    assert_parts(rt, text.as_str(), wanted)
+}
+
+/// Of 65 slaves, and of a slave with over 2048 bits, a bit linked twice is told first.
+#[test]
+fn tells_doubled_links_of_large_tables(rt: HostRuntime) -> Result<(), Fail> {
+    let many: &[Terminal] = &[(4, 4, true); 65];
+    let large: &[Terminal] = &[(2112, 2112, true)];
+    let rows: [(&[Terminal], &[Joined<'_>], &str); 8] = [
+        (
+            many,
+            &[
+                ("o", 64, 1, [0, 0, 2]),
+                ("o", 0, 1, [0, 0, 2]),
+                ("o", 64, 1, [0, 2, 2]),
+                ("o", 64, 1, [0, 1, 1]),
+            ],
+            "19 LinkedTwice 3",
+        ),
+        (
+            many,
+            &[("o", 64, 1, [0, 0, 2]), ("o", 64, 1, [0, 2, 2])],
+            "22 TooManySlaves 65",
+        ),
+        (
+            many,
+            &[
+                ("i", 0, 1, [0, 0, 2]),
+                ("i", 64, 1, [2, 0, 2]),
+                ("i", 1, 1, [1, 0, 2]),
+            ],
+            "19 LinkedTwice 2",
+        ),
+        (
+            many,
+            &[
+                ("i", 0, 1, [0, 0, 4]),
+                ("o", 1, 1, [0, 0, 4]),
+                ("i", 64, 1, [4, 0, 4]),
+                ("o", 0, 1, [0, 0, 4]),
+            ],
+            "22 TooManySlaves 65",
+        ),
+        (
+            large,
+            &[
+                ("o", 0, 33, [0, 0, 64]),
+                ("o", 0, 32, [0, 0, 64]),
+                ("o", 0, 33, [0, 63, 1]),
+                ("o", 0, 32, [0, 0, 1]),
+            ],
+            "19 LinkedTwice 2",
+        ),
+        (
+            large,
+            &[("o", 0, 33, [0, 0, 64]), ("o", 0, 32, [0, 0, 64])],
+            "21 TooManyBits 0",
+        ),
+        (
+            large,
+            &[("i", 0, 33, [0, 0, 32]), ("i", 0, 33, [31, 32, 1])],
+            "19 LinkedTwice 1",
+        ),
+        (
+            large,
+            &[("i", 0, 33, [0, 0, 32]), ("i", 0, 33, [32, 0, 32])],
+            "21 TooManyBits 0",
+        ),
+    ];
+    for (terminals, links, wanted) in rows {
+        assert_refused(&rt, terminals, links, wanted)?;
+    }
+    Ok(())
+}
+
+/// Slaves of one type have their bits each by its own assignment.
+#[test]
+fn places_bits_by_assignment(rt: HostRuntime) -> Result<(), Fail> {
+    let alloc = rt.alloc();
+    let table = read_table(alloc, ASSIGNMENTS)?;
+    let plan = compile(alloc, &table)?;
+    let mut told = String::new(alloc);
+    for link in plan.out_links() {
+        write!(told, "{} {}, ", link.slave, link.object_bit)?;
+    }
+    assert_eq!(rt; told.as_str(), "0 8, 1 0, 2 0, 3 8, 4 0, 2 16, ");
+    let (old, new) = (
+        "slave = \"s2\"\nindex = 0x7001",
+        "slave = \"s1\"\nindex = 0x7001",
+    );
+    let stranger = changed(alloc, ASSIGNMENTS, old, new)?;
+    assert_parts(&rt, stranger.as_str(), "17 NoEntry 5")
 }
 
 #[test]

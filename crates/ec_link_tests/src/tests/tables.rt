@@ -185,3 +185,67 @@ index = 0x6010
 sub = 1
 bits = [4, 0, 4]
 "#;
+
+/// Slaves of one type, which assign both of its objects, one of them, or both turned round.
+pub const ASSIGNMENTS: &str = r#"[[type]]
+name = "t"
+vendor = 1
+product = 1
+revision = 1
+mailbox = [0x1000, 128, 0x1080, 128]
+out_start = 0x1100
+in_start = 0x1400
+rxpdo = [ { index = 0x1600, entries = [[0x7001, 1, 8]] }, { index = 0x1601, entries = [[0x7000, 1, 16]] } ]
+[[slave]]
+name = "s0"
+type = "t"
+[[slave]]
+name = "s1"
+type = "t"
+out = [0x1601]
+[[slave]]
+name = "s2"
+type = "t"
+out = [0x1601, 0x1600]
+[[slave]]
+name = "s3"
+type = "t"
+[[slave]]
+name = "s4"
+type = "t"
+out = [0x1601]
+[[variable]]
+name = "o"
+dir = "out"
+bits = 8
+[[link]]
+var = "o"
+slave = "s0"
+index = 0x7000
+sub = 1
+[[link]]
+var = "o"
+slave = "s1"
+index = 0x7000
+sub = 1
+[[link]]
+var = "o"
+slave = "s2"
+index = 0x7000
+sub = 1
+[[link]]
+var = "o"
+slave = "s3"
+index = 0x7000
+sub = 1
+[[link]]
+var = "o"
+slave = "s4"
+index = 0x7000
+sub = 1
+[[link]]
+var = "o"
+slave = "s2"
+index = 0x7001
+sub = 1
+"#;
