@@ -11,16 +11,19 @@ ghost use Rattle.ec_slave.specs.LogicalLaws.{BroadcastLaw, ExchangeLaw, MappedLa
 ghost use Rattle.ec_slave.specs.FirmwareLaws.{AssignmentsStay, FirstReplyIsOne, PowerOnAssigns, RestsQuietly, ServesKeepAssignments, ServesKeepBuffers, ServesKeepSettings, StatesAreEntered};
 
 /// A datagram for another station address passes, and changes nothing.
+#[tactic(auto, using(crate::proofs::Bystanders::other_station_passes))]
 pub fn other_station_passes()
     ensures { OtherStationPasses }
 {}
 
 /// A datagram for another position passes, and only its ADP changes: it grows by 1.
+#[tactic(auto, using(crate::proofs::Bystanders::other_position_passes))]
 pub fn other_position_passes()
     ensures { OtherPositionPasses }
 {}
 
 /// Of a datagram only ADP, the bytes of its data and its working counter ever change.
+#[tactic(auto, using(crate::proofs::Bystanders::heading_stays))]
 pub fn heading_stays()
     ensures { HeadingStays }
 {}
@@ -58,21 +61,25 @@ pub fn writes_by_byte()
 {}
 
 /// A read changes the data bytes whose addresses are there, and no other.
+#[tactic(auto, using(crate::proofs::Bytes::reads_by_byte))]
 pub fn reads_by_byte()
     ensures { ReadsByByte }
 {}
 
 /// What the working counter grows by, as a table.
+#[tactic(auto, using(crate::proofs::Bytes::counts_by_role))]
 pub fn counts_by_role()
     ensures { CountsByRole }
 {}
 
 /// A logical datagram that maps nothing of a slave changes neither.
+#[tactic(auto, using(crate::proofs::Misses::misses))]
 pub fn logical_misses()
     ensures { MissesLaw }
 {}
 
 /// A slave whose FMMUs map its area exchanges exactly its outputs and its inputs with a logical datagram over it.
+#[tactic(auto, using(crate::proofs::ExchangeLaw::exchange))]
 pub fn exchange()
     ensures { ExchangeLaw }
 {}
@@ -83,11 +90,13 @@ pub fn mapped_kept()
 {}
 
 /// A physical datagram does to each manager what it does to it among all managers as they were.
+#[tactic(auto, using(crate::proofs::AgainstAll::physical_against_all))]
 pub fn physical_against_all()
     ensures { PhysicalAgainstAll }
 {}
 
 /// A logical datagram does to each manager what it does to it among all managers as they were.
+#[tactic(auto, using(crate::proofs::AgainstAll::logical_against_all))]
 pub fn logical_against_all()
     ensures { LogicalAgainstAll }
 {}
@@ -106,6 +115,7 @@ pub fn managers_go_by_runs()
 {}
 
 /// A broadcast read of registers changes no slave and counts one.
+#[tactic(auto, using(crate::proofs::Broadcast::broadcast_read))]
 pub fn broadcast_read()
     ensures { BroadcastLaw }
 {}
