@@ -275,6 +275,29 @@ fn no_room_for_a_reply(rt: HostRuntime) -> Result<(), Fail> {
     )
 }
 
+// A read under a lower manager leaves the message of a full mailbox that it would empty: the lower manager denies it, or
+// shows its own bytes.
+#[test]
+fn reply_under_a_manager_stays(rt: HostRuntime) -> Result<(), Fail> {
+    let nothing = "000000000000 0000 00000000 00000000";
+    expect_from_preop(
+        &rt,
+        &[
+            Writes(0x0808, "8010100022000100"),
+            Sends(VENDOR),
+            Writes(0x0800, "8010100026000100"),
+            Answers(Aprd, 0x1080_0000, nothing, nothing, 0),
+            Shows(0x080D, Some(8)),
+            Writes(0x0804, "20"),
+            Answers(Aprd, 0x1080_0000, VENDOR, nothing, 1),
+            Shows(0x080D, Some(8)),
+            Writes(0x0806, "00"),
+            Answers(Aprd, 0x1080_0000, nothing, VENDOR_IS, 1),
+            Shows(0x080D, Some(0)),
+        ],
+    )
+}
+
 /// What the application does in SAFEOP and in OP: a value shows whole, an open draft shows nothing.
 const APPLICATION: [Step; 14] = [
     Sizes(2, 2),
