@@ -232,7 +232,8 @@ fn linked_machine(
             "[[variable]]\nname = \"{variable}\"\ndir = \"{direction}\"\nbits = 64\n"
         )?;
     }
-    for (variable, slave, sub, [from, entry_bit, count]) in links {
+    for link in links {
+        let (variable, slave, sub, [from, entry_bit, count]) = *link;
         write!(
             text,
             "[[link]]
