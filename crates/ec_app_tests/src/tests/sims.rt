@@ -5,7 +5,7 @@ ghost use Rattle.ec_link.specs.Faults.{compile_fault};
 ghost use Rattle.ec_link.specs.Plan.{plan_of};
 
 use crate::tests::plans::expect_printed;
-use crate::tests::tables::THREE_SLAVES;
+use crate::tests::tables::{THREE_SLAVES, VALVES_AND_SWITCHES};
 use crate::tests::{Run, expect_run};
 use ec_app::{Line, Refusal, identities_of, plan_text, read_script, run_line};
 use ec_link::{Plan, compile};
@@ -46,7 +46,16 @@ const THREE_SLAVES_RUNS: [(&str, &str); 8] = [
     (";;begin;;close", "no 3;no 5;"),
 ];
 
-/// The same with a first slave that takes no part in LRW.
+/// The script of `examples/loss_and_reset.sim`: a cycle, one whose frame is lost, one with a slave that was reset.
+const LOSS_AND_RESET_RUNS: [(&str, &str); 1] = [(
+    "ready;set open 9;put 1 0 6;cycle;show;get 0 0;;put 1 0 15;begin;pass 0;lose 0;close;show;;\
+     reset 1;cycle;show;ready;",
+    "ready;report taken missing 0 counters 3 al 0008;pressed 6;byte 09;\
+     report untaken missing 1 counters - al 0000;pressed 6;\
+     report untaken missing 0 counters 2 al 0009;pressed 6;no 18;",
+)];
+
+/// Scripts on the table of three slaves whose first one takes no part in LRW.
 const SPLIT_RUNS: [(&str, &str); 3] = [
     (
         "ready;cycle;",
@@ -169,6 +178,11 @@ fn changed(alloc: Global, old: &str, new: &str) -> Result<String, Fail> {
 #[test]
 fn runs_scripts(rt: HostRuntime) -> Result<(), Fail> {
     expect_runs(&rt, THREE_SLAVES, &THREE_SLAVES_RUNS)
+}
+
+#[test]
+fn runs_the_example(rt: HostRuntime) -> Result<(), Fail> {
+    expect_runs(&rt, VALVES_AND_SWITCHES, &LOSS_AND_RESET_RUNS)
 }
 
 #[test]

@@ -203,6 +203,54 @@ index = 0x6020
 sub = 17
 "#;
 
+/// The table of `examples/loss_and_reset.sim`.
+pub const VALVES_AND_SWITCHES: &str = r#"# Two terminals in a row: four valves, and four switches.
+[[type]]
+name = "do4"
+vendor = 0xABCD
+product = 1
+revision = 1
+out_start = 0x1100
+in_start = 0
+rxpdo = [ { index = 0x1600, entries = [[0x7000, 1, 4]] } ]
+
+[[type]]
+name = "di4"
+vendor = 0xABCD
+product = 2
+revision = 1
+out_start = 0
+in_start = 0x1100
+txpdo = [ { index = 0x1A00, entries = [[0x6000, 1, 4]] } ]
+
+[[slave]]
+name = "valves"
+type = "do4"
+[[slave]]
+name = "switches"
+type = "di4"
+
+[[variable]]
+name = "open"
+dir = "out"
+bits = 4
+[[variable]]
+name = "pressed"
+dir = "in"
+bits = 4
+
+[[link]]
+var = "open"
+slave = "valves"
+index = 0x7000
+sub = 1
+[[link]]
+var = "pressed"
+slave = "switches"
+index = 0x6000
+sub = 1
+"#;
+
 /// The slaves' areas follow each other bit by bit, and the inputs of a slave share its area: slave 1
 /// begins at bit 4 of the first byte.
 pub const THREE_SLAVES_PLAN: &str = "\
