@@ -1,6 +1,6 @@
 //! The FMMUs of a slave, kept decoded beside the registers that they stand in.
 
-ghost use Rattle.std.specs.Prelude.{◌≡◌, ◌+◌, ◌*◌, ◌<◌, length, slice_index};
+ghost use Rattle.std.specs.Prelude.{◌≡◌, ◌+◌, ◌<◌, length, slice_index};
 ghost use Rattle.ec_regs.specs.Memory.{fmmu_place, ram_end};
 ghost use Rattle.ec_regs.specs.Fmmus.{fmmu_of};
 ghost use Rattle.ec_slave.specs.State.{fmmus_of};
