@@ -1,4 +1,4 @@
-ghost use Rattle.std.specs.Prelude.{◌≡◌, ◌+◌, ◌<◌, ◌^◌, ◌==◌, ◌||◌, nat_lt};
+ghost use Rattle.std.specs.Prelude.{◌≡◌, ◌==◌, ◌||◌, nat_lt};
 ghost use Rattle.ec_regs.specs.Memory.{is_stored as is_stored_at, takes_writes as takes_writes_at};
 
 use crate::registers::{AL_CONTROL, FMMUS, SII_CONTROL, STATION_ADDRESS, SYNC_MANAGERS};
