@@ -75,16 +75,38 @@ fn all_show(ring: &Ring, status: u8) -> bool {
     true
 }
 
+/// A start-up brings slaves up, and has sent every frame below this number then.
+fn comes_up(
+    rt: &(impl AllocGlobal + Abort),
+    startup: &mut Startup,
+    ring: &mut Ring,
+    next: u64,
+) -> Result<(), Fail> {
+    brought_up(startup, ring)?;
+    assert_eq!(rt;
+        (startup.outcome(), startup.next_number()),
+        (Some(Ok(())), next)
+    );
+    Ok(())
+}
+
+/// A new start-up brings slaves up, by frames from number 0 on.
+fn comes_up_anew(
+    rt: &(impl AllocGlobal + Abort),
+    plan: &Plan,
+    ring: &mut Ring,
+    next: u64,
+) -> Result<(), Fail> {
+    let mut startup = startup_of(rt, plan, 0)?;
+    comes_up(rt, &mut startup, ring, next)
+}
+
 #[test]
 fn three_slaves_come_up(rt: HostRuntime) -> Result<(), Fail> {
     let plan = plan_of(rt.alloc(), THREE_SLAVES)?;
-    let mut startup = startup_of(&rt, &plan, 0)?;
     let mut ring = ring_of(rt.alloc(), &plan, &[1; 3])?;
-    brought_up(&mut startup, &mut ring)?;
-    assert_eq!(rt; startup.outcome(), Some(Ok(())));
-    assert_eq!(rt; startup.next_number(), 75);
-    assert_eq!(rt; ring.len(), 3);
-    assert!(rt; all_show(&ring, 8));
+    comes_up_anew(&rt, &plan, &mut ring, 75)?;
+    assert!(rt; ring.len() == 3 && all_show(&ring, 8));
     Ok(())
 }
 
@@ -97,6 +119,48 @@ fn begin_anew(startup: &mut Startup) -> Result<(), Fail> {
     Ok(())
 }
 
+/// A start-up fails over slaves, has sent every frame below this number then, and begins anew.
+fn fails(
+    rt: &(impl AllocGlobal + Abort),
+    startup: &mut Startup,
+    ring: &mut Ring,
+    error: StartError,
+    next: u64,
+) -> Result<(), Fail> {
+    brought_up(startup, ring)?;
+    assert_eq!(rt;
+        (startup.phase(), startup.next_number()),
+        (Phase::Failed(error), next)
+    );
+    begin_anew(startup)
+}
+
+/// A start-up of the plan brings up its own slaves, as they are switched on.
+fn right_come_up(
+    rt: &(impl AllocGlobal + Abort),
+    startup: &mut Startup,
+    plan: &Plan,
+    next: u64,
+) -> Result<(), Fail> {
+    let mut right = ring_of(rt.alloc(), plan, &[1; 3])?;
+    comes_up(rt, startup, &mut right, next)
+}
+
+/// A start-up fails over slaves after so many frames, twice, and then brings up the plan's own.
+fn fails_twice(
+    rt: &(impl AllocGlobal + Abort),
+    plan: &Plan,
+    wrong: &mut Ring,
+    error: StartError,
+    frames: u8,
+) -> Result<(), Fail> {
+    let mut startup = startup_of(rt, plan, 0)?;
+    let each = u64::from(frames);
+    fails(rt, &mut startup, wrong, error, each)?;
+    fails(rt, &mut startup, wrong, error, 2 * each)?;
+    right_come_up(rt, &mut startup, plan, 2 * each + 75)
+}
+
 /// Over a ring that isn't the plan's a start-up fails after so many frames, and so does a second one, from the next number. A
 /// third, over the plan's own slaves, ends Ready.
 fn fails_until_right(
@@ -106,19 +170,7 @@ fn fails_until_right(
     frames: u8,
 ) -> Result<(), Fail> {
     let plan = plan_of(rt.alloc(), THREE_SLAVES)?;
-    let mut startup = startup_of(rt, &plan, 0)?;
-    let each = u64::from(frames);
-    for sent in [each, 2 * each] {
-        brought_up(&mut startup, wrong)?;
-        assert_eq!(rt; startup.phase(), Phase::Failed(error));
-        assert_eq!(rt; startup.next_number(), sent);
-        begin_anew(&mut startup)?;
-    }
-    let mut right = ring_of(rt.alloc(), &plan, &[1; 3])?;
-    brought_up(&mut startup, &mut right)?;
-    assert_eq!(rt; startup.outcome(), Some(Ok(())));
-    assert_eq!(rt; startup.next_number(), 2 * each + 75);
-    Ok(())
+    fails_twice(rt, &plan, wrong, error, frames)
 }
 
 // The first frame counts two slaves of three.
@@ -145,23 +197,24 @@ fn another_revision(rt: HostRuntime) -> Result<(), Fail> {
     Ok(())
 }
 
-// The last frame has no number. Begun anew it has none at all; one from number 0 comes up over the same slaves.
+/// A start-up whose last frame has no number fails, and begun anew it has no number at all.
+fn spends_numbers(
+    rt: &(impl AllocGlobal + Abort),
+    plan: &Plan,
+    ring: &mut Ring,
+) -> Result<(), Fail> {
+    let mut startup = startup_of(rt, plan, u64::MAX - 74)?;
+    fails(rt, &mut startup, ring, StartError::NumbersSpent, u64::MAX)?;
+    fails(rt, &mut startup, ring, StartError::NumbersSpent, u64::MAX)
+}
+
+// One from number 0 comes up over the same slaves.
 #[test]
 fn numbers_are_spent(rt: HostRuntime) -> Result<(), Fail> {
     let plan = plan_of(rt.alloc(), THREE_SLAVES)?;
-    let mut startup = startup_of(&rt, &plan, u64::MAX - 74)?;
     let mut ring = ring_of(rt.alloc(), &plan, &[1; 3])?;
-    for _ in 0..2 {
-        brought_up(&mut startup, &mut ring)?;
-        assert_eq!(rt; startup.outcome(), Some(Err(StartError::NumbersSpent)));
-        assert_eq!(rt; startup.next_number(), u64::MAX);
-        begin_anew(&mut startup)?;
-    }
-    let mut second = startup_of(&rt, &plan, 0)?;
-    brought_up(&mut second, &mut ring)?;
-    assert_eq!(rt; second.outcome(), Some(Ok(())));
-    assert_eq!(rt; second.next_number(), 75);
-    Ok(())
+    spends_numbers(&rt, &plan, &mut ring)?;
+    comes_up_anew(&rt, &plan, &mut ring, 75)
 }
 
 /// A slave is reset, or has a fault, or a byte of the frame becomes 0.
@@ -262,6 +315,15 @@ fn may_end(outcome: Option<Result<(), StartError>>, trouble: Trouble) -> bool {
     }
 }
 
+/// Brings the ring up anew, where the start-up has failed.
+fn restarted(startup: &mut Startup, ring: &mut Ring) -> Result<(), Fail> {
+    if !startup.has_failed() {
+        return Ok(());
+    }
+    startup.restart();
+    brought_up(startup, ring)
+}
+
 /// New slaves meet trouble in the frame of a number, and then come up undisturbed. It answers the number behind the last frame.
 fn rise_twice(
     rt: &(impl AllocGlobal + Abort),
@@ -277,10 +339,7 @@ fn rise_twice(
         may_end(startup.outcome(), trouble),
         "{number} {at} {trouble:?}"
     );
-    if startup.has_failed() {
-        startup.restart();
-        brought_up(&mut startup, &mut ring)?;
-    }
+    restarted(&mut startup, &mut ring)?;
     assert_eq!(rt;
         startup.outcome(),
         Some(Ok(())),
@@ -418,8 +477,5 @@ fn no_slaves_come_up(rt: HostRuntime) -> Result<(), Fail> {
     let plan = plan_of(rt.alloc(), "")?;
     let mut startup = startup_of(&rt, &plan, 5)?;
     let mut ring = Ring::new(Vec::new(rt.alloc()));
-    brought_up(&mut startup, &mut ring)?;
-    assert_eq!(rt; startup.outcome(), Some(Ok(())));
-    assert_eq!(rt; startup.next_number(), 6);
-    Ok(())
+    comes_up(&rt, &mut startup, &mut ring, 6)
 }
