@@ -286,15 +286,21 @@ fn expect_line<H: AllocGlobal + Net + Abort>(
     expect_run(rt, run);
 }
 
+/// The line that `ecat pass` prints or tells.
+fn line_of(alloc: Global, zeros: usize, back: Result<&str, &str>) -> Result<String, AllocError> {
+    let mut line = match back {
+        Ok(back) => digits(alloc, back, zeros)?,
+        Err(refusal) => format!(in alloc; "ecat: {refusal}")?,
+    };
+    line.push('\n')?;
+    Ok(line)
+}
+
 /// How `ecat pass` ends: with what it prints, or with what it tells.
 fn expect_pass<H: AllocGlobal + Net + Abort>(rt: &H, pass: Pass) -> Result<(), Fail> {
     let (slaves, zeros, sent, back) = pass;
     let sent = digits(rt.alloc(), sent, zeros)?;
-    let mut line = match back {
-        Ok(back) => digits(rt.alloc(), back, zeros)?,
-        Err(refusal) => format!(in rt.alloc(); "ecat: {refusal}")?,
-    };
-    line.push('\n')?;
+    let line = line_of(rt.alloc(), zeros, back)?;
     expect_line(rt, slaves, sent.as_str(), back.is_ok(), line.as_str());
     Ok(())
 }

@@ -112,6 +112,24 @@ fn write_inputs(text: &mut String, world: &World<'_>, table: &Table) -> Result<(
     Ok(())
 }
 
+/// A world comes up, and says what it has to say of so many cycles.
+fn write_cycles(
+    alloc: Global,
+    text: &mut String,
+    world: &mut World<'_>,
+    table: &Table,
+    plan: &Plan,
+    cycles: u64,
+) -> Result<(), AllocError> {
+    start_up(world);
+    for cycle in 0..cycles {
+        set_outputs(world, table, cycle.saturating_add(1));
+        run_cycle(world, plan.parts().len());
+        write_line(alloc, text, world, table, plan)?;
+    }
+    write_inputs(text, world, table)
+}
+
 /// What a world of a table says of so many cycles.
 pub fn looped(alloc: Global, table: &Table, plan: &Plan, cycles: u64) -> Result<String, AllocError>
     requires accepted { compile_fault table.now ≡ None }
@@ -120,12 +138,6 @@ pub fn looped(alloc: Global, table: &Table, plan: &Plan, cycles: u64) -> Result<
     let identities = identities_of(alloc, table)?;
     let mut world = World::new(alloc, table, plan, identities.as_slice())?;
     let mut text = String::from_str(alloc, "ready\n")?;
-    start_up(&mut world);
-    for cycle in 0..cycles {
-        set_outputs(&mut world, table, cycle.saturating_add(1));
-        run_cycle(&mut world, plan.parts().len());
-        write_line(alloc, &mut text, &world, table, plan)?;
-    }
-    write_inputs(&mut text, &world, table)?;
+    write_cycles(alloc, &mut text, &mut world, table, plan, cycles)?;
     Ok(text)
 }

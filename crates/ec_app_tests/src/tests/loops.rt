@@ -131,10 +131,15 @@ fn ends_at_a_fault_of_the_wire(rt: HostRuntime) -> Result<(), Fail> {
 }
 
 /// What a world says of three cycles of a table.
-fn cycles_of(alloc: Global, table: &str) -> Result<String, Refusal> {
-    let table = read_table(alloc, table)?;
-    let plan = compile(alloc, &table)?;
-    Ok(looped(alloc, &table, &plan, 3)?)
+fn cycles_of_table(alloc: Global, table: &Table) -> Result<String, Refusal> {
+    let plan = compile(alloc, table)?;
+    Ok(looped(alloc, table, &plan, 3)?)
+}
+
+/// The same of the table that a text states.
+fn cycles_of(alloc: Global, text: &str) -> Result<String, Refusal> {
+    let table = read_table(alloc, text)?;
+    cycles_of_table(alloc, &table)
 }
 
 /// Three cycles of the table that a seed decides, through the program and as events of a world.

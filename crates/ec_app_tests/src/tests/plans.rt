@@ -123,6 +123,13 @@ fn explains_plans(rt: HostRuntime) -> Result<(), Fail> {
     Ok(())
 }
 
+/// A table with the change `OLD => NEW` made, `|` being the end of a line.
+fn changed_by(alloc: Global, table: &str, change: &str) -> Result<String, Fail> {
+    let change = change.replace(alloc, "|", "\n")?;
+    let (old, new) = change.as_str().split_once(" => ").ok_or("no change")?;
+    changed(alloc, table, old, new)
+}
+
 /// Makes the change `OLD => NEW`, `|` being the end of a line, of which a refusal is told.
 fn expect_refused<H: AllocGlobal + Net + Abort>(
     rt: &H,
@@ -130,9 +137,7 @@ fn expect_refused<H: AllocGlobal + Net + Abort>(
     change: &str,
     refusal: &str,
 ) -> Result<(), Fail> {
-    let change = change.replace(rt.alloc(), "|", "\n")?;
-    let (old, new) = change.as_str().split_once(" => ").ok_or("no change")?;
-    let table = changed(rt.alloc(), table, old, new)?;
+    let table = changed_by(rt.alloc(), table, change)?;
     expect_told(rt, &PLAN, table.as_bytes(), 3, refusal)?;
     expect_told(rt, &EXPLAIN, table.as_bytes(), 3, refusal)
 }

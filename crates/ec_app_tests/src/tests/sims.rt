@@ -264,15 +264,23 @@ fn said(
     Ok(printed)
 }
 
+/// What a new world of a table says to the lines of a script.
+fn said_by(alloc: Global, table: &Table, plan: &Plan, lines: &[Line]) -> Result<String, AllocError>
+    requires accepted { compile_fault table.now ≡ None }
+    requires plan { plan.now ≡ plan_of table.now }
+{
+    let identities = identities_of(alloc, table)?;
+    let mut world = World::new(alloc, table, plan, identities.as_slice())?;
+    said(alloc, table, &mut world, lines)
+}
+
 /// What a script prints over a table and its plan, by the crates below.
 fn simulated(alloc: Global, table: &Table, plan: &Plan, script: &str) -> Result<String, Refusal>
     requires accepted { compile_fault table.now ≡ None }
     requires plan { plan.now ≡ plan_of table.now }
 {
     let lines = read_script(alloc, table, script)?;
-    let identities = identities_of(alloc, table)?;
-    let mut world = World::new(alloc, table, plan, identities.as_slice())?;
-    Ok(said(alloc, table, &mut world, lines.as_slice())?)
+    Ok(said_by(alloc, table, plan, lines.as_slice())?)
 }
 
 /// The text of a plan, and what a script prints over it, by the crates below.
