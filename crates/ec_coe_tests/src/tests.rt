@@ -1,4 +1,6 @@
 //! Messages as they stand on the wire, to a slave with one PDO in each direction.
+ghost use Rattle.ec_coe.specs.Messages.{IsMessage};
+
 use ec_coe::{
     BadMailbox, Dictionary, Message, Reply, Value, read_message, read_reply, write_message,
 };
@@ -74,6 +76,39 @@ fn mixed(rt: &(impl AllocGlobal + Abort)) -> Result<Dictionary, Fail> {
     )
 }
 
+/// The message of a row of hexadecimal digits.
+fn message_of(rt: &(impl AllocGlobal + Abort), row: &str) -> Result<Message, Fail> {
+    Ok(read_message(&bytes_of(rt, row)?).ok().ok_or("a message")?)
+}
+
+/// Compares the bytes of a reply in a mailbox of 20 bytes, of which the last ones become 0.
+fn assert_reply(rt: &impl Abort, reply: &Message, back: &[u8], sent: &str)
+    requires { IsMessage reply.now }
+{
+    let mut mailbox = [0xFF; 20];
+    assert_eq!(rt; write_message(reply, &mut mailbox), Ok(()));
+    assert!(rt; &mailbox[..16] == back, "{sent}");
+    assert_eq!(rt; mailbox.get(16..), Some([0, 0, 0, 0].as_slice()));
+}
+
+/// Compares what a slave's outputs are assigned to.
+fn assert_outputs(rt: &impl Abort, dictionary: &Dictionary, outputs: &[u16]) {
+    assert_eq!(rt; dictionary.assigned_outputs(), outputs);
+}
+
+/// Compares what a slave's inputs are assigned to.
+fn assert_inputs(rt: &impl Abort, dictionary: &Dictionary, inputs: &[u16]) {
+    assert_eq!(rt; dictionary.assigned_inputs(), inputs);
+}
+
+/// Compares how many bits of outputs and of inputs a slave has.
+fn assert_bits(rt: &impl Abort, dictionary: &Dictionary, outputs: usize, inputs: usize) {
+    assert_eq!(rt;
+        (dictionary.output_bits(), dictionary.input_bits()),
+        (outputs, inputs)
+    );
+}
+
 /// Sends requests one after the other, and compares the bytes of the replies, which are counted from 1 on.
 fn assert_answers(
     rt: &(impl AllocGlobal + Abort),
@@ -83,16 +118,8 @@ fn assert_answers(
 ) -> Result<(), Fail> {
     for (place, (sent, back)) in rows.iter().enumerate() {
         let counter = (place % 7 + 1) as u8;
-        let request = read_message(&bytes_of(rt, sent)?).ok().ok_or("a message")?;
-        let reply = dictionary.answer(in_preop, &request, counter);
-        let mut mailbox = [0xFF; 20];
-        assert_eq!(rt; write_message(&reply, &mut mailbox), Ok(()));
-        assert_eq!(rt;
-            mailbox.get(..16),
-            Some(bytes_of(rt, back)?.as_slice()),
-            "{sent}"
-        );
-        assert_eq!(rt; mailbox.get(16..), Some([0, 0, 0, 0].as_slice()));
+        let reply = dictionary.answer(in_preop, &message_of(rt, sent)?, counter);
+        assert_reply(rt, &reply, &bytes_of(rt, back)?, sent);
     }
     Ok(())
 }
@@ -136,9 +163,8 @@ fn assigns_in_preop(rt: HostRuntime) -> Result<(), Fail> {
         ),
     ];
     assert_answers(&rt, &mut dictionary, true, &rows)?;
-    assert_eq!(rt; dictionary.assigned_outputs(), [0x1600].as_slice());
-    assert_eq!(rt; dictionary.output_bits(), 12);
-    assert_eq!(rt; dictionary.input_bits(), 16);
+    assert_outputs(&rt, &dictionary, &[0x1600]);
+    assert_bits(&rt, &dictionary, 12, 16);
     Ok(())
 }
 
@@ -156,8 +182,8 @@ fn assigns_in_no_other_state(rt: HostRuntime) -> Result<(), Fail> {
         ),
     ];
     assert_answers(&rt, &mut dictionary, false, &rows)?;
-    assert_eq!(rt; dictionary.assigned_outputs(), [0x1600].as_slice());
-    assert_eq!(rt; dictionary.assigned_inputs(), [0x1A00].as_slice());
+    assert_outputs(&rt, &dictionary, &[0x1600]);
+    assert_inputs(&rt, &dictionary, &[0x1A00]);
     Ok(())
 }
 
@@ -258,8 +284,10 @@ fn without_inputs(rt: HostRuntime) -> Result<(), Fail> {
         ),
     ];
     assert_answers(&rt, &mut dictionary, true, &rows)?;
-    assert_eq!(rt; dictionary.kind().device(), DEVICE);
-    assert_eq!(rt; dictionary.identity(), DEVICE.identity(0));
+    assert_eq!(rt;
+        (dictionary.kind().device(), dictionary.identity()),
+        (DEVICE, DEVICE.identity(0))
+    );
     Ok(())
 }
 
@@ -290,10 +318,33 @@ fn no_index_twice(rt: HostRuntime) -> Result<(), Fail> {
         ),
     ];
     assert_answers(&rt, &mut dictionary, true, &rows)?;
-    assert_eq!(rt; dictionary.assigned_outputs(), [0x1600].as_slice());
+    assert_outputs(&rt, &dictionary, &[0x1600]);
     dictionary.reset();
-    assert_eq!(rt; dictionary.assigned_outputs(), [0x1600, 0x1601].as_slice());
+    assert_outputs(&rt, &dictionary, &[0x1600, 0x1601]);
     Ok(())
+}
+
+/// One PDO of outputs, of so many entries of 64 bits.
+fn long_outputs(alloc: Global, count: u8) -> Result<Listed<Pdo>, AllocError> {
+    let mut entries = Listed::new(alloc);
+    for place in 0..count {
+        entries.push(entry(0x7000, place, 64))?;
+    }
+    let mut outputs = Listed::new(alloc);
+    outputs.push(Pdo {
+        index: 0x1600,
+        entries,
+    })?;
+    Ok(outputs)
+}
+
+/// The objects of a slave whose outputs are so many entries of 64 bits.
+fn long_dictionary(rt: &(impl AllocGlobal + Abort), count: u8) -> Result<Dictionary, Fail> {
+    let outputs = long_outputs(rt.alloc(), count)?;
+    let inputs = Listed::new(rt.alloc());
+    assert!(rt; SlaveType::is_within_limits(None, outputs.as_slice(), inputs.as_slice()));
+    let kind = SlaveType::new(DEVICE, None, 0x1100, 0x1400, outputs, inputs, true);
+    Ok(Dictionary::new(rt.alloc(), kind, DEVICE.identity(0))?)
 }
 
 // 33 entries of 64 bits are more than a direction may have; 32 are not.
@@ -303,22 +354,28 @@ fn at_most_2048_bits(rt: HostRuntime) -> Result<(), Fail> {
         (32, "0a0000000013 0030 60121c00 00000000"),
         (33, "0a0000000013 0020 80121c00 30000906"),
     ] {
-        let mut long = Listed::new(rt.alloc());
-        for place in 0..entries {
-            long.push(entry(0x7000, place, 64))?;
-        }
-        let mut outputs = Listed::new(rt.alloc());
-        outputs.push(Pdo {
-            index: 0x1600,
-            entries: long,
-        })?;
-        let inputs = Listed::new(rt.alloc());
-        assert!(rt; SlaveType::is_within_limits(None, outputs.as_slice(), inputs.as_slice()));
-        let kind = SlaveType::new(DEVICE, None, 0x1100, 0x1400, outputs, inputs, true);
-        let mut dictionary = Dictionary::new(rt.alloc(), kind, DEVICE.identity(0))?;
+        let mut dictionary = long_dictionary(&rt, entries)?;
         let sent = "0a0000000013 0020 2f121c00 01000000";
         assert_answers(&rt, &mut dictionary, true, &[(sent, back)])?;
     }
+    Ok(())
+}
+
+/// A mailbox of 15 bytes has no room for a reply, and stays as it is.
+fn assert_no_room(rt: &impl Abort, reply: &Message)
+    requires { IsMessage reply.now }
+{
+    let mut short = [7; 15];
+    assert_eq!(rt; write_message(reply, &mut short), Err(BadMailbox));
+    assert_eq!(rt; short, [7; 15]);
+}
+
+#[test]
+fn no_room_for_a_reply(rt: HostRuntime) -> Result<(), Fail> {
+    let message = message_of(&rt, "0a0000000073 0020 40181001 00000000")?;
+    let mut dictionary = mixed(&rt)?;
+    let reply = dictionary.answer(true, &message, 1);
+    assert_no_room(&rt, &reply);
     Ok(())
 }
 
@@ -340,13 +397,6 @@ fn what_is_no_message(rt: HostRuntime) -> Result<(), Fail> {
         );
     }
     assert_eq!(rt; BadMailbox.number(), 9);
-    let message = read_message(&bytes_of(&rt, "0a0000000073 0020 40181001 00000000")?);
-    let message: Message = message.ok().ok_or("a message")?;
-    let mut dictionary = mixed(&rt)?;
-    let reply = dictionary.answer(true, &message, 1);
-    let mut short = [7; 15];
-    assert_eq!(rt; write_message(&reply, &mut short), Err(BadMailbox));
-    assert_eq!(rt; short, [7; 15]);
     Ok(())
 }
 

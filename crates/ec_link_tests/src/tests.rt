@@ -3,7 +3,7 @@ use crate::tests::tables::{
     ASSIGNMENTS, CHANGES, EMPTY_PLAN, SPLIT_VARIABLE, THREE_SLAVES, THREE_SLAVES_PLAN,
     TWO_UNITS_PLAN,
 };
-use ec_link::{LinkError, LinkFault, compile};
+use ec_link::{LinkError, LinkFault, Plan, compile};
 use ec_table::{Table, read_table};
 use std::alloc::{AllocError, Global};
 use std::process::Abort;
@@ -11,6 +11,15 @@ use std::test::Fail;
 
 mod described;
 mod tables;
+
+/// What is told of a plan: the whole, or its parts alone.
+fn push_compiled(text: &mut String, plan: &Plan, whole: bool) -> Result<(), AllocError> {
+    if whole {
+        push_plan(text, plan)
+    } else {
+        push_parts(text, plan)
+    }
+}
 
 /// What is told of a table: its whole plan, or its parts alone, or why it has none.
 fn push_told(
@@ -20,8 +29,7 @@ fn push_told(
     whole: bool,
 ) -> Result<(), AllocError> {
     match compile(alloc, table) {
-        Ok(plan) if whole => push_plan(text, &plan),
-        Ok(plan) => push_parts(text, &plan),
+        Ok(plan) => push_compiled(text, &plan, whole),
         Err(error) => push_refusal(text, error),
     }
 }

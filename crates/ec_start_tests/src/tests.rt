@@ -182,26 +182,54 @@ fn end_at(
     Ok(startup.phase())
 }
 
+/// The next frame is this one, and there is none behind it before it is back.
+fn assert_sends(rt: &impl Abort, startup: &mut Startup, sent: &[u8], step: usize) {
+    let mut frame = Frame::new();
+    assert_eq!(rt;
+        (startup.outcome(), startup.next(&mut frame)),
+        (None, NextFrame::Send)
+    );
+    assert_eq!(rt; frame.as_slice(), sent, "step {step}");
+    assert_eq!(rt; startup.next(&mut frame), NextFrame::Waiting);
+}
+
+/// A step of the table of steps: its frame is sent, and taken as it comes back.
+fn make_step(
+    rt: &(impl AllocGlobal + Abort),
+    startup: &mut Startup,
+    row: &Row<'_>,
+    step: usize,
+) -> Result<(), Fail> {
+    let sent = sent_of(rt.alloc(), row)?;
+    assert_sends(rt, startup, &sent, step);
+    let payload = returned(rt.alloc(), &sent, row.back, row.counter)?;
+    assert_eq!(rt; startup.take(&payload), Taken::Kept);
+    Ok(())
+}
+
+/// A start-up has ended Ready, and stays so.
+fn assert_ready(rt: &impl Abort, startup: &mut Startup, next: u64) {
+    let mut frame = Frame::new();
+    assert_eq!(rt;
+        (
+            startup.outcome(),
+            startup.next_number(),
+            startup.next(&mut frame)
+        ),
+        (Some(Ok(())), next, NextFrame::Ended)
+    );
+    startup.give_up();
+    assert_eq!(rt; startup.phase(), Phase::Ready);
+}
+
 // All frames of the three slaves byte by byte, the exchange of uploads and downloads among them.
 #[test]
 fn three_slaves_get_ready(rt: HostRuntime) -> Result<(), Fail> {
     let mut startup = startup_of(&rt, THREE_SLAVES, 0)?;
-    let mut frame = Frame::new();
     for (step, line) in STEPS.lines().enumerate() {
-        let row = row_of(rt.alloc(), line)?;
-        assert_eq!(rt; startup.outcome(), None);
-        assert_eq!(rt; startup.next(&mut frame), NextFrame::Send);
-        let sent = sent_of(rt.alloc(), &row)?;
-        assert_eq!(rt; frame.as_slice(), sent.as_slice(), "step {step}");
-        assert_eq!(rt; startup.next(&mut frame), NextFrame::Waiting);
-        let payload = returned(rt.alloc(), &sent, row.back, row.counter)?;
-        assert_eq!(rt; startup.take(&payload), Taken::Kept);
+        make_step(&rt, &mut startup, &row_of(rt.alloc(), line)?, step)?;
     }
-    assert_eq!(rt; startup.outcome(), Some(Ok(())));
-    assert_eq!(rt; startup.next_number(), 75);
-    assert_eq!(rt; startup.next(&mut frame), NextFrame::Ended);
-    startup.give_up();
-    assert_eq!(rt; startup.phase(), Phase::Ready);
+    assert_ready(&rt, &mut startup, 75);
     Ok(())
 }
 
@@ -347,13 +375,25 @@ fn foreign_payloads(rt: HostRuntime) -> Result<(), Fail> {
         "16100000000000000a000000000000000000000000000000",
     ];
     for other in others {
-        let payload = hex::decode(rt.alloc(), &spaceless(rt.alloc(), other)?)?;
-        assert_eq!(rt; startup.take(&payload), Taken::Foreign, "{other}");
-        assert_eq!(rt; startup.phase(), Phase::Sent(0));
+        expect_taken(&rt, &mut startup, other, Taken::Foreign, Phase::Sent(0))?;
     }
-    let payload = hex::decode(rt.alloc(), &spaceless(rt.alloc(), first)?)?;
-    assert_eq!(rt; startup.take(&payload), Taken::Kept);
-    assert_eq!(rt; startup.phase(), Phase::Idle);
+    expect_taken(&rt, &mut startup, first, Taken::Kept, Phase::Idle)
+}
+
+/// Gives a start-up the payload of a row, and compares what it takes it for, and where it is then.
+fn expect_taken(
+    rt: &(impl AllocGlobal + Abort),
+    startup: &mut Startup,
+    row: &str,
+    taken: Taken,
+    phase: Phase,
+) -> Result<(), Fail> {
+    let payload = hex::decode(rt.alloc(), &spaceless(rt.alloc(), row)?)?;
+    assert_eq!(rt;
+        (startup.take(&payload), startup.phase()),
+        (taken, phase),
+        "{row}"
+    );
     Ok(())
 }
 

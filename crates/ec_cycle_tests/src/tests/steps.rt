@@ -138,6 +138,18 @@ fn take_call(rt: &impl Abort, master: &mut Master, step: Step) {
     }
 }
 
+/// What a master takes the payload of a row for.
+fn assert_taken(
+    rt: &(impl AllocGlobal + Abort),
+    master: &mut Master,
+    row: &str,
+    taken: Taken,
+) -> Result<(), Fail> {
+    let payload = bytes_of(rt.alloc(), row)?;
+    assert_eq!(rt; master.take(&payload), taken, "{row}");
+    Ok(())
+}
+
 /// What is done with start-ups and cycles.
 fn take_cycle(
     rt: &(impl AllocGlobal + Abort),
@@ -149,20 +161,8 @@ fn take_cycle(
         Step::Begins => assert_eq!(rt; master.begin(), Ok(())),
         Step::Refused(error) => assert_eq!(rt; master.begin(), Err(error)),
         Step::Sends(part, row) => assert_frame(rt, master, part, &bytes_of(rt.alloc(), row)?),
-        Step::Keeps(row) => {
-            assert_eq!(rt;
-                master.take(&bytes_of(rt.alloc(), row)?),
-                Taken::Kept,
-                "{row}"
-            );
-        }
-        Step::Foreign(row) => {
-            assert_eq!(rt;
-                master.take(&bytes_of(rt.alloc(), row)?),
-                Taken::Foreign,
-                "{row}"
-            );
-        }
+        Step::Keeps(row) => assert_taken(rt, master, row, Taken::Kept)?,
+        Step::Foreign(row) => assert_taken(rt, master, row, Taken::Foreign)?,
         Step::Closes(units, counters, al_word) => {
             assert_report(rt, &master.close()?, units, counters, al_word);
         }

@@ -316,19 +316,24 @@ const APPLICATION: [Step; 14] = [
     Gets(2, None),
 ];
 
+/// Takes these steps, and then the application's.
+fn apply_after(
+    rt: &(impl AllocGlobal + Abort),
+    slave: &mut Slave,
+    steps: &[Step],
+) -> Result<(), Fail> {
+    take_all(rt, slave, steps)?;
+    take_all(rt, slave, &APPLICATION)
+}
+
 // The application has its bytes in SAFEOP and OP alone.
 #[test]
 fn application_bytes(rt: HostRuntime) -> Result<(), Fail> {
     let mut slave = mixed(&rt)?;
     take_all(&rt, &mut slave, &TO_PREOP)?;
-    take_all(
-        &rt,
-        &mut slave,
-        &[Sizes(0, 0), Puts(0, 1, false), Asks("0400", "040000000000")],
-    )?;
-    take_all(&rt, &mut slave, &APPLICATION)?;
-    take_all(&rt, &mut slave, &[Asks("0800", "080000000000")])?;
-    take_all(&rt, &mut slave, &APPLICATION)
+    let to_safeop = [Sizes(0, 0), Puts(0, 1, false), Asks("0400", "040000000000")];
+    apply_after(&rt, &mut slave, &to_safeop)?;
+    apply_after(&rt, &mut slave, &[Asks("0800", "080000000000")])
 }
 
 // A fault is one only in OP: SAFEOP with an error, and manager 2 locked and empty. A request that waits is still decided.

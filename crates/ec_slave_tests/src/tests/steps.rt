@@ -152,8 +152,8 @@ fn take_frame(rt: &(impl AllocGlobal + Abort), slave: &mut Slave, step: Step) ->
     }
 }
 
-/// What is done and seen at the slave itself.
-fn take_call(rt: &(impl AllocGlobal + Abort), slave: &mut Slave, step: Step) -> Result<(), Fail> {
+/// What is seen at the slave itself.
+fn take_look(rt: &(impl AllocGlobal + Abort), slave: &Slave, step: Step) -> Result<(), Fail> {
     match step {
         Step::Shows(address, byte) => assert_eq!(rt; slave.byte(address), byte, "at {address}"),
         Step::Station(address) => assert_eq!(rt; slave.station_address(), address),
@@ -161,6 +161,14 @@ fn take_call(rt: &(impl AllocGlobal + Abort), slave: &mut Slave, step: Step) -> 
             assert_eq!(rt; slave.outputs(), bytes_of(rt, row)?.as_slice());
         }
         Step::Sizes(get, put) => assert_eq!(rt; slave.app_sizes(), (get, put)),
+        _ => {}
+    }
+    Ok(())
+}
+
+/// What is done at the slave itself.
+fn take_call(rt: &(impl AllocGlobal + Abort), slave: &mut Slave, step: Step) {
+    match step {
         Step::Puts(place, byte, may) => assert_eq!(rt; slave.app_put(place, byte), may),
         Step::Gets(place, byte) => assert_eq!(rt; slave.app_get(place), byte),
         Step::Serves => slave.serve(),
@@ -168,7 +176,6 @@ fn take_call(rt: &(impl AllocGlobal + Abort), slave: &mut Slave, step: Step) -> 
         Step::Resets => slave.reset(),
         _ => {}
     }
-    Ok(())
 }
 
 /// Takes all steps, in their order.
@@ -179,7 +186,8 @@ pub fn take_all(
 ) -> Result<(), Fail> {
     for step in steps {
         take_frame(rt, slave, *step)?;
-        take_call(rt, slave, *step)?;
+        take_look(rt, slave, *step)?;
+        take_call(rt, slave, *step);
     }
     Ok(())
 }

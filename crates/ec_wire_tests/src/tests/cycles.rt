@@ -84,6 +84,21 @@ fn expect_fault(
     Ok(wire.into_ring())
 }
 
+/// Runs a cycle with a fault at each of its calls in turn.
+fn expect_each_fault(
+    rt: &(impl AllocGlobal + Abort),
+    master: &mut Master<'_>,
+    mut ring: Ring,
+    mirror: Mirror,
+    parts: u16,
+) -> Result<(), Fail> {
+    assert_eq!(rt; master.parts(), usize::from(parts));
+    for call in 0..2 * u32::from(parts) {
+        ring = expect_fault(rt, master, ring, mirror, parts, call)?;
+    }
+    Ok(())
+}
+
 /// Runs a cycle of a table with a fault at each of its calls in turn.
 fn expect_faults(
     rt: &(impl AllocGlobal + Abort),
@@ -93,12 +108,8 @@ fn expect_faults(
 ) -> Result<(), Fail> {
     let plan = plan_of(rt.alloc(), text)?;
     let mut master = Master::new(rt.alloc(), &plan)?;
-    let mut ring = there(brought_up(rt.alloc(), &plan, &mut master))?;
-    assert_eq!(rt; master.parts(), usize::from(parts));
-    for call in 0..2 * u32::from(parts) {
-        ring = expect_fault(rt, &mut master, ring, mirror, parts, call)?;
-    }
-    Ok(())
+    let ring = there(brought_up(rt.alloc(), &plan, &mut master))?;
+    expect_each_fault(rt, &mut master, ring, mirror, parts)
 }
 
 #[test]

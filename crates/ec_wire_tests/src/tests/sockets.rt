@@ -114,21 +114,43 @@ fn client_that_is_gone(rt: HostRuntime) -> Result<(), Fail> {
     Ok(())
 }
 
-/// Serves a client that sends three frames and never reads, and then another one. What came of both, the second one's answer,
-/// and the wire's faults.
+/// What came of two clients in turn, the answer to the second one, and the wire's faults.
+type BothServed = (Served, Served, String, u64);
+
+/// A client sends payloads, and slaves are served so many.
+fn serve_from(
+    ring: &mut Ring,
+    wire: &mut UdpWire,
+    client: &UdpSocket,
+    payloads: &[&[u8]],
+    count: u32,
+) -> Result<Served, Fail> {
+    send_all(client, wire, payloads)?;
+    Ok(serve_segment(ring, &mut Echo, wire, count)?)
+}
+
+/// Serves a client that sends a frame three times and never reads, and then another one that sends it once.
+fn serve_both_in_turn<R: Net + AllocGlobal>(
+    rt: &R,
+    silent: &UdpSocket,
+    ring: &mut Ring,
+    sent: &[u8],
+) -> Result<BothServed, Fail> {
+    let mut ends = open_ends(rt)?;
+    let first = serve_from(ring, &mut ends.wire, silent, &[sent, sent, sent], 3)?;
+    let second = serve_from(ring, &mut ends.wire, &ends.client, &[sent], 1)?;
+    let (answer, _) = answer_to(rt.alloc(), &ends.client)?;
+    Ok((first, second, answer, ends.wire.failures()))
+}
+
+/// Serves a client that never reads, and then another one.
 fn serve_after_silent<R: Net + AllocGlobal>(
     rt: &R,
     silent: &UdpSocket,
-) -> Result<(Served, Served, String, u64), Fail> {
+) -> Result<BothServed, Fail> {
     let sent = hex::decode(rt.alloc(), READ)?;
     let mut ring = three_slaves(rt.alloc())?;
-    let mut ends = open_ends(rt)?;
-    send_all(silent, &ends.wire, &[&sent, &sent, &sent])?;
-    let first = serve_segment(&mut ring, &mut Echo, &mut ends.wire, 3)?;
-    send_all(&ends.client, &ends.wire, &[&sent])?;
-    let second = serve_segment(&mut ring, &mut Echo, &mut ends.wire, 1)?;
-    let (answer, _) = answer_to(rt.alloc(), &ends.client)?;
-    Ok((first, second, answer, ends.wire.failures()))
+    serve_both_in_turn(rt, silent, &mut ring, &sent)
 }
 
 // A client's socket is open, and nobody reads what is sent back to it.
@@ -255,17 +277,42 @@ fn run_two<W: Wire>(startup: &mut Startup, master: &mut Master<'_>, wire: &mut W
     are_up(startup, wire, master) && run_taken(master, wire, 1) && run_taken(master, wire, 2)
 }
 
-/// Whether two cycles of a plan went well over sockets, what the third and the fourth variable show then, and the wire's
-/// faults.
-fn seen_over_sockets<R: Net>(rt: &R, alloc: Global, plan: &Plan) -> Option<(bool, u64, u64, u64)>
+/// Whether two cycles went well, what the third and the fourth variable show then, and the wire's faults.
+type Seen = (bool, u64, u64, u64);
+
+/// What is seen of two cycles over a wire.
+fn seen_over<W: Wire>(startup: &mut Startup, master: &mut Master<'_>, wire: &mut W) -> Seen {
+    let is_well = run_two(startup, master, wire);
+    let (c, d) = (value_of(master, 2), value_of(master, 3));
+    (is_well, c, d, wire.failures())
+}
+
+/// What a start-up and a master of a plan see of two cycles over sockets.
+fn seen_of_loop<R: Net>(
+    rt: &R,
+    alloc: Global,
+    plan: &Plan,
+    startup: &mut Startup,
+    master: &mut Master<'_>,
+) -> Option<Seen> {
+    let mut wire = loop_to(rt, alloc, plan)?;
+    Some(seen_over(startup, master, &mut wire))
+}
+
+/// What a start-up of a plan sees of two cycles over sockets.
+fn seen_by<R: Net>(rt: &R, alloc: Global, plan: &Plan, startup: &mut Startup) -> Option<Seen>
+    requires { IsUsable plan.now }
+{
+    let mut master = Master::new(alloc, plan).ok()?;
+    seen_of_loop(rt, alloc, plan, startup, &mut master)
+}
+
+/// What is seen of two cycles of a plan over sockets.
+fn seen_over_sockets<R: Net>(rt: &R, alloc: Global, plan: &Plan) -> Option<Seen>
     requires { IsUsable plan.now }
 {
     let mut startup = startup_of(alloc, plan)?;
-    let mut master = Master::new(alloc, plan).ok()?;
-    let mut wire = loop_to(rt, alloc, plan)?;
-    let is_well = run_two(&mut startup, &mut master, &mut wire);
-    let (c, d) = (value_of(&master, 2), value_of(&master, 3));
-    Some((is_well, c, d, wire.failures()))
+    seen_by(rt, alloc, plan, &mut startup)
 }
 
 // Two cycles of three slaves that show their outputs; slave 1 has none to show.

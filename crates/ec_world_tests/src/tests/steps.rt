@@ -183,6 +183,21 @@ pub fn new_world<'p>(alloc: Global, table: &Table, plan: &'p Plan) -> Result<Wor
     Ok(World::new(alloc, table, plan, &identities)?)
 }
 
+/// Takes all steps with a new world of a table and its plan, in their order.
+fn expect_steps_of(
+    rt: &(impl AllocGlobal + Abort),
+    table: &Table,
+    plan: &Plan,
+    steps: &[Step],
+) -> Result<(), Fail>
+    requires accepted { compile_fault table.now ≡ None }
+    requires plan { plan.now ≡ plan_of table.now }
+{
+    let mut world = new_world(rt.alloc(), table, plan)?;
+    take_steps(rt, &mut world, steps);
+    Ok(())
+}
+
 /// Takes all steps with a new world of a table, in their order.
 pub fn expect_steps(
     rt: &(impl AllocGlobal + Abort),
@@ -191,7 +206,5 @@ pub fn expect_steps(
 ) -> Result<(), Fail> {
     let table = read_table(rt.alloc(), text)?;
     let plan = compile(rt.alloc(), &table)?;
-    let mut world = new_world(rt.alloc(), &table, &plan)?;
-    take_steps(rt, &mut world, steps);
-    Ok(())
+    expect_steps_of(rt, &table, &plan, steps)
 }
