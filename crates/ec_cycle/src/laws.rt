@@ -51,6 +51,7 @@ pub fn set_reads_back()
 {}
 
 /// Setting a variable changes no other one: those of a plan have no bit in common, as `compile` says.
+#[tactic(auto, using(crate::proofs::Variables::set_keeps_others))]
 pub fn set_keeps_others()
     ensures { SetKeepsOthers }
 {}

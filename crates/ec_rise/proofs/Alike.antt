@@ -73,7 +73,7 @@ configured-alike i c s t a h = record {
   settings = λ n l. (a.managers.each n).settings ∙ h.settings n l;
   fmmus = λ n k l b. a.memory (0x0600 + 16 * n + k) (omega arith) ∙ h.fmmus n k l b;
   idle = λ e. a.idle (h.idle e);
-  no_letters = λ n l b. (a.managers.each n).mail ∙ h.no_letters n l b;
+  no_messages = λ n l b. (a.managers.each n).mail ∙ h.no_messages n l b;
   outputs = zeros-alike s t a h.outputs;
 }
 
@@ -88,7 +88,7 @@ assigned-alike c s t a h = record {
 
 pub silent-alike : (c : Config) (s t : SlaveState) → Alike s t → IsSilent c s → IsSilent c t
 silent-alike c s t a h = record {
-  no_letter = (a.managers.each 0).mail ∙ h.no_letter;
+  no_message = (a.managers.each 0).mail ∙ h.no_message;
   no_reply = (a.managers.each 1).mail ∙ h.no_reply;
   assigned = assigned-alike c s t a h.assigned;
 }
@@ -98,14 +98,14 @@ talks-alike i c None s t a h = silent-alike c s t a h
 talks-alike i c (Some k) s t a (inl h) = inl (record {
   mailboxes = h.mailboxes;
   request = h.request;
-  letter = (a.managers.each 0).mail ∙ h.letter;
+  mailbox_message = (a.managers.each 0).mail ∙ h.mailbox_message;
   no_reply = (a.managers.each 1).mail ∙ h.no_reply;
   assigned = assigned-alike c s t a h.assigned;
 })
 talks-alike i c (Some k) s t a (inr h) = inr (record {
   mailboxes = h.mailboxes;
   whole = h.whole;
-  no_letter = (a.managers.each 0).mail ∙ h.no_letter;
+  no_message = (a.managers.each 0).mail ∙ h.no_message;
   raw = h.raw;
   reply = (a.managers.each 1).mail ∙ h.reply;
   done = λ e. assigned-alike (answered c k.request) s t a (h.done e);
@@ -123,7 +123,7 @@ up-rest i c s t a r h = record {
 clear-alike : (s t : SlaveState) → Alike s t → AreClear s → AreClear t
 clear-alike s t a h = record {
   settings = λ n l. (a.managers.each n).settings ∙ h.settings n l;
-  no_letters = λ n l. (a.managers.each n).mail ∙ h.no_letters n l;
+  no_messages = λ n l. (a.managers.each n).mail ∙ h.no_messages n l;
   outputs = zeros-alike s t a h.outputs;
 }
 

@@ -125,7 +125,7 @@ init-wrote w s t room a b h k =
 clear-wrote : (w : Window) (s t : SlaveState) → length s.managers ≡ 4 → ((n : ℕ) → n < 4 → is_configured w n ≡ false) → Wrote w s t → AreClear s → AreClear t
 clear-wrote w s t four u h k = record {
   settings = λ n l. ap (λ (m : Manager). m.settings) (h.managers n (omega (arith, four, l)) ∙ if_false _ _ _ (u n l)) ∙ k.settings n l;
-  no_letters = λ n l. ap (λ (m : Manager). m.mail) (h.managers n (omega (arith, four, l)) ∙ if_false _ _ _ (u n l)) ∙ k.no_letters n l;
+  no_messages = λ n l. ap (λ (m : Manager). m.mail) (h.managers n (omega (arith, four, l)) ∙ if_false _ _ _ (u n l)) ∙ k.no_messages n l;
   outputs = subst HoldsZeros (sym (h.managers 2 (omega (arith, four)) ∙ if_false _ _ _ (u 2 (omega arith)))) k.outputs;
 }
 
@@ -182,7 +182,7 @@ clear-managers kind i f m trouble s h =
         fmmus = λ e b l. w.untouched (0x0600 + b) (omega (arith, room, l)) (within_below 0x0800 32 (0x0600 + b) (omega (arith, l))) ∙ k.fmmus e b l;
         managers = λ e. record {
           settings = λ n l. ap (λ (x : Manager). x.settings) (w.managers n (omega (arith, four, l)) ∙ cleared-by n (manager_at s.managers n) l);
-          no_letters = λ n l. ap (λ (x : Manager). x.mail) (w.managers n (omega (arith, four, l)) ∙ cleared-by n (manager_at s.managers n) l);
+          no_messages = λ n l. ap (λ (x : Manager). x.mail) (w.managers n (omega (arith, four, l)) ∙ cleared-by n (manager_at s.managers n) l);
           outputs = subst HoldsZeros (sym (w.managers 2 (omega (arith, four)) ∙ cleared-by 2 (manager_at s.managers 2) (omega arith))) refl;
         };
       });

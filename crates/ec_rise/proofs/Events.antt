@@ -88,11 +88,11 @@ fault-at i c s e l quiet top u =
           settings = λ n b. settings_two s.managers n two ∙ u.configured.settings n b;
           fmmus = u.configured.fmmus;
           idle = u.configured.idle;
-          no_letters = λ n a b. mail_two s.managers n two (u.configured.no_letters n a b);
+          no_messages = λ n a b. mail_two s.managers n two (u.configured.no_messages n a b);
           outputs = subst HoldsZeros (sym (own_two s.managers two)) refl;
         };
         silent = record {
-          no_letter = mail_two s.managers 0 two silent.no_letter;
+          no_message = mail_two s.managers 0 two silent.no_message;
           no_reply = mail_two s.managers 1 two silent.no_reply;
           assigned = record { outs = silent.assigned.outs; ins = silent.assigned.ins };
         };

@@ -142,7 +142,7 @@ send-ends : (n step : ℕ) (seen : Device) (types : ℕ → Device) (kind : Slav
     → Ends n step seen types kind t number (SendRequest t counter b r) st s
 send-ends n step seen types kind t number counter b r (Up c) s l h =
     let u = up-of kind t c s h.stands in let can = h.fits.2 refl in
-    right _ 1 step _ _ (request-goes s t counter c b r number u.configured.station_is l h.stands.slave.four can.2 u (silent-of t c s can.1 u).no_letter)
+    right _ 1 step _ _ (request-goes s t counter c b r number u.configured.station_is l h.stands.slave.four can.2 u (silent-of t c s can.1 u).no_message)
 send-ends n step seen types kind t number counter b r Before s l h = absurd h.fits.1
 send-ends n step seen types kind t number counter b r Called s l h = absurd h.fits.1
 send-ends n step seen types kind t number counter b r (Down x y) s l h = absurd h.fits.1

@@ -6,7 +6,7 @@ use Rattle.ec_bits.specs.Bits.{zeros}
 use Rattle.ec_bits.proofs.AnyLaws.{if_true, if_false, if_none}
 use Rattle.ec_regs.specs.Types.{SlaveKind}
 use Rattle.ec_regs.specs.Managers.{is_mailbox, is_ring_written, is_ring_read}
-use Rattle.ec_sync.specs.Manager.{Manager, no_manager, is_enabled, message_in as letter_in, message_taken, message_put, may_put_message, padded}
+use Rattle.ec_sync.specs.Manager.{Manager, no_manager, is_enabled, message_in as mailbox_message_in, message_taken, message_put, may_put_message, padded}
 use Rattle.ec_al.specs.declared.state.State.{State}
 use Rattle.ec_al.specs.declared.state.State.TheVariants.{Init}
 use Rattle.ec_al.specs.Al.{Al}
@@ -34,7 +34,7 @@ use Rattle.ec_rise.proofs.Claiming.{reply-claims}
 pub empty-serves : (s : SlaveState) → (manager_at s.managers 0).mail ≡ None → message_served s ≡ s
 unfolding message_served
 empty-serves s e =
-    let none : letter_in (manager_at s.managers 0) ≡ None
+    let none : mailbox_message_in (manager_at s.managers 0) ≡ None
     = if_none (is_enabled (manager_at s.managers 0) && (is_mailbox (manager_at s.managers 0).settings && is_ring_written (manager_at s.managers 0).settings)) (manager_at s.managers 0).mail e in
     if_false _ _ _ (and_right (has_mailbox s) _ (and_right (takes_reply (manager_at s.managers 1)) _ (ap is_some none)))
 
@@ -66,8 +66,8 @@ own-command (Download v) = by v.size
     by Four = refl
 own-command (Upload v) = refl
 
-pub letter-read : (t : Talk) → message_read (filled t.mailbox.receive_size (request_bytes t.counter t.request)) ≡ Some (message_of t)
-letter-read t = reads_back (message_of t) _ (record { counter = omega arith; service = omega arith; own_service = refl; own_command = own-command t.request.transfer })
+pub mailbox_message-read : (t : Talk) → message_read (filled t.mailbox.receive_size (request_bytes t.counter t.request)) ≡ Some (message_of t)
+mailbox_message-read t = reads_back (message_of t) _ (record { counter = omega arith; service = omega arith; own_service = refl; own_command = own-command t.request.transfer })
 
 -- the reply to a message, in manager 1
 abbrev pub reply_raw : SlaveState → Message → List ℕ
@@ -83,7 +83,7 @@ pub record Replies (s : SlaveState) (r : Message) (t : SlaveState) : Type 0 wher
   pub settings : (n : ℕ) → (manager_at t.managers n).settings ≡ (manager_at s.managers n).settings
   pub locked : (n : ℕ) → (manager_at t.managers n).locked ≡ (manager_at s.managers n).locked
   pub others : (n : ℕ) → 2 ≤ n → manager_at t.managers n ≡ manager_at s.managers n
-  pub no_letter : (manager_at t.managers 0).mail ≡ None
+  pub no_message : (manager_at t.managers 0).mail ≡ None
   pub reply : (manager_at t.managers 1).mail ≡ Some (reply_raw s r)
   pub outs : t.outs ≡ (answer_to s r).dictionary.outs
   pub ins : t.ins ≡ (answer_to s r).dictionary.ins
@@ -104,7 +104,7 @@ low-number zero = inl refl
 low-number (suc zero) = inr (inl refl)
 low-number (suc (suc n)) = inr (inr (omega arith))
 
-taken-is : (m : Manager) (raw : List ℕ) → letter_in m ≡ Some raw → message_taken m ≡ record m { mail = None }
+taken-is : (m : Manager) (raw : List ℕ) → mailbox_message_in m ≡ Some raw → message_taken m ≡ record m { mail = None }
 taken-is m raw e = if_true _ _ _ (ap is_some e)
 
 put-is : (m : Manager) (message : List ℕ) → may_put_message m (length message) ≡ true → message_put m message ≡ record m { mail = Some (padded m message) }
@@ -114,7 +114,7 @@ put-is m message e = if_true _ _ _ e
 abbrev pub taken_out : SlaveState → SlaveState
 taken_out s = with_manager s 0 (message_taken (manager_at s.managers 0))
 
-pub given-replies : (s : SlaveState) (r : Message) (raw : List ℕ) → 1 < length s.managers → letter_in (manager_at s.managers 0) ≡ Some raw → takes_reply (manager_at s.managers 1) ≡ true → 16 ≤ (manager_at s.managers 1).settings.length
+pub given-replies : (s : SlaveState) (r : Message) (raw : List ℕ) → 1 < length s.managers → mailbox_message_in (manager_at s.managers 0) ≡ Some raw → takes_reply (manager_at s.managers 1) ≡ true → 16 ≤ (manager_at s.managers 1).settings.length
     → Replies s r (replied (taken_out s) r)
 given-replies s r raw l h t room =
     let m0 : Manager = manager_at s.managers 0 in
@@ -137,7 +137,7 @@ given-replies s r raw l h t room =
       settings = λ n. two-set s.managers x y n l (low-number n) (λ m k. k.settings ≡ m.settings) (ap (λ (m : Manager). m.settings) a) (ap (λ (m : Manager). m.settings) b) (λ m. refl);
       locked = λ n. two-set s.managers x y n l (low-number n) (λ m k. k.locked ≡ m.locked) (ap (λ (m : Manager). m.locked) a) (ap (λ (m : Manager). m.locked) b) (λ m. refl);
       others = λ n e. get_or-set_other (set s.managers 0 x) 1 n y no_manager (λ q. omega (arith, q, e)) ∙ get_or-set_other s.managers 0 n x no_manager (λ q. omega (arith, q, e));
-      no_letter = ap (λ (m : Manager). m.mail) (get_or-set_other (set s.managers 0 x) 1 0 y no_manager (λ q. omega (arith, q)) ∙ get_or-set_same s.managers 0 x no_manager (omega arith)) ∙ ap (λ (m : Manager). m.mail) a;
+      no_message = ap (λ (m : Manager). m.mail) (get_or-set_other (set s.managers 0 x) 1 0 y no_manager (λ q. omega (arith, q)) ∙ get_or-set_same s.managers 0 x no_manager (omega arith)) ∙ ap (λ (m : Manager). m.mail) a;
       reply = ap (λ (m : Manager). m.mail) (get_or-set_same (set s.managers 0 x) 1 y no_manager (let f = length-set s.managers 0 x in omega (arith, f, l))) ∙ ap (λ (m : Manager). m.mail) b;
       outs = refl;
       ins = refl;
@@ -158,14 +158,14 @@ replied-up i c k s t talk four u h r = record {
     settings = λ n l. r.settings n ∙ u.configured.settings n l;
     fmmus = λ n b l m. ap (λ (x : List ℕ). slice_index x (0x0600 + 16 * n + b)) r.memory ∙ u.configured.fmmus n b l m;
     idle = λ e. ap (λ p. p.busy) r.sii ∙ u.configured.idle e;
-    no_letters = λ n a b. ap (λ (m : Manager). m.mail) (r.others n a) ∙ u.configured.no_letters n a b;
+    no_messages = λ n a b. ap (λ (m : Manager). m.mail) (r.others n a) ∙ u.configured.no_messages n a b;
     outputs = subst HoldsZeros (sym (r.others 2 (omega arith))) u.configured.outputs;
   };
   unlocked = λ n l. r.locked n ∙ u.unlocked n l;
   rises = rises-alike c.rise s t (ap (λ (m : List ℕ). slice_index m 0x0120 + 256 * slice_index m 0x0121) r.memory) r.al u.rises;
   talks = subst (λ (o : Option Talk). Talks i c o t) (sym talk) (inr (record {
     mailboxes = h.mailboxes;
-    no_letter = r.no_letter;
+    no_message = r.no_message;
     raw = reply_raw s (message_of k);
     whole = raw-length (manager_at s.managers 1) (message_bytes (answer_to s (message_of k)).reply) k.mailbox.send_size (length-message (answer_to s (message_of k)).reply)
         (ap (λ x. x.length) (u.configured.settings 1 (omega arith)) ∙ h.mailboxes.send_length) h.mailboxes.send_some;
@@ -190,17 +190,17 @@ unfolding message_served
 answering i c k s four u h = elim (cases_Bool (is_served s)) [
   | inr n ↦ Waits (if_false _ _ _ n)
   | inl y ↦
-      let parts = and_parts (has_mailbox s) (takes_reply (manager_at s.managers 1) && is_some (letter_in (manager_at s.managers 0))) y in
-      let inner = and_parts (takes_reply (manager_at s.managers 1)) (is_some (letter_in (manager_at s.managers 0))) parts.1 in
+      let parts = and_parts (has_mailbox s) (takes_reply (manager_at s.managers 1) && is_some (mailbox_message_in (manager_at s.managers 0))) y in
+      let inner = and_parts (takes_reply (manager_at s.managers 1)) (is_some (mailbox_message_in (manager_at s.managers 0))) parts.1 in
       elim (cases_Bool (is_enabled (manager_at s.managers 0) && (is_mailbox (manager_at s.managers 0).settings && is_ring_written (manager_at s.managers 0).settings))) [
-        | inr n ↦ absurd (both_ways (is_some (letter_in (manager_at s.managers 0))) (ap is_some (if_false _ _ _ n)) inner.1)
+        | inr n ↦ absurd (both_ways (is_some (mailbox_message_in (manager_at s.managers 0))) (ap is_some (if_false _ _ _ n)) inner.1)
         | inl z ↦
             let m1 : Manager = manager_at s.managers 1 in
             let raw : List ℕ = filled k.mailbox.receive_size (request_bytes k.counter k.request) in
-            let l : letter_in (manager_at s.managers 0) ≡ Some raw = if_true _ _ _ z ∙ h.letter in
+            let l : mailbox_message_in (manager_at s.managers 0) ≡ Some raw = if_true _ _ _ z ∙ h.mailbox_message in
             let long : 16 ≤ m1.settings.length = subst (λ (x : ℕ). 16 ≤ x) (sym (ap (λ x. x.length) (u.settings 1 (omega arith)) ∙ h.mailboxes.send_length)) h.mailboxes.send_some in
             let fit : request_in s ≡ Some (message_of k)
-            = ap (λ (o : Option (List ℕ)). request_for m1 (option_and_then message_read o)) l ∙ (ap (request_for m1) (letter-read k) ∙ if_true _ _ _ (ap not (le-ltb m1.settings.length message_length long))) in
+            = ap (λ (o : Option (List ℕ)). request_for m1 (option_and_then message_read o)) l ∙ (ap (request_for m1) (mailbox_message-read k) ∙ if_true _ _ _ (ap not (le-ltb m1.settings.length message_length long))) in
             let e : message_served s ≡ replied (taken_out s) (message_of k) = if_true _ _ _ y ∙ ap (reply_given (taken_out s)) fit in
             Replied (subst (λ (t : SlaveState). Replies s (message_of k) t) (sym e)
             (given-replies s (message_of k) raw (omega arith) l inner.0 long))
@@ -266,13 +266,13 @@ called-mailed i s t (Moved o m e) (inl h) = inl (ap (λ (x : SlaveState). x.al.r
 called-mailed i s t (Moved o m e) (inr h) = absurd (no-init s m h.state)
 
 pub up-served : (i : ℕ) (c : Config) (o : Option Talk) (s : SlaveState) → c.talk ≡ o → length s.managers ≡ 4 → Talks i c o s → IsUpAt i c s → IsUpAt i c (message_served s)
-up-served i c None s e four h u = subst (λ (x : SlaveState). IsUpAt i c x) (sym (empty-serves s h.no_letter)) u
+up-served i c None s e four h u = subst (λ (x : SlaveState). IsUpAt i c x) (sym (empty-serves s h.no_message)) u
 up-served i c (Some k) s e four (inl h) u = by (answering i c k s four u.configured h)
   where
     by : Answering s (message_of k) → IsUpAt i c (message_served s)
     by (Waits q) = subst (λ (x : SlaveState). IsUpAt i c x) (sym q) u
     by (Replied q) = replied-up i c k s (message_served s) e four u h q
-up-served i c (Some k) s e four (inr h) u = subst (λ (x : SlaveState). IsUpAt i c x) (sym (empty-serves s h.no_letter)) u
+up-served i c (Some k) s e four (inr h) u = subst (λ (x : SlaveState). IsUpAt i c x) (sym (empty-serves s h.no_message)) u
 
 reached-served : (i : ℕ) (st : Stage) (s : SlaveState) → length s.managers ≡ 4 → Reached i st s → Reached i st (message_served s)
 reached-served i Before s four h = tt
@@ -291,7 +291,7 @@ fault-serves : (i : ℕ) (st : Stage) (s : SlaveState) → HadFault i st s → m
 fault-serves i Before s h = absurd h
 fault-serves i Called s h = absurd h
 fault-serves i (Down f m) s h = absurd h
-fault-serves i (Up c) s h = empty-serves s h.faulted.silent.no_letter
+fault-serves i (Up c) s h = empty-serves s h.faulted.silent.no_message
 
 pub stands-messages : (kind : SlaveKind) (i : ℕ) (st : Stage) (trouble : Bool) (s : SlaveState) → Stands kind i st trouble s → Stands kind i st trouble (message_served s)
 stands-messages kind i st trouble s h = record {

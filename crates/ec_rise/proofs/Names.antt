@@ -94,14 +94,14 @@ named-up i s t h room four unlocked k =
         fmmus = λ n b l m. h.untouched (0x0600 + 16 * n + b) (omega (arith, room, l, m)) (within_above 0x0010 2 (0x0600 + 16 * n + b) (omega arith))
             ∙ (subst (λ (x : ℕ). slice_index s.memory x ≡ 0) (adds n b) (k.fmmus refl (16 * n + b) (omega (arith, l, m))) ∙ sym (ap (λ f. slice_index (fmmu_bytes f) b) (fmmu-none n) ∙ no-bytes b));
         idle = λ e. absurd (both_ways false refl e);
-        no_letters = λ n a l. ap (λ (m : Manager). m.mail) (same n l) ∙ clear.no_letters n l;
+        no_messages = λ n a l. ap (λ (m : Manager). m.mail) (same n l) ∙ clear.no_messages n l;
         outputs = subst HoldsZeros (sym (same 2 (omega arith))) clear.outputs;
       };
       unlocked = λ n l. ap (λ (m : Manager). m.locked) (same n l) ∙ unlocked n l;
       rises = init-wrote (naming i) s t room refl refl h k.init;
       talks = record {
-        no_letter = ap (λ (m : Manager). m.mail) (same 0 (omega arith)) ∙ clear.no_letters 0 (omega arith);
-        no_reply = ap (λ (m : Manager). m.mail) (same 1 (omega arith)) ∙ clear.no_letters 1 (omega arith);
+        no_message = ap (λ (m : Manager). m.mail) (same 0 (omega arith)) ∙ clear.no_messages 0 (omega arith);
+        no_reply = ap (λ (m : Manager). m.mail) (same 1 (omega arith)) ∙ clear.no_messages 1 (omega arith);
         assigned = record { outs = record { count_is = λ x e. absurd (none-some x e); slots_are = refl }; ins = record { count_is = λ x e. absurd (none-some x e); slots_are = refl } };
       };
       quiet = λ _. refl;

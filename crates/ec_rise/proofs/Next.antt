@@ -215,7 +215,7 @@ next-state kind i to c number d s t l h arrives m stood =
 
 sent-of : (i : ℕ) (k : Talk) (c : Config) (t : SlaveState) (raw : List ℕ) → (manager_at t.managers 0).mail ≡ Some raw → Talks i c (Some k) t → IsSent k c t
 sent-of i k c t raw e (inl h) = h
-sent-of i k c t raw e (inr h) = absurd (let f : None ≡ Some raw = sym h.no_letter ∙ e in cc)
+sent-of i k c t raw e (inr h) = absurd (let f : None ≡ Some raw = sym h.no_message ∙ e in cc)
 
 next-reply : (kind : SlaveKind) (i counter : ℕ) (b : Mailbox) (r : Request) (c : Config) (number : ℕ) (d : Datagram) (s t : SlaveState) → i < 64 → Prior kind i (Up c) (SendRequest i counter b r) s
     → Arrives (SendRequest i counter b r) number i d → t ≡ slave_met s d → Stands kind i (Up (told c (SendRequest i counter b r))) false t → HasReply i r b.send_size (served t)
@@ -228,9 +228,9 @@ next-reply kind i counter b r c number d s t l h arrives m stood =
     let silent : IsSilent c s = subst (λ (o : Option Talk). Talks i c o s) can.1 u.talks in
     let q : t ≡ physical_after s false true (sending b counter r)
     = own-slave s t i b.receive_start (filled b.receive_size (request_bytes counter r)) number d u.configured.station_is l (own-datagram i (datagram_of (SendRequest i counter b r) number) d arrives) m in
-    let w = delivered i counter c b r s h.stands.slave.four can.2 u silent.no_letter in
-    let letter : (manager_at t.managers 0).mail ≡ Some (sending b counter r).bytes = ap (λ (x : SlaveState). (manager_at x.managers 0).mail) q ∙ w.letter in
-    let lies : IsSent k (record c { talk = Some k }) t = sent-of i k (record c { talk = Some k }) t (sending b counter r).bytes letter v.talks in
+    let w = delivered i counter c b r s h.stands.slave.four can.2 u silent.no_message in
+    let mailbox_message : (manager_at t.managers 0).mail ≡ Some (sending b counter r).bytes = ap (λ (x : SlaveState). (manager_at x.managers 0).mail) q ∙ w.mailbox_message in
+    let lies : IsSent k (record c { talk = Some k }) t = sent-of i k (record c { talk = Some k }) t (sending b counter r).bytes mailbox_message v.talks in
     let preop : IsIn PreOp t = subst (λ (x : Rise). Rises x t) z.rise v.rises in
     replied kind i (record c { talk = Some k }) k z.box t stood.slave z.boxed v.configured v.unlocked preop (v.configured.idle z.idle) lies z.good
 

@@ -122,7 +122,7 @@ ask-configured i c state s t h room four k = record {
   settings = λ n l. ap (λ (m : Manager). m.settings) (ask-manager state s t n h four l) ∙ k.settings n l;
   fmmus = λ n b l m. ask-leaves state s t (0x0600 + 16 * n + b) h (omega arith) (inr (omega arith)) ∙ k.fmmus n b l m;
   idle = λ e. ap (λ (q : Sii). q.busy) h.sii ∙ (ask-busy s.sii state ∙ k.idle e);
-  no_letters = λ n l m. ap (λ (x : Manager). x.mail) (ask-manager state s t n h four m) ∙ k.no_letters n l m;
+  no_messages = λ n l m. ap (λ (x : Manager). x.mail) (ask-manager state s t n h four m) ∙ k.no_messages n l m;
   outputs = subst HoldsZeros (sym (ask-manager state s t 2 h four (omega arith))) k.outputs;
 }
 
@@ -143,7 +143,7 @@ ask-rises (Stays Op) state s t can w a h = (can, inl (record { state = ap (λ (x
 
 ask-silent : (c : Config) (r : Rise) (state : State) (s t : SlaveState) → Wrote (asking state) s t → length s.managers ≡ 4 → IsSilent c s → IsSilent (record c { rise = r }) t
 ask-silent c r state s t h four k = record {
-  no_letter = ap (λ (m : Manager). m.mail) (ask-manager state s t 0 h four (omega arith)) ∙ k.no_letter;
+  no_message = ap (λ (m : Manager). m.mail) (ask-manager state s t 0 h four (omega arith)) ∙ k.no_message;
   no_reply = ap (λ (m : Manager). m.mail) (ask-manager state s t 1 h four (omega arith)) ∙ k.no_reply;
   assigned = record {
     outs = claims-alike c.outs s.outs t.outs h.outs k.assigned.outs;

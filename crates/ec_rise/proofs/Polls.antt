@@ -180,10 +180,10 @@ await-rises (Climbs from other) to s (step, same) e n (up, inr (inl h)) = in-sta
 await-rises (Climbs from other) to s (step, same) e n (up, inr (inr h)) = absurd (both_ways s.al.error e h.error)
 
 pub rise-configured : (i : ℕ) (c : Config) (r : Rise) (s : SlaveState) → IsConfigured i c s → IsConfigured i (record c { rise = r }) s
-rise-configured i c r s k = record { station_is = k.station_is; settings = k.settings; fmmus = k.fmmus; idle = k.idle; no_letters = k.no_letters; outputs = k.outputs }
+rise-configured i c r s k = record { station_is = k.station_is; settings = k.settings; fmmus = k.fmmus; idle = k.idle; no_messages = k.no_messages; outputs = k.outputs }
 
 pub rise-silent : (c : Config) (r : Rise) (s : SlaveState) → IsSilent c s → IsSilent (record c { rise = r }) s
-rise-silent c r s k = record { no_letter = k.no_letter; no_reply = k.no_reply; assigned = record { outs = k.assigned.outs; ins = k.assigned.ins } }
+rise-silent c r s k = record { no_message = k.no_message; no_reply = k.no_reply; assigned = record { outs = k.assigned.outs; ins = k.assigned.ins } }
 
 rise-talks : (i : ℕ) (c : Config) (r : Rise) (s : SlaveState) → c.talk ≡ None → Talks i c c.talk s → Talks i (record c { rise = r }) c.talk s
 rise-talks i c r s none h = subst (λ (o : Option Talk). Talks i (record c { rise = r }) o s) (sym none) (rise-silent c r s (subst (λ (o : Option Talk). Talks i c o s) none h))
@@ -256,10 +256,10 @@ command-at s = high (from_bool s.sii.busy) (from_bool s.sii.error)
     high x y = omega arith
 
 idle-configured : (i : ℕ) (c : Config) (s : SlaveState) → s.sii.busy ≡ false → IsConfigured i c s → IsConfigured i (record c { idle = true }) s
-idle-configured i c s e k = record { station_is = k.station_is; settings = k.settings; fmmus = k.fmmus; idle = λ _. e; no_letters = k.no_letters; outputs = k.outputs }
+idle-configured i c s e k = record { station_is = k.station_is; settings = k.settings; fmmus = k.fmmus; idle = λ _. e; no_messages = k.no_messages; outputs = k.outputs }
 
 idle-silent : (c : Config) (s : SlaveState) → IsSilent c s → IsSilent (record c { idle = true }) s
-idle-silent c s k = record { no_letter = k.no_letter; no_reply = k.no_reply; assigned = record { outs = k.assigned.outs; ins = k.assigned.ins } }
+idle-silent c s k = record { no_message = k.no_message; no_reply = k.no_reply; assigned = record { outs = k.assigned.outs; ins = k.assigned.ins } }
 
 low-top : (r : Rise) → IsLow r → IsTop r → ⊥
 low-top (Stays Init) low top = top

@@ -268,13 +268,13 @@ emptied-up i c d s f none done u = record {
     settings = λ n l. emptied-settings s n l ∙ (u.configured.settings n l ∙ ap (λ (ms : List ManagerSettings). settings_at ms n) (sym f.managers));
     fmmus = λ n k l m. u.configured.fmmus n k l m ∙ ap (λ fs. slice_index (fmmu_bytes (fmmu_at fs n)) k) (sym f.fmmus);
     idle = λ e. u.configured.idle (sym f.idle ∙ e);
-    no_letters = λ n a l. emptied-others s n a l ∙ u.configured.no_letters n a l;
+    no_messages = λ n a l. emptied-others s n a l ∙ u.configured.no_messages n a l;
     outputs = u.configured.outputs;
   };
   unlocked = λ n l. emptied-lock s n l ∙ u.unlocked n l;
   rises = subst (λ (r : Rise). Rises r (emptied s)) (sym f.rise) (rises-alike c.rise s (emptied s) refl refl u.rises);
   talks = subst (λ (o : Option Talk). Talks i d o (emptied s)) (sym f.talk) (record {
-    no_letter = none;
+    no_message = none;
     no_reply = refl;
     assigned = record { outs = done.outs; ins = done.ins };
   });
@@ -289,7 +289,7 @@ pub data Found (i : ℕ) (b : Mailbox) (r : Request) (c : Config) (s : SlaveStat
 
 found : (i counter : ℕ) (b : Mailbox) (r : Request) (c : Config) (s : SlaveState) → Boxes b s → Talks i c (Some (record { mailbox = b; counter = counter; request = r })) s → Found i b r c s
 found i counter b r c s h (inl t) = Nothing (and_right _ _ (and_right _ _ (if_true _ _ _ h.box ∙ ap is_some t.no_reply)))
-found i counter b r c s h (inr t) = Letter t.raw t.reply t.whole (and_from _ _ h.enabled (and_from _ _ h.read (if_true _ _ _ h.box ∙ ap is_some t.reply))) t.no_letter t.done
+found i counter b r c s h (inr t) = Letter t.raw t.reply t.whole (and_from _ _ h.enabled (and_from _ _ h.read (if_true _ _ _ h.box ∙ ap is_some t.reply))) t.no_message t.done
 
 pub some-read : (b : Mailbox) (s : SlaveState) (r : Bool) → Boxes b s → may_read (manager_at s.managers 1) ≡ r → some_byte_read s.managers (asking b) ≡ r
 some-read b s true h e = let some = h.some in let n = asking-length b in

@@ -12,7 +12,7 @@ use Rattle.ec_regs.specs.Managers.{is_set, is_mailbox, is_ring_written, is_ring_
 use Rattle.ec_frame.specs.declared.command.Command.TheVariants.{Fpwr}
 use Rattle.ec_al.specs.declared.state.State.{State}
 use Rattle.ec_al.specs.declared.state.State.TheVariants.{PreOp}
-use Rattle.ec_sync.specs.Manager.{Manager, may_write, is_enabled, message_in as letter_in}
+use Rattle.ec_sync.specs.Manager.{Manager, may_write, is_enabled, message_in as mailbox_message_in}
 use Rattle.ec_sync.specs.Governing.{governor, covers, in_first_buffer}
 use Rattle.ec_slave.specs.State.{SlaveState, station_of, manager_at}
 use Rattle.ec_slave.specs.Managers.{writes_under}
@@ -44,7 +44,7 @@ use Rattle.ec_rise.specs.Standing.{IsOfKind, IsIn, IsUpAt, IsConfigured, IsSent,
 use Rattle.ec_rise.proofs.Owns.{window-sent}
 use Rattle.ec_rise.proofs.Sends.{sending, sending-length, set-lies, four-of}
 use Rattle.ec_rise.proofs.Serves.{waits-none, finished-same}
-use Rattle.ec_rise.proofs.Messages.{taken_out, message_of, letter-read, reply_raw, Replies, given-replies, raw-length}
+use Rattle.ec_rise.proofs.Messages.{taken_out, message_of, mailbox_message-read, reply_raw, Replies, given-replies, raw-length}
 use Rattle.ec_rise.proofs.Counts.{own-write-counts}
 use Rattle.ec_rise.proofs.Shown.{HasReply}
 
@@ -171,12 +171,12 @@ replied kind i c k box s slave boxed u unlocked preop idle h good =
     let takes : takes_reply (manager_at s.managers 1) ≡ true
     = and_from _ _ on1 (and_from _ _ (ap is_mailbox e1 ∙ h.mailboxes.send_mailbox) (and_from _ _ (ap is_ring_read e1 ∙ h.mailboxes.send_read) (ap is_none h.no_reply))) in
     let has : has_mailbox s ≡ true = and_from _ _ (ap (λ (x : State). not (is_init x)) preop.state_is) (ap is_some (ap (λ (x : SlaveKind). x.mailbox) slave.kind_is ∙ boxed)) in
-    let l : letter_in (manager_at s.managers 0) ≡ Some raw
-    = if_true _ _ _ (and_from _ _ on0 (and_from _ _ (ap is_mailbox e0 ∙ h.mailboxes.receive_mailbox) (ap is_ring_written e0 ∙ h.mailboxes.receive_written))) ∙ h.letter in
+    let l : mailbox_message_in (manager_at s.managers 0) ≡ Some raw
+    = if_true _ _ _ (and_from _ _ on0 (and_from _ _ (ap is_mailbox e0 ∙ h.mailboxes.receive_mailbox) (ap is_ring_written e0 ∙ h.mailboxes.receive_written))) ∙ h.mailbox_message in
     let size : (manager_at s.managers 1).settings.length ≡ k.mailbox.send_size = ap (λ (x : ManagerSettings). x.length) e1 ∙ h.mailboxes.send_length in
     let long : 16 ≤ (manager_at s.managers 1).settings.length = subst (λ (x : ℕ). 16 ≤ x) (sym size) h.mailboxes.send_some in
     let fit : request_in s ≡ Some (message_of k)
-    = ap (λ (o : Option (List ℕ)). request_for m1 (option_and_then message_read o)) l ∙ (ap (request_for m1) (letter-read k) ∙ if_true _ _ _ (ap not (le-ltb m1.settings.length message_length long))) in
+    = ap (λ (o : Option (List ℕ)). request_for m1 (option_and_then message_read o)) l ∙ (ap (request_for m1) (mailbox_message-read k) ∙ if_true _ _ _ (ap not (le-ltb m1.settings.length message_length long))) in
     let step : message_served s ≡ replied_to (taken_out s) (message_of k) = if_true _ _ _ (and_from _ _ has (and_from _ _ takes (ap is_some l))) ∙ ap (reply_given (taken_out s)) fit in
     let still : request_decided s ≡ s = waits-none s preop.no_request in
     let quiet : read_finished (request_decided s) ≡ s = ap read_finished still ∙ finished-same s idle in

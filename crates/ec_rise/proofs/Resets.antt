@@ -50,7 +50,7 @@ power_on_down kind identity f m = record {
   fmmus = λ _ k l. get_or-zeros memory_length (0x0600 + k);
   managers = λ _. record {
     settings = λ n l. ap (λ (x : Manager). x.settings) (empty_at n);
-    no_letters = λ n l. ap (λ (x : Manager). x.mail) (empty_at n);
+    no_messages = λ n l. ap (λ (x : Manager). x.mail) (empty_at n);
     outputs = refl;
   };
 }

@@ -156,7 +156,7 @@ pub record Delivered (b : Mailbox) (counter : ℕ) (r : Request) (s t : SlaveSta
   pub room : length t.memory ≡ length s.memory
   pub memory : (a : ℕ) → a < ram_start → a < length s.memory → slice_index t.memory a ≡ slice_index s.memory a
   pub count : length t.managers ≡ 4
-  pub letter : (manager_at t.managers 0).mail ≡ Some (sending b counter r).bytes
+  pub mailbox_message : (manager_at t.managers 0).mail ≡ Some (sending b counter r).bytes
   pub settings : (n : ℕ) → n < 4 → (manager_at t.managers n).settings ≡ (manager_at s.managers n).settings
   pub locked : (n : ℕ) → n < 4 → (manager_at t.managers n).locked ≡ (manager_at s.managers n).locked
   pub mail : (n : ℕ) → 1 ≤ n → n < 4 → (manager_at t.managers n).mail ≡ (manager_at s.managers n).mail
@@ -166,29 +166,29 @@ pub record Delivered (b : Mailbox) (counter : ℕ) (r : Request) (s t : SlaveSta
   pub outs : t.outs ≡ s.outs
   pub ins : t.ins ≡ s.ins
 
-abbrev with_letter : List Manager → List ℕ → List Manager
-with_letter ms x = record (manager_at ms 0) { mail = Some x } ∷ manager_at ms 1 ∷ manager_at ms 2 ∷ manager_at ms 3 ∷ []
+abbrev with_message : List Manager → List ℕ → List Manager
+with_message ms x = record (manager_at ms 0) { mail = Some x } ∷ manager_at ms 1 ∷ manager_at ms 2 ∷ manager_at ms 3 ∷ []
 
-letter-settings : (ms : List Manager) (x : List ℕ) (n : ℕ) → n < 4 → (manager_at (with_letter ms x) n).settings ≡ (manager_at ms n).settings
-letter-settings ms x zero l = refl
-letter-settings ms x (suc zero) l = refl
-letter-settings ms x (suc (suc zero)) l = refl
-letter-settings ms x (suc (suc (suc zero))) l = refl
-letter-settings ms x (suc (suc (suc (suc n)))) l = absurd (omega (arith, l))
+mailbox_message-settings : (ms : List Manager) (x : List ℕ) (n : ℕ) → n < 4 → (manager_at (with_message ms x) n).settings ≡ (manager_at ms n).settings
+mailbox_message-settings ms x zero l = refl
+mailbox_message-settings ms x (suc zero) l = refl
+mailbox_message-settings ms x (suc (suc zero)) l = refl
+mailbox_message-settings ms x (suc (suc (suc zero))) l = refl
+mailbox_message-settings ms x (suc (suc (suc (suc n)))) l = absurd (omega (arith, l))
 
-letter-locked : (ms : List Manager) (x : List ℕ) (n : ℕ) → n < 4 → (manager_at (with_letter ms x) n).locked ≡ (manager_at ms n).locked
-letter-locked ms x zero l = refl
-letter-locked ms x (suc zero) l = refl
-letter-locked ms x (suc (suc zero)) l = refl
-letter-locked ms x (suc (suc (suc zero))) l = refl
-letter-locked ms x (suc (suc (suc (suc n)))) l = absurd (omega (arith, l))
+mailbox_message-locked : (ms : List Manager) (x : List ℕ) (n : ℕ) → n < 4 → (manager_at (with_message ms x) n).locked ≡ (manager_at ms n).locked
+mailbox_message-locked ms x zero l = refl
+mailbox_message-locked ms x (suc zero) l = refl
+mailbox_message-locked ms x (suc (suc zero)) l = refl
+mailbox_message-locked ms x (suc (suc (suc zero))) l = refl
+mailbox_message-locked ms x (suc (suc (suc (suc n)))) l = absurd (omega (arith, l))
 
-letter-mail : (ms : List Manager) (x : List ℕ) (n : ℕ) → 1 ≤ n → n < 4 → (manager_at (with_letter ms x) n).mail ≡ (manager_at ms n).mail
-letter-mail ms x zero a l = absurd (omega (arith, a))
-letter-mail ms x (suc zero) a l = refl
-letter-mail ms x (suc (suc zero)) a l = refl
-letter-mail ms x (suc (suc (suc zero))) a l = refl
-letter-mail ms x (suc (suc (suc (suc n)))) a l = absurd (omega (arith, l))
+mailbox_message-mail : (ms : List Manager) (x : List ℕ) (n : ℕ) → 1 ≤ n → n < 4 → (manager_at (with_message ms x) n).mail ≡ (manager_at ms n).mail
+mailbox_message-mail ms x zero a l = absurd (omega (arith, a))
+mailbox_message-mail ms x (suc zero) a l = refl
+mailbox_message-mail ms x (suc (suc zero)) a l = refl
+mailbox_message-mail ms x (suc (suc (suc zero))) a l = refl
+mailbox_message-mail ms x (suc (suc (suc (suc n)))) a l = absurd (omega (arith, l))
 
 pub delivered : (i counter : ℕ) (c : Config) (b : Mailbox) (r : Request) (s : SlaveState) → length s.managers ≡ 4 → AreMailboxes b c.managers → IsUpAt i c s → (manager_at s.managers 0).mail ≡ None
     → Delivered b counter r s (physical_after s false true (sending b counter r))
@@ -204,10 +204,10 @@ delivered i counter c b r s four h u none =
       room = (writes_by_byte s.managers (sending b counter r) s.memory).0;
       memory = λ a l k. ((writes_by_byte s.managers (sending b counter r) s.memory).1 a k).untouched (within_below b.receive_start (length (sending b counter r).bytes) a (omega (arith, ram, rs, l)));
       count = ap length e;
-      letter = ap (λ (ms : List Manager). (manager_at ms 0).mail) e;
-      settings = λ n l. ap (λ (ms : List Manager). (manager_at ms n).settings) e ∙ letter-settings s.managers x n l;
-      locked = λ n l. ap (λ (ms : List Manager). (manager_at ms n).locked) e ∙ letter-locked s.managers x n l;
-      mail = λ n a l. ap (λ (ms : List Manager). (manager_at ms n).mail) e ∙ letter-mail s.managers x n a l;
+      mailbox_message = ap (λ (ms : List Manager). (manager_at ms 0).mail) e;
+      settings = λ n l. ap (λ (ms : List Manager). (manager_at ms n).settings) e ∙ mailbox_message-settings s.managers x n l;
+      locked = λ n l. ap (λ (ms : List Manager). (manager_at ms n).locked) e ∙ mailbox_message-locked s.managers x n l;
+      mail = λ n a l. ap (λ (ms : List Manager). (manager_at ms n).mail) e ∙ mailbox_message-mail s.managers x n a l;
       outputs = ap (λ (ms : List Manager). manager_at ms 2) e;
       al = if_false _ _ _ (within_below b.receive_start (length (sending b counter r).bytes) 0x0120 (omega (arith, ram, rs)));
       busy = aside-busy (sending b counter r) s.sii (omega (arith, ram, rs));
@@ -240,7 +240,7 @@ delivered-up i counter c b r s t room none boxes q low h u =
         settings = λ n l. h.settings n l ∙ u.configured.settings n l;
         fmmus = λ n k l m. byte (0x0600 + 16 * n + k) (omega (arith, l, m)) ∙ u.configured.fmmus n k l m;
         idle = λ e. h.busy ∙ u.configured.idle e;
-        no_letters = λ n a l. h.mail n (omega (arith, a)) l ∙ u.configured.no_letters n a l;
+        no_messages = λ n a l. h.mail n (omega (arith, a)) l ∙ u.configured.no_messages n a l;
         outputs = subst HoldsZeros (sym h.outputs) u.configured.outputs;
       };
       unlocked = λ n l. h.locked n l ∙ u.unlocked n l;
@@ -248,7 +248,7 @@ delivered-up i counter c b r s t room none boxes q low h u =
       talks = inl (record {
         mailboxes = boxes;
         request = q;
-        letter = h.letter;
+        mailbox_message = h.mailbox_message;
         no_reply = h.mail 1 (omega arith) (omega arith) ∙ silent.no_reply;
         assigned = record {
           outs = claims-alike c.outs s.outs t.outs h.outs silent.assigned.outs;
@@ -269,6 +269,6 @@ pass-send kind i counter b r c trouble number d s l can good arrives h =
     pass-own kind i c trouble (SendRequest i counter b r) number d s (sending b counter r) (one-send i counter b r number) l refl
     (window-sent Fpwr (station i) b.receive_start (filled b.receive_size (request_bytes counter r)) number) (let a = lies.1 in omega (arith, a, rs))
     (if_true _ _ _ (eq-eqb i i refl)) (λ o. o) (λ o. o refl) (low-top c.rise low)
-    (λ k u. delivered-slave kind b counter r s (physical_after s false true (sending b counter r)) (delivered i counter c b r s k.four boxes u (silent u).no_letter) k)
-    (λ k u. delivered-up i counter c b r s (physical_after s false true (sending b counter r)) k.room none boxes q (low-top c.rise low) (delivered i counter c b r s k.four boxes u (silent u).no_letter) u)
+    (λ k u. delivered-slave kind b counter r s (physical_after s false true (sending b counter r)) (delivered i counter c b r s k.four boxes u (silent u).no_message) k)
+    (λ k u. delivered-up i counter c b r s (physical_after s false true (sending b counter r)) k.room none boxes q (low-top c.rise low) (delivered i counter c b r s k.four boxes u (silent u).no_message) u)
     good arrives h

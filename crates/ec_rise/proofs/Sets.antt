@@ -60,11 +60,11 @@ aside-busy w p l = by p.busy refl
     by true e = ap (λ (q : Sii). q.busy) (if_true _ _ _ e)
     by false e = ap (λ (q : Sii). q.busy) (if_false _ _ _ e ∙ ap (λ (o : Option ℕ). commanded (addressed p (address_written p.address w.from w.bytes)) o) (if_none-byte (within_below w.from (length w.bytes) 0x0503 (omega (arith, l)))))
 
--- the letters, where a slave is silent
-quiet-letters : (c d : Config) (s t : SlaveState) → d.outs ≡ c.outs → d.ins ≡ c.ins → ((n : ℕ) → n < 2 → (manager_at s.managers n).mail ≡ None → (manager_at t.managers n).mail ≡ None)
+-- the messages, where a slave is silent
+quiet-messages : (c d : Config) (s t : SlaveState) → d.outs ≡ c.outs → d.ins ≡ c.ins → ((n : ℕ) → n < 2 → (manager_at s.managers n).mail ≡ None → (manager_at t.managers n).mail ≡ None)
     → t.outs ≡ s.outs → t.ins ≡ s.ins → IsSilent c s → IsSilent d t
-quiet-letters c d s t eo ei m a b h = record {
-  no_letter = m 0 (omega arith) h.no_letter;
+quiet-messages c d s t eo ei m a b h = record {
+  no_message = m 0 (omega arith) h.no_message;
   no_reply = m 1 (omega arith) h.no_reply;
   assigned = record {
     outs = claims-alike d.outs s.outs t.outs a (subst (λ k. Claims k s.outs) (sym eo) h.assigned.outs);
@@ -108,13 +108,13 @@ set-up i c d s t w h k room four none free eo ei er settings fmmus idle u =
         settings = settings;
         fmmus = fmmus;
         idle = idle;
-        no_letters = λ n a l. mail n l (u.configured.no_letters n a l);
+        no_messages = λ n a l. mail n l (u.configured.no_messages n a l);
         outputs = subst HoldsZeros (sym (k.managers 2 (omega (arith, four)))) (set-zeros w 2 (manager_at s.managers 2) u.configured.outputs);
       };
       unlocked = λ n l. ap (λ (m : Manager). m.locked) (k.managers n (omega (arith, four, l))) ∙ (set-locked w n (manager_at s.managers n) ∙ u.unlocked n l);
       rises = subst (λ (r : Rise). Rises r t) (sym er) (rises-alike c.rise s t (aside-word w s t h k room) (aside-al w s t h k) u.rises);
       talks = subst (λ (o : Option Talk). Talks i d o t) (sym free)
-          (quiet-letters c d s t eo ei (λ n l e. mail n (omega (arith, l)) e) k.outs k.ins silent);
+          (quiet-messages c d s t eo ei (λ n l e. mail n (omega (arith, l)) e) k.outs k.ins silent);
       quiet = λ _. free;
     }
 

@@ -52,7 +52,7 @@ pub record IsConfigured (i : ℕ) (c : Config) (s : SlaveState) : Type 0 where
   pub settings : (n : ℕ) → n < 4 → (manager_at s.managers n).settings ≡ settings_at c.managers n
   pub fmmus : (n k : ℕ) → n < 4 → k < 16 → slice_index s.memory (0x0600 + 16 * n + k) ≡ slice_index (fmmu_bytes (fmmu_at c.fmmus n)) k
   pub idle : c.idle ≡ true → s.sii.busy ≡ false
-  pub no_letters : (n : ℕ) → 2 ≤ n → n < 4 → (manager_at s.managers n).mail ≡ None
+  pub no_messages : (n : ℕ) → 2 ≤ n → n < 4 → (manager_at s.managers n).mail ≡ None
   pub outputs : HoldsZeros (manager_at s.managers 2)
 
 -- in INIT without an error; a request that waits can only be phase 1's
@@ -100,21 +100,21 @@ pub record IsAssigned (c : Config) (s : SlaveState) : Type 0 where
 pub record IsSent (t : Talk) (c : Config) (s : SlaveState) : Type 0 where
   pub mailboxes : AreMailboxes t.mailbox c.managers
   pub request : IsRequest t.request
-  pub letter : (manager_at s.managers 0).mail ≡ Some (filled t.mailbox.receive_size (request_bytes t.counter t.request))
+  pub mailbox_message : (manager_at s.managers 0).mail ≡ Some (filled t.mailbox.receive_size (request_bytes t.counter t.request))
   pub no_reply : (manager_at s.managers 1).mail ≡ None
   pub assigned : IsAssigned c s
 
 -- the reply lies in manager 1; if it is one that fits, the request was done
 pub record IsReplied (i : ℕ) (t : Talk) (c : Config) (s : SlaveState) : Type 0 where
   pub mailboxes : AreMailboxes t.mailbox c.managers
-  pub no_letter : (manager_at s.managers 0).mail ≡ None
+  pub no_message : (manager_at s.managers 0).mail ≡ None
   pub raw : List ℕ
   pub whole : length raw ≡ t.mailbox.send_size
   pub reply : (manager_at s.managers 1).mail ≡ Some raw
   pub done : message_verdict i t.request (message_read raw) ≡ Next → IsAssigned (answered c t.request) s
 
 pub record IsSilent (c : Config) (s : SlaveState) : Type 0 where
-  pub no_letter : (manager_at s.managers 0).mail ≡ None
+  pub no_message : (manager_at s.managers 0).mail ≡ None
   pub no_reply : (manager_at s.managers 1).mail ≡ None
   pub assigned : IsAssigned c s
 
@@ -137,7 +137,7 @@ pub record IsUpAt (i : ℕ) (c : Config) (s : SlaveState) : Type 0 where
 
 pub record AreClear (s : SlaveState) : Type 0 where
   pub settings : (n : ℕ) → n < 4 → (manager_at s.managers n).settings ≡ no_settings
-  pub no_letters : (n : ℕ) → n < 4 → (manager_at s.managers n).mail ≡ None
+  pub no_messages : (n : ℕ) → n < 4 → (manager_at s.managers n).mail ≡ None
   pub outputs : HoldsZeros (manager_at s.managers 2)
 
 pub record IsDownAt (f m : Bool) (s : SlaveState) : Type 0 where

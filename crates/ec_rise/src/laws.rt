@@ -27,6 +27,7 @@ pub fn again()
 {}
 
 /// A start-up's frame that passed all slaves is an answer to the one that was sent: only its second datagram has changed.
+#[tactic(auto, using(crate::proofs::Rounds::round))]
 pub fn round()
     ensures { RoundLaw }
 {}

@@ -96,10 +96,10 @@ module _ (i : ℕ) (p : Settings) (s : SlaveState) (listed : AreListed p) (good 
       }
 
   no-mail : HoldsAll i p s → (n : ℕ) → (manager_at s.managers n).mail ≡ None
-  no-mail h zero = h.silent.no_letter
+  no-mail h zero = h.silent.no_message
   no-mail h (suc zero) = h.silent.no_reply
-  no-mail h (suc (suc zero)) = h.configured.no_letters 2 (omega arith) (omega arith)
-  no-mail h (suc (suc (suc zero))) = h.configured.no_letters 3 (omega arith) (omega arith)
+  no-mail h (suc (suc zero)) = h.configured.no_messages 2 (omega arith) (omega arith)
+  no-mail h (suc (suc (suc zero))) = h.configured.no_messages 3 (omega arith) (omega arith)
   no-mail h (suc (suc (suc (suc n)))) = ap (λ (m : Manager). m.mail) (get_or_past s.managers (suc (suc (suc (suc n)))) no_manager (omega (arith, slave.four)))
 
   quiet-of : HoldsAll i p s → s.al.requested ≡ false → IsQuiet s

@@ -35,6 +35,7 @@ pub fn inputs_are_linked()
 
 /// What a cycle keeps of a slave was noted as the frame of the slave's part passed it, in an event since this cycle began: where
 /// the slave gave its whole share, these are the inputs that it published at that moment.
+#[tactic(auto, using(crate::proofs::Published::published_law))]
 pub fn notes_are_of_their_pass()
     ensures { PublishedLaw }
 {}
@@ -107,6 +108,7 @@ pub fn new_run()
 {}
 
 /// The compiler accepts a table: what is promised of the worlds of accepted tables is not empty.
+#[tactic(auto, using(crate::proofs::Accepted::accepted_law))]
 pub fn a_table_is_accepted()
     ensures { AcceptedLaw }
 {}
