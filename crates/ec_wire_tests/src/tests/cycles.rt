@@ -1,6 +1,7 @@
 //! Cycles over memory, of which each call is a fault in turn.
 use crate::tests::machines::{THREE_SLAVES, brought_up, full_table, plan_of, set, there, value_of};
 use ec_cycle::{CycleError, Master};
+use ec_link::Plan;
 use ec_ring::Ring;
 use ec_wire::{MemoryWire, RunError, Wire, run_cycle};
 use std::alloc::Global;
@@ -151,14 +152,25 @@ impl Wire for Spent {
     }
 }
 
+/// Brings the slaves of a plan up, where that is asked for.
+fn prepare(alloc: Global, plan: &Plan, master: &mut Master<'_>, is_up: bool) -> Result<(), Fail> {
+    if is_up {
+        there(brought_up(alloc, plan, master))?;
+    }
+    Ok(())
+}
+
+/// What a cycle over a spent wire ends by.
+fn error_over_spent(master: &mut Master<'_>) -> Option<RunError> {
+    run_cycle(master, &mut Spent).err()
+}
+
 /// What a cycle of three slaves over a spent wire ends by, where the slaves have come up or not.
 fn error_of(alloc: Global, is_up: bool) -> Result<Option<RunError>, Fail> {
     let plan = plan_of(alloc, THREE_SLAVES)?;
     let mut master = Master::new(alloc, &plan)?;
-    if is_up {
-        there(brought_up(alloc, &plan, &mut master))?;
-    }
-    Ok(run_cycle(&mut master, &mut Spent).err())
+    prepare(alloc, &plan, &mut master, is_up)?;
+    Ok(error_over_spent(&mut master))
 }
 
 // The master is asked first; at its last value the count of faults can't rise, and each call is a fault.

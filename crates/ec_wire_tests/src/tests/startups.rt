@@ -1,5 +1,6 @@
 //! Start-ups over wires.
 use crate::tests::machines::{THREE_SLAVES, plan_of, ring_of, startup_of, there};
+use ec_link::Plan;
 use ec_start::{StartError, Startup};
 use ec_wire::{MemoryWire, Wire, bring_up_wire};
 use std::alloc::Global;
@@ -14,12 +15,22 @@ fn run<W: Wire>(startup: &mut Startup, wire: &mut W) -> Ended {
     (startup.outcome(), startup.next_number())
 }
 
+/// A wire to the slaves of a plan whose call of this number is a fault.
+fn wire_of(alloc: Global, plan: &Plan, call: u64) -> Result<MemoryWire, Fail> {
+    Ok(MemoryWire::new(alloc, ring_of(alloc, plan)?, 75, call)?)
+}
+
+/// How a start-up of a plan ends over such a wire.
+fn ended_over(alloc: Global, plan: &Plan, startup: &mut Startup, call: u64) -> Result<Ended, Fail> {
+    let mut wire = wire_of(alloc, plan, call)?;
+    Ok(run(startup, &mut wire))
+}
+
 /// How a start-up of the three slaves over memory ends whose call of this number is a fault.
 fn ended_by(alloc: Global, call: u64) -> Result<Ended, Fail> {
     let plan = plan_of(alloc, THREE_SLAVES)?;
     let mut startup = there(startup_of(alloc, &plan))?;
-    let mut wire = MemoryWire::new(alloc, ring_of(alloc, &plan)?, 75, call)?;
-    Ok(run(&mut startup, &mut wire))
+    ended_over(alloc, &plan, &mut startup, call)
 }
 
 #[test]
@@ -65,15 +76,18 @@ impl Wire for Strange {
     }
 }
 
+/// How a start-up ends over a strange wire, and how many payloads it received.
+fn run_strange(startup: &mut Startup) -> (Ended, u64) {
+    let mut wire = Strange { received: 0 };
+    (run(startup, &mut wire), wire.received)
+}
+
 #[test]
 fn strange_payloads_end_it(rt: HostRuntime) -> Result<(), Fail> {
     let plan = plan_of(rt.alloc(), THREE_SLAVES)?;
     let mut startup = there(startup_of(rt.alloc(), &plan))?;
-    let mut wire = Strange { received: 0 };
-    assert_eq!(rt;
-        run(&mut startup, &mut wire),
-        (Some(Err(StartError::Lost)), 1)
-    );
-    assert_eq!(rt; wire.received, 64);
+    let (ended, received) = run_strange(&mut startup);
+    assert_eq!(rt; ended, (Some(Err(StartError::Lost)), 1));
+    assert_eq!(rt; received, 64);
     Ok(())
 }
