@@ -10,7 +10,9 @@ use byteorder::{ByteOrder, LittleEndian};
 /// Where the spelling of a datagram stands in a frame: from its first byte to before `to`.
 #[derive(Clone, Copy, Debug, PartialEq, Eq, Drop)]
 pub struct Span {
+    /// Its first byte.
     pub from: usize,
+    /// The byte behind its last one.
     pub to: usize,
 }
 

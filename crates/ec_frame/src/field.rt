@@ -30,6 +30,9 @@ pub const OVERHEAD: usize = 12;
 /// 1500 - 20 - 8, without the frame's header.
 pub(crate) const MAX_AREA: u16 = 1470;
 
+/// How many bytes a frame has at most: a UDP payload in one Ethernet frame, 1500 - 20 - 8.
+pub const MAX_FRAME_LEN: usize = 1472;
+
 /// In the frame's header and in a datagram's flags: bits 0 to 10, a length.
 const LENGTH: u16 = 0x07FF;
 /// In the flags, behind the length: the three reserved bits.

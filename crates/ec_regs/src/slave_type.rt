@@ -26,8 +26,11 @@ pub const MAX_MAILBOX_SIZE: u16 = 1024;
 /// 0x1018 (ETG.1000.6, "Identity object").
 #[derive(Clone, Copy, Debug, PartialEq, Eq)]
 pub struct Device {
+    /// The vendor's number, subindex 1.
     pub vendor: u32,
+    /// The product code, subindex 2.
     pub product: u32,
+    /// The revision number, subindex 3.
     pub revision: u32,
 }
 
@@ -35,33 +38,46 @@ pub struct Device {
 /// object 0x1018 show them (ETG.1000.6, "Identity object").
 #[derive(Clone, Copy, Debug, PartialEq, Eq)]
 pub struct Identity {
+    /// The vendor's number, subindex 1.
     pub vendor: u32,
+    /// The product code, subindex 2.
     pub product: u32,
+    /// The revision number, subindex 3.
     pub revision: u32,
+    /// The serial number, subindex 4.
     pub serial: u32,
 }
 
 /// Where a slave's mailboxes lie in its memory, in bytes.
 #[derive(Clone, Copy, Debug, PartialEq, Eq)]
 pub struct Mailbox {
+    /// The first byte of the mailbox that the master writes.
     pub receive_start: u16,
+    /// How many bytes it has.
     pub receive_size: u16,
+    /// The first byte of the mailbox that the master reads.
     pub send_start: u16,
+    /// How many bytes it has.
     pub send_size: u16,
 }
 
 /// An entry of a process data object; index 0 is a gap.
 #[derive(Clone, Copy, Debug, PartialEq, Eq)]
 pub struct Entry {
+    /// The index of its object; 0 for a gap.
     pub index: u16,
+    /// The subindex in that object.
     pub subindex: u8,
+    /// How many bits it has.
     pub bits: u8,
 }
 
 /// A process data object: its index, and its entries in order.
 #[derive(Debug, Drop)]
 pub struct Pdo {
+    /// Its index, 0x1600 to 0x17FF for outputs and 0x1A00 to 0x1BFF for inputs.
     pub index: u16,
+    /// Its entries; the bits of each follow those of the one before.
     pub entries: Listed<Entry>,
 }
 

@@ -1,4 +1,4 @@
--- What holds of a range of bytes that a datagram writes.
+-- What holds of a range of bytes that a datagram touches: a lemma for those who say what a datagram writes.
 use Rattle.std.specs.Prelude.{ℕ, ◌+◌, ◌-◌, ◌<◌, ◌≡◌, true, false}
 use Rattle.std.proofs.Common.{arith}
 use Rattle.std.proofs.lemmas.Bool.Decides.{nat_tests}

@@ -33,7 +33,9 @@ impl Section {
 /// An element of a section, counted from 0 in file order; the document itself is element 0 of `Top`.
 #[derive(Clone, Copy, Debug, PartialEq, Eq)]
 pub struct Place {
+    /// The section that it stands in.
     pub section: Section,
+    /// Which of the section's elements it is.
     pub element: usize,
 }
 

@@ -56,7 +56,9 @@ pub enum Direction {
 /// A type's process data: where they begin in a slave's memory, in bytes, and their objects.
 #[derive(Debug, Drop)]
 pub struct ProcessData {
+    /// Where the outputs begin in a slave's memory.
     pub out_start: u16,
+    /// Where the inputs begin.
     pub in_start: u16,
     /// The objects that the master writes (RxPDOs).
     pub outputs: Listed<Pdo>,
@@ -67,9 +69,13 @@ pub struct ProcessData {
 /// A row of the section `type`: a type of slaves.
 #[derive(Debug, Drop)]
 pub struct TypeRow {
+    /// Its name, which no other type has.
     pub name: Name,
+    /// Vendor, product and revision of its slaves.
     pub device: Device,
+    /// Where its mailboxes lie, if it has them.
     pub mailbox: Option<Mailbox>,
+    /// Its process data objects and where their bytes begin.
     pub process: ProcessData,
     /// Whether slaves of the type take part in LRW datagrams.
     pub lrw: bool,
@@ -90,6 +96,7 @@ impl TypeRow {
 /// A row of the section `slave`: a slave, of the type at place `type_place`.
 #[derive(Debug, Drop)]
 pub struct SlaveRow {
+    /// Its name, which no other slave has.
     pub name: Name,
     /// The place of its type in the section `type`, counted from 0.
     pub type_place: usize,
@@ -97,6 +104,7 @@ pub struct SlaveRow {
     pub outputs: Listed<u16>,
     /// The indices of the input objects that it assigns, in order.
     pub inputs: Listed<u16>,
+    /// Its serial number; 0 where the table has none.
     pub serial: u32,
     /// Its sync unit, 0 to 63; 0 in version 1.
     pub unit: u8,
@@ -117,7 +125,9 @@ impl SlaveRow {
 /// A row of the section `variable`: a variable of the process image.
 #[derive(Debug, Drop)]
 pub struct VariableRow {
+    /// Its name, which no other variable has.
     pub name: Name,
+    /// Whether the control program writes or reads it.
     pub direction: Direction,
     /// How many bits it has, 1 to 64.
     pub bits: u8,
@@ -143,6 +153,8 @@ pub struct LinkRow {
     pub slave: usize,
     /// The index of the entry's object, 1 to 65535.
     pub index: u16,
+    /// The subindex of the entry.
     pub subindex: u8,
+    /// Which bits of both are joined.
     pub bits: LinkBits,
 }

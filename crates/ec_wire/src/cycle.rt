@@ -9,6 +9,7 @@ ghost use Rattle.ec_wire.specs.Running.{AreTaken, IsExchanged, IsRun, frames_of,
 use crate::error::RunError;
 use crate::wire::{Wire, receive_on, send_on};
 use ec_cycle::{Master, Report};
+use ec_frame::field::MAX_FRAME_LEN;
 
 /// Sends the frames of the open cycle in order, and answers whether that was no fault.
 fn send_parts<W: Wire>(master: &Master<'_>, wire: &mut W) -> bool
@@ -36,7 +37,7 @@ fn receive_parts<W: Wire>(master: &mut Master<'_>, wire: &mut W) -> bool
     ensures fault { result ≡ false → is_fault (W.state wire.old) (W.state wire.new) ≡ true }
     ensures fine { result ≡ true → (W.state wire.new).failed ≡ (W.state wire.old).failed }
 {
-    let mut buffer = [0; 1472];
+    let mut buffer = [0; MAX_FRAME_LEN];
     master.is_sound();
     for _ in 0..2 * master.parts() + 64 {
         if master.missing() == 0 {

@@ -4,9 +4,6 @@ ghost use Rattle.std.specs.Prelude.{◌≡◌, ◌≤◌, length};
 use ec_frame::Frame;
 use std::marker::Model;
 
-/// The most bytes that a payload has: those of an Ethernet frame less the headers of IP and UDP.
-pub(crate) const MOST_BYTES: usize = 1472;
-
 /// The bytes of a payload, at most 1472.
 #[derive(Drop)]
 pub struct Payload {

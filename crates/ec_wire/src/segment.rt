@@ -5,8 +5,8 @@ ghost use Rattle.ec_wire.specs.Segments.{AreTreated, HasServed, WasCutOff};
 
 use crate::application::{App, answer};
 use crate::error::SocketFault;
-use crate::payload::MOST_BYTES;
 use crate::wire::{Wire, receive_on, send_on};
+use ec_frame::field::MAX_FRAME_LEN;
 use ec_ring::Ring;
 
 /// How many payloads came to a segment.
@@ -42,7 +42,7 @@ fn serve_payload<A: App, W: Wire>(ring: &mut Ring, app: &mut A, wire: &mut W) ->
     ensures same { IfSome result (λ is_answered. (W.state wire.new).failed ≡ (W.state wire.old).failed) }
     ensures cut { IfNone result (WasCutOff (A.shows app.old) ring.old ring.new (W.state wire.old) (W.state wire.new) 1) }
 {
-    let mut buffer = [0; MOST_BYTES];
+    let mut buffer = [0; MAX_FRAME_LEN];
     let count = receive_on(wire, &mut buffer)?;
     let payload = &mut buffer[..count];
     if !answer(ring, app, payload) {

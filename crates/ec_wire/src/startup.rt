@@ -3,9 +3,9 @@ ghost use Rattle.std.specs.Prelude.{◌≡◌, true, false};
 ghost use Rattle.ec_start.specs.Running.{is_ended};
 ghost use Rattle.ec_wire.specs.BringingUp.{IsAnswered, IsBroughtUp, IsTurn, IsUnanswered};
 
-use crate::payload::MOST_BYTES;
 use crate::wire::{Wire, receive_on, send_on};
 use ec_frame::Frame;
+use ec_frame::field::MAX_FRAME_LEN;
 use ec_start::{NextFrame, Startup, Taken};
 
 /// So many payloads that don't answer a frame are received for it.
@@ -17,7 +17,7 @@ fn exchange<W: Wire>(startup: &mut Startup, wire: &mut W, frame: &[u8]) -> bool
     ensures unanswered { result ≡ false → IsUnanswered startup.old frame.now (W.state wire.old) (W.state wire.new) }
     ensures kept { result ≡ false → startup.new ≡ startup.old }
 {
-    let mut buffer = [0; MOST_BYTES];
+    let mut buffer = [0; MAX_FRAME_LEN];
     if !send_on(wire, frame) {
         return false;
     }

@@ -3,8 +3,8 @@ ghost use Rattle.std.specs.Prelude.{◌≡◌, ◌≤◌, length, IfOk, IfSome};
 ghost use Rattle.ec_wire.specs.Wires.{silent};
 
 use crate::error::SocketFault;
-use crate::payload::MOST_BYTES;
 use crate::wire::Wire;
+use ec_frame::field::MAX_FRAME_LEN;
 use std::io;
 use std::io::ErrorKind;
 use std::marker::Model;
@@ -126,7 +126,7 @@ impl UdpWire {
 
     /// Sends a payload to the peer, and answers whether all of it was sent.
     fn has_sent(&self, payload: &[u8]) -> bool {
-        if payload.len() > MOST_BYTES {
+        if payload.len() > MAX_FRAME_LEN {
             return false;
         }
         let sent = match self.peer {
@@ -183,7 +183,7 @@ impl Wire for UdpWire {
     }
 
     fn recv(&mut self, buffer: &mut [u8]) -> usize {
-        let room = buffer.len().min(MOST_BYTES);
+        let room = buffer.len().min(MAX_FRAME_LEN);
         let Some((count, peer)) = self.await_payload(&mut buffer[..room]) else {
             self.failures = self.failures.saturating_add(1);
             return 0;

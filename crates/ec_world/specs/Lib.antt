@@ -4,10 +4,6 @@
 pub mod Plain
 -- the world as a value, when each event can be made, and what it does
 pub mod World
--- a frame in its slot, as it passes its next slave
-pub mod Slots
--- the frames of an open cycle, and who is handed a payload that comes back
-pub mod Held
 -- when a slave, a frame, a world shows what the plain machine says
 pub mod Lengths
 pub mod SlaveShows
@@ -21,5 +17,10 @@ pub mod Laws
 pub mod Whole
 pub mod NewWorld
 pub mod Example
--- This serves the proofs alone: what holds of a world that starts up.
+-- The rest serves the code and the proofs alone, and no public clause cites it:
+-- slots in use, and a frame in its slot as it passes its next slave
+pub mod Slots
+-- the frames of an open cycle, and who is handed a payload that comes back
+pub mod Held
+-- what holds of a world that starts up
 pub mod Rising

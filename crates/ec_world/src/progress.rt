@@ -22,7 +22,7 @@ impl Progress {
     }
 
     /// How many slaves the frame may pass, of so many, as far as another slot is concerned: no more than an older frame there.
-    pub fn way_behind(&self, far: usize, other: Option<Progress>) -> usize
+    pub(crate) fn way_behind(&self, far: usize, other: Option<Progress>) -> usize
         ensures { result ≡ way_behind self.now far other }
     {
         match other {

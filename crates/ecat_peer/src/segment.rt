@@ -2,6 +2,7 @@
 use crate::payloads::random_payload;
 use crate::plain::{is_frame, may_answer};
 use ec_frame::Frame;
+use ec_frame::field::MAX_FRAME_LEN;
 use ec_random::Random;
 use ec_ring::Ring;
 use ec_wire::{Echo, UdpWire, Wire, serve_segment};
@@ -136,7 +137,7 @@ impl Sender {
 
     /// Receives the answers of a burst, in its order.
     fn receive(&mut self) {
-        let mut buffer = [0; 1472];
+        let mut buffer = [0; MAX_FRAME_LEN];
         for sent in self.open.iter() {
             let faults = self.wire.failures();
             let count = self.wire.recv(&mut buffer);
