@@ -1,5 +1,6 @@
 -- Laws of tests.
-use Rattle.std.proofs.Common.{Option, Some, None, is_some, is_none, not, ℕ, zero, suc, ◌+◌, ◌<◌, ◌≤◌, ◌≡◌, ◌||◌, Bool, true, false, refl, sym, ◌∙◌, ap, arith, if◌then◌else◌}
+use Rattle.std.proofs.Common.{Option, Some, None, is_some, is_none, not, ◌==◌, ℕ, zero, suc, ◌+◌, ◌<◌, ◌≤◌, ◌≡◌, ◌||◌, Bool, true, false, refl, sym, ◌∙◌, ap, arith, if◌then◌else◌}
+use Rattle.std.proofs.lemmas.Bool.{ne_eqb}
 use Rattle.ec_bits.specs.Bits.{any_below}
 use Rattle.ec_bits.proofs.AnyLaws.{if_true, if_false, any_below_from}
 
@@ -60,3 +61,9 @@ any-joined m n p b false e h some alike = any-false b ∙ any-part m n p b e (λ
     any-false : (b : Bool) → (b || false) ≡ b
     any-false true = refl
     any-false false = refl
+
+-- what all of n pass one passes, unless n is 0
+pub any-all : (n : ℕ) (p : ℕ → Bool) → ((i : ℕ) → i < n → p i ≡ true) → not (n == 0) ≡ any_below n p
+any-all zero p h = any-none p
+any-all (suc n) p h =
+    ap not (ne_eqb (suc n) 0 (λ e. absurd (omega arith))) ∙ sym (any_below_from (suc n) p 0 (omega arith) (h 0 (omega arith)))

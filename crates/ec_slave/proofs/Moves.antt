@@ -64,7 +64,7 @@ plain-outside : (ms : List Manager) (fs : List FmmuSettings) (p : Place) (b : Li
 plain-outside ms fs p b q l = if_none _ _ (ap (λ (o : Option ℕ). option_map (bit b) (inside_place p o)) (source-outside [] (writers fs) q l))
 
 pub decoded-mapped : (ms : List Manager) (fs : List FmmuSettings) (p : Place) (b memory : List ℕ) → fmmus_of memory ≡ fmmus_of (overlay memory (plain_bit ms fs p b))
-decoded-mapped ms fs p b memory = fmmus_of-alike memory (overlay memory (plain_bit ms fs p b)) (λ a l.
+decoded-mapped ms fs p b memory = fmmus_of-alike memory (overlay memory (plain_bit ms fs p b)) (λ a lo hi.
     sym (byte-overlay memory (plain_bit ms fs p b) a (λ i e. plain-outside ms fs p b i (omega arith))))
 
 -- a bit was written in the memory itself, or in a manager's value

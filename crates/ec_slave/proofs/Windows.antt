@@ -93,6 +93,12 @@ pub read-register : (ms : List Manager) (touched : ℕ → Bool) (a : ℕ) → a
 unfolding may_read_byte
 read-register ms touched a h = or_left (nat_lt a ram_start) _ (lt-ltb a ram_start h)
 
+-- a register is written if it takes writes
+pub write-register : (ms : List Manager) (busy : Bool) (touched : ℕ → Bool) (a : ℕ) → a < ram_start → may_write_byte ms busy touched a ≡ takes_writes busy a
+unfolding may_write_byte
+write-register ms busy touched a h =
+    if_true (nat_lt a ram_start) (takes_writes busy a) (nat_lt a ram_end && writes_under ms touched a (governor ms a)) (lt-ltb a ram_start h)
+
 -- bytes of the RAM that are alike may be written or not alike
 pub write-alike : (ms : List Manager) (busy : Bool) (touched : ℕ → Bool) (a b : ℕ) → ram_start ≤ a → ram_start ≤ b → nat_lt a ram_end ≡ nat_lt b ram_end
     → governor ms a ≡ governor ms b → ((n : ℕ) → governor ms b ≡ Some n → in_first_buffer (manager_at ms n) a ≡ in_first_buffer (manager_at ms n) b)

@@ -1,6 +1,6 @@
 //! Physical datagrams at a slave.
 
-ghost use Rattle.std.specs.Prelude.{◌≡◌, ◌+◌, ◌*◌, ◌<◌, ◌≤◌, ◌^◌, ℕ, Bool, true, false, None, IfSome, length, if◌then◌else◌, nat_lt};
+ghost use Rattle.std.specs.Prelude.{◌≡◌, ◌+◌, ◌*◌, ◌<◌, ◌≤◌, ◌^◌, ◌&&◌, ℕ, Bool, true, false, None, IfSome, length, if◌then◌else◌, nat_lt};
 ghost use Rattle.ec_regs.specs.Memory.{fmmu_place, ram_start, ram_end};
 ghost use Rattle.ec_sync.specs.Governing.{governor as governor_of};
 ghost use Rattle.ec_al.specs.Al.{requesting};
@@ -19,7 +19,7 @@ mod managers;
 use crate::fmmus::read_fmmus;
 use crate::passing::MAX_DATA;
 use crate::physical::bytes::{
-    end_of_part, owner, read_over, read_slice, reads_byte, write_physical,
+    end_of_part, owner_of, read_over, read_slice, reads_byte, write_physical,
 };
 use crate::physical::managers::access_managers;
 use crate::role::Role;
@@ -28,7 +28,7 @@ use ec_al::Al;
 use ec_bits::within;
 use ec_fmmu::FmmuTable;
 use ec_frame::{Header, cut_counter, cut_heading, read_counter, write_adp, write_counter};
-use ec_regs::registers::{AL_CONTROL, FMMUS_END, RAM_START};
+use ec_regs::registers::{AL_CONTROL, FMMUS, FMMUS_END, RAM_START};
 
 /// Marks an AL request, or not.
 fn request_if(al: &mut Al, is_written: bool)
@@ -39,12 +39,13 @@ fn request_if(al: &mut Al, is_written: bool)
     }
 }
 
-/// Decodes the FMMUs again after a write from an address on that their registers don't all lie below.
-fn renew_fmmus(fmmus: &mut FmmuTable, memory: &[u8], from: usize)
-    requires { length memory.now ≡ ram_end }
-    ensures { fmmus.new ≡ (if nat_lt from (fmmu_place 4) then fmmus_of memory.now else fmmus.old) }
+/// Decodes the FMMUs again after a write of `len` bytes from an address on that may reach their registers.
+fn renew_fmmus(fmmus: &mut FmmuTable, memory: &[u8], from: usize, len: usize)
+    requires room { length memory.now ≡ ram_end }
+    requires small { from + len < 2 ^ 32 }
+    ensures { fmmus.new ≡ (if nat_lt from (fmmu_place 4) && nat_lt (fmmu_place 0) (from + len) then fmmus_of memory.now else fmmus.old) }
 {
-    if from < FMMUS_END {
+    if from < FMMUS_END && FMMUS < from + len {
         *fmmus = read_fmmus(memory);
     }
 }
@@ -101,34 +102,30 @@ impl Slave {
         }
     }
 
-    /// Reads into the bytes of a datagram, and answers whether one was read. Registers have no governor, and are few: they
-    /// are asked for byte by byte.
+    /// Reads into the bytes of a datagram, and answers whether one was read.
     fn read_physical(&self, joining: bool, from: usize, bytes: &mut [u8]) -> bool
         requires { from + length bytes.old < 2 ^ 32 }
         ensures bytes { bytes.new ≡ retold bytes.old (byte_read self.now joining (record { from = from; bytes = bytes.old })) }
         ensures some { result ≡ some_byte_read self.now.managers (record { from = from; bytes = bytes.old }) }
     {
-        if from < RAM_START {
-            self.read_each(joining, from, bytes)
+        if from + bytes.len() <= RAM_START {
+            self.read_registers(joining, from, bytes)
         } else {
             self.read_parts(joining, from, bytes)
         }
     }
 
-    /// Reads into the bytes of a datagram, byte by byte, and answers whether one was read.
-    fn read_each(&self, joining: bool, from: usize, bytes: &mut [u8]) -> bool
-        requires { from + length bytes.old < 2 ^ 32 }
+    /// Reads into the bytes of a datagram that lies within the registers, and answers whether one was read. All are,
+    /// and no manager governs one.
+    fn read_registers(&self, joining: bool, from: usize, bytes: &mut [u8]) -> bool
+        requires { from + length bytes.old ≤ ram_start }
         ensures bytes { bytes.new ≡ retold bytes.old (byte_read self.now joining (record { from = from; bytes = bytes.old })) }
         ensures some { result ≡ some_byte_read self.now.managers (record { from = from; bytes = bytes.old }) }
     {
-        let mut is_some = false;
-        let len = bytes.len();
+        let is_some = !bytes.is_empty();
         for (i, byte) in bytes.iter_mut().enumerate() {
-            if self.reads(from, len, from + i) {
-                is_some = true;
-                let shown = self.byte_at(from + i);
-                *byte = read_over(joining, *byte, shown);
-            }
+            let shown = self.register_at(from + i);
+            *byte = read_over(joining, *byte, shown);
         }
         is_some
     }
@@ -145,17 +142,11 @@ impl Slave {
         let mut done = 0;
         while done < len {
             let first = from + done;
+            let owner = owner_of(&self.managers, first);
             let count = end_of_part(&self.managers, first, from + len) - first;
-            if self.reads(from, len, first) {
+            if reads_byte(&self.managers, owner, from, len, first) {
                 is_some = true;
-                self.read_part(
-                    owner(&self.managers, first),
-                    joining,
-                    from,
-                    done,
-                    count,
-                    bytes,
-                );
+                self.read_part(owner, joining, from, done, count, bytes);
             }
             done += count;
         }
@@ -174,16 +165,8 @@ impl Slave {
         request_if(&mut self.al, within(from, bytes.len(), AL_CONTROL));
         self.port.write(from, bytes);
         access_managers(&mut self.managers, reads, true, from, bytes);
-        renew_fmmus(&mut self.fmmus, &self.memory, from);
+        renew_fmmus(&mut self.fmmus, &self.memory, from, bytes.len());
         is_some
-    }
-
-    /// Whether a datagram over `len` bytes from `from` on reads the byte at an address that it touches.
-    fn reads(&self, from: usize, len: usize, address: usize) -> bool
-        ensures value { result ≡ may_read_byte self.now.managers (within from len) address }
-        ensures inside { OnTrue result (address < ram_end) }
-    {
-        reads_byte(&self.managers, from, len, address)
     }
 
     /// What a read does to the managers: a mailbox that it had is empty. Registers belong to none.

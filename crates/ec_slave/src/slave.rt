@@ -219,7 +219,7 @@ impl Slave {
 
     /// What the address of a register reads.
     #[tactic(auto, unfolding(crate::specs::Physical::byte_at))]
-    fn register_at(&self, address: usize) -> u8
+    pub(crate) fn register_at(&self, address: usize) -> u8
         requires { address < ram_start }
         ensures { result ≡ byte_at self.now address }
     {

@@ -1,12 +1,12 @@
 //! Which bytes a physical datagram reads and writes, and what it leaves in the memory itself.
 
-ghost use Rattle.std.specs.Prelude.{◌≡◌, ◌+◌, ◌-◌, ◌<◌, ◌≤◌, ◌^◌, ℕ, Bool, if◌then◌else◌, bit_or, length, slice_index, Some, None, IfSome};
+ghost use Rattle.std.specs.Prelude.{◌≡◌, ◌+◌, ◌-◌, ◌<◌, ◌≤◌, ◌^◌, ℕ, Bool, List, if◌then◌else◌, bit_or, length, slice_index, Some, None, IfSome};
 ghost use Rattle.std.specs.Bool.{OnTrue};
 ghost use Rattle.ec_bits.specs.Bits.{within};
 ghost use Rattle.ec_regs.specs.Memory.{ram_start, ram_end};
 ghost use Rattle.ec_sync.specs.Governing.{governor as governor_of};
+ghost use Rattle.ec_sync.specs.Manager.{Manager};
 ghost use Rattle.ec_slave.specs.Physical.{Window, byte_from, is_kept, may_read_byte, may_write_byte, memory_written, retold, some_byte_written};
-ghost use Rattle.ec_slave.specs.Telling.{set_told};
 
 use crate::logical::{cut, end_of_alike};
 use crate::reach::governor;
@@ -14,9 +14,30 @@ use ec_regs::registers::{RAM_END, RAM_START, SYNC_MANAGERS, SYNC_MANAGERS_END};
 use ec_regs::{is_stored, takes_writes};
 use ec_sync::Manager;
 
-/// Whether a datagram over `len` bytes from `from` on reads the byte at an address that it touches.
+/// The governor of a byte of the RAM, if it has one; none of a register.
+pub(crate) fn owner_of(managers: &[Manager], address: usize) -> Option<usize>
+    ensures within { IfSome result (λ n. n < length managers.now) }
+    ensures value { ram_start ≤ address → result ≡ governor_of managers.now address }
+{
+    if address < RAM_START {
+        None
+    } else {
+        governor(managers, address)
+    }
+}
+
+/// Whether a datagram over `len` bytes from `from` on reads the byte at an address that it touches, and that has this
+/// owner.
 #[tactic(auto, unfolding(crate::specs::Physical::may_read_byte))]
-pub(crate) fn reads_byte(managers: &[Manager], from: usize, len: usize, address: usize) -> bool
+pub(crate) fn reads_byte(
+    managers: &[Manager],
+    owner: Option<usize>,
+    from: usize,
+    len: usize,
+    address: usize,
+) -> bool
+    requires within { IfSome owner (λ n. n < length managers.now) }
+    requires owner { ram_start ≤ address → owner ≡ governor_of managers.now address }
     ensures value { result ≡ may_read_byte managers.now (within from len) address }
     ensures inside { OnTrue result (address < ram_end) }
 {
@@ -26,7 +47,7 @@ pub(crate) fn reads_byte(managers: &[Manager], from: usize, len: usize, address:
     if RAM_END <= address {
         return false;
     }
-    match governor(managers, address) {
+    match owner {
         None => true,
         Some(place) => {
             let manager = &managers[place];
@@ -56,27 +77,19 @@ pub(crate) fn end_of_part(managers: &[Manager], start: usize, end: usize) -> usi
     end_of_alike(managers, start, stop)
 }
 
-/// The governor of a byte of the RAM, if it has one; none of a register.
-pub(crate) fn owner(managers: &[Manager], address: usize) -> Option<usize>
-    ensures within { IfSome result (λ n. n < length managers.now) }
-    ensures value { ram_start ≤ address → result ≡ governor_of managers.now address }
-{
-    if address < RAM_START {
-        None
-    } else {
-        governor(managers, address)
-    }
-}
-
-/// Whether a datagram over `len` bytes from `from` on writes the byte at an address that it touches.
+/// Whether a datagram over `len` bytes from `from` on writes the byte at an address that it touches, and that has this
+/// owner.
 #[tactic(auto, unfolding(crate::specs::Physical::may_write_byte))]
-pub(crate) fn writes_byte(
+fn writes_byte(
     managers: &[Manager],
+    owner: Option<usize>,
     is_busy: bool,
     from: usize,
     len: usize,
     address: usize,
 ) -> bool
+    requires within { IfSome owner (λ n. n < length managers.now) }
+    requires owner { ram_start ≤ address → owner ≡ governor_of managers.now address }
     ensures { result ≡ may_write_byte managers.now is_busy (within from len) address }
 {
     if address < RAM_START {
@@ -85,7 +98,7 @@ pub(crate) fn writes_byte(
     if RAM_END <= address {
         return false;
     }
-    match governor(managers, address) {
+    match owner {
         None => true,
         Some(place) => {
             let manager = &managers[place];
@@ -94,31 +107,29 @@ pub(crate) fn writes_byte(
     }
 }
 
-/// Whether a byte is kept in the memory itself: a stored register that is no sync manager's, or a byte of the RAM
-/// that no manager governs.
+/// Whether a register is kept in the memory itself: a stored one that is no sync manager's.
 #[tactic(auto, unfolding(crate::specs::Physical::is_kept))]
-fn is_kept(managers: &[Manager], address: usize) -> bool
-    ensures value { result ≡ is_kept managers.now address }
+fn is_kept_register(address: usize) -> bool
+    requires { address < ram_start }
+    ensures { (ms : List Manager) → result ≡ is_kept ms address }
+{
+    is_stored(address) && !(SYNC_MANAGERS..SYNC_MANAGERS_END).contains(&address)
+}
+
+/// Whether a byte is kept in the memory itself that has this owner: a register that is, or a byte of the RAM that no
+/// manager governs.
+#[tactic(auto, unfolding(crate::specs::Physical::is_kept))]
+fn is_kept(owner: Option<usize>, address: usize) -> bool
+    ensures value { (ms : List Manager) → (ram_start ≤ address → owner ≡ governor_of ms address) → result ≡ is_kept ms address }
     ensures inside { OnTrue result (address < ram_end) }
 {
     if address < RAM_START {
-        return is_stored(address) && !(SYNC_MANAGERS..SYNC_MANAGERS_END).contains(&address);
+        return is_kept_register(address);
     }
-    address < RAM_END && governor(managers, address).is_none()
-}
-
-/// Stores a byte where the memory itself keeps it.
-fn store_byte(memory: &mut [u8], managers: &[Manager], address: usize, byte: u8)
-    requires { length memory.old ≡ ram_end }
-    ensures { memory.new ≡ set_told memory.old address (if is_kept managers.now address then Some byte else None) }
-{
-    if is_kept(managers, address) {
-        memory[address] = byte;
-    }
+    address < RAM_END && owner.is_none()
 }
 
 /// Writes the bytes of a datagram into the memory itself, and answers whether one is written there or behind a manager.
-/// Registers have no governor, and are few: they are asked for byte by byte.
 pub(crate) fn write_physical(
     memory: &mut [u8],
     managers: &[Manager],
@@ -131,36 +142,34 @@ pub(crate) fn write_physical(
     ensures memory { memory.new ≡ memory_written managers.now (record { from = from; bytes = bytes.now }) memory.old }
     ensures some { result ≡ some_byte_written managers.now is_busy (record { from = from; bytes = bytes.now }) }
 {
-    if from < RAM_START {
-        write_each(memory, managers, is_busy, from, bytes)
+    if from + bytes.len() <= RAM_START {
+        write_registers(memory, is_busy, from, bytes)
     } else {
         write_parts(memory, managers, is_busy, from, bytes)
     }
 }
 
-/// Writes the bytes of a datagram, byte by byte, and answers whether one is written.
-fn write_each(
-    memory: &mut [u8],
-    managers: &[Manager],
-    is_busy: bool,
-    from: usize,
-    bytes: &[u8],
-) -> bool
+/// Writes the bytes of a datagram that lies within the registers, and answers whether one is written. No manager
+/// governs a register.
+fn write_registers(memory: &mut [u8], is_busy: bool, from: usize, bytes: &[u8]) -> bool
     requires room { length memory.old ≡ ram_end }
-    requires small { from + length bytes.now < 2 ^ 32 }
-    ensures memory { memory.new ≡ memory_written managers.now (record { from = from; bytes = bytes.now }) memory.old }
-    ensures some { result ≡ some_byte_written managers.now is_busy (record { from = from; bytes = bytes.now }) }
+    requires inside { from + length bytes.now ≤ ram_start }
+    ensures memory { (ms : List Manager) → memory.new ≡ memory_written ms (record { from = from; bytes = bytes.now }) memory.old }
+    ensures some { (ms : List Manager) → result ≡ some_byte_written ms is_busy (record { from = from; bytes = bytes.now }) }
 {
     let mut is_some = false;
     for (i, byte) in bytes.iter().enumerate() {
-        is_some |= writes_byte(managers, is_busy, from, bytes.len(), from + i);
-        store_byte(memory, managers, from + i, *byte);
+        let address = from + i;
+        is_some |= takes_writes(address, is_busy);
+        if is_kept_register(address) {
+            memory[address] = *byte;
+        }
     }
     is_some
 }
 
-/// Writes the bytes of a datagram that begins in the RAM, and answers whether one is written. Who governs bytes, and
-/// whether they may be written, is asked once for each part of which all or none are.
+/// Writes the bytes of a datagram, and answers whether one is written. Who governs bytes, and whether they may be
+/// written, is asked once for each part of which all or none are.
 fn write_parts(
     memory: &mut [u8],
     managers: &[Manager],
@@ -170,7 +179,6 @@ fn write_parts(
 ) -> bool
     requires room { length memory.old ≡ ram_end }
     requires small { from + length bytes.now < 2 ^ 32 }
-    requires ram { ram_start ≤ from }
     ensures memory { memory.new ≡ memory_written managers.now (record { from = from; bytes = bytes.now }) memory.old }
     ensures some { result ≡ some_byte_written managers.now is_busy (record { from = from; bytes = bytes.now }) }
 {
@@ -179,38 +187,42 @@ fn write_parts(
     let mut done = 0;
     while done < len {
         let first = from + done;
+        let owner = owner_of(managers, first);
         let count = end_of_written(managers, first, from + len) - first;
-        is_some |= writes_byte(managers, is_busy, from, len, first);
-        store_part(memory, managers, first, &bytes[done..done + count]);
+        is_some |= writes_byte(managers, owner, is_busy, from, len, first);
+        store_part(memory, owner, first, &bytes[done..done + count]);
         done += count;
     }
     is_some
 }
 
-/// The end of the bytes from `start` on, and below `end`, which lie in the RAM or behind it, of which a datagram writes
-/// all or none, and of which the memory itself keeps all or none.
+/// The end of the bytes from `start` on, and below `end`, of which a datagram writes all or none, and of which the
+/// memory itself keeps all or none: one register, or bytes of the RAM, or behind it, that are alike.
 fn end_of_written(managers: &[Manager], start: usize, end: usize) -> usize
-    requires some { start < end }
-    requires ram { ram_start ≤ start }
+    requires { start < end }
     ensures inside { (start < result) × (result ≤ end) }
+    ensures aside { start < ram_end → result ≤ ram_end }
     ensures writes { (busy : Bool) (touched : ℕ → Bool) (a : ℕ) → start ≤ a → a < result
         → may_write_byte managers.now busy touched a ≡ may_write_byte managers.now busy touched start }
     ensures kept { (a : ℕ) → start ≤ a → a < result → is_kept managers.now a ≡ is_kept managers.now start }
 {
+    if start < RAM_START {
+        return start + 1;
+    }
     let stop = cut(start, end, RAM_END);
     end_of_alike(managers, start, stop)
 }
 
-/// Stores a part of the bytes of a datagram, of which the memory itself keeps all or none.
-fn store_part(memory: &mut [u8], managers: &[Manager], start: usize, bytes: &[u8])
+/// Stores a part of the bytes of a datagram that has this owner, of which the memory itself keeps all or none.
+fn store_part(memory: &mut [u8], owner: Option<usize>, start: usize, bytes: &[u8])
     requires room { length memory.old ≡ ram_end }
-    requires some { 0 < length bytes.now }
-    requires alike { (a : ℕ) → start ≤ a → a < start + length bytes.now → is_kept managers.now a ≡ is_kept managers.now start }
-    requires fits { start + length bytes.now < 2 ^ 32 }
-    ensures { memory.new ≡ retold memory.old (λ a. if within start (length bytes.now) a
-        then (if is_kept managers.now a then Some (slice_index bytes.now (a - start)) else None) else None) }
+    requires aside { start < ram_end → start + length bytes.now ≤ ram_end }
+    ensures { (ms : List Manager) → (ram_start ≤ start → owner ≡ governor_of ms start)
+        → ((a : ℕ) → start ≤ a → a < start + length bytes.now → is_kept ms a ≡ is_kept ms start)
+        → memory.new ≡ retold memory.old (λ a. if within start (length bytes.now) a
+        then (if is_kept ms a then Some (slice_index bytes.now (a - start)) else None) else None) }
 {
-    if is_kept(managers, start) {
+    if is_kept(owner, start) {
         store_slice(memory, start, bytes);
     }
 }

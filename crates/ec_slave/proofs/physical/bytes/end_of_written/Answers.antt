@@ -1,6 +1,7 @@
-use Rattle.std.proofs.Common.{ℕ, ◌≡◌, ◌<◌, ◌≤◌, ◌⊎◌, ◌∙◌, nat_lt, sym, inl, inr, arith}
+use Rattle.std.proofs.Common.{ℕ, ◌≡◌, ◌<◌, ◌≤◌, ◌⊎◌, ◌∙◌, nat_lt, ap, sym, inl, inr, arith}
 use Rattle.std.proofs.lemmas.Bool.{lt-ltb, le-ltb}
 use Rattle.ec_regs.specs.Memory.{ram_end}
+use Rattle.ec_slave.specs.Physical.{is_kept, may_write_byte}
 use Rattle.ec_slave.proofs.Windows.{write-alike, kept-alike}
 use Rattle.ec_slave.proofs.physical.bytes.end_of_written.Goals as goal
 
@@ -17,16 +18,35 @@ side a start stop result lo hi low border = same_side a start (elim border [
   | inr x ↦ inr (omega arith, omega arith)
 ])
 
+-- one register is all of its part
+pub returns-then-start-lt-RAM_START-clause-writes : goal.returns-then-start-lt-RAM_START-clause-writes
+returns-then-start-lt-RAM_START-clause-writes c = λ busy touched a lo hi.
+    let e : a ≡ c.args.start = omega (arith, lo, hi) in
+    ap (may_write_byte c.args.managers.now busy touched) e
+
+pub returns-then-start-lt-RAM_START-clause-kept : goal.returns-then-start-lt-RAM_START-clause-kept
+returns-then-start-lt-RAM_START-clause-kept c = λ a lo hi.
+    let e : a ≡ c.args.start = omega (arith, lo, hi) in
+    ap (is_kept c.args.managers.now) e
+
+pub returns-clause-aside : goal.returns-clause-aside
+returns-clause-aside c = λ below.
+    let stop = c.end_of_alike.ensures.inside.1 in
+    elim c.cut-stop.ensures.aside [
+      | inl x ↦ omega (arith, x, stop)
+      | inr x ↦ absurd (omega (arith, x, below))
+    ]
+
 pub returns-clause-writes : goal.returns-clause-writes
 returns-clause-writes c = λ busy touched a lo hi.
-    let ram = c.requires.ram in
+    let ram = c.if-start-lt-RAM_START.false in
     write-alike c.args.managers.now busy touched a c.args.start (omega (arith, ram, lo)) ram
     (side a c.args.start c.cut-stop.result c.end_of_alike.result lo hi c.end_of_alike.ensures.inside.1 c.cut-stop.ensures.aside)
     (c.end_of_alike.ensures.governor a lo hi) (λ n l. c.end_of_alike.ensures.front n a l lo hi)
 
 pub returns-clause-kept : goal.returns-clause-kept
 returns-clause-kept c = λ a lo hi.
-    let ram = c.requires.ram in
+    let ram = c.if-start-lt-RAM_START.false in
     kept-alike c.args.managers.now a c.args.start (omega (arith, ram, lo)) ram
     (side a c.args.start c.cut-stop.result c.end_of_alike.result lo hi c.end_of_alike.ensures.inside.1 c.cut-stop.ensures.aside)
     (c.end_of_alike.ensures.governor a lo hi)

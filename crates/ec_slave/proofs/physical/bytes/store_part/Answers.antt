@@ -1,25 +1,13 @@
-use Rattle.std.proofs.Common.{ℕ, ◌+◌, ◌-◌, ◌<◌, ◌≡◌, ◌∙◌, sym, arith, inl, inr, length, slice_index, Option, Some, None, true, if◌then◌else◌}
+use Rattle.std.proofs.Common.{ℕ, ◌-◌, ◌≡◌, ◌∙◌, sym, inl, inr, length, slice_index, Option, Some, None, true, if◌then◌else◌}
 use Rattle.std.proofs.lemmas.Bool.{cases_Bool}
 use Rattle.ec_bits.specs.Bits.{within}
 use Rattle.ec_bits.proofs.AnyLaws.{if_true, if_false, within_parts}
 use Rattle.ec_slave.specs.Physical.{is_kept}
 use Rattle.ec_slave.proofs.Told.{retold-alike, retold-none}
-use Rattle.ec_slave.proofs.Windows.{kept-below}
 use Rattle.ec_slave.proofs.physical.bytes.store_part.Goals as goal
 
-pub store_slice-requires : goal.store_slice-requires
-store_slice-requires c =
-    let start = c.args.start in
-    let n : ℕ = length c.args.bytes.now in
-    let some = c.requires.some in
-    let last : start + n - 1 < start + n = omega (arith, some) in
-    let high = kept-below c.args.managers.now (start + n - 1)
-    (c.requires.alike (start + n - 1) (omega (arith, some)) last ∙ (sym c.is_kept.ensures.value ∙ c.if-is_kept.true)) in
-    omega (arith, c.requires.room, high, some)
-
 pub returns-then-is_kept : goal.returns-then-is_kept
-returns-then-is_kept c =
-    let ms = c.args.managers.now in
+returns-then-is_kept c = λ ms owner alike.
     let start = c.args.start in
     let bytes = c.args.bytes.now in
     let n : ℕ = length bytes in
@@ -28,7 +16,7 @@ returns-then-is_kept c =
     c.store_slice.ensures ∙ retold-alike c.args.memory.now all kept (λ a. elim (cases_Bool (within start n a)) [
       | inl t ↦
           let w = within_parts start n a t in
-          let it : is_kept ms a ≡ true = c.requires.alike a w.0 w.1 ∙ (sym c.is_kept.ensures.value ∙ c.if-is_kept.true) in
+          let it : is_kept ms a ≡ true = alike a w.0 w.1 ∙ (sym (c.is_kept.ensures.value ms owner) ∙ c.if-is_kept.true) in
           if_true (within start n a) (Some (slice_index bytes (a - start))) None t
           ∙ sym (if_true (within start n a) (if is_kept ms a then Some (slice_index bytes (a - start)) else None) None t
           ∙ if_true (is_kept ms a) (Some (slice_index bytes (a - start))) None it)
@@ -37,8 +25,7 @@ returns-then-is_kept c =
     ])
 
 pub returns-else-is_kept : goal.returns-else-is_kept
-returns-else-is_kept c =
-    let ms = c.args.managers.now in
+returns-else-is_kept c = λ ms owner alike.
     let start = c.args.start in
     let bytes = c.args.bytes.now in
     let n : ℕ = length bytes in
@@ -46,6 +33,6 @@ returns-else-is_kept c =
       | inl t ↦
           let w = within_parts start n a t in
           if_true (within start n a) (if is_kept ms a then Some (slice_index bytes (a - start)) else None) None t
-          ∙ if_false (is_kept ms a) (Some (slice_index bytes (a - start))) None (c.requires.alike a w.0 w.1 ∙ (sym c.is_kept.ensures.value ∙ c.if-is_kept.false))
+          ∙ if_false (is_kept ms a) (Some (slice_index bytes (a - start))) None (alike a w.0 w.1 ∙ (sym (c.is_kept.ensures.value ms owner) ∙ c.if-is_kept.false))
       | inr f ↦ if_false (within start n a) (if is_kept ms a then Some (slice_index bytes (a - start)) else None) None f
     ])

@@ -34,13 +34,14 @@ loop-done-preserved c =
     record {
       inside = fits;
       memory = told-next_at n m w.from c.args.memory.now (kept_byte ms w) g c.loop-done.memory _ inv.memory same
-          (c.store_part.ensures ∙ ap (λ (k : ℕ). retold c.loop-done.memory (λ a. if within (w.from + n) k a then g a else None)) long);
+          (c.store_part.ensures ms c.owner_of-owner.ensures.value (λ a l h. c.end_of_written.ensures.kept a l (omega (arith, h, long, lo)))
+          ∙ ap (λ (k : ℕ). retold c.loop-done.memory (λ a. if within (w.from + n) k a then g a else None)) long);
       some = any-joined m n p c.loop-done.is_some c.writes_byte-is_some.result inv.some c.writes_byte-is_some.ensures some
           (λ i a b. c.end_of_written.ensures.writes c.args.is_busy (within w.from (length w.bytes)) (w.from + i) (omega (arith, a)) (omega (arith, b, lo)));
     }
 
-pub store_part-requires-clause-alike : goal.store_part-requires-clause-alike
-store_part-requires-clause-alike c = λ a l h.
+pub store_part-requires-clause-aside : goal.store_part-requires-clause-aside
+store_part-requires-clause-aside c = λ below.
     let xs = c.args.bytes.now in
     let n : ℕ = c.loop-done.done in
     let first : ℕ = c.args.from + n in
@@ -48,7 +49,8 @@ store_part-requires-clause-alike c = λ a l h.
     let lo = c.end_of_written.ensures.inside.0 in
     let hi = c.end_of_written.ensures.inside.1 in
     let long : length (take (n + m - n) (drop n xs)) ≡ m = length-part xs n m (omega (arith, lo, hi)) in
-    c.end_of_written.ensures.kept a l (omega (arith, h, long, lo))
+    let high = c.end_of_written.ensures.aside below in
+    omega (arith, high, long, lo)
 
 pub returns-clause-memory : goal.returns-clause-memory
 returns-clause-memory c =

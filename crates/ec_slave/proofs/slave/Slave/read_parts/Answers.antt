@@ -11,7 +11,7 @@ use Rattle.ec_slave.proofs.Choices.{any-none, any-part}
 use Rattle.ec_slave.proofs.Told.{told_along, told-none, told-next, told-left, retold-whole, get-told_outside, length-told_along}
 use Rattle.ec_slave.proofs.Windows.{read-denied, read-inside, read-own}
 use Rattle.ec_slave.proofs.slave.Slave.read_parts.Goals as goal
-use Rattle.ec_slave.proofs.slave.Slave.read_parts.Goals.{then-reads, else-reads}
+use Rattle.ec_slave.proofs.slave.Slave.read_parts.Goals.{then-reads_byte, else-reads_byte}
 
 pub loop-done-init : goal.loop-done-init
 loop-done-init c = record { inside = omega arith; bytes = told-none _ _ _; some = any-none _ }
@@ -28,24 +28,25 @@ loop-done-preserved c =
     let lo = c.end_of_part.ensures.inside.0 in
     let hi = c.end_of_part.ensures.inside.1 in
     let inv = c.loop-done.invariant in
-    let is : c.reads.result ≡ p n = c.reads.ensures.value in
-    let same : c.deref.result.now ≡ s.managers = c.deref.ensures.value ∙ ap (λ (x : SlaveState). x.managers) c.self.view_is in
+    let same : c.deref-in-loop-done.result.now ≡ s.managers = c.deref-in-loop-done.ensures.value ∙ ap (λ (x : SlaveState). x.managers) c.self.view_is in
+    let same_2 : c.deref-in-loop-done-2.result.now ≡ s.managers = c.deref-in-loop-done-2.ensures.value ∙ ap (λ (x : SlaveState). x.managers) c.self.view_is in
+    let is : c.reads_byte.result ≡ p n = c.reads_byte.ensures.value ∙ ap (λ (ms : List Manager). may_read_byte ms (touches w) (w.from + n)) same_2 in
     let alike : (i : ℕ) → n ≤ i → i < n + m → p i ≡ p n
     = λ i a b. subst (λ (ms : List Manager). may_read_byte ms (touches w) (w.from + i) ≡ may_read_byte ms (touches w) (w.from + n)) same
     (c.end_of_part.ensures.reads (touches w) (w.from + i) (omega arith) (omega (arith, b, lo))) in
     let fits : n + m ≤ length w.bytes = omega (arith, lo, hi) in
-    elim c.if-reads.branch [
-      | then-reads v ↦ record {
+    elim c.if-reads_byte.branch [
+      | then-reads_byte v ↦ record {
         inside = fits;
         bytes = told-next n m w.bytes f (byte_read s c.args.joining (record { from = w.from; bytes = c.loop-done.bytes })) c.loop-done.bytes _ inv.bytes
             (λ i a b. read-own s c.args.joining w.from c.loop-done.bytes w.bytes i (ap length inv.bytes ∙ length-told_along n 0 w.bytes f)
             (ap (λ xs. slice_index xs i) inv.bytes ∙ get-told_outside n 0 w.bytes f i (inr (omega (arith, a))))) (v.bytes-is ∙ v.read_part.ensures);
-        some = v.is_some-is ∙ sym (any_below_from (n + m) p n (omega (arith, lo)) (sym is ∙ v.if-reads.true));
+        some = v.is_some-is ∙ sym (any_below_from (n + m) p n (omega (arith, lo)) (sym is ∙ v.if-reads_byte.true));
       }
-      | else-reads v ↦ record {
+      | else-reads_byte v ↦ record {
         inside = fits;
-        bytes = v.bytes-is ∙ (inv.bytes ∙ told-left m n w.bytes f (λ i a b. read-denied s c.args.joining w i (alike i a b ∙ (sym is ∙ v.if-reads.false))));
-        some = v.is_some-is ∙ any-part m n p _ inv.some (λ i a b. alike i a b ∙ (sym is ∙ v.if-reads.false));
+        bytes = v.bytes-is ∙ (inv.bytes ∙ told-left m n w.bytes f (λ i a b. read-denied s c.args.joining w i (alike i a b ∙ (sym is ∙ v.if-reads_byte.false))));
+        some = v.is_some-is ∙ any-part m n p _ inv.some (λ i a b. alike i a b ∙ (sym is ∙ v.if-reads_byte.false));
       }
     ]
 
@@ -55,10 +56,12 @@ read_part-requires-clause-memory c = λ i a b.
     let s : SlaveState = c.args.self.now in
     let n : ℕ = c.loop-done.done in
     let lo = c.end_of_part.ensures.inside.0 in
-    let same : c.deref.result.now ≡ s.managers = c.deref.ensures.value ∙ ap (λ (x : SlaveState). x.managers) c.self.view_is in
+    let same : c.deref-in-loop-done.result.now ≡ s.managers = c.deref-in-loop-done.ensures.value ∙ ap (λ (x : SlaveState). x.managers) c.self.view_is in
+    let same_2 : c.deref-in-loop-done-2.result.now ≡ s.managers = c.deref-in-loop-done-2.ensures.value ∙ ap (λ (x : SlaveState). x.managers) c.self.view_is in
     let alike = c.end_of_part.ensures.reads (touches w) (w.from + i) (omega (arith, a)) (omega (arith, b, lo)) in
     read-inside s.managers (touches w) (w.from + i)
-    (subst (λ (ms : List Manager). may_read_byte ms (touches w) (w.from + i) ≡ may_read_byte ms (touches w) (w.from + n)) same alike ∙ (sym c.reads.ensures.value ∙ c.if-reads.true))
+    (subst (λ (ms : List Manager). may_read_byte ms (touches w) (w.from + i) ≡ may_read_byte ms (touches w) (w.from + n)) same alike
+    ∙ (ap (λ (ms : List Manager). may_read_byte ms (touches w) (w.from + n)) (sym same_2) ∙ (sym c.reads_byte.ensures.value ∙ c.if-reads_byte.true)))
 
 pub read_part-requires-clause-owner : goal.read_part-requires-clause-owner
 read_part-requires-clause-owner c = λ a ram lo hi.
@@ -66,13 +69,13 @@ read_part-requires-clause-owner c = λ a ram lo hi.
     let first : ℕ = c.args.from + c.loop-done.done in
     let begin = c.end_of_part.ensures.inside.0 in
     let same : c.deref.result.now ≡ s.managers = c.deref.ensures.value ∙ ap (λ (x : SlaveState). x.managers) c.self.view_is in
-    let same_2 : c.deref-then-reads.result.now ≡ s.managers = c.deref-then-reads.ensures.value ∙ ap (λ (x : SlaveState). x.managers) c.self.view_is in
+    let same_2 : c.deref-in-loop-done.result.now ≡ s.managers = c.deref-in-loop-done.ensures.value ∙ ap (λ (x : SlaveState). x.managers) c.self.view_is in
     let high : ram_start ≤ first = elim (cases_lt first ram_start) [
       | inl x ↦ absurd (let y = c.end_of_part.ensures.registers x in omega (arith, y, ram, hi, begin))
       | inr x ↦ x
     ] in
-    c.owner.ensures.value high ∙ (ap (λ (ms : List Manager). governor ms first) same_2
-    ∙ sym (subst (λ (ms : List Manager). governor ms a ≡ governor ms first) same (c.end_of_part.ensures.owner a ram lo (omega (arith, hi, begin)))))
+    c.owner_of-owner.ensures.value high ∙ (ap (λ (ms : List Manager). governor ms first) same
+    ∙ sym (subst (λ (ms : List Manager). governor ms a ≡ governor ms first) same_2 (c.end_of_part.ensures.owner a ram lo (omega (arith, hi, begin)))))
 
 pub returns-clause-bytes : goal.returns-clause-bytes
 returns-clause-bytes c =

@@ -1,4 +1,4 @@
-use Rattle.std.proofs.Common.{◌≡◌, ◌++◌, length, take, drop, arith, List, ℕ, ap, ◌∙◌, sym, if◌then◌else◌, nat_lt}
+use Rattle.std.proofs.Common.{◌≡◌, ◌+◌, ◌&&◌, ◌++◌, length, take, drop, arith, List, ℕ, ap, ◌∙◌, sym, if◌then◌else◌, nat_lt}
 use Rattle.std.proofs.lemmas.Grind.{common_steps}
 use Rattle.ec_regs.specs.declared.fmmu.FmmuSettings.{FmmuSettings}
 use Rattle.ec_sync.specs.Manager.{Manager}
@@ -29,7 +29,7 @@ invariant_of-self c =
       room = ap length front ∙ (long ∙ room);
       four = grind (arith, common_steps);
       decoded = c.renew_fmmus.ensures
-          ∙ (ap (λ (xs : List ℕ). if nat_lt w.from 1600 then fmmus_of xs else fs) now
+          ∙ (ap (λ (xs : List ℕ). if nat_lt w.from 1600 && nat_lt 1536 (w.from + length w.bytes) then fmmus_of xs else fs) now
           ∙ (decoded-kept ms w old fs room (c.self.invariant.decoded ∙ ap fmmus_of (sym own))
           ∙ ap fmmus_of (sym (front ∙ written))));
       image = ap (λ (p : Sii). p.image) c.write.ensures ∙ (written-image c.self.inside.port c.args.from c.args.bytes.now ∙ c.self.invariant.image);
