@@ -11,6 +11,7 @@ mod passing;
 mod physical;
 mod reach;
 mod role;
+mod runs;
 mod slave;
 mod sound;
 

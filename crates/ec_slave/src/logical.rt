@@ -19,12 +19,10 @@ ghost use Rattle.ec_slave.specs.Mapped.{MayWriteFirst, data_after, count_after, 
 
 mod managers;
 mod reading;
-mod runs;
 mod writing;
 
 use crate::logical::managers::access_managers;
 use crate::logical::reading::read_logical;
-pub(crate) use crate::logical::runs::{are_ungoverned, cut, end_of_alike};
 use crate::logical::writing::write_logical;
 use crate::passing::MAX_DATA;
 use crate::role::Role;

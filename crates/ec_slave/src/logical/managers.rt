@@ -8,9 +8,9 @@ ghost use Rattle.ec_slave.specs.Managers.{is_ungoverned, is_written_by, manager_
 ghost use Rattle.ec_slave.specs.Logical.{logical_managers, plain_bit, logical_value};
 ghost use Rattle.ec_slave.specs.Written.{some_manager_written};
 
-use crate::logical::runs::are_ungoverned;
 use crate::logical::writing::Ungoverned;
 use crate::reach::{read_manager, write_manager};
+use crate::runs::are_ungoverned;
 use ec_bits::copy_by_words;
 use ec_fmmu::{
     FmmuTable, apply_write, is_touched_by_reading, is_touched_by_writing, wholly_brought_from,

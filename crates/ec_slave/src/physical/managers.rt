@@ -7,9 +7,9 @@ ghost use Rattle.ec_sync.specs.Governing.{manager_byte};
 ghost use Rattle.ec_slave.specs.Managers.{is_ungoverned, manager_after};
 ghost use Rattle.ec_slave.specs.Physical.{Window, is_configured as is_configured_at, physical_manager, physical_managers, setting_for, settings_written, touches, physical_value};
 
-use crate::logical::are_ungoverned;
 use crate::physical::bytes::byte_for;
 use crate::reach::{governor, read_manager, write_manager};
+use crate::runs::are_ungoverned;
 use ec_bits::within;
 use ec_regs::registers::manager_address;
 use ec_regs::{ManagerSettings, decode_manager, is_stored};

@@ -1,7 +1,7 @@
 use Rattle.std.proofs.Common.{ℕ, ◌≡◌, ◌<◌, ◌≤◌, ◌+◌, ◌-◌, ◌*◌, ◌/◌, ◌∙◌, true, Option, Some, is_some, length, sym, ap, arith}
 use Rattle.ec_bits.specs.Bits.{bit}
 use Rattle.ec_slave.specs.Sights.{seen_bit, seen_under}
-use Rattle.ec_slave.proofs.Runs.{run_copied, run_counts}
+use Rattle.ec_slave.proofs.AlikeBytes.{run_copied, run_counts}
 use Rattle.ec_slave.proofs.logical.reading.show_plain.Goals as goal
 
 pub returns-clause-bits : goal.returns-clause-bits

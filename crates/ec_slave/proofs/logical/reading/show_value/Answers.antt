@@ -7,7 +7,7 @@ use Rattle.ec_sync.specs.Governing.{governor, in_first_buffer}
 use Rattle.ec_slave.specs.State.{manager_at}
 use Rattle.ec_slave.specs.Sights.{seen_bit}
 use Rattle.ec_slave.proofs.Sights.{governor-start, governor-below}
-use Rattle.ec_slave.proofs.Runs.{run_copied, run_counts, run_nothing, unreadable, readable_value, behind_value}
+use Rattle.ec_slave.proofs.AlikeBytes.{run_copied, run_counts, run_nothing, unreadable, readable_value, behind_value}
 use Rattle.ec_slave.proofs.logical.reading.show_value.Goals as goal
 
 pub bounds-sight-place : goal.bounds-sight-place

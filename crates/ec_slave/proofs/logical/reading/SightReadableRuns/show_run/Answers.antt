@@ -6,7 +6,7 @@ use Rattle.ec_bits.proofs.BitLaws.{overlay_alike}
 use Rattle.ec_bits.proofs.Overlays.{Telling, telling_none, telling_overlay, telling_fewer, telling_end, counted_none, counted_part, counted_fewer, counted_end}
 use Rattle.ec_fmmu.specs.Apart.{run_shown}
 use Rattle.ec_slave.specs.Sights.{seen_bit}
-use Rattle.ec_slave.proofs.Runs.{run_part}
+use Rattle.ec_slave.proofs.AlikeBytes.{run_part}
 use Rattle.ec_slave.proofs.logical.reading.SightReadableRuns.show_run.Goals as goal
 
 pub loop-done-init : goal.loop-done-init

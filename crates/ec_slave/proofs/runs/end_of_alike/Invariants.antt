@@ -1,7 +1,7 @@
 use Rattle.std.proofs.Common.{ℕ, ◌<◌, ◌≤◌, ◌≡◌, true}
 use Rattle.ec_sync.specs.Governing.{governs, in_first_buffer}
 use Rattle.ec_slave.specs.State.{manager_at}
-use Rattle.ec_slave.proofs.logical.runs.end_of_alike.Given as goal
+use Rattle.ec_slave.proofs.runs.end_of_alike.Given as goal
 
 abbrev pub invariant-loop-manager : goal.invariant-loop-manager
 invariant-loop-manager l = record {

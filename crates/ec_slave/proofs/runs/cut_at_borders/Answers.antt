@@ -2,8 +2,8 @@ use Rattle.std.proofs.Common.{ℕ, ◌≡◌, ◌≤◌, ◌+◌, ◌⊎◌, ap,
 use Rattle.ec_sync.specs.Bounds.{span_end_of}
 use Rattle.ec_sync.specs.declared.bounds.Bounds.{Bounds}
 use Rattle.ec_sync.specs.Manager.{Manager}
-use Rattle.ec_slave.proofs.Runs.{governs_cut, front_cut}
-use Rattle.ec_slave.proofs.logical.runs.cut_at_borders.Goals as goal
+use Rattle.ec_slave.proofs.AlikeBytes.{governs_cut, front_cut}
+use Rattle.ec_slave.proofs.runs.cut_at_borders.Goals as goal
 
 -- a border that a longer run lies on one side of
 shorter : (start stop longer border : ℕ) → stop ≤ longer → (longer ≤ border) ⊎ (border ≤ start) → (stop ≤ border) ⊎ (border ≤ start)

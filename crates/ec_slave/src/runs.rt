@@ -71,7 +71,7 @@ pub(crate) fn are_ungoverned(managers: &[Manager], start: usize, len: usize) -> 
 }
 
 /// How many of the `count` bits from a physical bit on lie in bytes that are alike in that.
-pub(super) fn count_alike(managers: &[Manager], physical: u32, count: usize) -> usize
+pub(crate) fn count_alike(managers: &[Manager], physical: u32, count: usize) -> usize
     requires some { 0 < count }
     requires fits { physical + count < 2 ^ 32 }
     ensures inside { (0 < result) × (result ≤ count) }

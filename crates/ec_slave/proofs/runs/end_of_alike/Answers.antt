@@ -1,7 +1,7 @@
 use Rattle.std.proofs.Common.{arith}
-use Rattle.ec_slave.proofs.Runs.{governor_alike}
+use Rattle.ec_slave.proofs.AlikeBytes.{governor_alike}
 use Rattle.ec_slave.proofs.Sights.{governor-below, governor-has}
-use Rattle.ec_slave.proofs.logical.runs.end_of_alike.Goals as goal
+use Rattle.ec_slave.proofs.runs.end_of_alike.Goals as goal
 
 pub returns-clause-governor : goal.returns-clause-governor
 returns-clause-governor c = λ a lo hi.
