@@ -3,9 +3,9 @@ ghost use Rattle.ec_wire.specs.Wires.{silent};
 
 use crate::application::{App, answer};
 use crate::error::SocketFault;
-use crate::payload::MOST_BYTES;
 use crate::udp::UdpWire;
 use crate::wire::{Wire, receive_on, send_on};
+use ec_frame::field::MAX_FRAME_LEN;
 use ec_ring::Ring;
 use std::net::Net;
 
@@ -38,7 +38,7 @@ pub struct LoopWire<A: App> {
     ring: Ring,
     app: A,
     failures: u64,
-    buffer: [u8; MOST_BYTES],
+    buffer: [u8; MAX_FRAME_LEN],
 }
 
 impl<A: App> LoopWire<A> {
@@ -49,7 +49,7 @@ impl<A: App> LoopWire<A> {
             ring,
             app,
             failures: 0,
-            buffer: [0; MOST_BYTES],
+            buffer: [0; MAX_FRAME_LEN],
         }
     }
 

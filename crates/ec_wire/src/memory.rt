@@ -3,8 +3,9 @@ ghost use Rattle.std.specs.Prelude.{◌≡◌, ◌≤◌, ◌<◌, [], ◌∷◌
 ghost use Rattle.ec_wire.specs.Wires.{WireState, Carries, failed_again, most_failed};
 
 use crate::application::{Echo, answer};
-use crate::payload::{MOST_BYTES, Payload, frame_of};
+use crate::payload::{Payload, frame_of};
 use crate::wire::Wire;
+use ec_frame::field::MAX_FRAME_LEN;
 use ec_ring::Ring;
 use std::alloc::{AllocError, Global};
 use std::marker::Model;
@@ -142,7 +143,7 @@ impl Wire for MemoryWire {
     }
 
     fn send(&mut self, payload: &[u8]) {
-        if !self.begin_call() || payload.len() > MOST_BYTES || !self.carry(payload) {
+        if !self.begin_call() || payload.len() > MAX_FRAME_LEN || !self.carry(payload) {
             self.fail();
         }
     }
