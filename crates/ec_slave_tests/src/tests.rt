@@ -419,11 +419,10 @@ fn reset_is_power_on(rt: HostRuntime) -> Result<(), Fail> {
     )
 }
 
-// Where lower-numbered managers govern each byte that a datagram touches of a manager, the manager stays as it is: two
-// managers over the same sixteen bytes, or one in the spare buffers of the other. Byte 0x080D tells whether manager 1 is a
-// full mailbox.
+// Where lower-numbered managers govern each byte that a datagram touches of a manager, the manager stays as it is: here two
+// over the same sixteen bytes. Byte 0x080D tells whether manager 1 is a full mailbox.
 #[test]
-fn manager_under_others_stays(rt: HostRuntime) -> Result<(), Fail> {
+fn manager_under_another_stays(rt: HostRuntime) -> Result<(), Fail> {
     assert_frames(
         &rt,
         &[
@@ -463,31 +462,47 @@ fn manager_under_others_stays(rt: HostRuntime) -> Result<(), Fail> {
                  0200 0100 0011 1080 0000 0102030405060708 090a0b0c0d0e0f10 0000 \
                  0100 0100 0d08 0100 0000 00 0100",
             ),
-            (
-                "6d10 \
+        ],
+    )
+}
+
+// The same of a logical datagram.
+#[test]
+fn manager_under_another_stays_logically(rt: HostRuntime) -> Result<(), Fail> {
+    assert_frames(
+        &rt,
+        &[(
+            "6d10 \
                  0200 0000 0008 0880 0000 0011100020000100 0000 \
                  0200 0000 0808 0880 0000 0011100026000100 0000 \
                  0200 0000 0006 1080 0000 0000010010000007 0011000201000000 0000 \
                  0b00 00000100 1080 0000 0102030405060708 090a0b0c0d0e0f10 0000 \
                  0100 0000 0d08 0100 0000 00 0000",
-                "6d10 \
+            "6d10 \
                  0200 0100 0008 0880 0000 0011100020000100 0100 \
                  0200 0100 0808 0880 0000 0011100026000100 0100 \
                  0200 0100 0006 1080 0000 0000010010000007 0011000201000000 0100 \
                  0b00 00000100 1080 0000 0102030405060708 090a0b0c0d0e0f10 0000 \
                  0100 0100 0d08 0100 0000 00 0100",
-            ),
-            (
-                "4610 \
+        )],
+    )
+}
+
+// The same of a manager that lies in the spare buffers of another.
+#[test]
+fn manager_in_spare_buffers_stays(rt: HostRuntime) -> Result<(), Fail> {
+    assert_frames(
+        &rt,
+        &[(
+            "4610 \
                  0501 0000 0008 1080 0000 0010010024000100 0110020026000100 0000 \
                  0501 0000 0110 0280 0000 aabb 0000 \
                  0401 0000 0008 1000 0000 0000000000000000 0000000000000000 0000",
-                "4610 \
+            "4610 \
                  0501 0000 0008 1080 0000 0010010024000100 0110020026000100 0100 \
                  0501 0000 0110 0280 0000 aabb 0000 \
                  0401 0000 0008 1000 0000 0010010024000100 0110020026000100 0100",
-            ),
-        ],
+        )],
     )
 }
 
@@ -535,10 +550,9 @@ fn read_write_by_what_each_byte_allows(rt: HostRuntime) -> Result<(), Fail> {
     )
 }
 
-// Read pairs touch for reading, write pairs for writing: first and last byte of a manager of three bytes, each
-// mapped by an FMMU of its own.
+// Write pairs touch for writing: first and last byte of a manager of three bytes, each mapped by an FMMU of its own.
 #[test]
-fn manager_touched_through_fmmus(rt: HostRuntime) -> Result<(), Fail> {
+fn manager_written_through_two_fmmus(rt: HostRuntime) -> Result<(), Fail> {
     assert_frames(
         &rt,
         &[
@@ -561,6 +575,39 @@ fn manager_touched_through_fmmus(rt: HostRuntime) -> Result<(), Fail> {
                  0100 0100 1008 0880 0000 0011030024000100 0100 \
                  0b00 10000000 0200 0000 ccdd 0100",
             ),
+        ],
+    )
+}
+
+// Read pairs touch for reading.
+#[test]
+fn manager_read_through_two_fmmus(rt: HostRuntime) -> Result<(), Fail> {
+    assert_frames(
+        &rt,
+        &[
+            // read by both
+            (
+                "5a10 \
+                 0200 0000 1808 0880 0000 0014030020000100 0000 \
+                 0200 0000 0006 1080 0000 1000000001000007 0014000101000000 0000 \
+                 0200 0000 1006 1080 0000 1100000001000007 0214000101000000 0000 \
+                 0a00 10000000 0200 0000 aabb 0000",
+                "5a10 \
+                 0200 0100 1808 0880 0000 0014030020000100 0100 \
+                 0200 0100 0006 1080 0000 1000000001000007 0014000101000000 0100 \
+                 0200 0100 1006 1080 0000 1100000001000007 0214000101000000 0100 \
+                 0a00 10000000 0200 0000 0000 0100",
+            ),
+        ],
+    )
+}
+
+// One pair that reads and one that writes touch a manager for neither.
+#[test]
+fn manager_touched_both_ways(rt: HostRuntime) -> Result<(), Fail> {
+    assert_frames(
+        &rt,
+        &[
             // the last byte only read
             (
                 "5a10 \
@@ -586,19 +633,6 @@ fn manager_touched_through_fmmus(rt: HostRuntime) -> Result<(), Fail> {
                  0200 0100 0006 1080 0000 1000000001000007 0014000201000000 0100 \
                  0200 0100 1006 1080 0000 1100000001000007 0214000101000000 0100 \
                  0a00 10000000 0200 0000 aabb 0000",
-            ),
-            // read by both
-            (
-                "5a10 \
-                 0200 0000 1808 0880 0000 0014030020000100 0000 \
-                 0200 0000 0006 1080 0000 1000000001000007 0014000101000000 0000 \
-                 0200 0000 1006 1080 0000 1100000001000007 0214000101000000 0000 \
-                 0a00 10000000 0200 0000 aabb 0000",
-                "5a10 \
-                 0200 0100 1808 0880 0000 0014030020000100 0100 \
-                 0200 0100 0006 1080 0000 1000000001000007 0014000101000000 0100 \
-                 0200 0100 1006 1080 0000 1100000001000007 0214000101000000 0100 \
-                 0a00 10000000 0200 0000 0000 0100",
             ),
         ],
     )

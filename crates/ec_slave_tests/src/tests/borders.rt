@@ -1,8 +1,9 @@
-//! Logical runs that cross the borders of managers: from plain memory into a value, from a value into its second buffer,
-//! from a third buffer into the next manager, and from one value into another.
+//! Datagrams that cross borders: logical runs those of managers, from plain memory into a value, from a value into its
+//! second buffer, from a third buffer into the next manager, and from one value into another; physical ones these too, that
+//! between registers and RAM, and those of the FMMUs' registers.
 use super::expect_steps;
-use super::steps::Step::{self, Answers, Shows, Writes};
-use ec_frame::Command::{Lrd, Lrw, Lwr};
+use super::steps::Step::{self, Answers, Shows, Writes, WritesInVain};
+use ec_frame::Command::{Aprd, Aprw, Lrd, Lrw, Lwr};
 use std::test::Fail;
 
 /// Managers 0 and 1: two bytes each at 0x1102 and 0x1108 that the ring writes, each with its two spare buffers.
@@ -184,6 +185,107 @@ fn physical_writes_over_a_span(rt: HostRuntime) -> Result<(), Fail> {
             Shows(0x1108, Some(0xb2)),
             Writes(0x2FFF, "c1c2"),
             Shows(0x2FFF, Some(0xc1)),
+        ],
+    )
+}
+
+// Two registers that read 0 and take no write, and the first two bytes of the RAM: written, read, and both at once, which
+// counts 3 and reads what was there before.
+#[test]
+fn registers_and_ram(rt: HostRuntime) -> Result<(), Fail> {
+    expect_steps(
+        &rt,
+        &[
+            Writes(0x0FFE, "01020304"),
+            Shows(0x0FFE, Some(0)),
+            Shows(0x0FFF, Some(0)),
+            Shows(0x1000, Some(0x03)),
+            Shows(0x1001, Some(0x04)),
+            Shows(0x1002, Some(0)),
+            Answers(Aprd, 0x0FFE_0000, "ffffffffff", "0000030400", 1),
+            Answers(Aprw, 0x0FFF_0000, "a1a2a3", "000304", 3),
+            Shows(0x1000, Some(0xa2)),
+            Shows(0x1001, Some(0xa3)),
+            WritesInVain(0x0FFE, "b1b2"),
+            Answers(Aprd, 0x0FFE_0000, "ffff", "0000", 1),
+            Shows(0x1000, Some(0xa2)),
+        ],
+    )
+}
+
+// The same where two bytes at 0x1000 lie behind a manager that the ring writes, with spare buffers up to 0x1005: it takes
+// its value from a datagram that has all of it, and the ring doesn't read it.
+#[test]
+fn registers_and_a_written_manager(rt: HostRuntime) -> Result<(), Fail> {
+    expect_steps(
+        &rt,
+        &[
+            Writes(0x0800, "0010020024000100"),
+            Writes(0x0FFF, "a1a2a3a4a5a6a7a8a9"),
+            Shows(0x0FFF, Some(0)),
+            Shows(0x1000, Some(0xa2)),
+            Shows(0x1001, Some(0xa3)),
+            Shows(0x1002, Some(0)),
+            Shows(0x1005, Some(0)),
+            Shows(0x1006, Some(0xa8)),
+            Shows(0x1007, Some(0xa9)),
+            WritesInVain(0x0FFF, "b1b2"),
+            Shows(0x1000, Some(0xa2)),
+            Answers(Aprd, 0x0FFF_0000, "eeeeeeeeeeeeeeee", "00eeeeeeeeeeeea8", 1),
+        ],
+    )
+}
+
+// And behind one that the ring reads: its value, which is 0, comes with a datagram that has all of it; the data under the
+// spare buffers stay.
+#[test]
+fn registers_and_a_read_manager(rt: HostRuntime) -> Result<(), Fail> {
+    expect_steps(
+        &rt,
+        &[
+            Writes(0x1006, "b1b2"),
+            Writes(0x0800, "0010020020000100"),
+            Answers(
+                Aprd,
+                0x0FFE_0000,
+                "ffffffffffffffffffff",
+                "00000000ffffffffb1b2",
+                1,
+            ),
+            Answers(Aprd, 0x0FFF_0000, "ffff", "00ff", 1),
+            WritesInVain(0x0FFE, "c1c2c3c4c5"),
+            Writes(0x0FFE, "d1d2d3d4d5d6d7d8d9"),
+            Shows(0x1000, Some(0)),
+            Shows(0x1006, Some(0xd9)),
+            Shows(0x1007, Some(0xb2)),
+        ],
+    )
+}
+
+// A write that begins before the FMMUs' registers and reaches them counts from the next datagram on, one that ends right
+// before them or begins right behind them changes nothing.
+#[test]
+fn fmmu_behind_another_register(rt: HostRuntime) -> Result<(), Fail> {
+    expect_steps(
+        &rt,
+        &[
+            Writes(0x05F8, "ffffffffffffffff 0000010010000007 0011000201000000"),
+            Answers(Lwr, 0x0001_0000, "0102", "0102", 1),
+            Shows(0x1100, Some(0x01)),
+            Shows(0x1101, Some(0x02)),
+            WritesInVain(0x05F0, "ffffffffffffffff ffffffffffffffff"),
+            WritesInVain(0x0640, "ffff"),
+            Answers(Lwr, 0x0001_0000, "0304", "0304", 1),
+            Shows(0x1100, Some(0x03)),
+            // the first byte of the first FMMU alone: its area begins at 0x00010008
+            Writes(0x05FF, "ff08"),
+            Answers(Lwr, 0x0001_0000, "0506", "0506", 0),
+            Answers(Lwr, 0x0001_0008, "0708", "0708", 1),
+            Shows(0x1100, Some(0x07)),
+            // the last byte of the last FMMU, which is reserved, and the one behind it
+            Writes(0x063F, "0000"),
+            Answers(Lwr, 0x0001_0008, "090a", "090a", 1),
+            Shows(0x1101, Some(0x0a)),
         ],
     )
 }
