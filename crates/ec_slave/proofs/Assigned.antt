@@ -17,7 +17,7 @@ use Rattle.ec_coe.specs.Objects.{indices, all_assigned, assigned}
 use Rattle.ec_coe.specs.Transfers.{contains, distinct}
 use Rattle.ec_coe.specs.Laws.{IsAssignment}
 use Rattle.ec_slave.specs.State.{SlaveState, manager_at, power_on}
-use Rattle.ec_slave.specs.Physical.{meeting, physical_after}
+use Rattle.ec_slave.specs.Physical.{physical_met, physical_after}
 use Rattle.ec_slave.specs.Logical.{meets_logically}
 use Rattle.ec_slave.specs.Meeting.{meets, meets_by, meets_physically, slave_met}
 use Rattle.ec_slave.specs.Application.{is_running, with_manager, output_got, output_taken}
@@ -114,7 +114,7 @@ served-stays s h =
     }
 
 physically-stays : (s : SlaveState) (d : Datagram) → IsAssigned s → IsAssigned (meets_physically s d).slave
-unfolding meeting physical_after
+unfolding physical_met physical_after
 physically-stays s d h = record { outputs = h.outputs; inputs = h.inputs }
 
 logically-stays : (reading writing : Bool) (weight : ℕ) (s : SlaveState) (d : Datagram) → IsAssigned s → IsAssigned (meets_logically reading writing weight s d).slave

@@ -10,7 +10,7 @@ use Rattle.ec_frame.specs.Datagram.{ado_of}
 use Rattle.ec_sync.specs.Manager.{Manager, may_read}
 use Rattle.ec_slave.specs.State.{SlaveState}
 use Rattle.ec_slave.specs.Managers.{is_read_by, is_ungoverned, manager_after}
-use Rattle.ec_slave.specs.Physical.{Window, touches, byte_at, byte_read, may_read_byte, some_byte_read, retold, physical_value, physical_manager, physical_managers, physical_after, meeting}
+use Rattle.ec_slave.specs.Physical.{Window, touches, byte_at, byte_read, may_read_byte, some_byte_read, retold, physical_value, physical_manager, physical_managers, physical_after, physical_met}
 use Rattle.ec_slave.specs.Meeting.{meets, window_of}
 use Rattle.ec_slave.specs.LogicalLaws.{BroadcastLaw}
 use Rattle.ec_slave.proofs.AgainstAll.{retold_alike}
@@ -53,7 +53,7 @@ unfolding may_read_byte
 registers-read s w k l i = or_left _ _ (lt-ltb (w.from + k) ram_start (omega arith))
 
 pub broadcast_read : BroadcastLaw
-unfolding meets meeting
+unfolding meets physical_met
 broadcast_read s d c n l =
     let w = window_of d in
     let some : some_byte_read s.managers w ≡ true = any_below_from (length d.data_bytes) (λ k. may_read_byte s.managers (touches w) (ado_of d + k)) 0 n (registers-read s w 0 l n) in

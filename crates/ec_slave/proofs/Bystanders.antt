@@ -9,25 +9,25 @@ use Rattle.ec_slave.specs.declared.role.Role.{Role}
 use Rattle.ec_slave.specs.declared.role.Role.TheVariants.{Nothing}
 use Rattle.ec_slave.specs.Roles.{role_of, adp_after}
 use Rattle.ec_slave.specs.State.{SlaveState, station_of, with_answer}
-use Rattle.ec_slave.specs.Physical.{Window, meeting, physical_after}
+use Rattle.ec_slave.specs.Physical.{Window, physical_met, physical_after}
 use Rattle.ec_slave.specs.Meeting.{window_of, meets, meets_by, meets_physically, passes, slave_met}
-use Rattle.ec_slave.specs.Keeping.{adp_after-bound, length-meeting}
+use Rattle.ec_slave.specs.Keeping.{adp_after-bound, length-physical_met}
 use Rattle.ec_slave.specs.Laws.{OtherStationPasses, OtherPositionPasses, HeadingStays, KeepsHeading}
 use Rattle.ec_bits.proofs.BitLaws.{length-overlay}
 use Rattle.ec_bits.proofs.AnyLaws.{if_false}
 use Rattle.ec_slave.specs.Logical.{meets_logically}
 use Rattle.ec_slave.proofs.Idle.{slave_idle}
 
-kept-nothing : (s : SlaveState) (w : Window) → (meeting s Nothing w).slave ≡ s
-unfolding meeting
+kept-nothing : (s : SlaveState) (w : Window) → (physical_met s Nothing w).slave ≡ s
+unfolding physical_met
 kept-nothing s w = slave_idle s w
 
-bytes-nothing : (s : SlaveState) (w : Window) → (meeting s Nothing w).bytes ≡ w.bytes
-unfolding meeting
+bytes-nothing : (s : SlaveState) (w : Window) → (physical_met s Nothing w).bytes ≡ w.bytes
+unfolding physical_met
 bytes-nothing s w = refl
 
-added-nothing : (s : SlaveState) (w : Window) → (meeting s Nothing w).added ≡ 0
-unfolding meeting
+added-nothing : (s : SlaveState) (w : Window) → (physical_met s Nothing w).added ≡ 0
+unfolding physical_met
 added-nothing s w = refl
 
 -- a slave that has nothing to do with a datagram
@@ -38,9 +38,9 @@ passed_by s d good e =
     let w : Window = window_of d in
     let fits : d.counter < 65536 = good.counter in
     let c : (d.counter + 0) % 65536 ≡ d.counter = omega arith in
-    ap (λ (r : Role). record { slave = (meeting s r w).slave; datagram = with_answer d a (meeting s r w).bytes (meeting s r w).added }) e
-    ∙ (ap (λ (t : SlaveState). record { slave = t; datagram = with_answer d a (meeting s Nothing w).bytes (meeting s Nothing w).added }) (kept-nothing s w)
-    ∙ (ap (λ (t : List ℕ). record { slave = s; datagram = with_answer d a t (meeting s Nothing w).added }) (bytes-nothing s w)
+    ap (λ (r : Role). record { slave = (physical_met s r w).slave; datagram = with_answer d a (physical_met s r w).bytes (physical_met s r w).added }) e
+    ∙ (ap (λ (t : SlaveState). record { slave = t; datagram = with_answer d a (physical_met s Nothing w).bytes (physical_met s Nothing w).added }) (kept-nothing s w)
+    ∙ (ap (λ (t : List ℕ). record { slave = s; datagram = with_answer d a t (physical_met s Nothing w).added }) (bytes-nothing s w)
     ∙ (ap (λ (t : ℕ). record { slave = s; datagram = with_answer d a d.data_bytes t }) (added-nothing s w)
     ∙ ap (λ (t : ℕ). record { slave = s; datagram = record d { address = a; counter = t } }) c)))
 
@@ -84,7 +84,7 @@ physical_heading s d good =
     let a : ℕ = adp_after d.command (adp_of d) in
     let bound : a < 65536 = adp_after-bound d.command (adp_of d) (omega arith) in
     let e : (a + 65536 * (d.address / 65536)) / 65536 ≡ d.address / 65536 = omega arith in
-    record { command = refl; index = refl; ado = e; reserved = refl; circulating = refl; irq = refl; data_length = length-meeting s role (window_of d) }
+    record { command = refl; index = refl; ado = e; reserved = refl; circulating = refl; irq = refl; data_length = length-physical_met s role (window_of d) }
 
 same_heading : (d : Datagram) → KeepsHeading d d
 same_heading d = record { command = refl; index = refl; ado = refl; reserved = refl; circulating = refl; irq = refl; data_length = refl }
@@ -121,9 +121,9 @@ heading_stays s d good = heading_by d.command s d good
 
 -- ---- what no datagram changes in a slave
 
-meeting-kept : (s : SlaveState) (role : Role) (w : Window) → ((meeting s role w).slave.kind ≡ s.kind) × ((meeting s role w).slave.identity ≡ s.identity)
-unfolding meeting physical_after
-meeting-kept s role w = (refl, refl)
+physical_met-kept : (s : SlaveState) (role : Role) (w : Window) → ((physical_met s role w).slave.kind ≡ s.kind) × ((physical_met s role w).slave.identity ≡ s.identity)
+unfolding physical_met physical_after
+physical_met-kept s role w = (refl, refl)
 
 logical-kept : (reading writing : Bool) (weight : ℕ) (s : SlaveState) (d : Datagram)
     → ((meets_logically reading writing weight s d).slave.kind ≡ s.kind) × ((meets_logically reading writing weight s d).slave.identity ≡ s.identity)
@@ -138,20 +138,20 @@ lrw-kept false s d = (refl, refl)
 
 kept_by : (c : Command) (s : SlaveState) (d : Datagram) → ((meets_by c s d).slave.kind ≡ s.kind) × ((meets_by c s d).slave.identity ≡ s.identity)
 kept_by Nop s d = (refl, refl)
-kept_by Aprd s d = meeting-kept s _ _
-kept_by Apwr s d = meeting-kept s _ _
-kept_by Aprw s d = meeting-kept s _ _
-kept_by Fprd s d = meeting-kept s _ _
-kept_by Fpwr s d = meeting-kept s _ _
-kept_by Fprw s d = meeting-kept s _ _
-kept_by Brd s d = meeting-kept s _ _
-kept_by Bwr s d = meeting-kept s _ _
-kept_by Brw s d = meeting-kept s _ _
+kept_by Aprd s d = physical_met-kept s _ _
+kept_by Apwr s d = physical_met-kept s _ _
+kept_by Aprw s d = physical_met-kept s _ _
+kept_by Fprd s d = physical_met-kept s _ _
+kept_by Fpwr s d = physical_met-kept s _ _
+kept_by Fprw s d = physical_met-kept s _ _
+kept_by Brd s d = physical_met-kept s _ _
+kept_by Bwr s d = physical_met-kept s _ _
+kept_by Brw s d = physical_met-kept s _ _
 kept_by Lrd s d = logical-kept true false 1 s d
 kept_by Lwr s d = logical-kept false true 1 s d
 kept_by Lrw s d = lrw-kept s.kind.lrw s d
-kept_by Armw s d = meeting-kept s _ _
-kept_by Frmw s d = meeting-kept s _ _
+kept_by Armw s d = physical_met-kept s _ _
+kept_by Frmw s d = physical_met-kept s _ _
 
 met-kept : (s : SlaveState) (d : Datagram) → ((slave_met s d).kind ≡ s.kind) × ((slave_met s d).identity ≡ s.identity)
 unfolding meets

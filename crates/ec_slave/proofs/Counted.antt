@@ -24,7 +24,7 @@ use Rattle.ec_slave.specs.Roles.{role_of, is_reading, is_writing, is_joining}
 use Rattle.ec_slave.specs.State.{SlaveState, Met, manager_at, station_of, fmmus}
 use Rattle.ec_slave.specs.Sound.{IsSlave}
 use Rattle.ec_slave.specs.Managers.{gets_at, is_read_by, is_written_by, reads_under, writes_under}
-use Rattle.ec_slave.specs.Physical.{Window, touches, byte_from, byte_read, retold, retold_from, is_kept, may_read_byte, may_write_byte, memory_written, is_configured, setting_for, physical_managers, physical_after, some_byte_read, some_byte_written, meeting}
+use Rattle.ec_slave.specs.Physical.{Window, touches, byte_from, byte_read, retold, retold_from, is_kept, may_read_byte, may_write_byte, memory_written, is_configured, setting_for, physical_managers, physical_after, some_byte_read, some_byte_written, physical_met}
 use Rattle.ec_slave.specs.AgainstAll.{each_from, governs_among, is_governor}
 use Rattle.ec_slave.specs.Logical.{place_of, readable_bit, read_bit, written_bit, plain_bit, logical_managers, only_if, some_read, some_written, meets_logically}
 use Rattle.ec_slave.specs.Written.{some_plain_written}
@@ -271,7 +271,7 @@ one-or-two false = (omega arith, omega arith)
 
 physical-counts : (s : SlaveState) (d : Datagram) → IsSlave s → d.counter < 65536 → (meets_physically s d).datagram.counter ≡ d.counter
     → ((meets_physically s d).slave ≡ s) × ((meets_physically s d).datagram.data_bytes ≡ d.data_bytes)
-unfolding meeting
+unfolding physical_met
 physical-counts s d h c e =
     let role : Role = role_of d.command (adp_of d) (station_of s) in
     let w : Window = window_of d in

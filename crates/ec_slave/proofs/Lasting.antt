@@ -24,7 +24,7 @@ use Rattle.ec_slave.specs.State.{SlaveState, Met, manager_at, power_on, memory_l
 use Rattle.ec_slave.specs.Sound.{IsSlave, AreBytes, PowerOnIsSlave, MetIsSlave}
 use Rattle.ec_slave.specs.Roles.{role_of, is_reading, is_writing}
 use Rattle.ec_slave.specs.Managers.{is_read_by, is_ungoverned, is_written_by, manager_after}
-use Rattle.ec_slave.specs.Physical.{Window, touches, is_configured, settings_written, physical_value, physical_manager, physical_managers, memory_written, physical_after, meeting}
+use Rattle.ec_slave.specs.Physical.{Window, touches, is_configured, settings_written, physical_value, physical_manager, physical_managers, memory_written, physical_after, physical_met}
 use Rattle.ec_slave.specs.Logical.{logical_value, logical_managers, meets_logically}
 use Rattle.ec_slave.specs.Keeping.{length-retold}
 use Rattle.ec_slave.specs.Meeting.{window_of, meets, meets_by, meets_physically}
@@ -195,7 +195,7 @@ after-is s reads writes w b h =
     }
 
 physically-is : (s : SlaveState) (d : Datagram) → AreBytes d.data_bytes → IsSlave s → IsSlave (meets_physically s d).slave
-unfolding meeting
+unfolding physical_met
 physically-is s d b h = after-is s (is_reading (role_of d.command (adp_of d) (station_of s))) (is_writing (role_of d.command (adp_of d) (station_of s))) (window_of d) b h
 
 logically-is : (reading writing : Bool) (weight : ℕ) (s : SlaveState) (d : Datagram) → IsSlave s → IsSlave (meets_logically reading writing weight s d).slave

@@ -15,7 +15,7 @@ use Rattle.ec_slave.specs.Managers.{is_ungoverned, manager_after}
 use Rattle.ec_slave.specs.Logical.{place_of, read_bit, readable_bit, written_bit, plain_bit, brought, logical_value, logical_managers, only_if, some_read, some_written, logical_after, meets_logically}
 use Rattle.ec_slave.specs.LogicalLaws.{Misses}
 use Rattle.ec_slave.specs.Roles.{is_reading, is_writing}
-use Rattle.ec_slave.specs.Mapped.{data_after, count_after, weight}
+use Rattle.ec_slave.specs.Mapped.{mapped_met, weight}
 use Rattle.ec_slave.specs.declared.role.Role.{Role}
 
 no_read_bit : (s : SlaveState) (p : Place) (i : ℕ) → Misses s p → i < p.bits → read_bit s.memory s.managers (fmmus s) p i ≡ None
@@ -74,12 +74,12 @@ missed_slave reading writing s p bytes h =
     let managers = managers_kept s [] s.managers reading writing p bytes h in
     rw (memory, managers) refl
 
-pub missed_data : (role : Role) (s : SlaveState) (p : Place) (bytes : List ℕ) → Misses s p → p.bits ≡ 8 * length bytes → bytes ≡ data_after s role p bytes
+pub missed_data : (role : Role) (s : SlaveState) (p : Place) (bytes : List ℕ) → Misses s p → p.bits ≡ 8 * length bytes → bytes ≡ (mapped_met s role p bytes).bytes
 missed_data role s p bytes h e =
     sym (overlay_own bytes (λ i. only_if (is_reading role) (read_bit s.memory s.managers (fmmus s) p i))
     (λ i l. ap (λ o. unwrap_or o (bit bytes i)) (if_none (is_reading role) _ (no_read_bit s p i h (omega (arith, e))))))
 
-pub missed_count : (role : Role) (s : SlaveState) (p : Place) (bytes : List ℕ) → Misses s p → 0 ≡ count_after s role p bytes
+pub missed_count : (role : Role) (s : SlaveState) (p : Place) (bytes : List ℕ) → Misses s p → 0 ≡ (mapped_met s role p bytes).added
 missed_count role s p bytes h =
     let r : (is_reading role && some_read s.memory s.managers (fmmus s) p) ≡ false = and_right (is_reading role) _ (any_below_none p.bits _ (λ i l. ap is_some (no_read_bit s p i h l))) in
     let w : (is_writing role && some_written s.managers (fmmus s) p bytes) ≡ false = and_right (is_writing role) _ (any_below_none (8 * ram_end) _ (λ q l. ap is_some (no_written_bit s p bytes q h))) in

@@ -18,7 +18,7 @@ use Rattle.ec_slave.specs.State.{SlaveState, Met, fmmus, manager_at, station_of}
 use Rattle.ec_slave.specs.Sound.{IsSlave}
 use Rattle.ec_slave.specs.Managers.{manager_after}
 use Rattle.ec_slave.specs.AgainstAll.{bits_among, each_from, governs_among, value_among}
-use Rattle.ec_slave.specs.Physical.{Window, byte_at, is_configured, is_kept, physical_managers, meeting, memory_written, register_byte, settings_written, physical_after, touches}
+use Rattle.ec_slave.specs.Physical.{Window, byte_at, is_configured, is_kept, physical_managers, physical_met, memory_written, register_byte, settings_written, physical_after, touches}
 use Rattle.ec_slave.specs.Logical.{brought, meets_logically, only_if, place_of}
 use Rattle.ec_slave.specs.Meeting.{window_of, meets, meets_by, meets_physically, slave_met}
 use Rattle.ec_slave.specs.MeetingLaws.{writes_at, RegistersAfterWrite, ManagersAfterWrite, MovesBits, LogicalBitByBit, IsValueWritten, ValueBitByBit}
@@ -48,7 +48,7 @@ writing-physical Frmw s d e = refl
 -- the slave after a writing datagram, which may read as well
 written-slave : (s : SlaveState) (d : Datagram) → writes_at s d ≡ true
     → slave_met s d ≡ physical_after s (is_reading (role_of d.command (adp_of d) (station_of s))) true (window_of d)
-unfolding meets meeting
+unfolding meets physical_met
 written-slave s d e =
     ap (λ (m : Met). m.slave) (writing-physical d.command s d e)
     ∙ ap (λ (b : Bool). physical_after s (is_reading (role_of d.command (adp_of d) (station_of s))) b (window_of d)) e

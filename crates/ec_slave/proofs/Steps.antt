@@ -17,7 +17,7 @@ use Rattle.ec_fmmu.specs.Applied.{touched_by_reading, touched_by_writing}
 use Rattle.ec_slave.specs.Roles.{role_of, is_reading, is_writing}
 use Rattle.ec_slave.specs.State.{SlaveState, manager_at, fmmus, station_of}
 use Rattle.ec_slave.specs.Managers.{gets_at, is_written_by, manager_after}
-use Rattle.ec_slave.specs.Physical.{Window, touches, is_configured, settings_written, physical_after, meeting}
+use Rattle.ec_slave.specs.Physical.{Window, touches, is_configured, settings_written, physical_after, physical_met}
 use Rattle.ec_slave.specs.AgainstAll.{each_from, governs_among, value_among, bits_among}
 use Rattle.ec_slave.specs.Logical.{meets_logically, place_of}
 use Rattle.ec_slave.specs.Meeting.{meets, meets_by, meets_physically, slave_met, window_of}
@@ -158,7 +158,7 @@ physical_run s reads writes w =
     (one_step is_of_ring 1 m _ (Configure (settings_written w n m)) (omega arith) refl refl) (accessed reads writes (touches w) (touches w) (governs_among s.managers n) (value_among s.managers w n) m)))
 
 physically_run : (s : SlaveState) (d : Datagram) → AreRunTo is_of_ring 1 s (meets_physically s d).slave
-unfolding meeting
+unfolding physical_met
 physically_run s d =
     let role = role_of d.command (adp_of d) (station_of s) in
     physical_run s (is_reading role) (is_writing role) (window_of d)

@@ -1,5 +1,5 @@
 -- Numbers of a list told one by one, as a loop tells them.
-use Rattle.std.proofs.Common.{rules, ℕ, zero, suc, ◌+◌, ◌-◌, ◌<◌, ◌≤◌, ◌≡◌, ◌≢◌, ◌⊎◌, List, [], ◌∷◌, length, take, drop, get_or, Option, Some, None, unwrap_or, refl, sym, ◌∙◌, ap, inl, inr, arith, if◌then◌else◌, length-set, get_or-set_same, get_or-set_other}
+use Rattle.std.proofs.Common.{rules, ℕ, zero, suc, ◌+◌, ◌-◌, ◌<◌, ◌≤◌, ◌≡◌, ◌≢◌, ◌⊎◌, List, [], ◌∷◌, length, take, drop, get_or, slice_set, Option, Some, None, unwrap_or, refl, sym, ◌∙◌, ap, inl, inr, arith, if◌then◌else◌, length-set, get_or-set_same, get_or-set_other}
 use Rattle.std.proofs.lemmas.Bool.{cases_eq, cases_lt}
 use Rattle.std.proofs.lemmas.Grind.{same_number_lists}
 use Rattle.std.proofs.lemmas.List.{places}
@@ -7,8 +7,12 @@ use borrow.Rule.Slice.PartMut.{put_mid}
 use Rattle.ec_bits.specs.Bits.{within}
 use Rattle.ec_bits.proofs.AnyLaws.{if_true, if_false, within_true, within_below, within_above}
 use Rattle.ec_slave.specs.Physical.{retold_from}
-use Rattle.ec_slave.specs.Telling.{set_told}
 use Rattle.ec_slave.specs.Keeping.{length-retold}
+
+-- one number of a list, told or not
+abbrev pub set_told : List ℕ → ℕ → Option ℕ → List ℕ
+set_told xs i None = xs
+set_told xs i (Some x) = slice_set xs i x
 
 -- the n numbers from place `from` on, told one by one
 unfoldable pub told_along : ℕ → ℕ → List ℕ → (ℕ → Option ℕ) → List ℕ

@@ -9,7 +9,7 @@ use Rattle.ec_slave.specs.declared.role.Role.{Role}
 use Rattle.ec_slave.specs.declared.role.Role.TheVariants.{Read, Write, ReadWrite}
 use Rattle.ec_slave.specs.Roles.{role_of, adp_after}
 use Rattle.ec_slave.specs.State.{SlaveState, Met, station_of, with_answer}
-use Rattle.ec_slave.specs.Physical.{meeting}
+use Rattle.ec_slave.specs.Physical.{physical_met}
 use Rattle.ec_slave.specs.Meeting.{window_of}
 use Rattle.ec_slave.specs.Mapped.{meets_mapped}
 
@@ -38,7 +38,7 @@ encounter_of Frmw adp s = addressed_by Frmw adp s
 -- a physical datagram by its role and the ADP with which it leaves
 abbrev pub meets_addressed : Role → ℕ → SlaveState → Datagram → Met
 meets_addressed role adp s d =
-    let m = meeting s role (window_of d) in
+    let m = physical_met s role (window_of d) in
     record { slave = m.slave; datagram = with_answer d (adp + 65536 * ado_of d) m.bytes m.added }
 
 -- what an encounter makes of both

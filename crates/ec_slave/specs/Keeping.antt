@@ -9,7 +9,7 @@ use Rattle.ec_slave.specs.declared.role.Role.{Role}
 use Rattle.ec_slave.specs.declared.role.Role.TheVariants.{Nothing, Read, Write, ReadWrite, OrRead, OrReadWrite}
 use Rattle.ec_slave.specs.Roles.{role_of, adp_after}
 use Rattle.ec_slave.specs.State.{SlaveState, station_of}
-use Rattle.ec_slave.specs.Physical.{retold_from, Window, meeting}
+use Rattle.ec_slave.specs.Physical.{retold_from, Window, physical_met}
 use Rattle.ec_bits.proofs.BitLaws.{length-overlay}
 use Rattle.ec_slave.specs.Logical.{meets_logically}
 use Rattle.ec_slave.specs.Meeting.{window_of, meets, meets_physically, meets_by, datagram_met}
@@ -18,14 +18,14 @@ pub length-retold : (k : ℕ) (xs : List ℕ) (f : ℕ → Option ℕ) → lengt
 length-retold k [] f = refl
 length-retold k (x ∷ xs) f = ap (λ n. suc n) (length-retold (k + 1) xs f)
 
-pub length-meeting : (s : SlaveState) (role : Role) (w : Window) → length (meeting s role w).bytes ≡ length w.bytes
-unfolding meeting
-length-meeting s Nothing w = refl
-length-meeting s Read w = length-retold 0 w.bytes _
-length-meeting s Write w = refl
-length-meeting s ReadWrite w = length-retold 0 w.bytes _
-length-meeting s OrRead w = length-retold 0 w.bytes _
-length-meeting s OrReadWrite w = length-retold 0 w.bytes _
+pub length-physical_met : (s : SlaveState) (role : Role) (w : Window) → length (physical_met s role w).bytes ≡ length w.bytes
+unfolding physical_met
+length-physical_met s Nothing w = refl
+length-physical_met s Read w = length-retold 0 w.bytes _
+length-physical_met s Write w = refl
+length-physical_met s ReadWrite w = length-retold 0 w.bytes _
+length-physical_met s OrRead w = length-retold 0 w.bytes _
+length-physical_met s OrReadWrite w = length-retold 0 w.bytes _
 
 pub adp_after-bound : (c : Command) (adp : ℕ) → adp < 65536 → adp_after c adp < 65536
 adp_after-bound Nop adp h = h
@@ -50,7 +50,7 @@ address-bound address adp h k = omega arith
 pub physically-keeps : (s : SlaveState) (d : Datagram) → IsDatagram d → IsDatagram (meets_physically s d).datagram × (length (meets_physically s d).datagram.data_bytes ≡ length d.data_bytes)
 physically-keeps s d h =
     let role : Role = role_of d.command (adp_of d) (station_of s) in
-    let e : length (meeting s role (window_of d)).bytes ≡ length d.data_bytes = length-meeting s role (window_of d) in
+    let e : length (physical_met s role (window_of d)).bytes ≡ length d.data_bytes = length-physical_met s role (window_of d) in
     let a : adp_after d.command (adp_of d) < 65536 = adp_after-bound d.command (adp_of d) (omega arith) in (
       record {
         index = h.index;

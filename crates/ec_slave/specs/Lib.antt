@@ -1,30 +1,30 @@
--- What a slave is, and what datagrams and its application do to it: to be judged, in this order.
+-- To be read in this order. First what is to be believed: what a slave is, which role it has in a datagram, how the two
+-- meet, by an address of the memory or through the FMMUs, and what its application does.
 pub mod State
 pub mod Roles
-pub mod Managers
-pub mod Physical
-pub mod Logical
 pub mod Meeting
+pub mod Physical
+pub mod Managers
+pub mod Logical
 pub mod Application
--- A firmware step: the checks before a state, the step, and a fault.
+-- What its firmware does: the checks before a state, the step, and a fault.
 pub mod Checking
 pub mod Serving
 pub mod Faulting
--- What holds of every slave, and laws: the same in other words, proved of the definitions above.
+-- Then what follows from that, as statements: what holds of every slave, and laws, the same in other words.
 pub mod Sound
 pub mod Laws
+pub mod AgainstAll
 pub mod MeetingLaws
+pub mod Exchange
 pub mod LogicalLaws
 pub mod FirmwareLaws
-pub mod Exchange
-pub mod AgainstAll
 pub mod Steps
--- What private functions and the proofs go by: no public contract rests on it.
+-- Last the words of private code: no public contract rests on them.
 pub mod Held
 pub mod Mapped
 pub mod Encounters
 pub mod Sights
 pub mod Written
-pub mod Telling
 pub mod Untouched
 pub mod Keeping

@@ -9,7 +9,7 @@ use Rattle.ec_sync.specs.Manager.{Manager}
 use Rattle.ec_sync.specs.Governing.{governor}
 use Rattle.ec_fmmu.specs.Sets.{target, readers}
 use Rattle.ec_fmmu.specs.Applied.{Place, touched_by_reading, touched_by_writing, data_bit_for}
-use Rattle.ec_slave.specs.State.{SlaveState, fmmus, Met, with_memory, with_answer}
+use Rattle.ec_slave.specs.State.{SlaveState, Met, MetBytes, fmmus, with_memory, with_answer}
 use Rattle.ec_slave.specs.Managers.{reads_under, writes_under, shown_under, is_ungoverned, manager_after}
 
 abbrev pub place_of : Datagram → Place
@@ -72,15 +72,18 @@ logical_after s reading writing p bytes = with_memory s
     (overlay s.memory (λ q. only_if writing (plain_bit s.managers (fmmus s) p bytes q)))
     (logical_managers [] reading writing (fmmus s) p bytes s.managers)
 
--- One slave on one logical datagram that reads, writes or does both. A read counts 1, a write `weight`. What a write
--- takes is the data as received.
+-- A slave meets the data of a logical datagram that reads, writes or does both. What a write takes is the data as received.
+-- A read counts 1, a write `weight`.
+abbrev pub logical_met : Bool → Bool → ℕ → SlaveState → Place → List ℕ → MetBytes
+logical_met reading writing weight s p bytes = record {
+  slave = logical_after s reading writing p bytes;
+  bytes = overlay bytes (λ i. only_if reading (read_bit s.memory s.managers (fmmus s) p i));
+  added = from_bool (reading && some_read s.memory s.managers (fmmus s) p)
+      + weight * from_bool (writing && some_written s.managers (fmmus s) p bytes);
+}
+
+-- and the whole datagram
 unfoldable pub meets_logically : Bool → Bool → ℕ → SlaveState → Datagram → Met
 meets_logically reading writing weight s d =
-    let p = place_of d in
-    record {
-      slave = logical_after s reading writing p d.data_bytes;
-      datagram = with_answer d d.address
-          (overlay d.data_bytes (λ i. only_if reading (read_bit s.memory s.managers (fmmus s) p i)))
-          (from_bool (reading && some_read s.memory s.managers (fmmus s) p)
-          + weight * from_bool (writing && some_written s.managers (fmmus s) p d.data_bytes));
-    }
+    let m = logical_met reading writing weight s (place_of d) d.data_bytes in
+    record { slave = m.slave; datagram = with_answer d d.address m.bytes m.added }

@@ -6,7 +6,7 @@ use Rattle.ec_frame.specs.Datagram.{Datagram, adp_of, ado_of}
 use Rattle.ec_frame.specs.Frame.{Payload, IsFrame, with_datagrams}
 use Rattle.ec_slave.specs.Roles.{role_of, adp_after}
 use Rattle.ec_slave.specs.State.{SlaveState, Met, station_of, with_answer}
-use Rattle.ec_slave.specs.Physical.{Window, meeting}
+use Rattle.ec_slave.specs.Physical.{Window, physical_met}
 use Rattle.ec_slave.specs.Logical.{meets_logically}
 
 abbrev pub window_of : Datagram → Window
@@ -16,7 +16,7 @@ window_of d = record { from = ado_of d; bytes = d.data_bytes }
 -- that a datagram writes counts from the next datagram on.
 abbrev pub meets_physically : SlaveState → Datagram → Met
 meets_physically s d =
-    let m = meeting s (role_of d.command (adp_of d) (station_of s)) (window_of d) in
+    let m = physical_met s (role_of d.command (adp_of d) (station_of s)) (window_of d) in
     record { slave = m.slave; datagram = with_answer d (adp_after d.command (adp_of d) + 65536 * ado_of d) m.bytes m.added }
 
 abbrev pub meets_by : Command → SlaveState → Datagram → Met

@@ -12,7 +12,7 @@ use Rattle.ec_al.specs.Al.{status_word, requesting}
 use Rattle.ec_sii.specs.Port.{sii_byte, written}
 use Rattle.ec_slave.specs.declared.role.Role.{Role}
 use Rattle.ec_slave.specs.Roles.{is_reading, is_writing, is_joining}
-use Rattle.ec_slave.specs.State.{SlaveState, manager_at}
+use Rattle.ec_slave.specs.State.{SlaveState, MetBytes, manager_at}
 use Rattle.ec_slave.specs.Managers.{reads_under, writes_under, is_ungoverned, manager_after}
 
 -- the bytes of a datagram, and the address of the first; byte k belongs to address from + k, and addresses don't wrap
@@ -133,16 +133,10 @@ some_byte_read ms w = any_below (length w.bytes) (λ k. may_read_byte ms (touche
 abbrev pub some_byte_written : List Manager → Bool → Window → Bool
 some_byte_written ms busy w = any_below (length w.bytes) (λ k. may_write_byte ms busy (touches w) (w.from + k))
 
--- what a slave and the bytes of a datagram become, and what the working counter grows by
-pub record Meeting : Type 0 where
-  pub slave : SlaveState
-  pub bytes : List ℕ
-  pub added : ℕ
-
 -- A slave of a role meets the bytes of a datagram. The data get the memory as it was, and the memory the data as they were
 -- received. A read counts 1; a write counts 1, in a datagram that reads as well 2.
-unfoldable pub meeting : SlaveState → Role → Window → Meeting
-meeting s role w = record {
+unfoldable pub physical_met : SlaveState → Role → Window → MetBytes
+physical_met s role w = record {
   slave = physical_after s (is_reading role) (is_writing role) w;
   bytes = if is_reading role then retold w.bytes (byte_read s (is_joining role) w) else w.bytes;
   added = from_bool (is_reading role && some_byte_read s.managers w)

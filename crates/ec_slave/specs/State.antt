@@ -69,6 +69,12 @@ power_on kind identity = record {
   replies = 0;
 }
 
+-- a slave and the bytes of a datagram after they met, and what the working counter grows by
+pub record MetBytes : Type 0 where
+  pub slave : SlaveState
+  pub bytes : List ℕ
+  pub added : ℕ
+
 -- a slave and a datagram after they met
 pub record Met : Type 0 where
   pub slave : SlaveState

@@ -14,8 +14,7 @@ ghost use Rattle.ec_fmmu.specs.Applied.{Place};
 ghost use Rattle.ec_slave.specs.State.{fmmus};
 ghost use Rattle.ec_slave.specs.LogicalLaws.{Misses};
 ghost use Rattle.ec_slave.specs.Logical.{logical_after, read_bit, some_read, some_written};
-ghost use Rattle.ec_slave.specs.Roles.{is_reading, is_writing};
-ghost use Rattle.ec_slave.specs.Mapped.{MayWriteFirst, data_after, count_after, meets_mapped};
+ghost use Rattle.ec_slave.specs.Mapped.{MayWriteFirst, mapped_met, meets_mapped};
 
 mod managers;
 mod reading;
@@ -135,9 +134,9 @@ impl Slave {
     fn access_bits(&mut self, role: Role, from: u64, bytes: &mut [u8]) -> u16
         requires small { from + 8 * length bytes.old < 2 ^ 64 }
         requires few { length bytes.old < 2048 }
-        ensures slave { self.new ≡ logical_after self.old (is_reading role) (is_writing role) (record { from = from; bits = 8 * length bytes.old }) bytes.old }
-        ensures bytes { bytes.new ≡ data_after self.old role (record { from = from; bits = 8 * length bytes.old }) bytes.old }
-        ensures added { result ≡ count_after self.old role (record { from = from; bits = 8 * length bytes.old }) bytes.old }
+        ensures slave { self.new ≡ (mapped_met self.old role (record { from = from; bits = 8 * length bytes.old }) bytes.old).slave }
+        ensures bytes { bytes.new ≡ (mapped_met self.old role (record { from = from; bits = 8 * length bytes.old }) bytes.old).bytes }
+        ensures added { result ≡ (mapped_met self.old role (record { from = from; bits = 8 * length bytes.old }) bytes.old).added }
     {
         if self.misses(from, 8 * bytes.len() as u64) {
             return 0;
@@ -154,11 +153,11 @@ impl Slave {
     fn access_logical_data(&mut self, role: Role, address: u32, part: &mut [u8]) -> u16
         requires { IsSpelling part.old }
         ensures slave { (more : Bool) (d : Datagram) → IsDatagram d → part.old ≡ spelling more d
-            → self.new ≡ logical_after self.old (is_reading role) (is_writing role) (record { from = 8 * address; bits = 8 * length d.data_bytes }) d.data_bytes }
+            → self.new ≡ (mapped_met self.old role (record { from = 8 * address; bits = 8 * length d.data_bytes }) d.data_bytes).slave }
         ensures content { (more : Bool) (d : Datagram) → IsDatagram d → part.old ≡ spelling more d
-            → part.new ≡ spelling more (with_data d (data_after self.old role (record { from = 8 * address; bits = 8 * length d.data_bytes }) d.data_bytes)) }
+            → part.new ≡ spelling more (with_data d (mapped_met self.old role (record { from = 8 * address; bits = 8 * length d.data_bytes }) d.data_bytes).bytes) }
         ensures added { (more : Bool) (d : Datagram) → IsDatagram d → part.old ≡ spelling more d
-            → result ≡ count_after self.old role (record { from = 8 * address; bits = 8 * length d.data_bytes }) d.data_bytes }
+            → result ≡ (mapped_met self.old role (record { from = 8 * address; bits = 8 * length d.data_bytes }) d.data_bytes).added }
     {
         let (_heading, body) = cut_heading(part);
         let (content, _counter) = cut_counter(body);

@@ -10,7 +10,7 @@ ghost use Rattle.std.specs.Bool.{OnTrue};
 ghost use Rattle.ec_frame.specs.Datagram.{Datagram, IsDatagram, IsSpelling, spelling};
 ghost use Rattle.ec_frame.specs.Fields.{header_of, with_data};
 ghost use Rattle.ec_slave.specs.Encounters.{meets_addressed};
-ghost use Rattle.ec_slave.specs.Physical.{Window, byte_read, may_read_byte, meeting, retold, physical_after, some_byte_read, some_byte_written};
+ghost use Rattle.ec_slave.specs.Physical.{Window, byte_read, may_read_byte, physical_met, retold, physical_after, some_byte_read, some_byte_written};
 ghost use Rattle.ec_slave.specs.State.{fmmus_of};
 
 mod bytes;
@@ -229,13 +229,13 @@ impl Slave {
     }
 
     /// Meets the bytes of a datagram in a role, and answers what the working counter grows by.
-    #[tactic(auto, using(crate::proofs::Idle::slave_idle), unfolding(crate::specs::Physical::meeting))]
+    #[tactic(auto, using(crate::proofs::Idle::slave_idle), unfolding(crate::specs::Physical::physical_met))]
     fn access_bytes(&mut self, role: Role, from: usize, bytes: &mut [u8]) -> u16
         requires small { from + length bytes.old < 2 ^ 32 }
         requires few { length bytes.old < 2048 }
-        ensures slave { self.new ≡ (meeting self.old role (record { from = from; bytes = bytes.old })).slave }
-        ensures bytes { bytes.new ≡ (meeting self.old role (record { from = from; bytes = bytes.old })).bytes }
-        ensures added { result ≡ (meeting self.old role (record { from = from; bytes = bytes.old })).added }
+        ensures slave { self.new ≡ (physical_met self.old role (record { from = from; bytes = bytes.old })).slave }
+        ensures bytes { bytes.new ≡ (physical_met self.old role (record { from = from; bytes = bytes.old })).bytes }
+        ensures added { result ≡ (physical_met self.old role (record { from = from; bytes = bytes.old })).added }
     {
         match role {
             Role::Nothing => 0,
@@ -251,11 +251,11 @@ impl Slave {
     fn access_physical_data(&mut self, role: Role, ado: u16, part: &mut [u8]) -> u16
         requires { IsSpelling part.old }
         ensures slave { (more : Bool) (d : Datagram) → IsDatagram d → part.old ≡ spelling more d
-            → self.new ≡ (meeting self.old role (record { from = ado; bytes = d.data_bytes })).slave }
+            → self.new ≡ (physical_met self.old role (record { from = ado; bytes = d.data_bytes })).slave }
         ensures content { (more : Bool) (d : Datagram) → IsDatagram d → part.old ≡ spelling more d
-            → part.new ≡ spelling more (with_data d (meeting self.old role (record { from = ado; bytes = d.data_bytes })).bytes) }
+            → part.new ≡ spelling more (with_data d (physical_met self.old role (record { from = ado; bytes = d.data_bytes })).bytes) }
         ensures added { (more : Bool) (d : Datagram) → IsDatagram d → part.old ≡ spelling more d
-            → result ≡ (meeting self.old role (record { from = ado; bytes = d.data_bytes })).added }
+            → result ≡ (physical_met self.old role (record { from = ado; bytes = d.data_bytes })).added }
     {
         let (_heading, body) = cut_heading(part);
         let (content, _counter) = cut_counter(body);

@@ -2,7 +2,7 @@ use Rattle.std.proofs.Common.{◌*◌, length, sym, refl, ◌∙◌, ap}
 use Rattle.ec_bits.proofs.BitLaws.{overlay_own}
 use Rattle.ec_fmmu.specs.Applied.{Place}
 use Rattle.ec_slave.specs.Roles.{is_reading, is_writing}
-use Rattle.ec_slave.specs.Mapped.{data_after}
+use Rattle.ec_slave.specs.Mapped.{mapped_met}
 use Rattle.ec_slave.specs.Logical.{logical_after}
 use Rattle.ec_slave.proofs.Misses.{missed_slave, missed_data, missed_count, slave_left}
 use Rattle.ec_slave.specs.declared.role.Role.{Role}
@@ -26,7 +26,7 @@ returns-then-misses-clause-added c =
 pub returns-in-Write-clause-bytes : goal.returns-in-Write-clause-bytes
 returns-in-Write-clause-bytes c =
     let p : Place = record { from = c.args.from; bits = 8 * length c.args.bytes.now } in
-    sym (ap (λ (w : Role). data_after c.args.self.now w p c.args.bytes.now) c.in-Write.is ∙ overlay_own c.args.bytes.now _ (λ i l. refl))
+    sym (ap (λ (w : Role). (mapped_met c.args.self.now w p c.args.bytes.now).bytes) c.in-Write.is ∙ overlay_own c.args.bytes.now _ (λ i l. refl))
 
 pub returns-in-Nothing-clause-slave : goal.returns-in-Nothing-clause-slave
 returns-in-Nothing-clause-slave c =
@@ -37,4 +37,4 @@ returns-in-Nothing-clause-slave c =
 pub returns-in-Nothing-clause-bytes : goal.returns-in-Nothing-clause-bytes
 returns-in-Nothing-clause-bytes c =
     let p : Place = record { from = c.args.from; bits = 8 * length c.args.bytes.now } in
-    sym (ap (λ (w : Role). data_after c.args.self.now w p c.args.bytes.now) c.in-Nothing.is ∙ overlay_own c.args.bytes.now _ (λ i l. refl))
+    sym (ap (λ (w : Role). (mapped_met c.args.self.now w p c.args.bytes.now).bytes) c.in-Nothing.is ∙ overlay_own c.args.bytes.now _ (λ i l. refl))

@@ -3,7 +3,7 @@ use Rattle.std.proofs.lemmas.List.{length-append}
 use Rattle.byteorder.specs.Endian.{little_bytes}
 use Rattle.ec_slave.specs.Logical.{logical_after}
 use Rattle.ec_slave.specs.Roles.{is_reading, is_writing}
-use Rattle.ec_slave.specs.Mapped.{data_after, count_after}
+use Rattle.ec_slave.specs.Mapped.{mapped_met}
 use Rattle.ec_slave.proofs.Answered.{data_moved}
 use Rattle.ec_slave.proofs.slave.Slave.access_logical_data.Goals as goal
 
@@ -35,8 +35,8 @@ returns-clause-added c = λ more d good e.
     let is : c.cut_counter-content.result.0.now ≡ d.data_bytes = c.cut_counter-content.ensures.content d.data_bytes d.counter (c.cut_heading-heading.ensures.body more d good e) in
     let from : c.from.result ≡ c.args.address = c.from.ensures in
     c.access_bits.ensures.added
-    ∙ (ap (λ (t : List ℕ). count_after c.args.self.now c.args.role (record { from = 8 * c.from.result; bits = 8 * length t }) t) is
-    ∙ ap (λ (n : ℕ). count_after c.args.self.now c.args.role (record { from = 8 * n; bits = 8 * length d.data_bytes }) d.data_bytes) from)
+    ∙ (ap (λ (t : List ℕ). (mapped_met c.args.self.now c.args.role (record { from = 8 * c.from.result; bits = 8 * length t }) t).added) is
+    ∙ ap (λ (n : ℕ). (mapped_met c.args.self.now c.args.role (record { from = 8 * n; bits = 8 * length d.data_bytes }) d.data_bytes).added) from)
 
 pub returns-clause-content : goal.returns-clause-content
 returns-clause-content c = λ more d good e.
@@ -46,6 +46,6 @@ returns-clause-content c = λ more d good e.
     data_moved more d _ _ _ c.args.self.now c.args.role (record { from = 8 * c.args.address; bits = 8 * length d.data_bytes })
     (c.cut_heading-heading.ensures.heading more d good e)
     (c.access_bits.ensures.bytes
-    ∙ (ap (λ (t : List ℕ). data_after c.args.self.now c.args.role (record { from = 8 * c.from.result; bits = 8 * length t }) t) is
-    ∙ ap (λ (n : ℕ). data_after c.args.self.now c.args.role (record { from = 8 * n; bits = 8 * length d.data_bytes }) d.data_bytes) from))
+    ∙ (ap (λ (t : List ℕ). (mapped_met c.args.self.now c.args.role (record { from = 8 * c.from.result; bits = 8 * length t }) t).bytes) is
+    ∙ ap (λ (n : ℕ). (mapped_met c.args.self.now c.args.role (record { from = 8 * n; bits = 8 * length d.data_bytes }) d.data_bytes).bytes) from))
     (c.cut_counter-content.ensures.counter d.data_bytes d.counter b)

@@ -1,7 +1,7 @@
 use Rattle.std.proofs.Common.{◌≡◌, ◌<◌, ◌+◌, ◌∙◌, ◌++◌, ap, List, ℕ, length, arith, refl}
 use Rattle.std.proofs.lemmas.List.{length-append}
 use Rattle.byteorder.specs.Endian.{little_bytes}
-use Rattle.ec_slave.specs.Physical.{meeting}
+use Rattle.ec_slave.specs.Physical.{physical_met}
 use Rattle.ec_slave.proofs.Answered.{data_written}
 use Rattle.ec_slave.proofs.slave.Slave.access_physical_data.Goals as goal
 
@@ -28,12 +28,12 @@ access_bytes-requires-clause-small c =
 pub returns-clause-slave : goal.returns-clause-slave
 returns-clause-slave c = λ more d good e.
     let is : c.cut_counter-content.result.0.now ≡ d.data_bytes = c.cut_counter-content.ensures.content d.data_bytes d.counter (c.cut_heading-heading.ensures.body more d good e) in
-    c.access_bytes.ensures.slave ∙ ap (λ (t : List ℕ). (meeting c.args.self.now c.args.role (record { from = c.args.ado; bytes = t })).slave) is
+    c.access_bytes.ensures.slave ∙ ap (λ (t : List ℕ). (physical_met c.args.self.now c.args.role (record { from = c.args.ado; bytes = t })).slave) is
 
 pub returns-clause-added : goal.returns-clause-added
 returns-clause-added c = λ more d good e.
     let is : c.cut_counter-content.result.0.now ≡ d.data_bytes = c.cut_counter-content.ensures.content d.data_bytes d.counter (c.cut_heading-heading.ensures.body more d good e) in
-    c.access_bytes.ensures.added ∙ ap (λ (t : List ℕ). (meeting c.args.self.now c.args.role (record { from = c.args.ado; bytes = t })).added) is
+    c.access_bytes.ensures.added ∙ ap (λ (t : List ℕ). (physical_met c.args.self.now c.args.role (record { from = c.args.ado; bytes = t })).added) is
 
 pub returns-clause-content : goal.returns-clause-content
 returns-clause-content c = λ more d good e.
@@ -41,5 +41,5 @@ returns-clause-content c = λ more d good e.
     let is : c.cut_counter-content.result.0.now ≡ d.data_bytes = c.cut_counter-content.ensures.content d.data_bytes d.counter b in
     data_written more d _ _ _ (record { from = c.args.ado; bytes = d.data_bytes }) c.args.self.now c.args.role
     (c.cut_heading-heading.ensures.heading more d good e)
-    (c.access_bytes.ensures.bytes ∙ ap (λ (t : List ℕ). (meeting c.args.self.now c.args.role (record { from = c.args.ado; bytes = t })).bytes) is)
+    (c.access_bytes.ensures.bytes ∙ ap (λ (t : List ℕ). (physical_met c.args.self.now c.args.role (record { from = c.args.ado; bytes = t })).bytes) is)
     (c.cut_counter-content.ensures.counter d.data_bytes d.counter b) refl

@@ -1,8 +1,9 @@
 use Rattle.std.proofs.Common.{◌≡◌, ◌∙◌, ap, arith, refl}
 use Rattle.ec_frame.specs.Datagram.{IsDatagram, spelling}
 use Rattle.ec_frame.specs.Fields.{header_of, with_adp, with_data}
-use Rattle.ec_slave.specs.Physical.{Meeting, Window, meeting}
-use Rattle.ec_slave.proofs.Answered.{adp-good, answer-is, data-good, meeting-is}
+use Rattle.ec_slave.specs.State.{MetBytes}
+use Rattle.ec_slave.specs.Physical.{Window, physical_met}
+use Rattle.ec_slave.proofs.Answered.{adp-good, answer-is, data-good, physical_met-is}
 use Rattle.ec_slave.proofs.slave.Slave.process_physical.Goals as goal
 
 pub write_adp-requires : goal.write_adp-requires
@@ -13,7 +14,7 @@ write_adp-requires c =
 pub returns-clause-datagram : goal.returns-clause-datagram
 returns-clause-datagram c = λ more d good e.
     let w : Window = record { from = c.ado.result; bytes = d.data_bytes } in
-    let m : Meeting = meeting c.args.self.now c.args.role w in
+    let m : MetBytes = physical_met c.args.self.now c.args.role w in
     let e0 : c.args.header ≡ header_of more d = c.requires.read more d good e in
     let g : IsDatagram (with_data d m.bytes) = data-good d c.args.self.now c.args.role w good refl in
     let h : IsDatagram (with_adp (with_data d m.bytes) c.args.adp) = adp-good (with_data d m.bytes) c.args.adp g (omega arith) in
@@ -26,4 +27,4 @@ returns-clause-datagram c = λ more d good e.
 pub returns-clause-state : goal.returns-clause-state
 returns-clause-state c = λ more d good e.
     c.access_physical_data-added.ensures.slave more d good e
-    ∙ ap (λ (x : Meeting). x.slave) (meeting-is c.args.self.now c.args.header more d c.args.role c.ado.result (c.requires.read more d good e) c.ado.ensures)
+    ∙ ap (λ (x : MetBytes). x.slave) (physical_met-is c.args.self.now c.args.header more d c.args.role c.ado.result (c.requires.read more d good e) c.ado.ensures)
