@@ -6,7 +6,6 @@ ghost use Rattle.ec_sync.specs.Governing.{governor as governor_of};
 ghost use Rattle.ec_al.specs.Al.{requesting};
 ghost use Rattle.std.specs.Int.{from_bool};
 ghost use Rattle.ec_bits.specs.Bits.{within};
-ghost use Rattle.std.specs.Bool.{OnTrue};
 ghost use Rattle.ec_frame.specs.Datagram.{Datagram, IsDatagram, IsSpelling, spelling};
 ghost use Rattle.ec_frame.specs.Fields.{header_of, with_data};
 ghost use Rattle.ec_slave.specs.Encounters.{meets_addressed};
