@@ -13,7 +13,7 @@ use Rattle.ec_frame.specs.Datagram.{Datagram, adp_of, ado_of}
 use Rattle.ec_al.specs.Al.{Al, requesting}
 use Rattle.ec_slave.specs.Roles.{role_of, adp_after, is_reading, is_writing}
 use Rattle.ec_slave.specs.State.{SlaveState, manager_at, station_of}
-use Rattle.ec_slave.specs.Physical.{Window, touches, meeting, physical_after, is_configured}
+use Rattle.ec_slave.specs.Physical.{Window, touches, physical_met, physical_after, is_configured}
 use Rattle.ec_slave.specs.Meeting.{window_of, meets, meets_by, slave_met, datagram_met}
 use Rattle.ec_slave.specs.Checking.{control_word}
 use Rattle.ec_start.specs.declared.action.Action.{Action}
@@ -35,7 +35,7 @@ writes-all : (s : SlaveState) (d : Datagram) → d.command ≡ Bwr → is_writin
 writes-all s d c = ap (λ (x : Command). is_writing (role_of x (adp_of d) (station_of s))) c
 
 pub broadcast-write : (s : SlaveState) (d : Datagram) → d.command ≡ Bwr → slave_met s d ≡ physical_after s false true (window_of d)
-unfolding meets meeting
+unfolding meets physical_met
 broadcast-write s d c =
     ap (λ (x : Command). (meets_by x s d).slave) c
     ∙ (ap (λ (b : Bool). physical_after s b (is_writing (role_of d.command (adp_of d) (station_of s))) (window_of d)) (reads-none s d c)
@@ -43,7 +43,7 @@ broadcast-write s d c =
 
 -- the datagram goes on as it came, with its ADP grown
 writing-on : (s : SlaveState) (e d : Datagram) (j : ℕ) → d.command ≡ Bwr → IsWriting e d (j % 65536) → IsWriting e (datagram_met s d) ((j + 1) % 65536)
-unfolding meets meeting
+unfolding meets physical_met
 writing-on s e d j c h =
     let same : ado_of d ≡ d.address / 65536 = refl in
     let low : ((adp_of d + 1) % 65536 + 65536 * ado_of d) % 65536 ≡ (j + 1) % 65536 = let a = h.adp_is in omega (arith, a) in

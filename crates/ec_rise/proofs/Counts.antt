@@ -9,7 +9,7 @@ use Rattle.ec_frame.specs.declared.command.Command.TheVariants.{Apwr, Fprd, Fpwr
 use Rattle.ec_frame.specs.Datagram.{Datagram, adp_of}
 use Rattle.ec_slave.specs.Roles.{role_of, is_reading, is_writing}
 use Rattle.ec_slave.specs.State.{SlaveState, station_of}
-use Rattle.ec_slave.specs.Physical.{Window, touches, meeting, may_read_byte, may_write_byte, some_byte_read, some_byte_written}
+use Rattle.ec_slave.specs.Physical.{Window, touches, physical_met, may_read_byte, may_write_byte, some_byte_read, some_byte_written}
 use Rattle.ec_slave.specs.Meeting.{window_of, meets, meets_by, meets_physically, datagram_met}
 use Rattle.ec_start.specs.Actions.{station, sent}
 use Rattle.ec_rise.proofs.Owns.{window-sent}
@@ -21,7 +21,7 @@ added_by reads writes s w = from_bool (reads && some_byte_read s.managers w) + (
 pub counter-by : (s : SlaveState) (d : Datagram) (reads writes : Bool) → meets s d ≡ meets_physically s d
     → is_reading (role_of d.command (adp_of d) (station_of s)) ≡ reads → is_writing (role_of d.command (adp_of d) (station_of s)) ≡ writes
     → (datagram_met s d).counter ≡ (d.counter + added_by reads writes s (window_of d)) % 65536
-unfolding meeting
+unfolding physical_met
 counter-by s d reads writes m r w =
     ap (λ x. x.datagram.counter) m
     ∙ (ap (λ (b : Bool). (d.counter + added_by b (is_writing (role_of d.command (adp_of d) (station_of s))) s (window_of d)) % 65536) r

@@ -12,7 +12,7 @@ use Rattle.ec_sync.specs.Manager.{Manager, app_put}
 use Rattle.ec_sync.specs.Buffer.{Got}
 use Rattle.ec_slave.specs.Roles.{role_of, is_writing}
 use Rattle.ec_slave.specs.State.{SlaveState, Met as Meeting, station_of, power_on, manager_at}
-use Rattle.ec_slave.specs.Physical.{meeting, physical_after}
+use Rattle.ec_slave.specs.Physical.{physical_met, physical_after}
 use Rattle.ec_slave.specs.Logical.{meets_logically}
 use Rattle.ec_slave.specs.Meeting.{meets, meets_by, meets_physically, slave_met}
 use Rattle.std.specs.Prelude.{option_map}
@@ -48,7 +48,7 @@ true-on kind s t e h = record {
 -- ---- any datagram
 
 physical-same : (s : SlaveState) (d : Datagram) → Same s (meets_physically s d).slave
-unfolding meeting physical_after
+unfolding physical_met physical_after
 physical-same s d = record {
   identity = refl;
   image = either-image (is_writing (role_of d.command (adp_of d) (station_of s))) (written s.sii (ado_of d) d.data_bytes) s.sii s.sii.image (written-image s.sii (ado_of d) d.data_bytes) refl;

@@ -15,7 +15,7 @@ use Rattle.ec_slave.specs.Keeping.{length-retold}
 use Rattle.ec_slave.specs.Roles.{role_of, is_reading, is_writing}
 use Rattle.ec_slave.specs.State.{SlaveState, Met as Meeting, manager_at, station_of}
 use Rattle.ec_slave.specs.Managers.{is_read_by, is_ungoverned, is_written_by, manager_after}
-use Rattle.ec_slave.specs.Physical.{Window, touches, physical_value, is_configured, settings_written, physical_manager, physical_managers, memory_written, physical_after, meeting}
+use Rattle.ec_slave.specs.Physical.{Window, touches, physical_value, is_configured, settings_written, physical_manager, physical_managers, memory_written, physical_after, physical_met}
 use Rattle.ec_slave.specs.Logical.{logical_value, logical_managers, meets_logically}
 use Rattle.ec_slave.specs.Meeting.{window_of, meets, meets_by, meets_physically, slave_met}
 use Rattle.ec_rise.specs.Standing.{IsOfKind}
@@ -94,7 +94,7 @@ physical-slave kind s reads writes w h = record {
 }
 
 physically : (kind : SlaveKind) (s : SlaveState) (d : Datagram) → IsOfKind kind s → IsOfKind kind (meets_physically s d).slave
-unfolding meeting
+unfolding physical_met
 physically kind s d h = physical-slave kind s (is_reading (role_of d.command (adp_of d) (station_of s))) (is_writing (role_of d.command (adp_of d) (station_of s))) (window_of d) h
 
 logically : (kind : SlaveKind) (reading writing : Bool) (weight : ℕ) (s : SlaveState) (d : Datagram) → IsOfKind kind s → IsOfKind kind (meets_logically reading writing weight s d).slave

@@ -12,7 +12,7 @@ use Rattle.ec_frame.specs.Datagram.{Datagram, IsDatagram, adp_of, ado_of}
 use Rattle.ec_frame.specs.Fields.{with_adp}
 use Rattle.ec_slave.specs.Roles.{role_of, adp_after, is_reading, is_writing}
 use Rattle.ec_slave.specs.State.{SlaveState, Met as Meeting, manager_at, station_of}
-use Rattle.ec_slave.specs.Physical.{Window, meeting, physical_after}
+use Rattle.ec_slave.specs.Physical.{Window, physical_met, physical_after}
 use Rattle.ec_slave.specs.Meeting.{window_of, meets, meets_by, slave_met, datagram_met}
 use Rattle.ec_slave.proofs.Bystanders.{other_position_passes}
 use Rattle.ec_start.specs.Plans.{settings_at, fmmu_at}
@@ -36,14 +36,14 @@ writes-all : (s : SlaveState) (d : Datagram) → d.command ≡ Apwr → adp_of d
 writes-all s d c e = ap (λ (x : Command). is_writing (role_of x (adp_of d) (station_of s))) c ∙ ap is_writing (if_true _ _ _ (eq-eqb _ _ e))
 
 position-write : (s : SlaveState) (d : Datagram) → d.command ≡ Apwr → adp_of d ≡ 0 → slave_met s d ≡ physical_after s false true (window_of d)
-unfolding meets meeting
+unfolding meets physical_met
 position-write s d c e =
     ap (λ (x : Command). (meets_by x s d).slave) c
     ∙ (ap (λ (b : Bool). physical_after s b (is_writing (role_of d.command (adp_of d) (station_of s))) (window_of d)) (reads-none s d c e)
     ∙ ap (λ (b : Bool). physical_after s false b (window_of d)) (writes-all s d c e))
 
 position-on : (s : SlaveState) (e d : Datagram) (adp : ℕ) → d.command ≡ Apwr → adp_of d ≡ 0 → IsWriting e d adp → IsWriting e (datagram_met s d) ((adp + 1) % 65536)
-unfolding meets meeting
+unfolding meets physical_met
 position-on s e d adp c z h =
     let low : ((adp_of d + 1) % 65536 + 65536 * ado_of d) % 65536 ≡ (adp + 1) % 65536 = let a = h.adp_is in omega (arith, a) in
     let high : ((adp_of d + 1) % 65536 + 65536 * ado_of d) / 65536 ≡ ado_of d = omega arith in

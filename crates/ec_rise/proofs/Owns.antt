@@ -14,7 +14,7 @@ use Rattle.ec_al.specs.Al.{Al, requesting}
 use Rattle.ec_sii.specs.Port.{Sii, written}
 use Rattle.ec_slave.specs.Roles.{role_of, adp_after, is_reading, is_writing}
 use Rattle.ec_slave.specs.State.{SlaveState, Met as Meeting, manager_at, station_of, power_on}
-use Rattle.ec_slave.specs.Physical.{Window, touches, meeting, physical_after}
+use Rattle.ec_slave.specs.Physical.{Window, touches, physical_met, physical_after}
 use Rattle.ec_slave.specs.Meeting.{window_of, meets, meets_by, slave_met, datagram_met}
 use Rattle.ec_slave.proofs.Bystanders.{other_station_passes}
 use Rattle.ec_slave.specs.Checking.{control_word}
@@ -37,7 +37,7 @@ writes-all : (s : SlaveState) (d : Datagram) → d.command ≡ Fpwr → adp_of d
 writes-all s d c e = ap (λ (x : Command). is_writing (role_of x (adp_of d) (station_of s))) c ∙ ap is_writing (if_true _ _ _ (eq-eqb _ _ e))
 
 pub own-write : (s : SlaveState) (d : Datagram) → d.command ≡ Fpwr → adp_of d ≡ station_of s → slave_met s d ≡ physical_after s false true (window_of d)
-unfolding meets meeting
+unfolding meets physical_met
 own-write s d c e =
     ap (λ (x : Command). (meets_by x s d).slave) c
     ∙ (ap (λ (b : Bool). physical_after s b (is_writing (role_of d.command (adp_of d) (station_of s))) (window_of d)) (reads-none s d c e)

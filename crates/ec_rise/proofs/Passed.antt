@@ -18,7 +18,7 @@ use Rattle.ec_sii.specs.Port.{written}
 use Rattle.ec_sii.specs.declared.image.Image.{Image}
 use Rattle.ec_slave.specs.Roles.{role_of, is_writing}
 use Rattle.ec_slave.specs.State.{SlaveState, Met as Meeting, station_of}
-use Rattle.ec_slave.specs.Physical.{Window, byte_at, register_byte, meeting, physical_after}
+use Rattle.ec_slave.specs.Physical.{Window, byte_at, register_byte, physical_met, physical_after}
 use Rattle.ec_slave.specs.Meeting.{window_of, meets, meets_by, meets_physically, slave_met, datagram_met}
 use Rattle.ec_slave.specs.Keeping.{meets-keeps}
 use Rattle.ec_slave.proofs.Bystanders.{other_position_passes}
@@ -85,7 +85,7 @@ physical s d (SendRequest t counter b r) number c = ap (λ (x : Command). meets_
 physical s d (AwaitReply t b r) number c = ap (λ (x : Command). meets_by x s d) c
 
 met-image : (s : SlaveState) (d : Datagram) → meets s d ≡ meets_physically s d → (slave_met s d).sii.image ≡ s.sii.image
-unfolding meeting physical_after
+unfolding physical_met physical_after
 met-image s d p =
     ap (λ (m : Meeting). m.slave.sii.image) p
     ∙ either-image (is_writing (role_of d.command (adp_of d) (station_of s))) (written s.sii (ado_of d) d.data_bytes) s.sii s.sii.image (written-image s.sii (ado_of d) d.data_bytes) refl

@@ -15,7 +15,7 @@ use Rattle.ec_al.specs.States.{state_number}
 use Rattle.ec_sii.specs.Port.{sii_byte}
 use Rattle.ec_slave.specs.Roles.{role_of, adp_after, is_reading, is_writing, is_joining}
 use Rattle.ec_slave.specs.State.{SlaveState, Met as Meeting, station_of, power_on}
-use Rattle.ec_slave.specs.Physical.{Window, touches, meeting, physical_after, byte_at, register_byte, byte_read, retold, may_read_byte}
+use Rattle.ec_slave.specs.Physical.{Window, touches, physical_met, physical_after, byte_at, register_byte, byte_read, retold, may_read_byte}
 use Rattle.ec_slave.specs.Meeting.{window_of, meets, meets_by, slave_met, datagram_met}
 use Rattle.ec_slave.proofs.Bystanders.{other_station_passes}
 use Rattle.ec_slave.proofs.Broadcast.{registers-idle}
@@ -39,14 +39,14 @@ joins-none : (s : SlaveState) (d : Datagram) → d.command ≡ Fprd → adp_of d
 joins-none s d c e = ap (λ (x : Command). is_joining (role_of x (adp_of d) (station_of s))) c ∙ ap is_joining (if_true _ _ _ (eq-eqb _ _ e))
 
 pub read-slave : (s : SlaveState) (d : Datagram) → d.command ≡ Fprd → adp_of d ≡ station_of s → slave_met s d ≡ physical_after s true false (window_of d)
-unfolding meets meeting
+unfolding meets physical_met
 read-slave s d c e =
     ap (λ (x : Command). (meets_by x s d).slave) c
     ∙ (ap (λ (b : Bool). physical_after s b (is_writing (role_of d.command (adp_of d) (station_of s))) (window_of d)) (reads s d c e)
     ∙ ap (λ (b : Bool). physical_after s true b (window_of d)) (writes-none s d c e))
 
 pub read-bytes : (s : SlaveState) (d : Datagram) → d.command ≡ Fprd → adp_of d ≡ station_of s → (datagram_met s d).data_bytes ≡ retold d.data_bytes (byte_read s false (window_of d))
-unfolding meets meeting
+unfolding meets physical_met
 read-bytes s d c e =
     ap (λ (x : Command). (meets_by x s d).datagram.data_bytes) c
     ∙ (ap (λ (b : Bool). if b then retold d.data_bytes (byte_read s (is_joining (role_of d.command (adp_of d) (station_of s))) (window_of d)) else d.data_bytes) (reads s d c e)

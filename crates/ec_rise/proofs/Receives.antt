@@ -18,7 +18,7 @@ use Rattle.ec_frame.specs.Datagram.{Datagram, IsDatagram, adp_of}
 use Rattle.ec_slave.specs.Roles.{role_of, is_writing}
 use Rattle.ec_slave.specs.State.{SlaveState, Met as Meeting, manager_at, station_of}
 use Rattle.ec_slave.specs.Managers.{reads_under, is_ungoverned, is_read_by}
-use Rattle.ec_slave.specs.Physical.{Window, touches, physical_after, physical_manager, physical_managers, may_read_byte, some_byte_read, some_byte_written, byte_read, byte_at, ram_byte, retold, meeting}
+use Rattle.ec_slave.specs.Physical.{Window, touches, physical_after, physical_manager, physical_managers, may_read_byte, some_byte_read, some_byte_written, byte_read, byte_at, ram_byte, retold, physical_met}
 use Rattle.ec_slave.specs.Meeting.{window_of, meets, meets_by, slave_met, datagram_met}
 use Rattle.ec_coe.specs.Messages.{message_read}
 use Rattle.ec_regs.specs.Fmmus.{fmmu_bytes}
@@ -48,7 +48,7 @@ asking-length b = length-replicate {A = ℕ} b.send_size 0
 -- ---- the counter of a read
 
 pub read-counter : (s : SlaveState) (d : Datagram) → d.command ≡ Fprd → adp_of d ≡ station_of s → (datagram_met s d).counter ≡ (d.counter + (from_bool (some_byte_read s.managers (window_of d)) + 2 * 0)) % 65536
-unfolding meets meeting
+unfolding meets physical_met
 read-counter s d c e =
     let r : ℕ = 0 in
     ap (λ (x : Command). (meets_by x s d).datagram.counter) c

@@ -17,10 +17,9 @@ mod managers;
 
 use crate::fmmus::read_fmmus;
 use crate::passing::MAX_DATA;
-use crate::physical::bytes::{
-    end_of_part, owner_of, read_over, read_slice, reads_byte, write_physical,
-};
+use crate::physical::bytes::{end_of_part, read_over, read_slice, reads_byte, write_physical};
 use crate::physical::managers::access_managers;
+use crate::reach::owner_of;
 use crate::role::Role;
 use crate::slave::Slave;
 use ec_al::Al;

@@ -3,11 +3,12 @@
 
 ghost use Rattle.std.specs.Prelude.{◌≡◌, ◌+◌, ◌<◌, ◌≤◌, ◌&&◌, if◌then◌else◌, length, IfSome, true};
 ghost use Rattle.ec_bits.specs.Bits.{any_below};
-ghost use Rattle.ec_regs.specs.Memory.{ram_end};
+ghost use Rattle.ec_regs.specs.Memory.{ram_end, ram_start};
 ghost use Rattle.ec_sync.specs.Manager.{LiesInRam, ring_read, ring_written};
 ghost use Rattle.ec_sync.specs.Governing.{governor as governor_of};
 ghost use Rattle.ec_slave.specs.Managers.{gets_at, is_read_by, is_ungoverned, is_written_by};
 
+use ec_regs::registers::RAM_START;
 use ec_sync::{Manager, Touching, Writing};
 
 /// The number of the sync manager that governs a byte: the lowest one that is set and whose span has it.
@@ -16,6 +17,18 @@ pub(crate) fn governor(managers: &[Manager], address: usize) -> Option<usize>
     ensures within { IfSome result (λ n. n < length managers.now) }
 {
     managers.iter().position(|manager| manager.governs(address))
+}
+
+/// The governor of a byte of the RAM, if it has one; none of a register.
+pub(crate) fn owner_of(managers: &[Manager], address: usize) -> Option<usize>
+    ensures within { IfSome result (λ n. n < length managers.now) }
+    ensures value { ram_start ≤ address → result ≡ governor_of managers.now address }
+{
+    if address < RAM_START {
+        None
+    } else {
+        governor(managers, address)
+    }
 }
 
 /// Whether an access touches a byte that no manager in `lower` governs.

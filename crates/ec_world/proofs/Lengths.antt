@@ -24,7 +24,7 @@ use Rattle.ec_slave.specs.Keeping.{length-retold}
 use Rattle.ec_slave.specs.Roles.{role_of, is_reading, is_writing}
 use Rattle.ec_slave.specs.State.{SlaveState, Met as Meeting, manager_at, station_of, power_on}
 use Rattle.ec_slave.specs.Managers.{manager_after, is_written_by, is_read_by, is_ungoverned}
-use Rattle.ec_slave.specs.Physical.{Window, touches, physical_value, is_configured, settings_written, physical_manager, physical_managers, physical_after, meeting}
+use Rattle.ec_slave.specs.Physical.{Window, touches, physical_value, is_configured, settings_written, physical_manager, physical_managers, physical_after, physical_met}
 use Rattle.ec_slave.specs.Logical.{logical_value, logical_managers, meets_logically}
 use Rattle.ec_slave.specs.Meeting.{window_of, meets, meets_by, meets_physically, slave_met}
 use Rattle.ec_slave.specs.Application.{input_put, output_got, output_taken, with_manager, is_running}
@@ -120,7 +120,7 @@ unfolding physical_after
 physical-fits s reads writes w h = all-met-fit [] s.managers reads writes w 0 h
 
 physically : (s : SlaveState) (d : Datagram) → AllFit s → AllFit (meets_physically s d).slave
-unfolding meeting
+unfolding physical_met
 physically s d h = physical-fits s (is_reading (role_of d.command (adp_of d) (station_of s))) (is_writing (role_of d.command (adp_of d) (station_of s))) (window_of d) h
 
 logically : (reading writing : Bool) (weight : ℕ) (s : SlaveState) (d : Datagram) → AllFit s → AllFit (meets_logically reading writing weight s d).slave

@@ -8,23 +8,11 @@ ghost use Rattle.ec_sync.specs.Governing.{governor as governor_of};
 ghost use Rattle.ec_sync.specs.Manager.{Manager};
 ghost use Rattle.ec_slave.specs.Physical.{Window, byte_from, is_kept, may_read_byte, may_write_byte, memory_written, retold, some_byte_written};
 
-use crate::reach::governor;
+use crate::reach::owner_of;
 use crate::runs::{cut, end_of_alike};
 use ec_regs::registers::{RAM_END, RAM_START, SYNC_MANAGERS, SYNC_MANAGERS_END};
 use ec_regs::{is_stored, takes_writes};
 use ec_sync::Manager;
-
-/// The governor of a byte of the RAM, if it has one; none of a register.
-pub(crate) fn owner_of(managers: &[Manager], address: usize) -> Option<usize>
-    ensures within { IfSome result (λ n. n < length managers.now) }
-    ensures value { ram_start ≤ address → result ≡ governor_of managers.now address }
-{
-    if address < RAM_START {
-        None
-    } else {
-        governor(managers, address)
-    }
-}
 
 /// Whether a datagram over `len` bytes from `from` on reads the byte at an address that it touches, and that has this
 /// owner.
