@@ -53,6 +53,14 @@ pdo_row p low high n d found = members_in p d >>= (λ ms. pdo_of p low high ms)
 abbrev pub pdos_in : Place → ℕ → ℕ → Option Data → Result (List Pdo) Fault
 pdos_in p low high value = array_in (pdo_row p low high) p 16 value
 
+-- where the indices of the output PDOs end (receive PDOs, ETG.1000.6, "Object dictionary"), and those of the input PDOs
+-- (transmit PDOs)
+abbrev pub last_output_index : ℕ
+last_output_index = 0x17FF
+
+abbrev pub last_input_index : ℕ
+last_input_index = 0x1BFF
+
 abbrev pub indices_of : List Pdo → List ℕ
 indices_of pdos = map (λ (q : Pdo). q.index) pdos
 

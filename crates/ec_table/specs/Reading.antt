@@ -11,6 +11,7 @@ use Rattle.ec_table.specs.declared.fault.Place.{Place}
 use Rattle.ec_table.specs.declared.fault.Section.TheVariants as section
 use Rattle.ec_table.specs.declared.rows.Version.{Version}
 use Rattle.ec_regs.specs.declared.slave_type.Device.{Device}
+use Rattle.ec_regs.specs.Types.{first_output_index, first_input_index}
 use Rattle.ec_table.specs.declared.rows.ProcessData.{ProcessData}
 use Rattle.ec_table.specs.declared.rows.TypeRow.{TypeRow}
 use Rattle.ec_table.specs.declared.rows.SlaveRow.{SlaveRow}
@@ -22,7 +23,7 @@ use Rattle.ec_table.specs.declared.slaves.Written.{Written}
 use Rattle.ec_table.specs.Contents.{Contents}
 use Rattle.ec_table.specs.InOrder.{members_in, rows_after}
 use Rattle.ec_table.specs.Names.{is_named, place_named}
-use Rattle.ec_table.specs.Pdos.{pdos_in, indices_of, has_twice, numbers_in}
+use Rattle.ec_table.specs.Pdos.{last_output_index, last_input_index, pdos_in, indices_of, has_twice, numbers_in}
 use Rattle.ec_table.specs.Fields.{◌>>=◌, must, keys_are, name_in, direction_in, mailbox_in, section_in, number_in, number_or_0, truth_in, version_in, link_bits_in}
 
 -- ---- types
@@ -40,8 +41,8 @@ unfoldable pub process_in : Place → Members → Result ProcessData Fault
 process_in p ms = do
   out_start ← number_in p 0 65535 (get_member (codes "out_start") ms)
   in_start ← number_in p 0 65535 (get_member (codes "in_start") ms)
-  outputs ← pdos_in p 0x1600 0x17FF (get_member (codes "rxpdo") ms)
-  inputs ← pdos_in p 0x1A00 0x1BFF (get_member (codes "txpdo") ms)
+  outputs ← pdos_in p first_output_index last_output_index (get_member (codes "rxpdo") ms)
+  inputs ← pdos_in p first_input_index last_input_index (get_member (codes "txpdo") ms)
   Ok (record { out_start = out_start; in_start = in_start; outputs = outputs; inputs = inputs })
 
 -- some object stands twice in a direction
@@ -96,8 +97,8 @@ slave_of_type types p name type_name w = do
 unfoldable pub slave_named : List TypeRow → Place → Members → List ℕ → Bool → Result SlaveRow Fault
 slave_named types p ms name is_taken = do
   type_name ← name_in p (get_member (codes "type") ms)
-  outputs ← numbers_in p 0x1600 0x17FF (get_member (codes "out") ms)
-  inputs ← numbers_in p 0x1A00 0x1BFF (get_member (codes "in") ms)
+  outputs ← numbers_in p first_output_index last_output_index (get_member (codes "out") ms)
+  inputs ← numbers_in p first_input_index last_input_index (get_member (codes "in") ms)
   serial ← number_or_0 p 4294967295 (get_member (codes "serial") ms)
   unit ← number_or_0 p 63 (get_member (codes "unit") ms)
   _ ← must (not (is_taken || (has_twice (unwrap_or outputs []) || has_twice (unwrap_or inputs [])))) (TwiceNamed p)
