@@ -190,6 +190,10 @@ meets-same args slaves frame w n f h =
     let told = meets_rows (subcommand_of ecat args) (slaves_row (decimal slaves) ∷ frame_row frame ∷ []) n f h (subcommand_of-pass args slaves frame w) in
     (told.1 (without_minus (decimal slaves)) refl ∙ number.reads, sym (same_text frame f told.0))
 
+-- nothing is wrong with arguments that `clap` takes
+pub none_wrong : (line : App) (args : List Text) → line ≡ ecat → (is_simple_and_free line ≡ true → fault_of line args ≡ []) → fault_of ecat args ≡ []
+none_wrong line args is none = subst (λ (l : App). is_simple_and_free l ≡ true → fault_of l args ≡ []) is none ecat-simple
+
 -- what `clap` answers is a fault of these arguments
 pub refused_fault : (line : App) (args : List Text) (error : Error) → line ≡ ecat → (is_simple_and_free line ≡ true → HasKind (fault_of line args) error)
     → IsFault args (kind_of error)
@@ -216,16 +220,16 @@ memory_notice kind (Help text) is told = let bad : false ≡ true = sym (ap is_a
 memory_notice kind (Usage text) is told = absurd (told.1 is)
 
 pub pass_is_read : PassIsRead
-pass_is_read args slaves frame (Ok (Pass n f)) w asks =
+pass_is_read args slaves frame (Ok (Pass n f)) w (none, asks) =
     let same = meets-same args slaves frame w n f.now asks in
     (λ i. PassOf (same.0 i) (same.1 i))
-pass_is_read args slaves frame (Ok (Plan e)) w asks =
+pass_is_read args slaves frame (Ok (Plan e)) w (none, asks) =
     absurd (other_word (codes "pass") (codes "plan") refl (ap name_in (sym (subcommand_of-pass args slaves frame w) ∙ asks.command)))
-pass_is_read args slaves frame (Ok Sim) w asks =
+pass_is_read args slaves frame (Ok Sim) w (none, asks) =
     absurd (other_word (codes "pass") (codes "sim") refl (ap name_in (sym (subcommand_of-pass args slaves frame w) ∙ asks.command)))
-pass_is_read args slaves frame (Ok (Loop n)) w asks =
+pass_is_read args slaves frame (Ok (Loop n)) w (none, asks) =
     absurd (other_word (codes "pass") (codes "loop") refl (ap name_in (sym (subcommand_of-pass args slaves frame w) ∙ asks.command)))
-pass_is_read args slaves frame (Ok (Segment n p)) w asks =
+pass_is_read args slaves frame (Ok (Segment n p)) w (none, asks) =
     absurd (other_word (codes "pass") (codes "segment") refl (ap name_in (sym (subcommand_of-pass args slaves frame w) ∙ asks.command)))
 pass_is_read args slaves frame (Err notice) w (kind, fault, told) =
     memory_notice kind notice (no_other_fault args kind (no_fault-pass args slaves frame w) (PassOf slaves frame, meets-pass args slaves frame w) fault) told
@@ -261,18 +265,18 @@ same_flag true e given absent = given refl
 same_flag false e given absent = absent refl
 
 pub plan_is_read : PlanIsRead
-plan_is_read args explained (Ok (Pass n f)) w asks =
+plan_is_read args explained (Ok (Pass n f)) w (none, asks) =
     absurd (other_word (codes "plan") (codes "pass") refl (ap name_in (sym (subcommand_of-plan args explained w) ∙ asks.command)))
-plan_is_read args explained (Ok (Plan e)) w asks =
+plan_is_read args explained (Ok (Plan e)) w (none, asks) =
     let rows : asks.rows ≡ explain_row explained ∷ [] = ap rows_in (sym asks.command ∙ subcommand_of-plan args explained w) in
     ap PlanOf (same_flag explained e
     (subst (λ (l : List Row). one_of (codes "explain") l ≡ Some (codes "true") → e ≡ true) rows asks.given)
     (subst (λ (l : List Row). one_of (codes "explain") l ≡ Some (codes "false") → e ≡ false) rows asks.absent))
-plan_is_read args explained (Ok Sim) w asks =
+plan_is_read args explained (Ok Sim) w (none, asks) =
     absurd (other_word (codes "plan") (codes "sim") refl (ap name_in (sym (subcommand_of-plan args explained w) ∙ asks.command)))
-plan_is_read args explained (Ok (Loop n)) w asks =
+plan_is_read args explained (Ok (Loop n)) w (none, asks) =
     absurd (other_word (codes "plan") (codes "loop") refl (ap name_in (sym (subcommand_of-plan args explained w) ∙ asks.command)))
-plan_is_read args explained (Ok (Segment n p)) w asks =
+plan_is_read args explained (Ok (Segment n p)) w (none, asks) =
     absurd (other_word (codes "plan") (codes "segment") refl (ap name_in (sym (subcommand_of-plan args explained w) ∙ asks.command)))
 plan_is_read args explained (Err notice) w (kind, fault, told) =
     memory_notice kind notice (no_other_fault args kind (no_fault-plan args explained w) (PlanOf explained, meets-plan args explained w) fault) told

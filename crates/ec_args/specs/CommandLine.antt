@@ -195,9 +195,10 @@ IsNotice kind Memory = Unit {0}
 IsNotice kind (Help text) = is_answer kind ≡ true
 IsNotice kind (Usage text) = (is_answer kind ≡ false) × (kind ≢ OutOfMemory)
 
--- what is read of the arguments: the command that `clap` finds, or a notice of the error that they meet
+-- what is read of the arguments: where nothing is wrong with them, the command that `clap` finds; or a notice of the error
+-- that they meet
 abbrev pub Reads : List Text → Result Request Notice → Type 0
-Reads args (Ok request) = Asks (subcommand_of ecat args) request
+Reads args (Ok request) = (fault_of ecat args ≡ []) × Asks (subcommand_of ecat args) request
 Reads args (Err notice) = (kind : ErrorKind) × IsFault args kind × IsNotice kind notice
 
 -- ---- some spellings, spelled out

@@ -24,17 +24,25 @@ const PASS_REFUSALS: &str = "\
 HEX is the payload of a UDP datagram to port 34980 (0x88A4): two bytes of header and the
 datagrams. The same bytes stand behind the header of an Ethernet frame of type 0x88A4.
 
-Refusals:
-  40 BadHex      HEX isn't pairs of hex digits: leave out blanks and 0x
-   7 TooLong     HEX has over 1472 bytes, or the header says over 1470 bytes of datagrams
-   2 Short       HEX has fewer bytes than the header, or than bits 0 to 10 of the header say
-   3 BadType     bits 12 to 15 of the header aren't 1
-   4 BadLength   no datagram fits where one begins: see the header's length, and the length at
-                 offset 6 of each datagram
-   6 BadCommand  a datagram's command is over 14
-   5 BadMore     a datagram's bit 15 at offset 6 must be set but in the last datagram
-   1 Memory      memory ran out: HEX may be good or bad
-  41 Output      the answer couldn't be written; exit status 4";
+Exit status:
+  0  the frame is on standard output as it comes back: one line of hex digits
+  2  the arguments ask for no command: put them right as standard error says
+  3  HEX is refused, and standard error says `ecat: NUMBER NAME`:
+     40 BadHex      HEX isn't pairs of hex digits: leave out blanks and 0x
+      7 TooLong     HEX has over 1472 bytes, or the header says over 1470 bytes of datagrams:
+                    send fewer datagrams in a frame
+      2 Short       HEX has fewer bytes than the header, or than bits 0 to 10 of the header say:
+                    give all of them, or put the header right
+      3 BadType     bits 12 to 15 of the header aren't 1: begin with the EtherCAT header, not with
+                    that of Ethernet, IP or UDP
+      4 BadLength   no datagram fits where one begins: see the header's length, and the length at
+                    offset 6 of each datagram
+      6 BadCommand  a datagram's command is over 14: see its first byte
+      5 BadMore     a datagram's bit 15 at offset 6 must be set but in the last datagram
+      1 Memory      memory ran out, and HEX may be good or bad: free some and try again
+  4  the output is at fault, told in the same form:
+     41 Output      the answer couldn't be written, or a part of it is: see where standard output
+                    goes";
 
 /// What stands below the arguments of `ecat plan`.
 const PLAN_LINES: &str = "\
@@ -47,31 +55,48 @@ Lines, in this order for each slave, and then for each part:
                              of its LRW; W/R are those of an LWR and an LRD, where a slave of the
                              part takes no part in LRW. A table of version 2 adds ` unit U`
 
-Refusals of a table; PLACE counts from 0 in file order:
-  11 Toml                    the text is no TOML
-  12 BadKey SECTION PLACE    a key is unknown or missing. SECTION is 0 for the document,
-                             1 type, 2 slave, 3 variable, 4 link
-  13 BadValue SECTION PLACE  a value has the wrong kind, range or number of items
+Exit status:
+  0  the plan is on standard output
+  2  the arguments ask for no command: put them right as standard error says
+  3  the table is refused, and standard error says `ecat: NUMBER NAME VALUES`
+  4  input or output is at fault, told in the same form
+
+Refusals with status 3; PLACE counts from 0 in file order:
+  11 Toml                    the text is no TOML: put its syntax right
+  12 BadKey SECTION PLACE    a key is unknown or missing: leave it out or add it. SECTION is 0 for
+                             the document, 1 type, 2 slave, 3 variable, 4 link
+  13 BadValue SECTION PLACE  a value has the wrong kind, range or number of items: give one that
+                             its key takes
   14 TwiceNamed SECTION PLACE
-                             a name, or the index of a PDO, stands twice
+                             a name, or the index of a PDO, stands twice: change one of them
   15 UnknownName SECTION PLACE
-                             a name, or the index of a PDO, is unknown
-  16 WrongDirection PLACE    of a link: the slave has that entry in the other direction
-  17 NoEntry PLACE           of a link: the slave assigns no such entry
-  18 OutsideEntry PLACE      of a link: it has bits past the entry or the variable
-  19 LinkedTwice PLACE       of a link: an earlier link gives one of its bits
-  20 EntryTwice PLACE        of a slave: it assigns an entry twice in one direction
-  21 TooManyBits PLACE       of a slave: it has over 2048 bits in a direction
-  22 TooManySlaves COUNT     over 64 slaves
+                             a name, or the index of a PDO, is unknown: correct it, or add what
+                             it names
+  16 WrongDirection PLACE    of a link: the slave has that entry in the other direction: link a
+                             variable of that direction
+  17 NoEntry PLACE           of a link: the slave assigns no such entry: assign its PDO, or link
+                             another
+  18 OutsideEntry PLACE      of a link: it has bits past the entry or the variable: link fewer
+  19 LinkedTwice PLACE       of a link: an earlier link gives one of its bits: leave one out
+  20 EntryTwice PLACE        of a slave: it assigns an entry twice in one direction: assign one of
+                             its PDOs less
+  21 TooManyBits PLACE       of a slave: it has over 2048 bits in a direction: assign fewer PDOs
+  22 TooManySlaves COUNT     over 64 slaves: make two tables
   23 TooManyParts COUNT      over 32 parts: put slaves into fewer sync units
   24 AreasOverlap PLACE      of a slave: areas of two of its sync managers overlap; a buffer has
-                             three times its length
-  25 OutsideRam PLACE        of a slave: an area is not within 0x1000 to 0x2fff
-  44 SplitVariable PLACE     of an input variable: it has links from two sync units
-   1 Memory                  memory ran out: the table may be good or bad
-  41 Output                  the plan couldn't be written; exit status 4
+                             three times its length: see the starts in its type
+  25 OutsideRam PLACE        of a slave: an area is not within 0x1000 to 0x2fff: see the starts in
+                             its type
+  44 SplitVariable PLACE     of an input variable: it has links from two sync units: make two
+                             variables of it, or put the slaves into one unit
+   1 Memory                  memory ran out, and the table may be good or bad: free some and try
+                             again
+
+Refusals with status 4:
+  41 Output                  the plan couldn't be written, or a part of it is: see where standard
+                             output goes
   42 Input                   standard input couldn't be read, is no text in UTF-8, or has over
-                             1048576 bytes; exit status 4";
+                             1048576 bytes: see where it comes from";
 
 /// What stands below the description of `ecat sim`.
 const SIM_LINES: &str = "\
@@ -95,11 +120,30 @@ Lines of a script:
   cycle           a cycle is run: begin, each frame past all slaves and back, close
   show            the input variables are printed
 
-An event that can't be made prints `no` and the line's number. The end of a start-up prints `ready`,
-or `failed` and the number of its refusal, which `ecat loop --help` lists.
+What a line prints, before the next one runs:
+  no LINE         an event can't be made, and the script's line of this number ended there
+  ready           the start-up has ended well
+  failed NUMBER   it has ended otherwise; `ecat loop --help` says what each number stands for
+  report taken missing M counters C C .. al WORD
+                  the cycle was closed: inputs were taken, or `untaken` in place of `taken`; M
+                  frames are missing; the working counters of each part as in the plan, `-` where
+                  its frame is missing; and the OR of the slaves' AL status words in hex. With a
+                  table of version 2 each sync unit has its number and its own `taken` or `untaken`
+  byte BYTE       what `get` read, in hex
+  NAME VALUE      of `show`, for each input variable
+Other lines print nothing.
 
-Refusals are those of `ecat plan` and
-  39 BadScript LINE  a line is none of these; LINE counts from 1 behind the line `%%`";
+Exit status:
+  0  the script was run to its end, also where lines printed `no` or `failed`
+  2  the arguments ask for no command: put them right as standard error says
+  3  refused, and standard error says `ecat: NUMBER NAME VALUES`:
+     11 to 25, 44        the table is refused; `ecat plan --help` says what to do
+     39 BadScript LINE   a line is none of these: correct it; LINE counts from 1 behind `%%`
+      1 Memory           memory ran out, and the input may be good or bad: free some and try again
+  4  input or output is at fault, told in the same form:
+     41 Output           what a line says couldn't be written: see where standard output goes
+     42 Input            standard input couldn't be read, is no text in UTF-8, or has over 1048576
+                         bytes: see where it comes from";
 
 /// What stands below the arguments of `ecat loop`.
 const LOOP_LINES: &str = "\
@@ -112,22 +156,40 @@ Lines, in this order:
                      working counters of each part, and the slaves' AL states
   NAME VALUE         for each input variable: its value at the end
 
-Refusals are those of `ecat plan` and, of the start-up and the cycles,
-   9 BadMailbox SLAVE      what the slave's mailbox held is no reply to the request
-  26 Count SEEN            SEEN slaves are there, and not as many as the table has
+Exit status:
+  0  all cycles were run
+  2  the arguments ask for no command: put them right as standard error says
+  3  refused, and standard error says `ecat: NUMBER NAME VALUES`
+  4  input, output or a socket is at fault, told in the same form
+
+Refusals with status 3; SLAVE and STEP count from 0:
+  11 to 25, 44             the table is refused; `ecat plan --help` says what to do
+   9 BadMailbox SLAVE      what the slave's mailbox held is no reply to the request: see the
+                           mailbox of its type
+  26 Count SEEN            SEEN slaves are there, and not as many as the table has: see the cables
+                           and the table
   27 Identity SLAVE VENDOR PRODUCT REVISION
-                           the slave is another device than its type says
-  28 Counter STEP          a frame came back with another working counter than it must have
-  29 AlError SLAVE CODE    the slave refused a state, and shows this AL status code
-  30 Abort SLAVE CODE      the slave aborted a transfer with this code
-  31 TooSlow STEP          a wait wasn't over after 1000 polls
-  32 Lost                  a socket was faulty in the start-up
-  36 NumbersSpent          no frame number is left
-  37 Wire                  a socket was faulty in a cycle; exit status 4
+                           the slave is another device than its type says: see the order of the
+                           slaves, and the type
+  28 Counter STEP          a frame came back with another working counter than it must have: see
+                           whether a slave was switched off
+  29 AlError SLAVE CODE    the slave refused a state, and shows this AL status code: see its manual
+  30 Abort SLAVE CODE      the slave aborted a transfer with this code: see its manual
+  31 TooSlow STEP          a wait wasn't over after 1000 polls: see whether the slave works
+  32 Lost                  a socket was faulty in the start-up: try again
+  36 NumbersSpent          no frame number is left: try again
   38 Mapping SLAVE INDEX SUBINDEX SEEN
                            an object of the slave's PDO mapping holds SEEN, and not what its
-                           type says
-  43 Socket                there is no such socket; exit status 4";
+                           type says: correct the type
+   1 Memory                memory ran out, and the table may be good or bad: free some and try
+                           again
+
+Refusals with status 4:
+  37 Wire                  a socket was faulty in a cycle: try again
+  41 Output                a line couldn't be written: see where standard output goes
+  42 Input                 standard input couldn't be read, is no text in UTF-8, or has over
+                           1048576 bytes: see where it comes from
+  43 Socket                there is no socket on 127.0.0.1 to be had: see what else has sockets";
 
 /// What stands below the arguments of `ecat segment`.
 const SEGMENT_LINES: &str = "\
@@ -135,8 +197,18 @@ The slaves' applications show their outputs as their inputs. Standard error has 
 port once the segment listens there. At the end a line `served N refused M` says how many
 payloads were frames, which were answered, and how many were not.
 
-Refusals are those of `ecat plan` and
-  43 Socket          the port is in use, or no payload came for a minute; exit status 4";
+Exit status:
+  0  all payloads came, and the line is on standard output
+  2  the arguments ask for no command: put them right as standard error says
+  3  refused, and standard error says `ecat: NUMBER NAME VALUES`:
+     11 to 25, 44       the table is refused; `ecat plan --help` says what to do
+      1 Memory          memory ran out, and the table may be good or bad: free some and try again
+  4  input, output or a socket is at fault, told in the same form:
+     41 Output          the line couldn't be written: see where standard output goes
+     42 Input           standard input couldn't be read, is no text in UTF-8, or has over 1048576
+                        bytes: see where it comes from
+     43 Socket          the port is in use, or no payload came for a minute: take another port, or
+                        start the master in time";
 
 /// `--slaves N`, the number of slaves of the ring.
 fn slaves_argument<'a>(alloc: Global) -> Arg<'a>

@@ -1,4 +1,5 @@
-ghost use Rattle.std.specs.Prelude.{◌≡◌, ◌⊎◌, map, IfOk, IfErr, IfSome, IfNone};
+ghost use Rattle.std.specs.Prelude.{◌≡◌, ◌⊎◌, [], map, IfOk, IfErr, IfSome, IfNone, OnOk};
+ghost use Rattle.clap.specs.Faults.{fault_of};
 ghost use Rattle.clap.specs.Matches.{found_of};
 ghost use Rattle.clap.specs.Simple.{subcommand_of, subcommand_rows_of};
 ghost use Rattle.clap.specs.Values.{kind_of};
@@ -85,6 +86,7 @@ fn no_command(command: &mut Command<'_>) -> Error
 
 /// What the arguments ask for, or `clap`'s error.
 fn read_request<'a, S: AsStr>(alloc: Global, args: &'a [S]) -> Result<Request<'a>, Error>
+    ensures faultless { OnOk result (fault_of ecat (map S.text args.entry.now) ≡ []) }
     ensures found { IfOk result (Asks (subcommand_of ecat (map S.text args.entry.now))) }
     ensures fault { IfErr result (λ error. IsFault (map S.text args.entry.now) (kind_of error)) }
 {
@@ -111,7 +113,8 @@ fn notice_of(alloc: Global, error: &Error) -> Notice
 }
 
 /// What the arguments ask for, the first of which is the program's name. It is what `clap`'s own
-/// specification finds in them; where it finds no command, the notice says what to tell the user.
+/// specification finds in them where nothing is wrong with any of them; else the notice says what
+/// to tell the user.
 pub fn read_args<'a, S: AsStr>(alloc: Global, args: &'a [S]) -> Result<Request<'a>, Notice>
     ensures { Reads (map S.text args.entry.now) result }
 {

@@ -3,7 +3,7 @@ use Rattle.clap.proofs.TakesLemmas.{passed_up}
 use Rattle.clap.specs.Simple.{app_of}
 use Rattle.clap.specs.Values.{kind_of}
 use Rattle.ec_args.specs.CommandLine.{IsFault}
-use Rattle.ec_args.proofs.RequestLemmas.{missing_fault, refused_fault}
+use Rattle.ec_args.proofs.RequestLemmas.{missing_fault, none_wrong, refused_fault}
 use Rattle.ec_args.proofs.request.read_request.Goals as goal
 
 pub returns-in_err-matches-clause-fault : goal.returns-in_err-matches-clause-fault
@@ -11,6 +11,9 @@ returns-in_err-matches-clause-fault g c =
     passed_up c.from_residual-in_err-matches.result c.in_err-matches.field-0.0 (λ error. IsFault (map g.S.AsStr.text c.args.args.now) (kind_of error))
     c.from_residual-in_err-matches.ensures.1
     (refused_fault (app_of c.in_ok-command.command) _ c.in_err-matches.field-0.0 c.in_ok-command.ensures c.in_err-matches.ensures.kinds)
+
+pub returns-in-Some-clause-faultless : goal.returns-in-Some-clause-faultless
+returns-in-Some-clause-faultless g c = none_wrong (app_of c.in_ok-command.command) _ c.in_ok-command.ensures c.in_ok-matches.ensures.kinds
 
 pub returns-clause-fault : goal.returns-clause-fault
 returns-clause-fault g c =
