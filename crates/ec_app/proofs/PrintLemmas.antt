@@ -1,12 +1,10 @@
--- Streams that grow in steps, and what a formatted line holds.
-use Rattle.std.proofs.Common.{◌≡◌, ◌∙◌, ℕ, zero, suc, ◌+◌, ◌-◌, ◌≤◌, List, [], ◌∷◌, ◌++◌, length, take, drop, Option, None, Some, refl, sym, ap, subst, append_assoc, zero-add, arith, Result, Ok, Err, OnOk, OnErr}
-use Rattle.std.specs.Fmt.{WritesInCalls}
+-- Streams that grow in steps.
+use Rattle.std.proofs.Common.{◌≡◌, ◌∙◌, ℕ, zero, suc, ◌+◌, ◌-◌, ◌≤◌, List, [], ◌∷◌, ◌++◌, length, take, drop, Option, None, Some, refl, sym, ap, subst, append_assoc, zero-add, arith, Result, Ok, Err, IfErr, OnOk, OnErr}
 use Rattle.std.specs.Io.KnownBytes.{Appends, Keeps}
-use Rattle.std.proofs.lemmas.Fmt.{contents_after_writes}
 use Rattle.std.proofs.lemmas.List.{append-nil}
-use Rattle.arrayvec.specs.ArrayString.{ArrayString}
-use Rattle.ec_app.specs.Printing.{AppendsPart}
+use Rattle.ec_app.specs.Printing.{AppendsPart, Shows}
 use Rattle.ec_app.specs.declared.refusal.Refusal.{Refusal}
+use Rattle.ec_app.specs.declared.refusal.Refusal.TheVariants.{Output}
 
 pub appends_nothing : (known : Option (List ℕ)) → Appends known known []
 appends_nothing None = tt
@@ -74,12 +72,16 @@ pub some_part : (r : Result Unit Refusal) (old new : Option (List ℕ)) (text : 
 some_part (Ok done) old new text all part = whole_part old new text all
 some_part (Err refusal) old new text all part = part
 
+-- what a write says of it, as one fact, and back
+pub shown : (r : Result Unit Refusal) (old new : Option (List ℕ)) (text : List ℕ) → OnOk r (Appends old new text) → OnErr r (AppendsPart old new text)
+    → IfErr r (λ e. e ≡ Output) → Shows text old new r
+shown (Ok done) old new text all part fault = all
+shown (Err refusal) old new text all part fault = (fault, part)
+
+pub shown_part : (r : Result Unit Refusal) (old new : Option (List ℕ)) (text : List ℕ) → Shows text old new r → AppendsPart old new text
+shown_part (Ok done) old new text shows = whole_part old new text shows
+shown_part (Err refusal) old new text shows = shows.1
+
 pub if_err : {T E P : Type 0} (r : Result T E) → P → OnErr r P
 if_err (Ok x) p = tt
 if_err (Err e) p = p
-
--- the bytes of a line of fixed room after a formatted write
-pub line_bytes : (s : ArrayString) (bytes : List ℕ) (t : ArrayString) → s.bytes ≡ []
-    → WritesInCalls (λ (a : ArrayString) bs b. b.bytes ≡ a.bytes ++ bs) s bytes t → t.bytes ≡ bytes
-line_bytes s bytes t empty wrote =
-    contents_after_writes (λ (a : ArrayString) bs b. b.bytes ≡ a.bytes ++ bs) (λ a. a.bytes) (λ a bs b appended. appended) s bytes t wrote ∙ ap (λ l. l ++ bytes) empty

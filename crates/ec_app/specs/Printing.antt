@@ -8,6 +8,11 @@ use Rattle.ec_app.specs.declared.refusal.Refusal.TheVariants.{Output}
 abbrev pub AppendsPart : Option (List ℕ) → Option (List ℕ) → List ℕ → Type 0
 AppendsPart old new text = (count : ℕ) × Appends old new (take count text)
 
+-- a text is printed once; or a write was refused, and a first part of it is printed
+abbrev pub Shows : List ℕ → Option (List ℕ) → Option (List ℕ) → Result Unit Refusal → Type 0
+Shows text old new (Ok done) = Appends old new text
+Shows text old new (Err refusal) = (refusal ≡ Output) × AppendsPart old new text
+
 -- a command that prints its answer as a whole: it is printed; or a write was refused, and a first part of it is printed;
 -- or the command is refused, and nothing is printed
 abbrev pub Prints : (List ℕ → Type 0) → (Refusal → Type 0) → Option (List ℕ) → Option (List ℕ) → Result Unit Refusal → Type 0

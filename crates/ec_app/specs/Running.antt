@@ -1,17 +1,16 @@
 -- How a run of `ecat` ends, whatever it was asked for (this project's profile).
 use Rattle.std.specs.Prelude.{◌≡◌, ◌⊎◌, ℕ, List, [], ◌∷◌, ◌++◌, Option, Result, Ok, Err, codes}
-use Rattle.std.specs.Io.KnownBytes.{Appends}
 use Rattle.std.specs.String.{string_bytes}
 use Rattle.ec_args.specs.CommandLine.{Command, PassOf, PlanOf, SimOf, LoopOf, SegmentOf, Reads, command_of}
 use Rattle.ec_args.specs.declared.request.Notice.{Notice}
 use Rattle.ec_args.specs.declared.request.Notice.TheVariants as notice
 use Rattle.ec_args.specs.declared.request.Request.{Request}
 use Rattle.ec_app.specs.declared.refusal.Refusal.{Refusal}
-use Rattle.ec_app.specs.declared.refusal.Refusal.TheVariants.{Memory, Output}
+use Rattle.ec_app.specs.declared.refusal.Refusal.TheVariants.{Memory}
 use Rattle.ec_app.specs.Looping.{RunsLoop}
 use Rattle.ec_app.specs.Passing.{RunsPass}
 use Rattle.ec_app.specs.Planning.{RunsPlan}
-use Rattle.ec_app.specs.Printing.{AppendsPart}
+use Rattle.ec_app.specs.Printing.{AppendsPart, Shows}
 use Rattle.ec_app.specs.Refusals.{line_of, status_of}
 use Rattle.ec_app.specs.Serving.{IsNoted, RunsSegment}
 use Rattle.ec_app.specs.Simulating.{RunsSim}
@@ -49,18 +48,13 @@ abbrev pub Tells : Stream → ℕ → Result Unit Refusal → Type 0
 Tells faults status (Ok done) = (status ≡ 0) × (faults.new ≡ faults.old)
 Tells faults status (Err refusal) = (status ≡ status_of refusal) × AppendsPart faults.old faults.new (line_of refusal)
 
--- a text is printed once; or a write was refused, and a first part of it is printed
-abbrev pub Shows : List ℕ → Stream → Result Unit Refusal → Type 0
-Shows text output (Ok done) = Appends output.old output.new text
-Shows text output (Err refusal) = (refusal ≡ Output) × AppendsPart output.old output.new text
-
 -- how a run ends that was asked for a command, or that has to tell something in place of one
 abbrev pub Ends : Result Request Notice → (given : Option (List ℕ)) → (output faults : Stream) → ℕ → Type 0
 Ends (Ok request) given output faults status =
     (ended : Result Unit Refusal) × (noted : Option (List ℕ)) × Runs (command_of request) given output ended
     × Notes (command_of request) (record { old = faults.old; new = noted }) × Tells (record { old = noted; new = faults.new }) status ended
 Ends (Err notice.Memory) given output faults status = (output.new ≡ output.old) × Tells faults status (Err Memory)
-Ends (Err (notice.Help text)) given output faults status = (ended : Result Unit Refusal) × Shows (string_bytes text) output ended × Tells faults status ended
+Ends (Err (notice.Help text)) given output faults status = (ended : Result Unit Refusal) × Shows (string_bytes text) output.old output.new ended × Tells faults status ended
 Ends (Err (notice.Usage text)) given output faults status = (status ≡ 2) × (output.new ≡ output.old) × AppendsPart faults.old faults.new (string_bytes text)
 
 -- what a run leaves alone

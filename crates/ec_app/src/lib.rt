@@ -2,6 +2,7 @@
 //! slave; this crate is the program.
 #![tactic(auto)]
 
+mod digits;
 mod input;
 mod looping;
 mod machine;

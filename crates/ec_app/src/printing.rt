@@ -1,7 +1,7 @@
 //! Texts on the output and on the fault stream.
 ghost use Rattle.std.specs.Prelude.{◌≡◌, IfErr, OnErr, OnOk};
 ghost use Rattle.std.specs.Io.KnownBytes.{Appends};
-ghost use Rattle.ec_app.specs.Printing.{AppendsPart};
+ghost use Rattle.ec_app.specs.Printing.{AppendsPart, Shows};
 ghost use Rattle.ec_app.specs.Refusals.{line_of};
 
 use crate::Refusal;
@@ -41,16 +41,12 @@ pub fn print_text<W: Write>(text: &[u8], output: &mut W) -> Result<(), Refusal>
     output.flush().map_err(|_| Refusal::Output)
 }
 
-/// Tells a refusal as the line `ecat: NUMBER NAME VALUES`. It takes no memory. Where a write is
-/// refused, a first part of the line is told.
+/// Tells a refusal: its line `ecat: NUMBER NAME VALUES` is written once, as `print_text` writes it.
+/// It takes no memory.
+#[tactic(auto, using(crate::proofs::PrintLemmas::shown))]
 pub fn tell<F: Write>(refusal: &Refusal, faults: &mut F) -> Result<(), Refusal>
-    ensures all { OnOk result
-        (Appends (F.contents faults.old) (F.contents faults.new) (line_of refusal.now)) }
-    ensures part { OnErr result
-        (AppendsPart (F.contents faults.old) (F.contents faults.new) (line_of refusal.now)) }
+    ensures { Shows (line_of refusal.now) (F.contents faults.old) (F.contents faults.new) result }
 {
-    match refusal.line() {
-        Ok(line) => print_text(line.as_bytes(), faults),
-        Err(_) => Err(Refusal::Output),
-    }
+    let line = refusal.line();
+    print_text(line.as_bytes(), faults)
 }

@@ -1,7 +1,9 @@
-ghost use Rattle.std.specs.Prelude.{◌≡◌};
-ghost use Rattle.ec_app.specs.Refusals.{link_values, listed, place_values};
+ghost use Rattle.std.specs.Prelude.{◌≡◌, ◌+◌, ◌≤◌, ◌++◌};
+ghost use Rattle.arrayvec.specs.ArrayString.{array_string_len};
+ghost use Rattle.ec_app.specs.Refusals.{link_values, listed, place_values, values_text};
 ghost use Rattle.ec_start.specs.Errors.{error_values};
 
+use crate::digits::{push_number, push_value};
 use arrayvec::ArrayString;
 use ec_frame::FrameError;
 use ec_link::LinkError;
@@ -14,7 +16,8 @@ use std::error::Error;
 use std::fmt;
 use std::fmt::Write as _;
 
-/// More bytes than a refusal's line has: its number, its name and four values have 110 at most.
+/// As many bytes as a refusal's line may have: with a number and four values of 20 digits each, and a
+/// name of 16 letters, it has 128.
 const LINE_SIZE: usize = 160;
 
 /// Why a command was refused. It prints as its number and its name, and behind them its values in
@@ -195,17 +198,45 @@ impl Refusal {
     }
 }
 
+/// Adds values to a line, each in decimal with a blank before it.
+fn push_values<const N: usize>(line: &mut ArrayString<N>, values: Values)
+    requires { array_string_len line.old + 84 ≤ N }
+    ensures bytes { line.new.bytes ≡ line.old.bytes ++ values_text (listed values) }
+    ensures room { array_string_len line.new ≤ array_string_len line.old + 84 }
+{
+    match values {
+        Values::Empty => {}
+        Values::One(value) => push_value(line, value),
+        Values::Two(first, second) => {
+            push_value(line, first);
+            push_value(line, second);
+        }
+        Values::Four(first, second, third, fourth) => {
+            push_value(line, first);
+            push_value(line, second);
+            push_value(line, third);
+            push_value(line, fourth);
+        }
+    }
+}
+
 impl Refusal {
-    ghost use Rattle.std.specs.Prelude.{◌≡◌, IfOk};
+    ghost use Rattle.std.specs.Prelude.{◌≡◌};
     ghost use Rattle.ec_app.specs.Refusals.{line_of};
 
-    /// The line that tells the refusal. It takes no memory.
-    pub fn line(&self) -> Result<ArrayString<LINE_SIZE>, fmt::Error>
-        ensures { IfOk result (λ line. line.bytes ≡ line_of self.now) }
+    /// The line that tells the refusal: `ecat: NUMBER NAME VALUES` and its end. It takes no memory.
+    #[tactic(auto, using(crate::proofs::RefusalLemmas::short_name))]
+    pub fn line(&self) -> ArrayString<LINE_SIZE>
+        ensures { result.bytes ≡ line_of self.now }
     {
         let mut line = ArrayString::new();
-        writeln!(line, "ecat: {self}")?;
-        Ok(line)
+        line.push_str("ecat: ");
+        push_number(&mut line, u64::from(self.number()));
+        line.push_str(" ");
+        line.push_str(self.name());
+        push_values(&mut line, self.values());
+        line.push_str("\n");
+        line
     }
 }
 

@@ -1,49 +1,52 @@
 //! `ecat segment`: the slaves of a link table, on a socket.
-ghost use Rattle.std.specs.Prelude.{◌≡◌, IfErr, IfOk, OnErr, OnOk};
+ghost use Rattle.std.specs.Prelude.{◌≡◌, IfErr, OnErr, OnOk};
 ghost use Rattle.std.specs.Io.KnownBytes.{Appends};
 ghost use Rattle.ec_app.specs.Printing.{AppendsPart};
 ghost use Rattle.ec_app.specs.Serving.{IsNoted, RunsSegment, listening_line, served_line};
 
 use crate::Refusal;
+use crate::digits::push_number;
 use crate::input::read_text;
 use crate::machine::slaves_of_table;
 use crate::printing::print_text;
 use arrayvec::ArrayString;
 use ec_wire::{App, Served, UdpWire, serve_segment};
-use std::fmt;
-use std::fmt::Write as _;
 use std::io::{Read, Write};
 use std::net::Net;
 
-/// More bytes than a line of these has.
+/// As many bytes as one of these lines may have.
 const LINE_SIZE: usize = 80;
 
 /// The line that says where a segment listens.
-fn listening(port: u16) -> Result<ArrayString<LINE_SIZE>, fmt::Error>
-    ensures { IfOk result (λ line. line.bytes ≡ listening_line port) }
+fn listening(port: u16) -> ArrayString<LINE_SIZE>
+    ensures { result.bytes ≡ listening_line port }
 {
     let mut line = ArrayString::new();
-    writeln!(line, "ecat: listening on 127.0.0.1:{port}")?;
-    Ok(line)
+    line.push_str("ecat: listening on 127.0.0.1:");
+    push_number(&mut line, u64::from(port));
+    line.push_str("\n");
+    line
 }
 
 /// The line that says how many payloads were answered, and how many not.
-fn served(counts: Served) -> Result<ArrayString<LINE_SIZE>, fmt::Error>
-    ensures { IfOk result (λ line. line.bytes ≡ served_line counts.answered counts.refused) }
+fn served(counts: Served) -> ArrayString<LINE_SIZE>
+    ensures { result.bytes ≡ served_line counts.answered counts.refused }
 {
-    let Served { answered, refused } = counts;
     let mut line = ArrayString::new();
-    writeln!(line, "served {answered} refused {refused}")?;
-    Ok(line)
+    line.push_str("served ");
+    push_number(&mut line, u64::from(counts.answered));
+    line.push_str(" refused ");
+    push_number(&mut line, u64::from(counts.refused));
+    line.push_str("\n");
+    line
 }
 
 /// Tells where a segment listens. A fault in telling it changes nothing.
 fn tell_listening<F: Write>(port: u16, faults: &mut F)
     ensures { AppendsPart (F.contents faults.old) (F.contents faults.new) (listening_line port) }
 {
-    if let Ok(line) = listening(port) {
-        let _ = print_text(line.as_bytes(), faults);
-    }
+    let line = listening(port);
+    let _ = print_text(line.as_bytes(), faults);
 }
 
 /// Prints how many payloads were answered, and how many not.
@@ -54,10 +57,8 @@ fn print_served<W: Write>(counts: Served, output: &mut W) -> Result<(), Refusal>
         (served_line counts.answered counts.refused)) }
     ensures fault { IfErr result (λ refusal. refusal ≡ Refusal.Output) }
 {
-    match served(counts) {
-        Ok(line) => print_text(line.as_bytes(), output),
-        Err(_) => Err(Refusal::Output),
-    }
+    let line = served(counts);
+    print_text(line.as_bytes(), output)
 }
 
 /// Answers payloads on a port of 127.0.0.1, so many in all, as the slaves of the table that the input states, whose

@@ -42,11 +42,10 @@ pub fn run_line(
     line: &Line,
 ) -> Result<String, AllocError>
     requires { world.old.plan ≡ plan_of table.now }
-    ensures plan { world.new.plan ≡ world.old.plan }
     ensures does { (said : Said) × Does line.now.act world.old world.new said
+        × RunsLine line.now.act world.old world.new (is_done said)
         × IfOk result (λ text. string_bytes text ≡ said_text table.now line.now.number world.new said) }
-    ensures run { (said : Said) × RunsLine line.now.act world.old world.new (is_done said)
-        × IfOk result (λ text. string_bytes text ≡ said_text table.now line.now.number world.new said) }
+    ensures plan { world.new.plan ≡ world.old.plan }
 {
     let said = do_act(world, line.act);
     said_text(alloc, world, table, line.number, said)

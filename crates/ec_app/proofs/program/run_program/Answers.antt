@@ -1,10 +1,10 @@
 use Rattle.std.proofs.Common.{inl, inr, refl, subst, arith}
 use Rattle.ec_app.specs.Printing.{AppendsPart}
-use Rattle.ec_app.proofs.PrintLemmas.{some_part}
+use Rattle.ec_app.proofs.PrintLemmas.{shown_part, some_part}
 use Rattle.ec_app.proofs.program.run_program.Goals as goal
 
 pub returns-in-Err-clause-ends : goal.returns-in-Err-clause-ends
-returns-in-Err-clause-ends g c = inr (refl, refl, inl (c.status.ensures, some_part c.tell.result _ _ _ c.tell.ensures.all c.tell.ensures.part))
+returns-in-Err-clause-ends g c = inr (refl, refl, inl (c.status.ensures, shown_part c.tell.result _ _ _ c.tell.ensures))
 
 pub returns-in-Err-2-clause-ends : goal.returns-in-Err-2-clause-ends
 returns-in-Err-2-clause-ends g c = inr
