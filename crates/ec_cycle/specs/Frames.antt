@@ -3,6 +3,7 @@
 use Rattle.std.specs.Prelude.{ℕ, ◌+◌, ◌-◌, ◌*◌, ◌%◌, ◌==◌, ◌&&◌, List, [], ◌∷◌, ◌++◌, if◌then◌else◌, Option, None, option_map}
 use Rattle.std.specs.Int.{to_le_bytes, w16, w64}
 use Rattle.ec_bits.specs.Bits.{bit, overlay, zeros, within}
+use Rattle.ec_regs.specs.Memory.{al_status}
 use Rattle.ec_frame.specs.declared.command.Command.{Command}
 use Rattle.ec_frame.specs.declared.command.Command.TheVariants.{Nop, Brd, Lrd, Lwr, Lrw}
 use Rattle.ec_frame.specs.Datagram.{Datagram}
@@ -37,10 +38,10 @@ process_bytes p k image =
 abbrev pub name_datagram : ℕ → ℕ → Datagram
 name_datagram number part = new_datagram Nop (number % 256) 0 (to_le_bytes w64 number ++ to_le_bytes w16 part)
 
--- the AL status of all slaves (register 0x0130), joined by OR, after so many of them; a broadcast counts them in its ADP and
--- in its working counter (ETG.1000.4, "BRD")
+-- the AL status of all slaves, joined by OR, after so many of them; a broadcast counts them in its ADP and in its working
+-- counter (ETG.1000.4, "BRD")
 abbrev pub status_datagram : ℕ → ℕ → List ℕ → Datagram
-status_datagram number passed al = with_counter (new_datagram Brd (number % 256) (passed % 65536 + 65536 * 0x0130) al) passed
+status_datagram number passed al = with_counter (new_datagram Brd (number % 256) (passed % 65536 + 65536 * al_status) al) passed
 
 abbrev pub process_datagram : Command → ℕ → ℕ → List ℕ → ℕ → Datagram
 process_datagram command number address bytes counter = with_counter (new_datagram command (number % 256) address bytes) counter

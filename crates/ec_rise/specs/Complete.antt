@@ -11,6 +11,7 @@ use Rattle.ec_regs.specs.Types.{SlaveKind}
 use Rattle.ec_coe.specs.Objects.{entry_number, identity_object, output_assignment, input_assignment}
 use Rattle.ec_regs.specs.Objects.{pdo_at, bits_assigned}
 use Rattle.ec_coe.specs.Transfers.{distinct}
+use Rattle.ec_slave.specs.Checking.{outputs_mode, inputs_mode}
 use Rattle.ec_link.specs.declared.settings.Settings.{Settings}
 use Rattle.ec_start.specs.Plans.{settings_at}
 
@@ -56,11 +57,11 @@ pub record IsAssignable (kind : SlaveKind) (ps : List Pdo) (xs : List ℕ) : Typ
   pub short : length xs < 256
   pub bits : bits_assigned ps xs ≤ 2048
 
--- settings that carry so many bits of process data
+-- settings that carry so many bits of process data, of a mode and a direction
 abbrev pub carries : ManagerSettings → ℕ → ℕ → ℕ → Bool
-carries m bits start control =
+carries m bits start mode =
     if bits == 0 then m.activate % 2 == 0
-    else is_set m && ((m.start == start) && ((m.length == bytes_of_bits bits) && (m.control % 16 == control)))
+    else is_set m && ((m.start == start) && ((m.length == bytes_of_bits bits) && (m.control % 16 == mode)))
 
 -- numbers of 32 bits
 pub record IsIdentity (t : Device) : Type 0 where
@@ -73,5 +74,5 @@ pub record IsComplete (p : Settings) : Type 0 where
   pub reach : CanReach p.kind.mailbox
   pub outs : IsAssignable p.kind p.kind.outputs p.outputs
   pub ins : IsAssignable p.kind p.kind.inputs p.inputs
-  pub out_carried : carries (settings_at p.managers 2) (bits_assigned p.kind.outputs p.outputs) p.kind.out_start 4 ≡ true
-  pub in_carried : carries (settings_at p.managers 3) (bits_assigned p.kind.inputs p.inputs) p.kind.in_start 0 ≡ true
+  pub out_carried : carries (settings_at p.managers 2) (bits_assigned p.kind.outputs p.outputs) p.kind.out_start outputs_mode ≡ true
+  pub in_carried : carries (settings_at p.managers 3) (bits_assigned p.kind.inputs p.inputs) p.kind.in_start inputs_mode ≡ true

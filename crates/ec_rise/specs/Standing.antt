@@ -1,6 +1,8 @@
 -- That a slave stands at a stage of a start-up.
 use Rattle.std.specs.Prelude.{ℕ, ◌+◌, ◌*◌, ◌<◌, ◌≤◌, ◌≡◌, ◌≢◌, ◌⊎◌, List, length, take, slice_index, Bool, true, false, Option, Some, None}
 use Rattle.std.specs.Option.{ForSome}
+use Rattle.ec_regs.specs.Memory.{fmmus, fmmu_place, ram_end}
+use Rattle.ec_regs.specs.Words.{al_word}
 use Rattle.ec_regs.specs.Managers.{no_settings}
 use Rattle.ec_regs.specs.Fmmus.{fmmu_bytes}
 use Rattle.ec_regs.specs.Types.{SlaveKind}
@@ -29,7 +31,7 @@ pub record HasAll (s : SlaveState) : Type 0 where
 
 pub record IsOfKind (kind : SlaveKind) (s : SlaveState) : Type 0 where
   pub kind_is : s.kind ≡ kind
-  pub room : length s.memory ≡ 0x3000
+  pub room : length s.memory ≡ ram_end
   pub four : length s.managers ≡ 4
   pub outs : length s.outs.slots ≡ length kind.outputs
   pub ins : length s.ins.slots ≡ length kind.inputs
@@ -50,16 +52,20 @@ HoldsZeros m = unviewed m.buffer ≡ emptied_buffer (buffer_length m.settings)
 pub record IsConfigured (i : ℕ) (c : Config) (s : SlaveState) : Type 0 where
   pub station_is : station_of s ≡ station i
   pub settings : (n : ℕ) → n < 4 → (manager_at s.managers n).settings ≡ settings_at c.managers n
-  pub fmmus : (n k : ℕ) → n < 4 → k < 16 → slice_index s.memory (0x0600 + 16 * n + k) ≡ slice_index (fmmu_bytes (fmmu_at c.fmmus n)) k
+  pub fmmus : (n k : ℕ) → n < 4 → k < 16 → slice_index s.memory (fmmu_place n + k) ≡ slice_index (fmmu_bytes (fmmu_at c.fmmus n)) k
   pub idle : c.idle ≡ true → s.sii.busy ≡ false
   pub no_messages : (n : ℕ) → 2 ≤ n → n < 4 → (manager_at s.managers n).mail ≡ None
   pub outputs : HoldsZeros (manager_at s.managers 2)
+
+-- the control word by which phase 1 asks for INIT, with the acknowledgement of errors (ETG.1000.6, "AL control")
+abbrev pub init_request : ℕ
+init_request = al_word (state_number Init) true
 
 -- in INIT without an error; a request that waits can only be phase 1's
 pub record IsInInit (s : SlaveState) : Type 0 where
   pub state : s.al.state ≡ Init
   pub no_error : s.al.error ≡ false
-  pub asked : s.al.requested ≡ true → control_word s ≡ 0x0011
+  pub asked : s.al.requested ≡ true → control_word s ≡ init_request
 
 -- in a state, without an error or a request
 pub record IsIn (state : State) (s : SlaveState) : Type 0 where
@@ -142,12 +148,12 @@ pub record AreClear (s : SlaveState) : Type 0 where
 
 pub record IsDownAt (f m : Bool) (s : SlaveState) : Type 0 where
   pub init : IsInInit s
-  pub fmmus : f ≡ true → (k : ℕ) → k < 64 → slice_index s.memory (0x0600 + k) ≡ 0
+  pub fmmus : f ≡ true → (k : ℕ) → k < 64 → slice_index s.memory (fmmus + k) ≡ 0
   pub managers : m ≡ true → AreClear s
 
 abbrev pub Reached : ℕ → Stage → SlaveState → Type 0
 Reached i Before s = Unit {0}
-Reached i Called s = ((s.al.requested ≡ true) × (control_word s ≡ 0x0011)) ⊎ IsInInit s
+Reached i Called s = ((s.al.requested ≡ true) × (control_word s ≡ init_request)) ⊎ IsInInit s
 Reached i (Down f m) s = IsDownAt f m s
 Reached i (Up c) s = IsUpAt i c s
 
