@@ -8,6 +8,7 @@ use ec_regs::{
     takes_writes,
 };
 use std::alloc::Global;
+use std::process::Abort;
 use std::test::Fail;
 
 // What `ecat plan` prints for the output manager of a slave with 12 output bits.
@@ -130,9 +131,8 @@ fn one_pdo(alloc: Global, index: u16, entry: Entry) -> Result<Pdo, Fail> {
     Ok(Pdo { index, entries })
 }
 
-// A slave with a mailbox, 12 output bits and a gap, and 16 input bits.
-#[test]
-fn a_type_with_objects(rt: HostRuntime) -> Result<(), Fail> {
+/// Outputs of 12 bits, and a gap of 4.
+fn outputs_with_gap(alloc: Global) -> Result<Listed<Pdo>, Fail> {
     let output = Entry {
         index: 0x7010,
         subindex: 1,
@@ -143,16 +143,44 @@ fn a_type_with_objects(rt: HostRuntime) -> Result<(), Fail> {
         subindex: 0,
         bits: 4,
     };
+    let mut outputs = Listed::new(alloc);
+    outputs.push(one_pdo(alloc, 0x1600, output)?)?;
+    outputs.push(one_pdo(alloc, 0x17FF, gap)?)?;
+    Ok(outputs)
+}
+
+/// Inputs of 16 bits.
+fn one_input(alloc: Global) -> Result<Listed<Pdo>, Fail> {
     let input = Entry {
         index: 0x6010,
         subindex: 1,
         bits: 16,
     };
-    let mut outputs = Listed::new(rt.alloc());
-    outputs.push(one_pdo(rt.alloc(), 0x1600, output)?)?;
-    outputs.push(one_pdo(rt.alloc(), 0x17FF, gap)?)?;
-    let mut inputs = Listed::new(rt.alloc());
-    inputs.push(one_pdo(rt.alloc(), 0x1A00, input)?)?;
+    let mut inputs = Listed::new(alloc);
+    inputs.push(one_pdo(alloc, 0x1A00, input)?)?;
+    Ok(inputs)
+}
+
+/// Expects of a type a device, these mailboxes, and the outputs and inputs above.
+fn expect_objects(rt: &impl Abort, kind: &SlaveType, device: Device, mailbox: Option<Mailbox>) {
+    assert_eq!(rt; kind.device(), device);
+    assert_eq!(rt; kind.device().identity(7).serial, 7);
+    assert_eq!(rt; kind.device().identity(7).device(), device);
+    assert_eq!(rt; kind.mailbox(), mailbox);
+    assert_eq!(rt; kind.out_start(), 0x1100);
+    assert_eq!(rt; kind.in_start(), 0x1400);
+    assert_eq!(rt; kind.outputs().len(), 2);
+    assert_eq!(rt; kind.inputs().len(), 1);
+    assert_eq!(rt; kind.output_bits(), 16);
+    assert_eq!(rt; kind.input_bits(), 16);
+    assert!(rt; kind.lrw());
+}
+
+// A slave with a mailbox, 12 output bits and a gap, and 16 input bits.
+#[test]
+fn a_type_with_objects(rt: HostRuntime) -> Result<(), Fail> {
+    let outputs = outputs_with_gap(rt.alloc())?;
+    let inputs = one_input(rt.alloc())?;
     let mailbox = Some(Mailbox {
         receive_start: 0x1000,
         receive_size: 128,
@@ -166,17 +194,7 @@ fn a_type_with_objects(rt: HostRuntime) -> Result<(), Fail> {
     };
     assert!(rt; SlaveType::is_within_limits(mailbox, outputs.as_slice(), inputs.as_slice()));
     let kind = SlaveType::new(device, mailbox, 0x1100, 0x1400, outputs, inputs, true);
-    assert_eq!(rt; kind.device(), device);
-    assert_eq!(rt; kind.device().identity(7).serial, 7);
-    assert_eq!(rt; kind.device().identity(7).device(), device);
-    assert_eq!(rt; kind.mailbox(), mailbox);
-    assert_eq!(rt; kind.out_start(), 0x1100);
-    assert_eq!(rt; kind.in_start(), 0x1400);
-    assert_eq!(rt; kind.outputs().len(), 2);
-    assert_eq!(rt; kind.inputs().len(), 1);
-    assert_eq!(rt; kind.output_bits(), 16);
-    assert_eq!(rt; kind.input_bits(), 16);
-    assert!(rt; kind.lrw());
+    expect_objects(&rt, &kind, device, mailbox);
     let copy = kind.copied(rt.alloc())?;
     assert_eq!(rt; copy.device(), device);
     assert_eq!(rt; copy.output_bits(), 16);
