@@ -1,5 +1,5 @@
 -- That a slave stands at a stage of a start-up.
-use Rattle.std.specs.Prelude.{ℕ, ◌+◌, ◌*◌, ◌<◌, ◌≤◌, ◌≡◌, ◌≢◌, ◌⊎◌, List, length, take, slice_index, Bool, true, false, Option, Some, None}
+use Rattle.std.specs.Prelude.{ℕ, ◌+◌, ◌<◌, ◌≤◌, ◌≡◌, ◌≢◌, ◌⊎◌, List, length, take, slice_index, Bool, true, false, Option, Some, None}
 use Rattle.std.specs.Option.{ForSome}
 use Rattle.ec_regs.specs.Memory.{fmmus, fmmu_place, ram_end}
 use Rattle.ec_regs.specs.Words.{al_word}
