@@ -267,14 +267,23 @@ fn assert_refused(
     assert_parts(rt, text.as_str(), wanted)
 }
 
-/// Of 65 slaves, and of a slave with over 2048 bits, a bit linked twice is told first.
+/// Compiles a machine with each of these links, and compares why it has no plan.
+fn assert_each_refused(
+    rt: &(impl AllocGlobal + Abort),
+    terminals: &[Terminal],
+    rows: &[(&[Joined<'_>], &str)],
+) -> Result<(), Fail> {
+    for (links, wanted) in rows {
+        assert_refused(rt, terminals, links, wanted)?;
+    }
+    Ok(())
+}
+
+/// Of 65 slaves a bit linked twice is told first.
 #[test]
-fn tells_doubled_links_of_large_tables(rt: HostRuntime) -> Result<(), Fail> {
-    let many: &[Terminal] = &[(4, 4, true); 65];
-    let large: &[Terminal] = &[(2112, 2112, true)];
-    let rows: [(&[Terminal], &[Joined<'_>], &str); 8] = [
+fn tells_doubled_links_of_many_slaves(rt: HostRuntime) -> Result<(), Fail> {
+    let rows: [(&[Joined<'_>], &str); 4] = [
         (
-            many,
             &[
                 ("o", 64, 1, [0, 0, 2]),
                 ("o", 0, 1, [0, 0, 2]),
@@ -284,12 +293,10 @@ fn tells_doubled_links_of_large_tables(rt: HostRuntime) -> Result<(), Fail> {
             "19 LinkedTwice 3",
         ),
         (
-            many,
             &[("o", 64, 1, [0, 0, 2]), ("o", 64, 1, [0, 2, 2])],
             "22 TooManySlaves 65",
         ),
         (
-            many,
             &[
                 ("i", 0, 1, [0, 0, 2]),
                 ("i", 64, 1, [2, 0, 2]),
@@ -298,7 +305,6 @@ fn tells_doubled_links_of_large_tables(rt: HostRuntime) -> Result<(), Fail> {
             "19 LinkedTwice 2",
         ),
         (
-            many,
             &[
                 ("i", 0, 1, [0, 0, 4]),
                 ("o", 1, 1, [0, 0, 4]),
@@ -307,8 +313,15 @@ fn tells_doubled_links_of_large_tables(rt: HostRuntime) -> Result<(), Fail> {
             ],
             "22 TooManySlaves 65",
         ),
+    ];
+    assert_each_refused(&rt, &[(4, 4, true); 65], &rows)
+}
+
+/// Of a slave with over 2048 bits a bit linked twice is told first.
+#[test]
+fn tells_doubled_links_of_a_large_slave(rt: HostRuntime) -> Result<(), Fail> {
+    let rows: [(&[Joined<'_>], &str); 4] = [
         (
-            large,
             &[
                 ("o", 0, 33, [0, 0, 64]),
                 ("o", 0, 32, [0, 0, 64]),
@@ -318,25 +331,19 @@ fn tells_doubled_links_of_large_tables(rt: HostRuntime) -> Result<(), Fail> {
             "19 LinkedTwice 2",
         ),
         (
-            large,
             &[("o", 0, 33, [0, 0, 64]), ("o", 0, 32, [0, 0, 64])],
             "21 TooManyBits 0",
         ),
         (
-            large,
             &[("i", 0, 33, [0, 0, 32]), ("i", 0, 33, [31, 32, 1])],
             "19 LinkedTwice 1",
         ),
         (
-            large,
             &[("i", 0, 33, [0, 0, 32]), ("i", 0, 33, [32, 0, 32])],
             "21 TooManyBits 0",
         ),
     ];
-    for (terminals, links, wanted) in rows {
-        assert_refused(&rt, terminals, links, wanted)?;
-    }
-    Ok(())
+    assert_each_refused(&rt, &[(2112, 2112, true)], &rows)
 }
 
 /// Slaves of one type have their bits each by its own assignment.
@@ -358,57 +365,51 @@ fn places_bits_by_assignment(rt: HostRuntime) -> Result<(), Fail> {
     assert_parts(&rt, stranger.as_str(), "17 NoEntry 5")
 }
 
+/// What is said of a fault, of each kind.
+const SAID: [(LinkFault, &str); 11] = [
+    (
+        LinkFault::WrongDirection(7),
+        "link 7: the slave assigns the entry in the other direction",
+    ),
+    (
+        LinkFault::NoEntry(7),
+        "link 7: the slave assigns no such entry",
+    ),
+    (
+        LinkFault::OutsideEntry(7),
+        "link 7: bits past the entry or the variable",
+    ),
+    (LinkFault::LinkedTwice(7), "link 7: a bit is linked twice"),
+    (
+        LinkFault::EntryTwice(7),
+        "slave 7: an entry is assigned twice",
+    ),
+    (
+        LinkFault::TooManyBits(7),
+        "slave 7: over 2048 bits in a direction",
+    ),
+    (
+        LinkFault::TooManySlaves(65),
+        "65 slaves, and 64 are the most",
+    ),
+    (LinkFault::TooManyParts(33), "33 parts, and 32 are the most"),
+    (LinkFault::AreasOverlap(7), "slave 7: two areas overlap"),
+    (LinkFault::OutsideRam(7), "slave 7: an area leaves the RAM"),
+    (
+        LinkFault::SplitVariable(7),
+        "variable 7: links from two sync units",
+    ),
+];
+
 #[test]
 fn says_what_is_wrong(rt: HostRuntime) -> Result<(), Fail> {
-    let refused = LinkError::Refused;
-    let told = [
-        (LinkError::Memory, "out of memory"),
-        (
-            refused(LinkFault::WrongDirection(7)),
-            "link 7: the slave assigns the entry in the other direction",
-        ),
-        (
-            refused(LinkFault::NoEntry(7)),
-            "link 7: the slave assigns no such entry",
-        ),
-        (
-            refused(LinkFault::OutsideEntry(7)),
-            "link 7: bits past the entry or the variable",
-        ),
-        (
-            refused(LinkFault::LinkedTwice(7)),
-            "link 7: a bit is linked twice",
-        ),
-        (
-            refused(LinkFault::EntryTwice(7)),
-            "slave 7: an entry is assigned twice",
-        ),
-        (
-            refused(LinkFault::TooManyBits(7)),
-            "slave 7: over 2048 bits in a direction",
-        ),
-        (
-            refused(LinkFault::TooManySlaves(65)),
-            "65 slaves, and 64 are the most",
-        ),
-        (
-            refused(LinkFault::TooManyParts(33)),
-            "33 parts, and 32 are the most",
-        ),
-        (
-            refused(LinkFault::AreasOverlap(7)),
-            "slave 7: two areas overlap",
-        ),
-        (
-            refused(LinkFault::OutsideRam(7)),
-            "slave 7: an area leaves the RAM",
-        ),
-        (
-            refused(LinkFault::SplitVariable(7)),
-            "variable 7: links from two sync units",
-        ),
-    ];
-    for (error, wanted) in told {
+    let memory = LinkError::Memory;
+    assert_eq!(rt;
+        format!(in rt.alloc(); "{memory}")?.as_str(),
+        "out of memory"
+    );
+    for (fault, wanted) in SAID {
+        let error = LinkError::Refused(fault);
         assert_eq!(rt; format!(in rt.alloc(); "{error}")?.as_str(), wanted);
     }
     Ok(())

@@ -278,49 +278,54 @@ fn assert_list_change(
     assert_change(rt, text, change.as_str(), row.wanted)
 }
 
+/// An object of 64 entries.
+const MANY_ENTRIES: ListChange = ListChange {
+    change: "entries = [[0x7000, 1, 4]] => entries = ",
+    before: "[0x7000, ",
+    after: ", 1]",
+    first: 1,
+    items: 64,
+    wanted: "read",
+};
+
+/// A type of 16 objects.
+const MANY_OBJECTS: ListChange = ListChange {
+    change: "[ { index = 0x1600, entries = [[0x7000, 1, 4]] } ] => ",
+    before: "{ index = ",
+    after: ", entries = [] }",
+    first: 5632,
+    items: 16,
+    wanted: "read",
+};
+
+/// A slave may assign any number of objects, but no strangers, and none twice.
+const MANY_ASSIGNED: ListChange = ListChange {
+    change: "type = \"mix\" => type = \"mix\"|out = ",
+    before: "",
+    after: "",
+    first: 5632,
+    items: 17,
+    wanted: "15 UnknownName 2 2",
+};
+
 #[test]
 fn counts_entries_and_objects(rt: HostRuntime) -> Result<(), Fail> {
-    let entries = ListChange {
-        change: "entries = [[0x7000, 1, 4]] => entries = ",
-        before: "[0x7000, ",
-        after: ", 1]",
-        first: 1,
-        items: 64,
-        wanted: "read",
-    };
-    let objects = ListChange {
-        change: "[ { index = 0x1600, entries = [[0x7000, 1, 4]] } ] => ",
-        before: "{ index = ",
-        after: ", entries = [] }",
-        first: 5632,
-        items: 16,
-        wanted: "read",
-    };
-    // a slave may assign any number of objects, but no strangers, and none twice
-    let assigned = ListChange {
-        change: "type = \"mix\" => type = \"mix\"|out = ",
-        before: "",
-        after: "",
-        first: 5632,
-        items: 17,
-        wanted: "15 UnknownName 2 2",
-    };
     let text = without_line(rt.alloc(), THREE_SLAVES, None)?;
     let too_many = "13 BadValue 1 0";
     for row in [
-        entries,
+        MANY_ENTRIES,
         ListChange {
             items: 65,
             wanted: too_many,
-            ..entries
+            ..MANY_ENTRIES
         },
-        objects,
+        MANY_OBJECTS,
         ListChange {
             items: 17,
             wanted: too_many,
-            ..objects
+            ..MANY_OBJECTS
         },
-        assigned,
+        MANY_ASSIGNED,
     ] {
         assert_list_change(&rt, text.as_str(), row)?;
     }

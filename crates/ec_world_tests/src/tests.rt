@@ -3,15 +3,16 @@ ghost use Rattle.std.specs.Prelude.{◌≡◌, None};
 ghost use Rattle.ec_link.specs.Faults.{compile_fault};
 ghost use Rattle.ec_link.specs.Plan.{plan_of};
 
+mod cases;
 mod steps;
 
 use self::steps::Step::{
     Byte, Denied, Empty, Ended, Holds, Makes, NoReport, Publishes, Reads, Reports, Rises, Runs,
 };
-use self::steps::{expect_steps, made, new_world, pass_slaves, rise, turn};
-use ec_cycle::Report;
+use self::steps::{expect_steps, made, new_world, rise, turn, world_of};
 use ec_link::Predicted::{Lrw, Split};
-use ec_link::{Plan, Predicted, compile};
+use ec_link::{Plan, compile};
+use ec_regs::Device;
 use ec_start::StartError;
 use ec_table::{Table, read_table};
 use ec_world::Event::{
@@ -73,9 +74,7 @@ fn a_cycle(rt: HostRuntime) -> Result<(), Fail> {
         Makes(Set(1, 291)),
         Denied(Set(0, 16)),
         Denied(Set(2, 1)),
-        Makes(AppPut(1, 0, 5)),
-        Makes(AppPut(2, 0, 239)),
-        Makes(AppPut(2, 1, 190)),
+        Runs(&[AppPut(1, 0, 5), AppPut(2, 0, 239), AppPut(2, 1, 190)], 3),
         Denied(AppPut(3, 0, 1)),
         Makes(Begin),
         Denied(Begin),
@@ -230,156 +229,6 @@ fn two_units(rt: HostRuntime) -> Result<(), Fail> {
     expect_steps(&rt, TWO_UNITS, &steps)
 }
 
-/// An event in a cycle of the three slaves, and what comes of it.
-struct Case {
-    /// How many slaves the frame has passed by then.
-    at: usize,
-    event: Event,
-    /// The working counter that comes back, if the frame does.
-    counter: Option<Predicted>,
-    is_taken: bool,
-}
-
-/// Trouble before and after each slave's pass.
-const CASES: [Case; 16] = [
-    Case {
-        at: 0,
-        event: Reset(0),
-        counter: Some(Lrw(4)),
-        is_taken: false,
-    },
-    Case {
-        at: 1,
-        event: Reset(1),
-        counter: Some(Lrw(5)),
-        is_taken: false,
-    },
-    Case {
-        at: 2,
-        event: Reset(2),
-        counter: Some(Lrw(3)),
-        is_taken: false,
-    },
-    Case {
-        at: 0,
-        event: Fault(0),
-        counter: Some(Lrw(4)),
-        is_taken: false,
-    },
-    Case {
-        at: 1,
-        event: Fault(1),
-        counter: Some(Lrw(6)),
-        is_taken: true,
-    },
-    Case {
-        at: 2,
-        event: Fault(2),
-        counter: Some(Lrw(4)),
-        is_taken: false,
-    },
-    Case {
-        at: 1,
-        event: Reset(0),
-        counter: Some(Lrw(6)),
-        is_taken: true,
-    },
-    Case {
-        at: 2,
-        event: Reset(1),
-        counter: Some(Lrw(6)),
-        is_taken: true,
-    },
-    Case {
-        at: 3,
-        event: Reset(2),
-        counter: Some(Lrw(6)),
-        is_taken: true,
-    },
-    Case {
-        at: 1,
-        event: Fault(0),
-        counter: Some(Lrw(6)),
-        is_taken: true,
-    },
-    Case {
-        at: 2,
-        event: Fault(1),
-        counter: Some(Lrw(6)),
-        is_taken: true,
-    },
-    Case {
-        at: 3,
-        event: Fault(2),
-        counter: Some(Lrw(6)),
-        is_taken: true,
-    },
-    Case {
-        at: 0,
-        event: Lose(0),
-        counter: None,
-        is_taken: false,
-    },
-    Case {
-        at: 1,
-        event: Lose(0),
-        counter: None,
-        is_taken: false,
-    },
-    Case {
-        at: 2,
-        event: Lose(0),
-        counter: None,
-        is_taken: false,
-    },
-    Case {
-        at: 3,
-        event: Lose(0),
-        counter: None,
-        is_taken: false,
-    },
-];
-
-/// Whether a report says what a case does.
-fn is_told(report: &Report, case: &Case) -> bool {
-    report.counters().as_slice() == [case.counter].as_slice()
-        && report.is_taken() == case.is_taken
-        && report.missing() == usize::from(case.counter.is_none())
-}
-
-/// A cycle of a new world, with an event between. Whether what comes of it is what the case says.
-fn is_right(world: &mut World<'_>, case: &Case) -> bool {
-    rise(world);
-    made(world, Begin);
-    pass_slaves(world, case.at, Some(case.event));
-    made(world, Return(0));
-    made(world, Close);
-    match world.report() {
-        Some(report) => is_told(report, case),
-        None => false,
-    }
-}
-
-/// Expects of new worlds of a table what the cases say.
-fn expect_cases(rt: &(impl AllocGlobal + Abort), table: &Table, plan: &Plan) -> Result<(), Fail>
-    requires accepted { compile_fault table.now ≡ None }
-    requires plan { plan.now ≡ plan_of table.now }
-{
-    for case in &CASES {
-        let mut world = new_world(rt.alloc(), table, plan)?;
-        let is_right = is_right(&mut world, case);
-        assert!(rt; is_right, "{:?}", case.event);
-    }
-    Ok(())
-}
-
-#[test]
-fn trouble_in_a_cycle(rt: HostRuntime) -> Result<(), Fail> {
-    let table = read_table(rt.alloc(), TABLE)?;
-    let plan = compile(rt.alloc(), &table)?;
-    expect_cases(&rt, &table, &plan)
-}
-
 /// Whether a start-up may end so, where an event came between.
 fn may_end(outcome: Option<Result<(), StartError>>, event: Event) -> bool {
     match (event, outcome) {
@@ -420,8 +269,9 @@ fn is_ready_next(world: &mut World<'_>) -> bool {
     world.is_ready()
 }
 
-/// Frames of a start-up: one of each phase, the first and the last.
-const FRAMES: [usize; 8] = [0, 4, 7, 12, 25, 40, 70, 74];
+/// Frames of a start-up, the first and the last among them: all slaves are asked and cleared, they are named, their identities
+/// are read, mailboxes are set, PREOP, requests and replies, what maps process data is set, SAFEOP, OP.
+const FRAMES: [usize; 12] = [0, 4, 7, 12, 25, 28, 31, 40, 58, 66, 70, 74];
 
 /// Trouble in a start-up.
 const TROUBLE: [Event; 7] = [
@@ -490,4 +340,38 @@ fn trouble_in_a_start_up(rt: HostRuntime) -> Result<(), Fail> {
     let table = read_table(rt.alloc(), TABLE)?;
     let plan = compile(rt.alloc(), &table)?;
     expect_all_trouble(&rt, &table, &plan)
+}
+
+/// How a start-up ended, if it has.
+type Outcome = Option<Result<(), StartError>>;
+
+/// The start-up goes on until it has ended, and where it failed so does the next one. How both ended.
+fn ends_twice(world: &mut World<'_>) -> (Outcome, Outcome) {
+    rise(world);
+    let first = world.outcome();
+    turn(world, 0, None);
+    rise(world);
+    (first, world.outcome())
+}
+
+// Slave 1 shows revision 2 where its type has 1, each time that a start-up reads it; no cycle begins.
+#[test]
+fn another_revision(rt: HostRuntime) -> Result<(), Fail> {
+    let table = read_table(rt.alloc(), TABLE)?;
+    let plan = compile(rt.alloc(), &table)?;
+    let seen = Device {
+        vendor: 0xABCD,
+        product: 2,
+        revision: 2,
+    };
+    let mut world = world_of(rt.alloc(), &table, &plan, Some((1, seen.identity(0))))?;
+    let error = StartError::Identity { slave: 1, seen };
+    assert_eq!(rt;
+        ends_twice(&mut world),
+        (Some(Err(error)), Some(Err(error)))
+    );
+    assert_eq!(rt; error.number(), 27);
+    let begins = made(&mut world, Begin);
+    assert!(rt; !begins && world.slot(0) == None);
+    Ok(())
 }

@@ -47,13 +47,13 @@ pub fn made(world: &mut World<'_>, event: Event) -> bool {
     world.step(event)
 }
 
-/// The frame in slot 0 passes its slaves. At a place, counted by those that it has passed, an event comes between.
-pub fn pass_slaves(world: &mut World<'_>, at: usize, event: Option<Event>) {
+/// The frame in a slot passes its slaves. At a place, counted by those that it has passed, an event comes between.
+pub fn pass_slaves(world: &mut World<'_>, slot: usize, at: usize, event: Option<Event>) {
     for place in 0..4 {
         if let (true, Some(event)) = (place == at, event) {
             made(world, event);
         }
-        made(world, Event::Pass(0));
+        made(world, Event::Pass(slot));
     }
 }
 
@@ -68,7 +68,7 @@ fn serve_slaves(world: &mut World<'_>) {
 /// Whether the frame came back.
 pub fn turn(world: &mut World<'_>, at: usize, event: Option<Event>) -> bool {
     made(world, Event::StartNext);
-    pass_slaves(world, at, event);
+    pass_slaves(world, 0, at, event);
     let is_back = made(world, Event::Return(0));
     serve_slaves(world);
     is_back
@@ -95,6 +95,11 @@ fn is_report(
         && report.counters().as_slice() == counters
         && report.missing() == counters.iter().filter(|counter| counter.is_none()).count()
         && report.al_word() == al_word
+}
+
+/// Whether a variable has a value.
+pub fn reads(world: &World<'_>, variable: usize, value: u64) -> bool {
+    variable < world.variables() && world.input(variable) == value
 }
 
 /// Whether a frame is in a slot, and how far it is.
@@ -125,9 +130,7 @@ fn shows_frames(world: &World<'_>, step: Step) -> bool {
 /// Whether values are seen as a step says.
 fn shows_values(world: &World<'_>, step: Step) -> bool {
     match step {
-        Step::Reads(variable, value) => {
-            variable < world.variables() && world.input(variable) == value
-        }
+        Step::Reads(variable, value) => reads(world, variable, value),
         Step::Publishes(slave, outputs) => {
             slave < world.slaves() && world.outputs(slave) == outputs
         }
@@ -163,15 +166,36 @@ fn take_steps(rt: &impl Abort, world: &mut World<'_>, steps: &[Step]) {
     }
 }
 
-/// The identity of each slave of a table.
-fn identities_of(alloc: Global, table: &Table) -> Result<Vec<Identity>, Fail>
+/// The identity of each slave of a table, or the one that is told of a slave.
+fn identities_of(
+    alloc: Global,
+    table: &Table,
+    other: Option<(usize, Identity)>,
+) -> Result<Vec<Identity>, Fail>
     ensures { IfOk result (λ v. length v.items ≡ length table.now.slaves) }
 {
     let mut identities = Vec::new(alloc);
     for slave in 0..table.slaves().len() {
-        identities.push(table.identity_of(slave))?;
+        identities.push(match other {
+            Some((place, identity)) if place == slave => identity,
+            _ => table.identity_of(slave),
+        })?;
     }
     Ok(identities)
+}
+
+/// A new world of a table, where one slave has another identity if that is told.
+pub fn world_of<'p>(
+    alloc: Global,
+    table: &Table,
+    plan: &'p Plan,
+    other: Option<(usize, Identity)>,
+) -> Result<World<'p>, Fail>
+    requires accepted { compile_fault table.now ≡ None }
+    requires plan { plan.now ≡ plan_of table.now }
+{
+    let identities = identities_of(alloc, table, other)?;
+    Ok(World::new(alloc, table, plan, &identities)?)
 }
 
 /// A new world of a table.
@@ -179,8 +203,7 @@ pub fn new_world<'p>(alloc: Global, table: &Table, plan: &'p Plan) -> Result<Wor
     requires accepted { compile_fault table.now ≡ None }
     requires plan { plan.now ≡ plan_of table.now }
 {
-    let identities = identities_of(alloc, table)?;
-    Ok(World::new(alloc, table, plan, &identities)?)
+    world_of(alloc, table, plan, None)
 }
 
 /// Takes all steps with a new world of a table and its plan, in their order.
