@@ -318,13 +318,20 @@ fn longest_datagram(rt: HostRuntime) -> Result<(), Fail> {
     expect_exchange(&rt, sent.as_str(), back.as_str())
 }
 
+/// The frame of 122 datagrams that ask for nothing and have no data.
+fn frame_of_nops() -> [u8; 1466] {
+    let mut frame = [0; 1466];
+    frame[0] = 0xB8;
+    frame[1] = 0x15;
+    for place in 0..121usize {
+        frame[2 + 12 * place + 7] = 0x80;
+    }
+    frame
+}
+
 #[test]
 fn frame_of_nops_passes_unchanged(rt: HostRuntime) -> Result<(), Fail> {
-    let mut sent = [0; 1466];
-    sent[..2].copy_from_slice(&[0xB8, 0x15]);
-    for place in 0..121usize {
-        sent[2 + 12 * place + 7] = 0x80;
-    }
+    let sent = frame_of_nops();
     let mut frame = sent;
     assert_eq!(rt; check(&frame), Ok(122));
     pass_frame(&mut plain_slave(rt.alloc())?, &mut frame)?;

@@ -28,6 +28,9 @@ const INPUTS: Step = Writes(0x0818, "0014020020000100");
 /// From power-on to PREOP, with all four managers set.
 const TO_PREOP: [Step; 4] = [MAILBOXES, OUTPUTS, INPUTS, Asks("0200", "020000000000")];
 
+/// From PREOP to OP.
+const TO_OP: [Step; 2] = [Asks("0400", "040000000000"), Asks("0800", "080000000000")];
+
 /// An upload of the vendor, the first reply to it, and the second one.
 const VENDOR: &str = "0a0000000013 0020 40181001 00000000";
 
@@ -38,10 +41,16 @@ const NONE_ASSIGNED: &str = "0a0000000013 0020 2f121c00 00000000";
 
 const NONE_IS_DONE: &str = "0a0000000013 0030 60121c00 00000000";
 
-/// A list of one PDO of one entry.
-fn one_pdo(alloc: Global, index: u16, entry: Entry) -> Result<Listed<Pdo>, Fail> {
+/// A list of one entry.
+fn one_entry(alloc: Global, entry: Entry) -> Result<Listed<Entry>, Fail> {
     let mut entries = Listed::new(alloc);
     entries.push(entry)?;
+    Ok(entries)
+}
+
+/// A list of one PDO of one entry.
+fn one_pdo(alloc: Global, index: u16, entry: Entry) -> Result<Listed<Pdo>, Fail> {
+    let entries = one_entry(alloc, entry)?;
     let mut pdos = Listed::new(alloc);
     pdos.push(Pdo { index, entries })?;
     Ok(pdos)
@@ -77,11 +86,16 @@ fn expect_from_power_on(rt: &(impl AllocGlobal + Abort), steps: &[Step]) -> Resu
     take_all(rt, &mut mixed(rt)?, steps)
 }
 
-/// Takes steps on a slave in PREOP.
-fn expect_from_preop(rt: &(impl AllocGlobal + Abort), steps: &[Step]) -> Result<(), Fail> {
+/// A slave in PREOP.
+fn mixed_in_preop(rt: &(impl AllocGlobal + Abort)) -> Result<Slave, Fail> {
     let mut slave = mixed(rt)?;
     take_all(rt, &mut slave, &TO_PREOP)?;
-    take_all(rt, &mut slave, steps)
+    Ok(slave)
+}
+
+/// Takes steps on a slave in PREOP.
+fn expect_from_preop(rt: &(impl AllocGlobal + Abort), steps: &[Step]) -> Result<(), Fail> {
+    take_all(rt, &mut mixed_in_preop(rt)?, steps)
 }
 
 // INIT refuses SAFEOP, BOOT and what is no state, and keeps the error until it is acknowledged.
@@ -364,24 +378,19 @@ fn faults(rt: HostRuntime) -> Result<(), Fail> {
 
 /// Leads a slave to OP and passes a frame by it.
 fn pass_in_op(rt: &(impl AllocGlobal + Abort), frame: &mut [u8]) -> Result<(), Fail> {
-    let mut slave = mixed(rt)?;
-    take_all(rt, &mut slave, &TO_PREOP)?;
-    take_all(
-        rt,
-        &mut slave,
-        &[Asks("0400", "040000000000"), Asks("0800", "080000000000")],
-    )?;
+    let mut slave = mixed_in_preop(rt)?;
+    take_all(rt, &mut slave, &TO_OP)?;
     pass_frame(&mut slave, frame)
 }
 
 // Three slaves in OP answer the broadcast read of their state with 8, and count 3.
 #[test]
 fn three_slaves_in_op(rt: HostRuntime) -> Result<(), Fail> {
-    let mut frame = bytes_of(&rt, "0e10 0701 0000 3001 0200 0000 0000 0000")?;
+    let mut frame = bytes_of(rt.alloc(), "0e10 0701 0000 3001 0200 0000 0000 0000")?;
     for _ in 0..3 {
         pass_in_op(&rt, &mut frame)?;
     }
-    let back = bytes_of(&rt, "0e10 0701 0300 3001 0200 0000 0800 0300")?;
+    let back = bytes_of(rt.alloc(), "0e10 0701 0300 3001 0200 0000 0800 0300")?;
     assert_eq!(rt; frame.as_slice(), back.as_slice());
     Ok(())
 }

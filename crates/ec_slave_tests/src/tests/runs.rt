@@ -4,9 +4,8 @@ ghost use Rattle.std.specs.Prelude.{◌≤◌, ◌<◌, ◌+◌};
 
 use super::plain_slave;
 use super::steps::Step::Asks;
-use super::steps::take_all;
+use super::steps::{frame_behind, take_all};
 use ec_bits::{get, put};
-use ec_frame::Builder;
 use ec_frame::Command::{self, Aprd, Apwr, Lrd, Lwr};
 use ec_slave::Slave;
 use std::process::Abort;
@@ -102,10 +101,7 @@ fn expect_back(
     sent: &[u8],
     back: &[u8],
 ) -> Result<(), Fail> {
-    let mut builder = Builder::new();
-    builder.add(command, 0, address, sent)?;
-    let mut frame = builder.finish();
-    slave.pass(frame.as_mut_slice());
+    let frame = frame_behind(slave, command, address, sent)?;
     let met = frame.as_slice().get(12..12 + back.len());
     assert_eq!(rt; met, Some(back), "{command:?} of {run:?}");
     Ok(())

@@ -1,6 +1,7 @@
 //! What is done to a slave, and what must be seen of it.
-use ec_frame::{Builder, Command, check};
+use ec_frame::{Builder, Command, Frame, check};
 use ec_slave::Slave;
+use std::alloc::Global;
 use std::process::Abort;
 use std::test::Fail;
 
@@ -42,17 +43,17 @@ pub enum Step<'a> {
 }
 
 /// The bytes of a row of hexadecimal digits.
-pub fn bytes_of(rt: &(impl AllocGlobal + Abort), row: &str) -> Result<Vec<u8>, Fail> {
-    let mut bytes = Vec::new(rt.alloc());
+pub fn bytes_of(alloc: Global, row: &str) -> Result<Vec<u8>, Fail> {
+    let mut bytes = Vec::new(alloc);
     for word in row.split_whitespace() {
-        bytes.extend_from_slice(&hex::decode(rt.alloc(), word)?)?;
+        bytes.extend_from_slice(&hex::decode(alloc, word)?)?;
     }
     Ok(bytes)
 }
 
 /// The bytes of a mailbox of 128 bytes: a message and zeros.
-fn mailbox_of(rt: &(impl AllocGlobal + Abort), row: &str) -> Result<Vec<u8>, Fail> {
-    let mut bytes = bytes_of(rt, row)?;
+fn mailbox_of(alloc: Global, row: &str) -> Result<Vec<u8>, Fail> {
+    let mut bytes = bytes_of(alloc, row)?;
     for _ in bytes.len()..128 {
         bytes.push(0)?;
     }
@@ -73,10 +74,28 @@ fn assert_passed(
     sent: &str,
     back: &str,
 ) -> Result<(), Fail> {
-    let mut frame = bytes_of(rt, sent)?;
+    let mut frame = bytes_of(rt.alloc(), sent)?;
     pass_frame(slave, &mut frame)?;
-    assert_eq!(rt; frame.as_slice(), bytes_of(rt, back)?.as_slice(), "{sent}");
+    assert_eq!(rt;
+        frame.as_slice(),
+        bytes_of(rt.alloc(), back)?.as_slice(),
+        "{sent}"
+    );
     Ok(())
+}
+
+/// What a datagram's frame is behind a slave.
+pub fn frame_behind(
+    slave: &mut Slave,
+    command: Command,
+    address: u32,
+    sent: &[u8],
+) -> Result<Frame, Fail> {
+    let mut builder = Builder::new();
+    builder.add(command, 0, address, sent)?;
+    let mut frame = builder.finish();
+    slave.pass(frame.as_mut_slice());
+    Ok(frame)
 }
 
 /// Passes a datagram, and compares its data and its counter as they come back.
@@ -89,14 +108,12 @@ fn assert_met(
     back: &[u8],
     counter: u8,
 ) -> Result<(), Fail> {
-    let mut builder = Builder::new();
-    builder.add(command, 0, address, sent)?;
-    let mut frame = builder.finish();
-    slave.pass(frame.as_mut_slice());
+    let frame = frame_behind(slave, command, address, sent)?;
     let met = frame.as_slice();
-    assert_eq!(rt; met.get(12..12 + back.len()), Some(back), "at {address}");
+    let data_end = 12 + back.len();
+    assert_eq!(rt; met.get(12..data_end), Some(back), "at {address}");
     assert_eq!(rt;
-        met.get(12 + back.len()..),
+        met.get(data_end..),
         Some([counter, 0].as_slice()),
         "at {address}"
     );
@@ -122,30 +139,36 @@ fn assert_state(
     control: &str,
     status: &str,
 ) -> Result<(), Fail> {
-    assert_written(rt, slave, 0x0120, &bytes_of(rt, control)?, 1)?;
+    assert_written(rt, slave, 0x0120, &bytes_of(rt.alloc(), control)?, 1)?;
     slave.serve();
-    let status = bytes_of(rt, status)?;
+    let status = bytes_of(rt.alloc(), status)?;
     assert_met(rt, slave, Command::Aprd, 0x0130_0000, &[0; 6], &status, 1)
 }
 
 /// What frames do.
 fn take_frame(rt: &(impl AllocGlobal + Abort), slave: &mut Slave, step: Step) -> Result<(), Fail> {
     match step {
-        Step::Writes(ado, row) => assert_written(rt, slave, ado, &bytes_of(rt, row)?, 1),
-        Step::WritesInVain(ado, row) => assert_written(rt, slave, ado, &bytes_of(rt, row)?, 0),
+        Step::Writes(ado, row) => assert_written(rt, slave, ado, &bytes_of(rt.alloc(), row)?, 1),
+        Step::WritesInVain(ado, row) => assert_written(
+            rt,
+            slave,
+            ado,
+            &bytes_of(rt.alloc(), row)?,
+            0,
+        ),
         Step::Answers(command, address, sent, back, counter) => {
-            let (sent, back) = (bytes_of(rt, sent)?, bytes_of(rt, back)?);
+            let (sent, back) = (bytes_of(rt.alloc(), sent)?, bytes_of(rt.alloc(), back)?);
             assert_met(rt, slave, command, address, &sent, &back, counter)
         }
         Step::Passes(sent, back) => assert_passed(rt, slave, sent, back),
         Step::Asks(control, status) => assert_state(rt, slave, control, status),
         Step::Sends(row) => {
-            assert_written(rt, slave, 0x1000, &mailbox_of(rt, row)?, 1)?;
+            assert_written(rt, slave, 0x1000, &mailbox_of(rt.alloc(), row)?, 1)?;
             slave.serve();
             Ok(())
         }
         Step::Replies(row) => {
-            let reply = mailbox_of(rt, row)?;
+            let reply = mailbox_of(rt.alloc(), row)?;
             assert_met(rt, slave, Command::Aprd, 0x1080_0000, &[0; 128], &reply, 1)
         }
         _ => Ok(()),
@@ -158,7 +181,7 @@ fn take_look(rt: &(impl AllocGlobal + Abort), slave: &Slave, step: Step) -> Resu
         Step::Shows(address, byte) => assert_eq!(rt; slave.byte(address), byte, "at {address}"),
         Step::Station(address) => assert_eq!(rt; slave.station_address(), address),
         Step::Outputs(row) => {
-            assert_eq!(rt; slave.outputs(), bytes_of(rt, row)?.as_slice());
+            assert_eq!(rt; slave.outputs(), bytes_of(rt.alloc(), row)?.as_slice());
         }
         Step::Sizes(get, put) => assert_eq!(rt; slave.app_sizes(), (get, put)),
         _ => {}

@@ -152,12 +152,9 @@ impl Wire for Spent {
     }
 }
 
-/// Brings the slaves of a plan up, where that is asked for.
-fn prepare(alloc: Global, plan: &Plan, master: &mut Master<'_>, is_up: bool) -> Result<(), Fail> {
-    if is_up {
-        there(brought_up(alloc, plan, master))?;
-    }
-    Ok(())
+/// Brings the slaves of a plan up, where that is asked for. Whether they are up as asked.
+fn prepare(alloc: Global, plan: &Plan, master: &mut Master<'_>, is_up: bool) -> bool {
+    !is_up || brought_up(alloc, plan, master).is_some()
 }
 
 /// What a cycle over a spent wire ends by.
@@ -169,8 +166,11 @@ fn error_over_spent(master: &mut Master<'_>) -> Option<RunError> {
 fn error_of(alloc: Global, is_up: bool) -> Result<Option<RunError>, Fail> {
     let plan = plan_of(alloc, THREE_SLAVES)?;
     let mut master = Master::new(alloc, &plan)?;
-    prepare(alloc, &plan, &mut master, is_up)?;
-    Ok(error_over_spent(&mut master))
+    if prepare(alloc, &plan, &mut master, is_up) {
+        Ok(error_over_spent(&mut master))
+    } else {
+        Err("slaves that don't come up".into())
+    }
 }
 
 // The master is asked first; at its last value the count of faults can't rise, and each call is a fault.

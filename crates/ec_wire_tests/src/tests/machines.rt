@@ -1,5 +1,5 @@
 //! Machines to run: their tables, plans, slaves and start-ups.
-ghost use Rattle.std.specs.Prelude.{IfOk, IfSome};
+ghost use Rattle.std.specs.Prelude.{IfOk};
 ghost use Rattle.ec_link.specs.Usable.{IsUsable};
 
 use ec_cycle::Master;
@@ -23,14 +23,19 @@ variable = [ { name = "a", dir = "out", bits = 4 }, { name = "b", dir = "out", b
 link = [ { var = "a", slave = "s0", index = 0x7000, sub = 1 }, { var = "b", slave = "s2", index = 0x7010, sub = 1 }, { var = "c", slave = "s1", index = 0x6000, sub = 1 }, { var = "d", slave = "s2", index = 0x6010, sub = 1 } ]
 "#;
 
-/// A table of 64 slaves of 2048 bits each way, in 13 parts. Its input variable is what the last slave makes of its output
-/// variable.
-pub fn full_table(alloc: Global) -> Result<String, AllocError> {
+/// The 32 entries of 64 bits that a slave of `full_table` has each way, as a table writes them.
+fn full_entries(alloc: Global) -> Result<String, AllocError> {
     let mut entries = String::new(alloc);
     for sub in 1..33u8 {
         entries.push_str(format!(in alloc; "[0x7000, {sub}, 64], ")?.as_str())?;
     }
-    let mut text = format!(in alloc;
+    Ok(entries)
+}
+
+/// The variables, the links and the type of `full_table`.
+fn full_head(alloc: Global) -> Result<String, AllocError> {
+    let entries = full_entries(alloc)?;
+    format!(in alloc;
         "variable = [ {{ name = \"a\", dir = \"out\", bits = 64 }}, {{ name = \"b\", dir = \"in\", bits = 64 }} ]
 link = [ {{ var = \"a\", slave = \"s63\", index = 0x7000, sub = 1 }}, {{ var = \"b\", slave = \"s63\", index = 0x7000, sub = 1 }} ]
 [[type]]
@@ -43,7 +48,13 @@ in_start = 0x1800
 rxpdo = [ {{ index = 0x1600, entries = [{entries}] }} ]
 txpdo = [ {{ index = 0x1A00, entries = [{entries}] }} ]
 "
-    )?;
+    )
+}
+
+/// A table of 64 slaves of 2048 bits each way, in 13 parts. Its input variable is what the last slave makes of its output
+/// variable.
+pub fn full_table(alloc: Global) -> Result<String, AllocError> {
+    let mut text = full_head(alloc)?;
     for place in 0..64u8 {
         let slave = format!(in alloc; "[[slave]]\nname = \"s{place}\"\ntype = \"full\"\n")?;
         text.push_str(slave.as_str())?;
@@ -51,27 +62,12 @@ txpdo = [ {{ index = 0x1A00, entries = [{entries}] }} ]
     Ok(text)
 }
 
-/// The plan of a table; none where it has a fault.
-fn compiled(alloc: Global, text: &str) -> Option<Plan>
-    ensures { IfSome result IsUsable }
-{
-    let Ok(table) = read_table(alloc, text) else {
-        return None;
-    };
-    let Ok(plan) = compile(alloc, &table) else {
-        return None;
-    };
-    Some(plan)
-}
-
 /// The plan of a table.
 pub fn plan_of(alloc: Global, text: &str) -> Result<Plan, Fail>
     ensures { IfOk result IsUsable }
 {
-    match compiled(alloc, text) {
-        Some(plan) => Ok(plan),
-        None => Err("a table without a plan".into()),
-    }
+    let table = read_table(alloc, text)?;
+    Ok(compile(alloc, &table)?)
 }
 
 /// What must be there.
@@ -90,6 +86,12 @@ pub fn ring_of(alloc: Global, plan: &Plan) -> Result<Ring, AllocError> {
         slaves.push(Slave::new(alloc, settings.kind.copied(alloc)?, identity)?)?;
     }
     Ok(Ring::new(slaves))
+}
+
+/// Three slaves as they are switched on.
+pub fn three_slaves(alloc: Global) -> Result<Ring, Fail> {
+    let plan = plan_of(alloc, THREE_SLAVES)?;
+    Ok(ring_of(alloc, &plan)?)
 }
 
 /// A start-up of a plan whose first frame has this number.

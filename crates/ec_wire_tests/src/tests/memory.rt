@@ -1,5 +1,5 @@
 //! The calls of a wire over memory, one after another.
-use crate::tests::machines::{THREE_SLAVES, plan_of, ring_of};
+use crate::tests::machines::three_slaves;
 use ec_wire::{MemoryWire, Wire};
 use std::alloc::Global;
 use std::test::Fail;
@@ -16,8 +16,7 @@ enum Call {
 
 /// A wire to three slaves with room for so many payloads, of which no call is a fault by its number.
 fn wire_of(alloc: Global, room: usize) -> Result<MemoryWire, Fail> {
-    let plan = plan_of(alloc, THREE_SLAVES)?;
-    let ring = ring_of(alloc, &plan)?;
+    let ring = three_slaves(alloc)?;
     Ok(MemoryWire::new(alloc, ring, room, u64::MAX)?)
 }
 

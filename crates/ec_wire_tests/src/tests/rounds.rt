@@ -67,19 +67,47 @@ fn is_taken(master: &mut Master<'_>, payload: &[u8]) -> bool {
     }
 }
 
+/// A cycle of a ready master sends the frame.
+fn expect_sent(rt: &(impl AllocGlobal + Abort), master: &mut Master<'_>) -> Result<(), Fail> {
+    assert_eq!(rt; master.next_number(), 100);
+    let frame = bytes_of(rt.alloc(), SENT)?;
+    let sends = sends(master, &frame);
+    assert!(rt; sends);
+    Ok(())
+}
+
+/// The frame comes back from the slaves as it must.
+fn expect_back(rt: &(impl AllocGlobal + Abort), ring: &mut Ring) -> Result<Vec<u8>, Fail> {
+    let back = passed(rt, ring)?;
+    let wanted = bytes_of(rt.alloc(), BACK)?;
+    assert!(rt; back.as_slice() == wanted.as_slice());
+    Ok(back)
+}
+
+/// A cycle of a ready master past its slaves.
+fn expect_cycle(
+    rt: &(impl AllocGlobal + Abort),
+    master: &mut Master<'_>,
+    mut ring: Ring,
+) -> Result<(), Fail> {
+    expect_sent(rt, master)?;
+    let back = expect_back(rt, &mut ring)?;
+    let is_taken = is_taken(master, &back);
+    assert!(rt; is_taken);
+    assert_eq!(rt; (value_of(master, 2), value_of(master, 3)), (5, 48879));
+    Ok(())
+}
+
+/// Brings three slaves up by frames from number 25 on, and runs a cycle.
+fn expect_frames(rt: &(impl AllocGlobal + Abort)) -> Result<(), Fail> {
+    let plan = plan_of(rt.alloc(), THREE_SLAVES)?;
+    let mut master = Master::new(rt.alloc(), &plan)?;
+    let ring = there(brought_up_from(rt.alloc(), &plan, &mut master, 25))?;
+    expect_cycle(rt, &mut master, ring)
+}
+
 // The master takes from the frame what the slaves' applications wrote.
 #[test]
 fn frame_of_a_cycle(rt: HostRuntime) -> Result<(), Fail> {
-    let plan = plan_of(rt.alloc(), THREE_SLAVES)?;
-    let mut master = Master::new(rt.alloc(), &plan)?;
-    let mut ring = there(brought_up_from(rt.alloc(), &plan, &mut master, 25))?;
-    assert_eq!(rt; master.next_number(), 100);
-    let sends = sends(&mut master, &bytes_of(rt.alloc(), SENT)?);
-    assert!(rt; sends);
-    let back = passed(&rt, &mut ring)?;
-    assert!(rt; back.as_slice() == bytes_of(rt.alloc(), BACK)?.as_slice());
-    let is_taken = is_taken(&mut master, &back);
-    assert!(rt; is_taken);
-    assert_eq!(rt; (value_of(&master, 2), value_of(&master, 3)), (5, 48879));
-    Ok(())
+    expect_frames(&rt)
 }

@@ -1,7 +1,9 @@
 //! Segments and loops over the system's sockets.
 ghost use Rattle.ec_link.specs.Usable.{IsUsable};
 
-use crate::tests::machines::{THREE_SLAVES, are_up, plan_of, ring_of, set, startup_of, value_of};
+use crate::tests::machines::{
+    THREE_SLAVES, are_up, plan_of, ring_of, set, startup_of, three_slaves, value_of,
+};
 use ec_cycle::Master;
 use ec_link::{Plan, Predicted};
 use ec_ring::Ring;
@@ -22,12 +24,6 @@ const ANSWER: &str = "0e100701030030010200000001000300";
 /// A port on 127.0.0.1.
 fn here(port: u16) -> SocketAddr {
     SocketAddr::from((Ipv4Addr::LOCALHOST, port))
-}
-
-/// Three slaves as they are switched on.
-fn three_slaves(alloc: Global) -> Result<Ring, Fail> {
-    let plan = plan_of(alloc, THREE_SLAVES)?;
-    Ok(ring_of(alloc, &plan)?)
 }
 
 /// Sends payloads to a segment.
