@@ -202,7 +202,17 @@ fn another_revision(rt: HostRuntime) -> Result<(), Fail> {
     Ok(())
 }
 
-/// A start-up that has numbers for so many frames fails, and begun anew it has no number at all.
+/// A start-up that has numbers for some frames fails, and begun anew it has no number at all.
+fn fails_spent(
+    rt: &(impl AllocGlobal + Abort),
+    startup: &mut Startup,
+    ring: &mut Ring,
+) -> Result<(), Fail> {
+    fails(rt, startup, ring, StartError::NumbersSpent, u64::MAX)?;
+    fails(rt, startup, ring, StartError::NumbersSpent, u64::MAX)
+}
+
+/// A start-up has numbers for so many frames.
 fn spends_numbers(
     rt: &(impl AllocGlobal + Abort),
     plan: &Plan,
@@ -210,8 +220,7 @@ fn spends_numbers(
     frames: u64,
 ) -> Result<(), Fail> {
     let mut startup = startup_of(rt, plan, u64::MAX - frames)?;
-    fails(rt, &mut startup, ring, StartError::NumbersSpent, u64::MAX)?;
-    fails(rt, &mut startup, ring, StartError::NumbersSpent, u64::MAX)
+    fails_spent(rt, &mut startup, ring)
 }
 
 // Before the first frame, in each phase, and before the last frame. One from number 0 comes up over the same slaves.
@@ -442,19 +451,37 @@ fn a_reply_does_not_fit(rt: HostRuntime) -> Result<(), Fail> {
     Ok(())
 }
 
+/// No slave serves in a start-up's turns from number 0 on. It ends as too slow, and begins anew.
+fn fails_unserved(
+    rt: &(impl AllocGlobal + Abort),
+    startup: &mut Startup,
+    ring: &mut Ring,
+) -> Result<(), Fail> {
+    rise_in_trouble(startup, ring, 0, 0, Trouble::Unserved)?;
+    let error = StartError::TooSlow { step: 10 };
+    assert_eq!(rt; startup.outcome(), Some(Err(error)));
+    assert_eq!(rt; (error.number(), startup.next_number()), (31, 1010));
+    begin_anew(startup)
+}
+
+/// A start-up comes up over slaves that serve once it has begun anew.
+fn comes_up_once_served(
+    rt: &(impl AllocGlobal + Abort),
+    plan: &Plan,
+    ring: &mut Ring,
+) -> Result<(), Fail> {
+    let mut startup = startup_of(rt, plan, 0)?;
+    fails_unserved(rt, &mut startup, ring)?;
+    comes_up(rt, &mut startup, ring, 1010 + 75)
+}
+
 // Slave 0's SII never has its first word: 10 steps, 1000 polls of the next one, and then no frame more. A second start-up over
 // the same slaves, which serve then, takes 75 frames.
 #[test]
 fn no_slave_serves(rt: HostRuntime) -> Result<(), Fail> {
     let plan = plan_of(rt.alloc(), THREE_SLAVES)?;
-    let mut startup = startup_of(&rt, &plan, 0)?;
     let mut ring = ring_of(rt.alloc(), &plan, &[1; 3])?;
-    rise_in_trouble(&mut startup, &mut ring, 0, 0, Trouble::Unserved)?;
-    let error = StartError::TooSlow { step: 10 };
-    assert_eq!(rt; startup.outcome(), Some(Err(error)));
-    assert_eq!(rt; (error.number(), startup.next_number()), (31, 1010));
-    begin_anew(&mut startup)?;
-    comes_up(&rt, &mut startup, &mut ring, 1010 + 75)
+    comes_up_once_served(&rt, &plan, &mut ring)
 }
 
 // Slave 2 has an output entry of 11 bits, or no PDO 0x1600: told by its second reply, or by its first.

@@ -42,15 +42,25 @@ fn echo(world: &mut World<'_>, slave: usize) {
     }
 }
 
-/// The frame in a slot passes all slaves; then each makes a firmware step, and its application after it.
-fn pass(world: &mut World<'_>, slot: usize) {
+/// The frame in a slot passes all slaves.
+fn pass_all(world: &mut World<'_>, slot: usize) {
     for _ in 0..world.slaves() {
         world.step(Event::Pass(slot));
     }
+}
+
+/// Each slave makes a firmware step, and its application after it.
+fn serve_all(world: &mut World<'_>) {
     for slave in 0..world.slaves() {
         world.step(Event::Serve(slave));
         echo(world, slave);
     }
+}
+
+/// The frame in a slot passes all slaves; then each makes a firmware step, and its application after it.
+fn pass(world: &mut World<'_>, slot: usize) {
+    pass_all(world, slot);
+    serve_all(world);
 }
 
 /// A start-up that nothing disturbs.
