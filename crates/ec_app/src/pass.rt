@@ -6,15 +6,13 @@ ghost use Rattle.ec_app.specs.Passing.{IsAnswer, IsPassRefusal, RunsPass, Spells
 use crate::Refusal;
 use crate::printing::print_text;
 use ec_frame::FrameError;
+use ec_frame::field::MAX_FRAME_LEN;
 use ec_regs::{Identity, SlaveType};
 use ec_ring::Ring;
 use ec_slave::Slave;
 use hex::FromHexError;
 use std::alloc::{AllocError, Global};
 use std::io::Write;
-
-/// The most bytes of a UDP datagram's payload on Ethernet: 1500, less 20 of IPv4 and 8 of UDP.
-const MAX_PAYLOAD: usize = 1472;
 
 /// The identity of slaves that stand for none in particular.
 const NO_IDENTITY: Identity = Identity {
@@ -45,7 +43,7 @@ fn read_payload(alloc: Global, text: &str) -> Result<Vec<u8>, Refusal>
         Err(FromHexError::OutOfMemory) => return Err(Refusal::Memory),
         Err(_) => return Err(Refusal::BadHex),
     };
-    if payload.len() > MAX_PAYLOAD {
+    if payload.len() > MAX_FRAME_LEN {
         return Err(Refusal::Frame(FrameError::TooLong));
     }
     Ok(payload)

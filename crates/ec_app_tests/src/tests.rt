@@ -1,6 +1,5 @@
 //! The program's worked rows, over memory.
 
-mod echoes;
 mod loops;
 mod machines;
 mod plans;

@@ -162,19 +162,21 @@ Exit status:
   3  refused, and standard error says `ecat: NUMBER NAME VALUES`
   4  input, output or a socket is at fault, told in the same form
 
-Refusals with status 3; SLAVE and STEP count from 0:
+Refusals with status 3; SLAVE and STEP count from 0, and `failed` of `ecat sim` has these numbers too:
   11 to 25, 44             the table is refused; `ecat plan --help` says what to do
    9 BadMailbox SLAVE      what the slave's mailbox held is no reply to the request: see the
                            mailbox of its type
-  26 Count SEEN            SEEN slaves are there, and not as many as the table has: see the cables
-                           and the table
+  26 Count SEEN            SEEN slaves answered the first frame, and not as many as the table
+                           has: see which slaves it passed
   27 Identity SLAVE VENDOR PRODUCT REVISION
                            the slave is another device than its type says: see the order of the
                            slaves, and the type
   28 Counter STEP          a frame came back with another working counter than it must have: see
                            whether a slave was switched off
-  29 AlError SLAVE CODE    the slave refused a state, and shows this AL status code: see its manual
-  30 Abort SLAVE CODE      the slave aborted a transfer with this code: see its manual
+  29 AlError SLAVE CODE    the slave refused a state, and shows this AL status code: see what
+                           ETG.1000.6 says of it
+  30 Abort SLAVE CODE      the slave aborted a transfer with this code: see what ETG.1000.6 says
+                           of it
   31 TooSlow STEP          a wait wasn't over after 1000 polls: see whether the slave works
   32 Lost                  a socket was faulty in the start-up: try again
   36 NumbersSpent          no frame number is left: try again

@@ -1,14 +1,12 @@
-//! `ecat loop`, over the system's sockets, and over a wire in memory whose calls can fail; and on tables at random beside a world.
+//! `ecat loop`, over the system's sockets, and over a wire in memory whose calls can fail.
 ghost use Rattle.std.specs.Prelude.{◌≡◌, None};
 ghost use Rattle.ec_link.specs.Faults.{compile_fault};
 ghost use Rattle.ec_link.specs.Plan.{plan_of};
 
-use crate::tests::echoes::looped;
 use crate::tests::machines::slaves_of;
 use crate::tests::tables::THREE_SLAVES;
 use ec_app::{Refusal, run_command, run_loop};
 use ec_link::{Plan, compile};
-use ec_random::{Random, random_table};
 use ec_start::StartError;
 use ec_table::{Table, read_table};
 use ec_wire::{Echo, MemoryWire, RunError};
@@ -126,43 +124,6 @@ fn expect_fault<H: AllocGlobal + Abort>(rt: &H, fault: Fault) -> Result<(), Fail
 fn ends_at_a_fault_of_the_wire(rt: HostRuntime) -> Result<(), Fail> {
     for fault in FAULTS {
         expect_fault(&rt, fault)?;
-    }
-    Ok(())
-}
-
-/// What a world says of three cycles of a table.
-fn cycles_of_table(alloc: Global, table: &Table) -> Result<String, Refusal> {
-    let plan = compile(alloc, table)?;
-    Ok(looped(alloc, table, &plan, 3)?)
-}
-
-/// The same of the table that a text states.
-fn cycles_of(alloc: Global, text: &str) -> Result<String, Refusal> {
-    let table = read_table(alloc, text)?;
-    cycles_of_table(alloc, &table)
-}
-
-/// Three cycles of the table that a seed decides, through the program and as events of a world.
-fn expect_joined<H: AllocGlobal + Net + Abort>(rt: &H, seed: u64) -> Result<(), Fail> {
-    let mut random = Random::new(seed);
-    let table = random_table(rt.alloc(), &mut random)?;
-    let printed = cycles_of(rt.alloc(), table.as_str())?;
-    let run = Loop {
-        cycles: "3",
-        input: table.as_bytes(),
-        status: 0,
-        printed: printed.as_str(),
-        told: "",
-    };
-    expect_loop(rt, run);
-    Ok(())
-}
-
-// The tables are those of the test of the same name of `ecat sim`.
-#[test]
-fn joined(rt: HostRuntime) -> Result<(), Fail> {
-    for seed in 0..200 {
-        expect_joined(&rt, seed)?;
     }
     Ok(())
 }

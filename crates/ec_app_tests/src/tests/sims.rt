@@ -1,18 +1,9 @@
-//! `ecat sim`, over memory; and on tables at random it and `ecat plan` beside the crates below.
-
-ghost use Rattle.std.specs.Prelude.{◌≡◌, None};
-ghost use Rattle.ec_link.specs.Faults.{compile_fault};
-ghost use Rattle.ec_link.specs.Plan.{plan_of};
+//! `ecat sim`, over memory.
 
 use crate::tests::plans::expect_printed;
 use crate::tests::tables::{THREE_SLAVES, VALVES_AND_SWITCHES};
 use crate::tests::{Run, expect_run};
-use ec_app::{Line, Refusal, identities_of, plan_text, read_script, run_line};
-use ec_link::{Plan, compile};
-use ec_random::{Random, random_script, random_table};
-use ec_table::{Table, read_table};
-use ec_world::World;
-use std::alloc::{AllocError, Global};
+use std::alloc::Global;
 use std::net::Net;
 use std::process::Abort;
 use std::test::Fail;
@@ -245,90 +236,4 @@ fn runs_long_scripts(rt: HostRuntime) -> Result<(), Fail> {
     let script = format!(in rt.alloc(); "ready;{cycles}")?;
     let printed = format!(in rt.alloc(); "ready;{reports}")?;
     expect_sim(&rt, THREE_SLAVES, script.as_str(), 0, printed.as_str(), "")
-}
-
-/// What the lines of a script print, by the crate below.
-fn said(
-    alloc: Global,
-    table: &Table,
-    world: &mut World,
-    lines: &[Line],
-) -> Result<String, AllocError>
-    requires { world.old.plan ≡ plan_of table.now }
-{
-    let mut printed = String::new(alloc);
-    for line in lines {
-        let text = run_line(alloc, world, table, line)?;
-        printed.push_str(text.as_str())?;
-    }
-    Ok(printed)
-}
-
-/// What a new world of a table says to the lines of a script.
-fn said_by(alloc: Global, table: &Table, plan: &Plan, lines: &[Line]) -> Result<String, AllocError>
-    requires accepted { compile_fault table.now ≡ None }
-    requires plan { plan.now ≡ plan_of table.now }
-{
-    let identities = identities_of(alloc, table)?;
-    let mut world = World::new(alloc, table, plan, identities.as_slice())?;
-    said(alloc, table, &mut world, lines)
-}
-
-/// What a script prints over a table and its plan, by the crates below.
-fn simulated(alloc: Global, table: &Table, plan: &Plan, script: &str) -> Result<String, Refusal>
-    requires accepted { compile_fault table.now ≡ None }
-    requires plan { plan.now ≡ plan_of table.now }
-{
-    let lines = read_script(alloc, table, script)?;
-    Ok(said_by(alloc, table, plan, lines.as_slice())?)
-}
-
-/// The text of a plan, and what a script prints over it, by the crates below.
-fn answers_of(
-    alloc: Global,
-    table: &Table,
-    plan: &Plan,
-    script: &str,
-) -> Result<(String, String), Refusal>
-    requires accepted { compile_fault table.now ≡ None }
-    requires plan { plan.now ≡ plan_of table.now }
-{
-    let printed = simulated(alloc, table, plan, script)?;
-    Ok((plan_text(alloc, table.version(), plan)?, printed))
-}
-
-/// The same of a table.
-fn answers(alloc: Global, table: &str, script: &str) -> Result<(String, String), Refusal> {
-    let table = read_table(alloc, table)?;
-    let plan = compile(alloc, &table)?;
-    answers_of(alloc, &table, &plan, script)
-}
-
-/// A table and a script through the program and through the crates below.
-fn expect_answers<H: AllocGlobal + Net + Abort>(
-    rt: &H,
-    table: &str,
-    script: &str,
-) -> Result<(), Fail> {
-    let (plan, printed) = answers(rt.alloc(), table, script)?;
-    let input = format!(in rt.alloc(); "{table}%%\n{script}")?;
-    expect_printed(rt, &["ecat", "plan"], table, plan.as_str());
-    expect_printed(rt, &SIM, input.as_str(), printed.as_str());
-    Ok(())
-}
-
-/// The same of a table and a script that a seed decides.
-fn expect_joined<H: AllocGlobal + Net + Abort>(rt: &H, seed: u64) -> Result<(), Fail> {
-    let mut random = Random::new(seed);
-    let table = random_table(rt.alloc(), &mut random)?;
-    let script = random_script(rt.alloc(), &mut random, table.as_str())?;
-    expect_answers(rt, table.as_str(), script.as_str())
-}
-
-#[test]
-fn joined(rt: HostRuntime) -> Result<(), Fail> {
-    for seed in 0..200 {
-        expect_joined(&rt, seed)?;
-    }
-    Ok(())
 }

@@ -3,10 +3,10 @@ ghost use Rattle.std.specs.Prelude.{◌≡◌, None};
 ghost use Rattle.ec_link.specs.Faults.{compile_fault};
 ghost use Rattle.ec_link.specs.Plan.{plan_of};
 
-use ec_app::identities_of;
-use ec_link::Plan;
+use ec_app::{Refusal, identities_of};
+use ec_link::{Plan, compile};
 use ec_script::write_report;
-use ec_table::{Direction, Table};
+use ec_table::{Direction, Table, read_table};
 use ec_world::{Event, World};
 use std::alloc::{AllocError, Global};
 use std::fmt::Write as _;
@@ -141,7 +141,7 @@ fn write_cycles(
 }
 
 /// What a world of a table says of so many cycles.
-pub fn looped(alloc: Global, table: &Table, plan: &Plan, cycles: u64) -> Result<String, AllocError>
+fn looped(alloc: Global, table: &Table, plan: &Plan, cycles: u64) -> Result<String, AllocError>
     requires accepted { compile_fault table.now ≡ None }
     requires plan { plan.now ≡ plan_of table.now }
 {
@@ -150,4 +150,16 @@ pub fn looped(alloc: Global, table: &Table, plan: &Plan, cycles: u64) -> Result<
     let mut text = String::from_str(alloc, "ready\n")?;
     write_cycles(alloc, &mut text, &mut world, table, plan, cycles)?;
     Ok(text)
+}
+
+/// What a world of a table says of three cycles.
+fn cycles_of_table(alloc: Global, table: &Table) -> Result<String, Refusal> {
+    let plan = compile(alloc, table)?;
+    Ok(looped(alloc, table, &plan, 3)?)
+}
+
+/// The same of the table that a text states.
+pub fn cycles_of(alloc: Global, text: &str) -> Result<String, Refusal> {
+    let table = read_table(alloc, text)?;
+    cycles_of_table(alloc, &table)
 }

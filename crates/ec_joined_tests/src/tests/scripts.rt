@@ -1,0 +1,67 @@
+//! A script line by line over a world, by `read_script` and `run_line`.
+ghost use Rattle.std.specs.Prelude.{◌≡◌, None};
+ghost use Rattle.ec_link.specs.Faults.{compile_fault};
+ghost use Rattle.ec_link.specs.Plan.{plan_of};
+
+use ec_app::{Line, Refusal, identities_of, plan_text, read_script, run_line};
+use ec_link::{Plan, compile};
+use ec_table::{Table, read_table};
+use ec_world::World;
+use std::alloc::{AllocError, Global};
+
+/// What the lines of a script print, by the calls.
+fn said(
+    alloc: Global,
+    table: &Table,
+    world: &mut World,
+    lines: &[Line],
+) -> Result<String, AllocError>
+    requires { world.old.plan ≡ plan_of table.now }
+{
+    let mut printed = String::new(alloc);
+    for line in lines {
+        let text = run_line(alloc, world, table, line)?;
+        printed.push_str(text.as_str())?;
+    }
+    Ok(printed)
+}
+
+/// What a new world of a table says to the lines of a script.
+fn said_by(alloc: Global, table: &Table, plan: &Plan, lines: &[Line]) -> Result<String, AllocError>
+    requires accepted { compile_fault table.now ≡ None }
+    requires plan { plan.now ≡ plan_of table.now }
+{
+    let identities = identities_of(alloc, table)?;
+    let mut world = World::new(alloc, table, plan, identities.as_slice())?;
+    said(alloc, table, &mut world, lines)
+}
+
+/// What a script prints over a table and its plan, by the calls.
+fn simulated(alloc: Global, table: &Table, plan: &Plan, script: &str) -> Result<String, Refusal>
+    requires accepted { compile_fault table.now ≡ None }
+    requires plan { plan.now ≡ plan_of table.now }
+{
+    let lines = read_script(alloc, table, script)?;
+    Ok(said_by(alloc, table, plan, lines.as_slice())?)
+}
+
+/// The text of a plan, and what a script prints over it, by the calls.
+fn answers_of(
+    alloc: Global,
+    table: &Table,
+    plan: &Plan,
+    script: &str,
+) -> Result<(String, String), Refusal>
+    requires accepted { compile_fault table.now ≡ None }
+    requires plan { plan.now ≡ plan_of table.now }
+{
+    let printed = simulated(alloc, table, plan, script)?;
+    Ok((plan_text(alloc, table.version(), plan)?, printed))
+}
+
+/// The same of the table that a text states.
+pub fn answers(alloc: Global, table: &str, script: &str) -> Result<(String, String), Refusal> {
+    let table = read_table(alloc, table)?;
+    let plan = compile(alloc, &table)?;
+    answers_of(alloc, &table, &plan, script)
+}
