@@ -9,7 +9,7 @@ ghost use Rattle.ec_bits.specs.Bits.{within};
 ghost use Rattle.ec_frame.specs.Datagram.{Datagram, IsDatagram, IsSpelling, spelling};
 ghost use Rattle.ec_frame.specs.Fields.{header_of, with_data};
 ghost use Rattle.ec_slave.specs.Encounters.{meets_addressed};
-ghost use Rattle.ec_slave.specs.Physical.{Window, byte_read, may_read_byte, physical_met, retold, physical_after, some_byte_read, some_byte_written};
+ghost use Rattle.ec_slave.specs.Physical.{byte_read, may_read_byte, physical_met, retold, physical_after, some_byte_read, some_byte_written};
 ghost use Rattle.ec_slave.specs.State.{fmmus_of};
 
 mod bytes;
