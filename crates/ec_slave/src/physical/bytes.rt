@@ -6,7 +6,7 @@ ghost use Rattle.ec_bits.specs.Bits.{within};
 ghost use Rattle.ec_regs.specs.Memory.{ram_start, ram_end};
 ghost use Rattle.ec_sync.specs.Governing.{governor as governor_of};
 ghost use Rattle.ec_sync.specs.Manager.{Manager};
-ghost use Rattle.ec_slave.specs.Physical.{Window, byte_from, is_kept, may_read_byte, may_write_byte, memory_written, retold, some_byte_written};
+ghost use Rattle.ec_slave.specs.Physical.{byte_from, is_kept, may_read_byte, may_write_byte, memory_written, retold, some_byte_written};
 
 use crate::reach::owner_of;
 use crate::runs::{cut, end_of_alike};

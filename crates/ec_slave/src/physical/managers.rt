@@ -5,7 +5,7 @@ ghost use Rattle.ec_bits.specs.Bits.{within, zeros};
 ghost use Rattle.ec_regs.specs.Memory.{ram_end};
 ghost use Rattle.ec_sync.specs.Governing.{manager_byte};
 ghost use Rattle.ec_slave.specs.Managers.{is_ungoverned, manager_after};
-ghost use Rattle.ec_slave.specs.Physical.{Window, is_configured as is_configured_at, physical_manager, physical_managers, setting_for, settings_written, touches, physical_value};
+ghost use Rattle.ec_slave.specs.Physical.{is_configured as is_configured_at, physical_manager, physical_managers, setting_for, settings_written, touches, physical_value};
 
 use crate::physical::bytes::byte_for;
 use crate::reach::{governor, read_manager, write_manager};
