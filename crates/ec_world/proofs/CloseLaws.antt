@@ -44,7 +44,7 @@ full_or Other e ne = absurd (ne refl)
 full_or Short e ne = absurd (let z : false ≡ true = e in cc)
 full_or (Full v) e ne = (v, refl)
 
-all_full_kept : (o : Option (List Note)) → all_full o ≡ true → (ns : List Note) × (o ≡ Some ns)
+pub all_full_kept : (o : Option (List Note)) → all_full o ≡ true → (ns : List Note) × (o ≡ Some ns)
 all_full_kept None e = absurd (let z : false ≡ true = e in cc)
 all_full_kept (Some ns) e = (ns, refl)
 

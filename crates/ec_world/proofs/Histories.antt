@@ -33,7 +33,7 @@ run_keeps R m ok h p (e ∷ es) all r = run_keeps R m ok h (unwrap_or (step m p 
     one (Some x) q = h p e x (and_parts (ok e) (list_all ok es) all).0 q r
 
 -- two runs, one after the other
-run_joins : (m : Meaning) (p : Plain) (xs ys : List Event) → (run m p (xs ++ ys)).plain ≡ (run m (run m p xs).plain ys).plain
+pub run_joins : (m : Meaning) (p : Plain) (xs ys : List Event) → (run m p (xs ++ ys)).plain ≡ (run m (run m p xs).plain ys).plain
 run_joins m p [] ys = refl
 run_joins m p (x ∷ xs) ys = run_joins m (unwrap_or (step m p x) p) xs ys
 
@@ -62,6 +62,10 @@ all_any : (es : List Event) → list_all any_event es ≡ true
 unfolding any_event
 all_any [] = refl
 all_any (e ∷ es) = all_any es
+
+-- what each event keeps, a run keeps
+pub run_always : (R : Plain → Type 0) (m : Meaning) → ((p : Plain) (e : Event) (q : Plain) → step m p e ≡ Some q → R p → R q) → (p : Plain) (es : List Event) → R p → R (run m p es).plain
+run_always R m h p es r = run_keeps R m any_event (λ x e q ok made s. h x e q made s) p es (all_any es) r
 
 -- ---- frames in slots
 
@@ -166,7 +170,7 @@ below_step m p e q ok h b = by (leaves m p e q h)
         let next : q.next ≡ p.next = ap (λ (x : Plain). x.next) is in
         let x = set_has (λ (y : PlainFrame). y.number < p.next) p.slots j None (λ y no. absurd (none_some y no)) b k f (ap (λ (x : Plain). frame_at x k) (sym is) ∙ at) in
         omega (arith, x, next)
-    by (Returns j g there is) k f at =
+    by (Returns j g there is all) k f at =
         let next : q.next ≡ p.next = ap (λ (x : Plain). x.next) is in
         let x = set_has (λ (y : PlainFrame). y.number < p.next) p.slots j None (λ y no. absurd (none_some y no)) b k f (ap (λ (x : Plain). frame_at x k) (sym is) ∙ at) in
         omega (arith, x, next)
@@ -196,7 +200,7 @@ same_step n image m p e q ok h c = by (leaves m p e q h)
         c.same k f (ap (λ (x : Plain). frame_at x k) (sym is) ∙ at))
     by (Loses j own is) = made (let x = c.past in let next = ap (λ (x : Plain). x.next) is in omega (arith, x, next)) (λ k f at.
         set_has (λ (y : PlainFrame). y.number ≡ n → y.snapshot ≡ image) p.slots j None (λ y no. absurd (none_some y no)) c.same k f (ap (λ (x : Plain). frame_at x k) (sym is) ∙ at))
-    by (Returns j g there is) = made (let x = c.past in let next = ap (λ (x : Plain). x.next) is in omega (arith, x, next)) (λ k f at.
+    by (Returns j g there is all) = made (let x = c.past in let next = ap (λ (x : Plain). x.next) is in omega (arith, x, next)) (λ k f at.
         set_has (λ (y : PlainFrame). y.number ≡ n → y.snapshot ≡ image) p.slots j None (λ y no. absurd (none_some y no)) c.same k f (ap (λ (x : Plain). frame_at x k) (sym is) ∙ at))
 
 -- before a cycle begins, frames have earlier numbers
@@ -233,7 +237,7 @@ snapshots_law m p begun after b = (run_keeps (Carry p.next p.outputs) m any_even
 
 -- ---- slaves in OP stay there
 
-used_health : (qs : List PlainSlave) (t : ℕ) (y : PlainSlave) (s : ℕ) → y.health ≡ (get_or qs t no_plain_slave).health
+pub used_health : (qs : List PlainSlave) (t : ℕ) (y : PlainSlave) (s : ℕ) → y.health ≡ (get_or qs t no_plain_slave).health
     → (get_or (set qs t y) s no_plain_slave).health ≡ (get_or qs s no_plain_slave).health
 used_health [] t y s e = refl
 used_health (q ∷ qs) zero y zero e = e
@@ -241,7 +245,7 @@ used_health (q ∷ qs) zero y (suc s) e = refl
 used_health (q ∷ qs) (suc t) y zero e = refl
 used_health (q ∷ qs) (suc t) y (suc s) e = used_health qs t y s e
 
-other_health : (qs : List PlainSlave) (t : ℕ) (y : PlainSlave) (s : ℕ) → s ≢ t → (get_or (set qs t y) s no_plain_slave).health ≡ (get_or qs s no_plain_slave).health
+pub other_health : (qs : List PlainSlave) (t : ℕ) (y : PlainSlave) (s : ℕ) → s ≢ t → (get_or (set qs t y) s no_plain_slave).health ≡ (get_or qs s no_plain_slave).health
 other_health qs t y s ne = ap (λ (x : PlainSlave). x.health) (get_or-set_other qs t s y no_plain_slave ne)
 
 pub health_kept : (m : Meaning) (p : Plain) (e : Event) (q : Plain) (s : ℕ) → step m p e ≡ Some q → e ≢ Fault s → e ≢ ResetSlave s → (plain_slave q s).health ≡ (plain_slave p s).health
@@ -253,8 +257,8 @@ health_kept m p e q s h nf nr = by (treats m p e q h)
     by : Treats m p e q → (plain_slave q s).health ≡ (plain_slave p s).health
     by (Same is) = in_slaves p.slaves is
     by (Uses t y is own) = in_slaves (set p.slaves t y) is ∙ used_health p.slaves t y s own
-    by (Fails t y own is) = in_slaves (set p.slaves t y) is ∙ other_health p.slaves t y s (λ z. nf (own ∙ ap (λ (n : ℕ). Fault n) (sym z)))
-    by (Resets t y own is) = in_slaves (set p.slaves t y) is ∙ other_health p.slaves t y s (λ z. nr (own ∙ ap (λ (n : ℕ). ResetSlave n) (sym z)))
+    by (Fails t y own is now before) = in_slaves (set p.slaves t y) is ∙ other_health p.slaves t y s (λ z. nf (own ∙ ap (λ (n : ℕ). Fault n) (sym z)))
+    by (Resets t y own is now) = in_slaves (set p.slaves t y) is ∙ other_health p.slaves t y s (λ z. nr (own ∙ ap (λ (n : ℕ). ResetSlave n) (sym z)))
 
 pub working_law : WorkingLaw
 working_law m p e q s h nf nr w = health_kept m p e q s h nf nr ∙ w
@@ -265,5 +269,5 @@ count_kept m p e q h = by (treats m p e q h)
     by : Treats m p e q → length q.slaves ≡ length p.slaves
     by (Same is) = ap length is
     by (Uses t y is own) = ap length is ∙ length-set p.slaves t y
-    by (Fails t y own is) = ap length is ∙ length-set p.slaves t y
-    by (Resets t y own is) = ap length is ∙ length-set p.slaves t y
+    by (Fails t y own is now before) = ap length is ∙ length-set p.slaves t y
+    by (Resets t y own is now) = ap length is ∙ length-set p.slaves t y

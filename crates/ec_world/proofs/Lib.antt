@@ -36,5 +36,7 @@ pub mod Tracing
 pub mod Histories
 pub mod Published
 pub mod Quiet
+pub mod Single
+pub mod Disturbed
 pub mod Accepted
 pub mod Newly

@@ -34,7 +34,7 @@ use Rattle.ec_world.proofs.InSlots.{flight_pairs}
 use Rattle.ec_world.proofs.Lists.{all_from-each, all_each, there_too}
 use Rattle.ec_world.proofs.Knowing.{share_is}
 use Rattle.ec_world.proofs.MasterSteps.{open_both}
-use Rattle.ec_world.proofs.CloseLaws.{inputs_same, report_said, counted}
+use Rattle.ec_world.proofs.CloseLaws.{inputs_same, report_said, counted, all_full_kept}
 
 none_some : {X : Type 0} (x : X) → None ≡ Some x → ⊥
 none_some x e = cc
@@ -224,10 +224,6 @@ full_or : (n : Note) → is_full n ≡ true → n ≢ Other → (v : List ℕ) �
 full_or Other e ne = absurd (ne refl)
 full_or Short e ne = absurd (let z : false ≡ true = e in cc)
 full_or (Full v) e ne = (v, refl)
-
-all_full_kept : (o : Option (List Note)) → all_full o ≡ true → (ns : List Note) × (o ≡ Some ns)
-all_full_kept None e = absurd (let z : false ≡ true = e in cc)
-all_full_kept (Some ns) e = (ns, refl)
 
 -- a slave's note, where its unit is taken
 pub record Noted (c : Cycle) (k s : ℕ) : Type 0 where

@@ -150,7 +150,7 @@ traced_step m begun number done e q h c = by (leaves m p e q h)
       frames = λ i f at. set_has R p.slots j None (λ y no. absurd (none_some y no)) now.frames i f (ap (λ (x : Plain). frame_at x i) (sym is) ∙ at);
       kept = λ d at. now.kept d (sym (ap (λ (x : Plain). x.cycle) is) ∙ at);
     }
-    by (Returns j g there is) = record {
+    by (Returns j g there is all) = record {
       past = let x = c.past in let next = ap (λ (z : Plain). z.next) is in omega (arith, x, next);
       frames = λ i f at. set_has R p.slots j None (λ y no. absurd (none_some y no)) now.frames i f (ap (λ (x : Plain). frame_at x i) (sym is) ∙ at);
       kept = λ d at own. back d (sym (ap (λ (z : Plain). z.cycle) is) ∙ at) own;

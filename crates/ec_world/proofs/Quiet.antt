@@ -1,18 +1,19 @@
 -- A cycle that is quiet for a unit takes it: its frames note whole shares, and each of its parts is kept or still on its way.
-use Rattle.std.proofs.Common.{ℕ, zero, suc, ◌+◌, ◌<◌, ◌≤◌, ◌≡◌, ◌≢◌, ◌⊎◌, ◌==◌, ◌&&◌, Bool, true, false, Option, Some, None, refl, sym, ◌∙◌, ap, subst, inl, inr, arith, List, [], ◌∷◌, ◌++◌, length, map, get_or, set, is_none, if◌then◌else◌, option_map, get_or-set_same, get_or-set_other, length-set}
-use Rattle.std.specs.List.{list_all}
-use Rattle.std.proofs.lemmas.Bool.{cases_Bool, cases_eq, and_parts, and_from, eqb-true, eq-eqb}
-use Rattle.std.proofs.lemmas.List.{length-map}
+use Rattle.std.proofs.Common.{ℕ, zero, suc, ◌+◌, ◌<◌, ◌≤◌, ◌≡◌, ◌≢◌, ◌⊎◌, ◌==◌, ◌&&◌, ◌||◌, Bool, true, false, Option, Some, None, refl, sym, ◌∙◌, ap, subst, inl, inr, arith, List, [], ◌∷◌, ◌++◌, length, map, get_or, set, is_none, if◌then◌else◌, option_map, get_or-set_same, get_or-set_other, length-set}
+use Rattle.std.specs.List.{list_all, list_any}
+use Rattle.std.proofs.lemmas.Bool.{cases_Bool, cases_eq, and_parts, and_from, or_right, eqb-true, eq-eqb, le-leb}
+use Rattle.std.proofs.lemmas.List.{length-map, length_push}
 use Rattle.ec_bits.proofs.AnyLaws.{if_true, if_false}
 use Rattle.ec_link.specs.Meaning.{Meaning, share_of}
-use Rattle.ec_link.specs.Shares.{unit_of_part}
+use Rattle.ec_link.specs.Shares.{has_outs, has_ins, unit_of_part}
 use Rattle.ec_cycle.specs.Closing.{nones, all_from}
 use Rattle.ec_world.specs.declared.event.Event.{Event}
 use Rattle.ec_world.specs.declared.event.Event.TheVariants.{Begin, Lose, Fault, Reset as ResetSlave}
-use Rattle.ec_world.specs.Plain.{Plain, PlainSlave, PlainFrame, Health, Working, Note, Cycle, step, run, frame_at, plain_slave, keeping, filled, new_frames, with_note, met_note, giving, is_full, all_full}
-use Rattle.ec_world.specs.Promises.{IsBegun, TakenLaw, unit_of_slave, holds_of_unit, disturbs}
-use Rattle.ec_world.proofs.Tracing.{mapped, guarded, Leaves, Stays, Begins, Moves, Loses, Returns, Closes, leaves}
-use Rattle.ec_world.proofs.Histories.{run_tells, begun_below, filled_has, filled_holds, new_one, new_at, as_many, set_has, set_at, none_there, keeping_number, health_kept, count_kept}
+use Rattle.ec_world.specs.Plain.{Plain, PlainSlave, PlainFrame, Faulted, Reset, Note, Other, Short, Full, Cycle, step, run, frame_at, plain_slave, no_plain_slave, keeping, filled, new_frames, with_note, met_note, is_full, all_full}
+use Rattle.ec_world.specs.Promises.{IsBegun, FallsShort, TakenLaw, unit_of_slave, holds_of_unit, still_comes, is_awaited, disturbs}
+use Rattle.ec_world.proofs.Tracing.{mapped, guarded, Leaves, Stays, Begins, Moves, Loses, Returns, Closes, leaves, Treats, Same, Uses, Fails, Resets, treats}
+use Rattle.ec_world.proofs.Histories.{run_tells, begun_below, filled_has, filled_holds, new_one, new_at, as_many, set_has, set_at, none_there, keeping_number, used_health, other_health, count_kept}
+use Rattle.ec_world.proofs.Promising.{notes_law}
 
 none_some : {X : Type 0} (x : X) → None ≡ Some x → ⊥
 none_some x e = cc
@@ -65,18 +66,81 @@ left_away number k os j ne a = record {
   is = a.is;
 }
 
+-- ---- slaves that fall short
+
+-- it goes by the slave's health
+pub short_alike : (m : Meaning) (s : ℕ) (q r : PlainSlave) → r.health ≡ q.health → FallsShort m s r → FallsShort m s q
+short_alike m s q r same (inl x) = inl (sym same ∙ x.0, x.1)
+short_alike m s q r same (inr x) = inr (sym same ∙ x.0, x.1)
+
+faulted_short : (m : Meaning) (s : ℕ) (q : PlainSlave) → q.health ≡ Faulted → FallsShort m s q → has_outs (share_of m s) ≡ true
+faulted_short m s q is (inl x) = absurd (let z : Faulted ≡ Reset = sym is ∙ x.0 in cc)
+faulted_short m s q is (inr x) = x.1
+
+reset_short : (m : Meaning) (s : ℕ) (q : PlainSlave) → q.health ≡ Reset → FallsShort m s q → (has_outs (share_of m s) || has_ins (share_of m s)) ≡ true
+reset_short m s q is (inl x) = x.1
+reset_short m s q is (inr x) = absurd (let z : Reset ≡ Faulted = sym is ∙ x.0 in cc)
+
+-- a slave that falls short after an event did so before, or the event made it
+data ComesShort (m : Meaning) (e : Event) (s : ℕ) (old : PlainSlave) : Type 0 where
+  Before : FallsShort m s old → ComesShort m e s old
+  ByFault : e ≡ Fault s → has_outs (share_of m s) ≡ true → ComesShort m e s old
+  ByReset : e ≡ ResetSlave s → (has_outs (share_of m s) || has_ins (share_of m s)) ≡ true → ComesShort m e s old
+
+comes_short : (m : Meaning) (p : Plain) (e : Event) (q : Plain) (s : ℕ) → step m p e ≡ Some q → s < length p.slaves → FallsShort m s (plain_slave q s) → ComesShort m e s (plain_slave p s)
+comes_short m p e q s h inside short = by (treats m p e q h)
+  where
+    among : (qs : List PlainSlave) → q.slaves ≡ qs → FallsShort m s (get_or qs s no_plain_slave)
+    among qs is = subst (λ (xs : List PlainSlave). FallsShort m s (get_or xs s no_plain_slave)) is short
+
+    itself : (t : ℕ) (y : PlainSlave) → s ≡ t → (get_or (set p.slaves t y) s no_plain_slave).health ≡ y.health
+    itself t y same = ap (λ (n : ℕ). (get_or (set p.slaves t y) n no_plain_slave).health) same
+        ∙ ap (λ (x : PlainSlave). x.health) (get_or-set_same p.slaves t y no_plain_slave (omega (arith, inside, same)))
+
+    other : (t : ℕ) (y : PlainSlave) → q.slaves ≡ set p.slaves t y → s ≢ t → ComesShort m e s (plain_slave p s)
+    other t y is ne = Before (short_alike m s (plain_slave p s) (get_or (set p.slaves t y) s no_plain_slave) (other_health p.slaves t y s ne) (among (set p.slaves t y) is))
+
+    by : Treats m p e q → ComesShort m e s (plain_slave p s)
+    by (Same is) = Before (among p.slaves is)
+    by (Uses t y is own) = Before (short_alike m s (plain_slave p s) (get_or (set p.slaves t y) s no_plain_slave) (used_health p.slaves t y s own) (among (set p.slaves t y) is))
+    by (Fails t y own is now before) = elim (cases_eq s t) [
+      | inr ne ↦ other t y is ne
+      | inl same ↦ ByFault (own ∙ ap (λ (n : ℕ). Fault n) (sym same)) (faulted_short m s (get_or (set p.slaves t y) s no_plain_slave) (itself t y same ∙ now) (among (set p.slaves t y) is))
+    ]
+    by (Resets t y own is now) = elim (cases_eq s t) [
+      | inr ne ↦ other t y is ne
+      | inl same ↦ ByReset (own ∙ ap (λ (n : ℕ). ResetSlave n) (sym same)) (reset_short m s (get_or (set p.slaves t y) s no_plain_slave) (itself t y same ∙ now) (among (set p.slaves t y) is))
+    ]
+
+full_note : (n : Note) → (n ≡ Short → ⊥) → is_full n ≡ true
+full_note Other h = refl
+full_note Short h = absurd (h refl)
+full_note (Full v) h = refl
+
+-- a slave that doesn't fall short gives its whole share
+whole_full : (m : Meaning) (s : ℕ) (f : PlainFrame) (q : PlainSlave) → ((share_of m s).part ≡ f.part → FallsShort m s q → ⊥) → is_full (met_note m s f q) ≡ true
+whole_full m s f q whole = full_note (met_note m s f q) (λ e. let r = (notes_law m s f q).short e in whole r.0 r.1)
+
+-- ---- a frame that is awaited
+
+any_at : {X : Type 0} (t : Option X → Bool) (os : List (Option X)) (k : ℕ) (x : X) → get_or os k None ≡ Some x → t (Some x) ≡ true → list_any t os ≡ true
+any_at t [] k x e h = absurd (none_some x e)
+any_at t (o ∷ os) zero x e h = ap (λ y. t y || list_any t os) e ∙ ap (λ (b : Bool). b || list_any t os) h
+any_at t (o ∷ os) (suc k) x e h = or_right (t o) (list_any t os) (any_at t os k x e h)
+
+awaited : (m : Meaning) (number s : ℕ) (p : Plain) (k : ℕ) (f : PlainFrame) → frame_at p k ≡ Some f → f.number ≡ number → (share_of m s).part ≡ f.part → length f.notes ≤ s → is_awaited m number s p ≡ true
+awaited m number s p k f at num part le = any_at (still_comes m number s) p.slots k f at
+    (and_from _ _ (eq-eqb f.number number num) (and_from _ _ (eq-eqb f.part (share_of m s).part (sym part)) (le-leb _ _ le)))
+
+-- the slaves of its part that the frame has still to pass give their whole shares
+abbrev IsAhead : Meaning → Plain → PlainFrame → Type 0
+IsAhead m p f = (s : ℕ) → length f.notes ≤ s → s < length p.slaves → (share_of m s).part ≡ f.part → FallsShort m s (plain_slave p s) → ⊥
+
 -- ---- a unit while nothing disturbs it
 
 all_push : (ns : List Note) (n : Note) → list_all is_full ns ≡ true → is_full n ≡ true → list_all is_full (ns ++ (n ∷ [])) ≡ true
 all_push [] n h e = and_from (is_full n) true e refl
 all_push (x ∷ ns) n h e = let b = and_parts (is_full x) (list_all is_full ns) h in and_from (is_full x) (list_all is_full (ns ++ (n ∷ []))) b.0 (all_push ns n b.1 e)
-
--- a slave of the frame's part that is in OP gives its whole share
-working_full : (m : Meaning) (s : ℕ) (f : PlainFrame) (q : PlainSlave) → ((share_of m s).part ≡ f.part → q.health ≡ Working) → is_full (met_note m s f q) ≡ true
-working_full m s f q w = elim (cases_Bool ((share_of m s).part == f.part)) [
-  | inl on ↦ ap is_full (if_true _ _ _ on) ∙ ap (λ (h : Health). is_full (giving (share_of m s) q h)) (w (eqb-true _ _ on))
-  | inr off ↦ ap is_full (if_false _ _ _ off)
-]
 
 is_kept_or : {X : Type 0} (o : Option X) → is_none o ≡ false → (x : X) × (o ≡ Some x)
 is_kept_or None e = absurd (true_false e)
@@ -89,7 +153,7 @@ pub record Complete (m : Meaning) (number u : ℕ) (slots : List (Option PlainFr
 
 pub record Peaceful (m : Meaning) (number u : ℕ) (p : Plain) : Type 0 where
   pub past : number < p.next
-  pub working : (s : ℕ) → s < length p.slaves → unit_of_slave m s ≡ u → (plain_slave p s).health ≡ Working
+  pub ahead : (k : ℕ) (f : PlainFrame) → frame_at p k ≡ Some f → f.number ≡ number → unit_of_part m f.part ≡ u → IsAhead m p f
   pub full : (k : ℕ) (f : PlainFrame) → frame_at p k ≡ Some f → f.number ≡ number → unit_of_part m f.part ≡ u → list_all is_full f.notes ≡ true
   pub cycle : (c : Cycle) → p.cycle ≡ Some c → c.number ≡ number → Complete m number u p.slots c
 
@@ -159,34 +223,52 @@ peaceful_step m number u p e q ok h c = by (leaves m p e q h)
     quiet : (x : Event) → e ≡ x → disturbs m number u p x ≡ true → ⊥
     quiet x same bad = true_false (sym bad ∙ (ap (disturbs m number u p) (sym same) ∙ ok))
 
-    working : (s : ℕ) → s < length q.slaves → unit_of_slave m s ≡ u → (plain_slave q s).health ≡ Working
-    working s l mine =
-        let own : (unit_of_slave m s == u) ≡ true = eq-eqb (unit_of_slave m s) u mine in
-        health_kept m p e q s h (λ z. quiet (Fault s) z own) (λ z. quiet (ResetSlave s) z own) ∙ c.working s (omega (arith, l, count_kept m p e q h)) mine
+    -- no slave came to fall short before a frame that was there
+    A : PlainFrame → Type 0
+    A f = f.number ≡ number → unit_of_part m f.part ≡ u → IsAhead m q f
+
+    later : (k : ℕ) (f : PlainFrame) → frame_at p k ≡ Some f → A f
+    later k f at num mine s le l part short = one (comes_short m p e q s h inside short)
+      where
+        inside : s < length p.slaves
+        inside = let n = count_kept m p e q h in omega (arith, l, n)
+
+        unit : (unit_of_slave m s == u) ≡ true
+        unit = eq-eqb (unit_of_slave m s) u (ap (unit_of_part m) part ∙ mine)
+
+        here : is_awaited m number s p ≡ true
+        here = awaited m number s p k f at num part le
+
+        one : ComesShort m e s (plain_slave p s) → ⊥
+        one (Before old) = c.ahead k f at num mine s le inside part old
+        one (ByFault is outs) = quiet (Fault s) is (and_from _ _ unit (and_from _ _ outs here))
+        one (ByReset is bits) = quiet (ResetSlave s) is (and_from _ _ unit (and_from _ _ bits here))
 
     by : Leaves m p e q → Peaceful m number u q
     by (Stays slots next cycle) = record {
       past = let x = c.past in omega (arith, x, next);
-      working = working;
+      ahead = λ k f at. later k f (ap (λ os. get_or os k None) (sym slots) ∙ at);
       full = λ k f at. c.full k f (ap (λ os. get_or os k None) (sym slots) ∙ at);
       cycle = λ d is own. subst (λ os. Complete m number u os d) (sym slots) (c.cycle d (sym cycle ∙ is) own);
     }
     by (Closes slots next cycle) = record {
       past = let x = c.past in omega (arith, x, next);
-      working = working;
+      ahead = λ k f at. later k f (ap (λ os. get_or os k None) (sym slots) ∙ at);
       full = λ k f at. c.full k f (ap (λ os. get_or os k None) (sym slots) ∙ at);
       cycle = λ d is own. absurd (none_some d (sym cycle ∙ is));
     }
     by (Begins slots next cycle slaves room) = record {
       past = let x = c.past in omega (arith, x, next);
-      working = working;
+      ahead = λ k f at. filled_has A (new_frames p.next p.outputs 0 m.parts) p.slots
+          (λ i g there own. absurd (let x = c.past in let n = (new_one p.next 0 p.outputs m.parts i g there).number_is in omega (arith, x, n, own)))
+          later k f (ap (λ os. get_or os k None) (sym slots) ∙ at);
       full = λ k f at. filled_has R (new_frames p.next p.outputs 0 m.parts) p.slots
           (λ i g there own mine. ap (list_all is_full) (new_one p.next 0 p.outputs m.parts i g there).notes) c.full k f (ap (λ os. get_or os k None) (sym slots) ∙ at);
       cycle = λ d is own. absurd (let n = ap (λ (x : Cycle). x.number) (some_same _ d (sym cycle ∙ is)) in let x = c.past in omega (arith, x, n, own));
     }
     by (Moves j g own there inside is) = record {
       past = let x = c.past in let next = ap (λ (z : Plain). z.next) is in omega (arith, x, next);
-      working = working;
+      ahead = λ k f at. set_has A p.slots j (Some moved_on) (λ x same. subst A (some_same moved_on x same) further) later k f (ap (λ (z : Plain). frame_at z k) (sym is) ∙ at);
       full = λ k f at. set_has R p.slots j (Some moved_on) (λ x same. subst R (some_same moved_on x same) new) c.full k f (ap (λ (z : Plain). frame_at z k) (sym is) ∙ at);
       cycle = λ d at own. subst (λ os. Complete m number u os d) (sym (ap (λ (z : Plain). z.slots) is))
           (still m number u p.slots (set p.slots j (Some moved_on)) d (λ k mine a. moved_away number k p.slots j g moved_on there refl refl a.slot a.frame a.there a.is)
@@ -203,10 +285,13 @@ peaceful_step m number u p e q ok h c = by (leaves m p e q h)
         moved_on = with_note g note
 
         new : R moved_on
-        new num mine = all_push g.notes note (c.full j g there num mine) (working_full m t g (plain_slave p t) (λ part. c.working t inside (ap (unit_of_part m) part ∙ mine)))
+        new num mine = all_push g.notes note (c.full j g there num mine) (whole_full m t g (plain_slave p t) (c.ahead j g there num mine t (omega arith) inside))
+
+        further : A moved_on
+        further num mine s le = later j g there num mine s (let more = length_push g.notes note in omega (arith, le, more))
     by (Loses j own is) = record {
       past = let x = c.past in let next = ap (λ (z : Plain). z.next) is in omega (arith, x, next);
-      working = working;
+      ahead = λ k f at. set_has A p.slots j None (λ x no. absurd (none_some x no)) later k f (ap (λ (z : Plain). frame_at z k) (sym is) ∙ at);
       full = λ k f at. set_has R p.slots j None (λ x no. absurd (none_some x no)) c.full k f (ap (λ (z : Plain). frame_at z k) (sym is) ∙ at);
       cycle = λ d at num. subst (λ os. Complete m number u os d) (sym (ap (λ (z : Plain). z.slots) is))
           (still m number u p.slots (set p.slots j None) d (λ k mine a. left_away number k p.slots j (λ f there away. lost k f mine there away) a)
@@ -216,9 +301,9 @@ peaceful_step m number u p e q ok h c = by (leaves m p e q h)
         lost : (k : ℕ) (f : PlainFrame) → unit_of_part m k ≡ u → frame_at p j ≡ Some f → IsAway number k f → ⊥
         lost k f mine there away =
             quiet (Lose j) own (ap (holds_of_unit m number u) there ∙ and_from _ _ (eq-eqb f.number number away.number_is) (eq-eqb (unit_of_part m f.part) u (ap (unit_of_part m) away.part_is ∙ mine)))
-    by (Returns j g there is) = record {
+    by (Returns j g there is all) = record {
       past = let x = c.past in let next = ap (λ (z : Plain). z.next) is in omega (arith, x, next);
-      working = working;
+      ahead = λ k f at. set_has A p.slots j None (λ x no. absurd (none_some x no)) later k f (ap (λ (z : Plain). frame_at z k) (sym is) ∙ at);
       full = λ k f at. set_has R p.slots j None (λ x no. absurd (none_some x no)) c.full k f (ap (λ (z : Plain). frame_at z k) (sym is) ∙ at);
       cycle = λ d at own. subst (λ os. Complete m number u os d) (sym (ap (λ (z : Plain). z.slots) is)) (back d (sym (ap (λ (z : Plain). z.cycle) is) ∙ at) own);
     }
@@ -229,8 +314,8 @@ peaceful_step m number u p e q ok h c = by (leaves m p e q h)
             let num : r.value.number ≡ number = sym (keeping_number g r.value) ∙ (ap (λ (x : Cycle). x.number) r.is ∙ own) in
             subst (Complete m number u (set p.slots j None)) r.is (kept_more m number u p.slots j g r.value there (c.full j g there) num (c.cycle r.value r.there num))
 
-peaceful_begun : (m : Meaning) (p begun : Plain) (u : ℕ) → IsBegun m p begun → ((s : ℕ) → s < length p.slaves → unit_of_slave m s ≡ u → (plain_slave p s).health ≡ Working) → Peaceful m p.next u begun
-peaceful_begun m p begun u b works = by (leaves m p Begin begun b.begins)
+peaceful_begun : (m : Meaning) (p begun : Plain) (u : ℕ) → IsBegun m p begun → ((s : ℕ) → s < length p.slaves → unit_of_slave m s ≡ u → FallsShort m s (plain_slave p s) → ⊥) → Peaceful m p.next u begun
+peaceful_begun m p begun u b whole = by (leaves m p Begin begun b.begins)
   where
     below : (k : ℕ) (f : PlainFrame) → frame_at p k ≡ Some f → f.number < p.next
     below = begun_below m p begun b
@@ -245,7 +330,8 @@ peaceful_begun m p begun u b works = by (leaves m p Begin begun b.begins)
     made : length m.parts ≤ nones p.slots → Peaceful m p.next u begun
     made room = record {
       past = let next = ap (λ (x : Plain). x.next) is in omega (arith, next);
-      working = λ s l mine. ap (λ (x : Plain). (plain_slave x s).health) (sym is) ∙ works s (let n = ap (λ (x : Plain). length x.slaves) is in omega (arith, l, n)) mine;
+      ahead = λ k f at num mine s le l part short. whole s (let n = ap (λ (x : Plain). length x.slaves) is in omega (arith, l, n)) (ap (unit_of_part m) part ∙ mine)
+          (subst (λ (x : Plain). FallsShort m s (plain_slave x s)) (sym is) short);
       full = λ k f at. filled_has (λ (g : PlainFrame). g.number ≡ p.next → unit_of_part m g.part ≡ u → list_all is_full g.notes ≡ true) (new_frames p.next p.outputs 0 m.parts) p.slots
           (λ i g there own mine. ap (list_all is_full) (new_one p.next 0 p.outputs m.parts i g there).notes)
           (λ i g there own mine. absurd (let x = below i g there in omega (arith, x, own))) k f (ap (λ (x : Plain). frame_at x k) is ∙ at);
@@ -264,7 +350,7 @@ peaceful_begun m p begun u b works = by (leaves m p Begin begun b.begins)
     by (Begins slots next cycle slaves room) = made room
     by (Moves j g own there inside q) = absurd (let n = ap (λ (x : Plain). x.next) is in let o = ap (λ (x : Plain). x.next) q in omega (arith, o, n))
     by (Loses j own q) = absurd (let n = ap (λ (x : Plain). x.next) is in let o = ap (λ (x : Plain). x.next) q in omega (arith, o, n))
-    by (Returns j g there q) = absurd (let n = ap (λ (x : Plain). x.next) is in let o = ap (λ (x : Plain). x.next) q in omega (arith, o, n))
+    by (Returns j g there q all) = absurd (let n = ap (λ (x : Plain). x.next) is in let o = ap (λ (x : Plain). x.next) q in omega (arith, o, n))
 
 -- a test that each place passes
 all_places : (t : ℕ → Option (List Note) → Bool) (k : ℕ) (xs : List (Option (List Note))) → ((i : ℕ) → i < length xs → t (k + i) (get_or xs i None) ≡ true) → all_from t k xs ≡ true
@@ -279,7 +365,7 @@ taken_law m p begun after c u b quiet opened own = all_places (λ k notes. if un
     end : Peaceful m p.next u (run m begun after).plain
     end = run_tells (λ done x. Peaceful m p.next u x) m begun after
         (λ before behind e q is h r. peaceful_step m p.next u (run m begun before).plain e q (quiet.undisturbed before behind e q is h) h r)
-        (λ before e r. r) (peaceful_begun m p begun u b quiet.working)
+        (λ before e r. r) (peaceful_begun m p begun u b quiet.whole)
 
     whole : Complete m p.next u (run m begun after).plain.slots c
     whole = end.cycle c opened own

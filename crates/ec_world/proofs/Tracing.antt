@@ -1,6 +1,7 @@
 -- What each event of the plain machine leaves of frames, of the open cycle and of slaves.
 use Rattle.std.proofs.Common.{ℕ, zero, suc, ◌+◌, ◌-◌, ◌^◌, ◌<◌, ◌≤◌, ◌≡◌, ◌==◌, ◌&&◌, not, Bool, true, false, Option, Some, None, refl, sym, ◌∙◌, ap, subst, List, [], ◌∷◌, length, map, get_or, set, is_none, if◌then◌else◌, option_map, option_and_then, nat_lt, nat_le, slice_get}
-use Rattle.std.proofs.lemmas.Bool.{and_parts, leb-true, ltb-true}
+use Rattle.std.proofs.lemmas.Bool.{and_parts, leb-true, ltb-true, eqb-true}
+use Rattle.std.proofs.lemmas.Option.{slice_get_within}
 use Rattle.ec_link.specs.declared.image.Variable.{Variable}
 use Rattle.ec_link.specs.Meaning.{Meaning, share_of}
 use Rattle.ec_link.specs.Shares.{has_outs}
@@ -9,7 +10,7 @@ use Rattle.ec_sync.specs.Buffer.{publishing, app_written, app_read}
 use Rattle.ec_cycle.specs.Closing.{nones}
 use Rattle.ec_world.specs.declared.event.Event.{Event}
 use Rattle.ec_world.specs.declared.event.Event.TheVariants.{StartNext, Set, Begin, Pass, Lose, Return, Close, Serve, AppPut, AppGet, Fault, Reset as ResetSlave}
-use Rattle.ec_world.specs.Plain.{Plain, PlainSlave, PlainFrame, step, frame_at, setting, moved, keeping, closing, filled, new_frames, is_working, is_reset, got_byte, failing, restarting, plain_slave, no_plain_slave, linked_outputs, may_pass, all_progress, progress_of, met_slave, taking, Health, Working, Faulted, Reset}
+use Rattle.ec_world.specs.Plain.{Plain, PlainSlave, PlainFrame, step, frame_at, setting, moved, keeping, closing, filled, new_frames, is_working, is_reset, got_byte, failing, restarting, plain_slave, no_plain_slave, linked_outputs, may_pass, may_return, all_progress, progress_of, met_slave, taking, Health, Working, Faulted, Reset}
 use Rattle.ec_world.specs.Plain as plain
 
 none_some : {X : Type 0} (x : X) → None ≡ Some x → ⊥
@@ -21,6 +22,10 @@ some_same x y e = cc
 pub guarded : {X : Type 0} (b : Bool) (x q : X) → (if b then Some x else None) ≡ Some q → x ≡ q
 guarded true x q e = some_same x q e
 guarded false x q e = absurd (none_some q e)
+
+on_true : {X : Type 0} (b : Bool) (x q : X) → (if b then Some x else None) ≡ Some q → b ≡ true
+on_true true x q e = refl
+on_true false x q e = absurd (none_some q e)
 
 pub record Mapped {X Y : Type 0} (f : X → Y) (o : Option X) (q : Y) : Type 0 where
   pub value : X
@@ -46,7 +51,8 @@ pub data Leaves (m : Meaning) (p : Plain) (e : Event) (q : Plain) : Type 0 where
       → q.cycle ≡ Some (record { number = p.next; kept = map (λ u. None) m.parts }) → q.slaves ≡ p.slaves → length m.parts ≤ nones p.slots → Leaves m p e q
   Moves : (k : ℕ) (f : PlainFrame) → e ≡ Pass k → frame_at p k ≡ Some f → length f.notes < length p.slaves → q ≡ moved m p k f → Leaves m p e q
   Loses : (k : ℕ) → e ≡ Lose k → q ≡ record p { slots = set p.slots k None } → Leaves m p e q
-  Returns : (k : ℕ) (f : PlainFrame) → frame_at p k ≡ Some f → q ≡ record p { cycle = option_map (keeping f) p.cycle; slots = set p.slots k None } → Leaves m p e q
+  Returns : (k : ℕ) (f : PlainFrame) → frame_at p k ≡ Some f → q ≡ record p { cycle = option_map (keeping f) p.cycle; slots = set p.slots k None }
+      → length f.notes ≡ length p.slaves → Leaves m p e q
   Closes : q.slots ≡ p.slots → q.next ≡ p.next → q.cycle ≡ None → Leaves m p e q
 
 -- where only the slaves and the byte read last differ
@@ -84,7 +90,13 @@ leaves m p (Pass k) q e =
 leaves m p (Lose k) q e = Loses k refl (sym (guarded _ _ q e))
 leaves m p (Return k) q e =
     let r = guarded_map _ (λ f. record p { cycle = option_map (keeping f) p.cycle; slots = set p.slots k None }) (frame_at p k) q e in
-    Returns k r.value r.there (sym r.is)
+    Returns k r.value r.there (sym r.is) (passed (may_return (length p.slaves) (option_map progress_of (frame_at p k))) refl e r.value r.there)
+  where
+    passed : (b : Bool) → may_return (length p.slaves) (option_map progress_of (frame_at p k)) ≡ b
+        → (if b then option_map (λ f. record p { cycle = option_map (keeping f) p.cycle; slots = set p.slots k None }) (frame_at p k) else None) ≡ Some q
+        → (f : PlainFrame) → frame_at p k ≡ Some f → length f.notes ≡ length p.slaves
+    passed true on h f at = eqb-true (length f.notes) (length p.slaves) (sym (ap (λ o. may_return (length p.slaves) (option_map progress_of o)) at) ∙ on)
+    passed false off h f at = absurd (none_some q h)
 leaves m p Close q e = let r = mapped (closing m p) p.cycle q e in subst (λ (x : Plain). Leaves m p Close x) r.is (Closes refl refl refl)
 leaves m p (Serve s) q e = let r = chained (λ x. Some p) (slice_get p.slaves s) q e in stays_by m p (Serve s) q p (some_same p q r.is) refl refl refl
 leaves m p (AppPut s i x) q e =
@@ -108,8 +120,8 @@ leaves m p (ResetSlave s) q e =
 pub data Treats (m : Meaning) (p : Plain) (e : Event) (q : Plain) : Type 0 where
   Same : q.slaves ≡ p.slaves → Treats m p e q
   Uses : (t : ℕ) (y : PlainSlave) → q.slaves ≡ set p.slaves t y → y.health ≡ (plain_slave p t).health → Treats m p e q
-  Fails : (t : ℕ) (y : PlainSlave) → e ≡ Fault t → q.slaves ≡ set p.slaves t y → Treats m p e q
-  Resets : (t : ℕ) (y : PlainSlave) → e ≡ ResetSlave t → q.slaves ≡ set p.slaves t y → Treats m p e q
+  Fails : (t : ℕ) (y : PlainSlave) → e ≡ Fault t → q.slaves ≡ set p.slaves t y → y.health ≡ Faulted → (plain_slave p t).health ≡ Working → Treats m p e q
+  Resets : (t : ℕ) (y : PlainSlave) → e ≡ ResetSlave t → q.slaves ≡ set p.slaves t y → y.health ≡ Reset → Treats m p e q
 
 had : {X : Type 0} (xs : List X) (k : ℕ) (x d : X) → slice_get xs k ≡ Some x → get_or xs k d ≡ x
 had [] k x d e = absurd (none_some x e)
@@ -132,9 +144,31 @@ met_health m s f q = by ((share_of m s).part == f.part)
     by true = taking_health m s f q q.health
     by false = refl
 
+is_in_op : (h : Health) → is_working h ≡ true → h ≡ Working
+is_in_op Working e = refl
+is_in_op Faulted e = absurd (let z : false ≡ true = e in cc)
+is_in_op Reset e = absurd (let z : false ≡ true = e in cc)
+
 set_treats : (m : Meaning) (p : Plain) (v x : ℕ) (o : Option Variable) (q : Plain) → setting p x o ≡ Some q → q.slaves ≡ p.slaves
 set_treats m p v x None q e = absurd (none_some q e)
 set_treats m p v x (Some w) q e = sym (ap (λ (y : Plain). y.slaves) (guarded _ _ q e))
+
+-- slave s is left with this health, and nothing else changes
+pub record Turned (p : Plain) (s : ℕ) (h : Health) (q : Plain) : Type 0 where
+  pub slave : PlainSlave
+  pub now : slave.health ≡ h
+  pub is : plain.with_slave p s slave ≡ q
+  pub inside : s < length p.slaves
+
+pub faulted : (m : Meaning) (p : Plain) (s : ℕ) (q : Plain) → step m p (Fault s) ≡ Some q → Turned p s Faulted q
+faulted m p s q e =
+    let r = chained (λ y. if is_working y.health then Some (plain.with_slave p s (failing y)) else None) (slice_get p.slaves s) q e in
+    record { slave = failing r.value; now = refl; is = guarded (is_working r.value.health) _ q r.is; inside = slice_get_within p.slaves s r.value r.there }
+
+pub switched : (m : Meaning) (p : Plain) (s : ℕ) (q : Plain) → step m p (ResetSlave s) ≡ Some q → Turned p s Reset q
+switched m p s q e =
+    let r = chained (λ y. Some (plain.with_slave p s (restarting y))) (slice_get p.slaves s) q e in
+    record { slave = restarting r.value; now = refl; is = some_same _ q r.is; inside = slice_get_within p.slaves s r.value r.there }
 
 pub treats : (m : Meaning) (p : Plain) (e : Event) (q : Plain) → step m p e ≡ Some q → Treats m p e q
 treats m p StartNext q e = absurd (none_some q e)
@@ -158,7 +192,8 @@ treats m p (AppGet s i) q e =
     Uses s (record r.value { outputs = t.value.buffer }) (sym (ap (λ (y : Plain). y.slaves) t.is)) (ap (λ (y : PlainSlave). y.health) (sym (had p.slaves s r.value no_plain_slave r.there)))
 treats m p (Fault s) q e =
     let r = chained (λ y. if is_working y.health then Some (plain.with_slave p s (failing y)) else None) (slice_get p.slaves s) q e in
-    Fails s (failing r.value) refl (sym (ap (λ (y : Plain). y.slaves) (guarded (is_working r.value.health) _ q r.is)))
+    Fails s (failing r.value) refl (sym (ap (λ (y : Plain). y.slaves) (guarded (is_working r.value.health) _ q r.is))) refl
+        (ap (λ (y : PlainSlave). y.health) (had p.slaves s r.value no_plain_slave r.there) ∙ is_in_op r.value.health (on_true (is_working r.value.health) _ q r.is))
 treats m p (ResetSlave s) q e =
     let r = chained (λ y. Some (plain.with_slave p s (restarting y))) (slice_get p.slaves s) q e in
-    Resets s (restarting r.value) refl (sym (ap (λ (y : Plain). y.slaves) (some_same _ q r.is)))
+    Resets s (restarting r.value) refl (sym (ap (λ (y : Plain). y.slaves) (some_same _ q r.is))) refl

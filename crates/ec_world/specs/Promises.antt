@@ -1,6 +1,7 @@
 -- What a user is promised, in words of the image, the links and the values of slaves. It is proved of every world that shows a
 -- plain state, so of every world from the step on that makes it Ready.
-use Rattle.std.specs.Prelude.{ℕ, ◌+◌, ◌*◌, ◌<◌, ◌≡◌, ◌≢◌, ◌⊎◌, ◌==◌, ◌&&◌, ◌||◌, List, ◌∷◌, ◌++◌, length, map, get_or, set, Bool, true, false, if◌then◌else◌, Option, Some, None, slice_get}
+use Rattle.std.specs.Prelude.{ℕ, ◌+◌, ◌*◌, ◌<◌, ◌≡◌, ◌≢◌, ◌⊎◌, ◌==◌, ◌&&◌, ◌||◌, List, ◌∷◌, ◌++◌, length, map, get_or, set, Bool, true, false, if◌then◌else◌, nat_le, Option, Some, None, slice_get}
+use Rattle.std.specs.List.{list_any}
 use Rattle.ec_bits.specs.Bits.{bit, bytes_of_bits}
 use Rattle.ec_slave.specs.Exchange.{with_outputs}
 use Rattle.ec_link.specs.Shares.{has_outs, has_ins, predicted, unit_of_part}
@@ -184,7 +185,17 @@ abbrev pub holds_of_unit : Meaning → (number u : ℕ) → Option PlainFrame �
 holds_of_unit m number u None = false
 holds_of_unit m number u (Some f) = is_of_unit m number u f
 
--- An event disturbs unit u in a cycle: the loss of a frame of one of its parts, or a fault or a reset of one of its slaves.
+-- the frame of slave s's part, in the cycle with this number, is in the slot, and hasn't passed the slave yet
+abbrev pub still_comes : Meaning → (number s : ℕ) → Option PlainFrame → Bool
+still_comes m number s None = false
+still_comes m number s (Some f) = (f.number == number) && ((f.part == (share_of m s).part) && nat_le (next_slave f) s)
+
+-- that frame is on its way to the slave
+abbrev pub is_awaited : Meaning → (number s : ℕ) → Plain → Bool
+is_awaited m number s p = list_any (still_comes m number s) p.slots
+
+-- An event disturbs unit u in a cycle: the loss of a frame of one of its parts, or what makes one of its slaves fall short while
+-- the frame of its part is on its way to it: a fault, where the slave has outputs, or a reset, where it has bits at all.
 abbrev pub disturbs : Meaning → (number u : ℕ) → Plain → Event → Bool
 disturbs m number u p StartNext = false
 disturbs m number u p (Set v x) = false
@@ -196,20 +207,28 @@ disturbs m number u p Close = false
 disturbs m number u p (Serve s) = false
 disturbs m number u p (AppPut s i x) = false
 disturbs m number u p (AppGet s i) = false
-disturbs m number u p (Fault s) = unit_of_slave m s == u
-disturbs m number u p (ResetSlave s) = unit_of_slave m s == u
+disturbs m number u p (Fault s) = (unit_of_slave m s == u) && (has_outs (share_of m s) && is_awaited m number s p)
+disturbs m number u p (ResetSlave s) = (unit_of_slave m s == u) && ((has_outs (share_of m s) || has_ins (share_of m s)) && is_awaited m number s p)
 
--- A cycle is quiet for unit u: as it begins all slaves of the unit are in OP, no event that was made since then disturbs the
+-- A cycle is quiet for unit u: as it begins no slave of the unit falls short, no event that was made since then disturbs the
 -- unit, and none of the unit's frames is still on its way.
 pub record IsQuiet (m : Meaning) (p begun : Plain) (after : List Event) (u : ℕ) : Type 0 where
-  pub working : (s : ℕ) → s < length p.slaves → unit_of_slave m s ≡ u → (plain_slave p s).health ≡ Working
+  pub whole : (s : ℕ) → s < length p.slaves → unit_of_slave m s ≡ u → FallsShort m s (plain_slave p s) → ⊥
   pub undisturbed : (before behind : List Event) (e : Event) (next : Plain) → after ≡ before ++ (e ∷ behind) → step m (run m begun before).plain e ≡ Some next
       → disturbs m p.next u (run m begun before).plain e ≡ false
   pub back : (k : ℕ) (f : PlainFrame) → frame_at (run m begun after).plain k ≡ Some f → is_of_unit m p.next u f ≡ false
 
--- Only a loss, a fault, a reset or an early close can keep a unit from being taken, and only such as are its own: where a
--- cycle is quiet for a unit, a close takes the unit, whatever becomes of other units.
+-- Only a loss, a fault, a reset or an early close can keep a unit from being taken, and only such as are its own, and in time:
+-- where a cycle is quiet for a unit, a close takes the unit, whatever becomes of other units, and of a slave that its frame
+-- has passed.
 abbrev pub TakenLaw : Type 0
 TakenLaw =
     (m : Meaning) (p begun : Plain) (after : List Event) (c : Cycle) (u : ℕ) → IsBegun m p begun → IsQuiet m p begun after u
     → (run m begun after).plain.cycle ≡ Some c → c.number ≡ p.next → unit_full m c u ≡ true
+
+-- And each of these does keep a unit from being taken: a close takes a unit only where the cycle was quiet for it. So no input
+-- bit is set in a cycle in which a slave of its unit fell short as its frame came, or a frame of the unit got lost or was late.
+abbrev pub QuietLaw : Type 0
+QuietLaw =
+    (plan : PlanState) (p begun : Plain) (after : List Event) (c : Cycle) (u : ℕ) → IsUsable plan → length p.slaves ≡ length plan.slaves → IsBegun (meaning plan) p begun
+    → (run (meaning plan) begun after).plain.cycle ≡ Some c → c.number ≡ p.next → unit_full (meaning plan) c u ≡ true → IsQuiet (meaning plan) p begun after u

@@ -3,7 +3,7 @@ ghost use Rattle.ec_world.specs.Laws.{RoundTrip, CycleLaw, StepsShow, RunsShow, 
 ghost use Rattle.ec_world.specs.Whole.{WholeLaw, CompiledLaw};
 ghost use Rattle.ec_world.specs.Example.{AcceptedLaw};
 ghost use Rattle.ec_world.specs.NewWorld.{NewUpLaw, NewRunLaw};
-ghost use Rattle.ec_world.specs.Promises.{OutputsLaw, SnapshotsLaw, NotesLaw, InputsLaw, PublishedLaw, WorkingLaw, TakenLaw};
+ghost use Rattle.ec_world.specs.Promises.{OutputsLaw, SnapshotsLaw, NotesLaw, InputsLaw, PublishedLaw, WorkingLaw, TakenLaw, QuietLaw};
 
 /// A cyclic frame that passes a slave in OP gives its outputs exactly the linked bits of the image that it was made of, and 0
 /// elsewhere; it changes nothing else of the slave, no other slave, no other frame and nothing of the image.
@@ -47,10 +47,15 @@ pub fn slaves_stay_in_op()
 {}
 
 /// Only a loss, a fault, a reset or an early close can keep a unit from being taken, and only its own: the loss of a frame of
-/// one of its parts, a fault or a reset of one of its slaves, or a close before its frames are back. What becomes of other
-/// units doesn't matter.
+/// one of its parts, a fault or a reset of one of its slaves before the frame passed it, or a close before its frames are back.
+/// What becomes of other units doesn't matter, nor what becomes of a slave behind its frame.
 pub fn quiet_cycles_are_taken()
     ensures { TakenLaw }
+{}
+
+/// And each of these keeps the unit from being taken: no input is set in a cycle that wasn't quiet for its unit.
+pub fn taken_cycles_were_quiet()
+    ensures { QuietLaw }
 {}
 
 /// A cyclic frame that goes round leaves in every slave, working or not, and brings back, what the plain machine says.
