@@ -106,13 +106,18 @@ fn comes_up_anew(
     comes_up(rt, &mut startup, ring, next)
 }
 
+/// A new start-up leads three slaves to OP.
+fn all_come_up(rt: &(impl AllocGlobal + Abort), plan: &Plan, ring: &mut Ring) -> Result<(), Fail> {
+    comes_up_anew(rt, plan, ring, 75)?;
+    assert!(rt; ring.len() == 3 && all_show(ring, 8));
+    Ok(())
+}
+
 #[test]
 fn three_slaves_come_up(rt: HostRuntime) -> Result<(), Fail> {
     let plan = plan_of(rt.alloc(), THREE_SLAVES)?;
     let mut ring = ring_of(rt.alloc(), &plan, &[1; 3])?;
-    comes_up_anew(&rt, &plan, &mut ring, 75)?;
-    assert!(rt; ring.len() == 3 && all_show(&ring, 8));
-    Ok(())
+    all_come_up(&rt, &plan, &mut ring)
 }
 
 /// A start-up that failed begins anew.
@@ -186,7 +191,19 @@ fn a_slave_is_missing(rt: HostRuntime) -> Result<(), Fail> {
     fails_until_right(&rt, &mut ring, StartError::Count { seen: 2 }, 1)
 }
 
-// Slave 1 shows revision 2 where its type has 1: told by the third of its words, the sixth that is read. No slave has left INIT.
+/// Over a ring that isn't the plan's start-ups fail, and none of its slaves leaves INIT.
+fn fails_in_init(
+    rt: &(impl AllocGlobal + Abort),
+    wrong: &mut Ring,
+    error: StartError,
+    frames: u8,
+) -> Result<(), Fail> {
+    fails_until_right(rt, wrong, error, frames)?;
+    assert!(rt; all_show(wrong, 1));
+    Ok(())
+}
+
+// Slave 1 shows revision 2 where its type has 1: told by the third of its words, the sixth that is read.
 #[test]
 fn another_revision(rt: HostRuntime) -> Result<(), Fail> {
     let plan = plan_of(rt.alloc(), THREE_SLAVES)?;
@@ -197,9 +214,7 @@ fn another_revision(rt: HostRuntime) -> Result<(), Fail> {
         revision: 2,
     };
     let error = StartError::Identity { slave: 1, seen };
-    fails_until_right(&rt, &mut ring, error, 21)?;
-    assert!(rt; all_show(&ring, 1));
-    Ok(())
+    fails_in_init(&rt, &mut ring, error, 21)
 }
 
 /// A start-up that has numbers for some frames fails, and begun anew it has no number at all.
@@ -223,16 +238,26 @@ fn spends_numbers(
     fails_spent(rt, &mut startup, ring)
 }
 
-// Before the first frame, in each phase, and before the last frame. One from number 0 comes up over the same slaves.
+/// Start-ups have numbers for so many frames, and each time one from number 0 comes up over the same slaves.
+fn spends_each(
+    rt: &(impl AllocGlobal + Abort),
+    plan: &Plan,
+    ring: &mut Ring,
+    frames: &[u64],
+) -> Result<(), Fail> {
+    for frames in frames {
+        spends_numbers(rt, plan, ring, *frames)?;
+        comes_up_anew(rt, plan, ring, 75)?;
+    }
+    Ok(())
+}
+
+// Before the first frame, in each phase, and before the last frame.
 #[test]
 fn numbers_are_spent(rt: HostRuntime) -> Result<(), Fail> {
     let plan = plan_of(rt.alloc(), THREE_SLAVES)?;
     let mut ring = ring_of(rt.alloc(), &plan, &[1; 3])?;
-    for frames in [0, 7, 12, 28, 31, 40, 58, 66, 74] {
-        spends_numbers(&rt, &plan, &mut ring, frames)?;
-        comes_up_anew(&rt, &plan, &mut ring, 75)?;
-    }
-    Ok(())
+    spends_each(&rt, &plan, &mut ring, &[0, 7, 12, 28, 31, 40, 58, 66, 74])
 }
 
 /// A slave is reset, or has a fault, or a byte of the frame becomes another.
@@ -357,7 +382,30 @@ fn restarted(startup: &mut Startup, ring: &mut Ring) -> Result<(), Fail> {
     brought_up(startup, ring)
 }
 
-/// New slaves meet trouble in the frame of a number, and then come up undisturbed. It answers the number behind the last frame.
+/// Slaves meet trouble in the frame of a number, and then come up undisturbed. It answers the number behind the last frame.
+fn rises_again(
+    rt: &(impl AllocGlobal + Abort),
+    startup: &mut Startup,
+    ring: &mut Ring,
+    number: u64,
+    at: usize,
+    trouble: Trouble,
+) -> Result<u64, Fail> {
+    rise_in_trouble(startup, ring, number, at, trouble)?;
+    assert!(rt;
+        may_end(startup.outcome(), trouble),
+        "{number} {at} {trouble:?}"
+    );
+    restarted(startup, ring)?;
+    assert_eq!(rt;
+        startup.outcome(),
+        Some(Ok(())),
+        "{number} {at} {trouble:?}"
+    );
+    Ok(startup.next_number())
+}
+
+/// New slaves meet trouble, and then come up undisturbed.
 fn rise_twice(
     rt: &(impl AllocGlobal + Abort),
     plan: &Plan,
@@ -367,18 +415,7 @@ fn rise_twice(
 ) -> Result<u64, Fail> {
     let mut startup = startup_of(rt, plan, 0)?;
     let mut ring = ring_of(rt.alloc(), plan, &[1; 3])?;
-    rise_in_trouble(&mut startup, &mut ring, number, at, trouble)?;
-    assert!(rt;
-        may_end(startup.outcome(), trouble),
-        "{number} {at} {trouble:?}"
-    );
-    restarted(&mut startup, &mut ring)?;
-    assert_eq!(rt;
-        startup.outcome(),
-        Some(Ok(())),
-        "{number} {at} {trouble:?}"
-    );
-    Ok(startup.next_number())
+    rises_again(rt, &mut startup, &mut ring, number, at, trouble)
 }
 
 /// Trouble of a kind, at a slave.
@@ -405,27 +442,41 @@ fn trouble_at_each_slave(
 }
 
 /// One kind of trouble at each place of each frame: before slave 0, and behind each slave's pass.
-fn trouble_everywhere(rt: &(impl AllocGlobal + Abort), kind: Trouble) -> Result<(), Fail> {
-    let plan = plan_of(rt.alloc(), THREE_SLAVES)?;
+fn trouble_in_each_frame(
+    rt: &(impl AllocGlobal + Abort),
+    plan: &Plan,
+    kind: Trouble,
+) -> Result<(), Fail> {
     for number in 0..75 {
         for at in 0..4 {
-            trouble_at_each_slave(rt, &plan, number, at, kind)?;
+            trouble_at_each_slave(rt, plan, number, at, kind)?;
         }
     }
     Ok(())
 }
 
-// Each frame, before slave 0 and behind each slave's pass: whoever it had passed, the second start-up takes 75 frames.
-#[test]
-fn a_frame_is_lost(rt: HostRuntime) -> Result<(), Fail> {
+/// One kind of trouble everywhere, for slaves of the same plan.
+fn trouble_everywhere(rt: &(impl AllocGlobal + Abort), kind: Trouble) -> Result<(), Fail> {
     let plan = plan_of(rt.alloc(), THREE_SLAVES)?;
+    trouble_in_each_frame(rt, &plan, kind)
+}
+
+/// Each frame is lost, before slave 0 and behind each slave's pass: the second start-up takes 75 frames.
+fn each_frame_is_lost(rt: &(impl AllocGlobal + Abort), plan: &Plan) -> Result<(), Fail> {
     for number in 0..75 {
         for at in 0..4 {
-            let next = rise_twice(&rt, &plan, number, at, Trouble::Lost)?;
+            let next = rise_twice(rt, plan, number, at, Trouble::Lost)?;
             assert_eq!(rt; next, number + 76);
         }
     }
     Ok(())
+}
+
+// Whoever the frame had passed.
+#[test]
+fn a_frame_is_lost(rt: HostRuntime) -> Result<(), Fail> {
+    let plan = plan_of(rt.alloc(), THREE_SLAVES)?;
+    each_frame_is_lost(&rt, &plan)
 }
 
 #[test]
@@ -439,16 +490,24 @@ fn a_slave_has_a_fault(rt: HostRuntime) -> Result<(), Fail> {
     trouble_everywhere(&rt, Trouble::Fault(0))
 }
 
-// Frame 36 brings slave 2's first reply, from byte 34 on: its length is 10 at first, its type 3 at byte 39, and byte 44 is the
-// high one of its index. With a 0 there it is no reply that fits.
-#[test]
-fn a_reply_does_not_fit(rt: HostRuntime) -> Result<(), Fail> {
-    let plan = plan_of(rt.alloc(), THREE_SLAVES)?;
-    for place in [34, 39, 44] {
-        let next = rise_twice(&rt, &plan, 36, 3, Trouble::Changed(place, 0))?;
+/// Frame 36 brings slave 2's first reply, from byte 34 on. With a 0 in one of these bytes it is no reply that fits.
+fn replies_do_not_fit(
+    rt: &(impl AllocGlobal + Abort),
+    plan: &Plan,
+    places: &[usize],
+) -> Result<(), Fail> {
+    for place in places {
+        let next = rise_twice(rt, plan, 36, 3, Trouble::Changed(*place, 0))?;
         assert_eq!(rt; next, 37 + 75);
     }
     Ok(())
+}
+
+// Its length is 10 at byte 34, its type 3 at byte 39, and byte 44 is the high one of its index.
+#[test]
+fn a_reply_does_not_fit(rt: HostRuntime) -> Result<(), Fail> {
+    let plan = plan_of(rt.alloc(), THREE_SLAVES)?;
+    replies_do_not_fit(&rt, &plan, &[34, 39, 44])
 }
 
 /// No slave serves in a start-up's turns from number 0 on. It ends as too slow, and begins anew.
@@ -484,6 +543,18 @@ fn no_slave_serves(rt: HostRuntime) -> Result<(), Fail> {
     comes_up_once_served(&rt, &plan, &mut ring)
 }
 
+/// Over the slaves of another table start-ups fail after so many frames.
+fn others_fail(
+    rt: &(impl AllocGlobal + Abort),
+    text: &str,
+    error: StartError,
+    frames: u8,
+) -> Result<(), Fail> {
+    let other = plan_of(rt.alloc(), text)?;
+    let mut ring = ring_of(rt.alloc(), &other, &[1; 3])?;
+    fails_until_right(rt, &mut ring, error, frames)
+}
+
 // Slave 2 has an output entry of 11 bits, or no PDO 0x1600: told by its second reply, or by its first.
 #[test]
 fn another_mapping(rt: HostRuntime) -> Result<(), Fail> {
@@ -497,20 +568,19 @@ fn another_mapping(rt: HostRuntime) -> Result<(), Fail> {
         slave: 2,
         code: 0x0602_0000,
     };
-    let rows = [(SHORT_ENTRY, mapping, 39), (OTHER_PDO, abort, 37)];
-    for (slaves, error, frames) in rows {
-        let other = plan_of(rt.alloc(), slaves)?;
-        let mut ring = ring_of(rt.alloc(), &other, &[1; 3])?;
-        fails_until_right(&rt, &mut ring, error, frames)?;
-    }
-    Ok(())
+    others_fail(&rt, SHORT_ENTRY, mapping, 39)?;
+    others_fail(&rt, OTHER_PDO, abort, 37)
 }
 
-// Without slaves the first frame is the whole start-up.
+/// Without slaves the first frame is the whole start-up.
+fn nobody_comes_up(rt: &(impl AllocGlobal + Abort), plan: &Plan) -> Result<(), Fail> {
+    let mut startup = startup_of(rt, plan, 5)?;
+    let mut ring = Ring::new(Vec::new(rt.alloc()));
+    comes_up(rt, &mut startup, &mut ring, 6)
+}
+
 #[test]
 fn no_slaves_come_up(rt: HostRuntime) -> Result<(), Fail> {
     let plan = plan_of(rt.alloc(), "")?;
-    let mut startup = startup_of(&rt, &plan, 5)?;
-    let mut ring = Ring::new(Vec::new(rt.alloc()));
-    comes_up(&rt, &mut startup, &mut ring, 6)
+    nobody_comes_up(&rt, &plan)
 }

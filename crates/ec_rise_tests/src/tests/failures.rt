@@ -178,12 +178,17 @@ fn fails_and_comes_up(rt: &(impl AllocGlobal + Abort), plan: &Plan, row: Row) ->
 }
 
 /// Start-ups fail as these rows say, and second ones end Ready.
-fn expect_failures(rt: &(impl AllocGlobal + Abort), rows: &[Row]) -> Result<(), Fail> {
-    let plan = plan_of(rt.alloc(), THREE_SLAVES)?;
+fn all_fail(rt: &(impl AllocGlobal + Abort), plan: &Plan, rows: &[Row]) -> Result<(), Fail> {
     for row in rows {
-        fails_and_comes_up(rt, &plan, *row)?;
+        fails_and_comes_up(rt, plan, *row)?;
     }
     Ok(())
+}
+
+/// Start-ups of the three slaves fail so.
+fn expect_failures(rt: &(impl AllocGlobal + Abort), rows: &[Row]) -> Result<(), Fail> {
+    let plan = plan_of(rt.alloc(), THREE_SLAVES)?;
+    all_fail(rt, &plan, rows)
 }
 
 // Numbers that are spent and other slaves are tests of their own.
@@ -266,16 +271,35 @@ fn exchanged_comes_up(
     comes_up(rt, &mut startup, ring, frames + 75)
 }
 
-/// Among new slaves one is another. A start-up fails, and once that slave was exchanged it ends Ready.
+/// The slave at a place becomes the other.
+fn exchange_for(
+    rt: &(impl AllocGlobal + Abort),
+    ring: &mut Ring,
+    other: Other,
+) -> Result<(), Fail> {
+    let strange = plan_of(rt.alloc(), other.text)?;
+    exchange(rt.alloc(), ring, &strange, other.place, other.shown)
+}
+
+/// One of the plan's slaves is another. A start-up fails, and once that slave was exchanged it ends Ready.
+fn other_slave_comes_up(
+    rt: &(impl AllocGlobal + Abort),
+    plan: &Plan,
+    ring: &mut Ring,
+    other: Other,
+) -> Result<(), Fail> {
+    exchange_for(rt, ring, other)?;
+    exchanged_comes_up(rt, plan, ring, other)
+}
+
+/// The same of new slaves.
 fn other_slave_is_exchanged(
     rt: &(impl AllocGlobal + Abort),
     plan: &Plan,
     other: Other,
 ) -> Result<(), Fail> {
-    let strange = plan_of(rt.alloc(), other.text)?;
     let mut ring = ring_of(rt.alloc(), plan, &[1; 3])?;
-    exchange(rt.alloc(), &mut ring, &strange, other.place, other.shown)?;
-    exchanged_comes_up(rt, plan, &mut ring, other)
+    other_slave_comes_up(rt, plan, &mut ring, other)
 }
 
 /// Slave 1 as a device that its type doesn't say, which its third word tells.
@@ -310,10 +334,21 @@ fn other_mapping(text: &'static str, error: StartError, frames: u8) -> Other {
     }
 }
 
+/// Each of these others is exchanged.
+fn each_is_exchanged(
+    rt: &(impl AllocGlobal + Abort),
+    plan: &Plan,
+    others: &[Other],
+) -> Result<(), Fail> {
+    for other in others {
+        other_slave_is_exchanged(rt, plan, *other)?;
+    }
+    Ok(())
+}
+
 // Another vendor, product and revision; an output entry of 11 bits; and no PDO 0x1600.
 #[test]
 fn a_slave_is_exchanged(rt: HostRuntime) -> Result<(), Fail> {
-    let plan = plan_of(rt.alloc(), THREE_SLAVES)?;
     let mapping = StartError::Mapping {
         slave: 2,
         index: 0x1600,
@@ -331,8 +366,6 @@ fn a_slave_is_exchanged(rt: HostRuntime) -> Result<(), Fail> {
         other_mapping(SHORT_ENTRY, mapping, 39),
         other_mapping(OTHER_PDO, abort, 37),
     ];
-    for other in others {
-        other_slave_is_exchanged(&rt, &plan, other)?;
-    }
-    Ok(())
+    let plan = plan_of(rt.alloc(), THREE_SLAVES)?;
+    each_is_exchanged(&rt, &plan, &others)
 }

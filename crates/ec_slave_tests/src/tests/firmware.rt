@@ -340,14 +340,18 @@ fn apply_after(
     take_all(rt, slave, &APPLICATION)
 }
 
-// The application has its bytes in SAFEOP and OP alone.
+/// Leads a slave up; its application has its bytes in SAFEOP and OP alone.
+fn apply_on_the_way(rt: &(impl AllocGlobal + Abort), slave: &mut Slave) -> Result<(), Fail> {
+    take_all(rt, slave, &TO_PREOP)?;
+    let to_safeop = [Sizes(0, 0), Puts(0, 1, false), Asks("0400", "040000000000")];
+    apply_after(rt, slave, &to_safeop)?;
+    apply_after(rt, slave, &[Asks("0800", "080000000000")])
+}
+
 #[test]
 fn application_bytes(rt: HostRuntime) -> Result<(), Fail> {
     let mut slave = mixed(&rt)?;
-    take_all(&rt, &mut slave, &TO_PREOP)?;
-    let to_safeop = [Sizes(0, 0), Puts(0, 1, false), Asks("0400", "040000000000")];
-    apply_after(&rt, &mut slave, &to_safeop)?;
-    apply_after(&rt, &mut slave, &[Asks("0800", "080000000000")])
+    apply_on_the_way(&rt, &mut slave)
 }
 
 // A fault is one only in OP: SAFEOP with an error, and manager 2 locked and empty. A request that waits is still decided.

@@ -144,10 +144,8 @@ fn expect_value_read(
     expect_back(rt, slave, run, Lrd, 0x0001_0000, &DATA, &run.read(memory))
 }
 
-// Plain memory, of which no manager has a byte.
-#[test]
-fn each_short_run_of_memory(rt: HostRuntime) -> Result<(), Fail> {
-    let mut slave = plain_slave(rt.alloc())?;
+/// Each run of up to 40 bits, over ones and zeros.
+fn exchange_runs(rt: &impl Abort, slave: &mut Slave) -> Result<(), Fail> {
     for memory in MEMORIES {
         for start in 0..8 {
             for physical in 0..8 {
@@ -157,7 +155,7 @@ fn each_short_run_of_memory(rt: HostRuntime) -> Result<(), Fail> {
                         physical,
                         count,
                     };
-                    expect_exchange(&rt, &mut slave, run, &memory)?;
+                    expect_exchange(rt, slave, run, &memory)?;
                 }
             }
         }
@@ -165,12 +163,15 @@ fn each_short_run_of_memory(rt: HostRuntime) -> Result<(), Fail> {
     Ok(())
 }
 
-// The value of a manager that has just the bytes of the run, in SAFEOP.
+// Plain memory, of which no manager has a byte.
 #[test]
-fn each_short_run_of_a_value(rt: HostRuntime) -> Result<(), Fail> {
+fn each_short_run_of_memory(rt: HostRuntime) -> Result<(), Fail> {
     let mut slave = plain_slave(rt.alloc())?;
-    let to_safeop = [Asks("0200", "020000000000"), Asks("0400", "040000000000")];
-    take_all(&rt, &mut slave, &to_safeop)?;
+    exchange_runs(&rt, &mut slave)
+}
+
+/// Each run of up to 40 bits of a value of ones or zeros.
+fn read_runs(rt: &impl Abort, slave: &mut Slave) -> Result<(), Fail> {
     for memory in MEMORIES {
         for start in 0..8 {
             for physical in 0..8 {
@@ -180,10 +181,24 @@ fn each_short_run_of_a_value(rt: HostRuntime) -> Result<(), Fail> {
                         physical,
                         count,
                     };
-                    expect_value_read(&rt, &mut slave, run, &memory)?;
+                    expect_value_read(rt, slave, run, &memory)?;
                 }
             }
         }
     }
     Ok(())
+}
+
+/// The same of a slave that is led to SAFEOP first.
+fn read_runs_in_safeop(rt: &(impl AllocGlobal + Abort), slave: &mut Slave) -> Result<(), Fail> {
+    let to_safeop = [Asks("0200", "020000000000"), Asks("0400", "040000000000")];
+    take_all(rt, slave, &to_safeop)?;
+    read_runs(rt, slave)
+}
+
+// The value of a manager that has just the bytes of the run, in SAFEOP.
+#[test]
+fn each_short_run_of_a_value(rt: HostRuntime) -> Result<(), Fail> {
+    let mut slave = plain_slave(rt.alloc())?;
+    read_runs_in_safeop(&rt, &mut slave)
 }

@@ -175,14 +175,19 @@ fn take_frame(rt: &(impl AllocGlobal + Abort), slave: &mut Slave, step: Step) ->
     }
 }
 
+/// The slave publishes these outputs.
+fn assert_outputs(rt: &(impl AllocGlobal + Abort), slave: &Slave, row: &str) -> Result<(), Fail> {
+    let outputs = bytes_of(rt.alloc(), row)?;
+    assert_eq!(rt; slave.outputs(), outputs.as_slice());
+    Ok(())
+}
+
 /// What is seen at the slave itself.
 fn take_look(rt: &(impl AllocGlobal + Abort), slave: &Slave, step: Step) -> Result<(), Fail> {
     match step {
         Step::Shows(address, byte) => assert_eq!(rt; slave.byte(address), byte, "at {address}"),
         Step::Station(address) => assert_eq!(rt; slave.station_address(), address),
-        Step::Outputs(row) => {
-            assert_eq!(rt; slave.outputs(), bytes_of(rt.alloc(), row)?.as_slice());
-        }
+        Step::Outputs(row) => return assert_outputs(rt, slave, row),
         Step::Sizes(get, put) => assert_eq!(rt; slave.app_sizes(), (get, put)),
         _ => {}
     }

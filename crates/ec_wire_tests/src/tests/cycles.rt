@@ -1,4 +1,6 @@
 //! Cycles over memory, of which each call is a fault in turn.
+ghost use Rattle.ec_link.specs.Usable.{IsUsable};
+
 use crate::tests::machines::{THREE_SLAVES, brought_up, full_table, plan_of, set, there, value_of};
 use ec_cycle::{CycleError, Master};
 use ec_link::Plan;
@@ -100,7 +102,21 @@ fn expect_each_fault(
     Ok(())
 }
 
-/// Runs a cycle of a table with a fault at each of its calls in turn.
+/// Runs a cycle of a plan with a fault at each of its calls in turn.
+fn expect_faults_of(
+    rt: &(impl AllocGlobal + Abort),
+    plan: &Plan,
+    parts: u16,
+    mirror: Mirror,
+) -> Result<(), Fail>
+    requires { IsUsable plan.now }
+{
+    let mut master = Master::new(rt.alloc(), plan)?;
+    let ring = there(brought_up(rt.alloc(), plan, &mut master))?;
+    expect_each_fault(rt, &mut master, ring, mirror, parts)
+}
+
+/// The same of a table.
 fn expect_faults(
     rt: &(impl AllocGlobal + Abort),
     text: &str,
@@ -108,9 +124,7 @@ fn expect_faults(
     mirror: Mirror,
 ) -> Result<(), Fail> {
     let plan = plan_of(rt.alloc(), text)?;
-    let mut master = Master::new(rt.alloc(), &plan)?;
-    let ring = there(brought_up(rt.alloc(), &plan, &mut master))?;
-    expect_each_fault(rt, &mut master, ring, mirror, parts)
+    expect_faults_of(rt, &plan, parts, mirror)
 }
 
 #[test]
@@ -162,15 +176,22 @@ fn error_over_spent(master: &mut Master<'_>) -> Option<RunError> {
     run_cycle(master, &mut Spent).err()
 }
 
-/// What a cycle of three slaves over a spent wire ends by, where the slaves have come up or not.
-fn error_of(alloc: Global, is_up: bool) -> Result<Option<RunError>, Fail> {
-    let plan = plan_of(alloc, THREE_SLAVES)?;
-    let mut master = Master::new(alloc, &plan)?;
-    if prepare(alloc, &plan, &mut master, is_up) {
+/// What a cycle of a plan over a spent wire ends by, where its slaves have come up or not.
+fn error_of(alloc: Global, plan: &Plan, is_up: bool) -> Result<Option<RunError>, Fail>
+    requires { IsUsable plan.now }
+{
+    let mut master = Master::new(alloc, plan)?;
+    if prepare(alloc, plan, &mut master, is_up) {
         Ok(error_over_spent(&mut master))
     } else {
         Err("slaves that don't come up".into())
     }
+}
+
+/// What a cycle of three slaves over a spent wire ends by.
+fn error_of_three(alloc: Global, is_up: bool) -> Result<Option<RunError>, Fail> {
+    let plan = plan_of(alloc, THREE_SLAVES)?;
+    error_of(alloc, &plan, is_up)
 }
 
 // The master is asked first; at its last value the count of faults can't rise, and each call is a fault.
@@ -186,7 +207,7 @@ fn refusals_come_before_the_wire(rt: HostRuntime) -> Result<(), Fail> {
         (true, RunError::Wire, 37, "Wire"),
     ];
     for (is_up, error, number, name) in rows {
-        assert_eq!(rt; error_of(rt.alloc(), is_up)?, Some(error));
+        assert_eq!(rt; error_of_three(rt.alloc(), is_up)?, Some(error));
         assert_eq!(rt; (error.number(), error.name()), (number, name));
     }
     Ok(())

@@ -1,6 +1,9 @@
 //! The frame of a cycle past three slaves in OP, byte for byte.
+ghost use Rattle.ec_link.specs.Usable.{IsUsable};
+
 use crate::tests::machines::{THREE_SLAVES, brought_up_from, plan_of, set, there, value_of};
 use ec_cycle::{Master, Taken};
+use ec_link::Plan;
 use ec_ring::Ring;
 use std::alloc::Global;
 use std::process::Abort;
@@ -98,16 +101,18 @@ fn expect_cycle(
     Ok(())
 }
 
-/// Brings three slaves up by frames from number 25 on, and runs a cycle.
-fn expect_frames(rt: &(impl AllocGlobal + Abort)) -> Result<(), Fail> {
-    let plan = plan_of(rt.alloc(), THREE_SLAVES)?;
-    let mut master = Master::new(rt.alloc(), &plan)?;
-    let ring = there(brought_up_from(rt.alloc(), &plan, &mut master, 25))?;
+/// Brings the slaves of a plan up by frames from number 25 on, and runs a cycle.
+fn expect_frames(rt: &(impl AllocGlobal + Abort), plan: &Plan) -> Result<(), Fail>
+    requires { IsUsable plan.now }
+{
+    let mut master = Master::new(rt.alloc(), plan)?;
+    let ring = there(brought_up_from(rt.alloc(), plan, &mut master, 25))?;
     expect_cycle(rt, &mut master, ring)
 }
 
 // The master takes from the frame what the slaves' applications wrote.
 #[test]
 fn frame_of_a_cycle(rt: HostRuntime) -> Result<(), Fail> {
-    expect_frames(&rt)
+    let plan = plan_of(rt.alloc(), THREE_SLAVES)?;
+    expect_frames(&rt, &plan)
 }

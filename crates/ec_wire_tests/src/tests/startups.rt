@@ -4,6 +4,7 @@ use ec_link::Plan;
 use ec_start::{StartError, Startup};
 use ec_wire::{MemoryWire, Wire, bring_up_wire};
 use std::alloc::Global;
+use std::process::Abort;
 use std::test::Fail;
 
 /// How a start-up ended, and its next number.
@@ -82,12 +83,17 @@ fn run_strange(startup: &mut Startup) -> (Ended, u64) {
     (run(startup, &mut wire), wire.received)
 }
 
+/// A start-up over a strange wire is lost after 64 payloads.
+fn expect_lost(rt: &impl Abort, startup: &mut Startup) {
+    let (ended, received) = run_strange(startup);
+    assert_eq!(rt; ended, (Some(Err(StartError::Lost)), 1));
+    assert_eq!(rt; received, 64);
+}
+
 #[test]
 fn strange_payloads_end_it(rt: HostRuntime) -> Result<(), Fail> {
     let plan = plan_of(rt.alloc(), THREE_SLAVES)?;
     let mut startup = there(startup_of(rt.alloc(), &plan))?;
-    let (ended, received) = run_strange(&mut startup);
-    assert_eq!(rt; ended, (Some(Err(StartError::Lost)), 1));
-    assert_eq!(rt; received, 64);
+    expect_lost(&rt, &mut startup);
     Ok(())
 }
