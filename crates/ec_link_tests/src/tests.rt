@@ -346,22 +346,44 @@ fn tells_doubled_links_of_a_large_slave(rt: HostRuntime) -> Result<(), Fail> {
     assert_each_refused(&rt, &[(2112, 2112, true)], &rows)
 }
 
+/// Of each link of the outputs: its slave, and its first bit in the slave's object.
+fn push_output_places(text: &mut String, plan: &Plan) -> Result<(), AllocError> {
+    for link in plan.out_links() {
+        write!(text, "{} {}, ", link.slave, link.object_bit)?;
+    }
+    Ok(())
+}
+
+/// The plan of a text.
+fn plan_of(alloc: Global, text: &str) -> Result<Plan, Fail> {
+    let table = read_table(alloc, text)?;
+    Ok(compile(alloc, &table)?)
+}
+
+/// The output links of the plan of a text.
+fn output_places_of(alloc: Global, text: &str) -> Result<String, Fail> {
+    let mut told = String::new(alloc);
+    let plan = plan_of(alloc, text)?;
+    push_output_places(&mut told, &plan)?;
+    Ok(told)
+}
+
 /// Slaves of one type have their bits each by its own assignment.
 #[test]
 fn places_bits_by_assignment(rt: HostRuntime) -> Result<(), Fail> {
-    let alloc = rt.alloc();
-    let table = read_table(alloc, ASSIGNMENTS)?;
-    let plan = compile(alloc, &table)?;
-    let mut told = String::new(alloc);
-    for link in plan.out_links() {
-        write!(told, "{} {}, ", link.slave, link.object_bit)?;
-    }
+    let told = output_places_of(rt.alloc(), ASSIGNMENTS)?;
     assert_eq!(rt; told.as_str(), "0 8, 1 0, 2 0, 3 8, 4 0, 2 16, ");
+    Ok(())
+}
+
+/// An entry that another slave of the type assigns.
+#[test]
+fn tells_an_entry_of_another_slave(rt: HostRuntime) -> Result<(), Fail> {
     let (old, new) = (
         "slave = \"s2\"\nindex = 0x7001",
         "slave = \"s1\"\nindex = 0x7001",
     );
-    let stranger = changed(alloc, ASSIGNMENTS, old, new)?;
+    let stranger = changed(rt.alloc(), ASSIGNMENTS, old, new)?;
     assert_parts(&rt, stranger.as_str(), "17 NoEntry 5")
 }
 
