@@ -427,24 +427,51 @@ fn numbers_are_spent(rt: HostRuntime) -> Result<(), Fail> {
     Ok(())
 }
 
-// A start-up that was given up begins anew with the next number.
-#[test]
-fn lost_and_begun_anew(rt: HostRuntime) -> Result<(), Fail> {
-    let mut startup = startup_of(&rt, THREE_SLAVES, 0)?;
-    make_steps(&rt, &mut startup, 40)?;
-    let frame = next_of(&rt, &mut startup)?;
+/// A frame that is given up: what comes back of it is foreign.
+fn lose_frame(rt: &(impl AllocGlobal + Abort), startup: &mut Startup) -> Result<(), Fail> {
+    let frame = next_of(rt, startup)?;
     startup.give_up();
     assert_eq!(rt; startup.phase(), Phase::Failed(StartError::Lost));
     assert_eq!(rt; startup.take(frame.as_slice()), Taken::Foreign);
-    assert_eq!(rt; StartError::Lost.number(), 32);
+    Ok(())
+}
+
+/// The next frame of a start-up is this.
+fn assert_next(
+    rt: &(impl AllocGlobal + Abort),
+    startup: &mut Startup,
+    wanted: &str,
+) -> Result<(), Fail> {
+    let frame = next_of(rt, startup)?;
+    let wanted = hex::decode(rt.alloc(), wanted)?;
+    assert_eq!(rt; frame.as_slice(), wanted.as_slice());
+    Ok(())
+}
+
+/// A start-up that failed begins anew.
+fn begin_anew(startup: &mut Startup) -> Result<(), Fail> {
     if !startup.has_failed() {
-        return Ok(());
+        return Err("a failure".into());
     }
     startup.restart();
-    let again = next_of(&rt, &mut startup)?;
-    let sent = "24100029000000000a80000029000000000000000000000007290000300102000000000000 00";
-    let sent = hex::decode(rt.alloc(), &spaceless(rt.alloc(), sent)?)?;
-    assert_eq!(rt; again.as_slice(), sent.as_slice());
+    Ok(())
+}
+
+/// Frame 40 is lost. The start-up begins anew with its first step, in frame 41.
+fn begins_anew(rt: &(impl AllocGlobal + Abort), startup: &mut Startup) -> Result<(), Fail> {
+    make_steps(rt, startup, 40)?;
+    lose_frame(rt, startup)?;
+    begin_anew(startup)?;
+    let sent = "24100029000000000a8000002900000000000000000000000729000030010200000000000000";
+    assert_next(rt, startup, sent)?;
     assert_eq!(rt; startup.next_number(), 42);
     Ok(())
+}
+
+// A start-up that was given up begins anew with the next number.
+#[test]
+fn lost_and_begun_anew(rt: HostRuntime) -> Result<(), Fail> {
+    assert_eq!(rt; StartError::Lost.number(), 32);
+    let mut startup = startup_of(&rt, THREE_SLAVES, 0)?;
+    begins_anew(&rt, &mut startup)
 }

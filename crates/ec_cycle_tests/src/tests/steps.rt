@@ -68,14 +68,24 @@ fn plan_of(alloc: Global, text: &str) -> Result<Plan, Fail>
     Ok(plan)
 }
 
-/// A start-up of no slaves that has sent its only frame, with this number, and got it back as it was sent.
-fn ended_startup(rt: &(impl AllocGlobal + Abort), number: u64) -> Result<Startup, Fail> {
+/// A start-up of no slaves, whose first frame has this number.
+fn startup_of_none(rt: &(impl AllocGlobal + Abort), number: u64) -> Result<Startup, Fail> {
     let plan = plan_of(rt.alloc(), "")?;
     assert!(rt; Startup::can_start(&plan));
-    let mut startup = Startup::new(rt.alloc(), &plan, number)?;
+    Ok(Startup::new(rt.alloc(), &plan, number)?)
+}
+
+/// A start-up sends its only frame, and gets it back as it was sent.
+fn send_round(rt: &impl Abort, startup: &mut Startup) {
     let mut frame = Frame::new();
     assert_eq!(rt; startup.next(&mut frame), NextFrame::Send);
     assert_eq!(rt; startup.take(frame.as_slice()), Taken::Kept);
+}
+
+/// A start-up of no slaves that has sent its only frame, with this number.
+fn ended_startup(rt: &(impl AllocGlobal + Abort), number: u64) -> Result<Startup, Fail> {
+    let mut startup = startup_of_none(rt, number)?;
+    send_round(rt, &mut startup);
     Ok(startup)
 }
 
@@ -172,17 +182,33 @@ fn take_cycle(
     Ok(())
 }
 
-/// Takes all steps with a new master of a table's plan, in their order.
+/// Takes all steps, in their order.
+fn take_all(
+    rt: &(impl AllocGlobal + Abort),
+    master: &mut Master,
+    steps: &[Step],
+) -> Result<(), Fail> {
+    for step in steps {
+        take_call(rt, master, *step);
+        take_cycle(rt, master, *step)?;
+    }
+    Ok(())
+}
+
+/// Takes all steps with a new master of a plan.
+fn expect_steps_of(rt: &(impl AllocGlobal + Abort), plan: &Plan, steps: &[Step]) -> Result<(), Fail>
+    requires { IsUsable plan.now }
+{
+    let mut master = Master::new(rt.alloc(), plan)?;
+    take_all(rt, &mut master, steps)
+}
+
+/// Takes all steps with a new master of a table's plan.
 pub fn expect_steps(
     rt: &(impl AllocGlobal + Abort),
     table: &str,
     steps: &[Step],
 ) -> Result<(), Fail> {
     let plan = plan_of(rt.alloc(), table)?;
-    let mut master = Master::new(rt.alloc(), &plan)?;
-    for step in steps {
-        take_call(rt, &mut master, *step);
-        take_cycle(rt, &mut master, *step)?;
-    }
-    Ok(())
+    expect_steps_of(rt, &plan, steps)
 }
