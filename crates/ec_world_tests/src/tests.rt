@@ -354,24 +354,39 @@ fn ends_twice(world: &mut World<'_>) -> (Outcome, Outcome) {
     (first, world.outcome())
 }
 
-// Slave 1 shows revision 2 where its type has 1, each time that a start-up reads it; no cycle begins.
+/// Start-ups of a world end by this error, time and again, and no cycle begins.
+fn expect_ends(rt: &impl Abort, world: &mut World<'_>, error: StartError) {
+    let ended = ends_twice(world);
+    assert_eq!(rt; ended, (Some(Err(error)), Some(Err(error))));
+    let begins = made(world, Begin);
+    assert!(rt; !begins && world.slot(0) == None);
+}
+
+/// The same of a new world in which slave 1 is another.
+fn expect_other_ends(
+    rt: &(impl AllocGlobal + Abort),
+    table: &Table,
+    plan: &Plan,
+    seen: Device,
+) -> Result<(), Fail>
+    requires accepted { compile_fault table.now ≡ None }
+    requires plan { plan.now ≡ plan_of table.now }
+{
+    let mut world = world_of(rt.alloc(), table, plan, Some((1, seen.identity(0))))?;
+    expect_ends(rt, &mut world, StartError::Identity { slave: 1, seen });
+    Ok(())
+}
+
+// Slave 1 shows revision 2 where its type has 1, each time that a start-up reads it.
 #[test]
 fn another_revision(rt: HostRuntime) -> Result<(), Fail> {
-    let table = read_table(rt.alloc(), TABLE)?;
-    let plan = compile(rt.alloc(), &table)?;
     let seen = Device {
         vendor: 0xABCD,
         product: 2,
         revision: 2,
     };
-    let mut world = world_of(rt.alloc(), &table, &plan, Some((1, seen.identity(0))))?;
-    let error = StartError::Identity { slave: 1, seen };
-    assert_eq!(rt;
-        ends_twice(&mut world),
-        (Some(Err(error)), Some(Err(error)))
-    );
-    assert_eq!(rt; error.number(), 27);
-    let begins = made(&mut world, Begin);
-    assert!(rt; !begins && world.slot(0) == None);
-    Ok(())
+    assert_eq!(rt; StartError::Identity { slave: 1, seen }.number(), 27);
+    let table = read_table(rt.alloc(), TABLE)?;
+    let plan = compile(rt.alloc(), &table)?;
+    expect_other_ends(&rt, &table, &plan, seen)
 }
