@@ -56,8 +56,11 @@ short_stays m p e q s h inside short = by (treats m p e q h)
     ]
     by (Resets t y own is now) = elim (cases_eq s t) [
       | inr ne ↦ among (set p.slaves t y) is (other t y ne)
-      | inl same ↦ among (set p.slaves t y) is (inl (ap (λ (n : ℕ). (get_or (set p.slaves t y) n no_plain_slave).health) same
-          ∙ (ap (λ (x : PlainSlave). x.health) (get_or-set_same p.slaves t y no_plain_slave (omega (arith, inside, same))) ∙ now), has_bits m s (plain_slave p s) short))
+      | inl same ↦ among (set p.slaves t y) is (inl (
+        ap (λ (n : ℕ). (get_or (set p.slaves t y) n no_plain_slave).health) same
+            ∙ (ap (λ (x : PlainSlave). x.health) (get_or-set_same p.slaves t y no_plain_slave (omega (arith, inside, same))) ∙ now),
+        has_bits m s (plain_slave p s) short,
+      ))
     ]
 
 giving_short : (m : Meaning) (s : ℕ) (q : PlainSlave) (h : Health) → q.health ≡ h → FallsShort m s q → giving (share_of m s) q h ≡ Short

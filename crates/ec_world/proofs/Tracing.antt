@@ -193,7 +193,7 @@ treats m p (AppGet s i) q e =
 treats m p (Fault s) q e =
     let r = chained (λ y. if is_working y.health then Some (plain.with_slave p s (failing y)) else None) (slice_get p.slaves s) q e in
     Fails s (failing r.value) refl (sym (ap (λ (y : Plain). y.slaves) (guarded (is_working r.value.health) _ q r.is))) refl
-        (ap (λ (y : PlainSlave). y.health) (had p.slaves s r.value no_plain_slave r.there) ∙ is_in_op r.value.health (on_true (is_working r.value.health) _ q r.is))
+    (ap (λ (y : PlainSlave). y.health) (had p.slaves s r.value no_plain_slave r.there) ∙ is_in_op r.value.health (on_true (is_working r.value.health) _ q r.is))
 treats m p (ResetSlave s) q e =
     let r = chained (λ y. Some (plain.with_slave p s (restarting y))) (slice_get p.slaves s) q e in
     Resets s (restarting r.value) refl (sym (ap (λ (y : Plain). y.slaves) (some_same _ q r.is))) refl
