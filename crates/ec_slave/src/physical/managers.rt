@@ -37,7 +37,7 @@ impl Touching for Bytes<'_> {
 impl Writing for Bytes<'_> {
     ghost use Rattle.std.specs.Prelude.{length};
     ghost use Rattle.ec_sync.specs.Touching.{all_touched};
-    ghost use Rattle.ec_slave.specs.Physical.{Window, physical_value};
+    ghost use Rattle.ec_slave.specs.Physical.{physical_value};
 
     ghost written = { λ w start len. physical_value w.lower.now (record { from = w.from; bytes = w.bytes.now }) start len };
 
