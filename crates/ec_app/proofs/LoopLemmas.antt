@@ -14,7 +14,6 @@ use Rattle.ec_table.specs.declared.rows.Direction.{Direction}
 use Rattle.ec_table.specs.declared.rows.Direction.TheVariants.{Out, In}
 use Rattle.ec_link.specs.declared.image.Variable.{Variable}
 use Rattle.ec_table.specs.Reading.{table_of}
-use Rattle.ec_link.specs.Faults.{compile_fault}
 use Rattle.ec_link.specs.Wires.{is_out}
 use Rattle.ec_link.specs.Plan.{PlanState, plan_of}
 use Rattle.ec_start.specs.declared.phase.Phase.{Phase}
@@ -33,9 +32,10 @@ use Rattle.ec_script.specs.Texts.{report_text}
 use Rattle.ec_script.proofs.Lines.{lines_more, lines_all}
 use Rattle.ec_app.specs.declared.refusal.Refusal.{Refusal}
 use Rattle.ec_app.specs.declared.refusal.Refusal.TheVariants as refusal
-use Rattle.ec_app.specs.Looping.{AreRun, CanCycle, CutShort, HaveRun, IsCycleRefusal, IsRunEnd, IsSoFar, IsStartRefusal, IsUp, Loops, LoopsOnSockets, LoopsText, cycles_text, inputs_text, output_put, outputs_put, ready_line, shown, with_outputs}
+use Rattle.ec_app.specs.Looping.{AreRun, CanCycle, CutShort, HaveRun, IsCycleRefusal, IsRunEnd, IsSoFar, IsStartRefusal, IsUp, Loops, LoopsOnSockets, LoopsTable, LoopsText, cycles_text, inputs_text, output_put, outputs_put, ready_line, shown, with_outputs}
 use Rattle.ec_app.specs.Planning.{IsTableRefusal}
 use Rattle.ec_app.specs.Printing.{AppendsPart}
+use Rattle.ec_app.proofs.PlanLemmas.{of_table}
 use Rattle.ec_app.proofs.PrintLemmas.{appends_more, appends_nothing}
 
 pub ruleset line_steps = (lines_more, lines_all)
@@ -429,7 +429,8 @@ pub unbound : (r : Result Unit Refusal) (cycles : ℕ) (t : Contents) (known : O
 unbound (Ok done) cycles t known is = absurd is
 unbound (Err e) cycles t known is = inr (ap Err is, refl)
 
-pub looped : (cycles : ℕ) (text : List ℕ) (t : Contents) (old new : Option (List ℕ)) (r : Result Unit Refusal) → table_of text ≡ Ok t → compile_fault t ≡ None
-    → LoopsOnSockets cycles t old new r → LoopsText cycles text old new r
-looped cycles text t old new r read accepted (inl loops) = inl (t, read, accepted, loops)
-looped cycles text t old new r read accepted (inr (is, same)) = inr (refusal.Socket, is, inr refl, same)
+pub looped : (cycles : ℕ) (text : List ℕ) (t : Contents) (old new : Option (List ℕ)) (r : Result Unit Refusal) → table_of text ≡ Ok t
+    → LoopsTable cycles t old new r → LoopsText cycles text old new r
+looped cycles text t old new r read (inl (accepted, loops)) = inl (t, read, accepted, loops)
+looped cycles text t old new r read (inr (x, is, inl link, same)) = inr (x, is, inl (of_table text t x read link), same)
+looped cycles text t old new r read (inr (x, is, inr socket, same)) = inr (x, is, inr socket, same)

@@ -1,20 +1,25 @@
 -- Lines that print one after another, and how a simulation ends.
-use Rattle.std.proofs.Common.{◌≡◌, ◌∙◌, inl, inr, ℕ, zero, suc, ◌+◌, ◌<◌, ◌≤◌, List, [], ◌∷◌, ◌++◌, length, get_or, take, drop, Option, refl, sym, ap, subst, append_assoc, append-nil, arith, Result, Ok, Err, IfErr, OnOk, OnErr}
+use Rattle.std.proofs.Common.{◌≡◌, ◌∙◌, inl, inr, ℕ, zero, suc, ◌+◌, ◌<◌, ◌≤◌, List, [], ◌∷◌, ◌++◌, length, get_or, take, drop, Option, None, refl, sym, ap, subst, append_assoc, append-nil, arith, Result, Ok, Err, IfErr, OnOk, OnErr}
 use Rattle.std.specs.Result.{IsErrAnd}
 use Rattle.std.specs.Io.KnownBytes.{Appends}
 use Rattle.std.proofs.lemmas.List.{at_drop_more}
 use Rattle.ec_table.specs.Contents.{Contents}
+use Rattle.ec_table.specs.Reading.{table_of}
+use Rattle.ec_link.specs.Faults.{compile_fault}
 use Rattle.ec_link.specs.Plan.{plan_of}
 use Rattle.ec_world.specs.World.{WorldState}
 use Rattle.ec_script.specs.declared.line.Line.{Line}
 use Rattle.ec_script.specs.declared.said.Said.{Said}
+use Rattle.ec_script.specs.Halves.{Splits}
 use Rattle.ec_script.specs.Texts.{said_text}
 use Rattle.ec_script.specs.Work.{Does}
 use Rattle.ec_script.proofs.Running.{lines_run as line_run}
 use Rattle.ec_app.specs.declared.refusal.Refusal.{Refusal}
+use Rattle.ec_app.specs.declared.refusal.Refusal.TheVariants as refusal
 use Rattle.ec_app.specs.declared.refusal.Refusal.TheVariants.{Memory}
 use Rattle.ec_app.specs.Printing.{AppendsPart}
-use Rattle.ec_app.specs.Simulating.{BeginsAs, IsLate, IsSimRefusal, IsSimulation, PrintsLines, PrintsSome, RunsLines, RunsText, Says}
+use Rattle.ec_app.specs.Planning.{IsLinkRefusal}
+use Rattle.ec_app.specs.Simulating.{BeginsAs, IsBadScript, IsHalfRefusal, IsLate, IsSimRefusal, IsSimulation, PrintsLines, PrintsSome, RunsHalves, RunsLines, RunsText, Says}
 use Rattle.ec_app.proofs.PrintLemmas.{appends_more, appends_nothing}
 
 -- the first i lines are said, and the world is as they left it
@@ -119,6 +124,46 @@ simulated (Ok done) text old new t lines is (w, begins, all) = record { t = t; l
 simulated (Err e) text old new t lines is (inl (memory, same)) = inl (subst (IsSimRefusal text) (sym memory) (is.table, is.script, is.split, tt), same)
 simulated (Err e) text old new t lines is (inr (late, w, begins, some)) =
     inr (late, record { t = t; lines = lines; world = w; simulation = is; begins = begins; printed = some })
+
+-- a script that is bad is the fault of its text
+half_of_script : (table script : List ℕ) (t : Contents) (x : Refusal) → table_of table ≡ Ok t → compile_fault t ≡ None → IsBadScript t script x → IsHalfRefusal table script x
+half_of_script table script t Memory stated accepted is = tt
+half_of_script table script t (refusal.Script e) stated accepted is = (t, stated, accepted, is)
+half_of_script table script t (refusal.Frame e) stated accepted is = absurd is
+half_of_script table script t (refusal.Table e) stated accepted is = absurd is
+half_of_script table script t (refusal.Link e) stated accepted is = absurd is
+half_of_script table script t (refusal.Start e) stated accepted is = absurd is
+half_of_script table script t (refusal.Run e) stated accepted is = absurd is
+half_of_script table script t refusal.Socket stated accepted is = absurd is
+half_of_script table script t refusal.BadHex stated accepted is = absurd is
+half_of_script table script t refusal.Output stated accepted is = absurd is
+half_of_script table script t refusal.Input stated accepted is = absurd is
+
+-- and so is a fault of the table that it states
+half_of_table : (table script : List ℕ) (t : Contents) (x : Refusal) → table_of table ≡ Ok t → IsLinkRefusal t x → IsHalfRefusal table script x
+half_of_table table script t Memory stated is = tt
+half_of_table table script t (refusal.Link e) stated is = (t, stated, is)
+half_of_table table script t (refusal.Frame e) stated is = absurd is
+half_of_table table script t (refusal.Table e) stated is = absurd is
+half_of_table table script t (refusal.Start e) stated is = absurd is
+half_of_table table script t (refusal.Run e) stated is = absurd is
+half_of_table table script t refusal.Socket stated is = absurd is
+half_of_table table script t (refusal.Script e) stated is = absurd is
+half_of_table table script t refusal.BadHex stated is = absurd is
+half_of_table table script t refusal.Output stated is = absurd is
+half_of_table table script t refusal.Input stated is = absurd is
+
+halves_refused : (r : Result Unit Refusal) (text : List ℕ) (old new : Option (List ℕ)) (x : Refusal) → r ≡ Err x → new ≡ old → IsSimRefusal text x → RunsText text old new r
+halves_refused r text old new x ended same is = subst (RunsText text old new) (sym ended) (inl (is, same))
+
+pub halves_run : (r : Result Unit Refusal) (text table script : List ℕ) (t : Contents) (old new : Option (List ℕ)) → Splits text table script → table_of table ≡ Ok t
+    → RunsHalves t script old new r → RunsText text old new r
+halves_run r text table script t old new split stated (inl (accepted, inl (lines, read, runs))) =
+    simulated r text old new t lines (record { table = table; script = script; split = split; stated = stated; accepted = accepted; read = read }) runs
+halves_run r text table script t old new split stated (inl (accepted, inr (x, ended, is, same))) =
+    halves_refused r text old new x ended same (table, script, split, half_of_script table script t x stated accepted is)
+halves_run r text table script t old new split stated (inr (x, ended, is, same)) =
+    halves_refused r text old new x ended same (table, script, split, half_of_table table script t x stated is)
 
 pub on_err : {P : Type 0} (r : Result Unit Refusal) → P → OnErr r P
 on_err (Ok done) p = tt

@@ -8,7 +8,7 @@ ghost use Rattle.ec_cycle.specs.Closing.{ReportState};
 ghost use Rattle.ec_wire.specs.Running.{IsRun};
 ghost use Rattle.ec_script.specs.Texts.{report_text};
 ghost use Rattle.ec_text.specs.PlanText.{lines_from};
-ghost use Rattle.ec_app.specs.Looping.{CanCycle, CutShort, HaveRun, IsCycleRefusal, IsRunEnd, IsSoFar, IsStartRefusal, IsUp, Loops, LoopsOnSockets, LoopsText, RunsLoop, cycles_text, input_line, inputs_text, output_put, shown, with_outputs};
+ghost use Rattle.ec_app.specs.Looping.{CanCycle, CutShort, HaveRun, IsCycleRefusal, IsRunEnd, IsSoFar, IsStartRefusal, IsUp, Loops, LoopsOnSockets, LoopsTable, LoopsText, RunsLoop, cycles_text, input_line, inputs_text, output_put, shown, with_outputs};
 
 use crate::Refusal;
 use crate::input::read_text;
@@ -249,6 +249,20 @@ fn loop_plan<H: AllocGlobal + Net, W: Write>(
     run_loop(rt.alloc(), table, plan, &mut wire, cycles, output)
 }
 
+/// Runs cycles of a table that was read, over two sockets.
+fn loop_table<H: AllocGlobal + Net, W: Write>(
+    rt: &H,
+    cycles: u16,
+    table: &Table,
+    output: &mut W,
+    app: &mut dyn App,
+) -> Result<(), Refusal>
+    ensures { LoopsTable cycles table.now (W.contents output.old) (W.contents output.new) result }
+{
+    let plan = compile(rt.alloc(), table)?;
+    loop_plan(rt, table, &plan, cycles, output, app)
+}
+
 /// Runs cycles of the table that a text states, over two sockets.
 fn loop_text<H: AllocGlobal + Net, W: Write>(
     rt: &H,
@@ -260,8 +274,7 @@ fn loop_text<H: AllocGlobal + Net, W: Write>(
     ensures { LoopsText cycles text.now (W.contents output.old) (W.contents output.new) result }
 {
     let table = read_table(rt.alloc(), text)?;
-    let plan = compile(rt.alloc(), &table)?;
-    loop_plan(rt, &table, &plan, cycles, output, app)
+    loop_table(rt, cycles, &table, output, app)
 }
 
 /// Runs so many cycles of the table that the input states, master and slaves on two sockets of this process, the slaves'

@@ -1,13 +1,13 @@
 //! The machine that a link table on the input states.
 ghost use Rattle.std.specs.Prelude.{IfErr};
-ghost use Rattle.ec_app.specs.Planning.{IsTableRefusal};
+ghost use Rattle.ec_app.specs.Planning.{IsLinkRefusal, IsTableRefusal};
 
 use crate::Refusal;
 use ec_link::{Plan, compile};
 use ec_regs::Identity;
 use ec_ring::Ring;
 use ec_slave::Slave;
-use ec_table::read_table;
+use ec_table::{Table, read_table};
 use std::alloc::{AllocError, Global};
 
 /// The slaves of a plan as they are switched on, each of its type's device.
@@ -26,11 +26,18 @@ pub(crate) fn slaves_of(alloc: Global, plan: &Plan) -> Result<Ring, AllocError> 
     Ok(Ring::new(slaves))
 }
 
+/// The slaves of a table that was read, as they are switched on.
+fn slaves_of_rows(alloc: Global, table: &Table) -> Result<Ring, Refusal>
+    ensures { IfErr result (IsLinkRefusal table.now) }
+{
+    let plan = compile(alloc, table)?;
+    Ok(slaves_of(alloc, &plan)?)
+}
+
 /// The slaves of the table that the text states, as they are switched on.
 pub(crate) fn slaves_of_table(alloc: Global, text: &str) -> Result<Ring, Refusal>
     ensures { IfErr result (IsTableRefusal text.now) }
 {
     let table = read_table(alloc, text)?;
-    let plan = compile(alloc, &table)?;
-    Ok(slaves_of(alloc, &plan)?)
+    slaves_of_rows(alloc, &table)
 }

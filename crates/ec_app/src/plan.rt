@@ -1,7 +1,8 @@
 //! `ecat plan`: a link table on the input, and its plan.
-ghost use Rattle.std.specs.Prelude.{◌≡◌, IfErr, IfOk};
+ghost use Rattle.std.specs.Prelude.{◌≡◌, None, IfErr, IfOk, OnOk};
 ghost use Rattle.std.specs.String.{string_bytes};
-ghost use Rattle.ec_app.specs.Planning.{IsPlanAnswer, IsShown, IsTableRefusal, RunsPlan};
+ghost use Rattle.ec_app.specs.Planning.{IsLinkRefusal, IsPlanAnswer, IsShown, IsTableRefusal, RunsPlan};
+ghost use Rattle.ec_link.specs.Faults.{compile_fault};
 ghost use Rattle.ec_link.specs.Plan.{plan_of};
 
 use crate::Refusal;
@@ -10,20 +11,31 @@ use crate::printing::print_text;
 use ec_link::{Plan, compile};
 use ec_table::{Table, read_table};
 use ec_text::{explain_text, plan_text};
-use std::alloc::{AllocError, Global};
+use std::alloc::Global;
 use std::io::{Read, Write};
 
 /// The plan of the table, in its fixed form or explained for people.
 #[tactic(auto, using(crate::proofs::PlanLemmas::shown_plain, crate::proofs::PlanLemmas::shown_explained))]
-fn text_of(alloc: Global, explained: bool, table: &Table, plan: &Plan) -> Result<String, AllocError>
+fn text_of(alloc: Global, explained: bool, table: &Table, plan: &Plan) -> Result<String, Refusal>
     requires { plan.now ≡ plan_of table.now }
-    ensures { IfOk result (λ answer. IsShown explained table.now (string_bytes answer)) }
+    ensures shown { IfOk result (λ answer. IsShown explained table.now (string_bytes answer)) }
+    ensures memory { IfErr result (λ refusal. refusal ≡ Refusal.Memory) }
 {
     if explained {
-        explain_text(alloc, table, plan)
+        Ok(explain_text(alloc, table, plan)?)
     } else {
-        plan_text(alloc, table.version(), plan)
+        Ok(plan_text(alloc, table.version(), plan)?)
     }
+}
+
+/// The plan of a table that was read, in its fixed form or explained for people.
+fn show_table(alloc: Global, explained: bool, table: &Table) -> Result<String, Refusal>
+    ensures accepted { OnOk result (compile_fault table.now ≡ None) }
+    ensures answer { IfOk result (λ answer. IsShown explained table.now (string_bytes answer)) }
+    ensures refused { IfErr result (IsLinkRefusal table.now) }
+{
+    let plan = compile(alloc, table)?;
+    text_of(alloc, explained, table, &plan)
 }
 
 /// The plan of the table that the text states, in its fixed form or explained for people.
@@ -32,8 +44,7 @@ pub fn show_plan(alloc: Global, explained: bool, text: &str) -> Result<String, R
     ensures refused { IfErr result (IsTableRefusal text.now) }
 {
     let table = read_table(alloc, text)?;
-    let plan = compile(alloc, &table)?;
-    Ok(text_of(alloc, explained, &table, &plan)?)
+    show_table(alloc, explained, &table)
 }
 
 /// Prints what `show_plan` answers to all that the input gives.

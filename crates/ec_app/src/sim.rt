@@ -2,7 +2,7 @@
 ghost use Rattle.std.specs.Prelude.{◌≡◌, IfErr, IfOk, None, OnErr, OnOk};
 ghost use Rattle.ec_link.specs.Faults.{compile_fault};
 ghost use Rattle.ec_link.specs.Plan.{plan_of};
-ghost use Rattle.ec_app.specs.Simulating.{AreIdentities, IsLate, PrintsLines, PrintsSome, RunsLines, RunsSim, RunsText};
+ghost use Rattle.ec_app.specs.Simulating.{AreIdentities, IsLate, PrintsLines, PrintsSome, RunsHalves, RunsLines, RunsScript, RunsSim, RunsText};
 
 use crate::Refusal;
 use crate::input::read_text;
@@ -69,15 +69,44 @@ fn run_lines<W: Write>(
     print_lines(alloc, table, &mut world, lines, output)
 }
 
+/// Reads a script and runs it over a new segment of a table, and prints what it says.
+fn run_script<W: Write>(
+    alloc: Global,
+    table: &Table,
+    plan: &Plan,
+    script: &str,
+    output: &mut W,
+) -> Result<(), Refusal>
+    requires accepted { compile_fault table.now ≡ None }
+    requires plan { plan.now ≡ plan_of table.now }
+    ensures { RunsScript table.now script.now (W.contents output.old) (W.contents output.new)
+        result }
+{
+    let lines = read_script(alloc, table, script)?;
+    run_lines(alloc, table, plan, lines.as_slice(), output)
+}
+
+/// The same of a table that was read, which may have no plan.
+fn run_halves<W: Write>(
+    alloc: Global,
+    table: &Table,
+    script: &str,
+    output: &mut W,
+) -> Result<(), Refusal>
+    ensures { RunsHalves table.now script.now (W.contents output.old) (W.contents output.new)
+        result }
+{
+    let plan = compile(alloc, table)?;
+    run_script(alloc, table, &plan, script, output)
+}
+
 /// Runs the script of a text over a segment of its table, and prints what it says.
 fn run_text<W: Write>(alloc: Global, text: &str, output: &mut W) -> Result<(), Refusal>
     ensures { RunsText text.now (W.contents output.old) (W.contents output.new) result }
 {
     let (head, script) = split_script(text);
     let table = read_table(alloc, head)?;
-    let plan = compile(alloc, &table)?;
-    let lines = read_script(alloc, &table, script)?;
-    run_lines(alloc, &table, &plan, lines.as_slice(), output)
+    run_halves(alloc, &table, script, output)
 }
 
 /// Runs the script that the input gives behind a link table and a line `%%`. Its slaves begin at power-on, with the

@@ -157,14 +157,19 @@ fn stands_for(alloc: Global, table: &Table, text: &str, act: Act) -> Result<bool
     Ok(lines.as_slice() == [Line { number: 1, act }].as_slice())
 }
 
-#[test]
-fn lines_stand_for_acts(rt: HostRuntime) -> Result<(), Fail> {
-    let table = read_table(rt.alloc(), TABLE)?;
+/// Lines, each with what it is to stand for.
+fn expect_acts<H: AllocGlobal + Abort>(rt: &H, table: &Table) -> Result<(), Fail> {
     for (text, act) in ACTS {
-        let stands = stands_for(rt.alloc(), &table, text, act)?;
+        let stands = stands_for(rt.alloc(), table, text, act)?;
         assert!(rt; stands, "{text}");
     }
     Ok(())
+}
+
+#[test]
+fn lines_stand_for_acts(rt: HostRuntime) -> Result<(), Fail> {
+    let table = read_table(rt.alloc(), TABLE)?;
+    expect_acts(&rt, &table)
 }
 
 /// Whether a script in which `;` stands for the end of a line has its first bad line there.
@@ -174,14 +179,19 @@ fn is_bad_at(alloc: Global, table: &Table, script: &str, line: usize) -> Result<
     Ok(refused == Some(ScriptError::BadScript(line)))
 }
 
-#[test]
-fn tells_the_first_bad_line(rt: HostRuntime) -> Result<(), Fail> {
-    let table = read_table(rt.alloc(), TABLE)?;
+/// Scripts, each with the number of its first bad line.
+fn expect_bad_lines<H: AllocGlobal + Abort>(rt: &H, table: &Table) -> Result<(), Fail> {
     for (script, line) in BAD_LINES {
-        let is_bad = is_bad_at(rt.alloc(), &table, script, line)?;
+        let is_bad = is_bad_at(rt.alloc(), table, script, line)?;
         assert!(rt; is_bad, "{script}");
     }
     Ok(())
+}
+
+#[test]
+fn tells_the_first_bad_line(rt: HostRuntime) -> Result<(), Fail> {
+    let table = read_table(rt.alloc(), TABLE)?;
+    expect_bad_lines(&rt, &table)
 }
 
 /// The identity of each slave of a table.
@@ -212,15 +222,43 @@ fn said(
     Ok(printed)
 }
 
+/// What lines print over a new world of a table, in which its slaves have these identities.
+fn said_anew(
+    alloc: Global,
+    table: &Table,
+    plan: &Plan,
+    identities: &[Identity],
+    lines: &[Line],
+) -> Result<String, AllocError>
+    requires accepted { compile_fault table.now ≡ None }
+    requires plan { plan.now ≡ plan_of table.now }
+    requires one_each { length identities.now ≡ length table.now.slaves }
+{
+    let mut world = World::new(alloc, table, plan, identities)?;
+    said(alloc, &mut world, table, lines)
+}
+
+/// What lines print over a new world of a table.
+fn printed_by(
+    alloc: Global,
+    table: &Table,
+    plan: &Plan,
+    lines: &[Line],
+) -> Result<String, AllocError>
+    requires accepted { compile_fault table.now ≡ None }
+    requires plan { plan.now ≡ plan_of table.now }
+{
+    let identities = identities_of(alloc, table)?;
+    said_anew(alloc, table, plan, identities.as_slice(), lines)
+}
+
 /// What a script prints over a new world of a table.
 fn printed(alloc: Global, table: &Table, plan: &Plan, script: &str) -> Result<String, Fail>
     requires accepted { compile_fault table.now ≡ None }
     requires plan { plan.now ≡ plan_of table.now }
 {
     let lines = read_script(alloc, table, script)?;
-    let identities = identities_of(alloc, table)?;
-    let mut world = World::new(alloc, table, plan, identities.as_slice())?;
-    Ok(said(alloc, &mut world, table, lines.as_slice())?)
+    Ok(printed_by(alloc, table, plan, lines.as_slice())?)
 }
 
 /// A script in which `;` stands for the end of a line.
@@ -239,6 +277,33 @@ fn prints(alloc: Global, table: &Table, plan: &Plan, run: &(&str, &str)) -> Resu
     Ok(printed.as_str() == wanted.as_str())
 }
 
+/// Scripts over a table and its plan, each with what it prints.
+fn expect_prints<H: AllocGlobal + Abort>(
+    rt: &H,
+    table: &Table,
+    plan: &Plan,
+    runs: &[(&str, &str)],
+) -> Result<(), Fail>
+    requires accepted { compile_fault table.now ≡ None }
+    requires plan { plan.now ≡ plan_of table.now }
+{
+    for run in runs {
+        let prints = prints(rt.alloc(), table, plan, run)?;
+        assert!(rt; prints, "{}", run.0);
+    }
+    Ok(())
+}
+
+/// Scripts over a table that was read, each with what it prints.
+fn expect_runs_of<H: AllocGlobal + Abort>(
+    rt: &H,
+    table: &Table,
+    runs: &[(&str, &str)],
+) -> Result<(), Fail> {
+    let plan = compile(rt.alloc(), table)?;
+    expect_prints(rt, table, &plan, runs)
+}
+
 /// Scripts over a table, each with what it prints.
 fn expect_runs<H: AllocGlobal + Abort>(
     rt: &H,
@@ -246,12 +311,7 @@ fn expect_runs<H: AllocGlobal + Abort>(
     runs: &[(&str, &str)],
 ) -> Result<(), Fail> {
     let table = read_table(rt.alloc(), table)?;
-    let plan = compile(rt.alloc(), &table)?;
-    for run in runs {
-        let prints = prints(rt.alloc(), &table, &plan, run)?;
-        assert!(rt; prints, "{}", run.0);
-    }
-    Ok(())
+    expect_runs_of(rt, &table, runs)
 }
 
 #[test]
