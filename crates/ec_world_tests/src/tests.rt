@@ -334,12 +334,17 @@ fn expect_all_trouble(
     Ok(())
 }
 
+/// The same of a table that was read.
+fn expect_table_trouble(rt: &(impl AllocGlobal + Abort), table: &Table) -> Result<(), Fail> {
+    let plan = compile(rt.alloc(), table)?;
+    expect_all_trouble(rt, table, &plan)
+}
+
 // A frame of a start-up is lost before or after a slave's pass, or a slave is reset, or has a fault there.
 #[test]
 fn trouble_in_a_start_up(rt: HostRuntime) -> Result<(), Fail> {
     let table = read_table(rt.alloc(), TABLE)?;
-    let plan = compile(rt.alloc(), &table)?;
-    expect_all_trouble(&rt, &table, &plan)
+    expect_table_trouble(&rt, &table)
 }
 
 /// How a start-up ended, if it has.
@@ -377,6 +382,16 @@ fn expect_other_ends(
     Ok(())
 }
 
+/// The same of a table that was read.
+fn expect_table_ends(
+    rt: &(impl AllocGlobal + Abort),
+    table: &Table,
+    seen: Device,
+) -> Result<(), Fail> {
+    let plan = compile(rt.alloc(), table)?;
+    expect_other_ends(rt, table, &plan, seen)
+}
+
 // Slave 1 shows revision 2 where its type has 1, each time that a start-up reads it.
 #[test]
 fn another_revision(rt: HostRuntime) -> Result<(), Fail> {
@@ -387,6 +402,5 @@ fn another_revision(rt: HostRuntime) -> Result<(), Fail> {
     };
     assert_eq!(rt; StartError::Identity { slave: 1, seen }.number(), 27);
     let table = read_table(rt.alloc(), TABLE)?;
-    let plan = compile(rt.alloc(), &table)?;
-    expect_other_ends(&rt, &table, &plan, seen)
+    expect_table_ends(&rt, &table, seen)
 }

@@ -75,15 +75,20 @@ fn call_with(alloc: Global, call: Call, table: &Table, plan: &Plan) -> Result<An
     Ok(Answers { first, second })
 }
 
+/// Calls a function with a table and the plan that is made of it.
+fn call_over(alloc: Global, call: Call, table: &Table) -> Result<Answers, AllocError> {
+    let Ok(plan) = compile(alloc, table) else {
+        return Err(AllocError);
+    };
+    call_with(alloc, call, table, &plan)
+}
+
 /// Calls a function, and once more if it was refused. The error says that memory was refused before a call.
 fn call_twice(alloc: Global, call: Call) -> Result<Answers, AllocError> {
     let Ok(table) = read_table(alloc, TABLE) else {
         return Err(AllocError);
     };
-    let Ok(plan) = compile(alloc, &table) else {
-        return Err(AllocError);
-    };
-    call_with(alloc, call, &table, &plan)
+    call_over(alloc, call, &table)
 }
 
 /// Prints an answer behind what the line has.

@@ -159,6 +159,21 @@ fn live_each(
     Ok(())
 }
 
+/// The worlds of a table that was read. A table without a plan is wrong.
+fn live_over(
+    alloc: Global,
+    table: &Table,
+    random: &mut Random,
+    events: u64,
+    sum: &mut Sum,
+) -> Result<(), AllocError> {
+    let Ok(plan) = compile(alloc, table) else {
+        sum.is_right = false;
+        return Ok(());
+    };
+    live_each(alloc, table, &plan, random, events, sum)
+}
+
 /// The worlds of a text. A text that is no table is wrong.
 fn live_all(
     alloc: Global,
@@ -171,11 +186,7 @@ fn live_all(
         sum.is_right = false;
         return Ok(());
     };
-    let Ok(plan) = compile(alloc, &table) else {
-        sum.is_right = false;
-        return Ok(());
-    };
-    live_each(alloc, &table, &plan, random, events, sum)
+    live_over(alloc, &table, random, events, sum)
 }
 
 /// All tables.

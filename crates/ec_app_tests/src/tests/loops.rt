@@ -91,11 +91,20 @@ fn run_failing(
     Ok((ended, output))
 }
 
+/// The same of a table that was read.
+fn fail_over(
+    alloc: Global,
+    table: &Table,
+    fails_at: u64,
+) -> Result<(Result<(), Refusal>, Vec<u8>), Fail> {
+    let plan = compile(alloc, table)?;
+    run_failing(alloc, table, &plan, fails_at)
+}
+
 /// The same of the three slaves.
 fn fail_at(alloc: Global, fails_at: u64) -> Result<(Result<(), Refusal>, Vec<u8>), Fail> {
     let table = read_table(alloc, THREE_SLAVES)?;
-    let plan = compile(alloc, &table)?;
-    run_failing(alloc, &table, &plan, fails_at)
+    fail_over(alloc, &table, fails_at)
 }
 
 /// The call of the wire that fails, how a run of two cycles then ends, and what it has printed.

@@ -59,9 +59,18 @@ fn answers_of(
     Ok((plan_text(alloc, table.version(), plan)?, printed))
 }
 
+/// The same of a table that was read.
+fn answers_of_table(
+    alloc: Global,
+    table: &Table,
+    script: &str,
+) -> Result<(String, String), Refusal> {
+    let plan = compile(alloc, table)?;
+    answers_of(alloc, table, &plan, script)
+}
+
 /// The same of the table that a text states.
 pub fn answers(alloc: Global, table: &str, script: &str) -> Result<(String, String), Refusal> {
     let table = read_table(alloc, table)?;
-    let plan = compile(alloc, &table)?;
-    answers_of(alloc, &table, &plan, script)
+    answers_of_table(alloc, &table, script)
 }

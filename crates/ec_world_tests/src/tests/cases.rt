@@ -186,11 +186,20 @@ fn expect_cases_of(
     Ok(())
 }
 
+/// The same of a table that was read.
+fn expect_table_cases(
+    rt: &(impl AllocGlobal + Abort),
+    table: &Table,
+    cases: &[Case],
+) -> Result<(), Fail> {
+    let plan = compile(rt.alloc(), table)?;
+    expect_cases_of(rt, table, &plan, cases)
+}
+
 /// Expects of new worlds of a table what the cases say.
 fn expect_cases(rt: &(impl AllocGlobal + Abort), text: &str, cases: &[Case]) -> Result<(), Fail> {
     let table = read_table(rt.alloc(), text)?;
-    let plan = compile(rt.alloc(), &table)?;
-    expect_cases_of(rt, &table, &plan, cases)
+    expect_table_cases(rt, &table, cases)
 }
 
 #[test]

@@ -221,6 +221,16 @@ fn expect_steps_of(
     Ok(())
 }
 
+/// Takes all steps with a new world of a table that was read.
+fn expect_table_steps(
+    rt: &(impl AllocGlobal + Abort),
+    table: &Table,
+    steps: &[Step],
+) -> Result<(), Fail> {
+    let plan = compile(rt.alloc(), table)?;
+    expect_steps_of(rt, table, &plan, steps)
+}
+
 /// Takes all steps with a new world of a table, in their order.
 pub fn expect_steps(
     rt: &(impl AllocGlobal + Abort),
@@ -228,6 +238,5 @@ pub fn expect_steps(
     steps: &[Step],
 ) -> Result<(), Fail> {
     let table = read_table(rt.alloc(), text)?;
-    let plan = compile(rt.alloc(), &table)?;
-    expect_steps_of(rt, &table, &plan, steps)
+    expect_table_steps(rt, &table, steps)
 }
