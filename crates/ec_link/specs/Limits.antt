@@ -1,6 +1,7 @@
 -- What private code keeps of the numbers and places that it counts with; none of it is needed to read what a plan is.
 use Rattle.std.specs.Prelude.{ℕ, ◌+◌, ◌≡◌, ◌<◌, ◌≤◌, ◌^◌, Bool, false, List, length, get_or, All, Option, Some, None, Result, Ok, Err}
 use Rattle.ec_table.specs.declared.rows.VariableRow.{VariableRow}
+use Rattle.ec_table.specs.Contents.{Contents}
 use Rattle.ec_link.specs.declared.entries.Run.{Run}
 use Rattle.ec_link.specs.declared.sizes.Size.{Size}
 use Rattle.ec_link.specs.declared.layout.Part.{Part}
@@ -13,6 +14,7 @@ use Rattle.ec_link.specs.declared.fault.LinkError.{LinkError}
 use Rattle.ec_link.specs.declared.fault.LinkError.TheVariants.{Memory}
 use Rattle.ec_link.specs.Layout.{part_so_far, seat_at, is_unit_of}
 use Rattle.ec_link.specs.Plan.{logical_from}
+use Rattle.ec_link.specs.Faults.{◌orelse◌, slave_fault, part_fault, memory_fault, variable_fault}
 
 -- within what a slave can have
 pub record IsShort (r : Run) : Type 0 where
@@ -64,3 +66,11 @@ Tested (Err g) f = f ≡ Some g
 pub record AreUsedUnits (zs : List Size) (used : List Bool) : Type 0 where
   pub as_many : length used ≡ 64
   pub each : (unit : ℕ) → unit < 64 → get_or used unit false ≡ is_unit_of zs unit
+
+-- the first fault that is left to find once there is none of the links and of the slaves
+abbrev pub fault_of_layout : Contents → Option LinkFault
+fault_of_layout t = part_fault t orelse memory_fault t orelse variable_fault t
+
+-- the first that is left once there is none of the links
+abbrev pub fault_of_slaves : Contents → Option LinkFault
+fault_of_slaves t = slave_fault t orelse fault_of_layout t
