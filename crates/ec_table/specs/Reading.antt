@@ -118,15 +118,20 @@ slave_element v types n d found =
 
 -- ---- variables
 
+-- the variable of this name that an element states, where no other has it
+abbrev pub variable_named : Place → Members → List ℕ → Bool → Result VariableRow Fault
+variable_named p ms name is_taken = do
+  direction ← direction_in p (get_member (codes "dir") ms)
+  bits ← number_in p 1 64 (get_member (codes "bits") ms)
+  _ ← must (not is_taken) (TwiceNamed p)
+  Ok (record { name = name; direction = direction; bits = bits })
+
 -- the variable that an element states, after those found
 unfoldable pub variable_at : Version → Place → Members → List VariableRow → Result VariableRow Fault
 variable_at v p ms found = do
   _ ← must (keys_are shape.Variable v ms) (BadKey p)
   name ← name_in p (get_member (codes "name") ms)
-  direction ← direction_in p (get_member (codes "dir") ms)
-  bits ← number_in p 1 64 (get_member (codes "bits") ms)
-  _ ← must (not (is_named (λ (w : VariableRow). w.name) name found)) (TwiceNamed p)
-  Ok (record { name = name; direction = direction; bits = bits })
+  variable_named p ms name (is_named (λ (w : VariableRow). w.name) name found)
 
 abbrev pub variable_element : Version → ℕ → Data → List VariableRow → Result VariableRow Fault
 variable_element v n d found =

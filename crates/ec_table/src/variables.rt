@@ -1,7 +1,7 @@
-ghost use Rattle.std.specs.Prelude.{[]};
+ghost use Rattle.std.specs.Prelude.{◌≡◌, [], false, IfOk, OnOk};
 ghost use Rattle.toml.specs.View.{view, table_view, items_view};
 ghost use Rattle.ec_table.specs.InOrder.{Gives, one_more, rows_after};
-ghost use Rattle.ec_table.specs.Reading.{variable_at, variable_element};
+ghost use Rattle.ec_table.specs.Reading.{variable_at, variable_element, variable_named};
 
 use crate::fault::{Fault, Place, Section, TableError};
 use crate::fields::{Shape, direction_in, keys_are, member, name_in, number_in};
@@ -12,6 +12,31 @@ use toml::Value;
 
 impl Named for VariableRow {
     ghost name = { λ w. w.name };
+}
+
+/// The variable of this name that an element states; whether another variable has the name.
+fn variable_named(
+    alloc: Global,
+    place: Place,
+    members: &toml::Table,
+    name: &str,
+    is_taken: bool,
+) -> Result<VariableRow, TableError>
+    ensures value { Gives result
+        (variable_named place (table_view members.now) name.now is_taken) }
+    ensures name { IfOk result (λ w. w.name ≡ name.now) }
+    ensures fresh { OnOk result (is_taken ≡ false) }
+{
+    let direction = direction_in(place, member(members, "dir"))?;
+    let bits = number_in(place, member(members, "bits"), 1, 64)?;
+    if is_taken {
+        return Err(TableError::Refused(Fault::TwiceNamed(place)));
+    }
+    Ok(VariableRow {
+        name: Name::new(alloc, name)?,
+        direction,
+        bits: bits as u8,
+    })
 }
 
 /// The variables found, and the one that an element states behind them.
@@ -30,16 +55,8 @@ fn with_variable<'a>(
         return Err(TableError::Refused(Fault::BadKey(place)));
     }
     let name = name_in(place, member(members, "name"))?;
-    let direction = direction_in(place, member(members, "dir"))?;
-    let bits = number_in(place, member(members, "bits"), 1, 64)?;
-    if found.has(name) {
-        return Err(TableError::Refused(Fault::TwiceNamed(place)));
-    }
-    let row = VariableRow {
-        name: Name::new(alloc, name)?,
-        direction,
-        bits: bits as u8,
-    };
+    let is_taken = found.has(name);
+    let row = variable_named(alloc, place, members, name, is_taken)?;
     Ok(found.with(name, row)?)
 }
 
