@@ -27,7 +27,7 @@ pub(crate) fn slaves_of(alloc: Global, plan: &Plan) -> Result<Ring, AllocError> 
 }
 
 /// The slaves of a table that was read, as they are switched on.
-fn slaves_of_rows(alloc: Global, table: &Table) -> Result<Ring, Refusal>
+fn slaves_of_table(alloc: Global, table: &Table) -> Result<Ring, Refusal>
     ensures { IfErr result (IsLinkRefusal table.now) }
 {
     let plan = compile(alloc, table)?;
@@ -35,9 +35,9 @@ fn slaves_of_rows(alloc: Global, table: &Table) -> Result<Ring, Refusal>
 }
 
 /// The slaves of the table that the text states, as they are switched on.
-pub(crate) fn slaves_of_table(alloc: Global, text: &str) -> Result<Ring, Refusal>
+pub(crate) fn slaves_of_text(alloc: Global, text: &str) -> Result<Ring, Refusal>
     ensures { IfErr result (IsTableRefusal text.now) }
 {
     let table = read_table(alloc, text)?;
-    slaves_of_rows(alloc, &table)
+    slaves_of_table(alloc, &table)
 }

@@ -7,7 +7,7 @@ ghost use Rattle.ec_app.specs.Serving.{IsNoted, RunsSegment, listening_line, ser
 use crate::Refusal;
 use crate::digits::push_number;
 use crate::input::read_text;
-use crate::machine::slaves_of_table;
+use crate::machine::slaves_of_text;
 use crate::printing::print_text;
 use arrayvec::ArrayString;
 use ec_wire::{App, Served, UdpWire, serve_segment};
@@ -77,7 +77,7 @@ pub fn print_segment<H: AllocGlobal + Net, R: Read, W: Write, F: Write>(
     ensures noted { IsNoted port (F.contents faults.old) (F.contents faults.new) }
 {
     let text = read_text(rt.alloc(), input)?;
-    let mut slaves = slaves_of_table(rt.alloc(), text.as_str())?;
+    let mut slaves = slaves_of_text(rt.alloc(), text.as_str())?;
     let mut wire = UdpWire::bind(rt, port)?;
     tell_listening(port, faults);
     let counts = serve_segment(&mut slaves, app, &mut wire, frames)?;
