@@ -204,6 +204,26 @@ fn input_lines(alloc: Global, table: &Table, master: &Master<'_>) -> Result<Stri
     Ok(text)
 }
 
+/// Runs so many cycles with a master whose slaves are up, and prints what `run_loop` does.
+fn run_started<W: Wire, O: Write>(
+    alloc: Global,
+    table: &Table,
+    plan: &Plan,
+    master: &mut Master<'_>,
+    wire: &mut W,
+    cycles: u16,
+    output: &mut O,
+) -> Result<(), Refusal>
+    requires plan { plan.now ≡ plan_of table.now }
+    requires ready { CanCycle plan.now master.old }
+    requires up { IsUp table.now master.old }
+    ensures { Loops cycles table.now (O.contents output.old) (O.contents output.new) result }
+{
+    print_cycles(alloc, table, plan, master, wire, cycles, output)?;
+    let lines = input_lines(alloc, table, master)?;
+    print_text(lines.as_bytes(), output)
+}
+
 /// Brings the slaves on a wire up and runs so many cycles of a table's plan over it. In the n-th cycle each output
 /// variable is sent as n, as far as it has bits. It prints a line when the slaves are up, the report on each cycle before
 /// the next begins, and at the end the input variables.
@@ -225,9 +245,7 @@ pub fn run_loop<W: Wire, O: Write>(
     ensures { Loops cycles table.now (O.contents output.old) (O.contents output.new) result }
 {
     let mut master = started(alloc, table, plan, wire)?;
-    print_cycles(alloc, table, plan, &mut master, wire, cycles, output)?;
-    let lines = input_lines(alloc, table, &master)?;
-    print_text(lines.as_bytes(), output)
+    run_started(alloc, table, plan, &mut master, wire, cycles, output)
 }
 
 /// Runs cycles of a table's plan over two sockets.

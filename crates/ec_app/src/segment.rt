@@ -6,8 +6,7 @@ ghost use Rattle.ec_app.specs.Serving.{IsNoted, RunsSegment, listening_line, ser
 
 use crate::Refusal;
 use crate::digits::push_number;
-use crate::input::read_text;
-use crate::machine::slaves_of_text;
+use crate::machine::slaves_of_input;
 use crate::printing::print_text;
 use arrayvec::ArrayString;
 use ec_wire::{App, Served, UdpWire, serve_segment};
@@ -76,8 +75,7 @@ pub fn print_segment<H: AllocGlobal + Net, R: Read, W: Write, F: Write>(
     ensures runs { RunsSegment frames (R.remaining input.old) (W.contents output.old) (W.contents output.new) result }
     ensures noted { IsNoted port (F.contents faults.old) (F.contents faults.new) }
 {
-    let text = read_text(rt.alloc(), input)?;
-    let mut slaves = slaves_of_text(rt.alloc(), text.as_str())?;
+    let mut slaves = slaves_of_input(rt.alloc(), input)?;
     let mut wire = UdpWire::bind(rt, port)?;
     tell_listening(port, faults);
     let counts = serve_segment(&mut slaves, app, &mut wire, frames)?;

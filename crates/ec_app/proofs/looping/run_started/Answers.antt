@@ -1,6 +1,6 @@
 use Rattle.std.proofs.Common.{◌∙◌, refl}
 use Rattle.ec_app.proofs.LoopLemmas.{loop_shown, loop_unshown}
-use Rattle.ec_app.proofs.looping.run_loop.Goals as goal
+use Rattle.ec_app.proofs.looping.run_started.Goals as goal
 
 pub returns-in_err-lines : goal.returns-in_err-lines
 returns-in_err-lines g c =
