@@ -1,12 +1,13 @@
-ghost use Rattle.std.specs.Prelude.{◌≡◌, ◌<◌, List, length, slice_get, Option, Some, None, IfOk, option_map, false};
+ghost use Rattle.std.specs.Prelude.{◌≡◌, ◌<◌, All, List, length, slice_get, Option, Some, None, IfOk, option_map, false};
 ghost use Rattle.ec_regs.specs.declared.slave_type.Identity.{Identity};
 ghost use Rattle.ec_slave.specs.Application.{outputs_shown};
 ghost use Rattle.ec_table.specs.Contents.{Contents};
 ghost use Rattle.ec_link.specs.Faults.{compile_fault};
 ghost use Rattle.ec_link.specs.Plan.{plan_of};
 ghost use Rattle.ec_link.specs.Usable.{IsUsable};
-ghost use Rattle.ec_start.specs.Running.{outcome_of};
-ghost use Rattle.ec_cycle.specs.Master.{value_at};
+ghost use Rattle.ec_start.specs.Planned.{HasFewAssigned};
+ghost use Rattle.ec_start.specs.Running.{begun, outcome_of};
+ghost use Rattle.ec_cycle.specs.Master.{new_master, value_at};
 ghost use Rattle.ec_world.specs.Laws.{IsRun, StepShows, RunShows};
 ghost use Rattle.ec_world.specs.NewWorld.{IsUndisturbed, ComesUp};
 ghost use Rattle.ec_world.specs.Whole.{IsNew, Told, no_trouble, switched_on};
@@ -80,6 +81,18 @@ fn switched_on(
     Ok(all)
 }
 
+/// The two ends of a plan's frames: a start-up whose first frame has number 0, and a master whose image is all 0.
+fn ends_of<'p>(alloc: Global, plan: &'p Plan) -> Result<(Startup, Master<'p>), AllocError>
+    requires few { All HasFewAssigned plan.now.slaves }
+    requires usable { IsUsable plan.now }
+    ensures start { IfOk result (λ ends. ends.0 ≡ begun plan.now.slaves 0) }
+    ensures master { IfOk result (λ ends. ends.1 ≡ new_master plan.now) }
+{
+    let start = Startup::new(alloc, plan, 0)?;
+    let master = Master::new(alloc, plan)?;
+    Ok((start, master))
+}
+
 impl<'p> World<'p> {
     /// The world of a table: its slaves as they are switched on, with these identities in the order of the table; a start-up
     /// whose first frame has number 0; a master whose image is all 0; and 64 slots without a frame. The plan is the one that
@@ -100,10 +113,9 @@ impl<'p> World<'p> {
         ensures { IfOk result (IsNew table.now identities.now) }
     {
         let _version = table.version();
-        let start = Startup::new(alloc, plan, 0)?;
-        let master = Master::new(alloc, plan)?;
         let ring = Ring::new(switched_on(alloc, plan.slaves(), identities)?);
         let slots = Slots::new(alloc, SLOTS)?;
+        let (start, master) = ends_of(alloc, plan)?;
         Ok(World {
             plan,
             start,

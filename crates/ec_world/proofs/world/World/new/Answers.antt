@@ -3,11 +3,11 @@ use Rattle.ec_link.specs.declared.settings.Settings.{Settings}
 use Rattle.ec_world.proofs.Newly.{usable-of, few-of, slaves-of}
 use Rattle.ec_world.proofs.world.World.new.Goals as goal
 
-pub new-requires : goal.new-requires
-new-requires c = few-of c.args.table.now c.args.plan.now c.version-version.ensures.sound c.requires.accepted c.requires.plan
+pub ends_of-requires-clause-few : goal.ends_of-requires-clause-few
+ends_of-requires-clause-few c = few-of c.args.table.now c.args.plan.now c.version-version.ensures.sound c.requires.accepted c.requires.plan
 
-pub new-requires-2 : goal.new-requires-2
-new-requires-2 c = usable-of c.args.table.now c.args.plan.now c.version-version.ensures.sound c.requires.accepted c.requires.plan
+pub ends_of-requires-clause-usable : goal.ends_of-requires-clause-usable
+ends_of-requires-clause-usable c = usable-of c.args.table.now c.args.plan.now c.version-version.ensures.sound c.requires.accepted c.requires.plan
 
 pub switched_on-requires : goal.switched_on-requires
 switched_on-requires c =
