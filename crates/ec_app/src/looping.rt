@@ -1,10 +1,12 @@
 //! `ecat loop`: cycles of a link table over two sockets of this process.
-ghost use Rattle.std.specs.Prelude.{◌≡◌, ◌≤◌, ◌<◌, ◌++◌, ◌%◌, ◌^◌, ℕ, List, None, Some, Ok, IfErr, IfOk, OnOk, length, slice_get};
+ghost use Rattle.std.specs.Prelude.{◌≡◌, ◌≤◌, ◌<◌, ◌++◌, ◌%◌, ◌^◌, ℕ, List, All, None, Some, Ok, IfErr, IfOk, OnOk, length, slice_get};
 ghost use Rattle.std.specs.Io.KnownBytes.{Appends};
 ghost use Rattle.std.specs.String.{string_bytes};
 ghost use Rattle.ec_link.specs.Faults.{compile_fault};
 ghost use Rattle.ec_link.specs.Plan.{plan_of};
+ghost use Rattle.ec_start.specs.Planned.{HasFewAssigned};
 ghost use Rattle.ec_cycle.specs.Closing.{ReportState};
+ghost use Rattle.ec_cycle.specs.Master.{readied};
 ghost use Rattle.ec_wire.specs.Running.{IsRun};
 ghost use Rattle.ec_script.specs.Texts.{report_text};
 ghost use Rattle.ec_text.specs.PlanText.{lines_from};
@@ -63,6 +65,24 @@ fn set_outputs(master: &mut Master<'_>, plan: &Plan, number: u64)
     }
 }
 
+/// Brings the slaves of a master's plan up over a wire; the master can begin cycles then.
+fn bring_up_for<W: Wire>(
+    alloc: Global,
+    plan: &Plan,
+    master: &mut Master<'_>,
+    wire: &mut W,
+) -> Result<(), Refusal>
+    requires { All HasFewAssigned plan.now.slaves }
+    ensures ready { OnOk result ((next : ℕ) × (master.new ≡ readied master.old next)) }
+    ensures refused { IfErr result IsStartRefusal }
+{
+    let mut startup = Startup::new(alloc, plan, 0)?;
+    bring_up_wire(&mut startup, wire);
+    startup.outcome().unwrap()?;
+    master.ready(&startup);
+    Ok(())
+}
+
 /// A master whose slaves were brought up over a wire.
 fn started<'p, W: Wire>(
     alloc: Global,
@@ -78,10 +98,7 @@ fn started<'p, W: Wire>(
 {
     let _version = table.version();
     let mut master = Master::new(alloc, plan)?;
-    let mut startup = Startup::new(alloc, plan, 0)?;
-    bring_up_wire(&mut startup, wire);
-    startup.outcome().unwrap()?;
-    master.ready(&startup);
+    bring_up_for(alloc, plan, &mut master, wire)?;
     Ok(master)
 }
 
