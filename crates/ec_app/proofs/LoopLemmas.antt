@@ -32,7 +32,8 @@ use Rattle.ec_script.specs.Texts.{report_text}
 use Rattle.ec_script.proofs.Lines.{lines_more, lines_all}
 use Rattle.ec_app.specs.declared.refusal.Refusal.{Refusal}
 use Rattle.ec_app.specs.declared.refusal.Refusal.TheVariants as refusal
-use Rattle.ec_app.specs.Looping.{AreRun, CanCycle, CutShort, HaveRun, IsCycleRefusal, IsRunEnd, IsSoFar, IsStartRefusal, IsUp, Loops, LoopsOnSockets, LoopsTable, LoopsText, cycles_text, inputs_text, output_put, outputs_put, ready_line, shown, with_outputs}
+use Rattle.ec_app.specs.Looping.{AreRun, CanCycle, CutShort, HaveRun, IsCycleRefusal, IsRunEnd, IsSoFar, IsStartRefusal, IsUp, Loops, LoopsOnSockets, LoopsText, cycles_text, inputs_text, output_put, outputs_put, ready_line, shown, with_outputs}
+use Rattle.ec_app.specs.Stages.{LoopsTable}
 use Rattle.ec_app.specs.Planning.{IsTableRefusal}
 use Rattle.ec_app.specs.Printing.{AppendsPart}
 use Rattle.ec_app.proofs.PlanLemmas.{of_table}

@@ -10,7 +10,8 @@ use Rattle.ec_text.specs.PlanText.{plan_text}
 use Rattle.ec_app.specs.declared.refusal.Refusal.{Refusal}
 use Rattle.ec_app.specs.declared.refusal.Refusal.TheVariants as refusal
 use Rattle.ec_app.specs.declared.refusal.Refusal.TheVariants.{Memory, Table, Link}
-use Rattle.ec_app.specs.Planning.{IsLinkRefusal, IsShown, IsTableRefusal}
+use Rattle.ec_app.specs.Planning.{IsShown, IsTableRefusal}
+use Rattle.ec_app.specs.Stages.{IsLinkRefusal}
 
 -- also where a call passes the fault on
 pub table_refused : {T : Type 0} (r : Result T Refusal) (text : List ℕ) (error : TableError)

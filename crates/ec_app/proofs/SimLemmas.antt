@@ -18,8 +18,8 @@ use Rattle.ec_app.specs.declared.refusal.Refusal.{Refusal}
 use Rattle.ec_app.specs.declared.refusal.Refusal.TheVariants as refusal
 use Rattle.ec_app.specs.declared.refusal.Refusal.TheVariants.{Memory}
 use Rattle.ec_app.specs.Printing.{AppendsPart}
-use Rattle.ec_app.specs.Planning.{IsLinkRefusal}
-use Rattle.ec_app.specs.Simulating.{BeginsAs, IsBadScript, IsHalfRefusal, IsLate, IsSimRefusal, IsSimulation, PrintsLines, PrintsSome, RunsHalves, RunsLines, RunsText, Says}
+use Rattle.ec_app.specs.Stages.{IsBadScript, IsLinkRefusal, RunsHalves}
+use Rattle.ec_app.specs.Simulating.{BeginsAs, IsHalfRefusal, IsLate, IsSimRefusal, IsSimulation, PrintsLines, PrintsSome, RunsLines, RunsText, Says}
 use Rattle.ec_app.proofs.PrintLemmas.{appends_more, appends_nothing}
 
 -- the first i lines are said, and the world is as they left it

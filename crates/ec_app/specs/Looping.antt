@@ -23,7 +23,7 @@ use Rattle.ec_text.specs.PlanText.{lines_from, newline}
 use Rattle.ec_script.specs.Texts.{report_text}
 use Rattle.ec_app.specs.declared.refusal.Refusal.{Refusal}
 use Rattle.ec_app.specs.declared.refusal.Refusal.TheVariants.{Memory, Start, Run, Socket, Output}
-use Rattle.ec_app.specs.Planning.{GivesText, IsInputRefusal, IsLinkRefusal, IsTableRefusal}
+use Rattle.ec_app.specs.Planning.{GivesText, IsInputRefusal, IsTableRefusal}
 use Rattle.ec_app.specs.Printing.{AppendsPart}
 
 -- ---- lines
@@ -132,12 +132,6 @@ Loops cycles t old new (Err refusal) =
 -- the same over sockets, where there may be none
 abbrev pub LoopsOnSockets : ℕ → Contents → Option (List ℕ) → Option (List ℕ) → Result Unit Refusal → Type 0
 LoopsOnSockets cycles t old new ended = Loops cycles t old new ended ⊎ ((ended ≡ Err Socket) × (new ≡ old))
-
--- those of a table that was read; or it is refused, or there is no socket
-abbrev pub LoopsTable : ℕ → Contents → Option (List ℕ) → Option (List ℕ) → Result Unit Refusal → Type 0
-LoopsTable cycles t old new ended =
-    ((compile_fault t ≡ None) × Loops cycles t old new ended)
-    ⊎ ((refusal : Refusal) × (ended ≡ Err refusal) × (IsLinkRefusal t refusal ⊎ (refusal ≡ Socket)) × (new ≡ old))
 
 -- those of the table that a text states; or it is refused, or there is no socket
 abbrev pub LoopsText : ℕ → List ℕ → Option (List ℕ) → Option (List ℕ) → Result Unit Refusal → Type 0

@@ -27,12 +27,6 @@ IsTableRefusal text (Table error) = TableFails error (table_of text)
 IsTableRefusal text (Link error) = (table : Contents) × (table_of text ≡ Ok table) × LinkFails error (compile_fault table)
 IsTableRefusal text _ = ⊥
 
--- the first fault of a table that was read
-abbrev pub IsLinkRefusal : Contents → Refusal → Type 0
-IsLinkRefusal table Memory = Unit {0}
-IsLinkRefusal table (Link error) = LinkFails error (compile_fault table)
-IsLinkRefusal table _ = ⊥
-
 -- the plan in its fixed form; of a plan that is explained, the text is free
 abbrev pub IsShown : Bool → Contents → List ℕ → Type 0
 IsShown false table answer = answer ≡ plan_text table.version (plan_of table)

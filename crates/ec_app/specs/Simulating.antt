@@ -20,7 +20,7 @@ use Rattle.ec_script.specs.Texts.{said_text}
 use Rattle.ec_script.specs.Work.{Does, is_done}
 use Rattle.ec_app.specs.declared.refusal.Refusal.{Refusal}
 use Rattle.ec_app.specs.declared.refusal.Refusal.TheVariants.{Memory, Output, Script}
-use Rattle.ec_app.specs.Planning.{GivesText, IsInputRefusal, IsLinkRefusal, IsTableRefusal}
+use Rattle.ec_app.specs.Planning.{GivesText, IsInputRefusal, IsTableRefusal}
 use Rattle.ec_app.specs.Printing.{AppendsPart}
 
 -- ---- lines
@@ -85,24 +85,6 @@ IsHalfRefusal table script refusal = IsTableRefusal table refusal
 
 abbrev pub IsSimRefusal : List ℕ → Refusal → Type 0
 IsSimRefusal text refusal = (table : List ℕ) × (script : List ℕ) × Splits text table script × IsHalfRefusal table script refusal
-
--- the first bad line of a script
-abbrev pub IsBadScript : Contents → List ℕ → Refusal → Type 0
-IsBadScript t script Memory = Unit {0}
-IsBadScript t script (Script error) = ScriptFails error (script_of t.variables script)
-IsBadScript t script _ = ⊥
-
--- a script is read and run over slaves of a table that has a plan; or it is refused
-abbrev pub RunsScript : Contents → List ℕ → Option (List ℕ) → Option (List ℕ) → Result Unit Refusal → Type 0
-RunsScript t script old new ended =
-    ((lines : List Line) × (script_of t.variables script ≡ Ok lines) × RunsLines t lines old new ended)
-    ⊎ ((refusal : Refusal) × (ended ≡ Err refusal) × IsBadScript t script refusal × (new ≡ old))
-
--- the same of a table that was read; or it has a fault
-abbrev pub RunsHalves : Contents → List ℕ → Option (List ℕ) → Option (List ℕ) → Result Unit Refusal → Type 0
-RunsHalves t script old new ended =
-    ((compile_fault t ≡ None) × RunsScript t script old new ended)
-    ⊎ ((refusal : Refusal) × (ended ≡ Err refusal) × IsLinkRefusal t refusal × (new ≡ old))
 
 -- the run of a text's script is printed line by line
 pub record Simulates (text : List ℕ) (Printed : Contents → WorldState → List Line → Type 0) : Type 0 where

@@ -10,7 +10,8 @@ ghost use Rattle.ec_cycle.specs.Master.{readied};
 ghost use Rattle.ec_wire.specs.Running.{IsRun};
 ghost use Rattle.ec_script.specs.Texts.{report_text};
 ghost use Rattle.ec_text.specs.PlanText.{lines_from};
-ghost use Rattle.ec_app.specs.Looping.{CanCycle, CutShort, HaveRun, IsCycleRefusal, IsRunEnd, IsSoFar, IsStartRefusal, IsUp, Loops, LoopsOnSockets, LoopsTable, LoopsText, RunsLoop, cycles_text, input_line, inputs_text, output_put, shown, with_outputs};
+ghost use Rattle.ec_app.specs.Looping.{CanCycle, CutShort, HaveRun, IsCycleRefusal, IsRunEnd, IsSoFar, IsStartRefusal, IsUp, Loops, LoopsOnSockets, LoopsText, RunsLoop, cycles_text, input_line, inputs_text, output_put, shown, with_outputs};
+ghost use Rattle.ec_app.specs.Stages.{LoopsTable};
 
 use crate::Refusal;
 use crate::input::read_text;

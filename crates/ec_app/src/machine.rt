@@ -1,6 +1,7 @@
 //! The machine that a link table on the input states.
 ghost use Rattle.std.specs.Prelude.{IfErr};
-ghost use Rattle.ec_app.specs.Planning.{IsLinkRefusal, IsTableRefusal, RefusesPlan};
+ghost use Rattle.ec_app.specs.Planning.{IsTableRefusal, RefusesPlan};
+ghost use Rattle.ec_app.specs.Stages.{IsLinkRefusal};
 
 use crate::Refusal;
 use crate::input::read_text;

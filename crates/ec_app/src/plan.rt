@@ -1,7 +1,8 @@
 //! `ecat plan`: a link table on the input, and its plan.
 ghost use Rattle.std.specs.Prelude.{◌≡◌, None, IfErr, IfOk, OnOk};
 ghost use Rattle.std.specs.String.{string_bytes};
-ghost use Rattle.ec_app.specs.Planning.{IsLinkRefusal, IsPlanAnswer, IsShown, IsTableRefusal, RunsPlan};
+ghost use Rattle.ec_app.specs.Planning.{IsPlanAnswer, IsShown, IsTableRefusal, RunsPlan};
+ghost use Rattle.ec_app.specs.Stages.{IsLinkRefusal};
 ghost use Rattle.ec_link.specs.Faults.{compile_fault};
 ghost use Rattle.ec_link.specs.Plan.{plan_of};
 

@@ -2,7 +2,8 @@
 ghost use Rattle.std.specs.Prelude.{◌≡◌, IfErr, IfOk, None, OnErr, OnOk};
 ghost use Rattle.ec_link.specs.Faults.{compile_fault};
 ghost use Rattle.ec_link.specs.Plan.{plan_of};
-ghost use Rattle.ec_app.specs.Simulating.{AreIdentities, IsLate, PrintsLines, PrintsSome, RunsHalves, RunsLines, RunsScript, RunsSim, RunsText};
+ghost use Rattle.ec_app.specs.Simulating.{AreIdentities, IsLate, PrintsLines, PrintsSome, RunsLines, RunsSim, RunsText};
+ghost use Rattle.ec_app.specs.Stages.{RunsHalves, RunsScript};
 
 use crate::Refusal;
 use crate::input::read_text;
