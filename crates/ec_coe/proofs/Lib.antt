@@ -6,3 +6,4 @@ pub mod Assigning
 pub mod Written
 pub mod Effects
 pub mod Keeping
+pub mod Aborts

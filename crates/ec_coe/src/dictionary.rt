@@ -92,7 +92,7 @@ impl Dictionary {
     ///
     /// # Errors
     ///
-    /// `AllocError` where there is no memory.
+    /// `AllocError` where there is no memory. The type is lost then: who needs it again copies it before.
     pub fn new(alloc: Global, kind: SlaveType, identity: Identity) -> Result<Dictionary, AllocError>
         ensures { IfOk result (λ d. d ≡ new_dictionary kind identity) }
     {
@@ -195,7 +195,8 @@ impl Dictionary {
     }
 
     /// A download to an index and a subindex. The objects that assign PDOs alone take any, and only in PREOP: a count of
-    /// slots, and while that is 0 the slots.
+    /// slots, and while that is 0 the slots. The caller knows that the value has no more bits than its size says, as each has
+    /// that `Value::of`, `byte`, `word` or `long` makes.
     ///
     /// # Errors
     ///
@@ -231,7 +232,8 @@ impl Dictionary {
     }
 
     /// The reply to a request, with this counter; the counter of the request is not looked at. The reply is a response with
-    /// the index and the subindex of the request, or an abort.
+    /// the index and the subindex of the request, or an abort. The caller knows that the counter is below 8; the request may
+    /// be any value of its type.
     #[tactic(auto, unfolding(crate::specs::Answers::answered))]
     pub fn answer(&mut self, in_preop: bool, request: &Message, counter: u8) -> Message
         requires { counter < 8 }

@@ -1,7 +1,7 @@
 //! Mailbox messages with an expedited SDO, and their bytes (ETG.1000.4, "Mailbox structure"; ETG.1000.6, "CoE header" and
 //! "SDO services").
 
-ghost use Rattle.std.specs.Prelude.{◌≡◌, ◌-◌, ◌<◌, ◌++◌, length, MatchResult, Some, None};
+ghost use Rattle.std.specs.Prelude.{◌≡◌, ◌-◌, ◌<◌, ◌≤◌, ◌++◌, length, MatchResult, Some, None};
 ghost use Rattle.ec_bits.specs.Bits.{zeros};
 ghost use Rattle.ec_coe.specs.Messages.{service_number, service_of, command_number, command_of, message_bytes, message_read, message_length, IsMessage};
 
@@ -143,6 +143,10 @@ impl Command {
 
 impl Message {
     /// Its 16 bytes.
+    ///
+    /// The caller knows that the message is one that bytes can spell: its counter is below 8, its service below 16, and a
+    /// service or a command that has a name stands by it. So a counter of 8, `Service::Other(16)`, `Service::Other(2)` and
+    /// `Command::Other(0x40)` are no message, though the type has them. What `Dictionary::answer` gives is one.
     #[tactic(auto, unfolding(crate::specs::Messages::message_bytes))]
     pub fn bytes(&self) -> [u8; 16]
         requires { IsMessage self.now }
@@ -196,7 +200,18 @@ pub fn read_message(mailbox: &[u8]) -> Result<Message, BadMailbox>
     })
 }
 
-/// Writes a message to the front of a mailbox, and zeros behind it.
+/// Refuses a mailbox that is too short for a message.
+fn test_room(mailbox: &[u8]) -> Result<(), BadMailbox>
+    ensures { MatchResult result (λ _. message_length ≤ length mailbox.now) (λ _. length mailbox.now < message_length) }
+{
+    if mailbox.len() < MESSAGE_LENGTH {
+        return Err(BadMailbox);
+    }
+    Ok(())
+}
+
+/// Writes a message to the front of a mailbox, and zeros behind it. The caller knows that the message is one that bytes can
+/// spell, as `Message::bytes` says.
 ///
 /// # Errors
 ///
@@ -207,9 +222,7 @@ pub fn write_message(message: &Message, mailbox: &mut [u8]) -> Result<(), BadMai
         (λ _. mailbox.new ≡ message_bytes message.now ++ zeros (length mailbox.old - message_length))
         (λ _. (length mailbox.old < message_length) × (mailbox.new ≡ mailbox.old)) }
 {
-    if mailbox.len() < MESSAGE_LENGTH {
-        return Err(BadMailbox);
-    }
+    test_room(mailbox)?;
     mailbox.fill(0);
     mailbox[..MESSAGE_LENGTH].copy_from_slice(&message.bytes());
     Ok(())

@@ -2,6 +2,7 @@
 use Rattle.std.specs.Prelude.{◌≡◌, ◌+◌, ◌*◌, ◌<◌, ◌≤◌, ◌⊎◌, Bool, ℕ, List, ◌++◌, length}
 use Rattle.std.specs.List.{AllByRecursion}
 use Rattle.ec_frame.specs.declared.error.FrameError.{FrameError}
+use Rattle.ec_frame.specs.declared.field.TheConstants.{FRAME_HEADER_LEN, MAX_AREA, MAX_FRAME_LEN}
 use Rattle.ec_frame.specs.Datagram.{Datagram, IsDatagram, adp_of, ado_of, opened, spelling}
 use Rattle.ec_frame.specs.Decoded.{datagrams_in, datagrams_of}
 use Rattle.ec_frame.specs.Frame.{IsByte, IsFrame, Payload}
@@ -55,3 +56,11 @@ SpellingsAreReadBack =
 abbrev pub PhysicalAddressIsReadBack : Type 0
 PhysicalAddressIsReadBack =
     (d : Datagram) (adp ado : ℕ) → adp < 65536 → d.address ≡ adp + 65536 * ado → (adp_of d ≡ adp) × (ado_of d ≡ ado)
+
+-- ---- the longest frame
+
+-- A frame is the payload of UDP in one Ethernet frame (1500 bytes) behind the headers of IP (20) and of UDP (8); its own
+-- header has two bytes, and the rest is for datagrams.
+pub record ConstantsAreTheLimits : Type 0 where
+  pub frame : MAX_FRAME_LEN + 20 + 8 ≡ 1500
+  pub datagrams : FRAME_HEADER_LEN + MAX_AREA ≡ MAX_FRAME_LEN

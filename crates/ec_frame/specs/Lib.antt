@@ -1,4 +1,4 @@
--- What is to be believed, in this order: `Commands`, `Datagram` and `Frame` say which bytes are which frame, `Refusals` which are
+-- To be believed, in this order: `Commands`, `Datagram` and `Frame` say which bytes are which frame, `Refusals` which are
 -- none, and why. `Decoded` reads a frame's datagrams from its bytes, `Fields` changes one field of a datagram, `Walk` handles
 -- all datagrams of a frame in order, `Building` makes them. `Cursor` and `Parts` say where datagrams stand in a frame, and how
 -- their parts are lent.
@@ -12,10 +12,10 @@ pub mod Walk
 pub mod Building
 pub mod Cursor
 pub mod Parts
--- Other words for the same, proved.
+-- Laws: other words for the same, proved.
 pub mod Laws
--- Facts for those who write a `Handler`: its ghost members, in tests too, may cite what stands in specs alone.
+-- Private: facts for those who write a `Handler`: its ghost members, in tests too, may cite what stands in specs alone.
 pub mod Kept
--- For private code alone: no public clause cites them.
+-- Private: these serve private code alone, and no public clause cites them.
 pub mod Reading
 pub mod Built

@@ -2,7 +2,7 @@
 ghost use Rattle.ec_frame.specs.Laws.{FramesAreReadOneWay, FramesAreDecoded, DataAreBytes};
 ghost use Rattle.ec_frame.specs.Laws.{IsFrameOrRefused, NoFrameIsRefused, RefusedForOneCause};
 ghost use Rattle.ec_frame.specs.Laws.{NoSpellingBeginsAnother, SpellingsAreReadBack};
-ghost use Rattle.ec_frame.specs.Laws.{PhysicalAddressIsReadBack};
+ghost use Rattle.ec_frame.specs.Laws.{PhysicalAddressIsReadBack, ConstantsAreTheLimits};
 
 /// The bytes of a frame say one payload: one list of datagrams, one reserved bit, one rest.
 #[tactic(auto, using(crate::proofs::Verdict::one_payload))]
@@ -55,4 +55,9 @@ pub fn spellings_are_read_back()
 /// ADP and ADO are read back from the address that they make.
 pub fn physical_address_is_read_back()
     ensures { PhysicalAddressIsReadBack }
+{}
+
+/// The limits of the code are those of a UDP payload in one Ethernet frame.
+pub fn constants_are_the_limits()
+    ensures { ConstantsAreTheLimits }
 {}

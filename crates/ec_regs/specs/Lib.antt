@@ -7,4 +7,5 @@ pub mod Fmmus
 pub mod Types
 pub mod Objects
 pub mod Words
+-- Laws: the code's constants are these numbers.
 pub mod Constants

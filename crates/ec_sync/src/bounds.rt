@@ -20,7 +20,7 @@ pub struct Bounds {
 }
 
 impl Bounds {
-    /// Those of a manager with these settings.
+    /// Where the bytes of a manager lie that has these settings.
     pub fn of(settings: ManagerSettings) -> Self
         ensures { result ≡ bounds_of settings }
     {

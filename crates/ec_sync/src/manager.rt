@@ -84,7 +84,7 @@ impl Manager {
         self.is_set() && !self.is_locked
     }
 
-    /// Where its bytes lie.
+    /// Where its bytes lie in the memory, in byte addresses.
     pub fn bounds(&self) -> Bounds
         ensures { result ≡ bounds_of self.now.settings }
     {

@@ -1,0 +1,434 @@
+-- The abort that a slave answers with is the first whose cause holds.
+use Rattle.std.proofs.Common.{ℕ, zero, suc, ◌+◌, ◌<◌, ◌≤◌, ◌≡◌, ◌≢◌, ◌==◌, ◌&&◌, ◌||◌, ◌⊎◌, not, Bool, true, false, if◌then◌else◌, nat_le, refl, sym, ◌∙◌, ap, subst, inl, inr, arith, add-one, List, [], ◌∷◌, length, take, slice_get, Option, Some, None, is_some, Result, Ok, Err}
+use Rattle.std.proofs.lemmas.Option.{slice_get_within, slice_get_cases}
+use Rattle.std.proofs.lemmas.Map.Keys.{any_passes_from_place}
+use Rattle.std.proofs.lemmas.Bool.{cases_Bool, cases_lt, cases_order, false≢true, eqb-true, eqb-false, eq-eqb, ne_eqb, leb-true, leb-false, and_parts, and_cases, and_left, and_right, or_cases, or_parts, not-false, not_from_true}
+use Rattle.ec_regs.specs.declared.slave_type.Pdo.{Pdo}
+use Rattle.ec_regs.specs.Objects.{pdo_at, bits_assigned}
+use Rattle.ec_coe.specs.declared.value.Size.{Size}
+use Rattle.ec_coe.specs.declared.value.Value.{Value}
+use Rattle.ec_coe.specs.declared.message.Command.{Command}
+use Rattle.ec_coe.specs.declared.message.Command.TheVariants.{DownloadRequest, DownloadResponse, UploadRequest, UploadResponse, Abort, Other as OtherCommand}
+use Rattle.ec_coe.specs.declared.message.Service.TheVariants.{Request, Response}
+use Rattle.ec_coe.specs.declared.message.Message.{Message}
+use Rattle.ec_coe.specs.declared.abort_code.AbortCode.{AbortCode}
+use Rattle.ec_coe.specs.declared.abort_code.AbortCode.TheVariants.{InvalidCommand, ReadOnly, NoObject, WrongLength, NoSubindex, InvalidValue, WrongState}
+use Rattle.ec_coe.specs.Messages.{size_number}
+use Rattle.ec_coe.specs.Objects.{Assignment, Dictionary, output_assignment, input_assignment, object_values}
+use Rattle.ec_coe.specs.Transfers.{abort_number, value_or_abort, value_at, uploaded, contains, distinct, most_bits, takes_count, takes_value, with_value, is_open, assignment_written, with_outs, with_ins, is_assignment, written_over, downloaded}
+use Rattle.ec_coe.specs.Answers.{Answer, abort_to, upload_answer, download_answer, value_of, invalid_answer, answer_by, answered}
+use Rattle.ec_coe.specs.AbortLaw.{pdos_at, assignment_at, Downloads, HasTwice, IsBadCount, IsBadIndex, HasInvalidValue, Causes, place_in_order, IsFirstAbort, FirstAbort}
+use Rattle.ec_coe.specs.AbortLaw.IsBadCount.{TooMany, Double, TooLong}
+
+-- ---- in order
+
+abbrev code_at : ℕ → AbortCode
+code_at n =
+    if n == 0 then InvalidCommand
+    else (if n == 1 then NoObject
+    else (if n == 2 then NoSubindex
+    else (if n == 3 then ReadOnly
+    else (if n == 4 then WrongLength
+    else (if n == 5 then WrongState
+    else InvalidValue)))))
+
+at_own_place : (code : AbortCode) → code_at (place_in_order code) ≡ code
+at_own_place InvalidCommand = refl
+at_own_place NoObject = refl
+at_own_place NoSubindex = refl
+at_own_place ReadOnly = refl
+at_own_place WrongLength = refl
+at_own_place WrongState = refl
+at_own_place InvalidValue = refl
+
+low_place : (code : AbortCode) → place_in_order code < 7
+low_place InvalidCommand = omega arith
+low_place NoObject = omega arith
+low_place NoSubindex = omega arith
+low_place ReadOnly = omega arith
+low_place WrongLength = omega arith
+low_place WrongState = omega arith
+low_place InvalidValue = omega arith
+
+-- no cause of the first n holds
+record Clean (p : Bool) (d : Dictionary) (m : Message) (n : ℕ) : Type 0 where
+  none : (other : AbortCode) → Causes p d m other → place_in_order other < n → ⊥
+
+clean_none : (p : Bool) (d : Dictionary) (m : Message) → Clean p d m 0
+clean_none p d m = record { none = λ other h lt. omega arith }
+
+clean_more : (p : Bool) (d : Dictionary) (m : Message) (n : ℕ) → Clean p d m n → (Causes p d m (code_at n) → ⊥) → Clean p d m (n + 1)
+clean_more p d m n clean off = record {
+  none = λ other h lt. elim (cases_lt (place_in_order other) n) [
+    | inl less ↦ clean.none other h less
+    | inr more ↦
+        let same : place_in_order other ≡ n = omega arith in
+        off (subst (Causes p d m) (sym (ap code_at (sym same) ∙ at_own_place other)) h)
+  ];
+}
+
+-- what comes of a request
+data Verdict (p : Bool) (d : Dictionary) (m : Message) : Type 0 where
+  Aborts : (code : AbortCode) → IsFirstAbort p d m code → ((counter : ℕ) → answered p d m counter ≡ record { reply = abort_to m counter code; dictionary = d }) → Verdict p d m
+  Answers : Clean p d m 7 → ((counter : ℕ) → (answered p d m counter).reply.service ≡ Response) → Verdict p d m
+
+aborts : (p : Bool) (d : Dictionary) (m : Message) (code : AbortCode) → Clean p d m (place_in_order code) → Causes p d m code
+    → ((counter : ℕ) → answered p d m counter ≡ record { reply = abort_to m counter code; dictionary = d }) → Verdict p d m
+aborts p d m code clean holds is = Aborts code (record { holds = holds; first = λ other h lt. clean.none other h lt }) is
+
+abbrev code_of : ℕ → AbortCode
+code_of n =
+    if n == 0x05040001 then InvalidCommand
+    else (if n == 0x06010002 then ReadOnly
+    else (if n == 0x06020000 then NoObject
+    else (if n == 0x06070010 then WrongLength
+    else (if n == 0x06090011 then NoSubindex
+    else (if n == 0x06090030 then InvalidValue
+    else WrongState)))))
+
+own_number : (code : AbortCode) → code_of (abort_number code) ≡ code
+own_number InvalidCommand = refl
+own_number ReadOnly = refl
+own_number NoObject = refl
+own_number WrongLength = refl
+own_number NoSubindex = refl
+own_number InvalidValue = refl
+own_number WrongState = refl
+
+one_first : (p : Bool) (d : Dictionary) (m : Message) (a b : AbortCode) → IsFirstAbort p d m a → IsFirstAbort p d m b → a ≡ b
+one_first p d m a b f g = elim (cases_order (place_in_order a) (place_in_order b)) [
+  | inl same ↦ sym (at_own_place a) ∙ ap code_at same ∙ at_own_place b
+  | inr apart ↦ elim apart [ inl less ↦ absurd (g.first a f.holds less) | inr more ↦ absurd (f.first b g.holds more) ]
+]
+
+law_told : (p : Bool) (d : Dictionary) (m : Message) (counter : ℕ) (code : AbortCode) → Verdict p d m → IsFirstAbort p d m code → answered p d m counter ≡ record { reply = abort_to m counter code; dictionary = d }
+law_told p d m counter code (Aborts other first is) f = is counter ∙ ap (λ c. record { reply = abort_to m counter c; dictionary = d }) (one_first p d m other code first f)
+law_told p d m counter code (Answers clean is) f = absurd (clean.none code f.holds (low_place code))
+
+law_only : (p : Bool) (d : Dictionary) (m : Message) (counter : ℕ) (code : AbortCode) → Verdict p d m → (answered p d m counter).reply ≡ abort_to m counter code → IsFirstAbort p d m code
+law_only p d m counter code (Aborts other first is) h =
+    let both : abort_to m counter other ≡ abort_to m counter code = sym (ap (λ (a : Answer). a.reply) (is counter)) ∙ h in
+    let numbers : abort_number other ≡ abort_number code = ap (λ (r : Message). r.value) both in
+    subst (IsFirstAbort p d m) (sym (own_number other) ∙ ap code_of numbers ∙ own_number code) first
+law_only p d m counter code (Answers clean is) h =
+    let services : Response ≡ Request = sym (is counter) ∙ ap (λ (r : Message). r.service) h in
+    absurd (cc)
+
+law_done : (p : Bool) (d : Dictionary) (m : Message) (counter : ℕ) → Verdict p d m → ((code : AbortCode) → Causes p d m code → ⊥) → (answered p d m counter).reply.service ≡ Response
+law_done p d m counter (Aborts code first is) h = absurd (h code first.holds)
+law_done p d m counter (Answers clean is) h = is counter
+
+-- ---- the commands
+
+no_request : (p : Bool) (d : Dictionary) (m : Message) (c : Command) → m.command ≡ c → ((counter : ℕ) → answer_by p d m counter c ≡ invalid_answer d m counter) → ((size : Size) → c ≡ DownloadRequest size → ⊥) → (c ≡ UploadRequest → ⊥) → Verdict p d m
+unfolding answered
+no_request p d m c is by no_download no_upload =
+    aborts p d m InvalidCommand (clean_none p d m) (record { no_download = λ size h. no_download size (sym is ∙ h); no_upload = λ h. no_upload (sym is ∙ h) })
+    (λ counter. ap (answer_by p d m counter) is ∙ by counter)
+
+no_download_is : (p : Bool) (d : Dictionary) (m : Message) → m.command ≡ UploadRequest → (size : Size) → Downloads m size → ⊥
+no_download_is p d m is size h = let e : UploadRequest ≡ DownloadRequest size = sym is ∙ h in cc
+
+aborted_upload : (p : Bool) (d : Dictionary) (m : Message) (code : AbortCode) → m.command ≡ UploadRequest → uploaded d m.index m.subindex ≡ Err code
+    → (counter : ℕ) → answered p d m counter ≡ record { reply = abort_to m counter code; dictionary = d }
+unfolding answered
+aborted_upload p d m code is h counter = ap (answer_by p d m counter) is ∙ ap (λ r. record { reply = upload_answer m counter r; dictionary = d }) h
+
+answered_upload : (p : Bool) (d : Dictionary) (m : Message) (v : Value) → m.command ≡ UploadRequest → uploaded d m.index m.subindex ≡ Ok v → (counter : ℕ) → (answered p d m counter).reply.service ≡ Response
+unfolding answered
+answered_upload p d m v is h counter =
+    ap (λ (a : Answer). a.reply.service) (ap (answer_by p d m counter) is) ∙ ap (λ r. (upload_answer m counter r).service) h
+
+aborted_download : (p : Bool) (d : Dictionary) (m : Message) (size : Size) (code : AbortCode) → m.command ≡ DownloadRequest size → downloaded p d m.index m.subindex (value_of size m.value) ≡ Err code
+    → (counter : ℕ) → answered p d m counter ≡ record { reply = abort_to m counter code; dictionary = d }
+unfolding answered
+aborted_download p d m size code is h counter = ap (answer_by p d m counter) is ∙ ap (download_answer d m counter) h
+
+answered_download : (p : Bool) (d : Dictionary) (m : Message) (size : Size) (e : Dictionary) → m.command ≡ DownloadRequest size → downloaded p d m.index m.subindex (value_of size m.value) ≡ Ok e → (counter : ℕ) → (answered p d m counter).reply.service ≡ Response
+unfolding answered
+answered_download p d m size e is h counter =
+    ap (λ (a : Answer). a.reply.service) (ap (answer_by p d m counter) is) ∙ ap (λ r. (download_answer d m counter r).reply.service) h
+
+-- ---- where the value is
+
+uploaded_none : (d : Dictionary) (m : Message) → object_values d m.index ≡ None → uploaded d m.index m.subindex ≡ Err NoObject
+unfolding uploaded
+uploaded_none d m h = ap (λ o. value_at o m.subindex) h
+
+uploaded_past : (d : Dictionary) (m : Message) (vs : List Value) → object_values d m.index ≡ Some vs → slice_get vs m.subindex ≡ None → uploaded d m.index m.subindex ≡ Err NoSubindex
+unfolding uploaded
+uploaded_past d m vs h g = ap (λ o. value_at o m.subindex) h ∙ ap value_or_abort g
+
+uploaded_there : (d : Dictionary) (m : Message) (vs : List Value) (v : Value) → object_values d m.index ≡ Some vs → slice_get vs m.subindex ≡ Some v → uploaded d m.index m.subindex ≡ Ok v
+unfolding uploaded
+uploaded_there d m vs v h g = ap (λ o. value_at o m.subindex) h ∙ ap value_or_abort g
+
+past_end : (vs : List Value) (k : ℕ) → slice_get vs k ≡ None → length vs ≤ k
+past_end vs k h = elim ((slice_get_cases vs k).1) [ inl in_it ↦ absurd (let at = in_it.2 in cc) | inr out ↦ out.0 ]
+
+-- a request of a command that the slave has: its object and value, or one of the two aborts
+module _ (p : Bool) (d : Dictionary) (m : Message) (abort : (code : AbortCode) → uploaded d m.index m.subindex ≡ Err code → (counter : ℕ) → answered p d m counter ≡ record { reply = abort_to m counter code; dictionary = d })
+    (go : (vs : List Value) (v : Value) → Clean p d m 3 → object_values d m.index ≡ Some vs → slice_get vs m.subindex ≡ Some v → uploaded d m.index m.subindex ≡ Ok v → Verdict p d m) where
+  at_value : (vs : List Value) → Clean p d m 2 → object_values d m.index ≡ Some vs → (s : Option Value) → slice_get vs m.subindex ≡ s → Verdict p d m
+  at_value vs clean h None g = aborts p d m NoSubindex clean (record { values = vs; object = h; past = past_end vs m.subindex g }) (abort NoSubindex (uploaded_past d m vs h g))
+  at_value vs clean h (Some v) g =
+      go vs v (clean_more p d m 2 clean (λ c.
+      let same : c.values ≡ vs = let o = c.object in cc in
+      let lt : m.subindex < length vs = slice_get_within vs m.subindex v g in
+      let past : length vs ≤ m.subindex = subst (λ ws. length ws ≤ m.subindex) same c.past in
+      omega arith)) h g (uploaded_there d m vs v h g)
+
+  at_object : Clean p d m 1 → (o : Option (List Value)) → object_values d m.index ≡ o → Verdict p d m
+  at_object clean None h = aborts p d m NoObject clean (record { none = h }) (abort NoObject (uploaded_none d m h))
+  at_object clean (Some vs) h = at_value vs (clean_more p d m 1 clean (λ c. let o = c.none in cc)) h (slice_get vs m.subindex) refl
+
+upload_verdict : (p : Bool) (d : Dictionary) (m : Message) → m.command ≡ UploadRequest → Verdict p d m
+upload_verdict p d m is =
+    let off = no_download_is p d m is in
+    at_object p d m (λ code h. aborted_upload p d m code is h) (λ vs v clean h g u.
+    Answers (clean_more p d m 6 (clean_more p d m 5 (clean_more p d m 4 (clean_more p d m 3 clean (λ c. off c.size c.download)) (λ c. off c.size c.download)) (λ c. off c.size c.download)) (λ c. off c.size c.download))
+    (answered_upload p d m v is u)) (clean_more p d m 0 (clean_none p d m) (λ c. c.no_upload is)) (object_values d m.index) refl
+
+-- ---- a value that is taken
+
+record AnyAt {X : Type 0} (f : X → Bool) (xs : List X) : Type 0 where
+  place : ℕ
+  row : X
+  there : slice_get xs place ≡ Some row
+  hit : f row ≡ true
+
+any_at : (x : ℕ) (xs : List ℕ) → contains xs x ≡ true → AnyAt (λ y. y == x) xs
+any_at x [] h = cc
+any_at x (y ∷ xs) h = elim (or_cases (y == x) (contains xs x) h) [
+  | inl here ↦ record { place = 0; row = y; there = refl; hit = here }
+  | inr later ↦ let r = any_at x xs later in record { place = r.place + 1; row = r.row; there = rw add-one r.there; hit = r.hit }
+]
+
+twice_found : (ns : List ℕ) → distinct ns ≡ false → HasTwice ns
+twice_found [] h = cc
+twice_found (n ∷ ns) h = elim (and_cases (not (contains ns n)) (distinct ns) h) [
+  | inl here ↦
+      let r = any_at n ns (not-false (contains ns n) here) in
+      let same : r.row ≡ n = eqb-true r.row n r.hit in
+      record { first = 0; second = r.place + 1; before = omega arith; number = n; there = refl; there_too = rw add-one (r.there ∙ ap Some same) }
+  | inr later ↦ let r = twice_found ns later in record { first = r.first + 1; second = r.second + 1; before = omega (arith, r.before); number = r.number; there = rw add-one r.there; there_too = rw add-one r.there_too }
+]
+
+twice_from : (ns : List ℕ) (i j x : ℕ) → i < j → slice_get ns i ≡ Some x → slice_get ns j ≡ Some x → distinct ns ≡ false
+twice_from [] i j x lt a b = absurd (omega (arith, slice_get_within [] i x a))
+twice_from (n ∷ ns) i zero x lt a b = absurd (omega arith)
+twice_from (n ∷ ns) zero (suc j) x lt a b =
+    let same : x ≡ n = cc in
+    and_left (not (contains ns n)) (distinct ns) (not_from_true (contains ns n) (any_passes_from_place (λ y. y == n) ns j x b (eq-eqb x n same)))
+twice_from (n ∷ ns) (suc i) (suc j) x lt a b = and_right (not (contains ns n)) (distinct ns) (twice_from ns i j x (omega arith) a b)
+
+bad_count : (ps : List Pdo) (a : Assignment) (n : ℕ) → takes_count ps a n ≡ false → IsBadCount ps a n
+bad_count ps a n h = elim (and_cases (nat_le n (length ps)) (distinct (take n a.slots) && nat_le (bits_assigned ps (take n a.slots)) most_bits) h) [
+  | inl many ↦ TooMany (leb-false n (length ps) many)
+  | inr rest ↦ elim (and_cases (distinct (take n a.slots)) (nat_le (bits_assigned ps (take n a.slots)) most_bits) rest) [
+    | inl twice ↦ Double (twice_found (take n a.slots) twice)
+    | inr long ↦ TooLong (leb-false (bits_assigned ps (take n a.slots)) most_bits long)
+  ]
+]
+
+good_count : (ps : List Pdo) (a : Assignment) (n : ℕ) → takes_count ps a n ≡ true → IsBadCount ps a n → ⊥
+good_count ps a n h (TooMany many) =
+    let parts = and_parts (nat_le n (length ps)) (distinct (take n a.slots) && nat_le (bits_assigned ps (take n a.slots)) most_bits) h in
+    omega (arith, leb-true n (length ps) parts.0, many)
+good_count ps a n h (Double t) =
+    let parts = and_parts (nat_le n (length ps)) (distinct (take n a.slots) && nat_le (bits_assigned ps (take n a.slots)) most_bits) h in
+    let inner = and_parts (distinct (take n a.slots)) (nat_le (bits_assigned ps (take n a.slots)) most_bits) parts.1 in
+    false≢true (sym (twice_from (take n a.slots) t.first t.second t.number t.before t.there t.there_too) ∙ inner.0)
+good_count ps a n h (TooLong long) =
+    let parts = and_parts (nat_le n (length ps)) (distinct (take n a.slots) && nat_le (bits_assigned ps (take n a.slots)) most_bits) h in
+    let inner = and_parts (distinct (take n a.slots)) (nat_le (bits_assigned ps (take n a.slots)) most_bits) parts.1 in
+    omega (arith, leb-true (bits_assigned ps (take n a.slots)) most_bits inner.1, long)
+
+none_behind : (x : Pdo) (ps : List Pdo) (index : ℕ) → x.index ≢ index → ((k : ℕ) (q : Pdo) → slice_get ps k ≡ Some q → q.index ≢ index) → (k : ℕ) (q : Pdo) → slice_get (x ∷ ps) k ≡ Some q → q.index ≢ index
+none_behind x ps index ne w zero q at = let same : x ≡ q = cc in subst (λ (y : Pdo). y.index ≢ index) same ne
+none_behind x ps index ne w (suc k) q at = w k q at
+
+none_at : (ps : List Pdo) (index : ℕ) → is_some (pdo_at ps index) ≡ false → (k : ℕ) (q : Pdo) → slice_get ps k ≡ Some q → q.index ≢ index
+none_at [] index h k q at = absurd (omega (arith, slice_get_within [] k q at))
+none_at (x ∷ ps) index h k q at = elim (cases_Bool (x.index == index)) [
+  | inl on ↦ absurd (let f = rw on at h in cc)
+  | inr off ↦ let f = rw off at h in none_behind x ps index (eqb-false x.index index off) (none_at ps index f) k q at
+]
+
+some_at : (ps : List Pdo) (index : ℕ) → is_some (pdo_at ps index) ≡ true → IsBadIndex ps index → ⊥
+some_at [] index h w = cc
+some_at (x ∷ ps) index h w = elim (cases_Bool (x.index == index)) [
+  | inl on ↦ w.none 0 x refl (eqb-true x.index index on)
+  | inr off ↦ let f = rw off at h in some_at ps index f (record { none = λ k q at. w.none (k + 1) q (rw add-one at) })
+]
+
+-- ---- downloads
+
+-- what an assignment object answers
+module _ (p : Bool) (d : Dictionary) (index subindex number : ℕ) where
+  abbrev by_direction : Result Dictionary AbortCode
+  by_direction =
+      if index == output_assignment then with_outs d (assignment_written p d.kind.outputs d.outs subindex number) else with_ins d (assignment_written p d.kind.inputs d.ins subindex number)
+
+  abbrev written : Result Assignment AbortCode
+  written = assignment_written p (pdos_at d index) (assignment_at d index) subindex number
+
+  refused_by : (code : AbortCode) → written ≡ Err code → by_direction ≡ Err code
+  refused_by code h = elim (cases_Bool (index == output_assignment)) [
+    | inl on ↦ let f = rw on at h in rw on (ap (with_outs d) f)
+    | inr off ↦ let f = rw off at h in rw off (ap (with_ins d) f)
+  ]
+
+  record IsDone : Type 0 where
+    after : Dictionary
+    is : by_direction ≡ Ok after
+
+  done_by : (a : Assignment) → written ≡ Ok a → IsDone
+  done_by a h = elim (cases_Bool (index == output_assignment)) [
+    | inl on ↦ let f = rw on at h in record { after = record d { outs = a }; is = rw on (ap (with_outs d) f) }
+    | inr off ↦ let f = rw off at h in record { after = record d { ins = a }; is = rw off (ap (with_ins d) f) }
+  ]
+
+closed_written : (p : Bool) (ps : List Pdo) (a : Assignment) (subindex number : ℕ) → is_open p a subindex ≡ false → assignment_written p ps a subindex number ≡ Err WrongState
+unfolding assignment_written
+closed_written p ps a subindex number h = rw h refl
+
+invalid_written : (p : Bool) (ps : List Pdo) (a : Assignment) (subindex number : ℕ) → is_open p a subindex ≡ true → takes_value ps a subindex number ≡ false → assignment_written p ps a subindex number ≡ Err InvalidValue
+unfolding assignment_written
+invalid_written p ps a subindex number h g = rw (h, g) refl
+
+taken_written : (p : Bool) (ps : List Pdo) (a : Assignment) (subindex number : ℕ) → is_open p a subindex ≡ true → takes_value ps a subindex number ≡ true → assignment_written p ps a subindex number ≡ Ok (with_value a subindex number)
+unfolding assignment_written
+taken_written p ps a subindex number h g = rw (h, g) refl
+
+closed_is : (p : Bool) (a : Assignment) (subindex : ℕ) → is_open p a subindex ≡ false → (p ≡ false) ⊎ ((0 < subindex) × (0 < a.count))
+closed_is p a subindex h = elim (and_cases p ((subindex == 0) || (a.count == 0)) h) [
+  | inl off ↦ inl off
+  | inr slot ↦
+      let parts = or_parts (subindex == 0) (a.count == 0) slot in
+      let s : subindex ≡ 0 → ⊥ = eqb-false subindex 0 parts.0 in
+      let c : a.count ≡ 0 → ⊥ = eqb-false a.count 0 parts.1 in
+      inr (omega arith, omega arith)
+]
+
+open_is : (p : Bool) (a : Assignment) (subindex : ℕ) → is_open p a subindex ≡ true → ((p ≡ false) ⊎ ((0 < subindex) × (0 < a.count))) → ⊥
+open_is p a subindex h closed =
+    let both = and_parts p ((subindex == 0) || (a.count == 0)) h in
+    elim closed [
+      | inl off ↦ false≢true (sym off ∙ both.0)
+      | inr slot ↦ elim (or_cases (subindex == 0) (a.count == 0) both.1) [
+        | inl z ↦ let s = slot.0 in let e = eqb-true subindex 0 z in omega arith
+        | inr z ↦ let s = slot.1 in let e = eqb-true a.count 0 z in omega arith
+      ]
+    ]
+
+module _ (p : Bool) (d : Dictionary) (m : Message) (size : Size) (is : m.command ≡ DownloadRequest size) (vs : List Value) (v : Value) (object : object_values d m.index ≡ Some vs) (there : slice_get vs m.subindex ≡ Some v) (found : uploaded d m.index m.subindex ≡ Ok v) where
+  abbrev number : ℕ
+  number = (value_of size m.value).number
+
+  same_size : (z : Size) → Downloads m z → z ≡ size
+  same_size z h = let e : DownloadRequest z ≡ DownloadRequest size = sym h ∙ is in cc
+
+  chain : downloaded p d m.index m.subindex (value_of size m.value) ≡ written_over p d m.index m.subindex (value_of size m.value) (Ok v)
+  unfolding downloaded
+  chain = ap (written_over p d m.index m.subindex (value_of size m.value)) found
+
+  read_only : is_assignment m.index ≡ false → downloaded p d m.index m.subindex (value_of size m.value) ≡ Err ReadOnly
+  read_only h = chain ∙ rw h refl
+
+  wrong_length : is_assignment m.index ≡ true → (size_number size == size_number v.size) ≡ false → downloaded p d m.index m.subindex (value_of size m.value) ≡ Err WrongLength
+  wrong_length h g = chain ∙ rw (h, g) refl
+
+  to_assignment : is_assignment m.index ≡ true → (size_number size == size_number v.size) ≡ true → downloaded p d m.index m.subindex (value_of size m.value) ≡ by_direction p d m.index m.subindex number
+  to_assignment h g = chain ∙ rw (h, g) refl
+
+  invalid_is : takes_value (pdos_at d m.index) (assignment_at d m.index) m.subindex number ≡ false → HasInvalidValue d m
+  invalid_is h = record {
+    size = size;
+    download = is;
+    count = λ z. let on : (m.subindex == 0) ≡ true = eq-eqb m.subindex 0 z in let f = rw on at h in bad_count (pdos_at d m.index) (assignment_at d m.index) number f;
+    slot = λ z. let off : (m.subindex == 0) ≡ false = ne_eqb m.subindex 0 z in let f = rw off at h in record { none = none_at (pdos_at d m.index) number f };
+  }
+
+  taken_is : takes_value (pdos_at d m.index) (assignment_at d m.index) m.subindex number ≡ true → HasInvalidValue d m → ⊥
+  taken_is h c =
+      let same : (value_of c.size m.value).number ≡ number = ap (λ z. (value_of z m.value).number) (same_size c.size c.download) in
+      elim (cases_Bool (m.subindex == 0)) [
+        | inl on ↦
+            let f = rw on at h in
+            good_count (pdos_at d m.index) (assignment_at d m.index) number f (subst (IsBadCount (pdos_at d m.index) (assignment_at d m.index)) same (c.count (eqb-true m.subindex 0 on)))
+        | inr off ↦
+            let f = rw off at h in
+            some_at (pdos_at d m.index) number f (subst (IsBadIndex (pdos_at d m.index)) same (c.slot (eqb-false m.subindex 0 off)))
+      ]
+
+  at_taken : Clean p d m 6 → downloaded p d m.index m.subindex (value_of size m.value) ≡ by_direction p d m.index m.subindex number → is_open p (assignment_at d m.index) m.subindex ≡ true → Verdict p d m
+  at_taken clean to ready = elim (cases_Bool (takes_value (pdos_at d m.index) (assignment_at d m.index) m.subindex number)) [
+    | inr bad ↦
+        aborts p d m InvalidValue clean (invalid_is bad)
+        (aborted_download p d m size InvalidValue is (to ∙ refused_by p d m.index m.subindex number InvalidValue (invalid_written p (pdos_at d m.index) (assignment_at d m.index) m.subindex number ready bad)))
+    | inl good ↦
+        let done = done_by p d m.index m.subindex number (with_value (assignment_at d m.index) m.subindex number) (taken_written p (pdos_at d m.index) (assignment_at d m.index) m.subindex number ready good) in
+        Answers (clean_more p d m 6 clean (taken_is good)) (answered_download p d m size done.after is (to ∙ done.is))
+  ]
+
+  at_open : Clean p d m 5 → downloaded p d m.index m.subindex (value_of size m.value) ≡ by_direction p d m.index m.subindex number → Verdict p d m
+  at_open clean to = elim (cases_Bool (is_open p (assignment_at d m.index) m.subindex)) [
+    | inr closed ↦
+        aborts p d m WrongState clean (record { size = size; download = is; closed = closed_is p (assignment_at d m.index) m.subindex closed })
+        (aborted_download p d m size WrongState is (to ∙ refused_by p d m.index m.subindex number WrongState (closed_written p (pdos_at d m.index) (assignment_at d m.index) m.subindex number closed)))
+    | inl ready ↦ at_taken (clean_more p d m 5 clean (λ c. open_is p (assignment_at d m.index) m.subindex ready c.closed)) to ready
+  ]
+
+  at_length : Clean p d m 4 → is_assignment m.index ≡ true → Verdict p d m
+  at_length clean h = elim (cases_Bool (size_number size == size_number v.size)) [
+    | inr off ↦
+        aborts p d m WrongLength clean (record { size = size; download = is; values = vs; object = object; value = v; there = there; unlike = eqb-false (size_number size) (size_number v.size) off })
+        (aborted_download p d m size WrongLength is (wrong_length h off))
+    | inl on ↦
+        at_open (clean_more p d m 4 clean (λ c.
+        let values : c.values ≡ vs = let o = c.object in cc in
+        let at : slice_get vs m.subindex ≡ Some c.value = subst (λ ws. slice_get ws m.subindex ≡ Some c.value) values c.there in
+        let value : c.value ≡ v = cc in
+        c.unlike (ap size_number (same_size c.size c.download) ∙ eqb-true (size_number size) (size_number v.size) on ∙ ap (λ (x : Value). size_number x.size) (sym value))))
+        (to_assignment h on)
+  ]
+
+  at_index : Clean p d m 3 → Verdict p d m
+  at_index clean = elim (cases_Bool (is_assignment m.index)) [
+    | inr off ↦
+        let parts = or_parts (m.index == output_assignment) (m.index == input_assignment) off in
+        aborts p d m ReadOnly clean (record { size = size; download = is; no_outputs = eqb-false m.index output_assignment parts.0; no_inputs = eqb-false m.index input_assignment parts.1 })
+        (aborted_download p d m size ReadOnly is (read_only off))
+    | inl on ↦
+        at_length (clean_more p d m 3 clean (λ c. elim (or_cases (m.index == output_assignment) (m.index == input_assignment) on) [
+          | inl outs ↦ c.no_outputs (eqb-true m.index output_assignment outs)
+          | inr ins ↦ c.no_inputs (eqb-true m.index input_assignment ins)
+        ])) on
+  ]
+
+refused_early : (p : Bool) (d : Dictionary) (m : Message) (size : Size) (code : AbortCode) → uploaded d m.index m.subindex ≡ Err code → downloaded p d m.index m.subindex (value_of size m.value) ≡ Err code
+unfolding downloaded
+refused_early p d m size code h = ap (written_over p d m.index m.subindex (value_of size m.value)) h
+
+download_verdict : (p : Bool) (d : Dictionary) (m : Message) (size : Size) → m.command ≡ DownloadRequest size → Verdict p d m
+download_verdict p d m size is =
+    at_object p d m (λ code h. aborted_download p d m size code is (refused_early p d m size code h)) (λ vs v clean h g u. at_index p d m size is vs v h g u clean)
+    (clean_more p d m 0 (clean_none p d m) (λ c. c.no_download size is)) (object_values d m.index) refl
+
+-- ---- the whole
+
+verdict : (p : Bool) (d : Dictionary) (m : Message) (c : Command) → m.command ≡ c → Verdict p d m
+verdict p d m (DownloadRequest size) is = download_verdict p d m size is
+verdict p d m UploadRequest is = upload_verdict p d m is
+verdict p d m DownloadResponse is = no_request p d m DownloadResponse is (λ counter. refl) (λ size h. cc) (λ h. cc)
+verdict p d m (UploadResponse size) is = no_request p d m (UploadResponse size) is (λ counter. refl) (λ z h. cc) (λ h. cc)
+verdict p d m Abort is = no_request p d m Abort is (λ counter. refl) (λ size h. cc) (λ h. cc)
+verdict p d m (OtherCommand number) is = no_request p d m (OtherCommand number) is (λ counter. refl) (λ size h. cc) (λ h. cc)
+
+pub first_abort : FirstAbort
+first_abort = record {
+  told = λ p d m counter code f. law_told p d m counter code (verdict p d m m.command refl) f;
+  only = λ p d m counter code h. law_only p d m counter code (verdict p d m m.command refl) h;
+  done = λ p d m counter h. law_done p d m counter (verdict p d m m.command refl) h;
+}

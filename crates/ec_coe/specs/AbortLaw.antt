@@ -1,0 +1,124 @@
+-- Each abort by its cause, as a relation between a dictionary and a request, and the law that the abort a slave answers with is
+-- the one whose cause holds while none of an earlier one does (the order is the profile of the simulated slaves).
+use Rattle.std.specs.Prelude.{ℕ, ◌<◌, ◌≤◌, ◌≡◌, ◌≢◌, ◌==◌, ◌⊎◌, List, length, take, Bool, false, if◌then◌else◌, slice_get, Some, None}
+use Rattle.ec_regs.specs.declared.slave_type.Pdo.{Pdo}
+use Rattle.ec_regs.specs.Objects.{bits_assigned}
+use Rattle.ec_coe.specs.declared.value.Size.{Size}
+use Rattle.ec_coe.specs.declared.value.Value.{Value}
+use Rattle.ec_coe.specs.declared.message.Command.TheVariants.{DownloadRequest, UploadRequest}
+use Rattle.ec_coe.specs.declared.message.Service.TheVariants.{Response}
+use Rattle.ec_coe.specs.declared.message.Message.{Message}
+use Rattle.ec_coe.specs.declared.abort_code.AbortCode.{AbortCode}
+use Rattle.ec_coe.specs.declared.abort_code.AbortCode.TheVariants.{InvalidCommand, ReadOnly, NoObject, WrongLength, NoSubindex, InvalidValue, WrongState}
+use Rattle.ec_coe.specs.Messages.{size_number}
+use Rattle.ec_coe.specs.Objects.{Assignment, Dictionary, output_assignment, input_assignment, object_values}
+use Rattle.ec_coe.specs.Transfers.{most_bits}
+use Rattle.ec_coe.specs.Answers.{abort_to, value_of, answered}
+
+-- the type's PDOs and the assignment of the direction that an assignment object has
+abbrev pub pdos_at : Dictionary → ℕ → List Pdo
+pdos_at d index = if index == output_assignment then d.kind.outputs else d.kind.inputs
+
+abbrev pub assignment_at : Dictionary → ℕ → Assignment
+assignment_at d index = if index == output_assignment then d.outs else d.ins
+
+-- the request downloads a value of a size
+abbrev pub Downloads : Message → Size → Type 0
+Downloads m size = m.command ≡ DownloadRequest size
+
+-- ---- the causes, in their order
+
+-- it is neither a download nor an upload
+pub record IsNoRequest (m : Message) : Type 0 where
+  pub no_download : (size : Size) → Downloads m size → ⊥
+  pub no_upload : m.command ≡ UploadRequest → ⊥
+
+-- the slave has no object of the index
+pub record HasNoObject (d : Dictionary) (m : Message) : Type 0 where
+  pub none : object_values d m.index ≡ None
+
+-- the object has no value at the subindex
+pub record HasNoSubindex (d : Dictionary) (m : Message) : Type 0 where
+  pub values : List Value
+  pub object : object_values d m.index ≡ Some values
+  pub past : length values ≤ m.subindex
+
+-- a download to an object that assigns no PDOs
+pub record IsReadOnly (m : Message) : Type 0 where
+  pub size : Size
+  pub download : Downloads m size
+  pub no_outputs : m.index ≢ output_assignment
+  pub no_inputs : m.index ≢ input_assignment
+
+-- a download of another length than that of the value that is there
+pub record HasWrongLength (d : Dictionary) (m : Message) : Type 0 where
+  pub size : Size
+  pub download : Downloads m size
+  pub values : List Value
+  pub object : object_values d m.index ≡ Some values
+  pub value : Value
+  pub there : slice_get values m.subindex ≡ Some value
+  pub unlike : size_number size ≢ size_number value.size
+
+-- a download in another state than PREOP, or to a slot while the count isn't 0
+pub record IsWrongState (in_preop : Bool) (d : Dictionary) (m : Message) : Type 0 where
+  pub size : Size
+  pub download : Downloads m size
+  pub closed : (in_preop ≡ false) ⊎ ((0 < m.subindex) × (0 < (assignment_at d m.index).count))
+
+-- a number stands twice in a list
+pub record HasTwice (ns : List ℕ) : Type 0 where
+  pub first : ℕ
+  pub second : ℕ
+  pub before : first < second
+  pub number : ℕ
+  pub there : slice_get ns first ≡ Some number
+  pub there_too : slice_get ns second ≡ Some number
+
+-- a count of more PDOs than the type has, of slots with a double, or of over 2048 bits
+pub data IsBadCount (ps : List Pdo) (a : Assignment) (count : ℕ) : Type 0 where
+  TooMany : length ps < count → IsBadCount ps a count
+  Double : HasTwice (take count a.slots) → IsBadCount ps a count
+  TooLong : most_bits < bits_assigned ps (take count a.slots) → IsBadCount ps a count
+
+-- an index that no PDO of the direction has
+pub record IsBadIndex (ps : List Pdo) (index : ℕ) : Type 0 where
+  pub none : (k : ℕ) (p : Pdo) → slice_get ps k ≡ Some p → p.index ≢ index
+
+-- a download of a value that the object doesn't take
+pub record HasInvalidValue (d : Dictionary) (m : Message) : Type 0 where
+  pub size : Size
+  pub download : Downloads m size
+  pub count : m.subindex ≡ 0 → IsBadCount (pdos_at d m.index) (assignment_at d m.index) (value_of size m.value).number
+  pub slot : m.subindex ≢ 0 → IsBadIndex (pdos_at d m.index) (value_of size m.value).number
+
+abbrev pub Causes : Bool → Dictionary → Message → AbortCode → Type 0
+Causes in_preop d m InvalidCommand = IsNoRequest m
+Causes in_preop d m NoObject = HasNoObject d m
+Causes in_preop d m NoSubindex = HasNoSubindex d m
+Causes in_preop d m ReadOnly = IsReadOnly m
+Causes in_preop d m WrongLength = HasWrongLength d m
+Causes in_preop d m WrongState = IsWrongState in_preop d m
+Causes in_preop d m InvalidValue = HasInvalidValue d m
+
+abbrev pub place_in_order : AbortCode → ℕ
+place_in_order InvalidCommand = 0
+place_in_order NoObject = 1
+place_in_order NoSubindex = 2
+place_in_order ReadOnly = 3
+place_in_order WrongLength = 4
+place_in_order WrongState = 5
+place_in_order InvalidValue = 6
+
+-- its cause holds, and that of none before it
+pub record IsFirstAbort (in_preop : Bool) (d : Dictionary) (m : Message) (code : AbortCode) : Type 0 where
+  pub holds : Causes in_preop d m code
+  pub first : (other : AbortCode) → Causes in_preop d m other → place_in_order other < place_in_order code → ⊥
+
+-- ---- the law
+
+-- Of the causes that hold the first is told, and changes nothing; where none holds the answer is a response.
+pub record FirstAbort : Type 0 where
+  pub told : (in_preop : Bool) (d : Dictionary) (m : Message) (counter : ℕ) (code : AbortCode) → IsFirstAbort in_preop d m code → answered in_preop d m counter ≡ record { reply = abort_to m counter code; dictionary = d }
+  pub only : (in_preop : Bool) (d : Dictionary) (m : Message) (counter : ℕ) (code : AbortCode) → (answered in_preop d m counter).reply ≡ abort_to m counter code → IsFirstAbort in_preop d m code
+  pub done : (in_preop : Bool) (d : Dictionary) (m : Message) (counter : ℕ) → ((code : AbortCode) → Causes in_preop d m code → ⊥) → (answered in_preop d m counter).reply.service ≡ Response
