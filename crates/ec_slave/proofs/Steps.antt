@@ -77,7 +77,7 @@ one_step kind most m after o l k e = record { operations = o ∷ []; of_kind = A
 two_steps : (kind : Operation → Bool) (m after : Manager) (o p : Operation) → kind o ≡ true → kind p ≡ true → step (step m o) p ≡ after → IsRunTo kind 2 m after
 two_steps kind m after o p k l e = record { operations = o ∷ p ∷ []; of_kind = All-cons (IsOf kind) o (p ∷ []) k (All-cons (IsOf kind) p [] l (All-nil (IsOf kind))); few = omega arith; leads = e }
 
-run-append : (m : Manager) (xs ys : List Operation) → run m (xs ++ ys) ≡ run (run m xs) ys
+pub run-append : (m : Manager) (xs ys : List Operation) → run m (xs ++ ys) ≡ run (run m xs) ys
 run-append m [] ys = refl
 run-append m (x ∷ xs) ys = run-append (step m x) xs ys
 

@@ -1,4 +1,4 @@
--- To be read in this order. First what is to be believed: what a slave is, which role it has in a datagram, how the two
+-- To be believed, in this order: what a slave is, which role it has in a datagram, how the two
 -- meet, by an address of the memory or through the FMMUs, and what its application does.
 pub mod State
 pub mod Roles
@@ -11,7 +11,7 @@ pub mod Application
 pub mod Checking
 pub mod Serving
 pub mod Faulting
--- Then what follows from that, as statements: what holds of every slave, and laws, the same in other words.
+-- Laws: what follows from that, as statements: what holds of every slave, and laws, the same in other words.
 pub mod Sound
 pub mod Laws
 pub mod AgainstAll
@@ -20,7 +20,8 @@ pub mod Exchange
 pub mod LogicalLaws
 pub mod FirmwareLaws
 pub mod Steps
--- Last the words of private code: no public contract rests on them.
+pub mod Showing
+-- Private: the words of private code; no public contract rests on them.
 pub mod Held
 pub mod Mapped
 pub mod Encounters

@@ -6,6 +6,7 @@ ghost use Rattle.ec_slave.specs.Sound.{MetIsSlave, PowerOnIsSlave};
 ghost use Rattle.ec_slave.specs.Laws.{CountsWhatItChanges, HeadingStays, WritesByByte, ReadsByByte, CountsByRole};
 ghost use Rattle.ec_slave.specs.MeetingLaws.{LogicalBitByBit, ManagersAfterWrite, RegistersAfterWrite, ValueBitByBit};
 ghost use Rattle.ec_slave.specs.AgainstAll.{LogicalAgainstAll, PhysicalAgainstAll};
+ghost use Rattle.ec_slave.specs.Showing.{ReadsShowTheRun, SlavesShowWholeValues};
 ghost use Rattle.ec_slave.specs.Steps.{AccessesAreSteps, ManagersGoByRuns};
 ghost use Rattle.ec_slave.specs.LogicalLaws.{BroadcastLaw, ExchangeLaw, MappedLaw, MissesLaw};
 ghost use Rattle.ec_slave.specs.FirmwareLaws.{AssignmentsStay, FirstReplyIsOne, PowerOnAssigns, RestsQuietly, ServesKeepAssignments, ServesKeepBuffers, ServesKeepSettings, StatesAreEntered};
@@ -112,6 +113,18 @@ pub fn accesses_are_steps()
 #[tactic(auto, using(crate::proofs::Steps::managers_go_by_runs))]
 pub fn managers_go_by_runs()
     ensures { ManagersGoByRuns }
+{}
+
+/// What a datagram reads of a sync manager, byte by byte or bit by bit, and what the application gets of the outputs, is of the
+/// value that the run of that manager shows.
+pub fn reads_show_the_run()
+    ensures { ReadsShowTheRun }
+{}
+
+/// Whatever happened to a slave since it was switched on, each of its managers shows whoever reads only values that were
+/// published whole.
+pub fn slaves_show_whole_values()
+    ensures { SlavesShowWholeValues }
 {}
 
 /// A broadcast read of registers changes no slave and counts one.

@@ -1,0 +1,5 @@
+use Rattle.ec_slave.proofs.Showing.{reads_show_the_run}
+use Rattle.ec_slave.proofs.laws.reads_show_the_run.Goals as goal
+
+pub returns : goal.returns
+returns c = reads_show_the_run
