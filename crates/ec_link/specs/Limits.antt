@@ -12,7 +12,8 @@ use Rattle.ec_link.specs.declared.plan.PartPlan.{PartPlan}
 use Rattle.ec_link.specs.declared.fault.LinkFault.{LinkFault}
 use Rattle.ec_link.specs.declared.fault.LinkError.{LinkError}
 use Rattle.ec_link.specs.declared.fault.LinkError.TheVariants.{Memory}
-use Rattle.ec_link.specs.Layout.{part_so_far, seat_at, is_unit_of}
+use Rattle.ec_bits.specs.Bits.{bytes_of_bits}
+use Rattle.ec_link.specs.Layout.{limit, part_so_far, seat_at, is_unit_of}
 use Rattle.ec_link.specs.Plan.{logical_from}
 use Rattle.ec_link.specs.Faults.{◌orelse◌, slave_fault, part_fault, memory_fault, variable_fault}
 
@@ -26,6 +27,10 @@ pub record IsSize (z : Size) : Type 0 where
   pub ins : z.ins ≤ 2048
   pub unit : z.unit ≤ 63
 
+-- a part has no more bytes than it may have
+abbrev pub IsSmall : Part → Type 0
+IsSmall p = bytes_of_bits p.bits ≤ limit p.split
+
 -- at most 1422 bytes each
 pub record AreSmall (parts : List Part) : Type 0 where
   pub each : (k : ℕ) → (part_so_far parts k).bits ≤ 11376
@@ -38,11 +43,11 @@ pub record AreSeated (n : ℕ) (ps : List PartPlan) (seats : List Seat) : Type 0
 
 -- its place is counted without overflow
 abbrev pub IsPlacedLow : Variable → Type 0
-IsPlacedLow v = v.from ≤ 2 ^ 60
+IsPlacedLow v = v.from + 63 < 2 ^ 64
 
 -- it has a bit, and its bits are counted without overflow
 pub record IsShortWire (w : Wire) : Type 0 where
-  pub variable_bit : w.variable_bit ≤ 255
+  pub variable_bit : w.variable_bit ≤ 63
   pub object_bit : w.object_bit ≤ 65791
   pub some : 0 < w.count
   pub count : w.count ≤ 255

@@ -6,6 +6,7 @@ mod entries;
 mod fault;
 mod faults;
 mod image;
+pub mod laws;
 mod layout;
 mod marks;
 mod objects;

@@ -1,5 +1,5 @@
 -- The laws.
-use Rattle.std.proofs.Common.{◌≡◌, ℕ, ◌+◌, ◌<◌, ◌==◌, List, [], ◌∷◌, ◌++◌, Bool, true, false, Option, Some, None, refl, sym, subst, arith, append_assoc}
+use Rattle.std.proofs.Common.{◌≡◌, ℕ, ◌+◌, ◌<◌, ◌==◌, List, [], ◌∷◌, ◌++◌, Bool, true, false, Option, Some, None, refl, sym, ◌∙◌, ap, subst, arith, append_assoc, length, map, if◌then◌else◌}
 use Rattle.std.proofs.Common.{inl, inr}
 use Rattle.std.specs.List.{flat_map}
 use Rattle.std.proofs.lemmas.Bool.{cases_Bool, ne_eqb, eq-eqb, eqb-false}
@@ -7,17 +7,20 @@ use Rattle.ec_regs.specs.declared.slave_type.Entry.{Entry}
 use Rattle.ec_regs.specs.declared.slave_type.Pdo.{Pdo}
 use Rattle.ec_regs.specs.Objects.{pdo_at}
 use Rattle.ec_coe.specs.Objects.{output_assignment, input_assignment, has_some}
+use Rattle.ec_link.specs.declared.settings.Settings.{Settings}
 use Rattle.ec_start.specs.declared.action.Request.{Request}
 use Rattle.ec_start.specs.declared.verdict.Verdict.{Verdict}
 use Rattle.ec_start.specs.declared.verdict.Verdict.TheVariants.{Next, Shows, Again, Fails}
 use Rattle.ec_start.specs.declared.phase.Phase.{Phase}
 use Rattle.ec_start.specs.declared.phase.Phase.TheVariants.{Idle, Sent, Ready, Failed}
 use Rattle.ec_start.specs.declared.phase.NextFrame.TheVariants.{Ended}
-use Rattle.ec_start.specs.declared.error.StartError.TheVariants.{TooSlow}
+use Rattle.ec_start.specs.declared.error.StartError.TheVariants.{TooSlow, NumbersSpent}
 use Rattle.ec_start.specs.Scripts.{entries_read, pdo_read, slots_written, count_written, assignment_written}
-use Rattle.ec_start.specs.Running.{StartState, is_ended, asked_by, next_frame_by, given_up_by, judged, most_polls, IsStartTaken}
+use Rattle.ec_frame.specs.Datagram.{Datagram}
+use Rattle.ec_start.specs.Verdicts.{verdict}
+use Rattle.ec_start.specs.Running.{StartState, Shape, shape, second, action_of, type_of, taken, begun, is_ended, asked_by, next_frame_by, given_up_by, judged, most_polls, last_number, sending, IsStartTaken}
 use Rattle.ec_start.specs.Seeking.{uploads_of, downloads_of}
-use Rattle.ec_start.specs.Laws.{IsScriptOfThree, AreUploads, AreDownloads, UploadsComeFirst, CountersRunToSeven, EndedStays, PollsEnd, ForeignChangesNothing, FramesAreAnswered}
+use Rattle.ec_start.specs.Laws.{IsScriptOfThree, AreUploads, AreDownloads, UploadsComeFirst, CountersRunToSeven, EndedStays, PlansStay, PollsEnd, ForeignChangesNothing, FramesAreAnswered}
 
 pub script_of_three : IsScriptOfThree
 script_of_three = record { steps = refl; ninth = refl; tenth = refl }
@@ -95,6 +98,61 @@ pub ended_stays : EndedStays
 ended_stays s e =
     let h = ended_by s s.phase refl e in
     record { next_is = h.0; next_leaves = h.1; give_up_leaves = h.2; take_leaves = λ payload b new t. stays_taken s new payload b e t }
+
+-- ---- the plan
+
+asked_plan : (s : StartState) (p : Phase) → (asked_by s p).plan ≡ s.plan
+asked_plan s Idle = go (s.next == last_number)
+  where
+    go : (b : Bool) → (let t : StartState = if b then record s { phase = Failed NumbersSpent } else sending s in t.plan) ≡ s.plan
+    go true = refl
+    go false = refl
+asked_plan s (Sent number) = refl
+asked_plan s Ready = refl
+asked_plan s (Failed error) = refl
+
+given_up_plan : (s : StartState) (p : Phase) → (given_up_by s p).plan ≡ s.plan
+given_up_plan s Idle = refl
+given_up_plan s (Sent number) = refl
+given_up_plan s Ready = refl
+given_up_plan s (Failed error) = refl
+
+begun_plan : (ps : List Settings) (number : ℕ) → (begun ps number).plan ≡ ps
+unfolding begun
+begun_plan ps number = refl
+
+judged_plan : (s : StartState) (v : Verdict) → (judged s v).plan ≡ s.plan
+judged_plan s Next = refl
+judged_plan s (Shows value) = refl
+judged_plan s (Fails error) = refl
+judged_plan s Again = go (s.polls + 1 == most_polls)
+  where
+    go : (b : Bool) → (let t : StartState = if b then record s { phase = Failed (TooSlow s.place) } else record s { polls = s.polls + 1; phase = Idle } in t.plan) ≡ s.plan
+    go true = refl
+    go false = refl
+
+pub taken_plan : (s : StartState) (d : Datagram) → (taken s d).plan ≡ s.plan
+taken_plan s d = judged_plan s (verdict (length s.plan) s.place s.seen (type_of s.plan) (action_of s) d)
+
+second_there : (ds : List Datagram) (x y : Shape) → map shape ds ≡ x ∷ y ∷ [] → (d : Datagram) × (second ds ≡ Some d)
+second_there [] x y e = absurd cc
+second_there (d ∷ []) x y e = absurd cc
+second_there (d ∷ b ∷ ds) x y e = (b, refl)
+
+take_plan : (s new : StartState) (payload : List ℕ) (b : Bool) → IsStartTaken s payload b new → new.plan ≡ s.plan
+take_plan s new payload true h =
+    let o = h.only refl in
+    let d = second_there o.frame.datagrams _ _ o.answer.shapes in
+    ap (λ (x : StartState). x.plan) (h.kept o.frame d.0 refl o.spelled d.1) ∙ taken_plan s d.0
+take_plan s new payload false h = ap (λ (x : StartState). x.plan) (h.foreign refl)
+
+pub plans_stay : PlansStay
+plans_stay s = record {
+  next_keeps = asked_plan s s.phase;
+  take_keeps = λ payload b new h. take_plan s new payload b h;
+  give_up_keeps = given_up_plan s s.phase;
+  restart_keeps = begun_plan s.plan s.next;
+}
 
 -- ---- polls
 

@@ -13,7 +13,7 @@ use Rattle.ec_start.specs.declared.phase.NextFrame.TheVariants.{Ended}
 use Rattle.ec_start.specs.Actions.{request_message, frame_of}
 use Rattle.ec_start.specs.Planned.{IsStartable, HasFewAssigned}
 use Rattle.ec_start.specs.Scripts.{script, requests}
-use Rattle.ec_start.specs.Running.{StartState, IsStartAnswer, sending, action_of, is_ended, asked, next_frame, judged, given_up, most_polls, IsStartTaken}
+use Rattle.ec_start.specs.Running.{StartState, IsStartAnswer, sending, action_of, is_ended, asked, next_frame, judged, given_up, restarted, most_polls, IsStartTaken}
 use Rattle.ec_start.specs.ThreeSlaves.{three_slaves}
 
 -- ---- the script
@@ -71,6 +71,16 @@ pub record PollsEnd : Type 0 where
   pub few : (s : StartState) (v : Verdict) → s.polls < most_polls → (judged s v).polls < most_polls
   pub last : (s : StartState) → s.polls + 1 ≡ most_polls → (judged s Again).phase ≡ Failed (TooSlow s.place)
   pub more : (s : StartState) → s.polls + 1 < most_polls → (judged s Again).polls ≡ s.polls + 1
+
+-- Whatever is called, a start-up is one of the same plan.
+pub record KeepsPlan (s : StartState) : Type 0 where
+  pub next_keeps : (asked s).plan ≡ s.plan
+  pub take_keeps : (payload : List ℕ) (is_kept : Bool) (new : StartState) → IsStartTaken s payload is_kept new → new.plan ≡ s.plan
+  pub give_up_keeps : (given_up s).plan ≡ s.plan
+  pub restart_keeps : (restarted s).plan ≡ s.plan
+
+abbrev pub PlansStay : Type 0
+PlansStay = (s : StartState) → KeepsPlan s
 
 -- A foreign payload changes nothing.
 abbrev pub ForeignChangesNothing : Type 0

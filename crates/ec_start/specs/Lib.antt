@@ -1,4 +1,4 @@
--- What a reader must believe, in this order: Actions (what a start-up does, and the datagram of each action), Scripts (all
+-- To be believed, in this order: Actions (what a start-up does, and the datagram of each action), Scripts (all
 -- actions of a plan, in order), Verdicts (what the answer to a datagram says), Running (a start-up as it runs: what is sent,
 -- which payloads answer it, what it makes of an answer), Planned (what a plan must be).
 pub mod Plans
@@ -8,10 +8,12 @@ pub mod Verdicts
 pub mod Running
 pub mod Errors
 pub mod Planned
+-- Laws: other words for the same, proved; ThreeSlaves is the plan of an example.
 pub mod ThreeSlaves
 pub mod Laws
--- These serve private code and its proofs alone:
+-- To be believed, too: what an action must be for its own calls.
 pub mod Doable
+-- Private: these serve private code and its proofs alone.
 pub mod Seeking
 pub mod Ahead
 pub mod Answered

@@ -1,6 +1,6 @@
 //! What the definitions of this crate say together. The functions do nothing: their contracts are the laws.
 
-ghost use Rattle.ec_start.specs.Laws.{IsScriptOfThree, UploadsComeFirst, CountersRunToSeven, EndedStays, PollsEnd, ForeignChangesNothing, FramesAreAnswered, StartablesAreTaken};
+ghost use Rattle.ec_start.specs.Laws.{IsScriptOfThree, UploadsComeFirst, CountersRunToSeven, EndedStays, PlansStay, PollsEnd, ForeignChangesNothing, FramesAreAnswered, StartablesAreTaken};
 
 /// The script of the example's three slaves has 75 steps, and step 10 is the first wait for slave 0's SII.
 #[tactic(auto, using(crate::proofs::LawLemmas::script_of_three))]
@@ -24,6 +24,11 @@ pub fn counters_run_to_seven()
 #[tactic(auto, using(crate::proofs::LawLemmas::ended_stays))]
 pub fn ended_stays()
     ensures { EndedStays }
+{}
+
+/// Whatever is called, a start-up keeps its plan: `next`, `take`, `give_up` and `restart` leave it.
+pub fn plans_stay()
+    ensures { PlansStay }
 {}
 
 /// A wait is polled at most 1000 times: the last of these polls ends the start-up.

@@ -1,0 +1,381 @@
+-- The faults of slaves and of variables, each as its test tells it.
+use Rattle.std.proofs.Common.{◌≡◌, ◌≢◌, ℕ, zero, suc, ◌+◌, ◌<◌, ◌==◌, ◌||◌, ◌⊎◌, not, Bool, true, List, [], ◌∷◌, length, get_or, nat_lt, refl, sym, ap, ◌∙◌, subst, arith, add-one, inl, inr, Some, None, Option, slice_get}
+use Rattle.std.specs.List.{list_any}
+use Rattle.std.proofs.lemmas.Option.{slice_get_within, get_or_from_slice_get, slice_get_read}
+use Rattle.std.proofs.lemmas.List.{get_or_default}
+use Rattle.std.proofs.lemmas.Map.Keys.{any_passes_from_place}
+use Rattle.std.proofs.lemmas.Bool.{cases_Bool, cases_eq, cases_lt, eqb-true, eqb-false, eq-eqb, ne_eqb, ltb-true, lt-ltb, and_parts, and_from, or_cases, or_left, or_right, not-true, not_from_false}
+use Rattle.ec_bits.specs.Bits.{within}
+use Rattle.ec_bits.proofs.AnyLaws.{within_true, within_parts}
+use Rattle.ec_regs.specs.declared.slave_type.Mailbox.{Mailbox}
+use Rattle.ec_regs.specs.declared.manager.ManagerSettings.{ManagerSettings}
+use Rattle.ec_regs.specs.Managers.{span}
+use Rattle.ec_regs.specs.Memory.{ram_start, ram_end}
+use Rattle.ec_regs.specs.Objects.{bits_of}
+use Rattle.ec_regs.specs.Types.{IsMailbox}
+use Rattle.ec_table.specs.declared.rows.Direction.{Direction}
+use Rattle.ec_table.specs.declared.rows.Direction.TheVariants.{Out, In}
+use Rattle.ec_table.specs.declared.rows.LinkRow.{LinkRow}
+use Rattle.ec_table.specs.declared.rows.SlaveRow.{SlaveRow}
+use Rattle.ec_table.specs.Contents.{Contents}
+use Rattle.ec_table.specs.Objects.{entries_of}
+use Rattle.ec_table.specs.Sound as table
+use Rattle.ec_link.specs.Wires.{is_out}
+use Rattle.ec_link.specs.Settings.{receive_manager, send_manager, process_manager, managers_of, meet, some_meet, leaves_ram}
+use Rattle.ec_link.specs.Faults.{in_either, entry_twice, too_many_bits, managers_at, areas_overlap, outside_ram, unit_of_link, differ, units_of_variable, split_variable}
+use Rattle.ec_link.specs.Entries.{names_twice}
+use Rattle.ec_link.specs.FaultLaw.{JoinsUnit}
+use Rattle.ec_link.proofs.FaultSteps.{Tells}
+use Rattle.ec_link.proofs.FaultNames.{any_at, twice_found, twice_from}
+use Rattle.ec_link.proofs.SlavesSound.{has_type}
+
+-- ---- of what a slave assigns
+
+-- the direction in which a test holds
+record Either (test : Direction → Bool) : Type 0 where
+  direction : Direction
+  holds : test direction ≡ true
+
+either_found : (test : Direction → Bool) → in_either test ≡ true → Either test
+either_found test h = elim (or_cases (test Out) (test In) h) [ inl out ↦ record { direction = Out; holds = out } | inr ins ↦ record { direction = In; holds = ins } ]
+
+either_from : (test : Direction → Bool) (d : Direction) → test d ≡ true → in_either test ≡ true
+either_from test Out h = or_left (test Out) (test In) h
+either_from test In h = or_right (test Out) (test In) h
+
+pub twice_tells : (t : Contents) → Tells t 20 t.slaves (λ n (s : SlaveRow). entry_twice t n)
+twice_tells t = record {
+  is = λ clean k r there h.
+      let e = either_found (λ d. names_twice (entries_of t k d)) h in
+      let w = twice_found (entries_of t k e.direction) e.holds in
+      record {
+        row = r;
+        there = there;
+        has = record {
+          direction = e.direction;
+          first = w.first;
+          second = w.second;
+          before = w.before;
+          one = w.one;
+          two = w.two;
+          there = w.there;
+          there_too = w.there_too;
+          no_gap = w.no_gap;
+          index = w.index;
+          subindex = w.subindex;
+        };
+      };
+  was = λ clean k at.
+      let w = at.has in
+      record {
+        row = at.row;
+        there = at.there;
+        hit = either_from (λ d. names_twice (entries_of t k d)) w.direction (twice_from (entries_of t k w.direction) w.first w.second w.one w.two w.before w.there w.there_too w.no_gap w.index w.subindex);
+      };
+}
+
+pub bits_tells : (t : Contents) → Tells t 21 t.slaves (λ n (s : SlaveRow). too_many_bits t n)
+bits_tells t = record {
+  is = λ clean k r there h.
+      let e = either_found (λ d. nat_lt 2048 (bits_of (entries_of t k d))) h in
+      record { row = r; there = there; has = record { direction = e.direction; many = ltb-true 2048 (bits_of (entries_of t k e.direction)) e.holds } };
+  was = λ clean k at. record {
+    row = at.row;
+    there = at.there;
+    hit = either_from (λ d. nat_lt 2048 (bits_of (entries_of t k d))) at.has.direction (lt-ltb 2048 (bits_of (entries_of t k at.has.direction)) at.has.many);
+  };
+}
+
+-- ---- of its managers
+
+-- a manager without a span begins at 0
+StartsLow : ManagerSettings → Type 0
+StartsLow m = span m ≡ 0 → m.start ≡ 0
+
+record TwoMeet (ms : List ManagerSettings) : Type 0 where
+  first : ℕ
+  second : ℕ
+  before : first < second
+  one : ManagerSettings
+  two : ManagerSettings
+  there : slice_get ms first ≡ Some one
+  there_too : slice_get ms second ≡ Some two
+  meets : meet one two ≡ true
+
+meets_found : (ms : List ManagerSettings) → some_meet ms ≡ true → TwoMeet ms
+meets_found [] h = cc
+meets_found (m ∷ ms) h = elim (or_cases (list_any (meet m) ms) (some_meet ms) h) [
+  | inl here ↦ let r = any_at (meet m) ms here in record { first = 0; second = r.place + 1; before = omega arith; one = m; two = r.row; there = refl; there_too = rw add-one r.there; meets = r.hit }
+  | inr later ↦ let r = meets_found ms later in record { first = r.first + 1; second = r.second + 1; before = omega (arith, r.before); one = r.one; two = r.two; there = rw add-one r.there; there_too = rw add-one r.there_too; meets = r.meets }
+]
+
+meets_from : (ms : List ManagerSettings) (i j : ℕ) (a b : ManagerSettings) → i < j → slice_get ms i ≡ Some a → slice_get ms j ≡ Some b → meet a b ≡ true → some_meet ms ≡ true
+meets_from [] i j a b lt x y h = absurd (omega (arith, slice_get_within [] i a x))
+meets_from (m ∷ ms) i zero a b lt x y h = absurd (omega arith)
+meets_from (m ∷ ms) zero (suc j) a b lt x y h =
+    let is : a ≡ m = cc in
+    or_left (list_any (meet m) ms) (some_meet ms) (any_passes_from_place (meet m) ms j b y (subst (λ n. meet n b ≡ true) is h))
+meets_from (m ∷ ms) (suc i) (suc j) a b lt x y h = or_right (list_any (meet m) ms) (some_meet ms) (meets_from ms i j a b (omega arith) x y h)
+
+record Shared (m n : ManagerSettings) : Type 0 where
+  address : ℕ
+  covers : within m.start (span m) address ≡ true
+  covers_too : within n.start (span n) address ≡ true
+
+shared : (m n : ManagerSettings) → (span m ≡ 0 → m.start ≡ 0) → (span n ≡ 0 → n.start ≡ 0) → meet m n ≡ true → Shared m n
+shared m n low low_too h =
+    let both = and_parts (nat_lt m.start (n.start + span n)) (nat_lt n.start (m.start + span m)) h in
+    let a : m.start < n.start + span n = ltb-true m.start (n.start + span n) both.0 in
+    let b : n.start < m.start + span m = ltb-true n.start (m.start + span m) both.1 in
+    elim (cases_eq (span m) 0) [
+      | inl none ↦ absurd (let z = low none in omega arith)
+      | inr some ↦ elim (cases_eq (span n) 0) [
+        | inl none ↦ absurd (let z = low_too none in omega arith)
+        | inr some_too ↦ elim (cases_lt m.start n.start) [
+          | inl lt ↦ record { address = n.start; covers = within_true m.start (span m) n.start (omega arith) b; covers_too = within_true n.start (span n) n.start (omega arith) (omega arith) }
+          | inr ge ↦ record { address = m.start; covers = within_true m.start (span m) m.start (omega arith) (omega arith); covers_too = within_true n.start (span n) m.start ge a }
+        ]
+      ]
+    ]
+
+meet_from : (m n : ManagerSettings) (a : ℕ) → within m.start (span m) a ≡ true → within n.start (span n) a ≡ true → meet m n ≡ true
+meet_from m n a x y =
+    let p = within_parts m.start (span m) a x in
+    let q = within_parts n.start (span n) a y in
+    and_from (nat_lt m.start (n.start + span n)) (nat_lt n.start (m.start + span m)) (lt-ltb m.start (n.start + span n) (omega (arith, p.0, q.1))) (lt-ltb n.start (m.start + span m) (omega (arith, p.1, q.0)))
+
+-- each manager of a list
+record AllLow (ms : List ManagerSettings) : Type 0 where
+  each : (k : ℕ) (m : ManagerSettings) → slice_get ms k ≡ Some m → span m ≡ 0 → m.start ≡ 0
+
+no_more : AllLow []
+no_more = record { each = λ k m at. absurd (omega (arith, slice_get_within [] k m at)) }
+
+low_cons : (x : ManagerSettings) (ms : List ManagerSettings) → StartsLow x → AllLow ms → (k : ℕ) (m : ManagerSettings) → slice_get (x ∷ ms) k ≡ Some m → StartsLow m
+unfolding StartsLow
+low_cons x ms h w zero m at = let is : x ≡ m = cc in subst (λ (n : ManagerSettings). span n ≡ 0 → n.start ≡ 0) is h
+low_cons x ms h w (suc k) m at = w.each k m at
+
+all_cons : (x : ManagerSettings) (ms : List ManagerSettings) → StartsLow x → AllLow ms → AllLow (x ∷ ms)
+unfolding StartsLow
+all_cons x ms h w = record { each = low_cons x ms h w }
+
+receive_low : (mailbox : Option Mailbox) → ((m : Mailbox) → mailbox ≡ Some m → IsMailbox m) → StartsLow (receive_manager mailbox)
+unfolding StartsLow
+receive_low None h = λ z. refl
+receive_low (Some m) h = λ z. let some = (h m refl).receive_some in absurd (omega arith)
+
+send_low : (mailbox : Option Mailbox) → ((m : Mailbox) → mailbox ≡ Some m → IsMailbox m) → StartsLow (send_manager mailbox)
+unfolding StartsLow
+send_low None h = λ z. refl
+send_low (Some m) h = λ z. let some = (h m refl).send_some in absurd (omega arith)
+
+outputs_low : (start bits : ℕ) → StartsLow (process_manager start bits 0x24)
+unfolding StartsLow
+outputs_low start bits = elim (cases_Bool (bits == 0)) [
+  | inl none ↦ rw none (λ z. refl)
+  | inr some ↦ rw some (λ z. let few = eqb-false bits 0 some in let pos : 0 < bits = omega arith in absurd (omega arith))
+]
+
+inputs_low : (start bits : ℕ) → StartsLow (process_manager start bits 0x20)
+unfolding StartsLow
+inputs_low start bits = elim (cases_Bool (bits == 0)) [
+  | inl none ↦ rw none (λ z. refl)
+  | inr some ↦ rw some (λ z. let few = eqb-false bits 0 some in let pos : 0 < bits = omega arith in absurd (omega arith))
+]
+
+managers_low : (mailbox : Option Mailbox) (out_start in_start outs ins : ℕ) → ((m : Mailbox) → mailbox ≡ Some m → IsMailbox m) → AllLow (managers_of mailbox out_start in_start outs ins)
+unfolding managers_of
+managers_low mailbox out_start in_start outs ins h =
+    all_cons (receive_manager mailbox) _ (receive_low mailbox h) (all_cons (send_manager mailbox) _ (send_low mailbox h)
+    (all_cons (process_manager out_start outs 0x24) _ (outputs_low out_start outs) (all_cons (process_manager in_start ins 0x20) _ (inputs_low in_start ins) no_more)))
+
+at_low : (t : Contents) → table.IsSound t → (s : ℕ) (r : SlaveRow) → slice_get t.slaves s ≡ Some r → AllLow (managers_at t s)
+unfolding managers_at
+at_low t sound s r is =
+    let k = has_type t sound s r is in
+    let box : (m : Mailbox) → k.row.mailbox ≡ Some m → IsMailbox m = λ m e. k.sound.limits.mailbox m e in
+    rw k.is (managers_low k.row.mailbox k.row.process.out_start k.row.process.in_start (bits_of (entries_of t s Out)) (bits_of (entries_of t s In)) box)
+
+pub overlap_tells : (t : Contents) → table.IsSound t → Tells t 24 t.slaves (λ n (s : SlaveRow). areas_overlap t n)
+overlap_tells t sound = record {
+  is = λ clean k r there h.
+      let w = meets_found (managers_at t k) h in
+      let all = at_low t sound k r there in
+      let byte = shared w.one w.two (all.each w.first w.one w.there) (all.each w.second w.two w.there_too) w.meets in
+      record {
+        row = r;
+        there = there;
+        has = record {
+          first = w.first;
+          second = w.second;
+          before = w.before;
+          one = w.one;
+          two = w.two;
+          there = w.there;
+          there_too = w.there_too;
+          address = byte.address;
+          covers = byte.covers;
+          covers_too = byte.covers_too;
+        };
+      };
+  was = λ clean k at.
+      let w = at.has in
+      record {
+        row = at.row;
+        there = at.there;
+        hit = meets_from (managers_at t k) w.first w.second w.one w.two w.before w.there w.there_too (meet_from w.one w.two w.address w.covers w.covers_too);
+      };
+}
+
+leaves_is : (m : ManagerSettings) → leaves_ram m ≡ true → (0 < m.length) × ((m.start < ram_start) ⊎ (ram_end < m.start + span m))
+leaves_is m h =
+    let both = and_parts (nat_lt 0 m.length) (nat_lt m.start ram_start || nat_lt ram_end (m.start + span m)) h in (
+      ltb-true 0 m.length both.0,
+      elim (or_cases (nat_lt m.start ram_start) (nat_lt ram_end (m.start + span m)) both.1) [
+        | inl below ↦ inl (ltb-true m.start ram_start below)
+        | inr above ↦ inr (ltb-true ram_end (m.start + span m) above)
+      ],
+    )
+
+leaves_from : (m : ManagerSettings) → 0 < m.length → ((m.start < ram_start) ⊎ (ram_end < m.start + span m)) → leaves_ram m ≡ true
+leaves_from m some past =
+    and_from (nat_lt 0 m.length) (nat_lt m.start ram_start || nat_lt ram_end (m.start + span m)) (lt-ltb 0 m.length some) (elim past [
+      | inl below ↦ or_left (nat_lt m.start ram_start) (nat_lt ram_end (m.start + span m)) (lt-ltb m.start ram_start below)
+      | inr above ↦ or_right (nat_lt m.start ram_start) (nat_lt ram_end (m.start + span m)) (lt-ltb ram_end (m.start + span m) above)
+    ])
+
+pub ram_tells : (t : Contents) → Tells t 25 t.slaves (λ n (s : SlaveRow). outside_ram t n)
+ram_tells t = record {
+  is = λ clean k r there h.
+      let a = any_at leaves_ram (managers_at t k) h in
+      let w = leaves_is a.row a.hit in
+      record { row = r; there = there; has = record { place = a.place; manager = a.row; there = a.there; some = w.0; past = w.1 } };
+  was = λ clean k at. record {
+    row = at.row;
+    there = at.there;
+    hit = any_passes_from_place leaves_ram (managers_at t k) at.has.place at.has.manager at.has.there (leaves_from at.has.manager at.has.some at.has.past);
+  };
+}
+
+-- ---- of a variable
+
+-- a link of the variable, by the unit of its slave
+record UnitAt (t : Contents) (v : ℕ) (ls : List LinkRow) (u : ℕ) : Type 0 where
+  place : ℕ
+  link : LinkRow
+  there : slice_get ls place ≡ Some link
+  variable_is : link.variable ≡ v
+  unit_is : unit_of_link t link ≡ u
+
+unit_later : (t : Contents) (v : ℕ) (l : LinkRow) (ls : List LinkRow) (i u : ℕ) → 0 < i → slice_get (unit_of_link t l ∷ units_of_variable t v ls) i ≡ Some u
+    → ((j w : ℕ) → slice_get (units_of_variable t v ls) j ≡ Some w → UnitAt t v ls w) → UnitAt t v (l ∷ ls) u
+unit_later t v l ls zero u lt h w = absurd (omega arith)
+unit_later t v l ls (suc j) u lt h w = let r = w j u h in record { place = r.place + 1; link = r.link; there = rw add-one r.there; variable_is = r.variable_is; unit_is = r.unit_is }
+
+unit_found : (t : Contents) (v : ℕ) (ls : List LinkRow) (i u : ℕ) → slice_get (units_of_variable t v ls) i ≡ Some u → UnitAt t v ls u
+unit_found t v [] i u h = absurd (omega (arith, slice_get_within [] i u h))
+unit_found t v (l ∷ ls) i u h = elim (cases_Bool (l.variable == v)) [
+  | inl on ↦
+      let f = rw on at h in
+      elim (cases_eq i 0) [
+        | inl first ↦
+            let g : slice_get (unit_of_link t l ∷ units_of_variable t v ls) 0 ≡ Some u = subst (λ k. slice_get (unit_of_link t l ∷ units_of_variable t v ls) k ≡ Some u) first f in
+            record { place = 0; link = l; there = refl; variable_is = eqb-true l.variable v on; unit_is = cc }
+        | inr more ↦ unit_later t v l ls i u (omega arith) f (unit_found t v ls)
+      ]
+  | inr off ↦ let f = rw off at h in let r = unit_found t v ls i u f in record { place = r.place + 1; link = r.link; there = rw add-one r.there; variable_is = r.variable_is; unit_is = r.unit_is }
+]
+
+-- the unit of a link of the variable is among them
+record AmongUnits (t : Contents) (v : ℕ) (ls : List LinkRow) (u : ℕ) : Type 0 where
+  place : ℕ
+  there : slice_get (units_of_variable t v ls) place ≡ Some u
+
+unit_from : (t : Contents) (v : ℕ) (ls : List LinkRow) (k : ℕ) (l : LinkRow) → slice_get ls k ≡ Some l → l.variable ≡ v → AmongUnits t v ls (unit_of_link t l)
+unit_from t v [] k l at is = absurd (omega (arith, slice_get_within [] k l at))
+unit_from t v (x ∷ ls) zero l at is =
+    let same : x ≡ l = cc in
+    let on : (x.variable == v) ≡ true = eq-eqb x.variable v (ap (λ (y : LinkRow). y.variable) same ∙ is) in
+    record { place = 0; there = rw on (ap Some (ap (unit_of_link t) same)) }
+unit_from t v (x ∷ ls) (suc k) l at is =
+    let r = unit_from t v ls k l at is in
+    elim (cases_Bool (x.variable == v)) [
+      | inl on ↦ record { place = r.place + 1; there = rw (on, add-one) r.there }
+      | inr off ↦ record { place = r.place; there = rw off r.there }
+    ]
+
+-- two numbers of a list that are not the same
+record Two (ns : List ℕ) : Type 0 where
+  one : ℕ
+  other_one : ℕ
+  two : one ≢ other_one
+  first : ℕ
+  second : ℕ
+  there : slice_get ns first ≡ Some one
+  there_too : slice_get ns second ≡ Some other_one
+
+differ_found : (ns : List ℕ) → differ ns ≡ true → Two ns
+differ_found [] h = cc
+differ_found (n ∷ ns) h =
+    let r = any_at (λ y. not (y == n)) ns h in
+    record { one = r.row; other_one = n; two = eqb-false r.row n (not-true (r.row == n) r.hit); first = r.place + 1; second = 0; there = rw add-one r.there; there_too = refl }
+
+past_first : (n : ℕ) (ns : List ℕ) (i x : ℕ) → slice_get (n ∷ ns) i ≡ Some x → x ≢ n → list_any (λ y. not (y == n)) ns ≡ true
+past_first n ns zero x at ne = absurd (ne (let e : n ≡ x = cc in sym e))
+past_first n ns (suc i) x at ne = any_passes_from_place (λ y. not (y == n)) ns i x at (not_from_false (x == n) (ne_eqb x n ne))
+
+differ_from : (ns : List ℕ) (i j x y : ℕ) → slice_get ns i ≡ Some x → slice_get ns j ≡ Some y → x ≢ y → differ ns ≡ true
+differ_from [] i j x y a b ne = absurd (omega (arith, slice_get_within [] i x a))
+differ_from (n ∷ ns) i j x y a b ne = elim (cases_eq x n) [
+  | inl is ↦ past_first n ns j y b (λ e. ne (is ∙ sym e))
+  | inr off ↦ past_first n ns i x a off
+]
+
+in_of : (d : Direction) → not (is_out d) ≡ true → d ≡ In
+in_of Out h = cc
+in_of In h = refl
+
+-- a link joins its variable and its slave's unit
+joins_of : (t : Contents) → table.IsSound t → (v u : ℕ) → UnitAt t v t.links u → JoinsUnit t v u
+joins_of t sound v u a =
+    let lt = slice_get_within t.links a.place a.link a.there in
+    let link : table.IsLink t.slaves t.variables a.link = subst (table.IsLink t.slaves t.variables) (get_or_from_slice_get t.links a.place a.link a.link a.there) (sound.links a.place a.link lt) in
+    let row : SlaveRow = get_or t.slaves a.link.slave (record { name = []; type_place = 0; outputs = []; inputs = []; serial = 0; unit = 0 }) in
+    let at : slice_get t.slaves a.link.slave ≡ Some row = slice_get_read t.slaves (length t.slaves) a.link.slave row refl link.slave (get_or_default t.slaves a.link.slave _ row link.slave) in
+    let unit : unit_of_link t a.link ≡ row.unit = rw at refl in
+    record { place = a.place; link = a.link; slave = row; there = a.there; variable_is = a.variable_is; slave_is = at; unit_is = sym unit ∙ a.unit_is }
+
+unit_of : (t : Contents) (v u : ℕ) → (j : JoinsUnit t v u) → unit_of_link t j.link ≡ u
+unit_of t v u j = rw j.slave_is j.unit_is
+
+pub split_tells : (t : Contents) → table.IsSound t → Tells t 44 t.variables (split_variable t)
+split_tells t sound = record {
+  is = λ clean k w there h.
+      let both = and_parts (not (is_out w.direction)) (differ (units_of_variable t k t.links)) h in
+      let two = differ_found (units_of_variable t k t.links) both.1 in
+      record {
+        row = w;
+        there = there;
+        has = record {
+          ins = in_of w.direction both.0;
+          unit = two.one;
+          unit_too = two.other_one;
+          two = two.two;
+          joins = joins_of t sound k two.one (unit_found t k t.links two.first two.one two.there);
+          joins_too = joins_of t sound k two.other_one (unit_found t k t.links two.second two.other_one two.there_too);
+        };
+      };
+  was = λ clean k at.
+      let s = at.has in
+      let a = unit_from t k t.links s.joins.place s.joins.link s.joins.there s.joins.variable_is in
+      let b = unit_from t k t.links s.joins_too.place s.joins_too.link s.joins_too.there s.joins_too.variable_is in
+      let ins : not (is_out at.row.direction) ≡ true = ap (λ d. not (is_out d)) s.ins in
+      record {
+        row = at.row;
+        there = at.there;
+        hit = and_from (not (is_out at.row.direction)) (differ (units_of_variable t k t.links)) ins
+            (differ_from (units_of_variable t k t.links) a.place b.place (unit_of_link t s.joins.link) (unit_of_link t s.joins_too.link) a.there b.there
+            (λ e. s.two (sym (unit_of t k s.unit s.joins) ∙ e ∙ unit_of t k s.unit_too s.joins_too)));
+      };
+}
