@@ -17,7 +17,8 @@ use Rattle.ec_start.specs.declared.action.Request.{Request}
 use Rattle.ec_start.specs.declared.action.Transfer.{Transfer}
 use Rattle.ec_start.specs.declared.action.Transfer.TheVariants.{Upload}
 use Rattle.ec_start.specs.Scripts.{requests, downloads, entries_read, pdo_read, slots_written, assignment_written}
-use Rattle.ec_rise.specs.Stages.{Claim, Config, no_claim, claim_of, claimed, answered, answered_by, talked_over, asked_all, prepared}
+use Rattle.ec_rise.specs.Stages.{Claim, Config, no_claim, claimed, answered, answered_by, talked_over, asked_all, prepared}
+use Rattle.ec_rise.specs.Instants.{claim_of}
 use Rattle.ec_rise.specs.Standing.{Claims, IsAssigned, IsOfKind}
 use Rattle.ec_start.specs.Planned.{IsStartable}
 

@@ -14,7 +14,8 @@ use Rattle.ec_start.specs.declared.action.Action.{Action}
 use Rattle.ec_start.specs.declared.action.Action.TheVariants.{CountSlaves, AskInit, AwaitInit, ClearFmmus, ClearManagers, ClearStations, NameSlave, AskWord, AwaitWord, SetManager, SetFmmu, AskState, AwaitState, SendRequest, AwaitReply}
 use Rattle.ec_start.specs.declared.action.Request.{Request}
 use Rattle.ec_start.specs.Scripts.{named, identified, mailbox_set, raised, exchanged, talked, manager_set, fmmu_set, mapped, each_slave, cleared, phases, requests}
-use Rattle.ec_rise.specs.Stages.{Rise, Stays, Config, Stage, Before, Down, Up, fresh, told, answered, after, Leads, IsLow, asked_all, prepared}
+use Rattle.ec_rise.specs.Stages.{Rise, Stays, Config, Stage, Before, Down, Up, fresh, told, answered, after, IsLow, asked_all, prepared}
+use Rattle.ec_rise.specs.Instants.{Leads}
 use Rattle.ec_start.specs.Planned.{AreMailboxes, IsStartable}
 use Rattle.ec_rise.proofs.Leading.{IsFor, AreFor}
 use Rattle.ec_rise.proofs.Ends.{SameFrame, answered-frame, asked-frame, phase-leads, named-leads, identified-tells, identity_known, boxed, mailbox-tells, mailbox-for, raised-for, raised-tells, talked-for, talked-tells, mapped-for, mapped-tells, mapped_to, others-of}

@@ -34,6 +34,7 @@ use Rattle.ec_start.specs.declared.phase.NextFrame.{NextFrame}
 use Rattle.ec_start.specs.declared.phase.NextFrame.TheVariants.{Send, Waiting, Ended}
 use Rattle.ec_start.specs.declared.verdict.Verdict.{Verdict}
 use Rattle.ec_start.specs.declared.verdict.Verdict.TheVariants.{Next, Shows, Again, Fails}
+use Rattle.ec_start.proofs.LawLemmas.{taken_plan}
 use Rattle.ec_rise.specs.Undisturbed.{Rising, frame_at, all_passed, all_met, turned, turns, ArePlans, AreDevices}
 use Rattle.ec_rise.specs.ComesUp.{IsUpAndWorks, IsOnItsWay}
 use Rattle.ec_rise.specs.BringUp.{rising, IsBroughtTo, Rests, RunsOut, Turns}
@@ -101,6 +102,11 @@ pub has-ended : (r e : Rising) → IsBroughtTo r e → is_ended e.start.phase �
 has-ended _ _ (Rests r h) = h
 has-ended _ _ (RunsOut r h n) = refl
 has-ended _ _ (Turns r e h n rest) = has-ended (turned r) e rest
+
+pub keeps-plan : (r e : Rising) → IsBroughtTo r e → e.start.plan ≡ r.start.plan
+keeps-plan _ _ (Rests r h) = refl
+keeps-plan _ _ (RunsOut r h n) = refl
+keeps-plan _ _ (Turns r e h n rest) = keeps-plan (turned r) e rest ∙ taken_plan (sending r.start) (all_passed r.slaves (frame_at r))
 
 -- a start-up that sends nothing, though no frame is outstanding, ends there
 stopped-by : (s : StartState) (ss : List SlaveState) (p : Phase) → s.phase ≡ p → is_sent p ≡ false → next_frame_by s p ≢ Send → IsBroughtTo (rising s ss) (rising (asked_by s p) ss)

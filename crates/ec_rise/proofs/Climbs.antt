@@ -17,7 +17,8 @@ use Rattle.ec_start.specs.Scripts.{script}
 use Rattle.ec_start.specs.Verdicts.{with_word, verdict}
 use Rattle.ec_start.specs.Running.{StartState, action_of, type_of, sending, advanced, with_shown, judged}
 use Rattle.ec_start.specs.declared.phase.Phase.TheVariants.{Idle, Ready}
-use Rattle.ec_rise.specs.Stages.{Stage, Up, Config, after, Leads}
+use Rattle.ec_rise.specs.Stages.{Stage, Up, Config, after}
+use Rattle.ec_rise.specs.Instants.{Leads}
 use Rattle.ec_rise.specs.Standing.{Stands}
 use Rattle.ec_rise.specs.Frames.{MayEnd}
 use Rattle.ec_rise.specs.Undisturbed.{IsSpelled, all_passed, all_met, Rising, frame_at, turned, turns}

@@ -9,7 +9,9 @@ use Rattle.ec_start.specs.Running.{begun, type_of}
 use Rattle.ec_rise.specs.Stages.{Before, Up, end_of}
 use Rattle.ec_rise.specs.Standing.{Stands}
 use Rattle.ec_rise.specs.Complete.{IsIdentity}
-use Rattle.ec_rise.specs.Undisturbed.{AreDevices, ArePlans, Rising, turns, unplanned, plan_at, slave_of, IsBroughtUp, IsUnderWay, ComesUpLaw}
+use Rattle.ec_rise.specs.Undisturbed.{AreDevices, ArePlans, Rising, turns, unplanned, plan_at, slave_of}
+use Rattle.ec_rise.specs.ComesUp.{IsOnItsWay}
+use Rattle.ec_rise.specs.Turned.{IsBroughtUp, StandsUpLaw}
 use Rattle.ec_rise.proofs.Ends.{script-leads}
 use Rattle.ec_rise.proofs.Sendable.{datagram-good}
 use Rattle.ec_rise.proofs.Commands.{word_of}
@@ -81,7 +83,7 @@ is-now p ps from ss h d = record {
 }
 
 brought-up : (p : Settings) (ps : List Settings) (from : ℕ) (ss : List SlaveState) → ArePlans (p ∷ ps) → AreDevices (p ∷ ps) ss
-    → IsBroughtUp (p ∷ ps) from (turns (length (script (p ∷ ps))) (starting (p ∷ ps) from ss)) × ((k : ℕ) → k < length (script (p ∷ ps)) → IsUnderWay (from + k) (turns k (starting (p ∷ ps) from ss)))
+    → IsBroughtUp (p ∷ ps) from (turns (length (script (p ∷ ps))) (starting (p ∷ ps) from ss)) × ((k : ℕ) → k < length (script (p ∷ ps)) → IsOnItsWay (from + k) (turns k (starting (p ∷ ps) from ss)))
 unfolding begun
 brought-up p ps from ss h d =
     let both : HasRisen (length (p ∷ ps)) (λ i. (plan_at (p ∷ ps) i).kind) (λ i. end_of (plan_at (p ∷ ps) i)) (from + suc (length (phases (p ∷ ps)))) (turns (suc (length (phases (p ∷ ps)))) (starting (p ∷ ps) from ss))
@@ -98,19 +100,19 @@ brought-up p ps from ss h d =
             subst (λ (j : ℕ). Stands (plan_at (p ∷ ps) j).kind j (Up (end_of (plan_at (p ∷ ps) j))) false (slave_of (turns (suc (length (phases (p ∷ ps)))) (starting (p ∷ ps) from ss)).slaves i)) z
             (each-at (λ j s. Stands (plan_at (p ∷ ps) j).kind j (Up (end_of (plan_at (p ∷ ps) j))) false s) 0 i (turns (suc (length (phases (p ∷ ps)))) (starting (p ∷ ps) from ss)).slaves (let c = k.count in omega (arith, l, c)) k.each);
       },
-      λ n l. let w = both.1 n l in record { idle = w.idle; numbers = w.numbers; good = w.good },
+      λ n l. let w = both.1 n l in record { idle = w.idle; next_number = w.numbers; good = w.good },
     )
 
 -- no slaves: one frame
-none-up : (from : ℕ) (ss : List SlaveState) → AreDevices [] ss → IsBroughtUp [] from (turns 1 (starting [] from ss)) × ((k : ℕ) → k < 1 → IsUnderWay (from + k) (turns k (starting [] from ss)))
+none-up : (from : ℕ) (ss : List SlaveState) → AreDevices [] ss → IsBroughtUp [] from (turns 1 (starting [] from ss)) × ((k : ℕ) → k < 1 → IsOnItsWay (from + k) (turns k (starting [] from ss)))
 unfolding begun
 none-up from [] d = (record { ready = refl; numbers = refl; count = refl; slaves = λ i l. absurd (omega (arith, l)) }, first)
   where
-    first : (k : ℕ) → k < 1 → IsUnderWay (from + k) (turns k (starting [] from []))
-    first zero l = record { idle = refl; good = datagram-good CountSlaves from tt; numbers = let z : from ≡ from + 0 = omega arith in z }
+    first : (k : ℕ) → k < 1 → IsOnItsWay (from + k) (turns k (starting [] from []))
+    first zero l = record { idle = refl; good = datagram-good CountSlaves from tt; next_number = let z : from ≡ from + 0 = omega arith in z }
     first (suc k) l = absurd (omega (arith, l))
 none-up from (s ∷ ss) d = absurd (let c = d.count in omega (arith, c))
 
-pub comes-up : ComesUpLaw
-comes-up [] h from ss d = none-up from ss d
-comes-up (p ∷ ps) h from ss d = brought-up p ps from ss h d
+pub stands-up : StandsUpLaw
+stands-up [] h from ss d = none-up from ss d
+stands-up (p ∷ ps) h from ss d = brought-up p ps from ss h d

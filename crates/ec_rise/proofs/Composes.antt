@@ -16,11 +16,13 @@ use Rattle.ec_start.specs.declared.verdict.Verdict.TheVariants.{Next, Shows, Aga
 use Rattle.ec_regs.specs.declared.slave_type.Device.{Device}
 use Rattle.ec_start.specs.Verdicts.{verdict}
 use Rattle.ec_start.specs.Running.{StartState, action_of, type_of, advanced, judged, taken, with_shown}
-use Rattle.ec_rise.specs.Stages.{Config, Stage, Up, Fits, Leads, after}
+use Rattle.ec_rise.specs.Stages.{Config, Stage, Up, Fits, after}
+use Rattle.ec_rise.specs.Keeping.{FrameLaw}
+use Rattle.ec_rise.specs.Instants.{Leads, AreAhead, AllMet, IsUnderWay, Instant, Between, UnderWay, Adrift, Over, IsReady, Starts, LaterLaw, TakeLaw, SlaveLaw}
 use Rattle.ec_rise.specs.Standing.{IsOfKind, Stands}
 use Rattle.ec_rise.specs.Frames.{Arrives, MayRepeat, MayEnd, Met}
 use Rattle.ec_rise.specs.Runs.{with_passed, with_start, with_slave}
-use Rattle.ec_rise.specs.Starting.{Carried, Starting, no_slave, slave_at, trouble_at, kind_at, AreAhead, AllMet, AreSlaves, IsUnderWay, Instant, Between, UnderWay, Adrift, Over, IsReady, Starts, PassLaw, LaterLaw, TakeLaw, SlaveLaw}
+use Rattle.ec_rise.specs.Starting.{Carried, Starting, no_slave, slave_at, trouble_at, kind_at, AreSlaves}
 
 drop_next : (xs : List Action) (k : ℕ) → k < length xs → drop k xs ≡ get_or xs k CountSlaves ∷ drop (k + 1) xs
 drop_next [] k l = absurd (omega arith)
@@ -54,7 +56,7 @@ pass-slaves law w c l h = record {
       (λ _. h.each i b);
 }
 
-pub pass-met : PassLaw → LaterLaw → (w : Starting) (c : Carried) (stages : ℕ → Stage) → c.passed < length w.start.plan → length w.slaves ≡ length w.start.plan → length w.start.plan ≤ 64
+pub pass-met : FrameLaw → LaterLaw → (w : Starting) (c : Carried) (stages : ℕ → Stage) → c.passed < length w.start.plan → length w.slaves ≡ length w.start.plan → length w.start.plan ≤ 64
     → ((i : ℕ) → i < length w.start.plan → Fits i (stages i) (action_of w.start)) → IsDatagram c.datagram
     → Arrives (action_of w.start) c.number c.passed c.datagram
     → AllMet w.start.plan stages w.troubles w.slaves (action_of w.start) c.passed c.datagram
@@ -67,7 +69,7 @@ pass-met law later w c stages l e few fits good arrives met =
     let d : Datagram = c.datagram in
     let stands : Stands (kind_at w.start.plan j) j (stages j) (trouble_at w.troubles j) s = met.to_come j (omega arith) l in
     let b : j < 64 = omega arith in
-    let here = law (kind_at w.start.plan j) j (stages j) (trouble_at w.troubles j) a c.number d s b (fits j l) good arrives stands in
+    let here = law (kind_at w.start.plan j) j (stages j) (trouble_at w.troubles j) a c.number d s b good (fits j l) arrives stands in
     let room : j < length w.slaves = omega arith in (
       record {
         passed = λ i k. set_one (λ n t. Met (kind_at w.start.plan n) n (stages n) (trouble_at w.troubles n) a (datagram_met s d) t) w.slaves j (slave_met s d) i room
@@ -88,7 +90,7 @@ fits_now : (w : Starting) (ends : ℕ → Config) (stages : ℕ → Stage) → w
 fits_now w ends stages l ahead i b = subst (λ (xs : List Action). Leads i (stages i) xs (Up (ends i))) (drop_next (script w.start.plan) w.start.place l) (ahead.each i b)
 
 -- the frame passes the next slave
-pub pass-starts : SlaveLaw → PassLaw → LaterLaw → (ends : ℕ → Config) (w : Starting) → AreSlaves w → (u : IsUnderWay ends w) → u.carried.passed < length w.start.plan
+pub pass-starts : SlaveLaw → FrameLaw → LaterLaw → (ends : ℕ → Config) (w : Starting) → AreSlaves w → (u : IsUnderWay ends w) → u.carried.passed < length w.start.plan
     → Starts ends (with_passed w u.carried)
 pass-starts keeps law later ends w h u l =
     let c : Carried = u.carried in

@@ -34,10 +34,10 @@ pub record Same (s t : SlaveState) : Type 0 where
   pub identity : t.identity ≡ s.identity
   pub image : t.sii.image ≡ s.sii.image
 
-same-refl : (s : SlaveState) → Same s s
+pub same-refl : (s : SlaveState) → Same s s
 same-refl s = record { identity = refl; image = refl }
 
-true-on : (kind : SlaveKind) (s t : SlaveState) → Same s t → IsTrue kind s → IsTrue kind t
+pub true-on : (kind : SlaveKind) (s t : SlaveState) → Same s t → IsTrue kind s → IsTrue kind t
 true-on kind s t e h = record {
   image = ap (λ (i : Image). i.identity) e.image ∙ (h.image ∙ sym e.identity);
   vendor = ap (λ (i : Identity). i.vendor) e.identity ∙ h.vendor;
@@ -79,13 +79,13 @@ by-same Lrw s d = either-same s s.kind.lrw (meets_logically true true 2 s d) (re
 by-same Armw s d = physical-same s d
 by-same Frmw s d = physical-same s d
 
-met-same : (s : SlaveState) (d : Datagram) → Same s (slave_met s d)
+pub met-same : (s : SlaveState) (d : Datagram) → Same s (slave_met s d)
 unfolding meets
 met-same s d = by-same d.command s d
 
 -- ---- the other events
 
-served-same : (s : SlaveState) → Same s (served s)
+pub served-same : (s : SlaveState) → Same s (served s)
 served-same s = record { identity = served-identity s; image = served-image s }
 
 put-by : (s : SlaveState) (b : Bool) (o : Option Manager) → Same s (unwrap_or (if b then option_map (with_manager s 3) o else None) s)
@@ -93,10 +93,10 @@ put-by s true None = same-refl s
 put-by s true (Some m) = record { identity = refl; image = refl }
 put-by s false o = same-refl s
 
-put-same : (s : SlaveState) (place byte : ℕ) → Same s (unwrap_or (input_put s place byte) s)
+pub put-same : (s : SlaveState) (place byte : ℕ) → Same s (unwrap_or (input_put s place byte) s)
 put-same s place byte = put-by s (is_running s.al.state) (app_put (manager_at s.managers 3) place byte)
 
-got-by : (s : SlaveState) (o : Option Got) → Same s (output_taken s o)
+pub got-by : (s : SlaveState) (o : Option Got) → Same s (output_taken s o)
 got-by s None = same-refl s
 got-by s (Some got) = record { identity = refl; image = refl }
 
@@ -104,11 +104,11 @@ either-slave : (s : SlaveState) (b : Bool) (x y : SlaveState) → Same s x → S
 either-slave s true x y h k = h
 either-slave s false x y h k = k
 
-fault-same : (s : SlaveState) → Same s (faulted s)
+pub fault-same : (s : SlaveState) → Same s (faulted s)
 unfolding faulted
 fault-same s = either-slave s (al.is_operational s.al.state) _ s (record { identity = refl; image = refl }) (same-refl s)
 
-reset-true : (kind : SlaveKind) (s : SlaveState) → IsTrue kind s → IsTrue kind (power_on s.kind s.identity)
+pub reset-true : (kind : SlaveKind) (s : SlaveState) → IsTrue kind s → IsTrue kind (power_on s.kind s.identity)
 unfolding power_on
 reset-true kind s h = record { image = refl; vendor = h.vendor; product = h.product; revision = h.revision }
 
@@ -156,7 +156,7 @@ runs-true ps planned w v (Steps x u y e r) g h =
 runs-true ps planned w v (Begins x y f failed empty r) g h =
     runs-true ps planned (with_begun w) v r (runs-good ps planned w (with_begun w) (Begins w (with_begun w) f failed empty (Stops (with_begun w))) g) (by-slaves w (with_begun w) (begun-plan w) h.each)
 
-device-of : (kind : SlaveKind) (s : SlaveState) → IsOfKind kind s → IsTrue kind s → IsDevice kind s
+pub device-of : (kind : SlaveKind) (s : SlaveState) → IsOfKind kind s → IsTrue kind s → IsDevice kind s
 device-of kind s k h = record {
   slave = k;
   spelled = record {

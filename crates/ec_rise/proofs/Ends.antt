@@ -19,7 +19,8 @@ use Rattle.ec_start.specs.declared.action.Transfer.{Transfer}
 use Rattle.ec_start.specs.declared.action.Transfer.TheVariants.{Download, Upload}
 use Rattle.ec_start.specs.Scripts.{named, identified, mailbox_set, raised, exchanged, talked, manager_set, fmmu_set, mapped, each_slave, cleared, phases, script, requests}
 use Rattle.ec_start.specs.Planned.{AreRequests, IsStartable, AreMailboxes}
-use Rattle.ec_rise.specs.Stages.{talked_over, asked_all, prepared, end_of, Rise, Stays, Config, Before, Down, Up, fresh, answered, answered_by, claimed, CanClimb, IsClimbing, climbing, IsLow, Leads, IsStepUp}
+use Rattle.ec_rise.specs.Stages.{talked_over, asked_all, prepared, end_of, Rise, Stays, Config, Before, Down, Up, fresh, answered, answered_by, claimed, CanClimb, IsClimbing, climbing, IsLow, IsStepUp}
+use Rattle.ec_rise.specs.Instants.{Leads}
 use Rattle.ec_rise.proofs.Passing.{others-stay}
 use Rattle.ec_rise.proofs.Leading.{leads-append, AreFor, for-append, others-lead, Tells, tells-append, own-leads, each-leads}
 

@@ -6,7 +6,8 @@ use Rattle.ec_link.specs.declared.settings.Settings.{Settings}
 use Rattle.ec_start.specs.declared.action.Action.{Action}
 use Rattle.ec_start.specs.declared.action.Action.TheVariants.{CountSlaves, AskInit, AwaitInit, ClearFmmus, ClearManagers, ClearStations, NameSlave, AskWord, AwaitWord, SetManager, SetFmmu, AskState, AwaitState, SendRequest, AwaitReply}
 use Rattle.ec_start.specs.Scripts.{each_slave}
-use Rattle.ec_rise.specs.Stages.{Config, Stage, Up, told, after, Fits, CanTell, Leads}
+use Rattle.ec_rise.specs.Stages.{Config, Stage, Up, told, after, Fits, CanTell}
+use Rattle.ec_rise.specs.Instants.{Leads}
 use Rattle.ec_rise.proofs.Passing.{others-stay}
 
 -- ---- runs of actions

@@ -1,3 +1,4 @@
+pub mod SwitchedOn
 pub mod Resets
 pub mod Alike
 pub mod Serves
@@ -47,5 +48,6 @@ pub mod Beginnings
 pub mod Carrying
 pub mod Up
 pub mod Devices
+pub mod Genuine
 pub mod BringUp
 pub mod Keeping

@@ -8,10 +8,11 @@ use Rattle.ec_regs.specs.declared.slave_type.Entry.{Entry}
 use Rattle.ec_regs.specs.Types.{device_identity}
 use Rattle.ec_start.specs.Scripts.{script}
 use Rattle.ec_start.specs.Running.{begun}
-use Rattle.ec_rise.specs.Undisturbed.{IsDevice, AreDevices, ArePlans, plan_at, slave_of, turns, IsBroughtUp}
+use Rattle.ec_rise.specs.Undisturbed.{IsDevice, AreDevices, ArePlans, plan_at, slave_of, turns}
+use Rattle.ec_rise.specs.Turned.{IsBroughtUp}
 use Rattle.ec_rise.proofs.Resets.{power_on_is}
 use Rattle.ec_rise.proofs.Table.{mix, planned}
-use Rattle.ec_rise.proofs.ComesUp.{comes-up}
+use Rattle.ec_rise.proofs.ComesUp.{stands-up}
 
 one-entry : (e : Entry) → IsNumbered e → All IsNumbered (e ∷ [])
 one-entry e h zero d l = h
@@ -94,4 +95,4 @@ devices = record { count = refl; few = omega arith; each = by-each }
     by-each (suc i) l = absurd (omega (arith, l))
 
 pub one-comes-up : IsBroughtUp (mix ∷ []) 0 (turns (length (script (mix ∷ []))) (record { start = begun (mix ∷ []) 0; slaves = power_on mix.kind (device_identity mix.kind.device 0) ∷ [] }))
-one-comes-up = (comes-up (mix ∷ []) plans 0 (power_on mix.kind (device_identity mix.kind.device 0) ∷ []) devices).0
+one-comes-up = (stands-up (mix ∷ []) plans 0 (power_on mix.kind (device_identity mix.kind.device 0) ∷ []) devices).0

@@ -20,7 +20,8 @@ use Rattle.ec_start.specs.declared.verdict.Verdict.TheVariants.{Next, Shows, Aga
 use Rattle.ec_start.specs.Verdicts.{verdict}
 use Rattle.ec_start.specs.Running.{StartState, sending, action_of, type_of, taken, judged, begun}
 use Rattle.ec_start.specs.declared.phase.Phase.TheVariants.{Idle, Sent, Ready, Failed}
-use Rattle.ec_rise.specs.Stages.{Config, Talk, Stage, Leads, Before, Up, end_of}
+use Rattle.ec_rise.specs.Stages.{Config, Talk, Stage, Before, Up, end_of}
+use Rattle.ec_rise.specs.Instants.{Leads, AreAhead, IsBetween, Instant, Between, UnderWay, Adrift, Over, IsReady, Starts, LaterLaw, TakeLaw, SlaveLaw}
 use Rattle.ec_rise.specs.Standing.{IsOfKind, IsConfigured, IsSilent, IsUpAt, IsFaultedAt, Talks, Stands}
 use Rattle.ec_rise.specs.Frames.{Arrives}
 use Rattle.ec_rise.proofs.Resets.{power_on_is, reset_stands}
@@ -31,14 +32,11 @@ use Rattle.ec_rise.proofs.Keeps.{slave-law}
 use Rattle.ec_start.specs.Planned.{IsStartable}
 use Rattle.ec_rise.proofs.Assigns.{assignment-held}
 use Rattle.ec_rise.proofs.Ends.{script-leads, asked-frame}
-use Rattle.ec_rise.specs.Starting.{Carried, Starting, slave_at, trouble_at, kind_at, no_plan, AreAhead, AreSlaves, IsBetween, Instant, Between, UnderWay, Adrift, Over, IsReady, Starts, PassLaw, LaterLaw, TakeLaw, SlaveLaw}
+use Rattle.ec_rise.specs.Starting.{Carried, Starting, slave_at, trouble_at, kind_at, no_plan, AreSlaves}
 use Rattle.ec_rise.specs.Runs.{is_idle, is_beginning, with_passed, with_start, with_sent, with_begun, with_empty, with_lost, AreStartable, ends_of, Happens, Sends, Passes, Loses, Returns, Strays, Closes, Serves, Puts, Gets, Faults, Resets, Runs, Stops, Steps, Begins, HoldsAll, Works, HasFault, Shown, Working, Faulted, WasReset, StartUpLaw, IsNew}
 use Rattle.ec_rise.proofs.Composes.{pass-starts, pass-slaves, take-starts, slave-starts, Keeps}
 
 -- ---- the laws
-
-passes : PassLaw
-passes kind i st trouble a number d s l f good r h = pass-law kind i st trouble a number d s l good f r h
 
 later : LaterLaw
 later kind i st trouble other j sj had a number d s t l b f good r h m = later-law kind i st trouble other j sj had a number d s t l b good f r h m
@@ -216,7 +214,7 @@ happens-starts ends w v (Passes c full l e) h = subst (Starts ends) (sym e) (by 
     by (Between b) = absurd (none-some c (sym b.empty ∙ full))
     by (UnderWay b) =
         let q : b.carried ≡ c = some-same b.carried c (sym b.full ∙ full) in
-        subst (λ (x : Carried). Starts ends (with_passed w x)) q (pass-starts keeps passes later ends w h.slaves b (subst (λ (x : Carried). x.passed < length w.start.plan) (sym q) l))
+        subst (λ (x : Carried). Starts ends (with_passed w x)) q (pass-starts keeps pass-law later ends w h.slaves b (subst (λ (x : Carried). x.passed < length w.start.plan) (sym q) l))
     by (Adrift b) = absurd (none-some c (sym b.empty ∙ full))
     by (Over b) = over ends (with_passed w c) b.failure (pass-slaves keeps w c l h.slaves) b.failed
     by (IsReady b) = absurd (none-some c (sym b.empty ∙ full))

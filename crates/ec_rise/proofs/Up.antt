@@ -4,7 +4,7 @@ use Rattle.std.proofs.lemmas.Bool.{both_ways}
 use Rattle.ec_slave.specs.State.{SlaveState}
 use Rattle.ec_link.specs.declared.settings.Settings.{Settings}
 use Rattle.ec_rise.specs.Undisturbed.{plan_at}
-use Rattle.ec_rise.proofs.ComesUp.{comes-up as start-comes-up}
+use Rattle.ec_rise.proofs.ComesUp.{stands-up}
 use Rattle.ec_rise.specs.Runs.{Works, Shown, Working, Faulted, WasReset}
 use Rattle.ec_link.specs.Plan.{plan_of}
 use Rattle.ec_rise.proofs.CompleteLaws.{are-plans}
@@ -18,14 +18,14 @@ works-of i p s (WasReset t h) = absurd (both_ways false refl t)
 
 pub comes-up : ComesUpLaw
 comes-up ps h from ss d =
-    let k = start-comes-up ps h from ss d in (
+    let k = stands-up ps h from ss d in (
       record {
         ready = k.0.ready;
         next_number = k.0.numbers;
         count = k.0.count;
         work = λ i l. works-of i (plan_at ps i) _ (stands-shown i (plan_at ps i) false _ (h.planned i l) (k.0.slaves i l));
       },
-      λ n l. let w = k.1 n l in record { idle = w.idle; next_number = w.numbers; good = w.good },
+      k.1,
     )
 
 pub compiled-up : CompiledUpLaw

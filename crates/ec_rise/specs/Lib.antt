@@ -1,18 +1,27 @@
--- What a reader must believe of the laws of a start-up, in this order.
+-- To be believed, of the laws of a start-up, in this order.
+-- The slaves of a table as they are switched on.
+pub mod SwitchedOn
 -- How far a start-up has brought a slave, action by action, and what a slave holds there.
 pub mod Stages
 pub mod Standing
+-- What a frame under way is at each slave, and where it leads one that it has passed.
+pub mod Frames
 -- What a plan must be beyond `IsStartable`, that an undisturbed start-up ends Ready; an undisturbed start-up.
 pub mod Complete
 pub mod Undisturbed
 -- The runs of a segment that starts up, disturbed as they may be, and what holds at Ready.
 pub mod Starting
 pub mod Runs
-pub mod Slots
 pub mod ComesUp
+-- Devices stay devices of their types.
+pub mod Devices
 -- What befalls a slave keeps what is known of it.
 pub mod Keeping
 -- Bringing up a ring.
 pub mod BringUp
--- What a frame under way is at each slave: the proofs' own.
-pub mod Frames
+-- Private: the rest serves the proofs alone, and no public clause cites it.
+-- what holds at every instant of a world that starts up, and the frame's bytes in its slot
+pub mod Instants
+pub mod Slots
+-- what turns lead to, in words of stages
+pub mod Turned

@@ -209,16 +209,6 @@ Fits i st (AwaitState t state) = FitsOne t i st (AwaitState t state)
 Fits i st (SendRequest t counter b r) = FitsOne t i st (SendRequest t counter b r)
 Fits i st (AwaitReply t b r) = FitsOne t i st (AwaitReply t b r)
 
--- the actions ahead fit one after another, and bring the slave to a stage
-abbrev pub Leads : ℕ → Stage → List Action → Stage → Type 0
-Leads i st [] end = st ≡ end
-Leads i st (a ∷ rest) end = Fits i st a × Leads i (after i st a) rest end
-
--- what a whole start-up brings a slave to
-abbrev pub claim_of : List ℕ → Bool → Claim
-claim_of indices false = no_claim
-claim_of indices true = record { count = Some (length indices); slots = indices }
-
 -- ---- the configurations on the way
 
 abbrev pub talked_over : Config → List Request → Config

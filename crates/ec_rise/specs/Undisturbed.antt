@@ -1,5 +1,5 @@
 -- A start-up that nothing disturbs: each frame passes all slaves in order, each slave serves once, and the frame comes back.
-use Rattle.std.specs.Prelude.{ℕ, zero, suc, ◌+◌, ◌<◌, ◌≤◌, ◌≡◌, List, [], ◌∷◌, length, map, get_or, false}
+use Rattle.std.specs.Prelude.{ℕ, zero, suc, ◌<◌, ◌≤◌, ◌≡◌, List, [], ◌∷◌, length, map, get_or}
 use Rattle.ec_regs.specs.declared.slave_type.Device.{Device}
 use Rattle.ec_regs.specs.Types.{SlaveKind, plain_kind, device_identity}
 use Rattle.ec_frame.specs.Datagram.{Datagram, IsDatagram}
@@ -10,11 +10,8 @@ use Rattle.ec_slave.specs.Serving.{served}
 use Rattle.ec_link.specs.declared.settings.Settings.{Settings}
 use Rattle.ec_link.specs.Meaning as meant
 use Rattle.ec_start.specs.Actions.{datagram_of, frame_of, numbered}
-use Rattle.ec_start.specs.Scripts.{script}
-use Rattle.ec_start.specs.Running.{StartState, action_of, begun, sending, taken, IsStartAnswer}
-use Rattle.ec_start.specs.declared.phase.Phase.TheVariants.{Idle, Ready}
-use Rattle.ec_rise.specs.Stages.{Up, end_of}
-use Rattle.ec_rise.specs.Standing.{IsOfKind, Stands}
+use Rattle.ec_start.specs.Running.{StartState, action_of, sending, taken, IsStartAnswer}
+use Rattle.ec_rise.specs.Standing.{IsOfKind}
 use Rattle.ec_start.specs.Planned.{IsStartable}
 use Rattle.ec_rise.specs.Complete.{IsComplete}
 
@@ -82,27 +79,6 @@ pub record AreDevices (ps : List Settings) (ss : List SlaveState) : Type 0 where
 pub record ArePlans (ps : List Settings) : Type 0 where
   pub planned : (i : ℕ) → i < length ps → IsStartable (plan_at ps i)
   pub complete : (i : ℕ) → i < length ps → IsComplete (plan_at ps i)
-
--- Ready, after as many frames as the script has actions, with every slave at the end of the script
-pub record IsBroughtUp (ps : List Settings) (from : ℕ) (r : Rising) : Type 0 where
-  pub ready : r.start.phase ≡ Ready
-  pub numbers : r.start.next ≡ from + length (script ps)
-  pub count : length r.slaves ≡ length ps
-  pub slaves : (i : ℕ) → i < length ps → Stands (plan_at ps i).kind i (Up (end_of (plan_at ps i))) false (slave_of r.slaves i)
-
--- before that the start-up hasn't ended, no frame is outstanding, each frame took one number, and the next one can be sent
-pub record IsUnderWay (number : ℕ) (r : Rising) : Type 0 where
-  pub idle : r.start.phase ≡ Idle
-  pub numbers : r.start.next ≡ number
-  pub good : IsDatagram (frame_at r)
-
--- An undisturbed start-up ends Ready: of every plan, from devices of its types in any state, after one frame for each
--- action of the script. No wait has a second poll.
-abbrev pub ComesUpLaw : Type 0
-ComesUpLaw =
-    (ps : List Settings) → ArePlans ps → (from : ℕ) (ss : List SlaveState) → AreDevices ps ss
-    → let r : Rising = record { start = begun ps from; slaves = ss } in
-    IsBroughtUp ps from (turns (length (script ps)) r) × ((k : ℕ) → k < length (script ps) → IsUnderWay (from + k) (turns k r))
 
 -- ---- whole frames
 

@@ -3,6 +3,7 @@
 ghost use Rattle.ec_rise.specs.Keeping.{StandingLaw, GoneLaw, ForOthersLaw, FrameLaw};
 ghost use Rattle.ec_rise.specs.Runs.{BeginningLaw, StartUpLaw};
 ghost use Rattle.ec_rise.specs.Undisturbed.{RoundLaw};
+ghost use Rattle.ec_rise.specs.Devices.{DevicesLaw, RingLaw, SwitchedOnLaw};
 ghost use Rattle.ec_rise.specs.ComesUp.{AgainLaw, ComesUpLaw, CompiledPlansLaw, CompiledUpLaw};
 
 /// After every run of a new world that makes it ready, each slave works as the plan says, or it had a fault or a reset
@@ -60,4 +61,22 @@ pub fn for_others()
 /// A frame of the start-up that passes a slave brings it where the action leads, if it may come back as done.
 pub fn frame()
     ensures { FrameLaw }
+{}
+
+/// A slave that was just switched on, with the identity of a device of its type, is a genuine device of the type.
+#[tactic(auto, using(crate::proofs::Genuine::switched_on))]
+pub fn switched_on_slaves_are_devices()
+    ensures { SwitchedOnLaw }
+{}
+
+/// It stays one, whatever happens to it: at any frame, a firmware step, what its application writes or reads, a fault, a reset.
+pub fn devices_stay_devices()
+    ensures { DevicesLaw }
+{}
+
+/// So do the slaves of a ring, at any frame past all of them and whatever happens to one of them; and a start-up may find them in
+/// whatever state that leaves them.
+#[tactic(auto, using(crate::proofs::Genuine::stay))]
+pub fn rings_stay_devices()
+    ensures { RingLaw }
 {}

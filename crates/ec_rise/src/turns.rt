@@ -69,6 +69,7 @@ fn make_turns(startup: &mut Startup, ring: &mut Ring)
 pub fn bring_up(startup: &mut Startup, ring: &mut Ring)
     requires { is_sent startup.old.phase ≡ false }
     ensures steps { IsBroughtTo (rising startup.old ring.old) (rising startup.new ring.new) }
+    ensures plan { startup.new.plan ≡ startup.old.plan }
     ensures ended { is_ended startup.new.phase ≡ true }
     ensures not_given_up { startup.old.phase ≡ Idle → startup.new.phase ≢ Failed Lost }
     ensures up { (ps : List Settings) (from : ℕ) → ArePlans ps → startup.old ≡ begun ps from → AreDevices ps ring.old

@@ -1,6 +1,9 @@
 use Rattle.ec_rise.specs.BringUp.{rising}
-use Rattle.ec_rise.proofs.BringUp.{has-ended, not-given-up, up}
+use Rattle.ec_rise.proofs.BringUp.{has-ended, keeps-plan, not-given-up, up}
 use Rattle.ec_rise.proofs.turns.bring_up.Goals as goal
+
+pub returns-clause-plan : goal.returns-clause-plan
+returns-clause-plan c = keeps-plan _ (rising c.make_turns.new.startup c.make_turns.new.ring) c.make_turns.ensures
 
 pub returns-clause-ended : goal.returns-clause-ended
 returns-clause-ended c = has-ended _ (rising c.make_turns.new.startup c.make_turns.new.ring) c.make_turns.ensures
