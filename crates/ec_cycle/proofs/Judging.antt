@@ -1,14 +1,14 @@
 -- Loops over what is kept.
-use Rattle.std.proofs.Common.{ℕ, zero, suc, ◌+◌, ◌-◌, ◌<◌, ◌≤◌, ◌≡◌, ◌==◌, ◌&&◌, Bool, true, false, Option, Some, None, refl, sym, ◌∙◌, ap, inl, inr, arith, List, [], ◌∷◌, length, map, get_or, set, take, drop, if◌then◌else◌, is_some, bit_or, get_or-set_same, get_or-set_other}
+use Rattle.std.proofs.Common.{ℕ, zero, suc, ◌+◌, ◌-◌, ◌<◌, ◌≤◌, ◌≡◌, ◌==◌, ◌&&◌, Bool, true, false, Option, Some, None, refl, sym, ◌∙◌, ap, inl, inr, arith, List, [], ◌∷◌, length, map, get_or, set, take, if◌then◌else◌, is_some, bit_or, get_or-set_same, get_or-set_other}
 use Rattle.std.proofs.lemmas.Bool.{cases_eq, eq-eqb, ne_eqb}
-use Rattle.std.proofs.lemmas.List.{take_all, drop_all, get_or_default}
+use Rattle.std.proofs.lemmas.List.{take_all, take_more, map-append, get_or_default}
+use Rattle.std.proofs.lemmas.List.Sums.{fold-append}
 use Rattle.ec_link.specs.declared.plan.Predicted.{Predicted}
 use Rattle.ec_link.specs.Shares.{predicted}
-use Rattle.std.proofs.Math.Seq.{drop-cons}
 use Rattle.ec_bits.proofs.AnyLaws.{if_true, if_false}
 use Rattle.ec_link.specs.declared.plan.PartPlan.{PartPlan}
 use Rattle.ec_link.specs.Plan.{PlanState, part_at}
-use Rattle.ec_cycle.specs.Closing.{KeptPart, nones, or_words, word_of_kept, all_from, came_back_as, is_good, unit_taken}
+use Rattle.ec_cycle.specs.Closing.{KeptPart, nones, joined, word_of_kept, all_from, came_back_as, is_good, unit_taken}
 
 -- ---- how many are missing
 
@@ -54,23 +54,20 @@ pub ruleset missing_steps = (missing_more, missing_same, missing_all)
 
 -- ---- words
 
-pub word_more : (xs : List (Option KeptPart)) (count n : ℕ) (o : Option KeptPart) (words more : ℕ) → count ≡ length xs → n < count → o ≡ get_or xs (count - 1 - n) o → words ≡ or_words (drop (count - n) xs)
-    → more ≡ bit_or (word_of_kept o) words → more ≡ or_words (drop (count - (n + 1)) xs)
-word_more xs count n o words more size l at h e =
-    let back : count - (n + 1) ≡ count - 1 - n = omega arith in
-    let next : suc (count - 1 - n) ≡ count - n = omega arith in
-    let cut : drop (count - 1 - n) xs ≡ get_or xs (count - 1 - n) o ∷ drop (suc (count - 1 - n)) xs = drop-cons xs (count - 1 - n) o (omega arith) in
-    e ∙ (ap (λ (w : ℕ). bit_or (word_of_kept o) w) h
-    ∙ sym (ap (λ (j : ℕ). or_words (drop j xs)) back ∙ (ap or_words cut ∙ (ap (λ (j : ℕ). bit_or (word_of_kept (get_or xs (count - 1 - n) o)) (or_words (drop j xs))) next
-    ∙ ap (λ (q : Option KeptPart). bit_or (word_of_kept q) (or_words (drop (count - n) xs))) (sym at)))))
+pub word_more : (xs : List (Option KeptPart)) (i words more : ℕ) (o : Option KeptPart) → i < length xs → o ≡ get_or xs i o → words ≡ joined (map word_of_kept (take i xs))
+    → more ≡ bit_or words (word_of_kept o) → more ≡ joined (map word_of_kept (take (i + 1) xs))
+word_more xs i words more o l at h e =
+    let one : List (Option KeptPart) = get_or xs i o ∷ [] in
+    let first : List ℕ = map word_of_kept (take i xs) in
+    e ∙ (ap (λ (w : ℕ). bit_or w (word_of_kept o)) h
+    ∙ sym (ap (λ (ys : List (Option KeptPart)). joined (map word_of_kept ys)) (take_more xs i o l)
+    ∙ (ap joined (map-append word_of_kept (take i xs) one)
+    ∙ (fold-append bit_or 0 first (map word_of_kept one) ∙ ap (λ (q : Option KeptPart). bit_or (joined first) (word_of_kept q)) (sym at)))))
 
-pub word_start : (xs : List (Option KeptPart)) (count : ℕ) → count ≡ length xs → 0 ≡ or_words (drop (count - 0) xs)
-word_start xs count size = sym (ap or_words (drop_all (count - 0) xs (omega arith)))
+pub word_all : (xs : List (Option KeptPart)) (i words : ℕ) → length xs ≤ i → words ≡ joined (map word_of_kept (take i xs)) → words ≡ joined (map word_of_kept xs)
+word_all xs i words l h = h ∙ ap (λ (ys : List (Option KeptPart)). joined (map word_of_kept ys)) (take_all i xs l)
 
-pub word_all : (xs : List (Option KeptPart)) (count n words : ℕ) → count ≤ n → words ≡ or_words (drop (count - n) xs) → words ≡ or_words xs
-word_all xs count n words l h = let z : count - n ≡ 0 = omega arith in h ∙ ap (λ (j : ℕ). or_words (drop j xs)) z
-
-pub ruleset word_steps = (word_more, word_start, word_all)
+pub ruleset word_steps = (word_more, word_all)
 
 -- ---- judging
 

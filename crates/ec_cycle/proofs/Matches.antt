@@ -87,6 +87,7 @@ pub foreign : (m : MasterState) (c : OpenCycle) (payload : List ℕ) (p : Payloa
 foreign m c payload p is spelled way count few none = record {
   kept = λ d k q h. absurd (no d k q h);
   foreign = λ f. (refl, refl);
+  only = λ e. absurd cc;
 }
   where
     no : (d : OpenCycle) (k : ℕ) (q : Payload) → IsAnswer m d payload k q → ⊥
@@ -102,9 +103,13 @@ pub taken : (m : MasterState) (c : OpenCycle) (payload : List ℕ) (p : Payload)
     → AnswersPart p.datagrams c.frames c.kept k → IsTaken m payload true (with_kept m c k (kept_of (part_at m.plan.parts k) p.datagrams))
 taken m c payload p k is spelled way count few h = record {
   kept = λ d j q a. (refl, told d j q a);
-  foreign = λ f. absurd (f c k p (record { is_open = is; there = (let x = h.there in omega arith); not_kept = h.not_kept; spelled = spelled; answers = part_answers m.plan c.number c.frames c.kept k p.datagrams way count h }));
+  foreign = λ f. absurd (f c k p answer);
+  only = λ e. record { cycle = c; part = k; frame = p; answer = answer };
 }
   where
+    answer : IsAnswer m c payload k p
+    answer = record { is_open = is; there = (let x = h.there in omega arith); not_kept = h.not_kept; spelled = spelled; answers = part_answers m.plan c.number c.frames c.kept k p.datagrams way count h }
+
     told : (d : OpenCycle) (j : ℕ) (q : Payload) → IsAnswer m d payload j q → with_kept m c k (kept_of (part_at m.plan.parts k) p.datagrams) ≡ with_kept m d j (kept_of (part_at m.plan.parts j) q.datagrams)
     told d j q a =
         let same : c ≡ d = let x = a.is_open in cc in
@@ -134,3 +139,11 @@ kept_on p number frames kept k ds way count kept_count h = record {
     | inr ne ↦ way.sizes j q (sym (get_or-set_other kept k j (Some (kept_of (part_at p.parts k) ds)) None ne) ∙ e)
   ];
 }
+
+-- a master stays one of its plan
+pub taken_plan : (old new : MasterState) (payload : List ℕ) (is_kept : Bool) → IsTaken old payload is_kept new → new.plan ≡ old.plan
+taken_plan old new payload true h = let a = h.only refl in ap (λ (m : MasterState). m.plan) (h.kept a.cycle a.part a.frame a.answer).1
+taken_plan old new payload false h = ap (λ (m : MasterState). m.plan) (h.foreign (λ c k p a. false_true (h.kept c k p a).0)).1
+  where
+    false_true : false ≡ true → ⊥
+    false_true e = cc

@@ -14,11 +14,23 @@ use Rattle.ec_link.specs.Usable.{IsUsable, IsOutLink, IsInLink}
 use Rattle.ec_cycle.specs.declared.run.Run.{Run}
 use Rattle.ec_cycle.specs.declared.run.InputRun.{InputRun}
 use Rattle.ec_cycle.specs.Closing.{KeptPart, all_from, is_good, unit_taken, bytes_of, part_of_slave, inputs_closed}
-use Rattle.ec_cycle.specs.Copies.{output_run, run_copied, runs_copied, outputs_copied, is_of_part, part_runs, FitsRun, input_run, input_copied, inputs_copied, adjoin, both, inputs_adjoin, both_inputs, merged, merged_from, output_runs, input_runs, input_taken, inputs_taken, FitsInput}
+use Rattle.ec_cycle.specs.Copies.{output_run, run_copied, runs_copied, outputs_copied, is_of_part, part_runs, FitsRun, input_run, input_copied, inputs_copied, adjoin, both, inputs_adjoin, both_inputs, merged, merged_from, output_runs, input_runs}
 use Rattle.ec_cycle.specs.Frames.{process_bytes}
 use Rattle.ec_cycle.proofs.Copying.{area_inside, inputs_by_links}
 use Rattle.ec_cycle.proofs.Answering.{length-process_bytes}
 use Rattle.ec_cycle.proofs.Placing.{process_by_links, process_again}
+
+-- run after run of those whose unit is taken
+abbrev pub input_taken : PlanState → List (Option KeptPart) → InputRun → List ℕ → List ℕ
+input_taken p kept r image = if unit_taken p kept r.unit then run_copied (bytes_of (get_or kept r.part None)) r.run image else image
+
+abbrev pub inputs_taken : PlanState → List (Option KeptPart) → List InputRun → List ℕ → List ℕ
+inputs_taken p kept [] image = image
+inputs_taken p kept (r ∷ rs) image = inputs_taken p kept rs (input_taken p kept r image)
+
+-- such a run lies inside what was brought and inside the image
+abbrev FitsInput : PlanState → List (Option KeptPart) → ℕ → InputRun → Type 0
+FitsInput p kept bytes r = unit_taken p kept r.unit ≡ true → (r.part < length kept) × FitsRun bytes (length (bytes_of (get_or kept r.part None))) r.run
 
 -- ---- a loop over runs
 

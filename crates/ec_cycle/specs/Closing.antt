@@ -1,6 +1,7 @@
 -- What a master keeps of the frames that came back, when it takes a sync unit's inputs, and what it reports. A choice of this
 -- project: a unit's inputs are taken all at once or not at all, judged by the unit's own parts.
 use Rattle.std.specs.Prelude.{ℕ, ◌+◌, ◌-◌, ◌*◌, ◌==◌, ◌&&◌, List, [], ◌∷◌, length, map, get_or, Bool, true, false, if◌then◌else◌, Option, Some, None, option_and_then, option_map, slice_index, bit_or}
+use Rattle.std.specs.List.{fold}
 use Rattle.ec_bits.specs.Bits.{bit, overlay}
 use Rattle.ec_frame.specs.Datagram.{Datagram}
 use Rattle.ec_link.specs.declared.plan.Predicted.{Predicted}
@@ -108,10 +109,13 @@ abbrev pub word_of_kept : Option KeptPart → ℕ
 word_of_kept None = 0
 word_of_kept (Some q) = q.al_word
 
--- the OR of the AL words that came back
+-- words joined by OR
+abbrev pub joined : List ℕ → ℕ
+joined words = fold bit_or 0 words
+
+-- the AL words that came back
 abbrev pub or_words : List (Option KeptPart) → ℕ
-or_words [] = 0
-or_words (o ∷ os) = bit_or (word_of_kept o) (or_words os)
+or_words kept = joined (map word_of_kept kept)
 
 -- the value of a `Report`
 pub record ReportState : Type 0 where

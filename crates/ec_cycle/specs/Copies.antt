@@ -1,6 +1,6 @@
--- The images and the data of frames by one copy of a run of bits a link, as code goes. The laws `ProcessByLinks` and
--- `InputsByLinks` say that this makes what `process_bytes` and `inputs_closed` say.
-use Rattle.std.specs.Prelude.{ℕ, ◌+◌, ◌-◌, ◌*◌, ◌^◌, ◌<◌, ◌≤◌, ◌≡◌, ◌==◌, ◌&&◌, nat_lt, List, [], ◌∷◌, length, map, filter, get_or, if◌then◌else◌, Bool, true, Option, None}
+-- The images and the data of frames by one copy of a run of bits a link. The laws `ProcessByLinks` and `InputsByLinks` say that
+-- this makes what `process_bytes` and `inputs_closed` say.
+use Rattle.std.specs.Prelude.{ℕ, ◌+◌, ◌-◌, ◌*◌, ◌^◌, ◌<◌, ◌≤◌, ◌==◌, ◌&&◌, nat_lt, List, [], ◌∷◌, map, filter, get_or, if◌then◌else◌, Bool, Option, None}
 use Rattle.ec_bits.specs.Bits.{copied}
 use Rattle.ec_link.specs.declared.plan.Link.{Link}
 use Rattle.ec_link.specs.Plan.{PlanState, part_at}
@@ -18,10 +18,6 @@ output_run p k l = record { to = (area_at p l.slave).out_at + l.object_bit - 8 *
 abbrev pub run_copied : List ℕ → Run → List ℕ → List ℕ
 run_copied src r dst = copied dst r.to src r.from r.count
 
-abbrev pub runs_copied : List ℕ → List Run → List ℕ → List ℕ
-runs_copied src [] dst = dst
-runs_copied src (r ∷ rs) dst = runs_copied src rs (run_copied src r dst)
-
 -- a link of outputs: its bits into the data of part k, if its slave is of the part
 abbrev pub output_copied : PlanState → ℕ → List ℕ → Link → List ℕ → List ℕ
 output_copied p k image l bytes = if part_of_slave p l.slave == k then run_copied image (output_run p k l) bytes else bytes
@@ -29,6 +25,34 @@ output_copied p k image l bytes = if part_of_slave p l.slave == k then run_copie
 abbrev pub outputs_copied : PlanState → ℕ → List ℕ → List Link → List ℕ → List ℕ
 outputs_copied p k image [] bytes = bytes
 outputs_copied p k image (l ∷ ls) bytes = outputs_copied p k image ls (output_copied p k image l bytes)
+
+-- ---- inputs
+
+abbrev pub input_run : PlanState → Link → InputRun
+input_run p l =
+    let k = part_of_slave p l.slave in
+    record {
+      part = k;
+      unit = (part_at p.parts k).unit;
+      run = record { to = l.image; from = (area_at p l.slave).in_at + l.object_bit - 8 * (part_at p.parts k).address; count = l.count };
+    }
+
+-- a link of inputs: its bits out of the data that its slave's part brought back, if the unit is taken
+abbrev pub input_copied : PlanState → List (Option KeptPart) → Link → List ℕ → List ℕ
+input_copied p kept l image =
+    let r = input_run p l in
+    if unit_taken p kept r.unit then run_copied (bytes_of (get_or kept r.part None)) r.run image else image
+
+abbrev pub inputs_copied : PlanState → List (Option KeptPart) → List Link → List ℕ → List ℕ
+inputs_copied p kept [] image = image
+inputs_copied p kept (l ∷ ls) image = inputs_copied p kept ls (input_copied p kept l image)
+
+-- ---- what the code makes of them; no public clause cites the rest
+
+-- run after run
+abbrev pub runs_copied : List ℕ → List Run → List ℕ → List ℕ
+runs_copied src [] dst = dst
+runs_copied src (r ∷ rs) dst = runs_copied src rs (run_copied src r dst)
 
 -- the links of part k
 abbrev pub is_of_part : PlanState → ℕ → Link → Bool
@@ -43,8 +67,6 @@ pub record FitsRun (to_bytes from_bytes : ℕ) (r : Run) : Type 0 where
   pub there : r.from + r.count ≤ 8 * from_bytes
   pub to_fits : r.to + r.count < 2 ^ 64
   pub from_fits : r.from + r.count < 2 ^ 64
-
--- ---- runs that adjoin
 
 -- the next one begins where this one ends, in the target and in the source
 abbrev pub adjoin : Run → Run → Bool
@@ -73,39 +95,6 @@ merged adjoins join (x ∷ xs) = merged_from adjoins join x xs
 abbrev pub output_runs : PlanState → ℕ → List Run
 output_runs p k = merged adjoin both (part_runs p k)
 
--- ---- inputs
-
-abbrev pub input_run : PlanState → Link → InputRun
-input_run p l =
-    let k = part_of_slave p l.slave in
-    record {
-      part = k;
-      unit = (part_at p.parts k).unit;
-      run = record { to = l.image; from = (area_at p l.slave).in_at + l.object_bit - 8 * (part_at p.parts k).address; count = l.count };
-    }
-
 -- what is copied for the inputs
 abbrev pub input_runs : PlanState → List InputRun
 input_runs p = merged inputs_adjoin both_inputs (map (input_run p) p.in_links)
-
--- run after run of those whose unit is taken
-abbrev pub input_taken : PlanState → List (Option KeptPart) → InputRun → List ℕ → List ℕ
-input_taken p kept r image = if unit_taken p kept r.unit then run_copied (bytes_of (get_or kept r.part None)) r.run image else image
-
-abbrev pub inputs_taken : PlanState → List (Option KeptPart) → List InputRun → List ℕ → List ℕ
-inputs_taken p kept [] image = image
-inputs_taken p kept (r ∷ rs) image = inputs_taken p kept rs (input_taken p kept r image)
-
--- such a run lies inside what was brought and inside the image
-abbrev pub FitsInput : PlanState → List (Option KeptPart) → ℕ → InputRun → Type 0
-FitsInput p kept bytes r = unit_taken p kept r.unit ≡ true → (r.part < length kept) × FitsRun bytes (length (bytes_of (get_or kept r.part None))) r.run
-
--- a link of inputs: its bits out of the data that its slave's part brought back, if the unit is taken
-abbrev pub input_copied : PlanState → List (Option KeptPart) → Link → List ℕ → List ℕ
-input_copied p kept l image =
-    let r = input_run p l in
-    if unit_taken p kept r.unit then run_copied (bytes_of (get_or kept r.part None)) r.run image else image
-
-abbrev pub inputs_copied : PlanState → List (Option KeptPart) → List Link → List ℕ → List ℕ
-inputs_copied p kept [] image = image
-inputs_copied p kept (l ∷ ls) image = inputs_copied p kept ls (input_copied p kept l image)

@@ -1,4 +1,4 @@
--- What a master's cycle is. These are to be believed by reading, in this order:
+-- To be believed, in this order: what a master's cycle is.
 
 -- the cyclic frame of a part, as it is sent and on its way
 pub mod Frames
@@ -6,12 +6,12 @@ pub mod Frames
 pub mod Closing
 -- the master as a value, and what each of its calls does to it
 pub mod Master
--- Laws: other words for the same, proved.
-pub mod Laws
--- the refusals' numbers and names
-pub mod Refusals
--- These serve private code and its proofs alone:
+-- Laws: other words for the same, proved; two of them say what one copy of a run of bits a link makes.
 pub mod Copies
+pub mod Laws
+-- To be believed, too: the refusals' numbers and names.
+pub mod Refusals
+-- Private: these serve private code and its proofs alone.
 pub mod Matching
 pub mod Kept
 pub mod Renewing

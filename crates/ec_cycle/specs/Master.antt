@@ -125,6 +125,13 @@ pub record IsAnswer (m : MasterState) (c : OpenCycle) (payload : List ℕ) (k : 
   pub spelled : IsFrame payload p
   pub answers : Answers m.plan c.number k p.datagrams
 
+-- of some part
+pub record AnswersSome (m : MasterState) (payload : List ℕ) : Type 0 where
+  pub cycle : OpenCycle
+  pub part : ℕ
+  pub frame : Payload
+  pub answer : IsAnswer m cycle payload part frame
+
 abbrev pub with_kept : MasterState → OpenCycle → ℕ → KeptPart → MasterState
 with_kept m c k q = record m { cycle = Some (record c { kept = set c.kept k (Some q) }) }
 
@@ -133,6 +140,8 @@ pub record IsTaken (old : MasterState) (payload : List ℕ) (is_kept : Bool) (ne
   pub kept : (c : OpenCycle) (k : ℕ) (p : Payload) → IsAnswer old c payload k p
       → (is_kept ≡ true) × (new ≡ with_kept old c k (kept_of (part_at old.plan.parts k) p.datagrams))
   pub foreign : ((c : OpenCycle) (k : ℕ) (p : Payload) → IsAnswer old c payload k p → ⊥) → (is_kept ≡ false) × (new ≡ old)
+  -- and only an answer is kept
+  pub only : is_kept ≡ true → AnswersSome old payload
 
 -- how many parts of the open cycle are not kept yet
 abbrev pub missing_of : Option OpenCycle → ℕ

@@ -2,8 +2,16 @@
 ghost use Rattle.std.specs.Prelude.{◌≡◌, length, is_some};
 
 use crate::master::Master;
+use ec_link::Plan;
 
-impl Master<'_> {
+impl<'p> Master<'p> {
+    /// The plan, of which a start-up makes the master ready.
+    pub fn plan(&self) -> &'p Plan
+        ensures { result.now ≡ self.now.plan }
+    {
+        self.plan
+    }
+
     /// Whether a start-up of the plan has ended Ready.
     pub fn is_ready(&self) -> bool
         ensures { result ≡ self.now.is_ready }

@@ -33,7 +33,7 @@ impl CycleError {
         }
     }
 
-    /// Its name.
+    /// The name by which the program tells this refusal.
     pub fn name(self) -> &'static str
         ensures { result.now ≡ refusal_name self }
     {

@@ -334,10 +334,11 @@ impl<'p> Master<'p> {
         })
     }
 
-    /// Cycles can begin: a start-up of the plan has ended Ready. The numbers of the cycles follow those of its frames, unless
-    /// they are past them already.
+    /// Cycles can begin: a start-up of the master's plan has ended Ready. The numbers of the cycles follow those of its frames,
+    /// unless they are past them already.
     pub fn ready(&mut self, startup: &Startup)
         requires ready { startup.now.phase ≡ Ready }
+        requires same { startup.now.plan ≡ self.old.plan.slaves }
         ensures { self.new ≡ readied self.old startup.now.next }
     {
         self.become_ready(startup.next_number());

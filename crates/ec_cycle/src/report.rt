@@ -91,10 +91,9 @@ pub(crate) fn missing_of(kept: &[Returned]) -> usize
 fn words_of(kept: &[Returned]) -> u16
     ensures { result ≡ or_words kept.now }
 {
-    let count = kept.len();
-    let mut words: u16 = 0;
-    for n in 0..count {
-        words = kept[count - 1 - n].al_word() | words;
+    let mut words = 0;
+    for part in kept {
+        words |= part.al_word();
     }
     words
 }

@@ -98,6 +98,45 @@ brought_ended _ _ _ _ (Waits s w f) = given-up-ended s s.phase refl
 brought_ended _ _ _ _ (Loses s w v frame f n u) = given-up-ended (asked s) (asked s).phase refl
 brought_ended _ _ _ _ (Goes s t e w v x k up) = brought_ended t e v x up
 
+-- ---- the plan
+
+again-plan : (s : StartState) (b : Bool) → (let t : StartState = if b then record s { phase = Failed (TooSlow s.place) } else record s { polls = s.polls + 1; phase = Idle } in t.plan) ≡ s.plan
+again-plan s true = refl
+again-plan s false = refl
+
+judged-plan : (s : StartState) (x : Verdict) → (judged s x).plan ≡ s.plan
+judged-plan s Next = refl
+judged-plan s (Shows value) = refl
+judged-plan s Again = again-plan s (s.polls + 1 == 1000)
+judged-plan s (Fails f) = refl
+
+kept-plan : (s t : StartState) (payload : List ℕ) → IsStartTaken s payload true t → t.plan ≡ s.plan
+kept-plan s t payload h =
+    let o = h.only refl in
+    let d = has-second o.frame.datagrams _ _ o.answer.shapes in
+    ap (λ (x : StartState). x.plan) (h.kept o.frame d.0 refl o.spelled d.1) ∙ judged-plan s (verdict (length s.plan) s.place s.seen (type_of s.plan) (action_of s) d.0)
+
+asked-plan : (s : StartState) (p : Phase) → (asked_by s p).plan ≡ s.plan
+asked-plan s Idle = elim (cases_eq s.next last_number) [
+  | inl z ↦ ap (λ (x : StartState). x.plan) (if_true (s.next == last_number) (record s { phase = Failed NumbersSpent }) (sending s) (eq-eqb s.next last_number z))
+  | inr n ↦ ap (λ (x : StartState). x.plan) (if_false (s.next == last_number) (record s { phase = Failed NumbersSpent }) (sending s) (ne_eqb s.next last_number n))
+]
+asked-plan s (Sent number) = refl
+asked-plan s Ready = refl
+asked-plan s (Failed error) = refl
+
+given-up-plan : (s : StartState) (p : Phase) → (given_up_by s p).plan ≡ s.plan
+given-up-plan s Idle = refl
+given-up-plan s (Sent number) = refl
+given-up-plan s Ready = refl
+given-up-plan s (Failed error) = refl
+
+pub brought_plan : (s e : StartState) (w x : WireState) → IsBroughtUp s w e x → e.plan ≡ s.plan
+brought_plan _ _ _ _ (Rests s w f) = asked-plan s s.phase
+brought_plan _ _ _ _ (Waits s w f) = given-up-plan s s.phase
+brought_plan _ _ _ _ (Loses s w v frame f n u) = given-up-plan (asked s) (asked s).phase ∙ asked-plan s s.phase
+brought_plan _ _ _ _ (Goes s t e w v x k up) = brought_plan t e v x up ∙ (kept-plan (asked s) t k.answered.answer k.answered.kept ∙ asked-plan s s.phase)
+
 -- ---- payloads that don't answer
 
 pub foreign_none : (s : StartState) → AreForeign s []

@@ -107,11 +107,15 @@ treat_next shows later a b c u v w ps qs xs ys fewer before treated carried next
     (carries-then u v w xs ps ys qs before carried, treated_then shows a b c ps qs xs ys treated (all_treated_by later shows b c qs ys fewer next))
 
 -- a fault at the next payload
-pub cut_then : (shows later : List ℕ → List ℕ → Type 0) (a b c : List SlaveState) (u v w : WireState) (ps xs : List (List ℕ)) (count frames : ℕ) → AreFewer later shows
-    → Carries u v xs ps → AreTreated shows a ps b xs → length ps ≡ count → count < frames → v.failed ≡ u.failed → WasCutOff later b c v w 1 → WasCutOff shows a c u w frames
-cut_then shows later a b c u v w ps xs count frames fewer before treated counted below same h =
+pub cut_then : (shows later : List ℕ → List ℕ → Type 0) (a b c : List SlaveState) (u v w : WireState) (ps xs : List (List ℕ)) (count frames answered refused : ℕ) → AreFewer later shows
+    → Carries u v xs ps → AreTreated shows a ps b xs → length ps ≡ count → length xs ≡ answered → answered + refused ≡ count → count < frames → v.failed ≡ u.failed → WasCutOff later b c v w 1 0 0
+    → WasCutOff shows a c u w frames answered refused
+cut_then shows later a b c u v w ps xs count frames answered refused fewer before treated counted sent sum below same h =
     let few = h.few in
     let long = length-append ps h.got in
+    let more = length-append xs h.sent in
+    let none = h.answers in
+    let rest = h.others in
     record {
       got = ps ++ h.got;
       sent = xs ++ h.sent;
@@ -121,5 +125,7 @@ cut_then shows later a b c u v w ps xs count frames fewer before treated counted
           (treated_then shows a b c ps h.got xs (h.sent ++ h.lost) treated (all_treated_by later shows b c h.got (h.sent ++ h.lost) fewer h.treated));
       one_lost = h.one_lost;
       few = omega (arith, long, few, counted, below);
+      answers = omega (arith, more, none, sent);
+      others = omega (arith, long, rest, counted, sum);
       fault = sym (fault-from u v w same) ∙ h.fault;
     }

@@ -1,4 +1,4 @@
--- What wires are, and what is done over one. These are to be believed by reading, in this order:
+-- To be believed, in this order: what wires are, and what is done over one.
 
 -- what a wire tells of itself, and what its calls make of that
 pub mod Wires

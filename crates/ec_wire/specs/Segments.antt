@@ -34,8 +34,8 @@ pub record HasServed (shows : List ℕ → List ℕ → Type 0) (old new : List 
   pub answers : answered ≡ length sent
   pub others : answered + refused ≡ frames
 
--- A call of the wire was a fault: the same until then; the last answer may be lost.
-pub record WasCutOff (shows : List ℕ → List ℕ → Type 0) (old new : List SlaveState) (before after : WireState) (frames : ℕ) : Type 0 where
+-- A call of the wire was a fault: the same until then; the last answer may be lost, and is not counted.
+pub record WasCutOff (shows : List ℕ → List ℕ → Type 0) (old new : List SlaveState) (before after : WireState) (frames answered refused : ℕ) : Type 0 where
   pub got : List (List ℕ)
   pub sent : List (List ℕ)
   pub lost : List (List ℕ)
@@ -43,4 +43,6 @@ pub record WasCutOff (shows : List ℕ → List ℕ → Type 0) (old new : List 
   pub treated : AreTreated shows old got new (sent ++ lost)
   pub one_lost : length lost ≤ 1
   pub few : length got ≤ frames
+  pub answers : answered ≡ length sent
+  pub others : answered + refused + length lost ≡ length got
   pub fault : is_fault before after ≡ true

@@ -1,5 +1,5 @@
 -- What a wire tells of itself, and what a call makes of that.
-use Rattle.std.specs.Prelude.{◌≡◌, ◌≤◌, ◌++◌, ◌||◌, ◌==◌, ◌+◌, if◌then◌else◌, ℕ, List, Bool, Option, None, Some, nat_lt}
+use Rattle.std.specs.Prelude.{◌≡◌, ◌≢◌, ◌≤◌, ◌++◌, ◌||◌, ◌==◌, ◌+◌, if◌then◌else◌, ℕ, List, Bool, Option, None, Some, nat_lt}
 
 -- The payloads sent and received so far, where the wire tells them, and how many of its calls were faults.
 pub record WireState : Type 0 where
@@ -30,6 +30,21 @@ pub record Carries (old new : WireState) (sent received : List (List ℕ)) : Typ
 -- a wire that tells no payload, with so many faults
 abbrev pub silent : ℕ → WireState
 silent failed = record { sent = None; received = None; failed = failed }
+
+-- What is known of a socket, which doesn't tell what it carried: its port, and how many of its calls were faults.
+pub record SocketState : Type 0 where
+  pub port : ℕ
+  pub failed : ℕ
+
+-- The ports of two sockets that are connected with each other.
+pub record Ports : Type 0 where
+  pub master : ℕ
+  pub segment : ℕ
+
+-- a new socket that was asked for on a port, where 0 lets the system pick one
+pub record IsOpened (asked : ℕ) (s : SocketState) : Type 0 where
+  pub port : asked ≢ 0 → s.port ≡ asked
+  pub fine : s.failed ≡ 0
 
 -- one fault more, as far as the count goes
 abbrev pub failed_again : WireState → WireState

@@ -20,7 +20,7 @@ pub use crate::error::{RunError, SocketFault};
 pub use crate::loopback::{LoopWire, Sockets};
 pub use crate::memory::MemoryWire;
 pub use crate::payload::Payload;
-pub use crate::segment::{Served, serve_segment};
+pub use crate::segment::{Served, serve_counted, serve_segment};
 pub use crate::startup::bring_up_wire;
 pub use crate::udp::UdpWire;
 pub use crate::wire::Wire;

@@ -1,4 +1,5 @@
 //! A master's wire and its segment on two sockets in one thread.
+ghost use Rattle.std.specs.Prelude.{◌≡◌};
 ghost use Rattle.ec_wire.specs.Wires.{silent};
 
 use crate::application::{App, answer};
@@ -7,6 +8,7 @@ use crate::udp::UdpWire;
 use crate::wire::{Wire, receive_on, send_on};
 use ec_frame::field::MAX_FRAME_LEN;
 use ec_ring::Ring;
+use std::marker::Model;
 use std::net::Net;
 
 /// The sockets of a master and of its segment, on ports of 127.0.0.1 that the system picks.
@@ -14,6 +16,14 @@ use std::net::Net;
 pub struct Sockets {
     master: UdpWire,
     segment: UdpWire,
+}
+
+impl Model for Sockets {
+    ghost use Rattle.ec_wire.specs.Wires.{Ports};
+
+    ghost Value = { Ports };
+
+    ghost view = { λ s. record { master = s.master.port; segment = s.segment.port } };
 }
 
 impl Sockets {
@@ -27,6 +37,13 @@ impl Sockets {
         let master = UdpWire::connect(rt, segment.port())?;
         let segment = segment.connected_to(master.port())?;
         Ok(Sockets { master, segment })
+    }
+
+    /// The port of the master's socket, and of the segment's.
+    pub fn ports(&self) -> (u16, u16)
+        ensures { result ≡ (self.now.master, self.now.segment) }
+    {
+        (self.master.port(), self.segment.port())
     }
 }
 

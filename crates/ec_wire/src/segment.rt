@@ -1,5 +1,5 @@
 //! A segment of simulated slaves that answers on a wire.
-ghost use Rattle.std.specs.Prelude.{◌≡◌, ◌<◌, ◌+◌, ℕ, List, [], ◌∷◌, true, IfOk, IfSome, IfNone, IsErr, length, if◌then◌else◌};
+ghost use Rattle.std.specs.Prelude.{◌≡◌, ◌<◌, ◌+◌, ℕ, List, [], ◌∷◌, true, IfErr, IfOk, IfSome, IfNone, IsErr, OnOk, length, if◌then◌else◌};
 ghost use Rattle.ec_wire.specs.Wires.{Carries};
 ghost use Rattle.ec_wire.specs.Segments.{AreTreated, HasServed, WasCutOff};
 
@@ -9,7 +9,7 @@ use crate::wire::{Wire, receive_on, send_on};
 use ec_frame::field::MAX_FRAME_LEN;
 use ec_ring::Ring;
 
-/// How many payloads came to a segment.
+/// How many payloads came to a segment; an answer that a fault of the wire lost is not counted.
 #[derive(Clone, Copy, Debug, PartialEq, Eq, Drop)]
 pub struct Served {
     /// Frames, which were answered.
@@ -40,7 +40,7 @@ fn serve_payload<A: App, W: Wire>(ring: &mut Ring, app: &mut A, wire: &mut W) ->
         × Carries (W.state wire.old) (W.state wire.new) sent (payload ∷ []) × AreTreated (A.shows app.old) ring.old (payload ∷ []) ring.new sent
         × (length sent ≡ (if is_answered then 1 else 0))) }
     ensures same { IfSome result (λ is_answered. (W.state wire.new).failed ≡ (W.state wire.old).failed) }
-    ensures cut { IfNone result (WasCutOff (A.shows app.old) ring.old ring.new (W.state wire.old) (W.state wire.new) 1) }
+    ensures cut { IfNone result (WasCutOff (A.shows app.old) ring.old ring.new (W.state wire.old) (W.state wire.new) 1 0 0) }
 {
     let mut buffer = [0; MAX_FRAME_LEN];
     let count = receive_on(wire, &mut buffer)?;
@@ -55,17 +55,17 @@ fn serve_payload<A: App, W: Wire>(ring: &mut Ring, app: &mut A, wire: &mut W) ->
     }
 }
 
-/// Receives payloads, so many in all, and answers those that are frames. How many were and were not, or nothing at a fault of
-/// the wire.
+/// Receives payloads, so many in all, and answers those that are frames. How many were and were not; an error has those until
+/// a fault of the wire.
 fn serve_payloads<A: App, W: Wire>(
     ring: &mut Ring,
     app: &mut A,
     wire: &mut W,
     frames: u32,
-) -> Option<Served>
-    ensures served { IfSome result (λ s. HasServed (A.shows app.old) ring.old ring.new (W.state wire.old) (W.state wire.new) frames s.answered s.refused) }
-    ensures same { IfSome result (λ s. (W.state wire.new).failed ≡ (W.state wire.old).failed) }
-    ensures cut { IfNone result (WasCutOff (A.shows app.old) ring.old ring.new (W.state wire.old) (W.state wire.new) frames) }
+) -> Result<Served, Served>
+    ensures served { IfOk result (λ s. HasServed (A.shows app.old) ring.old ring.new (W.state wire.old) (W.state wire.new) frames s.answered s.refused) }
+    ensures same { OnOk result ((W.state wire.new).failed ≡ (W.state wire.old).failed) }
+    ensures cut { IfErr result (λ s. WasCutOff (A.shows app.old) ring.old ring.new (W.state wire.old) (W.state wire.new) frames s.answered s.refused) }
 {
     let mut served = Served {
         answered: 0,
@@ -73,11 +73,30 @@ fn serve_payloads<A: App, W: Wire>(
     };
     for _ in 0..frames {
         let Some(is_answered) = serve_payload(ring, app, wire) else {
-            return None;
+            return Err(served);
         };
         served.count(is_answered);
     }
-    Some(served)
+    Ok(served)
+}
+
+/// Receives payloads, so many in all, as [`serve_segment`] does, and also counts what came before a fault.
+///
+/// # Errors
+///
+/// What came until a call of the wire was a fault. It was treated so; the last answer may be lost, and is not counted.
+pub fn serve_counted<W: Wire>(
+    ring: &mut Ring,
+    app: &mut dyn App,
+    wire: &mut W,
+    frames: u32,
+) -> Result<Served, Served>
+    ensures served { IfOk result (λ s. HasServed (shows app.old) ring.old ring.new (W.state wire.old) (W.state wire.new) frames s.answered s.refused) }
+    ensures same { OnOk result ((W.state wire.new).failed ≡ (W.state wire.old).failed) }
+    ensures cut { IfErr result (λ s. WasCutOff (shows app.old) ring.old ring.new (W.state wire.old) (W.state wire.new) frames s.answered s.refused) }
+{
+    let mut app = app;
+    serve_payloads(ring, &mut app, wire, frames)
 }
 
 /// Receives payloads, so many in all. A frame passes the slaves, each is served, its application steps, and the frame is sent
@@ -93,9 +112,11 @@ pub fn serve_segment<W: Wire>(
     frames: u32,
 ) -> Result<Served, SocketFault>
     ensures served { IfOk result (λ s. HasServed (shows app.old) ring.old ring.new (W.state wire.old) (W.state wire.new) frames s.answered s.refused) }
-    ensures same { IfOk result (λ s. (W.state wire.new).failed ≡ (W.state wire.old).failed) }
-    ensures cut { IsErr result → WasCutOff (shows app.old) ring.old ring.new (W.state wire.old) (W.state wire.new) frames }
+    ensures same { OnOk result ((W.state wire.new).failed ≡ (W.state wire.old).failed) }
+    ensures cut { IsErr result → (answered : ℕ) × (refused : ℕ) × WasCutOff (shows app.old) ring.old ring.new (W.state wire.old) (W.state wire.new) frames answered refused }
 {
-    let mut app = app;
-    serve_payloads(ring, &mut app, wire, frames).ok_or(SocketFault)
+    match serve_counted(ring, app, wire, frames) {
+        Ok(served) => Ok(served),
+        Err(_) => Err(SocketFault),
+    }
 }

@@ -59,6 +59,7 @@ fn turn<W: Wire>(startup: &mut Startup, wire: &mut W, frame: &mut Frame) -> bool
 pub fn bring_up_wire<W: Wire>(startup: &mut Startup, wire: &mut W)
     ensures leads { IsBroughtUp startup.old (W.state wire.old) startup.new (W.state wire.new) }
     ensures ended { is_ended startup.new.phase ≡ true }
+    ensures plan { startup.new.plan ≡ startup.old.plan }
 {
     let mut frame = Frame::new();
     // each turn takes a number

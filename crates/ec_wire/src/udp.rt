@@ -1,6 +1,6 @@
 //! A wire over the system's UDP sockets, on 127.0.0.1.
 ghost use Rattle.std.specs.Prelude.{◌≡◌, ◌≤◌, length, IfOk, IfSome};
-ghost use Rattle.ec_wire.specs.Wires.{silent};
+ghost use Rattle.ec_wire.specs.Wires.{IsOpened, silent};
 
 use crate::error::SocketFault;
 use crate::wire::Wire;
@@ -14,8 +14,11 @@ use std::time::Duration;
 /// A receive waits so long, in milliseconds.
 const PATIENCE: u64 = 500;
 
-/// A segment waits so many times in a row for a payload: a minute.
-const MOST_WAITS: u32 = 120;
+/// So many of these waits are a second.
+const WAITS_PER_SECOND: u64 = 2;
+
+/// A segment waits so many seconds for a payload, where nothing else is asked for.
+const MOST_IDLE: u32 = 60;
 
 /// Whom a wire sends to.
 #[derive(Clone, Copy)]
@@ -32,16 +35,16 @@ pub struct UdpWire {
     socket: UdpSocket,
     port: u16,
     peer: Peer,
-    waits: u32,
+    waits: u64,
     failures: u64,
 }
 
 impl Model for UdpWire {
-    ghost use Rattle.ec_wire.specs.Wires.{WireState, silent};
+    ghost use Rattle.ec_wire.specs.Wires.{SocketState};
 
-    ghost Value = { WireState };
+    ghost Value = { SocketState };
 
-    ghost view = { λ w. silent w.failures };
+    ghost view = { λ w. record { port = w.port; failed = w.failures } };
 }
 
 /// A port on 127.0.0.1.
@@ -57,21 +60,33 @@ fn open<R: Net>(rt: &R, port: u16) -> io::Result<(UdpSocket, u16)> {
     Ok((socket, port))
 }
 
+/// How many waits in a row so many seconds are; of 0 seconds there is no end.
+fn waits_of(seconds: u32) -> u64 {
+    if seconds == 0 {
+        u64::MAX
+    } else {
+        u64::from(seconds) * WAITS_PER_SECOND
+    }
+}
+
 impl UdpWire {
     /// A wire on a port, which sends to whoever sent the last payload that it received.
-    fn new<R: Net>(rt: &R, port: u16, waits: u32) -> Result<UdpWire, SocketFault>
-        ensures { IfOk result (λ w. w ≡ silent 0) }
+    fn new<R: Net>(rt: &R, port: u16, waits: u64) -> Result<UdpWire, SocketFault>
+        ensures { IfOk result (IsOpened port) }
     {
-        match open(rt, port) {
-            Ok((socket, port)) => Ok(UdpWire {
-                socket,
-                port,
-                peer: Peer::Last(None),
-                waits,
-                failures: 0,
-            }),
-            Err(_) => Err(SocketFault),
+        let Ok((socket, found)) = open(rt, port) else {
+            return Err(SocketFault);
+        };
+        if port != 0 && found != port {
+            return Err(SocketFault);
         }
+        Ok(UdpWire {
+            socket,
+            port: found,
+            peer: Peer::Last(None),
+            waits,
+            failures: 0,
+        })
     }
 
     /// The same wire to the one peer on a port, from which alone it receives.
@@ -89,20 +104,31 @@ impl UdpWire {
     }
 
     /// A segment's wire on a port, where 0 lets the system pick one. It sends to whoever sent the last payload that it
-    /// received. A receive waits half a second and is tried again; the 120th in a row that got nothing is a fault.
+    /// received. A receive that got nothing for a minute is a fault.
     ///
     /// # Errors
     ///
     /// `SocketFault` where there is no such socket, as on a port in use.
     pub fn bind<R: Net>(rt: &R, port: u16) -> Result<UdpWire, SocketFault>
-        ensures { IfOk result (λ w. w ≡ silent 0) }
+        ensures { IfOk result (IsOpened port) }
     {
-        UdpWire::new(rt, port, MOST_WAITS)
+        UdpWire::bind_idle(rt, port, MOST_IDLE)
+    }
+
+    /// The same, but a receive that got nothing for so many seconds is a fault; with 0 seconds it waits on.
+    ///
+    /// # Errors
+    ///
+    /// `SocketFault` where there is no such socket, as on a port in use.
+    pub fn bind_idle<R: Net>(rt: &R, port: u16, seconds: u32) -> Result<UdpWire, SocketFault>
+        ensures { IfOk result (IsOpened port) }
+    {
+        UdpWire::new(rt, port, waits_of(seconds))
     }
 
     /// The same on a port that the system picks, but the first receive that got nothing is a fault.
     pub(crate) fn bind_impatient<R: Net>(rt: &R) -> Result<UdpWire, SocketFault>
-        ensures { IfOk result (λ w. w ≡ silent 0) }
+        ensures { IfOk result (λ w. w.failed ≡ 0) }
     {
         UdpWire::new(rt, 0, 1)
     }
@@ -114,13 +140,15 @@ impl UdpWire {
     ///
     /// `SocketFault` where there is no socket.
     pub fn connect<R: Net>(rt: &R, port: u16) -> Result<UdpWire, SocketFault>
-        ensures { IfOk result (λ w. w ≡ silent 0) }
+        ensures { IfOk result (λ w. w.failed ≡ 0) }
     {
         UdpWire::bind_impatient(rt)?.connected_to(port)
     }
 
     /// The port of the socket.
-    pub fn port(&self) -> u16 {
+    pub fn port(&self) -> u16
+        ensures { result ≡ self.now.port }
+    {
         self.port
     }
 
@@ -169,7 +197,7 @@ impl UdpWire {
 }
 
 impl Wire for UdpWire {
-    ghost state = { λ w. w };
+    ghost state = { λ w. silent w.failed };
 
     fn failures(&self) -> u64 {
         self.failures

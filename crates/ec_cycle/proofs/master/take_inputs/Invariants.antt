@@ -1,5 +1,5 @@
 use Rattle.std.proofs.Common.{◌≡◌, drop}
-use Rattle.ec_cycle.specs.Copies.{inputs_taken}
+use Rattle.ec_cycle.proofs.Runs.{inputs_taken}
 use Rattle.ec_cycle.proofs.master.take_inputs.Given as goal
 
 abbrev pub invariant-loop-input : goal.invariant-loop-input

@@ -30,5 +30,7 @@ returns-else-send_on-clause-cut g c =
       treated = one_treated (g.A.App.shows c.args.app.now) c.args.ring.now c.answer.new.ring p (a ∷ []) (inl (a, refl, c.answer.ensures.answered c.if-not-answer.false));
       one_lost = omega arith;
       few = omega arith;
+      answers = refl;
+      others = refl;
       fault = sym (fault-from (g.W.Wire.state c.args.wire.now) (g.W.Wire.state c.receive_on.new.wire) (g.W.Wire.state c.send_on.new.wire) c.in_ok-count.ensures.same) ∙ one_fault _ (sym c.if-send_on.false ∙ c.send_on.ensures.fault);
     }

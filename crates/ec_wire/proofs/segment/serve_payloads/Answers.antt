@@ -10,8 +10,8 @@ pub returns-in_default-clause-cut : goal.returns-in_default-clause-cut
 returns-in_default-clause-cut g c =
     let b = c.loop.invariant in
     cut_then (g.A.App.shows c.args.app.now) (g.A.App.shows c.loop.app) c.args.ring.now c.loop.ring c.serve_payload.new.ring
-    (g.W.Wire.state c.args.wire.now) (g.W.Wire.state c.loop.wire) (g.W.Wire.state c.serve_payload.new.wire) b.came.0 b.came.1 c.loop.counter c.args.frames
-    b.later b.came.2 b.came.3 b.came.4 c.loop-test.true b.same c.in_default.ensures.cut
+    (g.W.Wire.state c.args.wire.now) (g.W.Wire.state c.loop.wire) (g.W.Wire.state c.serve_payload.new.wire) b.came.0 b.came.1 c.loop.counter c.args.frames c.loop.served.answered c.loop.served.refused
+    b.later b.came.2 b.came.3 b.came.4 b.came.5 b.counts c.loop-test.true b.same c.in_default.ensures.cut
 
 pub loop-preserved : goal.loop-preserved
 loop-preserved g c =

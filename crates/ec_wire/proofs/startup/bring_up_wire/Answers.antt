@@ -1,10 +1,16 @@
 use Rattle.std.proofs.Common.{◌≡◌, arith}
 use Rattle.ec_start.specs.Running.{last_number}
-use Rattle.ec_wire.proofs.Bringing.{brought_ended, last_turn, one_turn}
+use Rattle.ec_wire.proofs.Bringing.{brought_ended, brought_plan, last_turn, one_turn}
 use Rattle.ec_wire.proofs.startup.bring_up_wire.Goals as goal
 
 pub returns-then-not-turn-clause-ended : goal.returns-then-not-turn-clause-ended
 returns-then-not-turn-clause-ended g c = brought_ended _ _ _ _ (c.turn.ensures.ended c.if-not-turn.true)
+
+pub returns-then-not-turn-clause-leads : goal.returns-then-not-turn-clause-leads
+returns-then-not-turn-clause-leads g c = c.loop.invariant.on _ _ (c.turn.ensures.ended c.if-not-turn.true)
+
+pub returns-then-not-turn-clause-plan : goal.returns-then-not-turn-clause-plan
+returns-then-not-turn-clause-plan g c = brought_plan _ _ _ _ (returns-then-not-turn-clause-leads g c)
 
 pub loop-preserved : goal.loop-preserved
 loop-preserved g c =
@@ -23,3 +29,6 @@ returns-clause-leads g c =
 
 pub returns-clause-ended : goal.returns-clause-ended
 returns-clause-ended g c = brought_ended _ _ _ _ (returns-clause-leads g c)
+
+pub returns-clause-plan : goal.returns-clause-plan
+returns-clause-plan g c = brought_plan _ _ _ _ (returns-clause-leads g c)
