@@ -7,9 +7,11 @@ use Rattle.ec_bits.proofs.AnyLaws.{if_true}
 use Rattle.ec_link.specs.Meaning.{Meaning, share_of, meaning}
 use Rattle.ec_link.specs.Shares.{has_outs, has_ins, unit_of_part}
 use Rattle.ec_link.specs.declared.plan.PartPlan.{PartPlan}
+use Rattle.ec_link.specs.Plan.{PlanState}
+use Rattle.ec_link.specs.Usable.{IsUsable}
 use Rattle.ec_world.specs.declared.event.Event.{Event}
 use Rattle.ec_world.specs.declared.event.Event.TheVariants.{StartNext, Set, Begin, Pass, Lose, Return, Close, Serve, AppPut, AppGet, Fault, Reset as ResetSlave}
-use Rattle.ec_world.specs.Plain.{Plain, PlainSlave, PlainFrame, Health, Working, Faulted, Reset, Note, Short, Cycle, step, run, frame_at, plain_slave, no_plain_slave, keeping, filled, new_frames, with_note, with_slot, met_note, giving, is_full, all_full}
+use Rattle.ec_world.specs.Plain.{Plain, PlainSlave, PlainFrame, Health, Working, Faulted, Reset, Note, Short, Cycle, unit_full, step, run, frame_at, plain_slave, no_plain_slave, keeping, filled, new_frames, with_note, with_slot, met_note, giving, is_full, all_full}
 use Rattle.ec_world.specs.Promises.{IsBegun, FallsShort, QuietLaw, unit_of_slave, is_of_unit, holds_of_unit, still_comes, is_awaited, disturbs}
 use Rattle.ec_world.proofs.Lists.{all_from-each}
 use Rattle.ec_world.proofs.CloseLaws.{all_full_kept}
@@ -130,7 +132,7 @@ spoiled_step m number k p e q h c = by (leaves m p e q h)
       ways = λ i f at. stays i f (ap (λ os. get_or os i None) (sym slots) ∙ at);
       kept = λ d is. absurd (none_some d (sym cycle ∙ is));
     }
-    by (Begins slots next cycle slaves room) = record {
+    by (Begins is_begin slots next cycle slaves room) = record {
       past = let x = c.past in omega (arith, x, next);
       ways = λ i f at. filled_has B (new_frames p.next p.outputs 0 m.parts) p.slots
           (λ a g there own part. absurd (let x = c.past in let n = (new_one p.next 0 p.outputs m.parts a g there).number_is in omega (arith, x, n, own)))
@@ -313,10 +315,18 @@ begun_spoiled m p begun s b c inside short = record {
 
 -- ---- a unit that is taken
 
+-- each slave of a usable plan is in one of its parts
+pub in_parts : (plan : PlanState) (p : Plain) → IsUsable plan → length p.slaves ≡ length plan.slaves → (s : ℕ) → s < length p.slaves → (share_of (meaning plan) s).part < length (meaning plan).parts
+in_parts plan p sound count s l =
+    let x = sound.in_parts s (omega (arith, l, count)) in
+    let y = ap (λ z. z.part) (share_is plan s) in
+    let n = length-map plan.parts (λ (k : PartPlan). k.unit) in
+    omega (arith, x, y, n)
+
 pub quiet_law : QuietLaw
-quiet_law plan p begun after c u sound count b opened own taken = record {
+quiet_law m p begun after c u inside b opened own taken = record {
   whole = λ s l mine short.
-      not_spoiled (share_of m s).part (in_parts s l) mine (run_always (Spoiled m p.next (share_of m s).part) m (λ x e q h r. spoiled_step m p.next (share_of m s).part x e q h r) begun after
+      not_spoiled (share_of m s).part (inside s l) mine (run_always (Spoiled m p.next (share_of m s).part) m (λ x e q h r. spoiled_step m p.next (share_of m s).part x e q h r) begun after
       (begun_spoiled m p begun s b first l short));
   undisturbed = λ before rest e next split made. elim (cases_Bool (disturbs m p.next u (run m begun before).plain e)) [
     | inr off ↦ off
@@ -334,21 +344,11 @@ quiet_law plan p begun after c u sound count b opened own taken = record {
   ];
 }
   where
-    m : Meaning
-    m = meaning plan
-
     first : Single m p.next begun
     first = single_begun m p begun b
 
     end : Single m p.next (run m begun after).plain
     end = run_always (Single m p.next) m (λ x e q h r. single_step m p.next x e q h r) begun after first
-
-    in_parts : (s : ℕ) → s < length p.slaves → (share_of m s).part < length m.parts
-    in_parts s l =
-        let x = sound.in_parts s (omega (arith, l, count)) in
-        let y = ap (λ z. z.part) (share_is plan s) in
-        let n = length-map plan.parts (λ (k : PartPlan). k.unit) in
-        omega (arith, x, y, n)
 
     whole_part : (k : ℕ) → k < length m.parts → unit_of_part m k ≡ u → all_full (get_or c.kept k None) ≡ true
     whole_part k l mine =
@@ -367,3 +367,49 @@ quiet_law plan p begun after c u sound count b opened own taken = record {
     cut before rest e next split made =
         ap (λ (xs : List Event). (run m begun xs).plain) split
         ∙ (run_joins m begun before (e ∷ rest) ∙ ap (λ (o : Option Plain). (run m (unwrap_or o (run m begun before).plain) rest).plain) made)
+
+-- ---- a slave that fell short as its frame passed it
+
+pub spoiled_not_full : (m : Meaning) (p begun : Plain) (after : List Event) (c : Cycle) (u : ℕ) → IsBegun m p begun
+    → (run m begun after).plain.cycle ≡ Some c → c.number ≡ p.next → unit_full m c u ≡ true
+    → (before behind : List Event) (slot : ℕ) (q : Plain) (f : PlainFrame) (s : ℕ) → after ≡ before ++ (Pass slot ∷ behind) → step m (run m begun before).plain (Pass slot) ≡ Some q
+    → frame_at (run m begun before).plain slot ≡ Some f → f.number ≡ p.next → length f.notes ≡ s → (share_of m s).part ≡ f.part
+    → FallsShort m s (plain_slave (run m begun before).plain s) → unit_of_slave m s ≡ u → s < length (run m begun before).plain.slaves → ⊥
+spoiled_not_full m p begun after c u b opened own taken before behind slot q f s split made there num meets part short mine few =
+    let single : Single m p.next x = run_always (Single m p.next) m (λ y e z h r. single_step m p.next y e z h r) begun before (single_begun m p begun b) in
+    let spoiled : Spoiled m p.next f.part x = record {
+      past = single.past;
+      ways = λ i g at same own_part.
+          let one : slot ≡ i = single.once slot i f g there at num same (sym own_part) in
+          let is : f ≡ g = some_same f g (sym there ∙ (ap (frame_at x) one ∙ at)) in
+          Coming s (let z = ap (λ (y : PlainFrame). length y.notes) is in omega (arith, z, meets)) (omega (arith, few, meets)) (part ∙ sym own_part) short;
+      kept = λ d at num_d notes e. absurd (none_some notes (sym (single.missing d at num_d slot f there num) ∙ e));
+    } in
+    let later : Spoiled m p.next f.part (run m q behind).plain = run_always (Spoiled m p.next f.part) m (λ y e z h r. spoiled_step m p.next f.part y e z h r) q behind (spoiled_step m p.next f.part x (Pass slot) q made spoiled) in
+    let end : Spoiled m p.next f.part (run m begun after).plain = subst (Spoiled m p.next f.part) (sym cut) later in
+    let full : all_full (get_or c.kept f.part None) ≡ true = whole in
+    let r = all_full_kept (get_or c.kept f.part None) full in
+    true_false (sym (sym (ap all_full r.1) ∙ full) ∙ end.kept c opened own r.0 r.1)
+  where
+    x : Plain
+    x = (run m begun before).plain
+
+    cut : (run m begun after).plain ≡ (run m q behind).plain
+    cut = ap (λ (xs : List Event). (run m begun xs).plain) split ∙ (run_joins m begun before (Pass slot ∷ behind) ∙ ap (λ (o : Option Plain). (run m (unwrap_or o x) behind).plain) made)
+
+    -- it is of a part of the plan
+    at_end : Single m p.next (run m begun after).plain
+    at_end = run_always (Single m p.next) m (λ y e z h r. single_step m p.next y e z h r) begun after (single_begun m p begun b)
+
+    at_pass : Single m p.next x
+    at_pass = run_always (Single m p.next) m (λ y e z h r. single_step m p.next y e z h r) begun before (single_begun m p begun b)
+
+    whole : all_full (get_or c.kept f.part None) ≡ true
+    whole =
+        let k = f.part in
+        let z : 0 + k ≡ k = omega arith in
+        let here : k < length c.kept = let n = at_end.size c opened own in let l = at_pass.inside slot f there num in omega (arith, l, n) in
+        let unit : unit_of_part m k ≡ u = ap (unit_of_part m) (sym part) ∙ mine in
+        sym (if_true (unit_of_part m k == u) (all_full (get_or c.kept k None)) true (eq-eqb _ _ unit))
+        ∙ subst (λ (n : ℕ). (if unit_of_part m n == u then all_full (get_or c.kept k None) else true) ≡ true) z
+        (all_from-each (λ j o. if unit_of_part m j == u then all_full o else true) 0 c.kept k None taken here)

@@ -1,8 +1,10 @@
 -- A cyclic frame passes the next slave.
 use Rattle.std.proofs.Common.{ℕ, ◌+◌, ◌*◌, ◌%◌, ◌<◌, ◌≤◌, ◌≡◌, Some, refl, sym, ◌∙◌, ap, subst, arith, List, [], ◌∷◌, ◌++◌, length, slice_index, bit_or, mod-eq_of_lt}
 use Rattle.std.proofs.lemmas.List.{length_push, length-map}
+use Rattle.ec_al.specs.Al.{status_word}
 use Rattle.ec_frame.specs.Datagram.{Datagram, adp_of, ado_of}
-use Rattle.ec_frame.specs.Frame.{with_datagrams}
+use Rattle.ec_frame.specs.Frame.{Payload, IsFrame, with_datagrams}
+use Rattle.ec_frame.proofs.Verdict.{one_payload}
 use Rattle.ec_slave.specs.State.{SlaveState, with_answer}
 use Rattle.ec_slave.specs.Physical.{byte_at, retold}
 use Rattle.ec_slave.specs.Keeping.{length-retold}
@@ -11,13 +13,16 @@ use Rattle.ec_slave.proofs.Broadcast.{broadcast_read}
 use Rattle.ec_link.specs.Plan.{PlanState, part_at}
 use Rattle.ec_link.specs.Meaning.{slave_at, area_at, place_of_part, meaning}
 use Rattle.ec_link.specs.Usable.{IsUsable}
+use Rattle.ec_cycle.specs.Closing.{bytes_at}
 use Rattle.ec_cycle.specs.Frames.{name_datagram, status_datagram, process_datagrams}
 use Rattle.ec_world.specs.Plain.{PlainSlave, PlainFrame, met_note, met_slave, with_note}
 use Rattle.ec_world.specs.SlaveShows.{SlaveShows}
 use Rattle.ec_world.specs.FrameShows.{DatagramsShow, FrameShows}
 use Rattle.ec_world.specs.Exchanging.{given_in, slave_left}
+use Rattle.ec_world.specs.Laws.{BringsWord}
 use Rattle.ec_world.proofs.ProcessPass.{ProcessPassed, process_pass, passes_first}
 use Rattle.ec_world.proofs.Knowing.{knows, left_shows}
+use Rattle.ec_world.proofs.Saying.{joins}
 
 nop_meets : (s : SlaveState) (number k : ℕ) → meets s (name_datagram number k) ≡ record { slave = s; datagram = name_datagram number k }
 unfolding meets
@@ -27,6 +32,7 @@ nop_meets s number k = refl
 pub record StatusMet (s : SlaveState) (number n : ℕ) (al : List ℕ) : Type 0 where
   pub al2 : List ℕ
   pub word : length al2 ≡ 2
+  pub joined : (w : ℕ) → al ≡ w ∷ 0 ∷ [] → al2 ≡ bit_or w (status_word s.al) ∷ 0 ∷ []
   pub is : meets s (status_datagram number n al) ≡ record { slave = s; datagram = status_datagram number (n + 1) al2 }
 
 pub status_meets : (s : SlaveState) (number n : ℕ) (al : List ℕ) → length al ≡ 2 → n < 64 → StatusMet s number n al
@@ -40,20 +46,51 @@ status_meets s number n al two few =
     record {
       al2 = al2;
       word = length-retold 0 al _ ∙ two;
+      joined = λ w e. joins s al w (ado_of d) ado e;
       is = met ∙ ap (λ x. record { slave = s; datagram = x }) (answer d al2 ado adp wraps);
     }
   where
     answer : (d : Datagram) (al2 : List ℕ) → ado_of d ≡ 0x0130 → adp_of d ≡ n → (n + 1) % 65536 ≡ n + 1 → with_answer (status_datagram number n al) ((adp_of d + 1) % 65536 + 65536 * ado_of d) al2 1 ≡ status_datagram number (n + 1) al2
     answer d al2 ado adp wraps = rw (ado, adp, wraps) refl
 
+-- the AL word of a cyclic frame after one more slave
+pub word_on : (s : SlaveState) (number k n : ℕ) (al : List ℕ) (rest : List Datagram) (w : ℕ) → length al ≡ 2 → n < 64 → al ≡ w ∷ 0 ∷ []
+    → BringsWord (passes s (name_datagram number k ∷ status_datagram number n al ∷ rest)).datagrams (bit_or w (status_word s.al))
+word_on s number k n al rest w two few is =
+    let st = status_meets s number n al two few in
+    let name = name_datagram number k in
+    let status = status_datagram number n al in
+    let status2 = status_datagram number (n + 1) st.al2 in
+    let whole : passes s (name ∷ status ∷ rest) ≡ record { slave = (passes s rest).slave; datagrams = name ∷ status2 ∷ (passes s rest).datagrams }
+    = passes_first s s name name (status ∷ rest) (nop_meets s number k)
+    ∙ ap (λ (x : Passed). record { slave = x.slave; datagrams = name ∷ x.datagrams }) (passes_first s s status status2 rest st.is) in
+    ap (λ (x : Passed). bytes_at x.datagrams 1) whole ∙ st.joined w is
+
+-- a frame brings this AL word
+abbrev pub FrameBrings : List ℕ → ℕ → Type 0
+FrameBrings bytes w = (p : Payload) → IsFrame bytes p → BringsWord p.datagrams w
+
+pub frame_word : (plan : PlanState) (f : PlainFrame) (s : SlaveState) (bytes bytes2 : List ℕ) → length f.notes < 64 → FrameShows plan f bytes
+    → ((p : Payload) → IsFrame bytes p → IsFrame bytes2 (with_datagrams p (passes s p.datagrams).datagrams)) → (w : ℕ) → FrameBrings bytes w → FrameBrings bytes2 (bit_or w (status_word s.al))
+frame_word plan f s bytes bytes2 few shows passed w says p2 e =
+    let p = shows.payload in
+    let d = shows.shows in
+    let al : d.al ≡ w ∷ 0 ∷ [] = ap (λ (xs : List Datagram). bytes_at xs 1) (sym d.is) ∙ says p shows.spelled in
+    let part = part_at plan.parts f.part in
+    let on : BringsWord (passes s p.datagrams).datagrams (bit_or w (status_word s.al))
+    = subst (λ (xs : List Datagram). BringsWord (passes s xs).datagrams (bit_or w (status_word s.al))) (sym d.is)
+    (word_on s f.number f.part (length f.notes) d.al (process_datagrams part f.number d.sent d.returned d.gave) w d.al_word few al) in
+    subst (λ (y : Payload). BringsWord y.datagrams (bit_or w (status_word s.al))) (one_payload bytes2 (with_datagrams p (passes s p.datagrams).datagrams) p2 (passed p shows.spelled) e) on
+
 -- the datagrams of a cyclic frame after one more slave
-pub record DatagramsPassed (plan : PlanState) (f : PlainFrame) (q : PlainSlave) (s : SlaveState) (after : Passed) : Type 0 where
+pub record DatagramsPassed (plan : PlanState) (f : PlainFrame) (q : PlainSlave) (s : SlaveState) (ds : List Datagram) (after : Passed) : Type 0 where
   pub slave : after.slave ≡ slave_left (meaning plan) (length f.notes) f q s
   pub shows : DatagramsShow plan (with_note f (met_note (meaning plan) (length f.notes) f q)) after.datagrams
+  pub word : (w : ℕ) → BringsWord ds w → BringsWord after.datagrams (bit_or w (status_word s.al))
 
 pub datagrams_pass : (plan : PlanState) (f : PlainFrame) (q : PlainSlave) (s : SlaveState) (ds : List Datagram)
     → IsUsable plan → length f.notes < length plan.slaves → SlaveShows (length f.notes) (slave_at plan (length f.notes)) s q
-    → DatagramsShow plan f ds → DatagramsPassed plan f q s (passes s ds)
+    → DatagramsShow plan f ds → DatagramsPassed plan f q s ds (passes s ds)
 datagrams_pass plan f q s ds sound l h shows =
     let m = meaning plan in
     let t = length f.notes in
@@ -78,7 +115,7 @@ datagrams_pass plan f q s ds sound l h shows =
     ∙ (passes_first s s name name (status ∷ first) (nop_meets s f.number f.part)
     ∙ (ap (λ (x : Passed). record { slave = x.slave; datagrams = name ∷ x.datagrams }) (passes_first s s status status2 first st.is)
     ∙ ap (λ (x : Passed). record { slave = x.slave; datagrams = name ∷ status2 ∷ x.datagrams }) on.is)) in
-    subst (λ (x : Passed). DatagramsPassed plan f q s x) (sym whole) (record {
+    subst (λ (x : Passed). DatagramsPassed plan f q s ds x) (sym whole) (record {
       slave = refl;
       shows = record {
         al = st.al2;
@@ -93,6 +130,7 @@ datagrams_pass plan f q s ds sound l h shows =
         number_fits = shows.number_fits;
         not_more = omega (arith, more);
       };
+      word = λ w e. st.joined w (ap (λ (xs : List Datagram). bytes_at xs 1) (sym shows.is) ∙ e);
     })
 
 -- what a pass owes

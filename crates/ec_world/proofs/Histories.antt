@@ -55,11 +55,10 @@ run_tells R m p es made idle first = go [] es refl first
         one None q = subst (R (done ++ (e ∷ []))) (sym (at ∙ ap (λ o. unwrap_or o (run m p done).plain) q)) (idle done e r)
         one (Some x) q = subst (R (done ++ (e ∷ []))) (sym (at ∙ ap (λ o. unwrap_or o (run m p done).plain) q)) (made done rest e x is q r)
 
-any_event : Event → Bool
+abbrev pub any_event : Event → Bool
 any_event e = true
 
 all_any : (es : List Event) → list_all any_event es ≡ true
-unfolding any_event
 all_any [] = refl
 all_any (e ∷ es) = all_any es
 
@@ -150,13 +149,13 @@ pub record Carry (number : ℕ) (image : List ℕ) (p : Plain) : Type 0 where
 abbrev pub AreBelow : Plain → Type 0
 AreBelow p = (k : ℕ) (f : PlainFrame) → frame_at p k ≡ Some f → f.number < p.next
 
-below_step : (m : Meaning) (p : Plain) (e : Event) (q : Plain) → any_event e ≡ true → step m p e ≡ Some q → AreBelow p → AreBelow q
+pub below_step : (m : Meaning) (p : Plain) (e : Event) (q : Plain) → any_event e ≡ true → step m p e ≡ Some q → AreBelow p → AreBelow q
 below_step m p e q ok h b = by (leaves m p e q h)
   where
     by : Leaves m p e q → (k : ℕ) (f : PlainFrame) → frame_at q k ≡ Some f → f.number < q.next
     by (Stays slots next cycle) k f at = let x = b k f (ap (λ os. get_or os k None) (sym slots) ∙ at) in omega (arith, x, next)
     by (Closes slots next cycle) k f at = let x = b k f (ap (λ os. get_or os k None) (sym slots) ∙ at) in omega (arith, x, next)
-    by (Begins slots next cycle slaves room) k f at =
+    by (Begins is_begin slots next cycle slaves room) k f at =
         filled_has (λ (g : PlainFrame). g.number < q.next) (new_frames p.next p.outputs 0 m.parts) p.slots
         (λ i g there. let x = (new_one p.next 0 p.outputs m.parts i g there).number_is in omega (arith, x, next))
         (λ i g there. let x = b i g there in omega (arith, x, next))
@@ -190,7 +189,7 @@ same_step n image m p e q ok h c = by (leaves m p e q h)
     by : Leaves m p e q → Carry n image q
     by (Stays slots next cycle) = made (let x = c.past in omega (arith, x, next)) (λ k f at. c.same k f (ap (λ os. get_or os k None) (sym slots) ∙ at))
     by (Closes slots next cycle) = made (let x = c.past in omega (arith, x, next)) (λ k f at. c.same k f (ap (λ os. get_or os k None) (sym slots) ∙ at))
-    by (Begins slots next cycle slaves room) = made (let x = c.past in omega (arith, x, next)) (λ k f at.
+    by (Begins is_begin slots next cycle slaves room) = made (let x = c.past in omega (arith, x, next)) (λ k f at.
         filled_has (λ (g : PlainFrame). g.number ≡ n → g.snapshot ≡ image) (new_frames p.next p.outputs 0 m.parts) p.slots
         (λ i g there own. absurd (let x = (new_one p.next 0 p.outputs m.parts i g there).number_is in let y = c.past in omega (arith, x, y, own)))
         c.same k f (ap (λ os. get_or os k None) (sym slots) ∙ at))

@@ -34,7 +34,7 @@ use Rattle.ec_slave.specs.Serving.{served, request_decided, read_finished, messa
 use Rattle.ec_slave.specs.Checking.{control_word, checks_of}
 use Rattle.ec_slave.specs.Faulting.{faulted, locked_empty}
 use Rattle.ec_world.specs.Lengths.{IsOfLength}
-use Rattle.ec_world.specs.Lengths.{IsFitting, AllFit}
+use Rattle.ec_world.specs.Fitting.{IsFitting, AllFit}
 
 none_some : {X : Type 0} (x : X) → None ≡ Some x → ⊥
 none_some x e = cc

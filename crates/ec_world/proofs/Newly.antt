@@ -1,5 +1,5 @@
 -- A new world of a table, and what its plan is.
-use Rattle.std.proofs.Common.{ℕ, ◌≡◌, None, sym, subst, List, length, get_or}
+use Rattle.std.proofs.Common.{ℕ, ◌≡◌, None, sym, subst, List, get_or}
 use Rattle.std.specs.Prelude.{All}
 use Rattle.std.proofs.lemmas.List.Elements.{All-from_get_or}
 use Rattle.ec_regs.specs.declared.slave_type.Identity.{Identity}
@@ -8,7 +8,6 @@ use Rattle.ec_table.specs.Sound as table
 use Rattle.ec_link.specs.Faults.{compile_fault}
 use Rattle.ec_link.specs.Plan.{PlanState, plan_of}
 use Rattle.ec_link.specs.Usable.{IsUsable}
-use Rattle.ec_link.proofs.Soundness.{plan_sound}
 use Rattle.ec_link.proofs.UsableLaws.{plan_usable}
 use Rattle.ec_start.specs.Planned.{HasFewAssigned}
 use Rattle.ec_start.proofs.Assigned.{has_few}
@@ -17,10 +16,8 @@ use Rattle.ec_rise.proofs.StartableLaws.{slave_startable}
 use Rattle.ec_world.specs.declared.event.Event.{Event}
 use Rattle.ec_world.specs.World.{WorldState}
 use Rattle.ec_world.specs.Laws.{IsRun}
-use Rattle.ec_world.specs.NewWorld.{IsUndisturbed, ComesUp}
-use Rattle.ec_world.specs.Whole.{IsNew, Told, new_world, no_trouble}
+use Rattle.ec_world.specs.Whole.{IsNew, Told, no_trouble}
 use Rattle.ec_world.proofs.Whole.{compiled}
-use Rattle.ec_world.proofs.NewWorlds.{new_run}
 
 pub usable-of : (t : Contents) (plan : PlanState) → table.IsSound t → compile_fault t ≡ None → plan ≡ plan_of t → IsUsable plan
 usable-of t plan sound free is = subst IsUsable (sym is) (plan_usable t sound free)
@@ -29,16 +26,8 @@ pub few-of : (t : Contents) (plan : PlanState) → table.IsSound t → compile_f
 few-of t plan sound free is = subst (λ (p : PlanState). All HasFewAssigned p.slaves) (sym is)
     (All-from_get_or HasFewAssigned (plan_of t).slaves no_plan (λ i l. has_few (get_or (plan_of t).slaves i no_plan) (slave_startable t sound free i l)))
 
-pub slaves-of : (t : Contents) (plan : PlanState) → table.IsSound t → compile_fault t ≡ None → plan ≡ plan_of t → length plan.slaves ≡ length t.slaves
-slaves-of t plan sound free is = subst (λ (p : PlanState). length p.slaves ≡ length t.slaves) (sym is) (plan_sound t sound free).as_many
-
 -- a run of a new world
 pub told-new : (t : Contents) (is : List Identity) (w : WorldState) (es : List Event) (v : WorldState) (made : ℕ) → IsNew t is w → IsRun w es v made → Told w es v made (no_trouble w)
 told-new t is w es v made new run =
     subst (λ (x : WorldState). Told x es v made (no_trouble x)) (sym new.is)
     (compiled t is new.sound new.accepted new.one_each es v made (subst (λ (x : WorldState). IsRun x es v made) new.is run))
-
-pub up-new : (t : Contents) (is : List Identity) (w : WorldState) (es : List Event) (v : WorldState) (made : ℕ) → IsNew t is w → IsUndisturbed t is es → IsRun w es v made → ComesUp t v
-up-new t is w es v made new quiet run =
-    new_run t is new.sound new.accepted new.one_each quiet.devices v made
-    (subst (λ (xs : List Event). IsRun (new_world (plan_of t) is) xs v made) quiet.is (subst (λ (x : WorldState). IsRun x es v made) new.is run))

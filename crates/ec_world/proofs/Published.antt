@@ -121,7 +121,7 @@ traced_step m begun number done e q h c = by (leaves m p e q h)
       frames = λ j f at. now.frames j f (ap (λ os. get_or os j None) (sym slots) ∙ at);
       kept = λ d is. absurd (none_some d (sym cycle ∙ is));
     }
-    by (Begins slots next cycle slaves room) = record {
+    by (Begins is_begin slots next cycle slaves room) = record {
       past = let x = c.past in omega (arith, x, next);
       frames = λ j f at. filled_has R (new_frames p.next p.outputs 0 m.parts) p.slots
           (λ i g there own. absurd (let x = (new_one p.next 0 p.outputs m.parts i g there).number_is in let y = c.past in omega (arith, x, y, own)))

@@ -42,11 +42,11 @@ pub record Away (number k : ℕ) (slots : List (Option PlainFrame)) : Type 0 whe
 abbrev IsSomewhere : ℕ → List (Option PlainFrame) → Cycle → ℕ → Type 0
 IsSomewhere number slots c k = ((notes : List Note) × (get_or c.kept k None ≡ Some notes)) ⊎ Away number k slots
 
-moved_is : (number k : ℕ) (g y : PlainFrame) → y.number ≡ g.number → y.part ≡ g.part → IsAway number k g → IsAway number k y
+pub moved_is : (number k : ℕ) (g y : PlainFrame) → y.number ≡ g.number → y.part ≡ g.part → IsAway number k g → IsAway number k y
 moved_is number k g y num part a = record { number_is = num ∙ a.number_is; part_is = part ∙ a.part_is }
 
 -- a frame that moved on is still away
-moved_away : (number k : ℕ) (os : List (Option PlainFrame)) (j : ℕ) (g y : PlainFrame) → get_or os j None ≡ Some g → y.number ≡ g.number → y.part ≡ g.part
+pub moved_away : (number k : ℕ) (os : List (Option PlainFrame)) (j : ℕ) (g y : PlainFrame) → get_or os j None ≡ Some g → y.number ≡ g.number → y.part ≡ g.part
     → (i : ℕ) (f : PlainFrame) → get_or os i None ≡ Some f → IsAway number k f → Away number k (set os j (Some y))
 moved_away number k [] j g y at num part i f there a = absurd (none_some f there)
 moved_away number k (o ∷ os) zero g y at num part zero f there a =
@@ -58,7 +58,7 @@ moved_away number k (o ∷ os) (suc j) g y at num part (suc i) f there a =
     record { slot = suc r.slot; frame = r.frame; there = r.there; is = r.is }
 
 -- another frame's slot becoming free leaves it away
-left_away : (number k : ℕ) (os : List (Option PlainFrame)) (j : ℕ) → ((f : PlainFrame) → get_or os j None ≡ Some f → IsAway number k f → ⊥) → Away number k os → Away number k (set os j None)
+pub left_away : (number k : ℕ) (os : List (Option PlainFrame)) (j : ℕ) → ((f : PlainFrame) → get_or os j None ≡ Some f → IsAway number k f → ⊥) → Away number k os → Away number k (set os j None)
 left_away number k os j ne a = record {
   slot = a.slot;
   frame = a.frame;
@@ -257,7 +257,7 @@ peaceful_step m number u p e q ok h c = by (leaves m p e q h)
       full = λ k f at. c.full k f (ap (λ os. get_or os k None) (sym slots) ∙ at);
       cycle = λ d is own. absurd (none_some d (sym cycle ∙ is));
     }
-    by (Begins slots next cycle slaves room) = record {
+    by (Begins is_begin slots next cycle slaves room) = record {
       past = let x = c.past in omega (arith, x, next);
       ahead = λ k f at. filled_has A (new_frames p.next p.outputs 0 m.parts) p.slots
           (λ i g there own. absurd (let x = c.past in let n = (new_one p.next 0 p.outputs m.parts i g there).number_is in omega (arith, x, n, own)))
@@ -347,7 +347,7 @@ peaceful_begun m p begun u b whole = by (leaves m p Begin begun b.begins)
     by : Leaves m p Begin begun → Peaceful m p.next u begun
     by (Stays slots next cycle) = absurd (let n = ap (λ (x : Plain). x.next) is in omega (arith, next, n))
     by (Closes slots next cycle) = absurd (let n = ap (λ (x : Plain). x.next) is in omega (arith, next, n))
-    by (Begins slots next cycle slaves room) = made room
+    by (Begins is_begin slots next cycle slaves room) = made room
     by (Moves j g own there inside q) = absurd (let n = ap (λ (x : Plain). x.next) is in let o = ap (λ (x : Plain). x.next) q in omega (arith, o, n))
     by (Loses j own q) = absurd (let n = ap (λ (x : Plain). x.next) is in let o = ap (λ (x : Plain). x.next) q in omega (arith, o, n))
     by (Returns j g there q all) = absurd (let n = ap (λ (x : Plain). x.next) is in let o = ap (λ (x : Plain). x.next) q in omega (arith, o, n))

@@ -27,7 +27,8 @@ use Rattle.ec_start.specs.declared.error.StartError.{StartError}
 use Rattle.ec_cycle.specs.Master.{OpenCycle}
 use Rattle.ec_cycle.specs.Closing.{ReportState}
 use Rattle.ec_rise.proofs.Decodes.{fmmus-held}
-use Rattle.ec_rise.specs.Starting.{Starting, Starts, Instant, Between, UnderWay, Adrift, Over, IsReady, trouble_at, no_plan, kind_at}
+use Rattle.ec_rise.specs.Starting.{Starting, trouble_at, no_plan, kind_at}
+use Rattle.ec_rise.specs.Instants.{Starts, Instant, Between, UnderWay, Adrift, Over, IsReady}
 use Rattle.ec_rise.specs.Runs as rise
 use Rattle.ec_rise.specs.Runs.{AreStartable, ends_of, HoldsAll, Shown}
 use Rattle.ec_rise.proofs.Theorem.{ready-shown}
@@ -35,7 +36,7 @@ use Rattle.ec_world.specs.Plain.{PlainSlave, Health, Working, Faulted, Reset, no
 use Rattle.ec_world.specs.World.{WorldState, Flight, no_slave, slave_of, flights_progress, is_up, phase_ready, phase_awaits}
 use Rattle.ec_world.specs.SlaveShows.{Holds, IsQuiet, HoldsData, IsAs, SlaveShows}
 use Rattle.ec_world.specs.Shows.{CyclesShow, said}
-use Rattle.ec_world.specs.Lengths.{AllFit}
+use Rattle.ec_world.specs.Fitting.{AllFit}
 use Rattle.ec_world.specs.Rising.{SlotsHold, seen_of, Rising}
 use Rattle.ec_world.specs.Whole.{health_of, plain_slave_of, plain_of, ShowsZeros, IsReadyWorld}
 use Rattle.ec_world.proofs.Settings.{get_or-mapped, some_bits, no_bits, set_for_ins, unset}

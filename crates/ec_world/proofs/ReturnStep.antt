@@ -69,7 +69,7 @@ module _ (plan : PlanState) (old new : MasterState) (f : PlainFrame) (bytes : Li
   }
 
   -- an answer is of its cycle and its part
-  answer_tells : (c : OpenCycle) (k : ℕ) (p : Payload) → c.number < 2 ^ 64 → IsAnswer old c bytes k p → (f.number ≡ c.number) × (f.part ≡ k)
+  pub answer_tells : (c : OpenCycle) (k : ℕ) (p : Payload) → c.number < 2 ^ 64 → IsAnswer old c bytes k p → (f.number ≡ c.number) × (f.part ≡ k)
   answer_tells c k p fits a =
       let same : p ≡ shows.payload = one_payload bytes p shows.payload a.spelled shows.spelled in
       let few : k < 2 ^ 16 = let x = a.there in let y = sound.few_parts in let z = ap (λ (x : PlanState). length x.parts) same_plan in omega arith in

@@ -27,7 +27,8 @@ use Rattle.ec_start.specs.Running.{StartState, action_of, sending, begun, taken,
 use Rattle.ec_start.specs.declared.phase.Phase.{Phase}
 use Rattle.ec_start.specs.declared.phase.Phase.TheVariants.{Idle, Sent, Ready, Failed}
 use Rattle.ec_rise.specs.Stages.{Config}
-use Rattle.ec_rise.specs.Starting.{Starting, Carried, Starts, Instant, Between, UnderWay, Adrift, Over, IsReady, trouble_at}
+use Rattle.ec_rise.specs.Starting.{Starting, Carried, trouble_at}
+use Rattle.ec_rise.specs.Instants.{Starts, Instant, Between, UnderWay, Adrift, Over, IsReady}
 use Rattle.ec_rise.specs.Slots.{IsCarried}
 use Rattle.ec_rise.specs.Runs.{AreStartable, ends_of, flags_sent, with_begun, with_slave as with_slave_at, Sends as SendsNext, Passes as PassesOne, Loses as LosesOne, Returns as ReturnsOne, Strays, Closes as ClosesOne, Serves, Puts as PutsOne, Gets as GetsOne, Faults, Resets}
 use Rattle.ec_rise.proofs.Theorem.{taken-plan, happens-starts, begun-starts, frame-passes}
@@ -36,7 +37,7 @@ use Rattle.ec_world.specs.declared.event.Event.{Event}
 use Rattle.ec_world.specs.declared.event.Event.TheVariants.{StartNext, Set, Begin, Pass, Lose, Return, Close, Serve, AppPut, AppGet, Fault, Reset as ResetSlave}
 use Rattle.ec_world.specs.Plain.{filled, may_pass, may_return}
 use Rattle.ec_world.specs.World.{WorldState, Flight, no_slave, slave_of, flight_at, flight_progress, flights_progress, is_up, awaits, phase_awaits, phase_ready, is_slave, can_happen, resumed, ready_with, ByStart, Sends, Passes, Returns, StartReturns, GivesUp, Closes, Happens, with_slave}
-use Rattle.ec_world.specs.Lengths.{AllFit}
+use Rattle.ec_world.specs.Fitting.{AllFit}
 use Rattle.ec_world.specs.Whole.{flags_after}
 use Rattle.ec_world.specs.Rising.{IsInSlot, SlotsHold, seen_of, Rising}
 use Rattle.ec_world.proofs.Lengths.{met-fit, on-fits, fault-fits, put-fits, get-fits, serve-fits}
@@ -96,7 +97,7 @@ pub record IsTheOne (slots : List (Option Flight)) (k : ℕ) (flight : Flight) (
   pub place : k ≡ 0
   pub same : i.flight ≡ flight
 
-the-one : (slots : List (Option Flight)) (k : ℕ) (flight : Flight) (c : Carried) (i : IsInSlot slots c) → get_or slots k None ≡ Some flight → IsTheOne slots k flight c i
+pub the-one : (slots : List (Option Flight)) (k : ℕ) (flight : Flight) (c : Carried) (i : IsInSlot slots c) → get_or slots k None ≡ Some flight → IsTheOne slots k flight c i
 the-one slots k flight c i e = elim (cases_eq k 0) [
   | inl z ↦ record { place = z; same = some_same i.flight flight (sym i.first ∙ (ap (λ (n : ℕ). get_or slots n None) (sym z) ∙ e)) }
   | inr ne ↦ absurd (none_some flight (sym (i.others k ne) ∙ e))

@@ -1,8 +1,14 @@
 -- A frame round the ring, by induction over the slaves.
-use Rattle.std.proofs.Common.{ℕ, zero, suc, ◌+◌, ◌<◌, ◌≡◌, ◌==◌, Bool, true, false, refl, sym, ◌∙◌, ap, subst, arith, List, [], ◌∷◌, ◌++◌, length, map, get_or, if◌then◌else◌, append-nil, append_assoc}
+use Rattle.std.proofs.Common.{ℕ, zero, suc, ◌+◌, ◌<◌, ◌≡◌, ◌==◌, Bool, true, false, refl, sym, ◌∙◌, ap, subst, arith, List, [], ◌∷◌, ◌++◌, length, map, get_or, if◌then◌else◌, append-nil, append_assoc, bit_or}
 use Rattle.std.proofs.lemmas.Bool.{eq-eqb}
 use Rattle.std.proofs.lemmas.List.{length_push, length-map, get_or-map}
 use Rattle.ec_bits.proofs.AnyLaws.{if_true}
+use Rattle.ec_regs.specs.Words.{al_word}
+use Rattle.ec_al.specs.Al.{Al, status_word}
+use Rattle.ec_al.specs.States.{state_number}
+use Rattle.ec_al.specs.declared.state.State.{State}
+use Rattle.ec_al.specs.declared.state.State.TheVariants.{Op}
+use Rattle.ec_frame.specs.Datagram.{Datagram}
 use Rattle.ec_slave.specs.State.{SlaveState}
 use Rattle.ec_slave.specs.Exchange.{inputs_of}
 use Rattle.ec_slave.specs.Meeting.{passes}
@@ -12,13 +18,14 @@ use Rattle.ec_link.specs.Shares.{share_in, nothing_given}
 use Rattle.ec_link.specs.Meaning.{Meaning, share_of, slave_at, no_slave as no_slave_plan, meaning}
 use Rattle.ec_link.specs.Plan.{part_at}
 use Rattle.ec_link.specs.declared.settings.Settings.{Settings}
+use Rattle.ec_cycle.specs.Closing.{bytes_at}
 use Rattle.ec_cycle.specs.Frames.{cyclic_datagrams, sent_datagrams}
 use Rattle.ec_world.specs.Plain.{PlainSlave, PlainFrame, Working, Note, Other, Full, is_full, met_note, with_note, no_plain_slave, giving}
 use Rattle.ec_world.specs.World.{no_slave}
 use Rattle.ec_world.specs.SlaveShows.{SlaveShows}
 use Rattle.ec_world.specs.FrameShows.{DatagramsShow, note_at}
 use Rattle.ec_world.specs.Exchanging.{slave_left}
-use Rattle.ec_world.specs.Laws.{notes_round, SlavesFrom, RoundTrip, in_op, CycleLaw}
+use Rattle.ec_world.specs.Laws.{notes_round, SlavesFrom, RoundTrip, word_past, in_op, CycleLaw}
 use Rattle.ec_world.proofs.FramePass.{datagrams_pass}
 use Rattle.ec_world.proofs.Fresh.{fresh, fresh_datagrams}
 use Rattle.ec_world.proofs.Knowing.{share_is}
@@ -32,6 +39,7 @@ pub round_trip : RoundTrip
 round_trip plan f [] [] ds sound all len slaves frame = record {
   slaves = λ i l. absurd (omega arith);
   frame = subst (λ (ns : List Note). DatagramsShow plan (record f { notes = ns }) ds) (sym (append-nil f.notes)) frame;
+  word = λ w e. e;
 }
 round_trip plan f [] (q ∷ qs) ds sound all len slaves frame = absurd (omega arith)
 round_trip plan f (s ∷ ss) [] ds sound all len slaves frame = absurd (omega arith)
@@ -51,6 +59,7 @@ round_trip plan f (s ∷ ss) (q ∷ qs) ds sound all len slaves frame =
     record {
       slaves = λ i l. by_place i l one.slave more rest.slaves;
       frame = subst (λ (ys : List Note). DatagramsShow plan (record f { notes = ys }) (passes_ring ss (passes s ds).datagrams).datagrams) ns rest.frame;
+      word = λ w e. rest.word (bit_or w (status_word s.al)) (one.word w e);
     }
   where
     by_place : (i : ℕ) → i < length (s ∷ ss) → (passes s ds).slave ≡ slave_left (meaning plan) (length f.notes) f q s
@@ -63,6 +72,17 @@ round_trip plan f (s ∷ ss) (q ∷ qs) ds sound all len slaves frame =
         rest j (omega arith) ∙ ap (λ k. slave_left (meaning plan) k f (get_or qs j no_plain_slave) (get_or ss j no_slave)) e
 
 -- ---- slaves in OP
+
+in_op_says : (al : Al) → al.state ≡ Op → al.error ≡ false → status_word al ≡ 8
+in_op_says al state error = ap (λ (st : State). al_word (state_number st) al.error) state ∙ ap (λ (e : Bool). al_word 8 e) error
+
+still_eight : (ss : List SlaveState) → ((i : ℕ) → i < length ss → status_word (get_or ss i no_slave).al ≡ 8) → word_past 8 ss ≡ 8
+still_eight [] h = refl
+still_eight (s ∷ ss) h = ap (λ (n : ℕ). word_past (bit_or 8 n) ss) (h 0 (omega arith)) ∙ still_eight ss (λ i l. h (suc i) (omega arith))
+
+all_in_op : (ss : List SlaveState) → 0 < length ss → ((i : ℕ) → i < length ss → status_word (get_or ss i no_slave).al ≡ 8) → word_past 0 ss ≡ 8
+all_in_op [] some h = absurd (omega (arith, some))
+all_in_op (s ∷ ss) some h = ap (λ (n : ℕ). word_past (bit_or 0 n) ss) (h 0 (omega arith)) ∙ still_eight ss (λ i l. h (suc i) (omega arith))
 
 note_round : (m : Meaning) (t : ℕ) (f : PlainFrame) (qs : List PlainSlave) (i : ℕ) → i < length qs → note_at (notes_round m t f qs) i ≡ met_note m (t + i) f (get_or qs i no_plain_slave)
 note_round m t f [] i l = absurd (omega arith)
@@ -103,6 +123,7 @@ cycle_law plan number k image ss sound fits there len working =
           trip.slaves t l ∙ (ap (λ j. slave_left m j f (get_or qs t no_plain_slave) (get_or ss t no_slave)) z
           ∙ ap (λ q. slave_left m t f q (get_or ss t no_slave)) (own t l));
       al = shows.al;
+      in_op = λ some. ap (λ (ds : List Datagram). bytes_at ds 1) (sym shows.is) ∙ (trip.word 0 refl ∙ ap (λ (w : ℕ). w ∷ 0 ∷ []) (all_in_op ss some (λ t l. in_op_says (get_or ss t no_slave).al (working t l).state (working t l).no_error)));
       sent = shows.sent;
       returned = shows.returned;
       back = shows.is ∙ (ap (λ n. cyclic_datagrams (part_at plan.parts k) number k n shows.al shows.sent shows.returned shows.gave) many ∙ ap (cyclic_datagrams (part_at plan.parts k) number k (length ss) shows.al shows.sent shows.returned) gave);

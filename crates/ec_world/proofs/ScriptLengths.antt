@@ -150,7 +150,7 @@ phases_few (p ∷ ps) h =
     let all = length-append cleared (names ++ (reads ++ (sets ++ (raises ++ (talks ++ (maps ++ (safes ++ ups))))))) in
     omega (arith, from_names, all)
 
-pub script_fits : (t : Contents) → table.IsSound t → compile_fault t ≡ None → length (script (plan_of t).slaves) ≤ cycle_limit
+pub script_fits : (t : Contents) → table.IsSound t → compile_fault t ≡ None → length (script (plan_of t).slaves) < cycle_limit
 script_fits t sound free =
     let s = plan_sound t sound free in
     let many = s.as_many in

@@ -140,7 +140,7 @@ single_step m number p e q h c = by (leaves m p e q h)
       where
         in_slot : (i : ℕ) → frame_at p i ≡ frame_at q i
         in_slot i = ap (λ os. get_or os i None) (sym slots)
-    by (Begins slots next cycle slaves room) = record {
+    by (Begins is_begin slots next cycle slaves room) = record {
       past = let x = c.past in omega (arith, x, next);
       inside = λ i f at own. c.inside i f (was i f at own) own;
       once = λ i j f g ef eg nf ng. c.once i j f g (was i f ef nf) (was j g eg ng) nf ng;

@@ -40,14 +40,14 @@ pub chained : {X Y : Type 0} (f : X → Option Y) (o : Option X) (q : Y) → opt
 chained f None q e = absurd (none_some q e)
 chained f (Some x) q e = record { value = x; there = refl; is = e }
 
-guarded_map : {X : Type 0} (b : Bool) (f : X → Plain) (o : Option X) (q : Plain) → (if b then option_map f o else None) ≡ Some q → Mapped f o q
+pub guarded_map : {X : Type 0} (b : Bool) (f : X → Plain) (o : Option X) (q : Plain) → (if b then option_map f o else None) ≡ Some q → Mapped f o q
 guarded_map true f o q e = mapped f o q e
 guarded_map false f o q e = absurd (none_some q e)
 
 -- What an event leaves of the frames, the next number and the open cycle.
 pub data Leaves (m : Meaning) (p : Plain) (e : Event) (q : Plain) : Type 0 where
   Stays : q.slots ≡ p.slots → q.next ≡ p.next → q.cycle ≡ p.cycle → Leaves m p e q
-  Begins : q.slots ≡ filled (new_frames p.next p.outputs 0 m.parts) p.slots → q.next ≡ p.next + 1
+  Begins : e ≡ Begin → q.slots ≡ filled (new_frames p.next p.outputs 0 m.parts) p.slots → q.next ≡ p.next + 1
       → q.cycle ≡ Some (record { number = p.next; kept = map (λ u. None) m.parts }) → q.slaves ≡ p.slaves → length m.parts ≤ nones p.slots → Leaves m p e q
   Moves : (k : ℕ) (f : PlainFrame) → e ≡ Pass k → frame_at p k ≡ Some f → length f.notes < length p.slaves → q ≡ moved m p k f → Leaves m p e q
   Loses : (k : ℕ) → e ≡ Lose k → q ≡ record p { slots = set p.slots k None } → Leaves m p e q
@@ -72,7 +72,7 @@ leaves m p Begin q e =
       cycle = Some (record { number = p.next; kept = map (λ u. None) m.parts });
       slots = filled (new_frames p.next p.outputs 0 m.parts) p.slots;
     } in
-    subst (λ (x : Plain). Leaves m p Begin x) (guarded _ r q e) (Begins refl refl refl refl (room _ refl e))
+    subst (λ (x : Plain). Leaves m p Begin x) (guarded _ r q e) (Begins refl refl refl refl refl (room _ refl e))
   where
     room : (b : Bool) → (is_none p.cycle && (nat_le (length m.parts) (nones p.slots) && nat_lt p.next (2 ^ 64 - 1))) ≡ b
         → (if b then Some (record p { next = p.next + 1; cycle = Some (record { number = p.next; kept = map (λ u. None) m.parts }); slots = filled (new_frames p.next p.outputs 0 m.parts) p.slots }) else None) ≡ Some q → length m.parts ≤ nones p.slots

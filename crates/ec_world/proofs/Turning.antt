@@ -1,5 +1,5 @@
--- The events of one undisturbed frame: it is sent, it passes each slave, it comes back, and each slave serves once.
-use Rattle.std.proofs.Common.{ℕ, zero, suc, ◌+◌, ◌<◌, ◌≡◌, ◌==◌, nat_lt, Bool, true, false, if◌then◌else◌, Option, Some, None, refl, sym, ◌∙◌, ap, subst, arith, List, [], ◌∷◌, ◌++◌, length, get_or, set, map, replicate, option_map}
+-- The events of a frame of a start-up: it is sent, it passes a slave, it comes back.
+use Rattle.std.proofs.Common.{ℕ, zero, suc, ◌+◌, ◌<◌, ◌≡◌, ◌==◌, nat_lt, Bool, true, false, Option, Some, None, refl, sym, ◌∙◌, ap, subst, arith, List, [], ◌∷◌, ◌++◌, length, get_or, set, replicate, option_map}
 use Rattle.std.proofs.lemmas.Bool.{eq-eqb, lt-ltb, le-ltb}
 use Rattle.std.specs.List.{list_all, AllByRecursion}
 use Rattle.std.proofs.lemmas.List.{length-map}
@@ -13,21 +13,16 @@ use Rattle.ec_cycle.specs.Closing.{nones}
 use Rattle.ec_cycle.specs.Master.{cycle_limit}
 use Rattle.ec_start.specs.Actions.{numbered, frame_of, datagram_of}
 use Rattle.ec_start.specs.Running.{StartState, action_of, sending, taken, IsStartAnswer}
-use Rattle.ec_start.specs.declared.phase.Phase.{Phase}
-use Rattle.ec_start.specs.declared.phase.Phase.TheVariants.{Idle}
-use Rattle.ec_rise.specs.Undisturbed.{all_passed, all_met, Rising, turned, turns, IsRound}
+use Rattle.ec_rise.specs.Undisturbed.{all_passed, all_met, Rising, turned, IsRound}
 use Rattle.ec_rise.proofs.Rounds.{round}
 use Rattle.ec_rise.proofs.Carrying.{second-carried}
 use Rattle.ec_rise.specs.Starting.{Carried}
 use Rattle.ec_rise.specs.Slots.{IsCarried}
 use Rattle.ec_rise.proofs.Theorem.{frame-passes}
-use Rattle.ec_world.specs.declared.event.Event.{Event}
-use Rattle.ec_world.specs.declared.event.Event.TheVariants.{StartNext, Pass, Return, Serve}
+use Rattle.ec_world.specs.declared.event.Event.TheVariants.{StartNext, Pass, Return}
 use Rattle.ec_world.specs.declared.progress.Progress.{Progress}
 use Rattle.ec_world.specs.Plain.{filled, may_pass, may_return, lets_by, is_older}
-use Rattle.ec_world.specs.World.{WorldState, Flight, no_slave, slave_of, flight_at, flight_progress, flights_progress, can_happen, awaits, resumed, ByStart, Sends, Passes, Returns, StartReturns, IsStep, with_slave}
-use Rattle.ec_world.specs.Laws.{IsRun}
-use Rattle.ec_world.specs.NewWorld.{passings, servings, frame_events, undisturbed, rising_of}
+use Rattle.ec_world.specs.World.{WorldState, Flight, no_slave, slave_of, flight_at, flight_progress, flights_progress, can_happen, awaits, resumed, is_up, ready_with, ByStart, Sends, Passes, Returns, StartReturns, IsStep}
 
 -- ---- lists
 
@@ -43,55 +38,19 @@ length-both : (pre ss : List SlaveState) → length (pre ++ ss) ≡ length pre +
 length-both [] ss = omega arith
 length-both (p ∷ pre) ss = let e = length-both pre ss in omega (arith, e)
 
--- ---- firmware steps
-
-pub record Served (m : WorldState) (pre ss : List SlaveState) (v : WorldState) (made : ℕ) : Type 0 where
-  pub start : v.start ≡ m.start
-  pub slots : v.slots ≡ m.slots
-  pub slaves : v.slaves ≡ pre ++ map served ss
-  pub count : made ≡ length ss
-
 inside : (pre : List SlaveState) (s : SlaveState) (ss : List SlaveState) → nat_lt (length pre) (length (pre ++ (s ∷ ss))) ≡ true
 inside pre s ss =
     let e = length-both pre (s ∷ ss) in
     let lt : length pre < length (pre ++ (s ∷ ss)) = omega (arith, e) in
     lt-ltb (length pre) (length (pre ++ (s ∷ ss))) lt
 
-push-one : (pre : List SlaveState) (s : SlaveState) (ss : List SlaveState) → pre ++ (s ∷ ss) ≡ (pre ++ (s ∷ [])) ++ ss
+pub push-one : (pre : List SlaveState) (s : SlaveState) (ss : List SlaveState) → pre ++ (s ∷ ss) ≡ (pre ++ (s ∷ [])) ++ ss
 push-one [] s ss = refl
 push-one (p ∷ pre) s ss = ap (λ (xs : List SlaveState). p ∷ xs) (push-one pre s ss)
 
-length-push : (pre : List SlaveState) (s : SlaveState) → length (pre ++ (s ∷ [])) ≡ length pre + 1
+pub length-push : (pre : List SlaveState) (s : SlaveState) → length (pre ++ (s ∷ [])) ≡ length pre + 1
 length-push [] s = refl
 length-push (p ∷ pre) s = let e = length-push pre s in omega (arith, e)
-
-pub serve-all : (ss pre : List SlaveState) (m v : WorldState) (made : ℕ) → m.slaves ≡ pre ++ ss → IsRun m (servings (length pre) (length ss)) v made → Served m pre ss v made
-serve-all [] pre m v made e h = record {
-  start = ap (λ (w : WorldState). w.start) h.0;
-  slots = ap (λ (w : WorldState). w.slots) h.0;
-  slaves = ap (λ (w : WorldState). w.slaves) h.0 ∙ e;
-  count = h.1;
-}
-serve-all (s ∷ ss) pre m v made e h =
-    let u : WorldState = h.0 in
-    let step : IsStep m (Serve (length pre)) u h.1 = h.3 in
-    let can : can_happen m (Serve (length pre)) ≡ true = ap (λ (xs : List SlaveState). nat_lt (length pre) (length xs)) e ∙ inside pre s ss in
-    let one : h.1 ≡ true = step.can ∙ can in
-    let is : u ≡ with_slave m (length pre) (served (slave_of m (length pre))) = step.happens one in
-    let own : slave_of m (length pre) ≡ s = ap (λ (xs : List SlaveState). get_or xs (length pre) no_slave) e ∙ at-end pre s ss in
-    let now : u.slaves ≡ (pre ++ (served s ∷ [])) ++ ss
-    = ap (λ (w : WorldState). w.slaves) is
-    ∙ (ap (λ (x : SlaveState). set m.slaves (length pre) (served x)) own
-    ∙ (ap (λ (xs : List SlaveState). set xs (length pre) (served s)) e
-    ∙ (set-end pre s (served s) ss ∙ push-one pre (served s) ss))) in
-    let rest = serve-all ss (pre ++ (served s ∷ [])) u v h.2 now
-    (subst (λ (n : ℕ). IsRun u (servings n (length ss)) v h.2) (sym (length-push pre (served s))) h.4) in
-    record {
-      start = rest.start ∙ ap (λ (w : WorldState). w.start) is;
-      slots = rest.slots ∙ ap (λ (w : WorldState). w.slots) is;
-      slaves = rest.slaves ∙ sym (push-one pre (served s) (map served ss));
-      count = h.5 ∙ (ap (λ (b : Bool). (if b then 1 else 0) + h.2) one ∙ (let e = rest.count in let z : 1 + h.2 ≡ suc (length ss) = omega (arith, e) in z));
-    }
 
 -- ---- the frame in its slot
 
@@ -108,19 +67,11 @@ pub record InSlot (n : ℕ) (m : WorldState) (c : Carried) : Type 0 where
   pub slots : m.slots ≡ Some (record { bytes = bytes; number = c.number; part = 0; passed = c.passed }) ∷ replicate n None
   pub carried : IsCarried bytes c
 
-pub record HasPassed (n : ℕ) (m : WorldState) (c : Carried) (pre ss : List SlaveState) (es : List Event) (v : WorldState) (made : ℕ) : Type 0 where
-  pub mid : WorldState
-  pub rest : ℕ
-  pub start : mid.start ≡ m.start
-  pub slaves : mid.slaves ≡ pre ++ all_met ss c.datagram
-  pub slot : InSlot n mid (record { number = c.number; passed = c.passed + length ss; datagram = all_passed ss c.datagram })
-  pub run : IsRun mid es v rest
-  pub count : made ≡ length ss + rest
-
 -- one pass
 pub record OnePast (n : ℕ) (m : WorldState) (c : Carried) (pre : List SlaveState) (s : SlaveState) (ss : List SlaveState) (u : WorldState) (one : Bool) : Type 0 where
   pub made : one ≡ true
   pub start : u.start ≡ m.start
+  pub master : u.master ≡ m.master
   pub slaves : u.slaves ≡ pre ++ (slave_met s c.datagram ∷ ss)
   pub slot : InSlot n u (record { number = c.number; passed = c.passed + 1; datagram = datagram_met s c.datagram })
 
@@ -136,7 +87,7 @@ lets-all n number k = let f : Progress = record { number = number; part = 0; pas
 some-same : {X : Type 0} (x y : X) → Some x ≡ Some y → x ≡ y
 some-same x y e = cc
 
-one-past : (n : ℕ) (m : WorldState) (c : Carried) (pre : List SlaveState) (s : SlaveState) (ss : List SlaveState) (u : WorldState) (one : Bool)
+pub one-past : (n : ℕ) (m : WorldState) (c : Carried) (pre : List SlaveState) (s : SlaveState) (ss : List SlaveState) (u : WorldState) (one : Bool)
     → InSlot n m c → c.passed ≡ length pre → m.slaves ≡ pre ++ (s ∷ ss) → IsStep m (Pass 0) u one → OnePast n m c pre s ss u one
 one-past n m c pre s ss u one i at e step =
     let f : Flight = record { bytes = i.bytes; number = c.number; part = 0; passed = c.passed } in
@@ -159,6 +110,7 @@ one-past n m c pre s ss u one i at e step =
     record {
       made = step.can ∙ can;
       start = ap (λ (w : WorldState). w.start) p.is;
+      master = ap (λ (w : WorldState). w.master) p.is;
       slaves = p.passed.slaves load car.spelled
           ∙ (ap (λ (y : Passed). set m.slaves p.flight.passed y.slave) met
           ∙ (ap (λ (y : SlaveState). set m.slaves p.flight.passed (slave_met y c.datagram)) own
@@ -177,38 +129,6 @@ one-past n m c pre s ss u one i at e step =
       };
     }
 
-pub pass-all : (ss pre : List SlaveState) (n : ℕ) (m : WorldState) (c : Carried) (es : List Event) (v : WorldState) (made : ℕ)
-    → InSlot n m c → c.passed ≡ length pre → m.slaves ≡ pre ++ ss → IsRun m (passings (length ss) ++ es) v made → HasPassed n m c pre ss es v made
-pass-all [] pre n m c es v made i at e h =
-    let z : c.passed ≡ c.passed + 0 = omega arith in
-    record {
-      mid = m;
-      rest = made;
-      start = refl;
-      slaves = e;
-      slot = subst (λ (k : ℕ). InSlot n m (record { number = c.number; passed = k; datagram = c.datagram })) z i;
-      run = h;
-      count = omega arith;
-    }
-pass-all (s ∷ ss) pre n m c es v made i at e h =
-    let o = one-past n m c pre s ss h.0 h.1 i at e h.3 in
-    let d : Datagram = datagram_met s c.datagram in
-    let c2 : Carried = record { number = c.number; passed = c.passed + 1; datagram = d } in
-    let pre2 : List SlaveState = pre ++ (slave_met s c.datagram ∷ []) in
-    let l : c.passed + 1 ≡ length pre2 = let a = length-push pre (slave_met s c.datagram) in omega (arith, a, at) in
-    let r = pass-all ss pre2 n h.0 c2 es v h.2 o.slot l (o.slaves ∙ push-one pre (slave_met s c.datagram) ss) h.4 in
-    let z : c.passed + 1 + length ss ≡ c.passed + suc (length ss) = omega arith in
-    let k : made ≡ 1 + h.2 = h.5 ∙ ap (λ (b : Bool). (if b then 1 else 0) + h.2) o.made in
-    record {
-      mid = r.mid;
-      rest = r.rest;
-      start = r.start ∙ o.start;
-      slaves = r.slaves ∙ sym (push-one pre (slave_met s c.datagram) (all_met ss d));
-      slot = subst (λ (q : ℕ). InSlot n r.mid (record { number = c.number; passed = q; datagram = all_passed ss d })) z r.slot;
-      run = r.run;
-      count = let q = r.count in omega (arith, k, q);
-    }
-
 -- ---- it is sent
 
 second-good : (ds : List Datagram) (number : ℕ) (d : Datagram) → AllByRecursion IsDatagram ds → ds ≡ numbered number 0 ∷ d ∷ [] → IsDatagram d
@@ -218,31 +138,47 @@ none-filled : (n : ℕ) → filled {X = Flight} [] (replicate n None) ≡ replic
 none-filled zero = refl
 none-filled (suc n) = refl
 
-pub record IsOut (n : ℕ) (w u : WorldState) (one : Bool) : Type 0 where
-  pub made : one ≡ true
-  pub start : u.start ≡ sending w.start
-  pub slaves : u.slaves ≡ w.slaves
-  pub good : IsDatagram (datagram_of (action_of w.start) w.start.next)
-  pub slot : InSlot n u (record { number = w.start.next; passed = 0; datagram = datagram_of (action_of w.start) w.start.next })
+-- a world that can send a frame, of a start-up that is then in this state
+pub record Sending (w : WorldState) (s : StartState) : Type 0 where
+  pub resumes : resumed w.start w.start.phase ≡ s
+  pub next : s.next ≡ w.start.next
+  pub not_up : is_up w.start ≡ false
+  pub none_awaited : awaits w.start ≡ false
+  pub few : w.start.next < cycle_limit
 
-pub send-one : (n : ℕ) (w u : WorldState) (one : Bool) → w.start.phase ≡ Idle → w.start.next < cycle_limit → w.slots ≡ None ∷ replicate n None → IsStep w StartNext u one → IsOut n w u one
-send-one n w u one idle few e step =
+pub record IsOut (n : ℕ) (w : WorldState) (s : StartState) (u : WorldState) (one : Bool) : Type 0 where
+  pub made : one ≡ true
+  pub start : u.start ≡ sending s
+  pub master : u.master ≡ w.master
+  pub slaves : u.slaves ≡ w.slaves
+  pub good : IsDatagram (datagram_of (action_of s) s.next)
+  pub slot : InSlot n u (record { number = s.next; passed = 0; datagram = datagram_of (action_of s) s.next })
+
+pub send-one : (n : ℕ) (w u : WorldState) (one : Bool) (s : StartState) → Sending w s → w.slots ≡ None ∷ replicate n None → IsStep w StartNext u one → IsOut n w s u one
+send-one n w u one s sends e step =
     let free : (nones w.slots == length w.slots) ≡ true
     = ap (λ (os : List (Option Flight)). nones os == length os) e ∙ eq-eqb (nones (replicate {A = Option Flight} (suc n) None)) (length (replicate {A = Option Flight} (suc n) None)) (nones-all (suc n)) in
-    let low : nat_lt w.start.next cycle_limit ≡ true = lt-ltb w.start.next cycle_limit few in
-    let can : can_happen w StartNext ≡ true = rw (idle, free, low) refl in
+    let low : nat_lt w.start.next cycle_limit ≡ true = lt-ltb w.start.next cycle_limit sends.few in
+    let down = sends.not_up in
+    let quiet = sends.none_awaited in
+    let can : can_happen w StartNext ≡ true = rw (down, quiet, free, low) refl in
     let p : Sends w u = step.happens (step.can ∙ can) in
     let f : Flight = record { bytes = p.bytes; number = w.start.next; part = 0; passed = 0 } in
     let load : Payload = bare_payload (frame_of (action_of (resumed w.start w.start.phase)) w.start.next) in
-    let told : load.datagrams ≡ frame_of (action_of w.start) w.start.next = ap (λ (q : Phase). frame_of (action_of (resumed w.start q)) w.start.next) idle in
+    let told : load.datagrams ≡ frame_of (action_of s) s.next
+    = ap (λ (x : StartState). frame_of (action_of x) w.start.next) sends.resumes ∙ ap (λ (k : ℕ). frame_of (action_of s) k) (sym sends.next) in
     record {
       made = step.can ∙ can;
-      start = ap (λ (x : WorldState). x.start) p.is ∙ ap (λ (q : Phase). sending (resumed w.start q)) idle;
+      start = ap (λ (x : WorldState). x.start) p.is ∙ ap sending sends.resumes;
+      master = ap (λ (x : WorldState). x.master) p.is;
       slaves = ap (λ (x : WorldState). x.slaves) p.is;
-      good = second-good load.datagrams w.start.next (datagram_of (action_of w.start) w.start.next) p.spelled.each told;
+      good = second-good load.datagrams s.next (datagram_of (action_of s) s.next) p.spelled.each told;
       slot = record {
         bytes = p.bytes;
-        slots = ap (λ (x : WorldState). x.slots) p.is ∙ (ap (λ (os : List (Option Flight)). filled (f ∷ []) os) e ∙ ap (λ (os : List (Option Flight)). Some f ∷ os) (none-filled n));
+        slots = ap (λ (x : WorldState). x.slots) p.is
+            ∙ (ap (λ (os : List (Option Flight)). filled (f ∷ []) os) e
+            ∙ (ap (λ (os : List (Option Flight)). Some f ∷ os) (none-filled n)
+            ∙ ap (λ (k : ℕ). Some (record { bytes = p.bytes; number = k; part = 0; passed = 0 }) ∷ replicate n None) (sym sends.next)));
         carried = record { payload = load; spelled = p.spelled; datagrams = told };
       };
     }
@@ -252,6 +188,7 @@ send-one n w u one idle few e step =
 pub record IsBack (n : ℕ) (m : WorldState) (s : StartState) (d : Datagram) (u : WorldState) (one : Bool) : Type 0 where
   pub made : one ≡ true
   pub start : u.start ≡ taken (sending s) d
+  pub master : u.master ≡ ready_with m.master u.start
   pub slaves : u.slaves ≡ m.slaves
   pub slots : u.slots ≡ None ∷ replicate n None
 
@@ -277,71 +214,21 @@ return-one n m s ss passed u one i at e good step =
     record {
       made = step.can ∙ can;
       start = p.start.kept car.payload d kept car.spelled (second-carried p.flight.bytes c car) ∙ ap (λ (x : StartState). taken x d) e;
+      master = ap (λ (w : WorldState). w.master) p.is;
       slaves = ap (λ (w : WorldState). w.slaves) p.is;
       slots = ap (λ (w : WorldState). w.slots) p.is ∙ ap (λ (os : List (Option Flight)). set os 0 None) i.slots;
     }
 
--- ---- the whole round
+-- ---- a start-up and its slaves
 
-pub record HasTurned (n : ℕ) (w v : WorldState) : Type 0 where
-  pub is : rising_of v ≡ turned (rising_of w)
-  pub slots : v.slots ≡ None ∷ replicate n None
-
-rising-by : (a b : StartState) (xs ys : List SlaveState) → a ≡ b → xs ≡ ys → (let x : Rising = record { start = a; slaves = xs } in let y : Rising = record { start = b; slaves = ys } in x ≡ y)
+pub rising-by : (a b : StartState) (xs ys : List SlaveState) → a ≡ b → xs ≡ ys → (let x : Rising = record { start = a; slaves = xs } in let y : Rising = record { start = b; slaves = ys } in x ≡ y)
 rising-by a b xs ys e f = ap (λ (s : StartState). record { start = s; slaves = xs }) e ∙ ap (λ (zs : List SlaveState). record { start = b; slaves = zs }) f
 
-length-met : (ss : List SlaveState) (d : Datagram) → length (all_met ss d) ≡ length ss
+pub length-met : (ss : List SlaveState) (d : Datagram) → length (all_met ss d) ≡ length ss
 length-met [] d = refl
 length-met (s ∷ ss) d = ap (λ (n : ℕ). suc n) (length-met ss (datagram_met s d))
 
-pub turns-once : (n : ℕ) (w v : WorldState) (made : ℕ) → w.start.phase ≡ Idle → w.start.next < cycle_limit → w.slots ≡ None ∷ replicate n None
-    → IsRun w (frame_events (length w.slaves)) v made → HasTurned n w v
-turns-once n w v made idle few e h =
-    let o = send-one n w h.0 h.1 idle few e h.3 in
-    let d0 : Datagram = datagram_of (action_of w.start) w.start.next in
-    let c : Carried = record { number = w.start.next; passed = 0; datagram = d0 } in
-    let ss : List SlaveState = w.slaves in
-    let p = pass-all ss [] n h.0 c (Return 0 ∷ servings 0 (length ss)) v h.2 o.slot refl o.slaves h.4 in
-    let met : List SlaveState = all_met ss d0 in
-    let many : length p.mid.slaves ≡ length ss = ap (λ (xs : List SlaveState). length xs) p.slaves ∙ length-met ss d0 in
-    let at : 0 + length ss ≡ length p.mid.slaves = omega (arith, many) in
-    let b = return-one n p.mid w.start ss (0 + length ss) p.run.0 p.run.1 p.slot at (p.start ∙ o.start) o.good p.run.3 in
-    let rest : IsRun p.run.0 (servings 0 (length met)) v p.run.2 = subst (λ (k : ℕ). IsRun p.run.0 (servings 0 k) v p.run.2) (sym (length-met ss d0)) p.run.4 in
-    let q = serve-all met [] p.run.0 v p.run.2 (b.slaves ∙ p.slaves) rest in
-    record {
-      is = rising-by v.start (taken (sending w.start) (all_passed ss d0)) v.slaves (map served met) (q.start ∙ b.start) q.slaves;
-      slots = q.slots ∙ b.slots;
-    }
-
--- ---- round after round
-
-run-split : (es fs : List Event) (w v : WorldState) (made : ℕ) → IsRun w (es ++ fs) v made → (mid : WorldState) × (a : ℕ) × (b : ℕ) × IsRun w es mid a × IsRun mid fs v b
-run-split [] fs w v made h = (w, 0, made, (refl, refl), h)
-run-split (e ∷ es) fs w v made h =
-    let r = run-split es fs h.0 v h.2 h.4 in
-    (r.0, (if h.1 then 1 else 0) + r.1, r.2, (h.0, h.1, r.1, h.3, r.3, refl), r.4)
-
-length-turned : (r : Rising) → length (turned r).slaves ≡ length r.slaves
+pub length-turned : (r : Rising) → length (turned r).slaves ≡ length r.slaves
 length-turned r =
     let d : Datagram = datagram_of (action_of r.start) r.start.next in
     length-map (all_met r.slaves d) served ∙ length-met r.slaves d
-
-pub record IsGoing (r : Rising) : Type 0 where
-  pub idle : r.start.phase ≡ Idle
-  pub few : r.start.next < cycle_limit
-
-pub record HaveTurned (k n : ℕ) (w v : WorldState) : Type 0 where
-  pub is : rising_of v ≡ turns k (rising_of w)
-  pub slots : v.slots ≡ None ∷ replicate n None
-
-pub turns-all : (k n : ℕ) (w v : WorldState) (made : ℕ) → ((j : ℕ) → j < k → IsGoing (turns j (rising_of w))) → w.slots ≡ None ∷ replicate n None
-    → IsRun w (undisturbed (length w.slaves) k) v made → HaveTurned k n w v
-turns-all zero n w v made go e h = record { is = ap (λ (x : WorldState). rising_of x) h.0; slots = ap (λ (x : WorldState). x.slots) h.0 ∙ e }
-turns-all (suc k) n w v made go e h =
-    let s = run-split (frame_events (length w.slaves)) (undisturbed (length w.slaves) k) w v made h in
-    let first = go 0 (omega arith) in
-    let o = turns-once n w s.0 s.1 first.idle first.few e s.3 in
-    let same : length s.0.slaves ≡ length w.slaves = ap (λ (r : Rising). length r.slaves) o.is ∙ length-turned (rising_of w) in
-    let r = turns-all k n s.0 v s.2 (λ j l. subst (λ (x : Rising). IsGoing (turns j x)) (sym o.is) (go (suc j) (omega (arith, l)))) o.slots
-    (subst (λ (m : ℕ). IsRun s.0 (undisturbed m k) v s.2) (sym same) s.4) in
-    record { is = r.is ∙ ap (λ (x : Rising). turns k x) o.is; slots = r.slots }

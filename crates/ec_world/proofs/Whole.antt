@@ -11,16 +11,18 @@ use Rattle.ec_link.proofs.UsableLaws.{plan_usable}
 use Rattle.ec_rise.proofs.StartableLaws.{slave_startable}
 use Rattle.ec_link.specs.Usable.{IsUsable}
 use Rattle.ec_start.specs.Running.{begun}
+use Rattle.ec_rise.specs.SwitchedOn.{switched_on}
 use Rattle.ec_rise.specs.Standing.{IsOfKind}
 use Rattle.ec_rise.proofs.Resets.{power_on_is}
-use Rattle.ec_rise.specs.Starting.{Starts, AreSlaves, kind_at}
+use Rattle.ec_rise.specs.Starting.{AreSlaves, kind_at}
+use Rattle.ec_rise.specs.Instants.{Starts}
 use Rattle.ec_rise.specs.Runs.{AreStartable, ends_of}
 use Rattle.ec_rise.proofs.Theorem.{begun-starts}
 use Rattle.ec_world.specs.declared.event.Event.{Event}
 use Rattle.ec_world.specs.World.{WorldState, Flight, no_slave, is_up, IsStep}
 use Rattle.ec_world.specs.Laws.{IsRun}
-use Rattle.ec_world.specs.Lengths.{AllFit}
-use Rattle.ec_world.specs.Whole.{flags_after, plain_of, IsReadyWorld, slot_count, switched_on, new_world, HasStarted, Told, NotYet, Started, WholeLaw, CompiledLaw}
+use Rattle.ec_world.specs.Fitting.{AllFit}
+use Rattle.ec_world.specs.Whole.{flags_after, plain_of, IsReadyWorld, slot_count, new_world, HasStarted, Told, NotYet, Started, WholeLaw, CompiledLaw}
 use Rattle.ec_world.specs.Rising.{seen_of, Rising}
 use Rattle.ec_world.proofs.Lengths.{on-fits}
 use Rattle.ec_world.proofs.RisingSteps.{event-rises, event-plan}
@@ -32,7 +34,7 @@ use Rattle.ec_world.proofs.Runs.{runs_show}
 no-identity : Identity
 no-identity = record { vendor = 0; product = 0; revision = 0; serial = 0 }
 
-on-count : (ps : List Settings) (is : List Identity) → length is ≡ length ps → length (switched_on ps is) ≡ length ps
+pub on-count : (ps : List Settings) (is : List Identity) → length is ≡ length ps → length (switched_on ps is) ≡ length ps
 on-count [] is e = refl
 on-count (p ∷ ps) [] e = absurd (omega (arith, e))
 on-count (p ∷ ps) (i ∷ is) e = ap (λ (n : ℕ). suc n) (on-count ps is (omega (arith, e)))
@@ -70,7 +72,7 @@ new-starts : (plan : PlanState) (is : List Identity) → AreStartable plan.slave
 unfolding begun
 new-starts plan is planned h = begun-starts (seen_of (new_world plan is) (no-flags plan) None) h planned
 
-new-low : (plan : PlanState) (is : List Identity) → is_up (new_world plan is).start ≡ false
+pub new-low : (plan : PlanState) (is : List Identity) → is_up (new_world plan is).start ≡ false
 unfolding begun
 new-low plan is = refl
 
@@ -78,7 +80,7 @@ new-plan : (plan : PlanState) (is : List Identity) → (new_world plan is).start
 unfolding begun
 new-plan plan is = refl
 
-new-rises : (plan : PlanState) (is : List Identity) → IsUsable plan → AreStartable plan.slaves → length is ≡ length plan.slaves → Rising (no-flags plan) (new_world plan is)
+pub new-rises : (plan : PlanState) (is : List Identity) → IsUsable plan → AreStartable plan.slaves → length is ≡ length plan.slaves → Rising (no-flags plan) (new_world plan is)
 new-rises plan is sound planned e = record {
   same_plan = new-plan plan is;
   slot = None;
@@ -94,12 +96,12 @@ new-rises plan is sound planned e = record {
 
 -- ---- a step
 
-step-rises : (flags : List Bool) (old : WorldState) (e : Event) (new : WorldState) (one : Bool) → AreStartable old.plan.slaves → Rising flags old → is_up old.start ≡ false → IsStep old e new one
+pub step-rises : (flags : List Bool) (old : WorldState) (e : Event) (new : WorldState) (one : Bool) → AreStartable old.plan.slaves → Rising flags old → is_up old.start ≡ false → IsStep old e new one
     → Rising (if one then flags_after old e flags else flags) new
 step-rises flags old e new true planned r low h = event-rises flags old r low e new planned (sym h.can) (h.happens refl)
 step-rises flags old e new false planned r low h = subst (Rising flags) (sym (h.refused refl)) r
 
-step-plan : (flags : List Bool) (old : WorldState) (e : Event) (new : WorldState) (one : Bool) → Rising flags old → is_up old.start ≡ false → IsStep old e new one → new.plan ≡ old.plan
+pub step-plan : (flags : List Bool) (old : WorldState) (e : Event) (new : WorldState) (one : Bool) → Rising flags old → is_up old.start ≡ false → IsStep old e new one → new.plan ≡ old.plan
 step-plan flags old e new true r low h = event-plan flags old r low e new (sym h.can) (h.happens refl)
 step-plan flags old e new false r low h = ap (λ (w : WorldState). w.plan) (h.refused refl)
 

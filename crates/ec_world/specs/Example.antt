@@ -1,8 +1,11 @@
--- A table that the link compiler accepts: one slave with four outputs, one variable, and one link between them. So no promise
--- that begins with an accepted table is empty.
-use Rattle.std.specs.Prelude.{◌≡◌, [], ◌∷◌, true, None}
-use Rattle.ec_table.specs.declared.rows.Version.TheVariants.{One}
-use Rattle.ec_table.specs.declared.rows.Direction.TheVariants.{Out}
+-- Two tables that the link compiler accepts: one slave with four outputs, one variable, and one link between them; and two
+-- slaves in two sync units with links both ways. So no promise that begins with an accepted table is empty.
+use Rattle.std.specs.Prelude.{ℕ, ◌≡◌, [], ◌∷◌, Bool, true, false, Option, Some, None}
+use Rattle.ec_regs.specs.declared.slave_type.Entry.{Entry}
+use Rattle.ec_regs.specs.declared.slave_type.Mailbox.{Mailbox}
+use Rattle.ec_table.specs.declared.rows.Version.TheVariants.{One, Two}
+use Rattle.ec_table.specs.declared.rows.Direction.TheVariants.{Out, In}
+use Rattle.ec_table.specs.declared.rows.Direction.{Direction}
 use Rattle.ec_table.specs.declared.rows.TypeRow.{TypeRow}
 use Rattle.ec_table.specs.declared.rows.SlaveRow.{SlaveRow}
 use Rattle.ec_table.specs.declared.rows.VariableRow.{VariableRow}
@@ -34,3 +37,47 @@ small_table = record { version = One; types = small_type ∷ []; slaves = small_
 
 abbrev pub AcceptedLaw : Type 0
 AcceptedLaw = table.IsSound small_table × (compile_fault small_table ≡ None)
+
+-- ---- two sync units
+
+-- a type with one entry out and one in
+abbrev pub two_way : (name product : ℕ) → Option Mailbox → Bool → Entry → Entry → TypeRow
+two_way name product mailbox lrw out in_entry = record {
+  name = name ∷ [];
+  device = record { vendor = 1; product = product; revision = 1 };
+  mailbox = mailbox;
+  process = record { out_start = 0x1100; in_start = 0x1400; outputs = record { index = 0x1600; entries = out ∷ [] } ∷ []; inputs = record { index = 0x1A00; entries = in_entry ∷ [] } ∷ [] };
+  lrw = lrw;
+}
+
+abbrev pub box : Mailbox
+box = record { receive_start = 0x1000; receive_size = 128; send_start = 0x1080; send_size = 128 }
+
+-- without LRW, and without a mailbox: four bits each way
+abbrev pub split_type : TypeRow
+split_type = two_way 100 1 None false (record { index = 0x7000; subindex = 1; bits = 4 }) (record { index = 0x6000; subindex = 1; bits = 4 })
+
+-- with both: 12 bits out and 16 in
+abbrev pub boxed_type : TypeRow
+boxed_type = two_way 101 2 (Some box) true (record { index = 0x7010; subindex = 1; bits = 12 }) (record { index = 0x6010; subindex = 1; bits = 16 })
+
+abbrev pub slave_in : (name type_place unit : ℕ) → SlaveRow
+slave_in name type_place unit = record { name = name ∷ []; type_place = type_place; serial = 0; outputs = 0x1600 ∷ []; inputs = 0x1A00 ∷ []; unit = unit }
+
+abbrev pub variable_of : (name : ℕ) → Direction → (bits : ℕ) → VariableRow
+variable_of name direction bits = record { name = name ∷ []; direction = direction; bits = bits }
+
+abbrev pub link_to : (variable slave index count : ℕ) → LinkRow
+link_to variable slave index count = record { variable = variable; slave = slave; index = index; subindex = 1; bits = record { variable_bit = 0; entry_bit = 0; count = count } }
+
+abbrev pub two_units : Contents
+two_units = record {
+  version = Two;
+  types = split_type ∷ boxed_type ∷ [];
+  slaves = slave_in 115 0 0 ∷ slave_in 116 1 1 ∷ [];
+  variables = variable_of 97 Out 4 ∷ variable_of 98 In 4 ∷ variable_of 99 Out 12 ∷ variable_of 100 In 16 ∷ [];
+  links = link_to 0 0 0x7000 4 ∷ link_to 1 0 0x6000 4 ∷ link_to 2 1 0x7010 12 ∷ link_to 3 1 0x6010 16 ∷ [];
+}
+
+abbrev pub AcceptedTwoLaw : Type 0
+AcceptedTwoLaw = table.IsSound two_units × (compile_fault two_units ≡ None)

@@ -1,9 +1,17 @@
 -- What the code of a world says of the frames of a cycle, and of a payload that comes back.
 use Rattle.std.specs.Prelude.{ℕ, ◌<◌, ◌≤◌, ◌≡◌, List, [], length, get_or, Bool, Option, Some, None}
 use Rattle.ec_frame.specs.Frame.{Payload, IsFrame}
+use Rattle.ec_link.specs.Plan.{PlanState}
+use Rattle.ec_link.specs.Usable.{IsUsable}
 use Rattle.ec_start.specs.Running.{StartState, IsStartTaken}
 use Rattle.ec_cycle.specs.Master.{MasterState, OpenCycle, IsTaken}
 use Rattle.ec_world.specs.World.{ByStart, awaits, ready_with}
+
+-- the plan can be used, and the start-up and the master are of it
+pub record AreOfPlan (plan : PlanState) (s : StartState) (m : MasterState) : Type 0 where
+  pub usable : IsUsable plan
+  pub start : s.plan ≡ plan.slaves
+  pub master : m.plan ≡ plan
 
 -- the frames of a cycle that is open
 abbrev pub cycle_frames : Option OpenCycle → List (List ℕ)

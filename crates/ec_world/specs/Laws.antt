@@ -1,6 +1,8 @@
 -- Laws over the definitions.
-use Rattle.std.specs.Prelude.{ℕ, ◌+◌, ◌-◌, ◌*◌, ◌^◌, ◌<◌, ◌≡◌, List, [], ◌∷◌, ◌++◌, length, map, get_or, Bool, if◌then◌else◌, is_some, unwrap_or}
+use Rattle.std.specs.Prelude.{ℕ, ◌+◌, ◌-◌, ◌*◌, ◌^◌, ◌<◌, ◌≡◌, List, [], ◌∷◌, ◌++◌, length, map, get_or, Bool, if◌then◌else◌, is_some, unwrap_or, bit_or}
+use Rattle.std.specs.List.{fold}
 use Rattle.ec_bits.specs.Bits.{bit}
+use Rattle.ec_al.specs.Al.{status_word}
 use Rattle.ec_frame.specs.Datagram.{Datagram}
 use Rattle.ec_slave.specs.State.{SlaveState, manager_at}
 use Rattle.ec_slave.specs.Exchange.{with_outputs, inputs_of}
@@ -9,6 +11,7 @@ use Rattle.ec_link.specs.Shares.{share_in}
 use Rattle.ec_link.specs.Meaning.{Meaning, share_of, slave_at, area_at, meaning}
 use Rattle.ec_link.specs.Plan.{PlanState, part_at}
 use Rattle.ec_link.specs.Usable.{IsUsable}
+use Rattle.ec_cycle.specs.Closing.{bytes_at}
 use Rattle.ec_cycle.specs.Frames.{cyclic_datagrams, sent_datagrams}
 use Rattle.ec_world.specs.declared.event.Event.{Event}
 use Rattle.ec_world.specs.Plain.{Plain, PlainSlave, PlainFrame, Working, Note, step, run, met_note, no_plain_slave, linked_outputs}
@@ -28,16 +31,26 @@ notes_round m t f (q ∷ qs) = met_note m t f q ∷ notes_round m (t + 1) f qs
 abbrev pub SlavesFrom : PlanState → ℕ → List SlaveState → List PlainSlave → Type 0
 SlavesFrom plan t ss qs = (i : ℕ) → i < length ss → SlaveShows (t + i) (slave_at plan (t + i)) (get_or ss i no_slave) (get_or qs i no_plain_slave)
 
-pub record RoundTripped (plan : PlanState) (f : PlainFrame) (ss : List SlaveState) (qs : List PlainSlave) (after : RingPassed) : Type 0 where
+-- a cyclic frame brings this AL word, which has one byte
+abbrev pub BringsWord : List Datagram → ℕ → Type 0
+BringsWord ds word = bytes_at ds 1 ≡ word ∷ 0 ∷ []
+
+-- a word with what slaves say of their AL status joined to it by OR: 8 in OP, 20 after a fault, 1 after a reset (ETG.1000.6, "AL
+-- status")
+abbrev pub word_past : ℕ → List SlaveState → ℕ
+word_past word ss = fold (λ w s. bit_or w (status_word s.al)) word ss
+
+pub record RoundTripped (plan : PlanState) (f : PlainFrame) (ss : List SlaveState) (qs : List PlainSlave) (ds : List Datagram) (after : RingPassed) : Type 0 where
   pub slaves : (i : ℕ) → i < length ss → get_or after.slaves i no_slave ≡ slave_left (meaning plan) (length f.notes + i) f (get_or qs i no_plain_slave) (get_or ss i no_slave)
   pub frame : DatagramsShow plan (record f { notes = f.notes ++ notes_round (meaning plan) (length f.notes) f qs }) after.datagrams
+  pub word : (w : ℕ) → BringsWord ds w → BringsWord after.datagrams (word_past w ss)
 
 -- A cyclic frame that goes round leaves in every slave, working or not, and brings back, what the plain machine says.
 abbrev pub RoundTrip : Type 0
 RoundTrip =
     (plan : PlanState) (f : PlainFrame) (ss : List SlaveState) (qs : List PlainSlave) (ds : List Datagram)
     → IsUsable plan → length f.notes + length ss ≡ length plan.slaves → length qs ≡ length ss
-    → SlavesFrom plan (length f.notes) ss qs → DatagramsShow plan f ds → RoundTripped plan f ss qs (passes_ring ss ds)
+    → SlavesFrom plan (length f.notes) ss qs → DatagramsShow plan f ds → RoundTripped plan f ss qs ds (passes_ring ss ds)
 
 -- ---- a cycle past slaves in OP
 
@@ -51,6 +64,8 @@ pub record CycleDone (plan : PlanState) (number k : ℕ) (image : List ℕ) (ss 
       ≡ (if (share_in k (share_of (meaning plan) t)).wrote then with_outputs (get_or ss t no_slave) (linked_outputs (meaning plan) t image) else get_or ss t no_slave)
   -- the frame comes back with the predicted working counters: every slave of the part gave its whole share
   pub al : List ℕ
+  -- and with the AL word of slaves in OP
+  pub in_op : 0 < length ss → al ≡ 8 ∷ 0 ∷ []
   pub sent : List ℕ
   pub returned : List ℕ
   pub back : after.datagrams ≡ cyclic_datagrams (part_at plan.parts k) number k (length ss) al sent returned (map (λ s. share_in k s.share) plan.slaves)

@@ -1,4 +1,13 @@
--- What a world is and what is promised of it. These are to be believed by reading, in this order:
+-- To be believed: what a world is and what is promised of it.
+
+-- The promise, over what a world's calls show alone: who believes this page needs none of the others but the world as a value
+-- (World), what a run is (Laws) and what a new world is (Whole).
+pub mod Headline
+-- what it leans on: a run has one outcome, frames keep their order, a flag means trouble
+pub mod RunLaws
+-- a cycle that nothing disturbs, and one that each cause spoils
+pub mod Undisturbed
+-- Laws: how it is proved, each a law too, in this order.
 
 -- the plain machine: what a segment under a master does, told without addresses, FMMUs, registers and counters
 pub mod Plain
@@ -16,11 +25,14 @@ pub mod Exchanging
 pub mod Laws
 pub mod Whole
 pub mod NewWorld
+-- what the AL word of a report says
+pub mod AlWords
 pub mod Example
--- The rest serves the code and the proofs alone, and no public clause cites it:
+-- Private: the rest serves the code and the proofs alone, and no public clause cites it.
 -- slots in use, and a frame in its slot as it passes its next slave
 pub mod Slots
 -- the frames of an open cycle, and who is handed a payload that comes back
 pub mod Held
 -- what holds of a world that starts up
+pub mod Fitting
 pub mod Rising

@@ -1,78 +1,95 @@
--- A new world of a table that `compile` accepts, undisturbed, is Ready after one frame for each action of the script.
-use Rattle.std.specs.Prelude.{ℕ, zero, suc, ◌+◌, ◌<◌, ◌≡◌, List, [], ◌∷◌, ◌++◌, length, get_or, None}
-use Rattle.ec_regs.specs.declared.slave_type.Device.{Device}
+-- A start-up that nothing disturbs ends Ready: that of a new world, and one that begins anew after a failure.
+use Rattle.std.specs.Prelude.{ℕ, zero, suc, ◌+◌, ◌<◌, ◌≤◌, ◌≡◌, ◌⊎◌, List, [], ◌∷◌, ◌++◌, length, get_or, set, replicate, max, Bool, true, false, None}
 use Rattle.ec_regs.specs.declared.slave_type.Identity.{Identity}
-use Rattle.ec_regs.specs.Types.{plain_kind, device_identity}
 use Rattle.ec_table.specs.Contents.{Contents}
-use Rattle.ec_table.specs.Sound as table
-use Rattle.ec_link.specs.Faults.{compile_fault}
 use Rattle.ec_link.specs.Plan.{plan_of}
 use Rattle.ec_link.specs.Meaning.{slave_at}
+use Rattle.ec_start.specs.declared.error.StartError.{StartError}
+use Rattle.ec_start.specs.declared.phase.Phase.TheVariants.{Failed}
 use Rattle.ec_start.specs.Scripts.{script}
-use Rattle.ec_rise.specs.Undisturbed.{Rising, turns}
+use Rattle.ec_start.specs.Running.{begun, last_number}
+use Rattle.ec_rise.specs.SwitchedOn.{no_identity}
+use Rattle.ec_rise.specs.Undisturbed.{Rising}
 use Rattle.ec_rise.specs.ComesUp.{IsUpAndWorks}
+use Rattle.ec_rise.specs.Devices.{IsOfType}
 use Rattle.ec_world.specs.declared.event.Event.{Event}
 use Rattle.ec_world.specs.declared.event.Event.TheVariants.{StartNext, Pass, Return, Serve}
-use Rattle.ec_world.specs.World.{WorldState}
+use Rattle.ec_world.specs.World.{WorldState, flight_at, is_up}
 use Rattle.ec_world.specs.Laws.{IsRun}
-use Rattle.ec_world.specs.Whole.{new_world}
+use Rattle.ec_world.specs.Whole.{IsNew}
 
--- the identity of no slave: a place that a list doesn't have
-abbrev pub no_identity : Identity
-no_identity = device_identity plain_kind.device 0
+-- each identity is that of a device of its slave's type
+abbrev pub AreOfTypes : Contents → List Identity → Type 0
+AreOfTypes t identities = (i : ℕ) → i < length t.slaves → IsOfType (slave_at (plan_of t) i).kind.device (get_or identities i no_identity)
 
--- the identity of a device of a type: the serial number is free
-pub record IsOfType (type : Device) (i : Identity) : Type 0 where
-  pub vendor : i.vendor ≡ type.vendor
-  pub product : i.product ≡ type.product
-  pub revision : i.revision ≡ type.revision
+-- ---- a frame that nothing disturbs
 
-abbrev pub rising_of : WorldState → Rising
-rising_of w = record { start = w.start; slaves = w.slaves }
+-- What is left of a turn past n slaves, whose frame is in slot 0. The marks say of each slave that the frame has passed whether
+-- it has made its firmware step since; `back` says whether the frame came back. In any order otherwise, each once.
+pub data IsRest (n : ℕ) : (marks : List Bool) (back : Bool) → List Event → Type 0 where
+  Passes : (marks : List Bool) (events : List Event) → length marks < n → IsRest n (marks ++ (false ∷ [])) false events → IsRest n marks false (Pass 0 ∷ events)
+  Returns : (marks : List Bool) (events : List Event) → length marks ≡ n → IsRest n marks true events → IsRest n marks false (Return 0 ∷ events)
+  Serves : (marks : List Bool) (back : Bool) (s : ℕ) (events : List Event) → get_or marks s true ≡ false → IsRest n (set marks s true) back events → IsRest n marks back (Serve s ∷ events)
+  Ends : (marks : List Bool) → marks ≡ replicate n true → IsRest n marks true []
 
-abbrev pub NewUpLaw : Type 0
-NewUpLaw =
-    (t : Contents) (identities : List Identity) → table.IsSound t → compile_fault t ≡ None → length identities ≡ length t.slaves
-    → ((i : ℕ) → i < length t.slaves → IsOfType (slave_at (plan_of t) i).kind.device (get_or identities i no_identity))
-    → IsUpAndWorks (plan_of t).slaves (0 + length (script (plan_of t).slaves)) (turns (length (script (plan_of t).slaves)) (rising_of (new_world (plan_of t) identities)))
+-- A turn: the next frame is sent, passes n slaves and comes back, and each slave serves once behind it.
+pub record IsTurn (n : ℕ) (events : List Event) : Type 0 where
+  pub rest : List Event
+  pub sends : events ≡ StartNext ∷ rest
+  pub goes : IsRest n [] false rest
 
--- ---- in events
+-- so many turns, one after the other
+abbrev pub AreTurns : (n turns : ℕ) → List Event → Type 0
+AreTurns n zero events = events ≡ []
+AreTurns n (suc turns) events = (turn : List Event) × (rest : List Event) × (events ≡ turn ++ rest) × IsTurn n turn × AreTurns n turns rest
 
-abbrev pub passings : ℕ → List Event
-passings zero = []
-passings (suc n) = Pass 0 ∷ passings n
+-- the turns of a whole start-up: one for each action of its script
+abbrev pub BringUp : Contents → List Event → Type 0
+BringUp t events = AreTurns (length t.slaves) (length (script (plan_of t).slaves)) events
 
 -- slave s and the n - 1 behind it
 abbrev pub servings : ℕ → ℕ → List Event
 servings s zero = []
 servings s (suc n) = Serve s ∷ servings (s + 1) n
 
--- a frame of a start-up is sent, passes n slaves, comes back, and each slave serves once
-abbrev pub frame_events : ℕ → List Event
-frame_events n = StartNext ∷ (passings n ++ (Return 0 ∷ servings 0 n))
+-- The order in which a script's `ready` makes these events is one: each slave serves when the frame has passed all.
+abbrev pub turn_of : ℕ → List Event
+turn_of n = StartNext ∷ (replicate n (Pass 0) ++ (servings 0 n ++ (Return 0 ∷ [])))
 
--- so many frames
-abbrev pub undisturbed : ℕ → ℕ → List Event
-undisturbed n zero = []
-undisturbed n (suc k) = frame_events n ++ undisturbed n k
+abbrev pub TurnLaw : Type 0
+TurnLaw = (n : ℕ) → IsTurn n (turn_of n)
 
--- After these events a new world is ready.
-abbrev pub NewRunLaw : Type 0
-NewRunLaw =
-    (t : Contents) (identities : List Identity) → table.IsSound t → compile_fault t ≡ None → length identities ≡ length t.slaves
-    → ((i : ℕ) → i < length t.slaves → IsOfType (slave_at (plan_of t) i).kind.device (get_or identities i no_identity))
-    → (v : WorldState) (made : ℕ) → IsRun (new_world (plan_of t) identities) (undisturbed (length t.slaves) (length (script (plan_of t).slaves))) v made
-    → IsUpAndWorks (plan_of t).slaves (0 + length (script (plan_of t).slaves)) (rising_of v)
+-- ---- from where
 
--- each identity is that of a device of its slave's type
-abbrev pub AreOfTypes : Contents → List Identity → Type 0
-AreOfTypes t identities = (i : ℕ) → i < length t.slaves → IsOfType (slave_at (plan_of t) i).kind.device (get_or identities i no_identity)
-
--- the events of a start-up that nothing disturbs, over devices of the table's types
-pub record IsUndisturbed (t : Contents) (identities : List Identity) (events : List Event) : Type 0 where
+-- A new world of a table that `compile` accepts, with devices of its types, came to w by some events; no frame is on its way; the
+-- next one is the first of a start-up, since none was sent yet or since the last start-up failed; and there are numbers for all.
+pub record IsToStart (t : Contents) (w : WorldState) : Type 0 where
+  pub identities : List Identity
+  pub first : WorldState
+  pub new : IsNew t identities first
   pub devices : AreOfTypes t identities
-  pub is : events ≡ undisturbed (length t.slaves) (length (script (plan_of t).slaves))
+  pub events : List Event
+  pub made : ℕ
+  pub reached : IsRun first events w made
+  pub no_frame : (k : ℕ) → flight_at w k ≡ None
+  pub begins : (w.start ≡ begun (plan_of t).slaves w.start.next) ⊎ ((failure : StartError) × (w.start.phase ≡ Failed failure))
+  pub numbers : w.start.next + length (script (plan_of t).slaves) ≤ last_number
 
--- the start-up is Ready, after a frame for each of its steps, and every slave is in OP as planned
-abbrev pub ComesUp : Contents → WorldState → Type 0
-ComesUp t w = IsUpAndWorks (plan_of t).slaves (0 + length (script (plan_of t).slaves)) (rising_of w)
+-- A new world itself is one.
+abbrev pub NewLaw : Type 0
+NewLaw = (t : Contents) (identities : List Identity) (w : WorldState) → IsNew t identities w → AreOfTypes t identities → IsToStart t w
+
+-- ---- where to
+
+abbrev pub rising_of : WorldState → Rising
+rising_of w = record { start = w.start; slaves = w.slaves }
+
+-- All of the events were made. The start-up is Ready after one frame for each action of its script, and every slave is in OP and
+-- works as planned; no frame is on its way, no cycle is open, and the master's next number is behind those of the start-up.
+pub record IsBroughtUp (t : Contents) (w : WorldState) (events : List Event) (v : WorldState) (made : ℕ) : Type 0 where
+  pub all_made : made ≡ length events
+  pub up : is_up v.start ≡ true
+  pub works : IsUpAndWorks (plan_of t).slaves (w.start.next + length (script (plan_of t).slaves)) (rising_of v)
+  pub no_frame : (k : ℕ) → flight_at v k ≡ None
+  pub no_cycle : v.master.cycle ≡ None
+  pub next_number : v.master.next ≡ max w.master.next v.start.next

@@ -230,5 +230,5 @@ TakenLaw =
 -- bit is set in a cycle in which a slave of its unit fell short as its frame came, or a frame of the unit got lost or was late.
 abbrev pub QuietLaw : Type 0
 QuietLaw =
-    (plan : PlanState) (p begun : Plain) (after : List Event) (c : Cycle) (u : ℕ) → IsUsable plan → length p.slaves ≡ length plan.slaves → IsBegun (meaning plan) p begun
-    → (run (meaning plan) begun after).plain.cycle ≡ Some c → c.number ≡ p.next → unit_full (meaning plan) c u ≡ true → IsQuiet (meaning plan) p begun after u
+    (m : Meaning) (p begun : Plain) (after : List Event) (c : Cycle) (u : ℕ) → ((s : ℕ) → s < length p.slaves → (share_of m s).part < length m.parts) → IsBegun m p begun
+    → (run m begun after).plain.cycle ≡ Some c → c.number ≡ p.next → unit_full m c u ≡ true → IsQuiet m p begun after u

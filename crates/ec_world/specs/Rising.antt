@@ -1,10 +1,11 @@
 -- What holds of a world that starts up: the start-up's own invariant, its frame in the lowest slot, and a master that waits.
 use Rattle.std.specs.Prelude.{ℕ, ◌<◌, ◌≡◌, ◌≢◌, List, length, get_or, Bool, Option, Some, None}
-use Rattle.ec_rise.specs.Starting.{Starting, Carried, Starts}
+use Rattle.ec_rise.specs.Starting.{Starting, Carried}
+use Rattle.ec_rise.specs.Instants.{Starts}
 use Rattle.ec_rise.specs.Slots.{IsCarried}
 use Rattle.ec_rise.specs.Runs.{ends_of}
 use Rattle.ec_world.specs.World.{WorldState, Flight, is_up, slave_of}
-use Rattle.ec_world.specs.Lengths.{AllFit}
+use Rattle.ec_world.specs.Fitting.{AllFit}
 
 -- one frame in the lowest slot, or none in any
 pub record IsInSlot (slots : List (Option Flight)) (c : Carried) : Type 0 where

@@ -4,8 +4,7 @@ use Rattle.ec_regs.specs.declared.slave_type.Identity.{Identity}
 use Rattle.ec_cycle.specs.Master.{new_master}
 use Rattle.ec_al.specs.declared.state.State.{State}
 use Rattle.ec_al.specs.declared.state.State.TheVariants.{Init, PreOp, SafeOp, Op}
-use Rattle.ec_slave.specs.State.{SlaveState, manager_at, power_on}
-use Rattle.ec_link.specs.declared.settings.Settings.{Settings}
+use Rattle.ec_slave.specs.State.{SlaveState, manager_at}
 use Rattle.ec_table.specs.Contents.{Contents}
 use Rattle.ec_link.specs.Faults.{compile_fault}
 use Rattle.ec_link.specs.Plan.{PlanState, plan_of}
@@ -13,6 +12,7 @@ use Rattle.ec_link.specs.Meaning.{meaning}
 use Rattle.ec_link.specs.Usable.{IsUsable}
 use Rattle.ec_start.specs.Running.{begun}
 use Rattle.ec_sync.specs.Buffer.{Buffer, emptied_buffer}
+use Rattle.ec_rise.specs.SwitchedOn.{switched_on}
 use Rattle.ec_rise.specs.Standing.{unviewed}
 use Rattle.ec_rise.specs.Starting.{trouble_at}
 use Rattle.ec_rise.specs.Runs.{AreStartable, flags_sent}
@@ -81,12 +81,6 @@ pub record IsReadyWorld (flags : List Bool) (w : WorldState) : Type 0 where
 
 abbrev pub slot_count : ℕ
 slot_count = 64
-
--- slave after slave as it is switched on, with these identities
-abbrev pub switched_on : List Settings → List Identity → List SlaveState
-switched_on [] is = []
-switched_on (p ∷ ps) [] = []
-switched_on (p ∷ ps) (i ∷ is) = power_on p.kind i ∷ switched_on ps is
 
 abbrev pub new_world : PlanState → List Identity → WorldState
 new_world plan identities = record {

@@ -1,8 +1,12 @@
 //! What is promised of a world, and laws of the definitions. Each function does nothing: its contract is the law.
 ghost use Rattle.ec_world.specs.Laws.{RoundTrip, CycleLaw, StepsShow, RunsShow, RunsJoin};
 ghost use Rattle.ec_world.specs.Whole.{WholeLaw, CompiledLaw};
-ghost use Rattle.ec_world.specs.Example.{AcceptedLaw};
-ghost use Rattle.ec_world.specs.NewWorld.{NewUpLaw, NewRunLaw};
+ghost use Rattle.ec_world.specs.Example.{AcceptedLaw, AcceptedTwoLaw};
+ghost use Rattle.ec_world.specs.NewWorld.{NewLaw, TurnLaw};
+ghost use Rattle.ec_world.specs.AlWords.{WordLaw, OpWordLaw};
+ghost use Rattle.ec_world.specs.Headline.{HeadlineLaw};
+ghost use Rattle.ec_world.specs.RunLaws.{OneOutcomeLaw, OrderLaw, TroubleLaw};
+ghost use Rattle.ec_world.specs.Undisturbed.{UndisturbedLaw, LossLaw, EarlyLaw, ShortLaw};
 ghost use Rattle.ec_world.specs.Promises.{OutputsLaw, SnapshotsLaw, NotesLaw, InputsLaw, PublishedLaw, WorkingLaw, TakenLaw, QuietLaw};
 
 /// A cyclic frame that passes a slave in OP gives its outputs exactly the linked bits of the image that it was made of, and 0
@@ -100,20 +104,86 @@ pub fn compiled_runs()
     ensures { CompiledLaw }
 {}
 
-/// A new world of a table that the compiler accepts, with devices of its types: where each frame passes all slaves, each
-/// slave serves once and the frame comes back, the start-up is Ready after as many frames as its script has actions.
-#[tactic(auto, using(crate::proofs::NewWorlds::new_up))]
-pub fn new_up()
-    ensures { NewUpLaw }
+/// A new world of a table that the compiler accepts, with devices of its types, is one from which a start-up may begin.
+pub fn new_worlds_may_start()
+    ensures { NewLaw }
 {}
 
-/// The same in events of a world: StartNext, Pass 0 for each slave, Return 0, Serve of each slave, and so on.
-pub fn new_run()
-    ensures { NewRunLaw }
+/// The events of a script's `ready` are turns of a start-up: the frame is sent and passes all slaves, each slave serves once, and
+/// the frame comes back.
+pub fn turns_of_a_script()
+    ensures { TurnLaw }
 {}
 
 /// The compiler accepts a table: what is promised of the worlds of accepted tables is not empty.
 #[tactic(auto, using(crate::proofs::Accepted::accepted_law))]
 pub fn a_table_is_accepted()
     ensures { AcceptedLaw }
+{}
+
+/// The compiler accepts a table of two sync units too, with a mailbox, a slave without LRW, and links both ways.
+#[tactic(auto, using(crate::proofs::AcceptedTwo::accepted_two))]
+pub fn a_table_of_two_units_is_accepted()
+    ensures { AcceptedTwoLaw }
+{}
+
+/// The headline, over what a world's calls show. In a new world of an accepted table, after any events at whose end the start-up
+/// is Ready: a cyclic frame that passes a slave in OP, of the frame's part, makes it show exactly the linked bits of the output
+/// variables as they were when the cycle began, and 0 elsewhere, and changes nothing else. A close takes each sync unit as a
+/// whole or not at all: either every linked input bit of the unit's slaves is the one that the slave had published as its frame
+/// passed it in this cycle, the working counters are the predicted ones, and the report says so; or no linked input bit of them
+/// changes, the report says so, and there is a cause: a frame of the unit was lost since the cycle began, or is under way, or
+/// passed a slave that gave less than its share, since it had a fault or was reset. Where there is a cause it is not taken.
+#[tactic(auto, using(crate::proofs::Headline::headline_law))]
+pub fn headline()
+    ensures { HeadlineLaw }
+{}
+
+/// A run has one outcome: by the same events a new world comes to the same world, and as many of them are made.
+#[tactic(auto, using(crate::proofs::OneOutcome::one_outcome))]
+pub fn runs_have_one_outcome()
+    ensures { OneOutcomeLaw }
+{}
+
+/// Frames keep their order: of two that pass one slave, the older one passes it first.
+pub fn frames_keep_their_order()
+    ensures { OrderLaw }
+{}
+
+/// The AL word of a report is the OR of what the slaves said of their AL status as the frames of the cycle passed them: of each
+/// part whose frame is back, all slaves.
+pub fn reports_say_what_slaves_said()
+    ensures { WordLaw }
+{}
+
+/// Past slaves in OP it is 8.
+pub fn reports_say_op()
+    ensures { OpWordLaw }
+{}
+
+/// The flag of a slave is set only by a fault or a reset that was made since the last start-up began.
+#[tactic(auto, using(crate::proofs::Origins::trouble_law))]
+pub fn troubles_are_faults()
+    ensures { TroubleLaw }
+{}
+
+/// A cycle that nothing disturbs, of a Ready world at rest, can be made whole, and is taken in every unit: each slave then shows
+/// exactly its linked output bits, and each linked input bit is the one that its slave has published.
+pub fn undisturbed_cycles_are_taken()
+    ensures { UndisturbedLaw }
+{}
+
+/// A cycle of which a frame is lost can be made, and the unit of the frame is not taken.
+pub fn a_loss_misses_its_unit()
+    ensures { LossLaw }
+{}
+
+/// A cycle that is closed before a frame is back can be made, and the unit of the frame is not taken.
+pub fn an_early_close_misses_its_units()
+    ensures { EarlyLaw }
+{}
+
+/// After a fault of a slave with outputs a cycle can be made whole, and the unit of the slave is not taken.
+pub fn a_fault_misses_its_unit()
+    ensures { ShortLaw }
 {}

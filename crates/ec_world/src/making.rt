@@ -35,6 +35,7 @@ fn resume(start: &mut Startup)
 
 /// A payload comes back to the start-up, which makes the master ready where it ends so.
 fn answer(start: &mut Startup, master: &mut Master<'_>, payload: &[u8])
+    requires same { start.old.plan ≡ master.old.plan.slaves }
     ensures taken { (is_kept : Bool) × IsStartTaken start.old payload.now is_kept start.new }
     ensures ready { master.new ≡ ready_with master.old start.new }
 {
@@ -47,6 +48,7 @@ fn answer(start: &mut Startup, master: &mut Master<'_>, payload: &[u8])
 
 /// A payload comes back, to the start-up while that awaits one, else to the master.
 fn hand_in(start: &mut Startup, master: &mut Master<'_>, payload: &[u8])
+    requires same { start.old.plan ≡ master.old.plan.slaves }
     ensures { IsHandedIn start.old master.old payload.now start.new master.new }
 {
     if awaits(start) {

@@ -1,4 +1,4 @@
-ghost use Rattle.std.specs.Prelude.{◌≡◌, ◌<◌, All, List, length, slice_get, Option, Some, None, IfOk, option_map, false};
+ghost use Rattle.std.specs.Prelude.{ℕ, ◌≡◌, ◌<◌, All, List, length, slice_get, Option, Some, None, IfOk, option_map, true, false};
 ghost use Rattle.ec_regs.specs.declared.slave_type.Identity.{Identity};
 ghost use Rattle.ec_slave.specs.Application.{outputs_shown};
 ghost use Rattle.ec_table.specs.Contents.{Contents};
@@ -9,17 +9,19 @@ ghost use Rattle.ec_start.specs.Planned.{HasFewAssigned};
 ghost use Rattle.ec_start.specs.Running.{begun, outcome_of};
 ghost use Rattle.ec_cycle.specs.Master.{new_master, value_at};
 ghost use Rattle.ec_world.specs.Laws.{IsRun, StepShows, RunShows};
-ghost use Rattle.ec_world.specs.NewWorld.{IsUndisturbed, ComesUp};
-ghost use Rattle.ec_world.specs.Whole.{IsNew, Told, no_trouble, switched_on};
-ghost use Rattle.ec_world.specs.World.{IsStep, slave_of, flight_at, flight_progress, is_up};
+ghost use Rattle.ec_world.specs.Headline.{HeadlineShows, EachIsPromised};
+ghost use Rattle.ec_world.specs.NewWorld.{BringUp, IsBroughtUp, IsToStart};
+ghost use Rattle.ec_world.specs.Whole.{IsNew, Told, no_trouble};
+ghost use Rattle.ec_world.specs.World.{WorldState, IsStep, slave_of, flight_at, flight_progress, is_up};
 
 use crate::event::Event;
 use crate::progress::Progress;
 use crate::slots::Slots;
 use ec_cycle::{Master, Report};
-use ec_link::{Plan, Settings};
+use ec_link::Plan;
 use ec_regs::Identity;
 use ec_ring::Ring;
+use ec_rise::switched_on;
 use ec_slave::Slave;
 use ec_start::{StartError, Startup};
 use ec_table::Table;
@@ -46,7 +48,7 @@ pub struct World<'p> {
 }
 
 impl<'p> Model for World<'p> {
-    ghost use Rattle.ec_link.specs.Usable.{IsUsable};
+    ghost use Rattle.ec_world.specs.Held.{AreOfPlan};
     ghost use Rattle.ec_world.specs.World.{WorldState};
 
     ghost Value = { WorldState };
@@ -61,24 +63,7 @@ impl<'p> Model for World<'p> {
       report = w.report;
     } };
 
-    ghost invariant = { λ w. IsUsable w.plan.now };
-}
-
-/// The slaves of a plan, just switched on, with these identities.
-fn switched_on(
-    alloc: Global,
-    slaves: &[Settings],
-    identities: &[Identity],
-) -> Result<Vec<Slave>, AllocError>
-    requires { length identities.now ≡ length slaves.now }
-    ensures { IfOk result (λ v. v.items ≡ switched_on slaves.now identities.now) }
-{
-    let mut all = Vec::new(alloc);
-    for (place, settings) in slaves.iter().enumerate() {
-        let kind = settings.kind.copied(alloc)?;
-        all.push(Slave::new(alloc, kind, identities[place])?)?;
-    }
-    Ok(all)
+    ghost invariant = { λ w. AreOfPlan w.plan.now w.start w.master };
 }
 
 /// The two ends of a plan's frames: a start-up whose first frame has number 0, and a master whose image is all 0.
@@ -113,7 +98,7 @@ impl<'p> World<'p> {
         ensures { IfOk result (IsNew table.now identities.now) }
     {
         let _version = table.version();
-        let ring = Ring::new(switched_on(alloc, plan.slaves(), identities)?);
+        let ring = switched_on(alloc, plan.slaves(), identities)?;
         let slots = Slots::new(alloc, SLOTS)?;
         let (start, master) = ends_of(alloc, plan)?;
         Ok(World {
@@ -129,11 +114,16 @@ impl<'p> World<'p> {
 
     /// Makes an event, and answers whether it can be made; if it can't, nothing changes.
     ///
+    /// Of a new world of an accepted table, once it is Ready: a cyclic frame that passes a slave in OP gives it exactly its linked
+    /// outputs, as they were when the cycle began; a close takes each sync unit's inputs as a whole, or none of them and for a
+    /// cause.
+    ///
     /// From a world that shows a plain state it is made exactly where the plain machine makes it, and the world then shows the
     /// plain machine's next state.
     pub fn step(&mut self, event: Event) -> bool
         ensures step { IsStep self.old event self.new result }
         ensures shows { StepShows self.old event self.new result }
+        ensures headline { (t : Contents) (identities : List Identity) (first : WorldState) (events : List Event) (made : ℕ) → IsNew t identities first → IsRun first events self.old made → is_up self.old.start ≡ true → result ≡ true → HeadlineShows t first events self.old event self.new }
     {
         let _plan = self.plan();
         self.make(event)
@@ -144,12 +134,14 @@ impl<'p> World<'p> {
     /// From a world that shows a plain state it ends in one that shows the run of the plain machine, of as many events. From
     /// a new world nothing is shown until its start-up is Ready; at the event that makes it so the world shows a plain state,
     /// in which each slave that isn't in OP had a fault or a reset since that start-up began; and from there on the run of the
-    /// plain machine. A new world that nothing disturbs is Ready after as many frames as the start-up has steps.
+    /// plain machine. A new world that nothing disturbs is Ready after as many frames as the start-up has steps. Each of its
+    /// events, made once the start-up is Ready, shows what `step` says of it.
     pub fn run(&mut self, events: &[Event]) -> usize
         ensures steps { IsRun self.old events.now self.new result }
         ensures shows { RunShows self.old events.now self.new result }
         ensures whole { (t : Contents) (identities : List Identity) → IsNew t identities self.old → Told self.old events.now self.new result (no_trouble self.old) }
-        ensures up { (t : Contents) (identities : List Identity) → IsNew t identities self.old → IsUndisturbed t identities events.now → ComesUp t self.new }
+        ensures up { (t : Contents) → IsToStart t self.old → BringUp t events.now → IsBroughtUp t self.old events.now self.new result }
+        ensures headline { (t : Contents) (identities : List Identity) (first : WorldState) (past : List Event) (count : ℕ) → IsNew t identities first → IsRun first past self.old count → EachIsPromised t first past self.old events.now self.new }
     {
         let _plan = self.plan();
         let mut made = 0;

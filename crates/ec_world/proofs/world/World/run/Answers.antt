@@ -4,7 +4,9 @@ use Rattle.ec_world.specs.declared.event.Event.{Event}
 use Rattle.ec_world.specs.declared.event.Event.TheVariants.{StartNext}
 use Rattle.ec_world.specs.Laws.{IsRun}
 use Rattle.ec_world.proofs.Runs.{run_more, runs_show}
-use Rattle.ec_world.proofs.Newly.{told-new, up-new}
+use Rattle.ec_world.proofs.ComingUp.{comes_up}
+use Rattle.ec_world.proofs.Newly.{told-new}
+use Rattle.ec_world.proofs.Headline.{each_promised}
 use Rattle.ec_world.proofs.world.World.run.Goals as goal
 use Rattle.ec_world.proofs.world.World.run.Goals.{then-make, else-make}
 
@@ -47,4 +49,7 @@ pub returns-clause-whole : goal.returns-clause-whole
 returns-clause-whole c = λ t is new. told-new t is c.args.self.now c.args.events.now c.loop-event.self c.loop-event.made new (returns-clause-steps c)
 
 pub returns-clause-up : goal.returns-clause-up
-returns-clause-up c = λ t is new quiet. up-new t is c.args.self.now c.args.events.now c.loop-event.self c.loop-event.made new quiet (returns-clause-steps c)
+returns-clause-up c = λ t from turns. comes_up t c.args.self.now from c.args.events.now c.loop-event.self c.loop-event.made turns (returns-clause-steps c)
+
+pub returns-clause-headline : goal.returns-clause-headline
+returns-clause-headline c = λ t is first past count new to_here. each_promised t is first past c.args.self.now count c.args.events.now c.loop-event.self c.loop-event.made new to_here (returns-clause-steps c)

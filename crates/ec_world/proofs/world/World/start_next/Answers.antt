@@ -2,9 +2,10 @@ use Rattle.std.proofs.Common.{◌≡◌, ◌∙◌, ◌∷◌, [], List, ℕ, ap
 use Rattle.ec_frame.specs.Frame.{Payload, IsFrame}
 use Rattle.ec_frame.specs.Building.{bare_payload}
 use Rattle.ec_start.specs.Actions.{frame_of}
-use Rattle.ec_start.specs.Running.{action_of}
+use Rattle.ec_start.specs.Running.{StartState, action_of}
 use Rattle.ec_world.specs.Plain.{filled}
 use Rattle.ec_world.specs.World.{Flight, can_start}
+use Rattle.ec_world.proofs.Plans.{asked_plan, resumed_plan}
 use Rattle.ec_world.proofs.Stepping.{world_of, next-sends, start-step}
 use Rattle.ec_world.proofs.world.World.start_next.Goals as goal
 
@@ -19,6 +20,16 @@ fill-requires-clause-frame c =
     let s = c.resume.new.start in
     subst (λ (xs : List ℕ). (p : Payload) × IsFrame xs p) (sym c.as_slice.ensures.value)
     (bare_payload (frame_of (action_of s) s.next), c.next.ensures.written (c.next.ensures.answer ∙ next-sends w s can c.resume.ensures))
+
+pub invariant_of-self : goal.invariant_of-self
+invariant_of-self c =
+    let i = c.self.invariant in
+    let s = c.self.inside.start in
+    record {
+      usable = i.usable;
+      start = ap (λ (x : StartState). x.plan) c.next.ensures.state ∙ (asked_plan c.resume.new.start ∙ (ap (λ (x : StartState). x.plan) c.resume.ensures ∙ (resumed_plan s s.phase ∙ i.start)));
+      master = i.master;
+    }
 
 pub returns : goal.returns
 returns c =

@@ -1,8 +1,16 @@
 use Rattle.std.proofs.Common.{Bool, ℕ, ◌∙◌, ap, get_or, None, option_map, sym}
+use Rattle.ec_link.specs.Plan.{PlanState}
 use Rattle.ec_world.specs.Plain.{may_return}
 use Rattle.ec_world.specs.World.{flight_progress}
+use Rattle.ec_world.proofs.Plans.{handed_plans}
 use Rattle.ec_world.proofs.Stepping.{world_of, return-step}
 use Rattle.ec_world.proofs.world.World.take_back.Goals as goal
+
+pub hand_in-requires : goal.hand_in-requires
+hand_in-requires c = record { same = c.self.invariant.start ∙ ap (λ (p : PlanState). p.slaves) (sym c.self.invariant.master) }
+
+pub invariant_of-self : goal.invariant_of-self
+invariant_of-self c = handed_plans c.self.inside.plan.now c.self.inside.start c.hand_in.new.start c.self.inside.master c.hand_in.new.master c.bytes-payload.result.now c.self.invariant c.hand_in.ensures
 
 pub returns : goal.returns
 returns c =

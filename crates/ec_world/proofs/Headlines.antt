@@ -1,0 +1,599 @@
+-- The headline, of what a world's calls show.
+use Rattle.std.proofs.Common.{ℕ, zero, suc, ◌+◌, ◌*◌, ◌<◌, ◌≡◌, ◌≢◌, ◌⊎◌, ◌==◌, ◌&&◌, Bool, true, false, Option, Some, None, refl, sym, ◌∙◌, ap, subst, inl, inr, arith, List, [], ◌∷◌, ◌++◌, length, map, get_or, set, replicate, is_some, if◌then◌else◌, option_map, unwrap_or, nat_lt, get_or-set_same, get_or-set_other}
+use Rattle.std.specs.List.{list_all}
+use Rattle.std.specs.Option.{option_map_or}
+use Rattle.std.proofs.lemmas.Bool.{cases_Bool, cases_lt, and_parts, and_from, and_left, ltb-true, eqb-true, eq-eqb, lt-ltb, le-ltb}
+use Rattle.std.proofs.lemmas.List.{append_assoc, set-get_or}
+use Rattle.std.proofs.lemmas.Option.{slice_get-get_or, slice_get_within}
+use Rattle.ec_bits.specs.Bits.{bit, bytes_of_bits}
+use Rattle.ec_bits.proofs.AnyLaws.{if_true, if_false}
+use Rattle.ec_regs.specs.declared.slave_type.Identity.{Identity}
+use Rattle.ec_regs.specs.declared.manager.ManagerSettings.{ManagerSettings}
+use Rattle.ec_regs.specs.Managers.{is_set, is_buffered}
+use Rattle.ec_regs.specs.Types.{SlaveKind}
+use Rattle.ec_al.specs.declared.state.State.TheVariants.{Init, SafeOp, Op}
+use Rattle.ec_sync.specs.Buffer.{Buffer}
+use Rattle.ec_sync.specs.Manager.{Manager, no_manager}
+use Rattle.ec_frame.specs.Frame.{Payload}
+use Rattle.ec_frame.proofs.Verdict.{one_payload}
+use Rattle.ec_slave.specs.State.{SlaveState, manager_at, with_memory, power_on}
+use Rattle.ec_slave.specs.Exchange.{with_outputs, with_published}
+use Rattle.ec_slave.specs.Application.{outputs_shown}
+use Rattle.ec_slave.specs.Meeting.{IsPassed, passes as passes_all}
+use Rattle.ec_ring.specs.Rings.{IsPassedAt}
+use Rattle.ec_table.specs.declared.rows.Direction.TheVariants.{Out}
+use Rattle.ec_table.specs.declared.rows.SlaveRow.{SlaveRow}
+use Rattle.ec_table.specs.Contents.{Contents}
+use Rattle.ec_table.specs.Objects.{object_bits}
+use Rattle.ec_table.specs.Sound as table
+use Rattle.ec_link.specs.declared.settings.Share.{Share}
+use Rattle.ec_link.specs.declared.settings.Settings.{Settings}
+use Rattle.ec_link.specs.Shares.{Gave, has_outs}
+use Rattle.ec_link.specs.Faults.{compile_fault}
+use Rattle.ec_link.specs.Wires.{IsLinked}
+use Rattle.ec_link.specs.Image.{image, image_from}
+use Rattle.ec_link.specs.Laws.{AreItsLinks}
+use Rattle.ec_link.specs.Meaning.{Meaning, meaning, share_of, out_source, slave_at as settings_of, no_slave as no_slave_plan}
+use Rattle.ec_link.specs.Plan.{PlanState, plan_of, part_of}
+use Rattle.ec_link.specs.Sound as link
+use Rattle.ec_link.specs.Usable.{IsUsable, output_manager}
+use Rattle.ec_link.proofs.Listed.{listed}
+use Rattle.ec_link.proofs.PlanSound.{no_fault}
+use Rattle.ec_link.proofs.Soundness.{plan_sound}
+use Rattle.ec_link.proofs.UsableLaws.{plan_usable}
+use Rattle.ec_link.proofs.InputsBack.{its_links}
+use Rattle.ec_rise.specs.Starting.{trouble_at}
+use Rattle.ec_rise.specs.Runs.{AreStartable}
+use Rattle.ec_rise.proofs.StartableLaws.{slave_startable}
+use Rattle.ec_world.specs.declared.event.Event.{Event}
+use Rattle.ec_world.specs.declared.event.Event.TheVariants.{Begin, Pass}
+use Rattle.ec_world.specs.declared.progress.Progress.{Progress}
+use Rattle.ec_world.specs.Plain.{Plain, PlainSlave, PlainFrame, Health, Working, Faulted, Reset, step, run, frame_at, plain_slave, linked_outputs, progress_of, all_progress, may_pass, lets_by}
+use Rattle.ec_world.specs.World.{WorldState, Flight, slave_of, no_slave, flight_at, flight_progress, flights_progress, is_up, Passes, IsStep}
+use Rattle.ec_world.specs.Exchanging.{given_by, given_in, slave_left}
+use Rattle.ec_world.specs.SlaveShows.{IsAs, IsWorking}
+use Rattle.ec_world.specs.Shows.{Shows}
+use Rattle.ec_world.specs.Laws.{IsRun}
+use Rattle.ec_world.specs.Whole.{IsNew, new_world, plain_of}
+use Rattle.ec_world.specs.Promises.{AreLinked}
+use Rattle.ec_world.specs.Headline.{IsMade, IsBegun, HadTrouble, IsInOp, progress_at, output_bits, input_bits, ShowsLinked, PassShows}
+use Rattle.ec_world.proofs.FramePass.{frame_pass}
+use Rattle.ec_world.proofs.FrameSteps.{pass_can}
+use Rattle.ec_world.proofs.InSlots.{flight_pairs}
+use Rattle.ec_world.proofs.Knowing.{share_is}
+use Rattle.ec_world.proofs.Settings.{for_bits, some_bits, no_bits, set_for_outs, unset}
+use Rattle.ec_world.proofs.Mapped.{third_held, holds_mapped}
+use Rattle.ec_world.proofs.Runs.{runs_show, runs_join}
+use Rattle.ec_world.proofs.StepLaws.{steps_show}
+use Rattle.ec_world.proofs.Whole.{new-rises, new-low}
+use Rattle.ec_world.proofs.Promising.{linked as linked_exactly}
+use Rattle.ec_world.proofs.Histories.{snapshots_law}
+use Rattle.ec_world.proofs.Imaged.{bit_past, HasBit, has_bit, shown_bit}
+use Rattle.ec_world.proofs.Origins.{Origin, none_flagged, started}
+use Rattle.ec_world.proofs.Since.{BeganAt, are_begun, begun_of, begun_on}
+
+none_some : {X : Type 0} (x : X) → None ≡ Some x → ⊥
+none_some x e = cc
+
+some_same : {X : Type 0} (x y : X) → Some x ≡ Some y → x ≡ y
+some_same x y e = cc
+
+true_false : true ≡ false → ⊥
+true_false e = cc
+
+-- ---- an event of a world's run, where the plain run makes it
+
+pub record Cut (old : WorldState) (xs : List Event) (e : Event) (ys : List Event) (new : WorldState) : Type 0 where
+  pub at : WorldState
+  pub next : WorldState
+  pub one : Bool
+  pub first : ℕ
+  pub rest : ℕ
+  pub to_it : IsRun old xs at first
+  pub step : IsStep at e next one
+  pub onward : IsRun next ys new rest
+
+pub cut : (old : WorldState) (xs : List Event) (e : Event) (ys : List Event) (new : WorldState) (made : ℕ) → IsRun old (xs ++ (e ∷ ys)) new made → Cut old xs e ys new
+cut old [] e ys new made h = record { at = old; next = h.0; one = h.1; first = 0; rest = h.2; to_it = (refl, refl); step = h.3; onward = h.4 }
+cut old (x ∷ xs) e ys new made h =
+    let c = cut h.0 xs e ys new h.2 h.4 in
+    record { at = c.at; next = c.next; one = c.one; first = (if h.1 then 1 else 0) + c.first; rest = c.rest; to_it = (h.0, h.1, c.first, h.3, c.to_it, refl); step = c.step; onward = c.onward }
+
+-- the world before and behind it show what the plain run has there
+pub record MadeAt (m : Meaning) (old : WorldState) (p : Plain) (events : List Event) (xs : List Event) (e : Event) (ys : List Event) (q : Plain) (new : WorldState) : Type 0 where
+  pub made : IsMade old events new e
+  pub before_is : made.before ≡ xs
+  pub behind_is : made.behind ≡ ys
+  pub at_plan : made.at.plan ≡ old.plan
+  pub next_plan : made.next.plan ≡ old.plan
+  pub at_shows : Shows made.at (run m p xs).plain
+  pub next_shows : Shows made.next q
+
+pub run_plan : (old : WorldState) (es : List Event) (new : WorldState) (made : ℕ) (p : Plain) → IsUsable old.plan → IsRun old es new made → Shows old p → new.plan ≡ old.plan
+run_plan old [] new made p sound h s = ap (λ (w : WorldState). w.plan) h.0
+run_plan old (e ∷ es) new made p sound h s =
+    let one = steps_show old e h.0 h.1 sound h.3 in
+    let same : h.0.plan ≡ old.plan = one.same_plan p s in
+    run_plan h.0 es new h.2 _ (subst IsUsable (sym same) sound) h.4 (one.shown p s) ∙ same
+
+pub made_at : (old : WorldState) (p : Plain) (events : List Event) (new : WorldState) (count : ℕ) (xs : List Event) (e : Event) (ys : List Event) (q : Plain)
+    → IsUsable old.plan → Shows old p → IsRun old events new count → events ≡ xs ++ (e ∷ ys) → step (meaning old.plan) (run (meaning old.plan) p xs).plain e ≡ Some q
+    → MadeAt (meaning old.plan) old p events xs e ys q new
+made_at old p events new count xs e ys q sound s h split does =
+    let m = meaning old.plan in
+    let c = cut old xs e ys new count (subst (λ (zs : List Event). IsRun old zs new count) split h) in
+    let at = (runs_show old xs c.at c.first sound c.to_it).shown p s in
+    let same : c.at.plan ≡ old.plan = run_plan old xs c.at c.first p sound c.to_it s in
+    let x = (run m p xs).plain in
+    let one = steps_show c.at e c.next c.one (subst IsUsable (sym same) sound) c.step in
+    let here : step (meaning c.at.plan) x e ≡ Some q = ap (λ (y : PlanState). step (meaning y) x e) same ∙ does in
+    let done : c.one ≡ true = one.made_is x at ∙ ap (λ o. is_some o) here in
+    record {
+      made = record {
+        before = xs;
+        behind = ys;
+        split = split;
+        at = c.at;
+        next = c.next;
+        first = c.first;
+        rest = c.rest;
+        to_it = c.to_it;
+        step = subst (λ (b : Bool). IsStep c.at e c.next b) done c.step;
+        onward = c.onward;
+      };
+      before_is = refl;
+      behind_is = refl;
+      at_plan = same;
+      next_plan = one.same_plan x at ∙ same;
+      at_shows = at;
+      next_shows = subst (λ o. Shows c.next (unwrap_or o x)) here (one.shown x at);
+    }
+
+-- events before the run
+abbrev pub made_later : (old : WorldState) (done : List Event) (mid : WorldState) (count : ℕ) (events : List Event) (new : WorldState) (e : Event) (all : List Event) → all ≡ done ++ events → IsRun old done mid count → IsMade mid events new e → IsMade old all new e
+made_later old done mid count events new e all is h b = record {
+  before = done ++ b.before;
+  behind = b.behind;
+  split = is ∙ (ap (λ (xs : List Event). done ++ xs) b.split ∙ sym (append_assoc done b.before (e ∷ b.behind)));
+  at = b.at;
+  next = b.next;
+  first = count + b.first;
+  rest = b.rest;
+  to_it = runs_join old done mid count b.before b.at b.first h b.to_it;
+  step = b.step;
+  onward = b.onward;
+}
+
+-- ---- what holds of a world that is Ready
+
+pub record Sees (t : Contents) (old : WorldState) (events : List Event) (w : WorldState) : Type 0 where
+  pub before : List Event
+  pub after : List Event
+  pub split : events ≡ before ++ after
+  pub ready : WorldState
+  pub first : ℕ
+  pub rest : ℕ
+  pub to_ready : IsRun old before ready first
+  pub onward : IsRun ready after w rest
+  pub plan_is : ready.plan ≡ plan_of t
+  pub usable : IsUsable ready.plan
+  pub shows : Shows ready (plain_of ready)
+  pub told : (i : ℕ) → i < length ready.plan.slaves → ((plain_slave (plain_of ready) i).health ≡ Working) ⊎ HadTrouble old before ready i
+
+no_flag : (n i : ℕ) → trouble_at (replicate n false) i ≡ true → ⊥
+no_flag n i e = true_false (sym e ∙ none_flagged n i)
+
+pub sees : (t : Contents) (identities : List Identity) (old : WorldState) (events : List Event) (w : WorldState) (made : ℕ) → IsNew t identities old → IsRun old events w made → is_up w.start ≡ true → Sees t old events w
+sees t ids old events w made n h up =
+    let plan = plan_of t in
+    let sound : IsUsable plan = plan_usable t n.sound n.accepted in
+    let planned : AreStartable plan.slaves = record { each = λ i l. slave_startable t n.sound n.accepted i l } in
+    let many : length ids ≡ length plan.slaves = let x = n.one_each in let y = (plan_sound t n.sound n.accepted).as_many in omega (arith, x, y) in
+    let flags : List Bool = replicate (length plan.slaves) false in
+    let run : IsRun (new_world plan ids) events w made = subst (λ (x : WorldState). IsRun x events w made) n.is h in
+    let s = started events (new_world plan ids) w made flags sound planned (new-rises plan ids sound planned many) (new-low plan ids) run up in
+    record {
+      before = s.before;
+      after = s.after;
+      split = s.split;
+      ready = s.ready;
+      first = s.first;
+      rest = s.rest;
+      to_ready = subst (λ (x : WorldState). IsRun x s.before s.ready s.first) (sym n.is) s.to_ready;
+      onward = s.onward;
+      plan_is = s.plan_is;
+      usable = subst IsUsable (sym s.plan_is) sound;
+      shows = s.is_ready.shows;
+      told = λ i l. elim (s.is_ready.told i l) [
+        | inl works ↦ inl works
+        | inr flag ↦ inr (from n.is s.before s.ready flags i (s.origin i flag) (length plan.slaves) refl)
+      ];
+    }
+  where
+    from : {x y : WorldState} → x ≡ y → (b : List Event) (r : WorldState) (flags : List Bool) (i : ℕ) → Origin y b r flags i → (n : ℕ) → flags ≡ replicate n false → HadTrouble x b r i
+    from {x} {y} e b r flags i (inr h) n is = subst (λ (z : WorldState). HadTrouble z b r i) (sym e) h
+    from {x} {y} e b r flags i (inl h) n is = absurd (no_flag n i (sym (ap (λ fs. trouble_at fs i) is) ∙ h.0))
+
+-- ---- a pass
+
+-- the plain frame in the slot, and what the pass does
+pub record PassedOn (w : WorldState) (p : Plain) (k : ℕ) (f : Progress) (v : WorldState) : Type 0 where
+  pub frame : PlainFrame
+  pub there : frame_at p k ≡ Some frame
+  pub same : progress_of frame ≡ f
+  pub here : length frame.notes < length w.plan.slaves
+  pub slave : slave_of v (length frame.notes) ≡ slave_left (meaning w.plan) (length frame.notes) frame (plain_slave p (length frame.notes)) (slave_of w (length frame.notes))
+  pub others : (s : ℕ) → s ≢ length frame.notes → slave_of v s ≡ slave_of w s
+  pub goes_on : progress_at v k ≡ Some (record { number = frame.number; part = frame.part; passed = length frame.notes + 1 })
+  pub slots : (j : ℕ) → j ≢ k → flight_at v j ≡ flight_at w j
+  pub rest : v ≡ record w { slaves = v.slaves; slots = v.slots }
+
+mapped_some : (o : Option Flight) (f : Progress) → option_map flight_progress o ≡ Some f → (x : Flight) × ((o ≡ Some x) × (flight_progress x ≡ f))
+mapped_some None f e = absurd (none_some f e)
+mapped_some (Some x) f e = (x, (refl, some_same (flight_progress x) f e))
+
+within_of : {X : Type 0} (os : List (Option X)) (k : ℕ) (x : X) → get_or os k None ≡ Some x → k < length os
+within_of [] k x e = absurd (none_some x e)
+within_of (o ∷ os) zero x e = omega arith
+within_of (o ∷ os) (suc k) x e = let l = within_of os k x e in omega (arith, l)
+
+same_way : (x : Flight) (g : PlainFrame) → x.number ≡ g.number → x.part ≡ g.part → x.passed ≡ length g.notes → flight_progress x ≡ progress_of g
+same_way x g number part passed =
+    ap (λ (n : ℕ). record { number = n; part = x.part; passed = x.passed }) number
+    ∙ (ap (λ (n : ℕ). record { number = g.number; part = n; passed = x.passed }) part
+    ∙ ap (λ (n : ℕ). record { number = g.number; part = g.part; passed = n }) passed)
+
+pub passed_on : (old : WorldState) (p : Plain) (k : ℕ) (f : Progress) (new : WorldState) → IsUsable old.plan → Shows old p → progress_at old k ≡ Some f → IsStep old (Pass k) new true → PassedOn old p k f new
+passed_on old p k f new sound s at h =
+    let m = meaning old.plan in
+    let pass : Passes old k new = h.happens refl in
+    let can : may_pass (length old.slaves) (flights_progress old.slots) (option_map flight_progress (flight_at old k)) ≡ true = sym h.can in
+    let x = pass.flight in
+    let both = flight_pairs old.slots p.slots k x s.progress pass.there in
+    let g = both.frame in
+    let t = length g.notes in
+    let q = plain_slave p t in
+    let may : may_pass (length p.slaves) (all_progress p.slots) (option_map progress_of (Some g)) ≡ true
+    = ap (λ o. may_pass (length p.slaves) (all_progress p.slots) (option_map progress_of o)) (sym both.there) ∙ (sym (pass_can old p k s) ∙ can) in
+    let here : t < length old.plan.slaves = let y = ltb-true t (length p.slaves) (and_parts (nat_lt t (length p.slaves)) (list_all (lets_by (progress_of g)) (all_progress p.slots)) may).0 in let z = s.plain_count in omega arith in
+    let shows = s.frames k x g pass.there both.there in
+    let y = slave_of old t in
+    let p1 = shows.payload in
+    let after = (passes_all y p1.datagrams).slave in
+    let by_ring : IsPassedAt old.slaves t y x.bytes new.slaves pass.bytes = subst (λ (n : ℕ). IsPassedAt old.slaves n (slave_of old n) x.bytes new.slaves pass.bytes) both.passed pass.passed in
+    let moved_on : IsPassed y x.bytes after pass.bytes = record {
+      slave = λ p2 e. ap (λ (r : Payload). (passes_all y r.datagrams).slave) (one_payload x.bytes p1 p2 shows.spelled e);
+      frame = by_ring.frame;
+    } in
+    let one = frame_pass old.plan g q y after x.bytes pass.bytes sound here (s.slaves t here) shows moved_on in
+    let slaves : new.slaves ≡ set old.slaves t after = by_ring.slaves p1 shows.spelled in
+    let inside : t < length old.slaves = let c = s.count in omega arith in
+    let on : Flight = record x { bytes = pass.bytes; passed = x.passed + 1 } in
+    let own : flight_progress x ≡ f = some_same (flight_progress x) f (sym (ap (option_map flight_progress) pass.there) ∙ at) in
+    let slots : new.slots ≡ set old.slots k (Some on) = ap (λ (w : WorldState). w.slots) pass.is in
+    record {
+      frame = g;
+      there = both.there;
+      same = sym (same_way x g both.number both.part both.passed) ∙ own;
+      here = here;
+      slave = ap (λ (ss : List SlaveState). get_or ss t no_slave) slaves ∙ (get_or-set_same old.slaves t after no_slave inside ∙ one.slave);
+      others = λ u ne. ap (λ (ss : List SlaveState). get_or ss u no_slave) slaves ∙ get_or-set_other old.slaves t u after no_slave ne;
+      goes_on = ap (λ os. option_map flight_progress (get_or os k None)) slots
+          ∙ (ap (option_map flight_progress) (get_or-set_same old.slots k (Some on) None (within_of old.slots k x pass.there))
+          ∙ ap (λ (r : Progress). Some (record { number = r.number; part = r.part; passed = r.passed + 1 })) (same_way x g both.number both.part both.passed));
+      slots = λ j ne. ap (λ os. get_or os j None) slots ∙ get_or-set_other old.slots k j (Some on) None ne;
+      rest = pass.is ∙ ap (λ os. record old { slaves = new.slaves; slots = os }) (sym slots);
+    }
+
+-- ---- health and state
+
+on_state : (k : SlaveKind) (j : Identity) → (power_on k j).al.state ≡ Init
+unfolding power_on
+on_state k j = refl
+
+op_health : (i : ℕ) (x : Settings) (s : SlaveState) (q : PlainSlave) (h : Health) → IsAs i x s q h → s.al.state ≡ Op → h ≡ Working
+op_health i x s q Working a e = refl
+op_health i x s q Faulted a e = absurd (let z : SafeOp ≡ Op = sym a.state ∙ e in cc)
+op_health i x s q Reset a e = absurd (let z : Init ≡ Op = sym (ap (λ (y : SlaveState). y.al.state) a.as_on ∙ on_state s.kind s.identity) ∙ e in cc)
+
+health_op : (i : ℕ) (x : Settings) (s : SlaveState) (q : PlainSlave) (h : Health) → IsAs i x s q h → h ≡ Working → s.al.state ≡ Op
+health_op i x s q Working a e = a.state
+health_op i x s q Faulted a e = absurd (let z : Faulted ≡ Working = e in cc)
+health_op i x s q Reset a e = absurd (let z : Reset ≡ Working = e in cc)
+
+pub safe_faulted : (i : ℕ) (x : Settings) (s : SlaveState) (q : PlainSlave) (h : Health) → IsAs i x s q h → s.al.state ≡ SafeOp → h ≡ Faulted
+safe_faulted i x s q Working a e = absurd (let z : Op ≡ SafeOp = sym a.state ∙ e in cc)
+safe_faulted i x s q Faulted a e = refl
+safe_faulted i x s q Reset a e = absurd (let z : Init ≡ SafeOp = sym (ap (λ (y : SlaveState). y.al.state) a.as_on ∙ on_state s.kind s.identity) ∙ e in cc)
+
+pub init_reset : (i : ℕ) (x : Settings) (s : SlaveState) (q : PlainSlave) (h : Health) → IsAs i x s q h → s.al.state ≡ Init → h ≡ Reset
+init_reset i x s q Working a e = absurd (let z : Op ≡ Init = sym a.state ∙ e in cc)
+init_reset i x s q Faulted a e = absurd (let z : SafeOp ≡ Init = sym a.state ∙ e in cc)
+init_reset i x s q Reset a e = refl
+
+pub faulted_safe : (i : ℕ) (x : Settings) (s : SlaveState) (q : PlainSlave) (h : Health) → IsAs i x s q h → h ≡ Faulted → s.al.state ≡ SafeOp
+faulted_safe i x s q Working a e = absurd (let z : Working ≡ Faulted = e in cc)
+faulted_safe i x s q Faulted a e = a.state
+faulted_safe i x s q Reset a e = absurd (let z : Reset ≡ Faulted = e in cc)
+
+pub reset_init : (i : ℕ) (x : Settings) (s : SlaveState) (q : PlainSlave) (h : Health) → IsAs i x s q h → h ≡ Reset → s.al.state ≡ Init
+reset_init i x s q Working a e = absurd (let z : Working ≡ Reset = e in cc)
+reset_init i x s q Faulted a e = absurd (let z : Faulted ≡ Reset = e in cc)
+reset_init i x s q Reset a e = ap (λ (y : SlaveState). y.al.state) a.as_on ∙ on_state s.kind s.identity
+
+pub op_works : (w : WorldState) (p : Plain) (s : ℕ) → Shows w p → s < length w.plan.slaves → IsInOp w s → (plain_slave p s).health ≡ Working
+op_works w p s h l op = op_health s (settings_of w.plan s) (slave_of w s) (plain_slave p s) (plain_slave p s).health (h.slaves s l) op
+
+pub works_op : (w : WorldState) (p : Plain) (s : ℕ) → Shows w p → s < length w.plan.slaves → (plain_slave p s).health ≡ Working → IsInOp w s
+works_op w p s h l works = health_op s (settings_of w.plan s) (slave_of w s) (plain_slave p s) (plain_slave p s).health (h.slaves s l) works
+
+-- ---- the slave behind a frame
+
+not_wrote : (m : Meaning) (t : ℕ) (f : PlainFrame) (q : PlainSlave) → (q.health ≡ Working → (share_of m t).part ≢ f.part) → (given_in m t f q).wrote ≡ false
+not_wrote m t f q h = elim (cases_Bool ((share_of m t).part == f.part)) [
+  | inr off ↦ ap (λ (g : Gave). g.wrote) (if_false _ _ _ off)
+  | inl on ↦ ap (λ (g : Gave). g.wrote) (if_true _ _ _ on) ∙ by q.health refl (eqb-true _ _ on)
+]
+  where
+    by : (x : Health) → q.health ≡ x → (share_of m t).part ≡ f.part → (given_by (share_of m t) x).wrote ≡ false
+    by Working e own = absurd (h e own)
+    by Faulted e own = refl
+    by Reset e own = refl
+
+-- in OP, of the frame's part
+in_op_left : (m : Meaning) (t : ℕ) (f : PlainFrame) (q : PlainSlave) (s : SlaveState) → q.health ≡ Working → (share_of m t).part ≡ f.part
+    → slave_left m t f q s ≡ (if has_outs (share_of m t) then with_outputs s (linked_outputs m t f.snapshot) else s)
+in_op_left m t f q s e own =
+    let same : (given_in m t f q).wrote ≡ has_outs (share_of m t)
+    = ap (λ (g : Gave). g.wrote) (if_true _ _ _ (eq-eqb _ _ own)) ∙ ap (λ (h : Health). (given_by (share_of m t) h).wrote) e in
+    ap (λ (b : Bool). if b then with_outputs s (linked_outputs m t f.snapshot) else s) same
+
+-- sync manager 2 of a slave in OP
+manager_held : (plan : PlanState) (t : ℕ) (s : SlaveState) (q : PlainSlave) → IsUsable plan → t < length plan.slaves → IsWorking t (settings_of plan t) s q → (manager_at s.managers 2).settings ≡ output_manager (settings_of plan t)
+manager_held plan t s q sound l works = third_held t (settings_of plan t) s works.holds (listed plan sound t l)
+
+manager_good : (plan : PlanState) (t : ℕ) (s : SlaveState) (q : PlainSlave) → IsUsable plan → t < length plan.slaves → IsWorking t (settings_of plan t) s q → 0 < (settings_of plan t).share.outs
+    → (is_set (manager_at s.managers 2).settings && is_buffered (manager_at s.managers 2).settings) ≡ true
+manager_good plan t s q sound l works some =
+    let x = settings_of plan t in
+    let set : (manager_at s.managers 2).settings ≡ for_bits x.share.outs x.kind.out_start 0x24 = manager_held plan t s q sound l works ∙ some_bits x.share.outs x.kind.out_start 0x24 some in
+    ap (λ (y : ManagerSettings). is_set y && is_buffered y) set ∙ and_from _ _ (set_for_outs x.share.outs x.kind.out_start some (listed plan sound t l).out_fits) refl
+
+-- what it shows: what was published last, or nothing where it has no outputs
+pub record ShownAs (plan : PlanState) (t : ℕ) (s : SlaveState) (q : PlainSlave) : Type 0 where
+  pub some : 0 < (settings_of plan t).share.outs → outputs_shown s ≡ q.outputs.published
+  pub none : (settings_of plan t).share.outs ≡ 0 → outputs_shown s ≡ []
+
+pub shown_as : (plan : PlanState) (t : ℕ) (s : SlaveState) (q : PlainSlave) → IsUsable plan → t < length plan.slaves → IsWorking t (settings_of plan t) s q → ShownAs plan t s q
+shown_as plan t s q sound l works = record {
+  some = λ some. if_true _ _ _ (manager_good plan t s q sound l works some) ∙ ap (λ (b : Buffer). b.published) works.process.outputs;
+  none = λ none. if_false _ _ _ (ap (λ (y : ManagerSettings). is_set y && is_buffered y) (manager_held plan t s q sound l works ∙ no_bits x.share.outs x.kind.out_start 0x24 none) ∙ and_left _ _ unset);
+}
+  where
+    x : Settings
+    x = settings_of plan t
+
+-- what a slave in OP shows behind a frame: what was published, or nothing where it has no outputs
+pub record Showing (plan : PlanState) (t : ℕ) (s : SlaveState) (value : List ℕ) (after : SlaveState) : Type 0 where
+  pub shown : (0 < (settings_of plan t).share.outs) → outputs_shown after ≡ value
+  pub nothing : (settings_of plan t).share.outs ≡ 0 → outputs_shown after ≡ []
+  pub is : after ≡ with_outputs s (outputs_shown after)
+
+showing : (plan : PlanState) (t : ℕ) (s : SlaveState) (q : PlainSlave) (value : List ℕ) (after : SlaveState) → IsUsable plan → t < length plan.slaves → IsWorking t (settings_of plan t) s q
+    → after ≡ (if nat_lt 0 (settings_of plan t).share.outs then with_outputs s value else s) → Showing plan t s value after
+showing plan t s q value after sound l works is = elim (cases_lt 0 (settings_of plan t).share.outs) [
+  | inl some ↦
+      let left : after ≡ with_outputs s value = is ∙ if_true _ _ _ (lt-ltb 0 x.share.outs some) in
+      let shows : outputs_shown after ≡ value = ap outputs_shown left ∙ published some in
+      record { shown = λ k. shows; nothing = λ e. absurd (omega (arith, some, e)); is = left ∙ ap (with_outputs s) (sym shows) }
+  | inr few ↦
+      let none : x.share.outs ≡ 0 = omega (arith, few) in
+      let left : after ≡ s = is ∙ if_false _ _ _ (le-ltb 0 x.share.outs few) in
+      let shows : outputs_shown after ≡ [] = ap outputs_shown left ∙ (shown_as plan t s q sound l works).none none in
+      record { shown = λ k. absurd (omega (arith, k, none)); nothing = λ e. shows; is = left ∙ (own none ∙ ap (with_outputs s) (sym shows)) }
+]
+  where
+    x : Settings
+    x = settings_of plan t
+
+    M : Manager
+    M = manager_at s.managers 2
+
+    published : 0 < x.share.outs → outputs_shown (with_outputs s value) ≡ value
+    published some =
+        let four = (holds_mapped t x s works.holds (listed plan sound t l)).four in
+        let at : manager_at (set s.managers 2 (with_published M value)) 2 ≡ with_published M value = get_or-set_same s.managers 2 (with_published M value) no_manager (omega (arith, four)) in
+        ap (λ (y : Manager). if is_set y.settings && is_buffered y.settings then y.buffer.published else []) at ∙ if_true _ _ _ (manager_good plan t s q sound l works some)
+
+    empty : (ys : List ℕ) → length ys ≡ 0 → ys ≡ []
+    empty [] e = refl
+    empty (y ∷ ys) e = absurd (omega (arith, e))
+
+    own : x.share.outs ≡ 0 → s ≡ with_outputs s []
+    own none =
+        let bytes : length M.buffer.published ≡ bytes_of_bits x.share.outs = ap (λ (b : Buffer). length b.published) works.process.outputs ∙ works.process.out_bytes.published in
+        let zero_bytes : length M.buffer.published ≡ 0 = bytes ∙ ap bytes_of_bits none in
+        let value_is : M.buffer.published ≡ [] = empty M.buffer.published zero_bytes in
+        let same : with_published M [] ≡ M = ap (with_published M) (sym value_is) in
+        sym (ap (λ ms. with_memory s s.memory ms) (ap (λ (y : Manager). set s.managers 2 y) same ∙ set-get_or s.managers 2 no_manager))
+
+-- ---- the plan of a table
+
+pub part_is : (plan : PlanState) (s : ℕ) → s < length plan.slaves → part_of plan s ≡ (share_of (meaning plan) s).part
+part_is plan s l =
+    ap (λ o. option_map_or (λ (x : Settings). x.share.part) o 0) (slice_get-get_or plan.slaves s no_slave_plan l)
+    ∙ ap (λ (h : Share). h.part) (sym (share_is plan s))
+
+pub plan_variables : (t : Contents) → (plan_of t).variables ≡ image t.variables
+unfolding plan_of
+plan_variables t = refl
+
+no_row : SlaveRow
+no_row = record { name = []; type_place = 0; serial = 0; outputs = []; inputs = []; unit = 0 }
+
+pub outs_are : (t : Contents) → link.IsSound t (plan_of t) → (s : ℕ) → s < length (plan_of t).slaves → (settings_of (plan_of t) s).share.outs ≡ output_bits t s
+outs_are t sound s l = (sound.each s (get_or t.slaves s no_row) (slice_get-get_or t.slaves s no_row (let x = sound.as_many in omega (arith, l, x)))).outs
+
+pub ins_are : (t : Contents) → link.IsSound t (plan_of t) → (s : ℕ) → s < length (plan_of t).slaves → (settings_of (plan_of t) s).share.ins ≡ input_bits t s
+ins_are t sound s l = (sound.each s (get_or t.slaves s no_row) (slice_get-get_or t.slaves s no_row (let x = sound.as_many in omega (arith, l, x)))).ins
+
+pub free_slots : {X Y : Type 0} (os : List X) (k : ℕ) → (let none : Option Y = None in get_or (map (λ (o : X). none) os) k none) ≡ None
+free_slots [] k = refl
+free_slots (o ∷ os) zero = refl
+free_slots (o ∷ os) (suc k) = free_slots os k
+
+-- what a bit of the outputs is, by its link
+bit_of_source : (image : List ℕ) (o : Option ℕ) (b : ℕ) → o ≡ Some b → unwrap_or (option_map (bit image) o) false ≡ bit image b
+bit_of_source image o b e = ap (λ x. unwrap_or (option_map (bit image) x) false) e
+
+-- ---- a slave that shows its linked bits
+
+-- where a slave with outputs shows the linked outputs of the image of a world, and one without shows nothing
+pub shows_linked : (t : Contents) → table.IsSound t → compile_fault t ≡ None → (plan : PlanState) → plan ≡ plan_of t → (source v : WorldState) (u : ℕ) → u < length plan.slaves
+    → source.master.plan.variables ≡ image t.variables
+    → (0 < (settings_of plan u).share.outs → outputs_shown (slave_of v u) ≡ linked_outputs (meaning plan) u source.master.outputs)
+    → ((settings_of plan u).share.outs ≡ 0 → outputs_shown (slave_of v u) ≡ []) → ShowsLinked t source v u
+shows_linked t fine free plan is source v u here variables shown nothing = record {
+  linked = λ x c i l.
+      let within = slice_get_within (object_bits t u Out) i _ l.object_is in
+      let some : 0 < (settings_of plan u).share.outs = omega (arith, outs, within) in
+      let inside : i < 8 * length value = omega (arith, outs, share, within, fits.size) in
+      let source_is : out_source plan.out_links u i ≡ Some (image_from t.variables x + c) = (links.outputs u i (image_from t.variables x + c)).1 (record { variable = x; bit = c; linked = l; image_is = refl }) in
+      let has : HasBit t Out x c = has_bit t Out x c u i (no_fault t free).link l in
+      ap (λ ys. bit ys i) (shown some)
+      ∙ (fits.each i inside
+      ∙ (bit_of_source source.master.outputs (out_source plan.out_links u i) (image_from t.variables x + c) source_is
+      ∙ sym (shown_bit t source Out x c has variables)));
+  unlinked = λ i none. elim (cases_lt 0 (settings_of plan u).share.outs) [
+    | inl some ↦ ap (λ ys. bit ys i) (shown some) ∙ elim (cases_lt i (8 * length value)) [
+      | inl l ↦ fits.each i l ∙ off i (out_source plan.out_links u i) refl none
+      | inr past ↦ bit_past value i past
+    ]
+    | inr few ↦ ap (λ ys. bit ys i) (nothing (omega (arith, few))) ∙ bit_past [] i (omega arith)
+  ];
+  size = elim (cases_lt 0 (settings_of plan u).share.outs) [
+    | inl some ↦ ap length (shown some) ∙ (fits.size ∙ ap bytes_of_bits (share ∙ outs))
+    | inr few ↦ ap length (nothing (omega (arith, few))) ∙ ap bytes_of_bits (let z : 0 ≡ (settings_of plan u).share.outs = omega (arith, few) in z ∙ outs)
+  ];
+}
+  where
+    value : List ℕ
+    value = linked_outputs (meaning plan) u source.master.outputs
+
+    fits : AreLinked (meaning plan) u source.master.outputs value
+    fits = linked_exactly (meaning plan) u source.master.outputs
+
+    share : (share_of (meaning plan) u).outs ≡ (settings_of plan u).share.outs
+    share = ap (λ (x : Share). x.outs) (share_is plan u)
+
+    in_plan : u < length (plan_of t).slaves
+    in_plan = let y = ap (λ (z : PlanState). length z.slaves) is in omega (arith, here, y)
+
+    outs : (settings_of plan u).share.outs ≡ output_bits t u
+    outs = ap (λ (z : PlanState). (settings_of z u).share.outs) is ∙ outs_are t (plan_sound t fine free) u in_plan
+
+    links : AreItsLinks t plan
+    links = its_links t plan fine free is
+
+    off : (i : ℕ) (a : Option ℕ) → out_source plan.out_links u i ≡ a → ((x c : ℕ) → IsLinked t Out x c u i → ⊥) → unwrap_or (option_map (bit source.master.outputs) a) false ≡ false
+    off i None e none = refl
+    off i (Some c) e none = absurd (let pair = (links.outputs u i c).0 e in none pair.variable pair.bit pair.linked)
+
+-- ---- a pass
+
+pub headline_outputs : (t : Contents) (identities : List Identity) (old : WorldState) (events : List Event) (w : WorldState) (made : ℕ) → IsNew t identities old → IsRun old events w made → is_up w.start ≡ true
+    → (k : ℕ) (v : WorldState) → IsStep w (Pass k) v true → (f : Progress) → progress_at w k ≡ Some f → PassShows t old events w k f v
+headline_outputs t ids old events w made n h up k v does f at = subst (λ (g : Progress). PassShows t old events w k g v) o.same (record {
+  begun = begun;
+  shows = λ op own. shows_linked t n.sound n.accepted w.plan w_plan begun.event.at v u o.here variables_then
+      (λ some. (showing_in op own).shown some ∙ ap (linked_outputs m u) snapshot) (showing_in op own).nothing;
+  slave = λ op own. (showing_in op own).is;
+  untouched = λ out. o.slave ∙ if_false _ _ _ (not_wrote m u g q (λ works same. out (works_op w p u shown o.here works) (part_here ∙ same)));
+  others = o.others;
+  goes_on = o.goes_on;
+  slots = o.slots;
+  rest = o.rest;
+})
+  where
+    s : Sees t old events w
+    s = sees t ids old events w made n h up
+
+    first : Plain
+    first = plain_of s.ready
+
+    p : Plain
+    p = (run (meaning s.ready.plan) first s.after).plain
+
+    shown : Shows w p
+    shown = (runs_show s.ready s.after w s.rest s.usable s.onward).shown first s.shows
+
+    w_plan : w.plan ≡ plan_of t
+    w_plan = run_plan s.ready s.after w s.rest first s.usable s.onward s.shows ∙ s.plan_is
+
+    usable : IsUsable w.plan
+    usable = subst IsUsable (s.plan_is ∙ sym w_plan) s.usable
+
+    o : PassedOn w p k f v
+    o = passed_on w p k f v usable shown at does
+
+    g : PlainFrame
+    g = o.frame
+
+    u : ℕ
+    u = length g.notes
+
+    m : Meaning
+    m = meaning w.plan
+
+    q : PlainSlave
+    q = plain_slave p u
+
+    -- the beginning
+    no_frame : (j : ℕ) → frame_at first j ≡ None
+    no_frame j = free_slots s.ready.slots j
+
+    b : BeganAt (meaning s.ready.plan) first s.after g.number
+    b = (are_begun (meaning s.ready.plan) first s.after no_frame refl).frames k g o.there
+
+    made_begin : MadeAt (meaning s.ready.plan) s.ready first s.after b.before Begin b.behind b.begun w
+    made_begin = made_at s.ready first s.after w s.rest b.before Begin b.behind b.begun s.usable s.shows s.onward b.split b.begins
+
+    begun : IsBegun old events w g.number
+    begun = record {
+      event = made_later old s.before s.ready s.first s.after w Begin events s.split s.to_ready made_begin.made;
+      number_is = made_begin.at_shows.next ∙ b.number_is;
+    }
+
+    image_then : List ℕ
+    image_then = made_begin.made.at.master.outputs
+
+    snapshot : g.snapshot ≡ image_then
+    snapshot =
+        snapshots_law (meaning s.ready.plan) (run (meaning s.ready.plan) first b.before).plain b.begun b.behind (begun_of (meaning s.ready.plan) first s.after g.number no_frame b)
+        k g (ap (λ (x : Plain). frame_at x k) (sym (begun_on (meaning s.ready.plan) first s.after g.number b)) ∙ o.there) (sym b.number_is)
+        ∙ sym made_begin.at_shows.outputs
+
+    variables_then : made_begin.made.at.master.plan.variables ≡ image t.variables
+    variables_then = ap (λ (x : PlanState). x.variables) (made_begin.at_shows.same_plan ∙ (made_begin.at_plan ∙ s.plan_is)) ∙ plan_variables t
+
+    -- the slave
+    part_here : part_of (plan_of t) u ≡ (share_of m u).part
+    part_here = ap (λ (z : PlanState). part_of z u) (sym w_plan) ∙ part_is w.plan u o.here
+
+    share : (share_of m u).outs ≡ (settings_of w.plan u).share.outs
+    share = ap (λ (x : Share). x.outs) (share_is w.plan u)
+
+    value : List ℕ
+    value = linked_outputs m u g.snapshot
+
+    showing_in : IsInOp w u → part_of (plan_of t) u ≡ g.part → Showing w.plan u (slave_of w u) value (slave_of v u)
+    showing_in op own = showing w.plan u (slave_of w u) q value (slave_of v u) usable o.here as_working left
+      where
+        works : q.health ≡ Working
+        works = op_works w p u shown o.here op
+
+        as_working : IsWorking u (settings_of w.plan u) (slave_of w u) q
+        as_working = subst (λ (x : Health). IsAs u (settings_of w.plan u) (slave_of w u) q x) works (shown.slaves u o.here)
+
+        left : slave_of v u ≡ (if nat_lt 0 (settings_of w.plan u).share.outs then with_outputs (slave_of w u) value else slave_of w u)
+        left = o.slave ∙ (in_op_left m u g q (slave_of w u) works (sym part_here ∙ own) ∙ ap (λ (z : ℕ). if nat_lt 0 z then with_outputs (slave_of w u) value else slave_of w u) share)

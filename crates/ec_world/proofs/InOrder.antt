@@ -1,0 +1,220 @@
+-- Frames keep their order: an older frame passes each slave first.
+use Rattle.std.proofs.Common.{ℕ, zero, suc, ◌<◌, ◌≤◌, ◌≡◌, ◌⊎◌, ◌==◌, nat_lt, true, Option, Some, None, refl, sym, ◌∙◌, ap, subst, inl, inr, arith, List, [], ◌∷◌, ◌++◌, length, get_or, set, slice_get, option_map}
+use Rattle.std.specs.List.{list_all}
+use Rattle.std.proofs.lemmas.Bool.{cases_lt, and_parts, or_cases, ltb-true, eqb-true}
+use Rattle.std.proofs.lemmas.List.{length_push}
+use Rattle.ec_bits.proofs.AnyLaws.{if_true}
+use Rattle.ec_link.specs.Meaning.{Meaning, meaning}
+use Rattle.ec_link.specs.Usable.{IsUsable}
+use Rattle.ec_world.specs.declared.event.Event.{Event}
+use Rattle.ec_world.specs.declared.event.Event.TheVariants.{Pass}
+use Rattle.ec_world.specs.declared.progress.Progress.{Progress}
+use Rattle.ec_world.specs.Plain.{Plain, PlainFrame, step, run, frame_at, plain_slave, filled, new_frames, with_note, met_note, progress_of, is_older, lets_by, may_pass}
+use Rattle.ec_world.specs.World.{WorldState, flights_progress}
+use Rattle.ec_world.specs.Shows.{Shows}
+use Rattle.ec_world.specs.Whole.{plain_of}
+use Rattle.ec_world.specs.RunLaws.{OrderLaw}
+use Rattle.ec_world.specs.Headline.{progress_at}
+use Rattle.ec_world.proofs.Tracing.{Leaves, Stays, Begins, Moves, Loses, Returns, Closes, leaves}
+use Rattle.ec_world.proofs.Histories.{run_always, run_joins, new_one, AreBelow, below_step}
+use Rattle.ec_world.proofs.InSlots.{same_progress}
+use Rattle.ec_world.proofs.Calm.{get_mapped}
+use Rattle.ec_world.proofs.Runs.{runs_show}
+use Rattle.ec_world.proofs.Headlines.{run_plan, Sees, sees, free_slots}
+
+none_some : {X : Type 0} (x : X) → None ≡ Some x → ⊥
+none_some x e = cc
+
+some_same : {X : Type 0} (x y : X) → Some x ≡ Some y → x ≡ y
+some_same x y e = cc
+
+-- a slot of the filled ones has one of the new frames, or what it had
+filled_either : (fs : List PlainFrame) (os : List (Option PlainFrame)) {number : ℕ} → ((i : ℕ) (x : PlainFrame) → slice_get fs i ≡ Some x → x.number ≡ number)
+    → (k : ℕ) (f : PlainFrame) → get_or (filled fs os) k None ≡ Some f → (f.number ≡ number) ⊎ (get_or os k None ≡ Some f)
+filled_either fs [] new k f e = absurd (none_some f e)
+filled_either [] (o ∷ os) new k f e = inr e
+filled_either (g ∷ fs) (None ∷ os) new zero f e = inl (new 0 f e)
+filled_either (g ∷ fs) (None ∷ os) new (suc k) f e = filled_either fs os (λ i x there. new (suc i) x there) k f e
+filled_either (g ∷ fs) (Some h ∷ os) new zero f e = inr e
+filled_either (g ∷ fs) (Some h ∷ os) new (suc k) f e = filled_either (g ∷ fs) os new k f e
+
+set_either : (os : List (Option PlainFrame)) (j : ℕ) (o : Option PlainFrame) (k : ℕ) (f : PlainFrame) → get_or (set os j o) k None ≡ Some f → ((k ≡ j) × (o ≡ Some f)) ⊎ (get_or os k None ≡ Some f)
+set_either [] j o k f e = inr e
+set_either (u ∷ os) zero o zero f e = inl (refl, e)
+set_either (u ∷ os) zero o (suc k) f e = inr e
+set_either (u ∷ os) (suc j) o zero f e = inr e
+set_either (u ∷ os) (suc j) o (suc k) f e = elim (set_either os j o k f e) [
+  | inl x ↦ inl (ap (λ (n : ℕ). suc n) x.0, x.1)
+  | inr x ↦ inr x
+]
+
+left_old : (os : List (Option PlainFrame)) (j k : ℕ) (f : PlainFrame) → get_or (set os j None) k None ≡ Some f → get_or os k None ≡ Some f
+left_old os j k f e = elim (set_either os j None k f e) [
+  | inl x ↦ absurd (none_some f x.1)
+  | inr x ↦ x
+]
+
+-- ---- a frame that was there is where it was, and no further
+
+pub record Was (base : Plain) (k : ℕ) (f : PlainFrame) : Type 0 where
+  pub frame : PlainFrame
+  pub there : frame_at base k ≡ Some frame
+  pub number_is : frame.number ≡ f.number
+  pub part_is : frame.part ≡ f.part
+  pub behind : length frame.notes ≤ length f.notes
+
+pub record Stayed (base p : Plain) : Type 0 where
+  pub past : base.next ≤ p.next
+  pub each : (k : ℕ) (f : PlainFrame) → frame_at p k ≡ Some f → f.number < base.next → Was base k f
+
+stayed_step : (base : Plain) (m : Meaning) (p : Plain) (e : Event) (q : Plain) → step m p e ≡ Some q → Stayed base p → Stayed base q
+stayed_step base m p e q h c = by (leaves m p e q h)
+  where
+    by : Leaves m p e q → Stayed base q
+    by (Stays slots next cycle) = record { past = let x = c.past in omega (arith, x, next); each = λ k f at. c.each k f (ap (λ os. get_or os k None) (sym slots) ∙ at) }
+    by (Closes slots next cycle) = record { past = let x = c.past in omega (arith, x, next); each = λ k f at. c.each k f (ap (λ os. get_or os k None) (sym slots) ∙ at) }
+    by (Begins is_begin slots next cycle slaves room) = record {
+      past = let x = c.past in omega (arith, x, next);
+      each = λ k f at low. slot k f (new_or_old k f (ap (λ os. get_or os k None) (sym slots) ∙ at)) low;
+    }
+      where
+        new_or_old : (k : ℕ) (f : PlainFrame) → get_or (filled (new_frames p.next p.outputs 0 m.parts) p.slots) k None ≡ Some f → (f.number ≡ p.next) ⊎ (frame_at p k ≡ Some f)
+        new_or_old k f at = filled_either (new_frames p.next p.outputs 0 m.parts) p.slots (λ i x there. (new_one p.next 0 p.outputs m.parts i x there).number_is) k f at
+
+        slot : (k : ℕ) (f : PlainFrame) → (f.number ≡ p.next) ⊎ (frame_at p k ≡ Some f) → f.number < base.next → Was base k f
+        slot k f (inl new) low = absurd (let x = c.past in omega (arith, x, new, low))
+        slot k f (inr old) low = c.each k f old low
+    by (Moves j g own there inside is) = record {
+      past = let x = c.past in let next = ap (λ (z : Plain). z.next) is in omega (arith, x, next);
+      each = λ k f at low. elim (set_either p.slots j (Some moved_on) k f (ap (λ (z : Plain). frame_at z k) (sym is) ∙ at)) [
+        | inr old ↦ c.each k f old low
+        | inl new ↦ moved k f new.0 (some_same moved_on f new.1) low
+      ];
+    }
+      where
+        moved_on : PlainFrame
+        moved_on = with_note g (met_note m (length g.notes) g (plain_slave p (length g.notes)))
+
+        moved : (k : ℕ) (f : PlainFrame) → k ≡ j → moved_on ≡ f → f.number < base.next → Was base k f
+        moved k f same is_f low =
+            let w = c.each k g (ap (λ (n : ℕ). frame_at p n) same ∙ there) (let e = ap (λ (x : PlainFrame). x.number) is_f in omega (arith, e, low)) in
+            record {
+              frame = w.frame;
+              there = w.there;
+              number_is = w.number_is ∙ ap (λ (x : PlainFrame). x.number) is_f;
+              part_is = w.part_is ∙ ap (λ (x : PlainFrame). x.part) is_f;
+              behind = let a = w.behind in let b = length_push g.notes (met_note m (length g.notes) g (plain_slave p (length g.notes))) in let d = ap (λ (x : PlainFrame). length x.notes) is_f in omega (arith, a, b, d);
+            }
+    by (Loses j own is) = record {
+      past = let x = c.past in let next = ap (λ (z : Plain). z.next) is in omega (arith, x, next);
+      each = λ k f at low. c.each k f (left_old p.slots j k f (ap (λ (z : Plain). frame_at z k) (sym is) ∙ at)) low;
+    }
+    by (Returns j g there is all) = record {
+      past = let x = c.past in let next = ap (λ (z : Plain). z.next) is in omega (arith, x, next);
+      each = λ k f at low. c.each k f (left_old p.slots j k f (ap (λ (z : Plain). frame_at z k) (sym is) ∙ at)) low;
+    }
+
+-- ---- prefixes of one list
+
+prefix : (xs ys a b : List Event) → xs ++ a ≡ ys ++ b → length ys ≤ length xs → (d : List Event) × (xs ≡ ys ++ d)
+prefix xs [] a b e l = (xs, refl)
+prefix [] (y ∷ ys) a b e l = absurd (omega (arith, l))
+prefix (x ∷ xs) (y ∷ ys) a b e l =
+    let r = prefix xs ys a b (tails x y (xs ++ a) (ys ++ b) e) (omega (arith, l)) in
+    (r.0, ap (λ (z : Event). z ∷ xs) (heads x y (xs ++ a) (ys ++ b) e) ∙ ap (λ (zs : List Event). y ∷ zs) r.1)
+  where
+    heads : (x y : Event) (us vs : List Event) → x ∷ us ≡ y ∷ vs → x ≡ y
+    heads x y us vs q = cc
+
+    tails : (x y : Event) (us vs : List Event) → x ∷ us ≡ y ∷ vs → us ≡ vs
+    tails x y us vs q = cc
+
+all_get : (f : Progress) (os : List (Option Progress)) (k : ℕ) → list_all (lets_by f) os ≡ true → lets_by f (get_or os k None) ≡ true
+all_get f [] k h = refl
+all_get f (o ∷ os) zero h = (and_parts (lets_by f o) _ h).0
+all_get f (o ∷ os) (suc k) h = all_get f os k (and_parts (lets_by f o) _ h).1
+
+not_later : (number other part k : ℕ) → is_older (record { number = number; part = part; passed = 0 }) (record { number = other; part = k; passed = 0 }) ≡ true → number ≤ other
+not_later number other part k h = elim (or_cases (nat_lt number other) _ h) [
+  | inl x ↦ (let l = ltb-true number other x in omega (arith, l))
+  | inr x ↦ (let e = eqb-true number other (and_parts (number == other) _ x).0 in omega (arith, e))
+]
+
+frame_of : (x : WorldState) (P : Plain) (k : ℕ) (f : Progress) → Shows x P → progress_at x k ≡ Some f → (g : PlainFrame) × ((frame_at P k ≡ Some g) × (progress_of g ≡ f))
+frame_of x P k f shows at = by (frame_at P k) (sym (same_progress x.slots P.slots k shows.progress) ∙ at)
+  where
+    by : (o : Option PlainFrame) → option_map progress_of o ≡ Some f → (g : PlainFrame) × ((o ≡ Some g) × (progress_of g ≡ f))
+    by None e = absurd (none_some f e)
+    by (Some g) e = (g, (refl, some_same (progress_of g) f e))
+
+pub order_law : OrderLaw
+order_law t ids old events w made n h up more v count on number part other k s x y older = elim (cases_lt (length x.event.before) (length y.event.before)) [
+  | inl l ↦ l
+  | inr late ↦ absurd (clash late)
+]
+  where
+    e : Sees t old events w
+    e = sees t ids old events w made n h up
+
+    M : Meaning
+    M = meaning e.ready.plan
+
+    p : Plain
+    p = (run (meaning e.ready.plan) (plain_of e.ready) e.after).plain
+
+    shown : Shows w p
+    shown = (runs_show e.ready e.after w e.rest e.usable e.onward).shown (plain_of e.ready) e.shows
+
+    plan_is : w.plan ≡ e.ready.plan
+    plan_is = run_plan e.ready e.after w e.rest (plain_of e.ready) e.usable e.onward e.shows
+
+    usable : IsUsable w.plan
+    usable = subst IsUsable (sym plan_is) e.usable
+
+    m : Meaning
+    m = meaning w.plan
+
+    P : List Event → Plain
+    P es = (run m p es).plain
+
+    at_x : Shows x.event.at (P x.event.before)
+    at_x = (runs_show w x.event.before x.event.at x.event.first usable x.event.to_it).shown p shown
+
+    at_y : Shows y.event.at (P y.event.before)
+    at_y = (runs_show w y.event.before y.event.at y.event.first usable y.event.to_it).shown p shown
+
+    base : Plain
+    base = P y.event.before
+
+    f : (g : PlainFrame) × ((frame_at (P x.event.before) x.slot ≡ Some g) × (progress_of g ≡ record { number = number; part = part; passed = s }))
+    f = frame_of x.event.at (P x.event.before) x.slot (record { number = number; part = part; passed = s }) at_x x.frame
+
+    g : (g : PlainFrame) × ((frame_at base y.slot ≡ Some g) × (progress_of g ≡ record { number = other; part = k; passed = s }))
+    g = frame_of y.event.at base y.slot (record { number = other; part = k; passed = s }) at_y y.frame
+
+    below : AreBelow base
+    below = run_always AreBelow m (λ a b d made r. below_step m a b d refl made r) p y.event.before
+        (run_always AreBelow (meaning e.ready.plan) (λ a b d made r. below_step (meaning e.ready.plan) a b d refl made r) (plain_of e.ready) e.after (λ j o at. absurd (none_some o (sym (free_slots e.ready.slots j) ∙ at))))
+
+    clash : length y.event.before ≤ length x.event.before → ⊥
+    clash late =
+        let d = prefix x.event.before y.event.before (Pass x.slot ∷ x.event.behind) (Pass y.slot ∷ y.event.behind) (sym x.event.split ∙ y.event.split) late in
+        let stayed : Stayed base (run m base d.0).plain = run_always (Stayed base) m (λ a b q made r. stayed_step base m a b q made r) base d.0
+        (record { past = omega arith; each = λ j o at low. record { frame = o; there = at; number_is = refl; part_is = refl; behind = omega arith } }) in
+        let there : frame_at (run m base d.0).plain x.slot ≡ Some f.0 = ap (λ (z : Plain). frame_at z x.slot) (sym (run_joins m p y.event.before d.0)) ∙ (ap (λ (es : List Event). frame_at (P es) x.slot) (sym d.1) ∙ f.1.0) in
+        let low : f.0.number < base.next
+        = (let a = below y.slot g.0 g.1.0 in let b = ap (λ (z : Progress). z.number) f.1.1 in let c = ap (λ (z : Progress). z.number) g.1.1 in let l = not_later number other part k older in omega (arith, a, b, c, l)) in
+        let w1 = stayed.each x.slot f.0 there low in
+        let can : may_pass (length y.event.at.slaves) (flights_progress y.event.at.slots) (Some (record { number = other; part = k; passed = s })) ≡ true
+        = ap (λ o. may_pass (length y.event.at.slaves) (flights_progress y.event.at.slots) o) (sym y.frame) ∙ sym y.event.step.can in
+        let lets : lets_by (record { number = other; part = k; passed = s }) (get_or (flights_progress y.event.at.slots) x.slot None) ≡ true
+        = all_get (record { number = other; part = k; passed = s }) (flights_progress y.event.at.slots) x.slot (and_parts (nat_lt s (length y.event.at.slaves)) _ can).1 in
+        let at : get_or (flights_progress y.event.at.slots) x.slot None ≡ Some (progress_of w1.frame)
+        = ap (λ os. get_or os x.slot None) at_y.progress ∙ (get_mapped base.slots x.slot ∙ ap (option_map progress_of) w1.there) in
+        let older1 : is_older (progress_of w1.frame) (record { number = other; part = k; passed = s }) ≡ true
+        = ap (λ (z : ℕ). is_older (record { number = z; part = w1.frame.part; passed = 0 }) (record { number = other; part = k; passed = 0 })) (w1.number_is ∙ ap (λ (z : Progress). z.number) f.1.1)
+        ∙ (ap (λ (z : ℕ). is_older (record { number = number; part = z; passed = 0 }) (record { number = other; part = k; passed = 0 })) (w1.part_is ∙ ap (λ (z : Progress). z.part) f.1.1) ∙ older) in
+        let first : s < length w1.frame.notes = ltb-true s (length w1.frame.notes) (sym (if_true _ _ _ older1) ∙ (ap (lets_by (record { number = other; part = k; passed = s })) (sym at) ∙ lets)) in
+        let b = w1.behind in
+        let c = ap (λ (z : Progress). z.passed) f.1.1 in
+        omega (arith, first, b, c)

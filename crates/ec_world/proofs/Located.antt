@@ -1,0 +1,211 @@
+-- Where the frames of an open cycle are: kept, on their way, or lost in an event since the cycle began.
+use Rattle.std.proofs.Common.{ℕ, ◌+◌, ◌<◌, ◌≤◌, ◌≡◌, ◌==◌, ◌&&◌, Bool, true, false, Option, Some, None, refl, sym, ◌∙◌, ap, subst, inl, inr, arith, List, [], ◌∷◌, ◌++◌, length, map, get_or, set, is_none, if◌then◌else◌, option_map, get_or-set_same, get_or-set_other, length-set}
+use Rattle.std.proofs.lemmas.Bool.{cases_Bool, cases_eq, and_from, eq-eqb}
+use Rattle.std.proofs.lemmas.List.{length-map, append_assoc}
+use Rattle.ec_bits.proofs.AnyLaws.{if_true, if_false}
+use Rattle.ec_link.specs.Meaning.{Meaning}
+use Rattle.ec_cycle.specs.Closing.{nones}
+use Rattle.ec_world.specs.declared.event.Event.{Event}
+use Rattle.ec_world.specs.declared.event.Event.TheVariants.{Begin, Lose}
+use Rattle.ec_world.specs.Plain.{Plain, PlainFrame, Note, Cycle, step, run, frame_at, plain_slave, keeping, filled, new_frames, with_note, met_note}
+use Rattle.ec_world.proofs.Tracing.{mapped, guarded, Leaves, Stays, Begins, Moves, Loses, Returns, Closes, leaves}
+use Rattle.ec_world.proofs.Histories.{run_tells, filled_holds, new_at, as_many, keeping_number}
+use Rattle.ec_world.proofs.Quiet.{IsAway, Away, moved_away}
+
+none_some : {X : Type 0} (x : X) → None ≡ Some x → ⊥
+none_some x e = cc
+
+some_same : {X : Type 0} (x y : X) → Some x ≡ Some y → x ≡ y
+some_same x y e = cc
+
+false_true : false ≡ true → ⊥
+false_true e = cc
+
+-- the frame of part k was lost on the way
+pub record LostAt (m : Meaning) (begun : Plain) (number : ℕ) (done : List Event) (k : ℕ) : Type 0 where
+  pub before : List Event
+  pub slot : ℕ
+  pub behind : List Event
+  pub split : done ≡ before ++ (Lose slot ∷ behind)
+  pub next : Plain
+  pub made : step m (run m begun before).plain (Lose slot) ≡ Some next
+  pub frame : PlainFrame
+  pub there : frame_at (run m begun before).plain slot ≡ Some frame
+  pub is : IsAway number k frame
+
+pub data Place (m : Meaning) (begun : Plain) (number : ℕ) (done : List Event) (slots : List (Option PlainFrame)) (kept : List (Option (List Note))) (k : ℕ) : Type 0 where
+  IsKept : (notes : List Note) → get_or kept k None ≡ Some notes → Place m begun number done slots kept k
+  OnItsWay : Away number k slots → Place m begun number done slots kept k
+  Lost : LostAt m begun number done k → Place m begun number done slots kept k
+
+pub record Located (m : Meaning) (begun : Plain) (number : ℕ) (done : List Event) (p : Plain) : Type 0 where
+  pub past : number < p.next
+  pub each : (c : Cycle) → p.cycle ≡ Some c → c.number ≡ number → (k : ℕ) → k < length c.kept → Place m begun number done p.slots c.kept k
+
+later_lost : (m : Meaning) (begun : Plain) (number : ℕ) (done : List Event) (e : Event) (k : ℕ) → LostAt m begun number done k → LostAt m begun number (done ++ (e ∷ [])) k
+later_lost m begun number done e k h = record {
+  before = h.before;
+  slot = h.slot;
+  behind = h.behind ++ (e ∷ []);
+  split = ap (λ (xs : List Event). xs ++ (e ∷ [])) h.split ∙ append_assoc h.before (Lose h.slot ∷ h.behind) (e ∷ []);
+  next = h.next;
+  made = h.made;
+  frame = h.frame;
+  there = h.there;
+  is = h.is;
+}
+
+later_place : (m : Meaning) (begun : Plain) (number : ℕ) (done : List Event) (e : Event) (slots : List (Option PlainFrame)) (kept : List (Option (List Note))) (k : ℕ)
+    → Place m begun number done slots kept k → Place m begun number (done ++ (e ∷ [])) slots kept k
+later_place m begun number done e slots kept k (IsKept notes h) = IsKept notes h
+later_place m begun number done e slots kept k (OnItsWay a) = OnItsWay a
+later_place m begun number done e slots kept k (Lost l) = Lost (later_lost m begun number done e k l)
+
+still : (m : Meaning) (begun : Plain) (number : ℕ) (done : List Event) (e : Event) (p : Plain) → Located m begun number done p → Located m begun number (done ++ (e ∷ [])) p
+still m begun number done e p h = record { past = h.past; each = λ c at own k l. later_place m begun number done e p.slots c.kept k (h.each c at own k l) }
+
+is_some_or : {X : Type 0} (o : Option X) → is_none o ≡ false → (x : X) × (o ≡ Some x)
+is_some_or None e = absurd (false_true (sym e))
+is_some_or (Some x) e = (x, refl)
+
+-- what is kept stays kept as a frame comes back
+kept_on : (g : PlainFrame) (c : Cycle) (k : ℕ) (notes : List Note) → k < length c.kept → get_or c.kept k None ≡ Some notes → (ns : List Note) × (get_or (keeping g c).kept k None ≡ Some ns)
+kept_on g c k notes l e = elim (cases_Bool ((g.number == c.number) && is_none (get_or c.kept g.part None))) [
+  | inr off ↦ (notes, ap (λ (x : Cycle). get_or x.kept k None) (if_false _ _ _ off) ∙ e)
+  | inl on ↦ elim (cases_eq k g.part) [
+    | inl same ↦ (g.notes, ap (λ (x : Cycle). get_or x.kept k None) (if_true _ _ _ on) ∙ (ap (λ (n : ℕ). get_or (set c.kept g.part (Some g.notes)) n None) same ∙ get_or-set_same c.kept g.part (Some g.notes) None (omega (arith, l, same))))
+    | inr ne ↦ (notes, ap (λ (x : Cycle). get_or x.kept k None) (if_true _ _ _ on) ∙ (get_or-set_other c.kept g.part k (Some g.notes) None ne ∙ e))
+  ]
+]
+
+-- and the frame of part k is kept as it comes back
+kept_now : (g : PlainFrame) (c : Cycle) (k : ℕ) → k < length c.kept → g.number ≡ c.number → g.part ≡ k → (ns : List Note) × (get_or (keeping g c).kept k None ≡ Some ns)
+kept_now g c k l num part = elim (cases_Bool (is_none (get_or c.kept g.part None))) [
+  | inl free ↦ (g.notes, ap (λ (x : Cycle). get_or x.kept k None) (if_true _ _ _ (and_from (g.number == c.number) _ (eq-eqb _ _ num) free)) ∙ (ap (λ (n : ℕ). get_or (set c.kept g.part (Some g.notes)) n None) (sym part) ∙ get_or-set_same c.kept g.part (Some g.notes) None (omega (arith, l, part))))
+  | inr full ↦ (let r = is_some_or (get_or c.kept g.part None) full in kept_on g c k r.0 l (ap (λ (n : ℕ). get_or c.kept n None) (sym part) ∙ r.1))
+]
+
+keeping_length : (g : PlainFrame) (c : Cycle) → length (keeping g c).kept ≡ length c.kept
+keeping_length g c = go ((g.number == c.number) && is_none (get_or c.kept g.part None))
+  where
+    go : (b : Bool) → length (if b then record c { kept = set c.kept g.part (Some g.notes) } else c).kept ≡ length c.kept
+    go true = length-set c.kept g.part (Some g.notes)
+    go false = refl
+
+located_step : (m : Meaning) (begun : Plain) (number : ℕ) (done : List Event) (e : Event) (q : Plain)
+    → step m (run m begun done).plain e ≡ Some q → Located m begun number done (run m begun done).plain → Located m begun number (done ++ (e ∷ [])) q
+located_step m begun number done e q h c = by (leaves m p e q h)
+  where
+    p : Plain
+    p = (run m begun done).plain
+
+    now : Located m begun number (done ++ (e ∷ [])) p
+    now = still m begun number done e p c
+
+    P : List (Option PlainFrame) → List (Option (List Note)) → ℕ → Type 0
+    P slots kept k = Place m begun number (done ++ (e ∷ [])) slots kept k
+
+    by : Leaves m p e q → Located m begun number (done ++ (e ∷ [])) q
+    by (Stays slots next cycle) = record {
+      past = let x = c.past in omega (arith, x, next);
+      each = λ d at own k l. subst (λ os. P os d.kept k) (sym slots) (now.each d (sym cycle ∙ at) own k l);
+    }
+    by (Closes slots next cycle) = record {
+      past = let x = c.past in omega (arith, x, next);
+      each = λ d at own k l. absurd (none_some d (sym cycle ∙ at));
+    }
+    by (Begins is_begin slots next cycle slaves room) = record {
+      past = let x = c.past in omega (arith, x, next);
+      each = λ d at own k l. absurd (let n = ap (λ (x : Cycle). x.number) (some_same _ d (sym cycle ∙ at)) in let x = c.past in omega (arith, x, n, own));
+    }
+    by (Moves j g own there inside is) = record {
+      past = let x = c.past in let next = ap (λ (z : Plain). z.next) is in omega (arith, x, next);
+      each = λ d at num k l. subst (λ os. P os d.kept k) (sym (ap (λ (z : Plain). z.slots) is)) (move d.kept k (now.each d (sym (ap (λ (z : Plain). z.cycle) is) ∙ at) num k l));
+    }
+      where
+        moved_on : PlainFrame
+        moved_on = with_note g (met_note m (length g.notes) g (plain_slave p (length g.notes)))
+
+        move : (kept : List (Option (List Note))) (k : ℕ) → P p.slots kept k → P (set p.slots j (Some moved_on)) kept k
+        move kept k (IsKept notes x) = IsKept notes x
+        move kept k (OnItsWay a) = OnItsWay (moved_away number k p.slots j g moved_on there refl refl a.slot a.frame a.there a.is)
+        move kept k (Lost x) = Lost x
+    by (Loses j own is) = record {
+      past = let x = c.past in let next = ap (λ (z : Plain). z.next) is in omega (arith, x, next);
+      each = λ d at num k l. subst (λ os. P os d.kept k) (sym (ap (λ (z : Plain). z.slots) is)) (lose d.kept k (now.each d (sym (ap (λ (z : Plain). z.cycle) is) ∙ at) num k l));
+    }
+      where
+        lose : (kept : List (Option (List Note))) (k : ℕ) → P p.slots kept k → P (set p.slots j None) kept k
+        lose kept k (IsKept notes x) = IsKept notes x
+        lose kept k (Lost x) = Lost x
+        lose kept k (OnItsWay a) = elim (cases_eq a.slot j) [
+          | inr ne ↦ OnItsWay (record { slot = a.slot; frame = a.frame; there = get_or-set_other p.slots j a.slot None None ne ∙ a.there; is = a.is })
+          | inl same ↦ Lost (record {
+            before = done;
+            slot = j;
+            behind = [];
+            split = ap (λ (x : Event). done ++ (x ∷ [])) own;
+            next = q;
+            made = subst (λ (x : Event). step m p x ≡ Some q) own h;
+            frame = a.frame;
+            there = ap (λ (n : ℕ). frame_at p n) (sym same) ∙ a.there;
+            is = a.is;
+          })
+        ]
+    by (Returns j g there is all) = record {
+      past = let x = c.past in let next = ap (λ (z : Plain). z.next) is in omega (arith, x, next);
+      each = λ d at own k l. subst (λ os. P os d.kept k) (sym (ap (λ (z : Plain). z.slots) is)) (back d (sym (ap (λ (z : Plain). z.cycle) is) ∙ at) own k l);
+    }
+      where
+        come : (r : Cycle) (k : ℕ) → k < length r.kept → r.number ≡ number → P p.slots r.kept k → P (set p.slots j None) (keeping g r).kept k
+        come r k l num (IsKept notes x) = let y = kept_on g r k notes l x in IsKept y.0 y.1
+        come r k l num (Lost x) = Lost x
+        come r k l num (OnItsWay a) = elim (cases_eq a.slot j) [
+          | inr ne ↦ OnItsWay (record { slot = a.slot; frame = a.frame; there = get_or-set_other p.slots j a.slot None None ne ∙ a.there; is = a.is })
+          | inl same ↦ (
+              let one : a.frame ≡ g = some_same a.frame g (sym a.there ∙ (ap (λ (n : ℕ). frame_at p n) same ∙ there)) in
+              let y = kept_now g r k l (sym (ap (λ (x : PlainFrame). x.number) one) ∙ (a.is.number_is ∙ sym num)) (sym (ap (λ (x : PlainFrame). x.part) one) ∙ a.is.part_is) in
+              IsKept y.0 y.1)
+        ]
+
+        back : (d : Cycle) → option_map (keeping g) p.cycle ≡ Some d → d.number ≡ number → (k : ℕ) → k < length d.kept → P (set p.slots j None) d.kept k
+        back d at own k l =
+            let r = mapped (keeping g) p.cycle d at in
+            let num : r.value.number ≡ number = sym (keeping_number g r.value) ∙ (ap (λ (x : Cycle). x.number) r.is ∙ own) in
+            let few : k < length r.value.kept = let x = keeping_length g r.value in let y = ap (λ (z : Cycle). length z.kept) r.is in omega (arith, l, x, y) in
+            subst (λ (z : Cycle). P (set p.slots j None) z.kept k) r.is (come r.value k few num (now.each r.value r.there num k few))
+
+located_begun : (m : Meaning) (p begun : Plain) → step m p Begin ≡ Some begun → Located m begun p.next [] begun
+located_begun m p begun h = by (leaves m p Begin begun h)
+  where
+    is : record p {
+      next = p.next + 1;
+      cycle = Some (record { number = p.next; kept = map (λ v. None) m.parts });
+      slots = filled (new_frames p.next p.outputs 0 m.parts) p.slots;
+    } ≡ begun
+    is = guarded _ _ begun h
+
+    made : length m.parts ≤ nones p.slots → Located m begun p.next [] begun
+    made room = record {
+      past = let next = ap (λ (x : Plain). x.next) is in omega (arith, next);
+      each = λ d at own k l. OnItsWay (subst (λ (x : Plain). Away p.next k x.slots) is
+          (let same = some_same _ d (ap (λ (x : Plain). x.cycle) is ∙ at) in
+          let few : k < length m.parts = let n = ap (λ (x : Cycle). length x.kept) same in let z = length-map {A = ℕ} {B = Option (List Note)} m.parts (λ v. None) in omega (arith, l, n, z) in
+          let f = new_at p.next 0 p.outputs m.parts k few in
+          let r = filled_holds (new_frames p.next p.outputs 0 m.parts) p.slots k _ (omega (arith, room, as_many p.next 0 p.outputs m.parts)) f in
+          record { slot = r.0; frame = _; there = r.1; is = record { number_is = refl; part_is = omega arith } }));
+    }
+
+    by : Leaves m p Begin begun → Located m begun p.next [] begun
+    by (Stays slots next cycle) = absurd (let n = ap (λ (x : Plain). x.next) is in omega (arith, next, n))
+    by (Closes slots next cycle) = absurd (let n = ap (λ (x : Plain). x.next) is in omega (arith, next, n))
+    by (Begins is_begin slots next cycle slaves room) = made room
+    by (Moves j g own there inside q) = absurd (let n = ap (λ (x : Plain). x.next) is in let o = ap (λ (x : Plain). x.next) q in omega (arith, o, n))
+    by (Loses j own q) = absurd (let n = ap (λ (x : Plain). x.next) is in let o = ap (λ (x : Plain). x.next) q in omega (arith, o, n))
+    by (Returns j g there q all) = absurd (let n = ap (λ (x : Plain). x.next) is in let o = ap (λ (x : Plain). x.next) q in omega (arith, o, n))
+
+pub located : (m : Meaning) (p begun : Plain) (after : List Event) → step m p Begin ≡ Some begun → Located m begun p.next after (run m begun after).plain
+located m p begun after h = run_tells (Located m begun p.next) m begun after
+    (λ before behind e q is made r. located_step m begun p.next before e q made r)
+    (λ before e r. still m begun p.next before e (run m begun before).plain r)
+    (located_begun m p begun h)

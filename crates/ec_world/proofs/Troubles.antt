@@ -1,0 +1,138 @@
+-- A slave that is not in OP any more had a fault or a reset, and no start-up began since.
+use Rattle.std.proofs.Common.{ℕ, ◌+◌, ◌≡◌, ◌≢◌, ◌⊎◌, ◌&&◌, Bool, true, false, Option, Some, None, refl, sym, ◌∙◌, ap, subst, inl, inr, List, [], ◌∷◌, ◌++◌, get_or, set, is_some, unwrap_or}
+use Rattle.std.proofs.lemmas.Bool.{cases_eq}
+use Rattle.std.proofs.lemmas.List.{append_assoc}
+use Rattle.ec_link.specs.Meaning.{Meaning, meaning}
+use Rattle.ec_link.specs.Plan.{PlanState}
+use Rattle.ec_link.specs.Usable.{IsUsable}
+use Rattle.ec_world.specs.declared.event.Event.{Event}
+use Rattle.ec_world.specs.declared.event.Event.TheVariants.{StartNext, Set, Begin, Pass, Lose, Return, Close, Serve, AppPut, AppGet, Fault, Reset as ResetSlave}
+use Rattle.ec_world.specs.Plain.{Plain, PlainSlave, Health, Working, Faulted, Reset, step, run, plain_slave, no_plain_slave}
+use Rattle.ec_world.specs.World.{WorldState, IsStep}
+use Rattle.ec_world.specs.Shows.{Shows}
+use Rattle.ec_world.specs.Laws.{IsRun, StepShows}
+use Rattle.ec_world.specs.Headline.{HadTrouble, IsRunWithoutStart, begins_start}
+use Rattle.ec_world.proofs.Tracing.{Treats, Same, Uses, Fails, Resets, treats}
+use Rattle.ec_world.proofs.Histories.{used_health, other_health}
+use Rattle.ec_world.proofs.Runs.{runs_join}
+use Rattle.ec_world.proofs.StepLaws.{steps_show}
+use Rattle.ec_world.proofs.Origins.{more}
+
+-- ---- a Ready world begins no start-up
+
+and_false : (b : Bool) → (b && false) ≡ false
+and_false true = refl
+and_false false = refl
+
+none_begins : (m : Meaning) (p : Plain) (w : WorldState) (b : Bool) (e : Event) → b ≡ is_some (step m p e) → (b && begins_start w e) ≡ false
+none_begins m p w b StartNext h = ap (λ (x : Bool). x && begins_start w StartNext) h
+none_begins m p w b (Set v x) h = and_false b
+none_begins m p w b Begin h = and_false b
+none_begins m p w b (Pass k) h = and_false b
+none_begins m p w b (Lose k) h = and_false b
+none_begins m p w b (Return k) h = and_false b
+none_begins m p w b Close h = and_false b
+none_begins m p w b (Serve s) h = and_false b
+none_begins m p w b (AppPut s i x) h = and_false b
+none_begins m p w b (AppGet s i) h = and_false b
+none_begins m p w b (Fault s) h = and_false b
+none_begins m p w b (ResetSlave s) h = and_false b
+
+pub without_start : (es : List Event) (old new : WorldState) (made : ℕ) (p : Plain) → IsUsable old.plan → Shows old p → IsRun old es new made → IsRunWithoutStart old es new
+without_start [] old new made p sound s h = h.0
+without_start (e ∷ es) old new made p sound s h =
+    let one = steps_show old e h.0 h.1 sound h.3 in
+    (h.0, h.1, h.3, none_begins (meaning old.plan) p old h.1 e (one.made_is p s), without_start es h.0 new h.2 _ (subst IsUsable (sym (one.same_plan p s)) sound) (one.shown p s) h.4)
+
+joined : (xs ys : List Event) (a b c : WorldState) → IsRunWithoutStart a xs b → IsRunWithoutStart b ys c → IsRunWithoutStart a (xs ++ ys) c
+joined [] ys a b c h g = subst (λ (w : WorldState). IsRunWithoutStart w ys c) h g
+joined (x ∷ xs) ys a b c h g = (h.0, h.1, h.2, h.3, joined xs ys h.0 b c h.4 g)
+
+pub extended : (old : WorldState) (done : List Event) (mid : WorldState) (es : List Event) (new : WorldState) (made i : ℕ) → IsRun mid es new made → IsRunWithoutStart mid es new → HadTrouble old done mid i → HadTrouble old (done ++ es) new i
+extended old done mid es new made i run without h = record {
+  event = h.event;
+  what = h.what;
+  made = record {
+    before = h.made.before;
+    behind = h.made.behind ++ es;
+    split = ap (λ (xs : List Event). xs ++ es) h.made.split ∙ append_assoc h.made.before (h.event ∷ h.made.behind) es;
+    at = h.made.at;
+    next = h.made.next;
+    first = h.made.first;
+    rest = h.made.rest + made;
+    to_it = h.made.to_it;
+    step = h.made.step;
+    onward = runs_join h.made.next h.made.behind mid h.made.rest es new made h.made.onward run;
+  };
+  since = joined h.made.behind es h.made.next mid new h.since without;
+}
+
+pub preceded : (done : List Event) (old mid : WorldState) (count : ℕ) (es : List Event) (new : WorldState) (i : ℕ) → IsRun old done mid count → HadTrouble mid es new i → HadTrouble old (done ++ es) new i
+preceded [] old mid count es new i h t = subst (λ (w : WorldState). HadTrouble w es new i) h.0 t
+preceded (e ∷ done) old mid count es new i h t = more old e h.0 h.1 (done ++ es) new i h.3 (preceded done h.0 mid h.2 es new i h.4 t)
+
+-- ---- who doesn't work any more
+
+works_or : (h : Health) → (h ≡ Working) ⊎ (h ≢ Working)
+works_or Working = inl refl
+works_or Faulted = inr (λ e. let z : Faulted ≡ Working = e in cc)
+works_or Reset = inr (λ e. let z : Reset ≡ Working = e in cc)
+
+stopped : (m : Meaning) (p : Plain) (e : Event) (q : Plain) (i : ℕ) → step m p e ≡ Some q → (plain_slave p i).health ≡ Working → (plain_slave q i).health ≢ Working → (e ≡ Fault i) ⊎ (e ≡ ResetSlave i)
+stopped m p e q i h was bad = by (treats m p e q h)
+  where
+    in_slaves : (qs : List PlainSlave) → q.slaves ≡ qs → (plain_slave q i).health ≡ (get_or qs i no_plain_slave).health
+    in_slaves qs is = ap (λ (xs : List PlainSlave). (get_or xs i no_plain_slave).health) is
+
+    by : Treats m p e q → (e ≡ Fault i) ⊎ (e ≡ ResetSlave i)
+    by (Same is) = absurd (bad (in_slaves p.slaves is ∙ was))
+    by (Uses t y is own) = absurd (bad (in_slaves (set p.slaves t y) is ∙ (used_health p.slaves t y i own ∙ was)))
+    by (Fails t y own is now before) = elim (cases_eq i t) [
+      | inl same ↦ inl (own ∙ ap (λ (n : ℕ). Fault n) (sym same))
+      | inr ne ↦ absurd (bad (in_slaves (set p.slaves t y) is ∙ (other_health p.slaves t y i ne ∙ was)))
+    ]
+    by (Resets t y own is now) = elim (cases_eq i t) [
+      | inl same ↦ inr (own ∙ ap (λ (n : ℕ). ResetSlave n) (sym same))
+      | inr ne ↦ absurd (bad (in_slaves (set p.slaves t y) is ∙ (other_health p.slaves t y i ne ∙ was)))
+    ]
+
+pub falls : (es : List Event) (old new : WorldState) (made : ℕ) (p : Plain) (i : ℕ) → IsUsable old.plan → Shows old p → IsRun old es new made
+    → (plain_slave p i).health ≡ Working → (plain_slave (run (meaning old.plan) p es).plain i).health ≢ Working → HadTrouble old es new i
+falls [] old new made p i sound s h was bad = absurd (bad was)
+falls (e ∷ es) old new made p i sound s h was bad = elim (works_or (plain_slave next i).health) [
+  | inl works ↦ more old e h.0 h.1 es new i h.3
+      (falls es h.0 new h.2 next i usable (one.shown p s) h.4 works (subst (λ (x : PlanState). (plain_slave (run (meaning x) next es).plain i).health ≢ Working) (sym same) bad))
+  | inr stops ↦ go (step (meaning old.plan) p e) refl stops
+]
+  where
+    one : StepShows old e h.0 h.1
+    one = steps_show old e h.0 h.1 sound h.3
+
+    same : h.0.plan ≡ old.plan
+    same = one.same_plan p s
+
+    usable : IsUsable h.0.plan
+    usable = subst IsUsable (sym same) sound
+
+    next : Plain
+    next = unwrap_or (step (meaning old.plan) p e) p
+
+    go : (o : Option Plain) → step (meaning old.plan) p e ≡ o → (plain_slave (unwrap_or (step (meaning old.plan) p e) p) i).health ≢ Working → HadTrouble old (e ∷ es) new i
+    go None q stops = absurd (stops (ap (λ x. (plain_slave (unwrap_or x p) i).health) q ∙ was))
+    go (Some x) q stops = record {
+      event = e;
+      what = stopped (meaning old.plan) p e x i q was (λ z. stops (ap (λ y. (plain_slave (unwrap_or y p) i).health) q ∙ z));
+      made = record {
+        before = [];
+        behind = es;
+        split = refl;
+        at = old;
+        next = h.0;
+        first = 0;
+        rest = h.2;
+        to_it = (refl, refl);
+        step = subst (IsStep old e h.0) (one.made_is p s ∙ ap (λ o. is_some o) q) h.3;
+        onward = h.4;
+      };
+      since = without_start es h.0 new h.2 _ usable (one.shown p s) h.4;
+    }

@@ -1,0 +1,289 @@
+-- Turns of a start-up that nothing disturbs, in any order of the slaves' firmware steps behind the frame.
+use Rattle.std.proofs.Common.{ℕ, zero, suc, ◌+◌, ◌<◌, ◌≡◌, nat_lt, Bool, true, false, if◌then◌else◌, None, refl, sym, ◌∙◌, ap, subst, arith, List, [], ◌∷◌, ◌++◌, length, get_or, set, map, replicate, length-set}
+use Rattle.std.proofs.lemmas.Bool.{lt-ltb}
+use Rattle.std.proofs.lemmas.List.{length-replicate}
+use Rattle.ec_frame.specs.Datagram.{Datagram, IsDatagram}
+use Rattle.ec_slave.specs.State.{SlaveState}
+use Rattle.ec_slave.specs.Meeting.{slave_met, datagram_met}
+use Rattle.ec_slave.specs.Serving.{served}
+use Rattle.ec_cycle.specs.Master.{MasterState}
+use Rattle.ec_start.specs.Actions.{datagram_of}
+use Rattle.ec_start.specs.Running.{StartState, action_of, sending, taken}
+use Rattle.ec_rise.specs.Starting.{Carried}
+use Rattle.ec_rise.specs.Undisturbed.{all_passed, all_met, Rising, turned}
+use Rattle.ec_world.specs.declared.event.Event.{Event}
+use Rattle.ec_world.specs.declared.event.Event.TheVariants.{StartNext, Pass, Return, Serve}
+use Rattle.ec_world.specs.World.{WorldState, no_slave, slave_of, ready_with, IsStep, with_slave, can_happen}
+use Rattle.ec_world.specs.Laws.{IsRun}
+use Rattle.ec_world.specs.NewWorld.{IsRest, Passes, Returns, Serves, Ends, IsTurn, rising_of}
+use Rattle.ec_world.proofs.Turning.{InSlot, one-past, send-one, return-one, Sending, rising-by, push-one, length-push}
+
+true_false : true ≡ false → ⊥
+true_false e = cc
+
+-- ---- the slaves that the frame has passed: those that are marked have served since
+
+abbrev mixed : List Bool → List SlaveState → List SlaveState
+mixed [] ss = []
+mixed (b ∷ bs) [] = []
+mixed (b ∷ bs) (s ∷ ss) = (if b then served s else s) ∷ mixed bs ss
+
+mixed_length : (bs : List Bool) (ss : List SlaveState) → length bs ≡ length ss → length (mixed bs ss) ≡ length ss
+mixed_length [] [] e = refl
+mixed_length [] (s ∷ ss) e = absurd (omega (arith, e))
+mixed_length (b ∷ bs) [] e = absurd (omega (arith, e))
+mixed_length (b ∷ bs) (s ∷ ss) e = ap (λ (n : ℕ). suc n) (mixed_length bs ss (omega (arith, e)))
+
+mixed_push : (bs : List Bool) (ss : List SlaveState) (s : SlaveState) → length bs ≡ length ss → mixed (bs ++ (false ∷ [])) (ss ++ (s ∷ [])) ≡ mixed bs ss ++ (s ∷ [])
+mixed_push [] [] s e = refl
+mixed_push [] (x ∷ ss) s e = absurd (omega (arith, e))
+mixed_push (b ∷ bs) [] s e = absurd (omega (arith, e))
+mixed_push (b ∷ bs) (x ∷ ss) s e = ap (λ (xs : List SlaveState). (if b then served x else x) ∷ xs) (mixed_push bs ss s (omega (arith, e)))
+
+mixed_all : (ss : List SlaveState) → mixed (replicate (length ss) true) ss ≡ map served ss
+mixed_all [] = refl
+mixed_all (s ∷ ss) = ap (λ (xs : List SlaveState). served s ∷ xs) (mixed_all ss)
+
+marked_below : (bs : List Bool) (s : ℕ) → get_or bs s true ≡ false → s < length bs
+marked_below [] s h = absurd (true_false h)
+marked_below (b ∷ bs) zero h = omega arith
+marked_below (b ∷ bs) (suc s) h = let l = marked_below bs s h in omega (arith, l)
+
+mixed_set : (bs : List Bool) (ss tail : List SlaveState) (s : ℕ) → length bs ≡ length ss → get_or bs s true ≡ false
+    → set (mixed bs ss ++ tail) s (served (get_or (mixed bs ss ++ tail) s no_slave)) ≡ mixed (set bs s true) ss ++ tail
+mixed_set [] ss tail s e h = absurd (true_false h)
+mixed_set (b ∷ bs) [] tail s e h = absurd (omega (arith, e))
+mixed_set (false ∷ bs) (x ∷ ss) tail zero e h = refl
+mixed_set (true ∷ bs) (x ∷ ss) tail zero e h = absurd (true_false h)
+mixed_set (b ∷ bs) (x ∷ ss) tail (suc s) e h = ap (λ (xs : List SlaveState). (if b then served x else x) ∷ xs) (mixed_set bs ss tail s (omega (arith, e)) h)
+
+length_both : (xs ys : List SlaveState) → length (xs ++ ys) ≡ length xs + length ys
+length_both [] ys = omega arith
+length_both (x ∷ xs) ys = let e = length_both xs ys in omega (arith, e)
+
+-- ---- events as far as they can be made
+
+abbrev pub Onward : Bool → Type 0 → Type 0 → Type 0
+Onward true x y = x
+Onward false x y = y
+
+-- `all` says whether each was made; it ends at the first that wasn't
+abbrev pub Goes : List Event → WorldState → WorldState → Bool → Type 0
+Goes [] old new all = (new ≡ old) × (all ≡ true)
+Goes (e ∷ es) old new all = (mid : WorldState) × (one : Bool) × IsStep old e mid one × Onward one (Goes es mid new all) ((new ≡ mid) × (all ≡ false))
+
+onward : {X : Type 0} (Y : Type 0) (one : Bool) → one ≡ true → Onward one X Y → X
+onward Y true e h = h
+onward Y false e h = absurd (true_false (sym e))
+
+-- a run is one such, if each was
+record RunGoes (es : List Event) (w v : WorldState) (made : ℕ) : Type 0 where
+  new : WorldState
+  all : Bool
+  goes : Goes es w new all
+  whole : all ≡ true → (new ≡ v) × (made ≡ length es)
+
+more_goes : (e : Event) (es : List Event) (w mid v : WorldState) (one : Bool) (rest made : ℕ) → IsStep w e mid one → made ≡ (if one then 1 else 0) + rest → RunGoes es mid v rest → RunGoes (e ∷ es) w v made
+more_goes e es w mid v true rest made step sum r =
+    record { new = r.new; all = r.all; goes = (mid, true, step, r.goes); whole = λ a. ((r.whole a).0, let n = (r.whole a).1 in omega (arith, sum, n)) }
+more_goes e es w mid v false rest made step sum r = record { new = mid; all = false; goes = (mid, false, step, (refl, refl)); whole = λ a. absurd (true_false (sym a)) }
+
+run_goes : (es : List Event) (w v : WorldState) (made : ℕ) → IsRun w es v made → RunGoes es w v made
+run_goes [] w v made h = record { new = v; all = true; goes = (h.0, refl); whole = λ a. (refl, h.1) }
+run_goes (e ∷ es) w v made h = more_goes e es w h.0 v h.1 h.2 made h.3 h.5 (run_goes es h.0 v h.2 h.4)
+
+-- ---- a firmware step
+
+record OneServed (m : WorldState) (s : ℕ) (u : WorldState) (one : Bool) : Type 0 where
+  made : one ≡ true
+  is : u ≡ with_slave m s (served (slave_of m s))
+
+one_served : (m : WorldState) (s : ℕ) (u : WorldState) (one : Bool) (marks : List Bool) (pre tail : List SlaveState) → length marks ≡ length pre → get_or marks s true ≡ false
+    → m.slaves ≡ mixed marks pre ++ tail → IsStep m (Serve s) u one → OneServed m s u one
+one_served m s u one marks pre tail many free slaves step =
+    let below = marked_below marks s free in
+    let long = mixed_length marks pre many in
+    let both = length_both (mixed marks pre) tail in
+    let inside : s < length (mixed marks pre ++ tail) = omega (arith, below, long, both, many) in
+    let can : can_happen m (Serve s) ≡ true = ap (λ (xs : List SlaveState). nat_lt s (length xs)) slaves ∙ lt-ltb s (length (mixed marks pre ++ tail)) inside in
+    record { made = step.can ∙ can; is = step.happens (step.can ∙ can) }
+
+now_served : (m u : WorldState) (s : ℕ) (one : Bool) (marks : List Bool) (pre tail : List SlaveState) → length marks ≡ length pre → get_or marks s true ≡ false
+    → m.slaves ≡ mixed marks pre ++ tail → OneServed m s u one → u.slaves ≡ mixed (set marks s true) pre ++ tail
+now_served m u s one marks pre tail many free slaves o =
+    ap (λ (x : WorldState). x.slaves) o.is
+    ∙ (ap (λ (xs : List SlaveState). set xs s (served (get_or xs s no_slave))) slaves ∙ mixed_set marks pre tail s many free)
+
+-- ---- a turn
+
+-- its datagram as it is sent
+abbrev first : StartState → Datagram
+first s = datagram_of (action_of s) s.next
+
+-- the frame, of a start-up in this state, has passed some slaves
+record Under (n : ℕ) (w : WorldState) (s : StartState) (m : WorldState) (marks : List Bool) (pre tail : List SlaveState) (d : Datagram) : Type 0 where
+  start : m.start ≡ sending s
+  marked : length marks ≡ length pre
+  slaves : m.slaves ≡ mixed marks pre ++ tail
+  slot : InSlot n m (record { number = s.next; passed = length pre; datagram = d })
+  ends : all_passed tail d ≡ all_passed w.slaves (first s)
+  met : pre ++ all_met tail d ≡ all_met w.slaves (first s)
+  many : length pre + length tail ≡ length w.slaves
+  master : m.master ≡ w.master
+
+-- and it is back
+record Back (n : ℕ) (w : WorldState) (s : StartState) (m : WorldState) (marks : List Bool) (pre : List SlaveState) : Type 0 where
+  start : m.start ≡ taken (sending s) (all_passed w.slaves (first s))
+  marked : length marks ≡ length pre
+  slaves : m.slaves ≡ mixed marks pre ++ []
+  met : pre ≡ all_met w.slaves (first s)
+  slots : m.slots ≡ None ∷ replicate n None
+  master : m.master ≡ ready_with w.master m.start
+
+pub record HasTurned (n : ℕ) (w : WorldState) (s : StartState) (v : WorldState) : Type 0 where
+  pub is : (let r : Rising = record { start = s; slaves = w.slaves } in rising_of v ≡ turned r)
+  pub slots : v.slots ≡ None ∷ replicate n None
+  pub master : v.master ≡ ready_with w.master v.start
+
+append_none : (xs : List SlaveState) → xs ++ [] ≡ xs
+append_none [] = refl
+append_none (x ∷ xs) = ap (λ (ys : List SlaveState). x ∷ ys) (append_none xs)
+
+-- what an event that is made leads to
+next : (e : Event) (es : List Event) (m v : WorldState) (all : Bool) (h : Goes (e ∷ es) m v all) → h.1 ≡ true → Goes es h.0 v all
+next e es m v all h made = onward ((v ≡ h.0) × (all ≡ false)) h.1 made h.3
+
+back_goes : (n : ℕ) (w : WorldState) (s : StartState) (m v : WorldState) (marks : List Bool) (back : Bool) (pre : List SlaveState) (es : List Event) (all : Bool)
+    → IsRest (length w.slaves) marks back es → back ≡ true → Back n w s m marks pre → Goes es m v all → (all ≡ true) × HasTurned n w s v
+back_goes n w s m v marks back pre es all (Passes ms xs l rest) e b h = absurd (true_false (sym e))
+back_goes n w s m v marks back pre es all (Returns ms xs l rest) e b h = absurd (true_false (sym e))
+back_goes n w s m v marks back pre es all (Serves ms bk k xs free rest) e b h =
+    let o = one_served m k h.0 h.1 marks pre [] b.marked free b.slaves h.2 in
+    back_goes n w s h.0 v (set marks k true) back pre xs all rest e (record {
+      start = ap (λ (x : WorldState). x.start) o.is ∙ b.start;
+      marked = length-set marks k true ∙ b.marked;
+      slaves = now_served m h.0 k h.1 marks pre [] b.marked free b.slaves o;
+      met = b.met;
+      slots = ap (λ (x : WorldState). x.slots) o.is ∙ b.slots;
+      master = ap (λ (x : WorldState). x.master) o.is ∙ (b.master ∙ ap (λ (x : WorldState). ready_with w.master x.start) (sym o.is));
+    }) (next (Serve k) xs m v all h o.made)
+back_goes n w s m v marks back pre es all (Ends ms served_all) e b h =
+    let long : length w.slaves ≡ length pre = sym (length-replicate {A = Bool} (length w.slaves) true) ∙ (ap (λ (xs : List Bool). length xs) (sym served_all) ∙ b.marked) in
+    let full : marks ≡ replicate (length pre) true = served_all ∙ ap (λ (k : ℕ). replicate k true) long in (
+      h.1,
+      record {
+        is = rising-by v.start (taken (sending s) (all_passed w.slaves (first s))) v.slaves (map served (all_met w.slaves (first s)))
+            (ap (λ (x : WorldState). x.start) h.0 ∙ b.start)
+            (ap (λ (x : WorldState). x.slaves) h.0
+            ∙ (b.slaves ∙ (append_none (mixed marks pre) ∙ (ap (λ (bs : List Bool). mixed bs pre) full ∙ (mixed_all pre ∙ ap (λ (xs : List SlaveState). map served xs) b.met)))));
+        slots = ap (λ (x : WorldState). x.slots) h.0 ∙ b.slots;
+        master = ap (λ (x : WorldState). x.master) h.0 ∙ (b.master ∙ ap (λ (x : WorldState). ready_with w.master x.start) (sym h.0));
+      },
+    )
+
+-- the frame comes back, past no slave more
+comes_back : (n : ℕ) (w : WorldState) (s : StartState) (m u : WorldState) (one : Bool) (marks : List Bool) (pre tail : List SlaveState) (d : Datagram) → length marks ≡ length w.slaves
+    → IsDatagram (first s) → Under n w s m marks pre tail d → IsStep m (Return 0) u one → (one ≡ true) × Back n w s u marks pre
+comes_back n w s m u one marks pre (t ∷ tail) d l good b step = absurd (let a = b.marked in let c = b.many in omega (arith, a, c, l))
+comes_back n w s m u one marks pre [] d l good b step =
+    let long : length pre ≡ length m.slaves
+    = sym (mixed_length marks pre b.marked) ∙ ap (λ (xs : List SlaveState). length xs) (sym (append_none (mixed marks pre)) ∙ sym b.slaves) in
+    let slot : InSlot n m (record { number = s.next; passed = length pre; datagram = all_passed w.slaves (first s) })
+    = subst (λ (x : Datagram). InSlot n m (record { number = s.next; passed = length pre; datagram = x })) b.ends b.slot in
+    let o = return-one n m s w.slaves (length pre) u one slot long b.start good step in (
+      o.made,
+      record {
+        start = o.start;
+        marked = b.marked;
+        slaves = o.slaves ∙ b.slaves;
+        met = sym (append_none pre) ∙ b.met;
+        slots = o.slots;
+        master = o.master ∙ ap (λ (x : MasterState). ready_with x u.start) b.master;
+      },
+    )
+
+-- the frame passes one slave more
+record HasGoneOn (n : ℕ) (w : WorldState) (s : StartState) (u : WorldState) (one : Bool) (marks : List Bool) : Type 0 where
+  made : one ≡ true
+  pre : List SlaveState
+  tail : List SlaveState
+  d : Datagram
+  under : Under n w s u marks pre tail d
+
+goes_on : (n : ℕ) (w : WorldState) (s : StartState) (m u : WorldState) (one : Bool) (marks : List Bool) (pre tail : List SlaveState) (d : Datagram) → length marks < length w.slaves
+    → Under n w s m marks pre tail d → IsStep m (Pass 0) u one → HasGoneOn n w s u one (marks ++ (false ∷ []))
+goes_on n w s m u one marks pre [] d l b step = absurd (let a = b.marked in let c = b.many in omega (arith, a, c, l))
+goes_on n w s m u one marks pre (t ∷ tail) d l b step =
+    let c : Carried = record { number = s.next; passed = length pre; datagram = d } in
+    let o = one-past n m c (mixed marks pre) t tail u one b.slot (sym (mixed_length marks pre b.marked)) b.slaves step in
+    let t2 : SlaveState = slave_met t d in
+    let z : length pre + 1 ≡ length (pre ++ (t2 ∷ [])) = sym (length-push pre t2) in
+    record {
+      made = o.made;
+      pre = pre ++ (t2 ∷ []);
+      tail = tail;
+      d = datagram_met t d;
+      under = record {
+        start = o.start ∙ b.start;
+        marked = length-mark marks ∙ (ap (λ (k : ℕ). k + 1) b.marked ∙ z);
+        slaves = o.slaves ∙ (push-one (mixed marks pre) t2 tail ∙ ap (λ (xs : List SlaveState). xs ++ tail) (sym (mixed_push marks pre t2 b.marked)));
+        slot = subst (λ (k : ℕ). InSlot n u (record { number = s.next; passed = k; datagram = datagram_met t d })) z o.slot;
+        ends = b.ends;
+        met = sym (push-one pre t2 (all_met tail (datagram_met t d))) ∙ b.met;
+        many = let e = b.many in omega (arith, e, z);
+        master = o.master ∙ b.master;
+      };
+    }
+  where
+    length-mark : (bs : List Bool) → length (bs ++ (false ∷ [])) ≡ length bs + 1
+    length-mark [] = refl
+    length-mark (x ∷ bs) = let e = length-mark bs in omega (arith, e)
+
+under_goes : (n : ℕ) (w : WorldState) (s : StartState) (m v : WorldState) (marks : List Bool) (back : Bool) (pre tail : List SlaveState) (d : Datagram) (es : List Event) (all : Bool)
+    → IsDatagram (first s) → IsRest (length w.slaves) marks back es → back ≡ false → Under n w s m marks pre tail d → Goes es m v all → (all ≡ true) × HasTurned n w s v
+under_goes n w s m v marks back pre tail d es all good (Passes ms xs l rest) e b h =
+    let o = goes_on n w s m h.0 h.1 marks pre tail d l b h.2 in
+    under_goes n w s h.0 v (marks ++ (false ∷ [])) false o.pre o.tail o.d xs all good rest refl o.under (next (Pass 0) xs m v all h o.made)
+under_goes n w s m v marks back pre tail d es all good (Returns ms xs l rest) e b h =
+    let o = comes_back n w s m h.0 h.1 marks pre tail d l good b h.2 in
+    back_goes n w s h.0 v marks true pre xs all rest refl o.1 (next (Return 0) xs m v all h o.0)
+under_goes n w s m v marks back pre tail d es all good (Serves ms bk k xs free rest) e b h =
+    let o = one_served m k h.0 h.1 marks pre tail b.marked free b.slaves h.2 in
+    under_goes n w s h.0 v (set marks k true) back pre tail d xs all good rest e (record {
+      start = ap (λ (x : WorldState). x.start) o.is ∙ b.start;
+      marked = length-set marks k true ∙ b.marked;
+      slaves = now_served m h.0 k h.1 marks pre tail b.marked free b.slaves o;
+      slot = let i = b.slot in record { bytes = i.bytes; slots = ap (λ (x : WorldState). x.slots) o.is ∙ i.slots; carried = i.carried };
+      ends = b.ends;
+      met = b.met;
+      many = b.many;
+      master = ap (λ (x : WorldState). x.master) o.is ∙ b.master;
+    }) (next (Serve k) xs m v all h o.made)
+under_goes n w s m v marks back pre tail d es all good (Ends ms served_all) e b h = absurd (true_false e)
+
+-- from a world that can send the first frame of such a state
+pub turn_goes : (n : ℕ) (w : WorldState) (s : StartState) (es : List Event) (v : WorldState) (all : Bool) → Sending w s → w.slots ≡ None ∷ replicate n None
+    → IsTurn (length w.slaves) es → Goes es w v all → (all ≡ true) × HasTurned n w s v
+turn_goes n w s es v all can free turn h = go (subst (λ (xs : List Event). Goes xs w v all) turn.sends h)
+  where
+    go : Goes (StartNext ∷ turn.rest) w v all → (all ≡ true) × HasTurned n w s v
+    go k =
+        let o = send-one n w k.0 k.1 s can free k.2 in
+        under_goes n w s k.0 v [] false [] w.slaves (first s) turn.rest all o.good turn.goes refl (record {
+          start = o.start;
+          marked = refl;
+          slaves = o.slaves;
+          slot = o.slot;
+          ends = refl;
+          met = refl;
+          many = omega arith;
+          master = o.master;
+        }) (next StartNext turn.rest w v all k o.made)
+
+-- the same of a run
+pub turns_once : (n : ℕ) (w : WorldState) (s : StartState) (es : List Event) (v : WorldState) (made : ℕ) → Sending w s → w.slots ≡ None ∷ replicate n None
+    → IsTurn (length w.slaves) es → IsRun w es v made → (made ≡ length es) × HasTurned n w s v
+turns_once n w s es v made can free turn h =
+    let r = run_goes es w v made h in
+    let o = turn_goes n w s es r.new r.all can free turn r.goes in
+    ((r.whole o.0).1, subst (λ (x : WorldState). HasTurned n w s x) (r.whole o.0).0 o.1)

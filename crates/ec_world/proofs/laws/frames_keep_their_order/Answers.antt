@@ -1,0 +1,5 @@
+use Rattle.ec_world.proofs.InOrder.{order_law}
+use Rattle.ec_world.proofs.laws.frames_keep_their_order.Goals as goal
+
+pub returns : goal.returns
+returns c = order_law

@@ -1,0 +1,5 @@
+use Rattle.ec_world.proofs.TurnLaws.{turn_law}
+use Rattle.ec_world.proofs.laws.turns_of_a_script.Goals as goal
+
+pub returns : goal.returns
+returns c = turn_law

@@ -1,0 +1,5 @@
+use Rattle.ec_world.proofs.Undisturbed.{undisturbed_law}
+use Rattle.ec_world.proofs.laws.undisturbed_cycles_are_taken.Goals as goal
+
+pub returns : goal.returns
+returns c = undisturbed_law

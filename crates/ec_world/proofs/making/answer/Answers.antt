@@ -1,0 +1,7 @@
+use Rattle.std.proofs.Common.{◌∙◌}
+use Rattle.ec_start.specs.Running.{is_kept}
+use Rattle.ec_world.proofs.Plans.{taken_plan}
+use Rattle.ec_world.proofs.making.answer.Goals as goal
+
+pub ready-requires-clause-same : goal.ready-requires-clause-same
+ready-requires-clause-same c = taken_plan c.args.start.now c.take.new.self c.args.payload.now (is_kept c.take.result) c.take.ensures ∙ c.requires.same

@@ -1,0 +1,266 @@
+-- The headline: what is promised of a segment under this master, over what a world's calls show. Who believes this page needs no
+-- other page on how it is done: nothing here of addresses, FMMUs, registers, datagrams or what counters mean.
+-- Read with it: which bits a table links (`IsLinked`, ec_link's Wires), what a run of events is (`IsRun`, Laws) and what a new
+-- world is (`IsNew`, Whole). Events and their order are those of the list that the calls of `World` were given; "made" is
+-- what `World::step` answered.
+use Rattle.std.specs.Prelude.{ℕ, ◌+◌, ◌<◌, ◌≡◌, ◌≢◌, ◌⊎◌, ◌==◌, ◌&&◌, List, [], ◌∷◌, ◌++◌, length, get_or, Bool, true, false, Option, Some, None, option_map, slice_get}
+use Rattle.std.specs.Option.{option_map_or}
+use Rattle.std.specs.List.{Contains}
+use Rattle.std.specs.Int.{bit_at}
+use Rattle.ec_bits.specs.Bits.{bit, bytes_of_bits}
+use Rattle.ec_regs.specs.declared.slave_type.Identity.{Identity}
+use Rattle.ec_al.specs.declared.state.State.TheVariants.{Init, SafeOp, Op}
+use Rattle.ec_slave.specs.Application.{outputs_shown}
+use Rattle.ec_slave.specs.Exchange.{with_outputs, inputs_of}
+use Rattle.ec_table.specs.declared.rows.Direction.TheVariants.{Out, In}
+use Rattle.ec_table.specs.declared.rows.SlaveRow.{SlaveRow}
+use Rattle.ec_table.specs.Contents.{Contents}
+use Rattle.ec_table.specs.Objects.{object_bits}
+use Rattle.ec_link.specs.Wires.{IsLinked}
+use Rattle.ec_link.specs.Shares.{predicted}
+use Rattle.ec_link.specs.Plan.{plan_of, part_of, part_at}
+use Rattle.ec_cycle.specs.Closing.{ReportState}
+use Rattle.ec_cycle.specs.Master.{value_at}
+use Rattle.ec_rise.specs.Runs.{is_beginning}
+use Rattle.ec_world.specs.declared.event.Event.{Event}
+use Rattle.ec_world.specs.declared.event.Event.TheVariants.{StartNext, Begin, Pass, Lose, Close, Fault, Reset}
+use Rattle.ec_world.specs.declared.progress.Progress.{Progress}
+use Rattle.ec_world.specs.World.{WorldState, slave_of, flight_at, flight_progress, is_up, resumed, IsStep}
+use Rattle.ec_world.specs.Laws.{IsRun}
+use Rattle.ec_world.specs.Whole.{IsNew}
+
+-- ---- 1. What the calls show
+-- A world is looked at through its calls, and its slaves by what they show: the bits of a variable, the bits of the outputs that
+-- a slave has published, the bits of the inputs that its application has published, its state, and where the frame in a slot is.
+
+-- `World::input`: bit b of variable x
+abbrev pub variable_bit : WorldState → ℕ → ℕ → Bool
+variable_bit w x b = bit_at (value_at w.master (slice_get w.master.plan.variables x)) b == 1
+
+-- `World::outputs`: bit o of the outputs that slave s published last
+abbrev pub output_bit : WorldState → ℕ → ℕ → Bool
+output_bit w s o = bit (outputs_shown (slave_of w s)) o
+
+-- bit o of the inputs that the application of slave s published last: the value of its sync manager 3
+abbrev pub input_bit : WorldState → ℕ → ℕ → Bool
+input_bit w s o = bit (inputs_of (slave_of w s)) o
+
+-- `World::progress`: the number and the part of the frame in a slot, and how many slaves it has passed
+abbrev pub progress_at : WorldState → ℕ → Option Progress
+progress_at w k = option_map flight_progress (flight_at w k)
+
+-- the AL state of slave s is OP
+abbrev pub IsInOp : WorldState → ℕ → Type 0
+IsInOp w s = (slave_of w s).al.state ≡ Op
+
+-- ---- 2. What the table says
+-- Each slave is in one sync unit. A cycle sends one frame for each part of the plan; a part is of one unit, and each slave is
+-- in one part of its unit.
+
+-- the sync unit of slave s
+abbrev pub unit_of : Contents → ℕ → ℕ
+unit_of t s = option_map_or (λ (r : SlaveRow). r.unit) (slice_get t.slaves s) 0
+
+-- the sync unit of part k
+abbrev pub unit_of_part : Contents → ℕ → ℕ
+unit_of_part t k = (part_at (plan_of t).parts k).unit
+
+-- how many output bits, and input bits, slave s has, gaps with them
+abbrev pub output_bits : Contents → ℕ → ℕ
+output_bits t s = length (object_bits t s Out)
+
+abbrev pub input_bits : Contents → ℕ → ℕ
+input_bits t s = length (object_bits t s In)
+
+-- ---- 3. Events of a run
+-- From world `old` over a list of events to world `new`: one event of the list that was made, with the worlds before and behind
+-- it. A run has one outcome (`OneOutcomeLaw`, RunLaws), so these are the worlds at this place of the list.
+
+-- e was made, from world `at` to world `next`
+pub record IsMade (old : WorldState) (events : List Event) (new : WorldState) (e : Event) : Type 0 where
+  pub before : List Event
+  pub behind : List Event
+  pub split : events ≡ before ++ (e ∷ behind)
+  pub at : WorldState
+  pub next : WorldState
+  pub first : ℕ
+  pub rest : ℕ
+  pub to_it : IsRun old before at first
+  pub step : IsStep at e next true
+  pub onward : IsRun next behind new rest
+
+-- the cycle with this number was begun: each Begin has the next number, so no number comes twice
+pub record IsBegun (old : WorldState) (events : List Event) (new : WorldState) (number : ℕ) : Type 0 where
+  pub event : IsMade old events new Begin
+  pub number_is : event.at.master.next ≡ number
+
+-- the frame of a part, of the cycle with this number, passed slave s
+pub record HasPassed (old : WorldState) (events : List Event) (new : WorldState) (number part s : ℕ) : Type 0 where
+  pub slot : ℕ
+  pub event : IsMade old events new (Pass slot)
+  pub frame : progress_at event.at slot ≡ Some (record { number = number; part = part; passed = s })
+
+-- a frame of unit u, of the cycle with this number, was lost
+pub record HasLost (t : Contents) (old : WorldState) (events : List Event) (new : WorldState) (number u : ℕ) : Type 0 where
+  pub slot : ℕ
+  pub event : IsMade old events new (Lose slot)
+  pub frame : Progress
+  pub there : progress_at event.at slot ≡ Some frame
+  pub number_is : frame.number ≡ number
+  pub unit_is : unit_of_part t frame.part ≡ u
+
+-- a frame of unit u, of the cycle with this number, is in a slot
+pub record IsUnderWay (t : Contents) (w : WorldState) (number u : ℕ) : Type 0 where
+  pub slot : ℕ
+  pub frame : Progress
+  pub there : progress_at w slot ≡ Some frame
+  pub number_is : frame.number ≡ number
+  pub unit_is : unit_of_part t frame.part ≡ u
+
+-- ---- 4. Trouble
+-- Whoever isn't in OP under a Ready start-up had trouble: a fault of its application, or a reset. It counts since the last
+-- start-up began, which brings every slave to OP or fails.
+
+-- the event sends the first frame of a start-up: of the first one, or of one that begins again after a failure
+abbrev pub begins_start : WorldState → Event → Bool
+begins_start w StartNext = is_beginning (resumed w.start w.start.phase)
+begins_start w e = false
+
+-- a run in which no start-up begins
+abbrev pub IsRunWithoutStart : WorldState → List Event → WorldState → Type 0
+IsRunWithoutStart old [] new = new ≡ old
+IsRunWithoutStart old (e ∷ es) new = (mid : WorldState) × (one : Bool) × IsStep old e mid one × ((one && begins_start old e) ≡ false) × IsRunWithoutStart mid es new
+
+-- slave s had a fault or was reset, and no start-up began since
+pub record HadTrouble (old : WorldState) (events : List Event) (new : WorldState) (s : ℕ) : Type 0 where
+  pub event : Event
+  pub what : (event ≡ Fault s) ⊎ (event ≡ Reset s)
+  pub made : IsMade old events new event
+  pub since : IsRunWithoutStart made.next made.behind new
+
+-- ---- 5. Outputs
+-- A frame of a cycle passes the slave that it meets next. A slave in OP, of the frame's part, shows from then on exactly the
+-- linked bits of the output variables as they were when the cycle began, whatever was set since, and 0 elsewhere.
+
+-- Slave s shows each linked bit as the variables are in world `source`, and 0 in every other bit of its outputs.
+pub record ShowsLinked (t : Contents) (source w : WorldState) (s : ℕ) : Type 0 where
+  pub linked : (x b o : ℕ) → IsLinked t Out x b s o → output_bit w s o ≡ variable_bit source x b
+  pub unlinked : (o : ℕ) → ((x b : ℕ) → IsLinked t Out x b s o → ⊥) → output_bit w s o ≡ false
+  pub size : length (outputs_shown (slave_of w s)) ≡ bytes_of_bits (output_bits t s)
+
+-- Frame f in slot k passed slave f.passed. In OP and of the frame's part, the slave shows the linked bits of the world in which
+-- the cycle began, and nothing else of it changes; in another state, or of another part, it stays as it is. No other slave
+-- changes, no variable, no other slot, nothing else.
+pub record PassShows (t : Contents) (old : WorldState) (events : List Event) (w : WorldState) (k : ℕ) (f : Progress) (v : WorldState) : Type 0 where
+  pub begun : IsBegun old events w f.number
+  pub shows : IsInOp w f.passed → part_of (plan_of t) f.passed ≡ f.part → ShowsLinked t begun.event.at v f.passed
+  pub slave : IsInOp w f.passed → part_of (plan_of t) f.passed ≡ f.part → slave_of v f.passed ≡ with_outputs (slave_of w f.passed) (outputs_shown (slave_of v f.passed))
+  pub untouched : (IsInOp w f.passed → part_of (plan_of t) f.passed ≢ f.part) → slave_of v f.passed ≡ slave_of w f.passed
+  pub others : (s : ℕ) → s ≢ f.passed → slave_of v s ≡ slave_of w s
+  pub goes_on : progress_at v k ≡ Some (record { number = f.number; part = f.part; passed = f.passed + 1 })
+  pub slots : (j : ℕ) → j ≢ k → flight_at v j ≡ flight_at w j
+  pub rest : v ≡ record w { slaves = v.slaves; slots = v.slots }
+
+-- ---- 6. Inputs
+-- A close takes each sync unit as a whole or not at all, and the report says which. It is not taken exactly where there is a
+-- cause, and there are three: a frame of the unit was lost in this cycle, or is still under way, or passed a slave that gave
+-- less than its share, since it had trouble.
+
+-- Bit b of variable x is, in world v, bit o of what slave s published as the frame of its part passed it, in a cycle that was
+-- begun so.
+pub record IsRead (t : Contents) {old : WorldState} {events : List Event} {w : WorldState} {number : ℕ} (begun : IsBegun old events w number) (v : WorldState) (x b s o : ℕ) : Type 0 where
+  pub pass : HasPassed begun.event.next begun.event.behind w number (part_of (plan_of t) s) s
+  pub value : variable_bit v x b ≡ input_bit pass.event.at s o
+
+-- A slave gives a frame less than its share: fallen back to SAFEOP by a fault it doesn't take outputs; as it is switched on it
+-- neither takes outputs nor gives inputs. That counts where it has such bits.
+abbrev pub GivesLess : Contents → WorldState → ℕ → Type 0
+GivesLess t w s =
+    (((slave_of w s).al.state ≡ SafeOp) × (0 < output_bits t s))
+    ⊎ (((slave_of w s).al.state ≡ Init) × (0 < output_bits t s + input_bits t s))
+
+-- A slave of unit u gave less than its share to the frame of its part in this cycle: it had trouble before that frame passed it.
+pub record FellShort (t : Contents) {old : WorldState} {events : List Event} {w : WorldState} {number : ℕ} (begun : IsBegun old events w number) (u : ℕ) : Type 0 where
+  pub slave : ℕ
+  pub unit_is : unit_of t slave ≡ u
+  pub pass : HasPassed begun.event.next begun.event.behind w number (part_of (plan_of t) slave) slave
+  pub less : GivesLess t pass.event.at slave
+  pub trouble : HadTrouble old (begun.event.before ++ (Begin ∷ pass.event.before)) pass.event.at slave
+
+-- why unit u isn't taken, by what happened since the cycle began
+pub data Cause (t : Contents) {old : WorldState} {events : List Event} {w : WorldState} {number : ℕ} (begun : IsBegun old events w number) (u : ℕ) : Type 0 where
+  ByLoss : HasLost t begun.event.next begun.event.behind w number u → Cause t begun u
+  ByEarlyClose : IsUnderWay t w number u → Cause t begun u
+  ByFallingShort : FellShort t begun u → Cause t begun u
+
+-- the report lists each sync unit of the table once, and no other; of a table without slaves it lists unit 0
+pub record ListsUnits (t : Contents) (units : List ℕ) : Type 0 where
+  pub each : (s : ℕ) → s < length t.slaves → Contains units (unit_of t s)
+  pub once : (i j : ℕ) → i < length units → j < length units → get_or units i 0 ≡ get_or units j 0 → i ≡ j
+  pub only : 0 < length t.slaves → (i : ℕ) → i < length units → (s : ℕ) × (s < length t.slaves) × (unit_of t s ≡ get_or units i 0)
+  pub zero_alone : length t.slaves ≡ 0 → units ≡ 0 ∷ []
+
+-- the report says of unit u, wherever it lists it, whether it was taken
+abbrev pub Says : ReportState → ℕ → Bool → Type 0
+Says r u taken = (i : ℕ) → i < length r.units → get_or r.units i 0 ≡ u → get_or r.taken i taken ≡ taken
+
+-- Unit u is taken: every linked input bit of its slaves was read in this cycle, each of its parts came back with the working
+-- counters that the plan predicts, and there is no cause against it.
+pub record IsTaken (t : Contents) {old : WorldState} {events : List Event} {w : WorldState} {number : ℕ} (begun : IsBegun old events w number) (v : WorldState) (r : ReportState) (u : ℕ) : Type 0 where
+  pub said : Says r u true
+  pub inputs : (x b s o : ℕ) → IsLinked t In x b s o → unit_of t s ≡ u → IsRead t begun v x b s o
+  pub counters : (k : ℕ) → k < length (plan_of t).parts → unit_of_part t k ≡ u → get_or r.counters k None ≡ Some (predicted (plan_of t) k)
+  pub no_cause : Cause t begun u → ⊥
+
+-- Unit u is not taken: no linked input bit of its slaves changes, and there is a cause.
+pub record IsMissed (t : Contents) {old : WorldState} {events : List Event} {w : WorldState} {number : ℕ} (begun : IsBegun old events w number) (v : WorldState) (r : ReportState) (u : ℕ) : Type 0 where
+  pub said : Says r u false
+  pub unchanged : (x b s o : ℕ) → IsLinked t In x b s o → unit_of t s ≡ u → variable_bit v x b ≡ variable_bit w x b
+  pub cause : Cause t begun u
+
+-- The cycle that is open is closed. Each unit is taken or missed; a bit of a variable that no input is linked to stays, and so
+-- does everything but the inputs, the cycle and the report.
+pub record CloseShows (t : Contents) (old : WorldState) (events : List Event) (w v : WorldState) : Type 0 where
+  pub number : ℕ
+  pub begun : IsBegun old events w number
+  pub report : ReportState
+  pub reported : v.report ≡ Some report
+  pub listed : ListsUnits t report.units
+  pub each : (u : ℕ) → IsTaken t begun v report u ⊎ IsMissed t begun v report u
+  pub unlinked : (x b : ℕ) → ((s o : ℕ) → IsLinked t In x b s o → ⊥) → variable_bit v x b ≡ variable_bit w x b
+  pub rest : v ≡ record w { master = record w.master { inputs = v.master.inputs; cycle = None }; report = v.report }
+
+-- ---- 7. The law
+-- Of a new world of a table that `compile` accepts, after ANY events at whose end the start-up is Ready: one event more that is
+-- made. `World::step` ensures it of its event.
+
+-- what a made event shows: a pass of a frame, a close
+abbrev pub HeadlineShows : Contents → WorldState → List Event → WorldState → Event → WorldState → Type 0
+HeadlineShows t old events w (Pass k) v = (f : Progress) → progress_at w k ≡ Some f → PassShows t old events w k f v
+HeadlineShows t old events w Close v = CloseShows t old events w v
+HeadlineShows t old events w e v = Unit {0}
+
+abbrev pub HeadlineLaw : Type 0
+HeadlineLaw =
+    (t : Contents) (identities : List Identity) (old : WorldState) (events : List Event) (w : WorldState) (made : ℕ)
+    → IsNew t identities old → IsRun old events w made → is_up w.start ≡ true
+    → (e : Event) (v : WorldState) → IsStep w e v true → HeadlineShows t old events w e v
+
+-- ---- 8. The law over a list of events
+-- `World::run` ensures the same of each event of its list, wherever the list is cut: the new world `first` came to world `old`
+-- by the events `past`, and the call came from there to world `new`.
+
+-- one event e of the list, made or not, with the worlds before and behind it
+pub record IsPromised (t : Contents) (first : WorldState) (past : List Event) (old : WorldState) (before : List Event) (e : Event) (behind : List Event) (new : WorldState) : Type 0 where
+  pub at : WorldState
+  pub next : WorldState
+  pub made : Bool
+  pub count : ℕ
+  pub rest : ℕ
+  pub to_it : IsRun old before at count
+  pub step : IsStep at e next made
+  pub onward : IsRun next behind new rest
+  pub shows : made ≡ true → is_up at.start ≡ true → HeadlineShows t first (past ++ before) at e next
+
+abbrev pub EachIsPromised : Contents → WorldState → List Event → WorldState → List Event → WorldState → Type 0
+EachIsPromised t first past old events new = (before : List Event) (e : Event) (behind : List Event) → events ≡ before ++ (e ∷ behind) → IsPromised t first past old before e behind new
