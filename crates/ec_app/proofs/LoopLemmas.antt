@@ -1,10 +1,11 @@
 -- Cycles one after another, what they print, and how a loop ends.
 use Rattle.std.proofs.Common.{◌≡◌, ◌∙◌, ◌⊎◌, inl, inr, ℕ, zero, suc, ◌+◌, ◌%◌, ◌^◌, ◌<◌, ◌≤◌, ◌==◌, ◌&&◌, not, if◌then◌else◌, get_or, slice_get, List, [], ◌∷◌, ◌++◌, length, take, Bool, true, false, Option, None, Some, is_some, nat_lt, refl, sym, ap, subst, append_assoc, append-nil, arith, Result, Ok, Err, IfErr, IfOk, OnOk, OnErr}
 use Rattle.std.proofs.Math.Nat.{mod-lt}
-use Rattle.std.proofs.lemmas.Bool.{eq-eqb, eqb-true, lt-ltb}
+use Rattle.std.proofs.lemmas.Bool.{eq-eqb, eqb-true, lt-ltb, ltb-false}
 use Rattle.std.proofs.lemmas.List.{take_more}
 use Rattle.std.proofs.lemmas.Nat.{pow_pos}
 use Rattle.std.specs.Result.{IsErrAnd}
+use Rattle.std.specs.Fmt.{decimal}
 use Rattle.std.specs.List.{flat_map}
 use Rattle.std.specs.Io.KnownBytes.{Appends}
 use Rattle.std.proofs.lemmas.List.Concat.{flat_map-append}
@@ -18,12 +19,17 @@ use Rattle.ec_link.specs.Wires.{is_out}
 use Rattle.ec_link.specs.Plan.{PlanState, plan_of}
 use Rattle.ec_start.specs.declared.phase.Phase.{Phase}
 use Rattle.ec_start.specs.declared.phase.Phase.TheVariants.{Idle, Sent, Ready, Failed}
-use Rattle.ec_start.specs.Running.{is_ended, outcome_of}
+use Rattle.ec_link.specs.Faults.{compile_fault}
+use Rattle.ec_start.specs.declared.error.StartError.{StartError}
+use Rattle.ec_start.specs.Running.{StartState, begun, is_ended, outcome_of}
+use Rattle.ec_wire.specs.BringingUp.{IsBroughtUp}
 use Rattle.ec_cycle.specs.Closing.{ReportState}
-use Rattle.ec_cycle.specs.Master.{MasterState, OpenCycle, IsAnswer, IsClosed, IsTaken, begin_refusal, cycle_limit, holds_value, value_put, variable_set}
+use Rattle.ec_cycle.specs.Master.{MasterState, OpenCycle, IsAnswer, IsClosed, IsTaken, begin_refusal, cycle_limit, holds_value, new_master, readied, value_put, variable_set}
 use Rattle.ec_cycle.specs.declared.error.CycleError.{CycleError}
 use Rattle.ec_cycle.specs.declared.error.CycleError.TheVariants.{NumbersSpent}
-use Rattle.ec_wire.specs.Wires.{WireState}
+use Rattle.ec_wire.specs.Wires.{Ports, WireState, silent}
+use Rattle.ec_slave.specs.State.{SlaveState}
+use Rattle.ec_rise.specs.SwitchedOn.{AreSlavesOf}
 use Rattle.ec_wire.specs.Running.{AreTaken, IsEnded, IsRun}
 use Rattle.ec_wire.proofs.Taking.{tests_stay}
 use Rattle.ec_wire.specs.declared.error.RunError.{RunError}
@@ -32,10 +38,9 @@ use Rattle.ec_script.specs.Texts.{report_text}
 use Rattle.ec_script.proofs.Lines.{lines_more, lines_all}
 use Rattle.ec_app.specs.declared.refusal.Refusal.{Refusal}
 use Rattle.ec_app.specs.declared.refusal.Refusal.TheVariants as refusal
-use Rattle.ec_app.specs.Looping.{AreRun, CanCycle, CutShort, HaveRun, IsCycleRefusal, IsRunEnd, IsSoFar, IsStartRefusal, IsUp, Loops, LoopsOnSockets, LoopsText, cycles_text, inputs_text, output_put, outputs_put, ready_line, shown, with_outputs}
-use Rattle.ec_app.specs.Stages.{LoopsTable}
-use Rattle.ec_app.specs.Planning.{IsTableRefusal}
-use Rattle.ec_app.specs.Printing.{AppendsPart}
+use Rattle.ec_app.specs.Looping.{AreRun, CanCycle, EndsEarly, EndsUnwritten, IsCycleRefusal, IsNeverRun, IsRunEnd, IsSoFar, IsStartRefusal, IsUnbound, IsUp, Loops, LoopsText, RunsCycles, cycles_text, inputs_text, output_put, outputs_put, ports_line, ready_line, shown, with_outputs}
+use Rattle.ec_app.specs.Stages.{IsCut, LoopsOnSockets, LoopsTable}
+use Rattle.ec_app.specs.Printing.{AppendsPart, IsTold}
 use Rattle.ec_app.proofs.PlanLemmas.{of_table}
 use Rattle.ec_app.proofs.PrintLemmas.{appends_more, appends_nothing}
 
@@ -58,9 +63,37 @@ outcome_ready p u e = cases p e
     cases Ready h = refl
     cases (Failed x) h = cc
 
-pub if_start : {T : Type 0} (r : Result T Refusal) (x : Refusal) → IsErrAnd r (λ e. e ≡ x) → IsStartRefusal x → IfErr r IsStartRefusal
-if_start (Ok v) x is h = tt
-if_start (Err e) x is h = subst IsStartRefusal (sym is) h
+outcome-failed : (p : Phase) (error : StartError) → outcome_of p ≡ Some (Err error) → p ≡ Failed error
+outcome-failed p error e = cases p e
+  where
+    cases : (q : Phase) → outcome_of q ≡ Some (Err error) → q ≡ Failed error
+    cases Idle h = cc
+    cases (Sent n) h = cc
+    cases Ready h = cc
+    cases (Failed x) h = cc
+
+-- a refusal before the slaves are up, also where a call passes it on
+pub if_start : {T : Type 0} (r : Result T Refusal) (x : Refusal) (p : PlanState) (before after : WireState) → IsErrAnd r (λ e. e ≡ x) → IsStartRefusal p before after x
+    → IfErr r (IsStartRefusal p before after)
+if_start (Ok v) x p before after is h = tt
+if_start (Err e) x p before after is h = subst (IsStartRefusal p before after) (sym is) h
+
+-- a start-up that ended by an error
+pub not_started : {T : Type 0} (r : Result T Refusal) (x : Refusal) (error : StartError) (p : PlanState) (begins start : StartState) (before after : WireState) → IsErrAnd r (λ e. e ≡ x) → x ≡ refusal.Start error
+    → begins ≡ begun p.slaves 0 → IsBroughtUp begins before start after → outcome_of start.phase ≡ Some (Err error) → IfErr r (IsStartRefusal p before after)
+not_started r x error p begins start before after is named new brought ended =
+    let from : IsBroughtUp (begun p.slaves 0) before start after = subst (λ (s : StartState). IsBroughtUp s before start after) new brought in
+    if_start r x p before after is (subst (IsStartRefusal p before after) (sym named) (record { start = start; brought = from; failed = outcome-failed start.phase error ended }))
+
+-- and one that came up
+pub is_up : (p : PlanState) (m new : MasterState) (begins start : StartState) (before after : WireState) (u : Unit {0}) → m ≡ new_master p → begins ≡ begun p.slaves 0 → IsBroughtUp begins before start after
+    → outcome_of start.phase ≡ Some (Ok u) → new ≡ readied m start.next → IsUp p before after new
+is_up p m new begins start before after u master first brought ended ready = record {
+  start = start;
+  brought = subst (λ (s : StartState). IsBroughtUp s before start after) first brought;
+  ready = outcome_ready start.phase u ended;
+  master = ready ∙ ap (λ (x : MasterState). readied x start.next) master;
+}
 
 -- ---- cycles
 
@@ -147,13 +180,12 @@ closed-can : (p : PlanState) (last after : MasterState) (r : ReportState) → la
 closed-can p last after r up vs h = subst (CanCycle p) (sym h.master) (record { up = up; none_open = refl; variables = vs })
 
 ended-well : (p : PlanState) (last after : MasterState) (old new : WireState) (r : Result ReportState RunError) → last.is_ready ≡ true → last.plan.variables ≡ p.variables → IsEnded last old new r after
-    → OnOk r (CanCycle p after) × IfErr r IsRunEnd
-ended-well p last after old new (Ok report) up vs h = (closed-can p last after report up vs h.1, tt)
-ended-well p last after old new (Err Wire) up vs h = (tt, inl refl)
-ended-well p last after old new (Err (Refused e)) up vs h = absurd h
+    → OnOk r (CanCycle p after)
+ended-well p last after old new (Ok report) up vs h = closed-can p last after report up vs h.1
+ended-well p last after old new (Err error) up vs h = tt
 
 run-well : (p : PlanState) (m : MasterState) (old new : WireState) (r : Result ReportState RunError) (after : MasterState) → CanCycle p m → IsRun m old new r after
-    → OnOk r (CanCycle p after) × IfErr r IsRunEnd
+    → OnOk r (CanCycle p after)
 run-well p m old new r after can run =
     let begun : run.begun.is_ready ≡ true = ap (λ (x : MasterState). x.is_ready) run.begins.is ∙ can.up in
     let last : run.last.is_ready ≡ true = all-ready run.begun run.last run.exchanged.got run.exchanged.taken begun in
@@ -161,17 +193,38 @@ run-well p m old new r after can run =
     = variables-stay run.begun run.last run.exchanged.got run.exchanged.taken ∙ (ap (λ (x : MasterState). x.plan.variables) run.begins.is ∙ can.variables) in
     ended-well p run.last after old new r last vs run.ends
 
-spent-well : (p : PlanState) (r : Result ReportState RunError) (after : MasterState) → r ≡ Err (Refused NumbersSpent) → OnOk r (CanCycle p after) × IfErr r IsRunEnd
-spent-well p r after is = subst (λ (x : Result ReportState RunError). OnOk x (CanCycle p after) × IfErr x IsRunEnd) (sym is) (tt, inr refl)
+spent-well : (p : PlanState) (r : Result ReportState RunError) (after : MasterState) → r ≡ Err (Refused NumbersSpent) → OnOk r (CanCycle p after)
+spent-well p r after is = subst (λ (x : Result ReportState RunError). OnOk x (CanCycle p after)) (sym is) tt
 
 pub ran : (p : PlanState) (m : MasterState) (old new : WireState) (r : Result ReportState RunError) (after : MasterState) → CanCycle p m
     → (begin_refusal m ≡ None → IsRun m old new r after) → ((e : CycleError) → begin_refusal m ≡ Some e → r ≡ Err (Refused e))
-    → OnOk r (CanCycle p after) × IfErr r IsRunEnd
+    → OnOk r (CanCycle p after)
 ran p m old new r after can run refused = by (nat_lt m.next cycle_limit) refl
   where
-    by : (b : Bool) → nat_lt m.next cycle_limit ≡ b → OnOk r (CanCycle p after) × IfErr r IsRunEnd
+    by : (b : Bool) → nat_lt m.next cycle_limit ≡ b → OnOk r (CanCycle p after)
     by true lt = let fine : begin_refusal m ≡ None = rw (can.up, can.none_open, lt) refl in run-well p m old new r after can (run fine)
     by false lt = let spent : begin_refusal m ≡ Some NumbersSpent = rw (can.up, can.none_open, lt) refl in spent-well p r after (refused NumbersSpent spent)
+
+-- what ends without a report was ended by the wire
+run-ended : (m : MasterState) (old new : WireState) (r : Result ReportState RunError) (after : MasterState) → IsRun m old new r after → IfErr r (IsRunEnd m old new)
+run-ended m old new (Ok report) after run = tt
+run-ended m old new (Err Wire) after run = (after, run)
+run-ended m old new (Err (Refused e)) after run = absurd run.ends
+
+spent-ended : (m : MasterState) (old new : WireState) (r : Result ReportState RunError) → r ≡ Err (Refused NumbersSpent) → cycle_limit ≤ m.next → new ≡ old → IfErr r (IsRunEnd m old new)
+spent-ended m old new r is le same = subst (λ (x : Result ReportState RunError). IfErr x (IsRunEnd m old new)) (sym is) (refl, le, same)
+
+-- or there was no number
+pub run_end : (p : PlanState) (m : MasterState) (old new : WireState) (r : Result ReportState RunError) (after : MasterState) → CanCycle p m
+    → (begin_refusal m ≡ None → IsRun m old new r after) → ((e : CycleError) → begin_refusal m ≡ Some e → r ≡ Err (Refused e)) → ((e : CycleError) → begin_refusal m ≡ Some e → new ≡ old)
+    → IfErr r (IsRunEnd m old new)
+run_end p m old new r after can run refused same = by (nat_lt m.next cycle_limit) refl
+  where
+    by : (b : Bool) → nat_lt m.next cycle_limit ≡ b → IfErr r (IsRunEnd m old new)
+    by true lt = let fine : begin_refusal m ≡ None = rw (can.up, can.none_open, lt) refl in run-ended m old new r after (run fine)
+    by false lt =
+        let spent : begin_refusal m ≡ Some NumbersSpent = rw (can.up, can.none_open, lt) refl in
+        spent-ended m old new r (refused NumbersSpent spent) (ltb-false m.next cycle_limit lt) (same NumbersSpent spent)
 
 -- what ends with a report was run
 pub run_of : (m : MasterState) (old new : WireState) (r : Result ReportState RunError) (after : MasterState)
@@ -244,16 +297,26 @@ output_is_kept m variable value number v at cut holds =
     let small : nat_lt value (2 ^ v.bits) ≡ true = ap (λ (x : ℕ). nat_lt x (2 ^ v.bits)) cut ∙ below-power number v.bits in
     ap (λ (image : List ℕ). record m { outputs = image }) (sym (put-in (is_out v.direction) _ _ (only-first (is_out v.direction) _ no small)))
 
-pub if_cycle : {T : Type 0} (r : Result T Refusal) (x : Refusal) → IsErrAnd r (λ e. e ≡ x) → IsCycleRefusal x → IfErr r IsCycleRefusal
-if_cycle (Ok v) x is h = tt
-if_cycle (Err e) x is h = subst IsCycleRefusal (sym is) h
+pub if_cycle : {T : Type 0} (r : Result T Refusal) (x : Refusal) (m : MasterState) (before after : WireState) → IsErrAnd r (λ e. e ≡ x) → IsCycleRefusal m before after x
+    → IfErr r (IsCycleRefusal m before after)
+if_cycle (Ok v) x m before after is h = tt
+if_cycle (Err e) x m before after is h = subst (IsCycleRefusal m before after) (sym is) h
+
+-- a run that gave no report, and one whose report found no memory
+pub cycle_ended : {T : Type 0} (r : Result T Refusal) (x : Refusal) (error : RunError) (m : MasterState) (before after : WireState) → IsErrAnd r (λ e. e ≡ x) → x ≡ refusal.Run error
+    → IsRunEnd m before after error → IfErr r (IsCycleRefusal m before after)
+cycle_ended r x error m before after is named h = if_cycle r x m before after is (subst (IsCycleRefusal m before after) (sym named) h)
+
+pub report_lost : {T : Type 0} (r : Result T Refusal) (x : Refusal) (m : MasterState) (before after : WireState) (report : ReportState) (last : MasterState) → IsErrAnd r (λ e. e ≡ x) → x ≡ refusal.Memory
+    → IsRun m before after (Ok report) last → IfErr r (IsCycleRefusal m before after)
+report_lost r x m before after report last is named run = if_cycle r x m before after is (subst (IsCycleRefusal m before after) (sym named) (report, last, run))
 
 -- ---- what is printed
 
 -- the reports so far
-pub record ArePrinted (t : Contents) (last : MasterState) (old new : Option (List ℕ)) (i : ℕ) : Type 0 where
+pub record ArePrinted (t : Contents) (first : MasterState) (before : WireState) (last : MasterState) (after : WireState) (old new : Option (List ℕ)) (i : ℕ) : Type 0 where
   pub reports : List ReportState
-  pub have : HaveRun t reports last
+  pub run : AreRun first before 1 reports last after
   pub count : length reports ≡ i
   pub printed : Appends old new (cycles_text t reports)
 
@@ -306,11 +369,11 @@ one_reported t first last later before after next mid new newer i line r h one i
           (subst (λ (x : List ℕ). Appends mid newer (flat_map (report_text t.version (plan_of t).parts) h.reports ++ x)) is (appends_more mid new newer _ line h.printed more));
     }
 
-pub since_ready : (t : Contents) (first last : MasterState) (before after : WireState) (old mid new : Option (List ℕ)) (i : ℕ) → IsUp t first → Appends old mid ready_line
-    → AreReported t first before last after mid new i → ArePrinted t last old new i
-since_ready t first last before after old mid new i up line h = record {
+pub since_ready : (t : Contents) (first last : MasterState) (before after : WireState) (old mid new : Option (List ℕ)) (i : ℕ) → Appends old mid ready_line
+    → AreReported t first before last after mid new i → ArePrinted t first before last after old new i
+since_ready t first last before after old mid new i line h = record {
   reports = h.reports;
-  have = record { first = first; before = before; after = after; up = up; run = h.run };
+  run = h.run;
   count = h.count;
   printed = appends_more old mid new ready_line _ line h.printed;
 }
@@ -326,112 +389,147 @@ part_behind old mid new before text h (k, part) =
 
 -- ---- how it is cut short
 
-abbrev pub IsCut : ℕ → Contents → Option (List ℕ) → Option (List ℕ) → Refusal → Type 0
-IsCut cycles t old new refusal = (text : List ℕ) × IsSoFar cycles t text × CutShort refusal old new text
-
-short-between : (x : Refusal) (old new : Option (List ℕ)) (text : List ℕ) → IsCycleRefusal x → Appends old new text → CutShort x old new text
-short-between refusal.Memory old new text h a = (h, a)
-short-between (refusal.Run e) old new text h a = (h, a)
-short-between (refusal.Frame e) old new text h a = absurd h
-short-between (refusal.Table e) old new text h a = absurd h
-short-between (refusal.Link e) old new text h a = absurd h
-short-between (refusal.Start e) old new text h a = absurd h
-short-between (refusal.Script e) old new text h a = absurd h
-short-between refusal.Socket old new text h a = absurd h
-short-between refusal.BadHex old new text h a = absurd h
-short-between refusal.Output old new text h a = absurd h
-short-between refusal.Input old new text h a = absurd h
-
-cut-passed : (r : Result Unit Refusal) (x : Refusal) (cycles : ℕ) (t : Contents) (old new : Option (List ℕ)) → IsErrAnd r (λ e. e ≡ x) → IsCut cycles t old new x
-    → IfErr r (IsCut cycles t old new)
-cut-passed (Ok done) x cycles t old new is h = tt
-cut-passed (Err e) x cycles t old new is h = subst (IsCut cycles t old new) (sym is) h
+cut-passed : (r : Result Unit Refusal) (x : Refusal) (cycles : ℕ) (t : Contents) (first : MasterState) (before after : WireState) (old new : Option (List ℕ)) → IsErrAnd r (λ e. e ≡ x)
+    → IsCut cycles t first before after old new x → IfErr r (IsCut cycles t first before after old new)
+cut-passed (Ok done) x cycles t first before after old new is h = tt
+cut-passed (Err e) x cycles t first before after old new is h = subst (IsCut cycles t first before after old new) (sym is) h
 
 -- no further cycle ends, and whole lines stand there
-pub cut_between : (r : Result Unit Refusal) (x : Refusal) (cycles : ℕ) (t : Contents) (last : MasterState) (old new : Option (List ℕ)) (i : ℕ) → IsErrAnd r (λ e. e ≡ x) → IsCycleRefusal x
-    → ArePrinted t last old new i → i ≤ cycles → IfErr r (IsCut cycles t old new)
-cut_between r x cycles t last old new i is h p le =
-    let few : length p.reports ≤ cycles = let e = p.count in omega (arith, le, e) in
-    cut-passed r x cycles t old new is (cycles_text t p.reports, (p.reports, last, p.have, few, refl), short-between x old new _ h p.printed)
+pub cut_between : (r : Result Unit Refusal) (x : Refusal) (cycles : ℕ) (t : Contents) (first last : MasterState) (before between after : WireState) (old new : Option (List ℕ)) (i : ℕ) → IsErrAnd r (λ e. e ≡ x)
+    → IsCycleRefusal (with_outputs last (i + 1)) between after x → ArePrinted t first before last between old new i → i < cycles → IfErr r (IsCut cycles t first before after old new)
+cut_between r x cycles t first last before between after old new i is h p lt =
+    let count = p.count in
+    cut-passed r x cycles t first before after old new is
+    (inl (record {
+      reports = p.reports;
+      last = last;
+      between = between;
+      run = p.run;
+      few = omega (arith, count, lt);
+      next = subst (λ (n : ℕ). IsCycleRefusal (with_outputs last (n + 1)) between after x) (sym p.count) h;
+      printed = p.printed;
+    }))
 
 -- a write is refused
-cut-writing : (r : Result Unit Refusal) (x : Refusal) (cycles : ℕ) (t : Contents) (last : MasterState) (old new : Option (List ℕ)) (reports : List ReportState) → HaveRun t reports last → IsErrAnd r (λ e. e ≡ x) → x ≡ refusal.Output
-    → length reports ≤ cycles → AppendsPart old new (cycles_text t reports) → IfErr r (IsCut cycles t old new)
-cut-writing r x cycles t last old new reports have is out few part =
-    cut-passed r x cycles t old new is (cycles_text t reports, (reports, last, have, few, refl), subst (λ (y : Refusal). CutShort y old new (cycles_text t reports)) (sym out) part)
+cut-writing : (r : Result Unit Refusal) (x : Refusal) (cycles : ℕ) (t : Contents) (first last : MasterState) (before after : WireState) (old new : Option (List ℕ)) (reports : List ReportState)
+    → AreRun first before 1 reports last after → IsErrAnd r (λ e. e ≡ x) → x ≡ refusal.Output → length reports ≤ cycles → AppendsPart old new (cycles_text t reports)
+    → IfErr r (IsCut cycles t first before after old new)
+cut-writing r x cycles t first last before after old new reports run is out few part =
+    cut-passed r x cycles t first before after old new is
+    (inr (record { output = out; text = cycles_text t reports; lines = (reports, last, run, few, refl); part = part }))
 
-pub cut_ready : (r : Result Unit Refusal) (x : Refusal) (cycles : ℕ) (t : Contents) (m : MasterState) (w : WireState) (old new : Option (List ℕ)) → IsUp t m → IsErrAnd r (λ e. e ≡ x) → x ≡ refusal.Output
-    → AppendsPart old new ready_line → IfErr r (IsCut cycles t old new)
-cut_ready r x cycles t m w old new up is out part =
-    cut-writing r x cycles t m old new [] (record { first = m; before = w; after = w; up = up; run = (refl, refl) }) is out (omega arith) (subst (AppendsPart old new) (sym (append-nil ready_line)) part)
+pub cut_ready : (r : Result Unit Refusal) (x : Refusal) (cycles : ℕ) (t : Contents) (m : MasterState) (w : WireState) (old new : Option (List ℕ)) → IsErrAnd r (λ e. e ≡ x) → x ≡ refusal.Output
+    → AppendsPart old new ready_line → IfErr r (IsCut cycles t m w w old new)
+cut_ready r x cycles t m w old new is out part =
+    cut-writing r x cycles t m m w w old new [] (refl, refl) is out (omega arith) (subst (AppendsPart old new) (sym (append-nil ready_line)) part)
 
 pub cut_report : (r : Result Unit Refusal) (x : Refusal) (cycles : ℕ) (t : Contents) (first last later : MasterState) (before after next : WireState) (old mid new newer : Option (List ℕ)) (i : ℕ)
-    (line : List ℕ) (report : ReportState) → IsUp t first → IsErrAnd r (λ e. e ≡ x)
+    (line : List ℕ) (report : ReportState) → IsErrAnd r (λ e. e ≡ x)
     → x ≡ refusal.Output → Appends old mid ready_line → AreReported t first before last after mid new i → IsRun (with_outputs last (i + 1)) after next (Ok report) later → i < cycles
     → line ≡ report_text t.version (plan_of t).parts report → AppendsPart new newer line
-    → IfErr r (IsCut cycles t old newer)
+    → IfErr r (IsCut cycles t first before next old newer)
 unfolding since_ready
-cut_report r x cycles t first last later before after next old mid new newer i line report up is out ready h one lt same part =
-    let p = since_ready t first last before after old mid new i up ready h in
+cut_report r x cycles t first last later before after next old mid new newer i line report is out ready h one lt same part =
+    let p = since_ready t first last before after old mid new i ready h in
     let count = h.count in
-    let have : HaveRun t (h.reports ++ report ∷ []) later = record {
-      first = first;
-      before = before;
-      after = next;
-      up = up;
-      run = run-snoc first last later before after next 1 (i + 1) h.reports report h.run (omega (arith, count)) one;
-    } in
+    let run = run-snoc first last later before after next 1 (i + 1) h.reports report h.run (omega (arith, count)) one in
     let few : length (h.reports ++ report ∷ []) ≤ cycles = let e = length-snoc h.reports report in omega (arith, lt, e, count) in
     let behind : AppendsPart old newer (cycles_text t h.reports ++ line) = part_behind old new newer _ line p.printed part in
-    cut-writing r x cycles t later old newer (h.reports ++ report ∷ []) have is out few
+    cut-writing r x cycles t first later before next old newer (h.reports ++ report ∷ []) run is out few
     (subst (AppendsPart old newer) (ap (λ (y : List ℕ). cycles_text t h.reports ++ y) same ∙ sym (text-snoc t h.reports report)) behind)
 
 -- ---- the whole
 
-pub loop_unstarted : (r : Result Unit Refusal) (x : Refusal) (cycles : ℕ) (t : Contents) (known : Option (List ℕ)) → IsErrAnd r (λ e. e ≡ x) → IsStartRefusal x → Loops cycles t known known r
-loop_unstarted (Ok done) x cycles t known is h = absurd is
-loop_unstarted (Err e) x cycles t known is h = inl (subst IsStartRefusal (sym is) h, refl)
-
-pub loop_cut : (r : Result Unit Refusal) (x : Refusal) (cycles : ℕ) (t : Contents) (old new : Option (List ℕ)) → IsErrAnd r (λ e. e ≡ x) → IsCut cycles t old new x → Loops cycles t old new r
-loop_cut (Ok done) x cycles t old new is h = absurd is
-loop_cut (Err e) x cycles t old new is h = inr (inl (subst (IsCut cycles t old new) (sym is) h))
+-- cycles that are cut short
+pub cycles_cut : (r : Result Unit Refusal) (x : Refusal) (cycles : ℕ) (t : Contents) (first : MasterState) (before after : WireState) (old new : Option (List ℕ)) → IsErrAnd r (λ e. e ≡ x)
+    → IsCut cycles t first before after old new x → RunsCycles cycles t first before after old new r
+cycles_cut (Ok done) x cycles t first before after old new is h = absurd is
+cycles_cut (Err e) x cycles t first before after old new is (inl h) = inl (subst (EndsEarly cycles t first before after old new) (sym is) h)
+cycles_cut (Err e) x cycles t first before after old new is (inr h) = inr (inr (inl (subst (EndsUnwritten (IsSoFar cycles t first before after) old new) (sym is) h)))
 
 -- memory for the input variables is refused
-pub loop_unshown : (r : Result Unit Refusal) (x : Refusal) (cycles : ℕ) (t : Contents) (last : MasterState) (old new : Option (List ℕ)) (reports : List ReportState) → HaveRun t reports last → IsErrAnd r (λ e. e ≡ x) → x ≡ refusal.Memory
-    → length reports ≡ cycles → Appends old new (cycles_text t reports) → Loops cycles t old new r
-loop_unshown r x cycles t last old new reports have is memory count printed =
-    let few : length reports ≤ cycles = omega (arith, count) in
-    loop_cut r x cycles t old new is (subst (IsCut cycles t old new) (sym memory) (cycles_text t reports, (reports, last, have, few, refl), (tt, printed)))
+pub cycles_unshown : (r : Result Unit Refusal) (x : Refusal) (cycles : ℕ) (t : Contents) (first last : MasterState) (before after : WireState) (old new : Option (List ℕ)) (reports : List ReportState)
+    → AreRun first before 1 reports last after → IsErrAnd r (λ e. e ≡ x) → x ≡ refusal.Memory → length reports ≡ cycles → Appends old new (cycles_text t reports)
+    → RunsCycles cycles t first before after old new r
+cycles_unshown (Ok done) x cycles t first last before after old new reports run is memory count printed = absurd is
+cycles_unshown (Err e) x cycles t first last before after old new reports run is memory count printed =
+    inr (inl (record { reports = reports; last = last; run = run; all = count; memory = is ∙ memory; printed = printed }))
 
-pub loop_shown : (r : Result Unit Refusal) (cycles : ℕ) (t : Contents) (last : MasterState) (old mid new : Option (List ℕ)) (reports : List ReportState) (lines : List ℕ) → HaveRun t reports last → length reports ≡ cycles
+pub cycles_shown : (r : Result Unit Refusal) (cycles : ℕ) (t : Contents) (first last : MasterState) (before after : WireState) (old mid new : Option (List ℕ)) (reports : List ReportState) (lines : List ℕ)
+    → AreRun first before 1 reports last after → length reports ≡ cycles
     → Appends old mid (cycles_text t reports) → lines ≡ inputs_text (shown last) t → OnOk r (Appends mid new lines) → OnErr r (AppendsPart mid new lines) → IfErr r (λ x. x ≡ refusal.Output)
-    → Loops cycles t old new r
-loop_shown (Ok done) cycles t last old mid new reports lines have count printed is all part fault = (
+    → RunsCycles cycles t first before after old new r
+cycles_shown (Ok done) cycles t first last before after old mid new reports lines run count printed is all part fault = (
   cycles_text t reports ++ inputs_text (shown last) t,
-  (reports, last, have, count, refl),
+  (reports, last, run, count, refl),
   subst (λ (x : List ℕ). Appends old new (cycles_text t reports ++ x)) is (appends_more old mid new _ lines printed all),
 )
-loop_shown (Err e) cycles t last old mid new reports lines have count printed is all part fault =
-    inr (inr (
-      fault,
-      (
-        cycles_text t reports ++ inputs_text (shown last) t,
-        (reports, last, have, count, refl),
-        subst (λ (x : List ℕ). AppendsPart old new (cycles_text t reports ++ x)) is (part_behind old mid new _ lines printed part),
-      ),
-    ))
+cycles_shown (Err e) cycles t first last before after old mid new reports lines run count printed is all part fault =
+    inr (inr (inr (record {
+      output = fault;
+      text = cycles_text t reports ++ inputs_text (shown last) t;
+      lines = (reports, last, run, count, refl);
+      part = subst (λ (x : List ℕ). AppendsPart old new (cycles_text t reports ++ x)) is (part_behind old mid new _ lines printed part);
+    })))
 
-pub never_run : (r : Result Unit Refusal) (x : Refusal) (cycles : ℕ) (text : List ℕ) (known : Option (List ℕ)) → IsErrAnd r (λ e. e ≡ x)
-    → IsTableRefusal text x ⊎ (x ≡ refusal.Socket) → LoopsText cycles text known known r
-never_run (Ok done) x cycles text known is h = absurd is
-never_run (Err e) x cycles text known is h = inr (e, refl, subst (λ (y : Refusal). IsTableRefusal text y ⊎ (y ≡ refusal.Socket)) (sym is) h, refl)
+-- slaves that don't come up
+pub loop_unstarted : (r : Result Unit Refusal) (x : Refusal) (cycles : ℕ) (t : Contents) (p : PlanState) (before after : WireState) (known : Option (List ℕ)) → IsErrAnd r (λ e. e ≡ x) → p ≡ plan_of t
+    → IsStartRefusal p before after x → Loops cycles t before after known known r
+loop_unstarted (Ok done) x cycles t p before after known is plan h = absurd is
+loop_unstarted (Err e) x cycles t p before after known is plan h =
+    inr (e, refl, subst (IsStartRefusal (plan_of t) before after) (sym is) (subst (λ (q : PlanState). IsStartRefusal q before after x) plan h), refl)
 
-pub unbound : (r : Result Unit Refusal) (cycles : ℕ) (t : Contents) (known : Option (List ℕ)) → IsErrAnd r (λ e. e ≡ refusal.Socket) → LoopsOnSockets cycles t known known r
-unbound (Ok done) cycles t known is = absurd is
-unbound (Err e) cycles t known is = inr (ap Err is, refl)
+-- and slaves that do
+pub loop_started : (r : Result Unit Refusal) (cycles : ℕ) (t : Contents) (p : PlanState) (first : MasterState) (before between after : WireState) (old new : Option (List ℕ)) → p ≡ plan_of t
+    → IsUp p before between first → RunsCycles cycles t first between after old new r → Loops cycles t before after old new r
+loop_started r cycles t p first before between after old new plan up runs = inl (first, between, subst (λ (q : PlanState). IsUp q before between first) plan up, runs)
 
-pub looped : (cycles : ℕ) (text : List ℕ) (t : Contents) (old new : Option (List ℕ)) (r : Result Unit Refusal) → table_of text ≡ Ok t
-    → LoopsTable cycles t old new r → LoopsText cycles text old new r
-looped cycles text t old new r read (inl (accepted, loops)) = inl (t, read, accepted, loops)
-looped cycles text t old new r read (inr (x, is, inl link, same)) = inr (x, is, inl (of_table text t x read link), same)
-looped cycles text t old new r read (inr (x, is, inr socket, same)) = inr (x, is, inr socket, same)
+-- ---- over sockets
+
+-- a refusal before anything is told, also where a call passes it on
+pub never_run : (r : Result Unit Refusal) (x : Refusal) (Refuses : Refusal → Type 0) (known quiet : Option (List ℕ)) → IsErrAnd r (λ e. e ≡ x) → Refuses x → IsNeverRun Refuses known known quiet quiet r
+never_run (Ok done) x Refuses known quiet is h = absurd is
+never_run (Err e) x Refuses known quiet is h = (e, refl, subst Refuses (sym is) h, refl, refl)
+
+pub if_unbound : {T : Type 0} (r : Result T Refusal) (x : Refusal) → IsErrAnd r (λ e. e ≡ x) → IsUnbound x → IfErr r IsUnbound
+if_unbound (Ok v) x is h = tt
+if_unbound (Err e) x is h = subst IsUnbound (sym is) h
+
+-- the line of the ports, piece by piece
+pub ports_spelled : (b0 b1 b2 b3 b4 b5 one two end : List ℕ) (m s master segment : ℕ) → b0 ≡ [] → b1 ≡ b0 ++ one → b2 ≡ b1 ++ decimal m → b3 ≡ b2 ++ two → b4 ≡ b3 ++ decimal s → b5 ≡ b4 ++ end
+    → m ≡ master → s ≡ segment → b5 ≡ one ++ (decimal master ++ (two ++ (decimal segment ++ end)))
+ports_spelled b0 b1 b2 b3 b4 b5 one two end m s master segment e0 e1 e2 e3 e4 e5 first second =
+    let first_part : b1 ≡ one = e1 ∙ ap (λ (x : List ℕ). x ++ one) e0 in
+    let second_part : b2 ≡ one ++ decimal master = e2 ∙ (ap (λ (x : List ℕ). x ++ decimal m) first_part ∙ ap (λ (n : ℕ). one ++ decimal n) first) in
+    let third_part : b3 ≡ (one ++ decimal master) ++ two = e3 ∙ ap (λ (x : List ℕ). x ++ two) second_part in
+    let fourth_part : b4 ≡ ((one ++ decimal master) ++ two) ++ decimal segment =
+    e4 ∙ (ap (λ (x : List ℕ). x ++ decimal s) third_part ∙ ap (λ (n : ℕ). ((one ++ decimal master) ++ two) ++ decimal n) second) in
+    e5 ∙ (ap (λ (x : List ℕ). x ++ end) fourth_part ∙ (append_assoc ((one ++ decimal master) ++ two) (decimal segment) end
+    ∙ (append_assoc (one ++ decimal master) two (decimal segment ++ end) ∙ append_assoc one (decimal master) (two ++ (decimal segment ++ end)))))
+
+pub no_wire : (r : Result Unit Refusal) (x : Refusal) (cycles : ℕ) (t : Contents) (known quiet : Option (List ℕ)) → IsErrAnd r (λ e. e ≡ x) → IsUnbound x → LoopsOnSockets cycles t known known quiet quiet r
+no_wire r x cycles t known quiet is h = inr (never_run r x IsUnbound known quiet is h)
+
+pub looped_between : (r : Result Unit Refusal) (cycles : ℕ) (t : Contents) (slaves : List SlaveState) (sockets : Ports) (ports : ℕ × ℕ) (before after : ℕ) (old new quiet told : Option (List ℕ))
+    → AreSlavesOf t slaves → ports ≡ (sockets.master, sockets.segment) → IsTold (ports_line ports.0 ports.1) quiet told → Loops cycles t (silent before) (silent after) old new r
+    → LoopsOnSockets cycles t old new quiet told r
+looped_between r cycles t slaves sockets ports before after old new quiet told are same line runs = inl (record {
+  slaves = slaves;
+  are = are;
+  ports = sockets;
+  tells = subst (λ (p : ℕ × ℕ). IsTold (ports_line p.0 p.1) quiet told) same line;
+  before = before;
+  after = after;
+  runs = runs;
+})
+
+pub on_table : (cycles : ℕ) (t : Contents) (old new quiet told : Option (List ℕ)) (r : Result Unit Refusal) → compile_fault t ≡ None → LoopsOnSockets cycles t old new quiet told r
+    → LoopsTable cycles t old new quiet told r
+on_table cycles t old new quiet told r accepted (inl loops) = inl (accepted, loops)
+on_table cycles t old new quiet told r accepted (inr (x, is, why, kept, mute)) = inr (x, is, inr why, kept, mute)
+
+pub looped : (cycles : ℕ) (text : List ℕ) (t : Contents) (old new quiet told : Option (List ℕ)) (r : Result Unit Refusal) → table_of text ≡ Ok t
+    → LoopsTable cycles t old new quiet told r → LoopsText cycles text old new quiet told r
+looped cycles text t old new quiet told r read (inl (accepted, loops)) = inl (t, read, accepted, loops)
+looped cycles text t old new quiet told r read (inr (x, is, inl link, kept, mute)) = inr (x, is, inl (of_table text t x read link), kept, mute)
+looped cycles text t old new quiet told r read (inr (x, is, inr why, kept, mute)) = inr (x, is, inr why, kept, mute)

@@ -2,7 +2,7 @@
 use Rattle.std.proofs.Common.{◌≡◌, ◌∙◌, ℕ, zero, suc, ◌+◌, ◌-◌, ◌≤◌, List, [], ◌∷◌, ◌++◌, length, take, drop, Option, None, Some, refl, sym, ap, subst, append_assoc, zero-add, arith, Result, Ok, Err, IfErr, OnOk, OnErr}
 use Rattle.std.specs.Io.KnownBytes.{Appends, Keeps}
 use Rattle.std.proofs.lemmas.List.{append-nil}
-use Rattle.ec_app.specs.Printing.{AppendsPart, Shows}
+use Rattle.ec_app.specs.Printing.{AppendsPart, IsTold, Shows}
 use Rattle.ec_app.specs.declared.refusal.Refusal.{Refusal}
 use Rattle.ec_app.specs.declared.refusal.Refusal.TheVariants.{Output}
 
@@ -78,9 +78,13 @@ pub shown : (r : Result Unit Refusal) (old new : Option (List ℕ)) (text : List
 shown (Ok done) old new text all part fault = all
 shown (Err refusal) old new text all part fault = (fault, part)
 
-pub shown_part : (r : Result Unit Refusal) (old new : Option (List ℕ)) (text : List ℕ) → Shows text old new r → AppendsPart old new text
-shown_part (Ok done) old new text shows = whole_part old new text shows
-shown_part (Err refusal) old new text shows = shows.1
+-- what it leaves is told, whatever came of it
+pub told : (r : Result Unit Refusal) (old new : Option (List ℕ)) (text : List ℕ) → OnOk r (Appends old new text) → OnErr r (AppendsPart old new text)
+    → IfErr r (λ e. e ≡ Output) → IsTold text old new
+told r old new text all part fault = record { ended = r; shows = shown r old new text all part fault }
+
+pub told_by : (r : Result Unit Refusal) (old new : Option (List ℕ)) (text : List ℕ) → Shows text old new r → IsTold text old new
+told_by r old new text shows = record { ended = r; shows = shows }
 
 pub if_err : {T E P : Type 0} (r : Result T E) → P → OnErr r P
 if_err (Ok x) p = tt

@@ -1,9 +1,16 @@
--- The exit statuses that there are.
-use Rattle.std.proofs.Common.{ℕ, [], ◌∷◌, ◌==◌, ◌||◌, Bool, true, false, Result, Ok, Err, refl, sym, subst, arith}
+-- The exit statuses that there are, and how a run ends to which arguments were given.
+use Rattle.std.proofs.Common.{◌≡◌, ℕ, List, [], ◌∷◌, ◌==◌, ◌||◌, inl, inr, Bool, true, false, Option, Result, Ok, Err, String, Global, refl, sym, subst, arith}
+use Rattle.std.specs.declared.io.Error.{Error}
+use Rattle.std.specs.declared.vec.IntoIter.{IntoIter}
 use Rattle.std.specs.Prelude.{Contains, if◌then◌else◌}
 use Rattle.ec_app.specs.declared.refusal.Refusal.{Refusal}
 use Rattle.ec_app.specs.Refusals.{number_of, status_of}
-use Rattle.ec_app.specs.Running.{Stream, Tells}
+use Rattle.ec_app.specs.declared.refusal.Refusal.TheVariants.{Memory}
+use Rattle.ec_app.specs.Running.{Ends, EndsAlone, EndsGiven, EndsUnread, Stream, Tells, given_words}
+use Rattle.ec_args.specs.CommandLine.{Reads}
+use Rattle.ec_args.specs.declared.request.Notice.{Notice}
+use Rattle.ec_args.specs.declared.request.Request.{Request}
+use Rattle.ec_args.specs.declared.request.Request.TheVariants.{Pass, Plan, Sim, Loop, Segment}
 
 three_or_four : (b : Bool) → Contains {X = ℕ} (0 ∷ 2 ∷ 3 ∷ 4 ∷ []) (if b then 4 else 3)
 three_or_four true = (3, omega arith, refl)
@@ -16,3 +23,28 @@ status_known refusal = let n = number_of refusal in three_or_four (n == 37 || (n
 pub tells_known : (faults : Stream) (status : ℕ) (ended : Result Unit Refusal) → Tells faults status ended → Contains {X = ℕ} (0 ∷ 2 ∷ 3 ∷ 4 ∷ []) status
 tells_known faults status (Ok done) told = subst (Contains {X = ℕ} (0 ∷ 2 ∷ 3 ∷ 4 ∷ [])) (sym told.0) (0, omega arith, refl)
 tells_known faults status (Err refusal) told = subst (Contains {X = ℕ} (0 ∷ 2 ∷ 3 ∷ 4 ∷ [])) (sym told.0) (status_known refusal)
+
+-- what leaves the input and the application alone leaves the input alone
+ends_unread : {R A : Type 0} (read : Result Request Notice) (old new : R) (app_old app_new : A) → EndsAlone read old new app_old app_new → EndsUnread read old new
+ends_unread (Ok (Pass n f)) old new app_old app_new alone = alone.0
+ends_unread (Ok (Plan e)) old new app_old app_new alone = tt
+ends_unread (Ok Sim) old new app_old app_new alone = tt
+ends_unread (Ok (Loop n)) old new app_old app_new alone = tt
+ends_unread (Ok (Segment n p i)) old new app_old app_new alone = tt
+ends_unread (Err told) old new app_old app_new alone = alone.0
+
+-- a run on the arguments that were given, as texts
+pub given_ends : {R A : Type 0} (given : Result (IntoIter (String Global) Global) Error) (words : IntoIter (String Global) Global) (texts : List (List ℕ))
+    (known : Option (List ℕ)) (old new : R) (app_old app_new : A) (output faults : Stream) (status : ℕ) → given ≡ Ok words → texts ≡ given_words words
+    → ((read : Result Request Notice) × Reads texts read × Ends read known output faults status × EndsAlone read old new app_old app_new)
+    → EndsGiven given known old new output faults status
+given_ends given words texts known old new app_old app_new output faults status is same run =
+    subst (λ g. EndsGiven g known old new output faults status) (sym is)
+    (inl (run.0, subst (λ ts. Reads ts run.0) same run.1, run.2, ends_unread run.0 old new app_old app_new run.3))
+
+-- and one for which memory ran out before
+pub given_lost : {R : Type 0} (given : Result (IntoIter (String Global) Global) Error) (words : IntoIter (String Global) Global) (known : Option (List ℕ)) (input : R)
+    (output : Option (List ℕ)) (faults : Stream) (status : ℕ) → given ≡ Ok words → Tells faults status (Err Memory)
+    → EndsGiven given known input input (record { old = output; new = output }) faults status
+given_lost given words known input output faults status is told =
+    subst (λ g. EndsGiven g known input input (record { old = output; new = output }) faults status) (sym is) (inr (refl, refl, told))

@@ -8,5 +8,5 @@ pub mod Serving
 pub mod Simulating
 pub mod Looping
 pub mod Running
--- These serve private code and its proofs alone:
+-- Private: these serve private code and its proofs alone.
 pub mod Stages

@@ -1,5 +1,5 @@
 -- What `ecat loop` prints (this project's profile).
-use Rattle.std.specs.Prelude.{◌≡◌, ◌⊎◌, ◌≤◌, ◌+◌, ◌%◌, ◌^◌, ℕ, List, [], ◌∷◌, ◌++◌, length, slice_get, true, if◌then◌else◌, Option, None, Some, Result, Ok, Err, codes}
+use Rattle.std.specs.Prelude.{◌≡◌, ◌⊎◌, ◌≤◌, ◌<◌, ◌+◌, ◌%◌, ◌^◌, ℕ, List, [], ◌∷◌, ◌++◌, length, slice_get, true, if◌then◌else◌, Option, None, Some, Result, Ok, Err, codes}
 use Rattle.std.specs.Fmt.{decimal}
 use Rattle.std.specs.List.{flat_map}
 use Rattle.std.specs.Io.KnownBytes.{Appends}
@@ -13,9 +13,15 @@ use Rattle.ec_link.specs.declared.image.Variable.{Variable}
 use Rattle.ec_link.specs.Wires.{is_out}
 use Rattle.ec_link.specs.Plan.{PlanState, plan_of}
 use Rattle.ec_cycle.specs.Closing.{ReportState}
-use Rattle.ec_cycle.specs.Master.{MasterState, new_master, readied, value_at, value_put}
+use Rattle.ec_cycle.specs.Master.{MasterState, cycle_limit, new_master, readied, value_at, value_put}
 use Rattle.ec_cycle.specs.declared.error.CycleError.TheVariants.{NumbersSpent}
-use Rattle.ec_wire.specs.Wires.{WireState}
+use Rattle.ec_start.specs.declared.error.StartError.{StartError}
+use Rattle.ec_start.specs.declared.phase.Phase.TheVariants.{Ready, Failed}
+use Rattle.ec_start.specs.Running.{StartState, begun}
+use Rattle.ec_rise.specs.SwitchedOn.{AreSlavesOf}
+use Rattle.ec_wire.specs.Wires.{Ports, WireState, silent}
+use Rattle.ec_wire.specs.BringingUp.{IsBroughtUp}
+use Rattle.ec_slave.specs.State.{SlaveState}
 use Rattle.ec_wire.specs.Running.{IsRun}
 use Rattle.ec_wire.specs.declared.error.RunError.{RunError}
 use Rattle.ec_wire.specs.declared.error.RunError.TheVariants.{Refused, Wire}
@@ -24,7 +30,7 @@ use Rattle.ec_script.specs.Texts.{report_text}
 use Rattle.ec_app.specs.declared.refusal.Refusal.{Refusal}
 use Rattle.ec_app.specs.declared.refusal.Refusal.TheVariants.{Memory, Start, Run, Socket, Output}
 use Rattle.ec_app.specs.Planning.{GivesText, IsInputRefusal, IsTableRefusal}
-use Rattle.ec_app.specs.Printing.{AppendsPart}
+use Rattle.ec_app.specs.Printing.{AppendsPart, IsTold}
 
 -- ---- lines
 
@@ -71,26 +77,29 @@ AreRun m w number [] last v = (last ≡ m) × (v ≡ w)
 AreRun m w number (r ∷ rs) last v =
     (mid : MasterState) × (x : WireState) × IsRun (with_outputs m number) w x (Ok r) mid × AreRun mid x (number + 1) rs last v
 
--- the master of a table whose slaves are up: all variables are 0
-abbrev pub IsUp : Contents → MasterState → Type 0
-IsUp t m = (next : ℕ) × (m ≡ readied (new_master (plan_of t)) next)
+-- Slaves of a plan are brought up over a wire, by frames from number 0 on: the master that begins cycles then. All its
+-- variables are 0.
+pub record IsUp (p : PlanState) (before after : WireState) (m : MasterState) : Type 0 where
+  pub start : StartState
+  pub brought : IsBroughtUp (begun p.slaves 0) before start after
+  pub ready : start.phase ≡ Ready
+  pub master : m ≡ readied (new_master p) start.next
 
--- its cycles 1, 2, .. over some wire
-pub record HaveRun (t : Contents) (reports : List ReportState) (last : MasterState) : Type 0 where
-  pub first : MasterState
-  pub before : WireState
-  pub after : WireState
-  pub up : IsUp t first
-  pub run : AreRun first before 1 reports last after
+-- the start-up of these slaves over that wire ended by an error
+pub record HasNotStarted (p : PlanState) (before after : WireState) (error : StartError) : Type 0 where
+  pub start : StartState
+  pub brought : IsBroughtUp (begun p.slaves 0) before start after
+  pub failed : start.phase ≡ Failed error
 
--- the lines of so many cycles at most
-abbrev pub IsSoFar : ℕ → Contents → List ℕ → Type 0
-IsSoFar cycles t text = (reports : List ReportState) × (last : MasterState) × HaveRun t reports last × (length reports ≤ cycles) × (text ≡ cycles_text t reports)
+-- the lines of so many cycles at most, 1, 2, .. of a master over a wire
+abbrev pub IsSoFar : ℕ → Contents → MasterState → (before after : WireState) → List ℕ → Type 0
+IsSoFar cycles t first before after text =
+    (reports : List ReportState) × (last : MasterState) × AreRun first before 1 reports last after × (length reports ≤ cycles) × (text ≡ cycles_text t reports)
 
 -- the lines of all cycles, and behind them each input variable with the value that the last one left
-abbrev pub IsWhole : ℕ → Contents → List ℕ → Type 0
-IsWhole cycles t text =
-    (reports : List ReportState) × (last : MasterState) × HaveRun t reports last × (length reports ≡ cycles) × (text ≡ cycles_text t reports ++ inputs_text (shown last) t)
+abbrev pub IsWhole : ℕ → Contents → MasterState → (before after : WireState) → List ℕ → Type 0
+IsWhole cycles t first before after text =
+    (reports : List ReportState) × (last : MasterState) × AreRun first before 1 reports last after × (length reports ≡ cycles) × (text ≡ cycles_text t reports ++ inputs_text (shown last) t)
 
 -- ---- how it ends
 
@@ -100,47 +109,100 @@ pub record CanCycle (p : PlanState) (m : MasterState) : Type 0 where
   pub none_open : m.cycle ≡ None
   pub variables : m.plan.variables ≡ p.variables
 
--- a fault of the wire ended a cycle, or there is no number for one
-abbrev pub IsRunEnd : RunError → Type 0
-IsRunEnd error = (error ≡ Wire) ⊎ (error ≡ Refused NumbersSpent)
+-- A master's run of a cycle over a wire gave no report: a fault of the wire ended it, or there is no number for it.
+abbrev pub IsRunEnd : MasterState → (before after : WireState) → RunError → Type 0
+IsRunEnd m before after Wire = (last : MasterState) × IsRun m before after (Err Wire) last
+IsRunEnd m before after (Refused error) = (error ≡ NumbersSpent) × (cycle_limit ≤ m.next) × (after ≡ before)
 
--- what ends it before the slaves are up
-abbrev pub IsStartRefusal : Refusal → Type 0
-IsStartRefusal Memory = Unit {0}
-IsStartRefusal (Start error) = Unit {0}
-IsStartRefusal _ = ⊥
+-- what ends it before the slaves are up: no memory, and nothing was sent; or what their start-up over that wire ended by
+abbrev pub IsStartRefusal : PlanState → (before after : WireState) → Refusal → Type 0
+IsStartRefusal p before after Memory = after ≡ before
+IsStartRefusal p before after (Start error) = HasNotStarted p before after error
+IsStartRefusal p before after _ = ⊥
 
--- and behind that
-abbrev pub IsCycleRefusal : Refusal → Type 0
-IsCycleRefusal Memory = Unit {0}
-IsCycleRefusal (Run error) = IsRunEnd error
-IsCycleRefusal _ = ⊥
+-- and what keeps the line of a cycle back: no memory for its report, or there is none
+abbrev pub IsCycleRefusal : MasterState → (before after : WireState) → Refusal → Type 0
+IsCycleRefusal m before after Memory = (report : ReportState) × (last : MasterState) × IsRun m before after (Ok report) last
+IsCycleRefusal m before after (Run error) = IsRunEnd m before after error
+IsCycleRefusal m before after _ = ⊥
 
--- a run that is cut short has printed whole lines, unless a write was refused
-abbrev pub CutShort : Refusal → Option (List ℕ) → Option (List ℕ) → List ℕ → Type 0
-CutShort Output old new text = AppendsPart old new text
-CutShort refusal old new text = IsCycleRefusal refusal × Appends old new text
+-- the lines of fewer cycles than all are printed, and the next one is kept back
+pub record EndsEarly (cycles : ℕ) (t : Contents) (first : MasterState) (before after : WireState) (old new : Option (List ℕ)) (refusal : Refusal) : Type 0 where
+  pub reports : List ReportState
+  pub last : MasterState
+  pub between : WireState
+  pub run : AreRun first before 1 reports last between
+  pub few : length reports < cycles
+  pub next : IsCycleRefusal (with_outputs last (length reports + 1)) between after refusal
+  pub printed : Appends old new (cycles_text t reports)
 
--- the cycles of a table, by what the writer holds before and after: all is printed; or nothing; or the lines until then
-abbrev pub Loops : ℕ → Contents → Option (List ℕ) → Option (List ℕ) → Result Unit Refusal → Type 0
-Loops cycles t old new (Ok done) = (text : List ℕ) × IsWhole cycles t text × Appends old new text
-Loops cycles t old new (Err refusal) =
-    (IsStartRefusal refusal × (new ≡ old))
-    ⊎ (((text : List ℕ) × IsSoFar cycles t text × CutShort refusal old new text)
-    ⊎ ((refusal ≡ Output) × ((text : List ℕ) × IsWhole cycles t text × AppendsPart old new text)))
+-- the lines of all cycles are printed, and there is no memory for those of the input variables
+pub record EndsUnshown (cycles : ℕ) (t : Contents) (first : MasterState) (before after : WireState) (old new : Option (List ℕ)) (refusal : Refusal) : Type 0 where
+  pub reports : List ReportState
+  pub last : MasterState
+  pub run : AreRun first before 1 reports last after
+  pub all : length reports ≡ cycles
+  pub memory : refusal ≡ Memory
+  pub printed : Appends old new (cycles_text t reports)
 
--- the same over sockets, where there may be none
-abbrev pub LoopsOnSockets : ℕ → Contents → Option (List ℕ) → Option (List ℕ) → Result Unit Refusal → Type 0
-LoopsOnSockets cycles t old new ended = Loops cycles t old new ended ⊎ ((ended ≡ Err Socket) × (new ≡ old))
+-- a write is refused, and what is printed is a first part of these lines
+pub record EndsUnwritten (Lines : List ℕ → Type 0) (old new : Option (List ℕ)) (refusal : Refusal) : Type 0 where
+  pub output : refusal ≡ Output
+  pub text : List ℕ
+  pub lines : Lines text
+  pub part : AppendsPart old new text
 
--- those of the table that a text states; or it is refused, or there is no socket
-abbrev pub LoopsText : ℕ → List ℕ → Option (List ℕ) → Option (List ℕ) → Result Unit Refusal → Type 0
-LoopsText cycles text old new ended =
-    ((t : Contents) × (table_of text ≡ Ok t) × (compile_fault t ≡ None) × Loops cycles t old new ended)
-    ⊎ ((refusal : Refusal) × (ended ≡ Err refusal) × (IsTableRefusal text refusal ⊎ (refusal ≡ Socket)) × (new ≡ old))
+-- The cycles of a master whose slaves are up, by what the wire is and the writer holds before and after: all is printed; or
+-- the lines until then.
+abbrev pub RunsCycles : ℕ → Contents → MasterState → (before after : WireState) → (old new : Option (List ℕ)) → Result Unit Refusal → Type 0
+RunsCycles cycles t first before after old new (Ok done) = (text : List ℕ) × IsWhole cycles t first before after text × Appends old new text
+RunsCycles cycles t first before after old new (Err refusal) =
+    EndsEarly cycles t first before after old new refusal
+    ⊎ (EndsUnshown cycles t first before after old new refusal
+    ⊎ (EndsUnwritten (IsSoFar cycles t first before after) old new refusal
+    ⊎ EndsUnwritten (IsWhole cycles t first before after) old new refusal))
+
+-- The cycles of a table over a wire: its slaves are brought up and the cycles run; or they don't come up, and nothing is
+-- printed.
+abbrev pub Loops : ℕ → Contents → (before after : WireState) → (old new : Option (List ℕ)) → Result Unit Refusal → Type 0
+Loops cycles t before after old new ended =
+    ((first : MasterState) × (between : WireState) × IsUp (plan_of t) before between first × RunsCycles cycles t first between after old new ended)
+    ⊎ ((refusal : Refusal) × (ended ≡ Err refusal) × IsStartRefusal (plan_of t) before after refusal × (new ≡ old))
+
+-- ---- over sockets
+
+-- between which ports it runs
+abbrev pub ports_line : ℕ → ℕ → List ℕ
+ports_line master segment = codes "ecat: loop between 127.0.0.1:" ++ (decimal master ++ (codes " and 127.0.0.1:" ++ (decimal segment ++ 10 ∷ [])))
+
+-- Two sockets of this process, with the table's slaves at one of them, just switched on: the ports are told, and then the
+-- cycles run over them. Sockets tell no payload, so what they carried is any.
+pub record LoopsBetween (cycles : ℕ) (t : Contents) (old new quiet told : Option (List ℕ)) (ended : Result Unit Refusal) : Type 0 where
+  pub slaves : List SlaveState
+  pub are : AreSlavesOf t slaves
+  pub ports : Ports
+  pub tells : IsTold (ports_line ports.master ports.segment) quiet told
+  -- how many calls of its wire were faults before and after
+  pub before : ℕ
+  pub after : ℕ
+  pub runs : Loops cycles t (silent before) (silent after) old new ended
+
+-- it is refused, and nothing is printed or told
+abbrev pub IsNeverRun : (Refusal → Type 0) → (old new quiet told : Option (List ℕ)) → Result Unit Refusal → Type 0
+IsNeverRun Refuses old new quiet told ended = (refusal : Refusal) × (ended ≡ Err refusal) × Refuses refusal × (new ≡ old) × (told ≡ quiet)
+
+-- no memory for the slaves, or no sockets
+abbrev pub IsUnbound : Refusal → Type 0
+IsUnbound refusal = (refusal ≡ Memory) ⊎ (refusal ≡ Socket)
+
+-- cycles of the table that a text states; or it is refused, or there are no sockets
+abbrev pub LoopsText : ℕ → List ℕ → (old new quiet told : Option (List ℕ)) → Result Unit Refusal → Type 0
+LoopsText cycles text old new quiet told ended =
+    ((t : Contents) × (table_of text ≡ Ok t) × (compile_fault t ≡ None) × LoopsBetween cycles t old new quiet told ended)
+    ⊎ IsNeverRun (λ refusal. IsTableRefusal text refusal ⊎ IsUnbound refusal) old new quiet told ended
 
 -- the same of what the input gives; or the input is refused
-abbrev pub RunsLoop : ℕ → Option (List ℕ) → Option (List ℕ) → Option (List ℕ) → Result Unit Refusal → Type 0
-RunsLoop cycles known old new ended =
-    ((text : List ℕ) × GivesText known text × LoopsText cycles text old new ended)
-    ⊎ ((refusal : Refusal) × (ended ≡ Err refusal) × IsInputRefusal refusal × (new ≡ old))
+abbrev pub RunsLoop : ℕ → Option (List ℕ) → (old new quiet told : Option (List ℕ)) → Result Unit Refusal → Type 0
+RunsLoop cycles known old new quiet told ended =
+    ((text : List ℕ) × GivesText known text × LoopsText cycles text old new quiet told ended)
+    ⊎ IsNeverRun (IsInputRefusal known) old new quiet told ended

@@ -13,6 +13,11 @@ abbrev pub Shows : List ℕ → Option (List ℕ) → Option (List ℕ) → Resu
 Shows text old new (Ok done) = Appends old new text
 Shows text old new (Err refusal) = (refusal ≡ Output) × AppendsPart old new text
 
+-- a text is told, all of it unless a write was refused; whether one was changes nothing else
+pub record IsTold (text : List ℕ) (old new : Option (List ℕ)) : Type 0 where
+  pub ended : Result Unit Refusal
+  pub shows : Shows text old new ended
+
 -- a command that prints its answer as a whole: it is printed; or a write was refused, and a first part of it is printed;
 -- or the command is refused, and nothing is printed
 abbrev pub Prints : (List ℕ → Type 0) → (Refusal → Type 0) → Option (List ℕ) → Option (List ℕ) → Result Unit Refusal → Type 0

@@ -1,5 +1,12 @@
 -- How a run of `ecat` ends, whatever it was asked for (this project's profile).
-use Rattle.std.specs.Prelude.{◌≡◌, ◌⊎◌, ℕ, List, [], ◌∷◌, ◌++◌, Option, Result, Ok, Err, codes}
+use Rattle.std.specs.Prelude.{◌≡◌, ◌≢◌, ◌⊎◌, ℕ, List, [], ◌∷◌, ◌++◌, map, Option, Result, Ok, Err, codes}
+use Rattle.std.specs.IoError.{error_kind}
+use Rattle.std.specs.Vec.Iter.{into_iter_items}
+use Rattle.std.specs.declared.alloc.Global.{Global}
+use Rattle.std.specs.declared.io.Error.{Error}
+use Rattle.std.specs.declared.io.ErrorKind.TheVariants.{OutOfMemory}
+use Rattle.std.specs.declared.string.String.{String}
+use Rattle.std.specs.declared.vec.IntoIter.{IntoIter}
 use Rattle.std.specs.String.{string_bytes}
 use Rattle.ec_args.specs.CommandLine.{Command, PassOf, PlanOf, SimOf, LoopOf, SegmentOf, Reads, command_of}
 use Rattle.ec_args.specs.declared.request.Notice.{Notice}
@@ -10,9 +17,9 @@ use Rattle.ec_app.specs.declared.refusal.Refusal.TheVariants.{Memory}
 use Rattle.ec_app.specs.Looping.{RunsLoop}
 use Rattle.ec_app.specs.Passing.{RunsPass}
 use Rattle.ec_app.specs.Planning.{RunsPlan}
-use Rattle.ec_app.specs.Printing.{AppendsPart, Shows}
+use Rattle.ec_app.specs.Printing.{IsTold, Shows}
 use Rattle.ec_app.specs.Refusals.{line_of, status_of}
-use Rattle.ec_app.specs.Serving.{IsNoted, RunsSegment}
+use Rattle.ec_app.specs.Serving.{RunsSegment}
 use Rattle.ec_app.specs.Simulating.{RunsSim}
 
 -- what a stream holds before and after, where it is known
@@ -20,18 +27,17 @@ pub record Stream : Type 0 where
   pub old : Option (List ℕ)
   pub new : Option (List ℕ)
 
--- what a command does with the output, by what the input gives, where that is known
-abbrev pub Runs : Command → (given : Option (List ℕ)) → Stream → Result Unit Refusal → Type 0
-Runs (PassOf slaves text) given output = RunsPass slaves text output.old output.new
-Runs (PlanOf explained) given output = RunsPlan explained given output.old output.new
-Runs SimOf given output = RunsSim given output.old output.new
-Runs (LoopOf cycles) given output = RunsLoop cycles given output.old output.new
-Runs (SegmentOf frames port) given output = RunsSegment frames given output.old output.new
+-- nothing is told of a command while it runs
+abbrev pub IsQuiet : Stream → Type 0
+IsQuiet told = told.new ≡ told.old
 
--- what is told of a command while it runs
-abbrev pub Notes : Command → Stream → Type 0
-Notes (SegmentOf frames port) faults = IsNoted port faults.old faults.new
-Notes _ faults = faults.new ≡ faults.old
+-- what a command does with the output, and what is told of it while it runs, by what the input gives, where that is known
+abbrev pub Runs : Command → (given : Option (List ℕ)) → (output told : Stream) → Result Unit Refusal → Type 0
+Runs (PassOf slaves text) given output told ended = RunsPass slaves text output.old output.new ended × IsQuiet told
+Runs (PlanOf explained) given output told ended = RunsPlan explained given output.old output.new ended × IsQuiet told
+Runs SimOf given output told ended = RunsSim given output.old output.new ended × IsQuiet told
+Runs (LoopOf cycles) given output told ended = RunsLoop cycles given output.old output.new told.old told.new ended
+Runs (SegmentOf frames port idle) given output told ended = RunsSegment frames port given output.old output.new told.old told.new ended
 
 -- what a command leaves alone: one that reads no input leaves it as it is, and one with no simulated application steps
 -- none
@@ -40,22 +46,21 @@ LeavesAlone (PassOf slaves text) input_old input_new app_old app_new = (input_ne
 LeavesAlone (PlanOf explained) input_old input_new app_old app_new = app_new ≡ app_old
 LeavesAlone SimOf input_old input_new app_old app_new = app_new ≡ app_old
 LeavesAlone (LoopOf cycles) input_old input_new app_old app_new = Unit {0}
-LeavesAlone (SegmentOf frames port) input_old input_new app_old app_new = Unit {0}
+LeavesAlone (SegmentOf frames port idle) input_old input_new app_old app_new = Unit {0}
 
--- the exit status of a run, and what is told of it: a refusal's line, or a first part of it where the fault stream takes
--- no more
+-- the exit status of a run, and what is told of it: a refusal's line
 abbrev pub Tells : Stream → ℕ → Result Unit Refusal → Type 0
 Tells faults status (Ok done) = (status ≡ 0) × (faults.new ≡ faults.old)
-Tells faults status (Err refusal) = (status ≡ status_of refusal) × AppendsPart faults.old faults.new (line_of refusal)
+Tells faults status (Err refusal) = (status ≡ status_of refusal) × IsTold (line_of refusal) faults.old faults.new
 
 -- how a run ends that was asked for a command, or that has to tell something in place of one
 abbrev pub Ends : Result Request Notice → (given : Option (List ℕ)) → (output faults : Stream) → ℕ → Type 0
 Ends (Ok request) given output faults status =
-    (ended : Result Unit Refusal) × (noted : Option (List ℕ)) × Runs (command_of request) given output ended
-    × Notes (command_of request) (record { old = faults.old; new = noted }) × Tells (record { old = noted; new = faults.new }) status ended
+    (ended : Result Unit Refusal) × (noted : Option (List ℕ)) × Runs (command_of request) given output (record { old = faults.old; new = noted }) ended
+    × Tells (record { old = noted; new = faults.new }) status ended
 Ends (Err notice.Memory) given output faults status = (output.new ≡ output.old) × Tells faults status (Err Memory)
 Ends (Err (notice.Help text)) given output faults status = (ended : Result Unit Refusal) × Shows (string_bytes text) output.old output.new ended × Tells faults status ended
-Ends (Err (notice.Usage text)) given output faults status = (status ≡ 2) × (output.new ≡ output.old) × AppendsPart faults.old faults.new (string_bytes text)
+Ends (Err (notice.Usage text)) given output faults status = (status ≡ 2) × (output.new ≡ output.old) × IsTold (string_bytes text) faults.old faults.new
 
 -- what a run leaves alone
 abbrev pub EndsAlone : {R A : Type 0} → Result Request Notice → (input_old input_new : R) → (app_old app_new : A) → Type 0
@@ -68,7 +73,7 @@ LeavesInput (PassOf slaves text) old new = new ≡ old
 LeavesInput (PlanOf explained) old new = Unit {0}
 LeavesInput SimOf old new = Unit {0}
 LeavesInput (LoopOf cycles) old new = Unit {0}
-LeavesInput (SegmentOf frames port) old new = Unit {0}
+LeavesInput (SegmentOf frames port idle) old new = Unit {0}
 
 -- what a run leaves of it: all, too, where there is something to tell in place of a command
 abbrev pub EndsUnread : {R : Type 0} → Result Request Notice → (old new : R) → Type 0
@@ -79,9 +84,21 @@ EndsUnread (Err told) old new = new ≡ old
 abbrev pub not_text : List ℕ
 not_text = codes "error: an argument of the command line isn't text" ++ 10 ∷ []
 
--- how a run ends whose arguments the system gives: as with some arguments; or, where they can't be read, with nothing
--- read or printed, and what is told in its place
-abbrev pub EndsSomehow : {R : Type 0} → (given : Option (List ℕ)) → (input_old input_new : R) → (output faults : Stream) → ℕ → Type 0
-EndsSomehow given input_old input_new output faults status =
-    ((args : List (List ℕ)) × (read : Result Request Notice) × Reads args read × Ends read given output faults status × EndsUnread read input_old input_new)
-    ⊎ ((input_new ≡ input_old) × (output.new ≡ output.old) × (Tells faults status (Err Memory) ⊎ ((status ≡ 2) × AppendsPart faults.old faults.new not_text)))
+-- the arguments that an iterator still gives, as texts
+abbrev pub given_words : IntoIter (String Global) Global → List (List ℕ)
+given_words given = map string_bytes (into_iter_items given)
+
+-- what is told of arguments that can't be read, by the error that the system gave: that memory ran out, or that one isn't text
+abbrev pub TellsUnread : Error → (faults : Stream) → ℕ → Type 0
+TellsUnread error faults status =
+    ((error_kind error ≡ OutOfMemory) × Tells faults status (Err Memory))
+    ⊎ ((error_kind error ≢ OutOfMemory) × (status ≡ 2) × IsTold not_text faults.old faults.new)
+
+-- how a run ends to which the system gave these arguments: as with them; or, where memory runs out before they are read or
+-- they can't be read, with nothing read or printed, and what is told in its place
+abbrev pub EndsGiven : {R : Type 0} → Result (IntoIter (String Global) Global) Error → (known : Option (List ℕ)) → (input_old input_new : R) → (output faults : Stream) → ℕ → Type 0
+EndsGiven (Ok given) known input_old input_new output faults status =
+    ((read : Result Request Notice) × Reads (given_words given) read × Ends read known output faults status × EndsUnread read input_old input_new)
+    ⊎ ((input_new ≡ input_old) × (output.new ≡ output.old) × Tells faults status (Err Memory))
+EndsGiven (Err error) known input_old input_new output faults status =
+    (input_new ≡ input_old) × (output.new ≡ output.old) × TellsUnread error faults status

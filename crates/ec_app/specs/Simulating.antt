@@ -1,13 +1,12 @@
 -- What `ecat sim` answers (this project's profile).
-use Rattle.std.specs.Prelude.{◌≡◌, ◌⊎◌, ◌<◌, ℕ, List, [], ◌∷◌, ◌++◌, length, take, get_or, Option, Some, None, Result, Ok, Err}
+use Rattle.std.specs.Prelude.{◌≡◌, ◌⊎◌, ℕ, List, [], ◌∷◌, ◌++◌, take, Option, None, Result, Ok, Err}
 use Rattle.std.specs.Io.KnownBytes.{Appends}
 use Rattle.ec_regs.specs.declared.slave_type.Identity.{Identity}
 use Rattle.ec_table.specs.Contents.{Contents}
-use Rattle.ec_table.specs.Objects.{identity_of}
 use Rattle.ec_table.specs.Reading.{table_of}
 use Rattle.ec_link.specs.Faults.{compile_fault}
 use Rattle.ec_link.specs.Plan.{plan_of}
-use Rattle.ec_world.specs.NewWorld.{no_identity}
+use Rattle.ec_rise.specs.SwitchedOn.{AreIdentities}
 use Rattle.ec_world.specs.Whole.{new_world}
 use Rattle.ec_world.specs.World.{WorldState}
 use Rattle.ec_script.specs.declared.error.ScriptError.{ScriptError}
@@ -47,11 +46,6 @@ IsLate Output = Unit {0}
 IsLate _ = ⊥
 
 -- ---- the whole
-
--- each slave shows its type's device and its own serial number
-pub record AreIdentities (t : Contents) (identities : List Identity) : Type 0 where
-  pub one_each : length identities ≡ length t.slaves
-  pub each : (k : ℕ) → k < length t.slaves → identity_of t k ≡ Some (get_or identities k no_identity)
 
 -- a text is a table that has a plan, and a script
 pub record IsSimulation (text : List ℕ) (t : Contents) (lines : List Line) : Type 0 where
@@ -105,4 +99,4 @@ RunsText text old new (Err refusal) =
 -- the same of what the input gives; or the input is refused
 abbrev pub RunsSim : Option (List ℕ) → Option (List ℕ) → Option (List ℕ) → Result Unit Refusal → Type 0
 RunsSim known old new ended =
-    ((text : List ℕ) × GivesText known text × RunsText text old new ended) ⊎ ((refusal : Refusal) × (ended ≡ Err refusal) × IsInputRefusal refusal × (new ≡ old))
+    ((text : List ℕ) × GivesText known text × RunsText text old new ended) ⊎ ((refusal : Refusal) × (ended ≡ Err refusal) × IsInputRefusal known refusal × (new ≡ old))

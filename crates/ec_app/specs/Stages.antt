@@ -5,8 +5,10 @@ use Rattle.ec_link.specs.Faults.{Fails as LinkFails, compile_fault}
 use Rattle.ec_script.specs.declared.line.Line.{Line}
 use Rattle.ec_script.specs.Scripts.{Fails as ScriptFails, script_of}
 use Rattle.ec_app.specs.declared.refusal.Refusal.{Refusal}
-use Rattle.ec_app.specs.declared.refusal.Refusal.TheVariants.{Memory, Link, Socket, Script}
-use Rattle.ec_app.specs.Looping.{Loops}
+use Rattle.ec_app.specs.declared.refusal.Refusal.TheVariants.{Memory, Link, Script}
+use Rattle.ec_cycle.specs.Master.{MasterState}
+use Rattle.ec_wire.specs.Wires.{WireState}
+use Rattle.ec_app.specs.Looping.{EndsEarly, EndsUnwritten, IsNeverRun, IsSoFar, IsUnbound, LoopsBetween}
 use Rattle.ec_app.specs.Simulating.{RunsLines}
 
 -- the first fault of a table that was read
@@ -15,11 +17,19 @@ IsLinkRefusal table Memory = Unit {0}
 IsLinkRefusal table (Link error) = LinkFails error (compile_fault table)
 IsLinkRefusal table _ = ⊥
 
--- the cycles of a table; or it is refused, or there is no socket
-abbrev pub LoopsTable : ℕ → Contents → Option (List ℕ) → Option (List ℕ) → Result Unit Refusal → Type 0
-LoopsTable cycles t old new ended =
-    ((compile_fault t ≡ None) × Loops cycles t old new ended)
-    ⊎ ((refusal : Refusal) × (ended ≡ Err refusal) × (IsLinkRefusal t refusal ⊎ (refusal ≡ Socket)) × (new ≡ old))
+-- the cycles of a master are cut short
+abbrev pub IsCut : ℕ → Contents → MasterState → (before after : WireState) → (old new : Option (List ℕ)) → Refusal → Type 0
+IsCut cycles t first before after old new refusal = EndsEarly cycles t first before after old new refusal ⊎ EndsUnwritten (IsSoFar cycles t first before after) old new refusal
+
+-- the cycles of a table; or there is no memory for its slaves, or no sockets
+abbrev pub LoopsOnSockets : ℕ → Contents → (old new quiet told : Option (List ℕ)) → Result Unit Refusal → Type 0
+LoopsOnSockets cycles t old new quiet told ended = LoopsBetween cycles t old new quiet told ended ⊎ IsNeverRun IsUnbound old new quiet told ended
+
+-- the same of a table that was read; or it is refused
+abbrev pub LoopsTable : ℕ → Contents → (old new quiet told : Option (List ℕ)) → Result Unit Refusal → Type 0
+LoopsTable cycles t old new quiet told ended =
+    ((compile_fault t ≡ None) × LoopsBetween cycles t old new quiet told ended)
+    ⊎ IsNeverRun (λ refusal. IsLinkRefusal t refusal ⊎ IsUnbound refusal) old new quiet told ended
 
 -- the first bad line of a script
 abbrev pub IsBadScript : Contents → List ℕ → Refusal → Type 0

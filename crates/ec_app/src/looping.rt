@@ -6,19 +6,24 @@ ghost use Rattle.ec_link.specs.Faults.{compile_fault};
 ghost use Rattle.ec_link.specs.Plan.{plan_of};
 ghost use Rattle.ec_start.specs.Planned.{HasFewAssigned};
 ghost use Rattle.ec_cycle.specs.Closing.{ReportState};
-ghost use Rattle.ec_cycle.specs.Master.{readied};
+ghost use Rattle.ec_cycle.specs.Master.{new_master};
+ghost use Rattle.ec_rise.specs.SwitchedOn.{AreSlavesOf};
 ghost use Rattle.ec_wire.specs.Running.{IsRun};
 ghost use Rattle.ec_script.specs.Texts.{report_text};
 ghost use Rattle.ec_text.specs.PlanText.{lines_from};
-ghost use Rattle.ec_app.specs.Looping.{CanCycle, CutShort, HaveRun, IsCycleRefusal, IsRunEnd, IsSoFar, IsStartRefusal, IsUp, Loops, LoopsOnSockets, LoopsText, RunsLoop, cycles_text, input_line, inputs_text, output_put, shown, with_outputs};
-ghost use Rattle.ec_app.specs.Stages.{LoopsTable};
+ghost use Rattle.ec_app.specs.Looping.{AreRun, CanCycle, IsCycleRefusal, IsRunEnd, IsStartRefusal, IsUnbound, IsUp, Loops, LoopsText, RunsCycles, RunsLoop, cycles_text, input_line, inputs_text, output_put, ports_line, shown, with_outputs};
+ghost use Rattle.ec_app.specs.Printing.{IsTold};
+ghost use Rattle.ec_app.specs.Stages.{IsCut, LoopsOnSockets, LoopsTable};
 
 use crate::Refusal;
+use crate::digits::push_number;
 use crate::input::read_text;
-use crate::machine::slaves_of;
-use crate::printing::print_text;
+use crate::printing::{print_text, tell_text};
+use arrayvec::ArrayString;
 use ec_cycle::{Master, Report};
 use ec_link::{Plan, Variable, compile};
+use ec_ring::Ring;
+use ec_rise::slaves_of;
 use ec_script::write_report;
 use ec_start::Startup;
 use ec_table::{Direction, Table, VariableRow, read_table};
@@ -30,6 +35,9 @@ use std::net::Net;
 
 /// What is printed when the slaves are up.
 const READY: &str = "ready\n";
+
+/// As many bytes as the line of the ports may have.
+const LINE_SIZE: usize = 96;
 
 /// A number as far as so many bits hold it.
 fn cut_to(number: u64, bits: u8) -> u64
@@ -66,16 +74,18 @@ fn set_outputs(master: &mut Master<'_>, plan: &Plan, number: u64)
     }
 }
 
-/// Brings the slaves of a master's plan up over a wire; the master can begin cycles then.
+/// Brings the slaves of a plan up over a wire for a new master of it, which can begin cycles then.
+#[tactic(auto, unfolding(ec_start::specs::Running::begun))]
 fn bring_up_for<W: Wire>(
     alloc: Global,
     plan: &Plan,
     master: &mut Master<'_>,
     wire: &mut W,
 ) -> Result<(), Refusal>
-    requires { All HasFewAssigned plan.now.slaves }
-    ensures ready { OnOk result ((next : ℕ) × (master.new ≡ readied master.old next)) }
-    ensures refused { IfErr result IsStartRefusal }
+    requires few { All HasFewAssigned plan.now.slaves }
+    requires new { master.old ≡ new_master plan.now }
+    ensures up { OnOk result (IsUp plan.now (W.state wire.old) (W.state wire.new) master.new) }
+    ensures refused { IfErr result (IsStartRefusal plan.now (W.state wire.old) (W.state wire.new)) }
 {
     let mut startup = Startup::new(alloc, plan, 0)?;
     bring_up_wire(&mut startup, wire);
@@ -94,8 +104,8 @@ fn started<'p, W: Wire>(
     requires accepted { compile_fault table.now ≡ None }
     requires plan { plan.now ≡ plan_of table.now }
     ensures ready { IfOk result (CanCycle plan.now) }
-    ensures up { IfOk result (IsUp table.now) }
-    ensures refused { IfErr result IsStartRefusal }
+    ensures up { IfOk result (IsUp plan.now (W.state wire.old) (W.state wire.new)) }
+    ensures refused { IfErr result (IsStartRefusal plan.now (W.state wire.old) (W.state wire.new)) }
 {
     let _version = table.version();
     let mut master = Master::new(alloc, plan)?;
@@ -113,7 +123,7 @@ fn run_number<W: Wire>(
     requires ready { CanCycle plan.now master.old }
     ensures ready { OnOk result (CanCycle plan.now master.new) }
     ensures run { IfOk result (λ r. IsRun (with_outputs master.old number) (W.state wire.old) (W.state wire.new) (Ok r) master.new) }
-    ensures ended { IfErr result IsRunEnd }
+    ensures ended { IfErr result (IsRunEnd (with_outputs master.old number) (W.state wire.old) (W.state wire.new)) }
 {
     set_outputs(master, plan, number);
     run_cycle(master, wire)
@@ -133,7 +143,7 @@ fn cycle_line<W: Wire>(
         × IsRun (with_outputs master.old number) (W.state wire.old) (W.state wire.new) (Ok r) master.new
         × (string_bytes text ≡ report_text table.now.version plan.now.parts r)) }
     ensures ready { OnOk result (CanCycle plan.now master.new) }
-    ensures refused { IfErr result IsCycleRefusal }
+    ensures refused { IfErr result (IsCycleRefusal (with_outputs master.old number) (W.state wire.old) (W.state wire.new)) }
 {
     let report = run_number(plan, master, wire, number)?;
     let mut text = String::new(alloc);
@@ -153,11 +163,11 @@ fn print_cycles<W: Wire, O: Write>(
 ) -> Result<(), Refusal>
     requires plan { plan.now ≡ plan_of table.now }
     requires ready { CanCycle plan.now master.old }
-    requires up { IsUp table.now master.old }
-    ensures all { OnOk result ((reports : List ReportState) × HaveRun table.now reports master.new × (length reports ≡ cycles)
+    ensures all { OnOk result ((reports : List ReportState)
+        × AreRun master.old (W.state wire.old) 1 reports master.new (W.state wire.new) × (length reports ≡ cycles)
         × Appends (O.contents output.old) (O.contents output.new) (cycles_text table.now reports)) }
-    ensures part { IfErr result (λ refusal. (text : List ℕ) × IsSoFar cycles table.now text
-        × CutShort refusal (O.contents output.old) (O.contents output.new) text) }
+    ensures part { IfErr result (IsCut cycles table.now master.old (W.state wire.old) (W.state wire.new)
+        (O.contents output.old) (O.contents output.new)) }
 {
     print_text(READY.as_bytes(), output)?;
     for cycle in 0..cycles {
@@ -234,8 +244,8 @@ fn run_started<W: Wire, O: Write>(
 ) -> Result<(), Refusal>
     requires plan { plan.now ≡ plan_of table.now }
     requires ready { CanCycle plan.now master.old }
-    requires up { IsUp table.now master.old }
-    ensures { Loops cycles table.now (O.contents output.old) (O.contents output.new) result }
+    ensures { RunsCycles cycles table.now master.old (W.state wire.old) (W.state wire.new)
+        (O.contents output.old) (O.contents output.new) result }
 {
     print_cycles(alloc, table, plan, master, wire, cycles, output)?;
     let lines = input_lines(alloc, table, master)?;
@@ -260,72 +270,120 @@ pub fn run_loop<W: Wire, O: Write>(
 ) -> Result<(), Refusal>
     requires accepted { compile_fault table.now ≡ None }
     requires plan { plan.now ≡ plan_of table.now }
-    ensures { Loops cycles table.now (O.contents output.old) (O.contents output.new) result }
+    ensures { Loops cycles table.now (W.state wire.old) (W.state wire.new)
+        (O.contents output.old) (O.contents output.new) result }
 {
     let mut master = started(alloc, table, plan, wire)?;
     run_started(alloc, table, plan, &mut master, wire, cycles, output)
 }
 
+/// What a loop of a table runs between: its slaves, just switched on, and two sockets of this process.
+fn loop_ends<H: AllocGlobal + Net>(
+    rt: &H,
+    table: &Table,
+    plan: &Plan,
+) -> Result<(Ring, Sockets), Refusal>
+    requires accepted { compile_fault table.now ≡ None }
+    requires plan { plan.now ≡ plan_of table.now }
+    ensures slaves { IfOk result (λ ends. AreSlavesOf table.now ends.0) }
+    ensures refused { IfErr result IsUnbound }
+{
+    let slaves = slaves_of(rt.alloc(), table, plan)?;
+    let sockets = Sockets::bind(rt)?;
+    Ok((slaves, sockets))
+}
+
+/// The line that says between which ports a loop runs.
+fn between(ports: (u16, u16)) -> ArrayString<LINE_SIZE>
+    ensures { result.bytes ≡ ports_line ports.0 ports.1 }
+{
+    let mut line = ArrayString::new();
+    line.push_str("ecat: loop between 127.0.0.1:");
+    push_number(&mut line, u64::from(ports.0));
+    line.push_str(" and 127.0.0.1:");
+    push_number(&mut line, u64::from(ports.1));
+    line.push_str("\n");
+    line
+}
+
+/// Tells between which ports a loop runs. A fault in telling it changes nothing.
+fn tell_ports<F: Write>(ports: (u16, u16), faults: &mut F)
+    ensures { IsTold (ports_line ports.0 ports.1) (F.contents faults.old) (F.contents faults.new) }
+{
+    let line = between(ports);
+    tell_text(line.as_bytes(), faults);
+}
+
 /// Runs cycles of a table's plan over two sockets.
-fn loop_plan<H: AllocGlobal + Net, W: Write>(
+#[tactic(auto, using(crate::proofs::LoopLemmas::no_wire, crate::proofs::LoopLemmas::looped_between))]
+fn loop_plan<H: AllocGlobal + Net, W: Write, F: Write>(
     rt: &H,
     table: &Table,
     plan: &Plan,
     cycles: u16,
     output: &mut W,
+    faults: &mut F,
     app: &mut dyn App,
 ) -> Result<(), Refusal>
     requires accepted { compile_fault table.now ≡ None }
     requires plan { plan.now ≡ plan_of table.now }
-    ensures { LoopsOnSockets cycles table.now (W.contents output.old) (W.contents output.new) result }
+    ensures { LoopsOnSockets cycles table.now (W.contents output.old) (W.contents output.new)
+        (F.contents faults.old) (F.contents faults.new) result }
 {
-    let slaves = slaves_of(rt.alloc(), plan)?;
-    let sockets = Sockets::bind(rt)?;
-    let mut wire = LoopWire::new(sockets, slaves, app);
+    let ends = loop_ends(rt, table, plan)?;
+    tell_ports(ends.1.ports(), faults);
+    let mut wire = LoopWire::new(ends.1, ends.0, app);
     run_loop(rt.alloc(), table, plan, &mut wire, cycles, output)
 }
 
 /// Runs cycles of a table that was read, over two sockets.
-fn loop_table<H: AllocGlobal + Net, W: Write>(
+#[tactic(auto, using(crate::proofs::LoopLemmas::never_run, crate::proofs::LoopLemmas::on_table))]
+fn loop_table<H: AllocGlobal + Net, W: Write, F: Write>(
     rt: &H,
     cycles: u16,
     table: &Table,
     output: &mut W,
+    faults: &mut F,
     app: &mut dyn App,
 ) -> Result<(), Refusal>
-    ensures { LoopsTable cycles table.now (W.contents output.old) (W.contents output.new) result }
+    ensures { LoopsTable cycles table.now (W.contents output.old) (W.contents output.new)
+        (F.contents faults.old) (F.contents faults.new) result }
 {
     let plan = compile(rt.alloc(), table)?;
-    loop_plan(rt, table, &plan, cycles, output, app)
+    loop_plan(rt, table, &plan, cycles, output, faults, app)
 }
 
 /// Runs cycles of the table that a text states, over two sockets.
-fn loop_text<H: AllocGlobal + Net, W: Write>(
+fn loop_text<H: AllocGlobal + Net, W: Write, F: Write>(
     rt: &H,
     cycles: u16,
     text: &str,
     output: &mut W,
+    faults: &mut F,
     app: &mut dyn App,
 ) -> Result<(), Refusal>
-    ensures { LoopsText cycles text.now (W.contents output.old) (W.contents output.new) result }
+    ensures { LoopsText cycles text.now (W.contents output.old) (W.contents output.new)
+        (F.contents faults.old) (F.contents faults.new) result }
 {
     let table = read_table(rt.alloc(), text)?;
-    loop_table(rt, cycles, &table, output, app)
+    loop_table(rt, cycles, &table, output, faults, app)
 }
 
 /// Runs so many cycles of the table that the input states, master and slaves on two sockets of this process, the slaves'
-/// applications being `app`. In the n-th cycle each output variable is sent as n, as far as it has bits. It prints a line
-/// when the slaves are up, the report on each cycle before the next begins, and at the end the input variables.
-pub fn print_loop<H: AllocGlobal + Net, R: Read, W: Write>(
+/// applications being `app`. It tells the ports of the sockets on `faults`. In the n-th cycle each output variable is sent
+/// as n, as far as it has bits. It prints a line when the slaves are up, the report on each cycle before the next begins,
+/// and at the end the input variables.
+pub fn print_loop<H: AllocGlobal + Net, R: Read, W: Write, F: Write>(
     rt: &H,
     cycles: u16,
     input: &mut R,
     output: &mut W,
+    faults: &mut F,
     app: &mut dyn App,
 ) -> Result<(), Refusal>
     ensures { RunsLoop cycles (R.remaining input.old) (W.contents output.old) (W.contents output.new)
-        result }
+        (F.contents faults.old) (F.contents faults.new) result }
 {
     let text = read_text(rt.alloc(), input)?;
-    loop_text(rt, cycles, text.as_str(), output, app)
+    loop_text(rt, cycles, text.as_str(), output, faults, app)
 }

@@ -1,8 +1,8 @@
 //! Texts on the output and on the fault stream.
 ghost use Rattle.std.specs.Prelude.{◌≡◌, IfErr, OnErr, OnOk};
 ghost use Rattle.std.specs.Io.KnownBytes.{Appends};
-ghost use Rattle.ec_app.specs.Printing.{AppendsPart, Shows};
-ghost use Rattle.ec_app.specs.Refusals.{line_of};
+ghost use Rattle.ec_app.specs.Printing.{AppendsPart, IsTold, Shows};
+ghost use Rattle.ec_app.specs.Refusals.{line_of, status_of};
 
 use crate::Refusal;
 use std::io::{ErrorKind, Write};
@@ -41,6 +41,14 @@ pub fn print_text<W: Write>(text: &[u8], output: &mut W) -> Result<(), Refusal>
     output.flush().map_err(|_| Refusal::Output)
 }
 
+/// Tells a text. A fault in telling it changes nothing.
+#[tactic(auto, using(crate::proofs::PrintLemmas::told))]
+pub(crate) fn tell_text<F: Write>(text: &[u8], faults: &mut F)
+    ensures { IsTold text.now (F.contents faults.old) (F.contents faults.new) }
+{
+    let _ = print_text(text, faults);
+}
+
 /// Tells a refusal: its line `ecat: NUMBER NAME VALUES` is written once, as `print_text` writes it.
 /// It takes no memory.
 #[tactic(auto, using(crate::proofs::PrintLemmas::shown))]
@@ -49,4 +57,14 @@ pub fn tell<F: Write>(refusal: &Refusal, faults: &mut F) -> Result<(), Refusal>
 {
     let line = refusal.line();
     print_text(line.as_bytes(), faults)
+}
+
+/// Tells a refusal and answers its exit status. A fault in telling it changes nothing.
+#[tactic(auto, using(crate::proofs::PrintLemmas::told_by))]
+pub(crate) fn tell_and_end<F: Write>(refusal: &Refusal, faults: &mut F) -> u8
+    ensures status { result ≡ status_of refusal.now }
+    ensures told { IsTold (line_of refusal.now) (F.contents faults.old) (F.contents faults.new) }
+{
+    let _ = tell(refusal, faults);
+    refusal.status()
 }

@@ -44,7 +44,7 @@ pub enum Refusal {
     BadHex,
     /// The output took no more.
     Output,
-    /// The input couldn't be read, isn't text, or doesn't end.
+    /// The input couldn't be read, isn't text, or is too long.
     Input,
 }
 

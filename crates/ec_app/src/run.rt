@@ -3,13 +3,13 @@ ghost use Rattle.std.specs.Prelude.{◌≡◌, ◌∷◌, [], map, Contains, Res
 ghost use Rattle.ec_args.specs.CommandLine.{Reads, command_of};
 ghost use Rattle.ec_args.specs.declared.request.Notice.{Notice as NoticeValue};
 ghost use Rattle.ec_args.specs.declared.request.Request.{Request as RequestValue};
-ghost use Rattle.ec_app.specs.Running.{Ends, EndsAlone, LeavesAlone, Notes, Runs, Tells};
+ghost use Rattle.ec_app.specs.Running.{Ends, EndsAlone, LeavesAlone, Runs, Tells};
 
 use crate::Refusal;
 use crate::looping::print_loop;
 use crate::pass::print_pass;
 use crate::plan::print_plan;
-use crate::printing::{print_text, tell};
+use crate::printing::{print_text, tell_and_end, tell_text};
 use crate::segment::print_segment;
 use crate::sim::print_sim;
 use ec_args::{Notice, Request, read_args};
@@ -29,18 +29,17 @@ fn run_request<H: AllocGlobal + Net, R: Read, W: Write, F: Write>(
     app: &mut dyn App,
 ) -> Result<(), Refusal>
     ensures runs { Runs (command_of request.entry) (R.remaining input.old)
-        (record { old = W.contents output.old; new = W.contents output.new }) result }
-    ensures notes { Notes (command_of request.entry)
-        (record { old = F.contents faults.old; new = F.contents faults.new }) }
+        (record { old = W.contents output.old; new = W.contents output.new })
+        (record { old = F.contents faults.old; new = F.contents faults.new }) result }
     ensures alone { LeavesAlone (command_of request.entry) input.old input.new app.old app.new }
 {
     match request {
         Request::Pass { slaves, frame } => print_pass(rt.alloc(), slaves.into(), frame, output),
         Request::Plan { explained } => print_plan(rt.alloc(), explained, input, output),
         Request::Sim => print_sim(rt.alloc(), input, output),
-        Request::Loop { cycles } => print_loop(rt, cycles, input, output, app),
-        Request::Segment { frames, port } => {
-            print_segment(rt, frames, port, input, output, faults, app)
+        Request::Loop { cycles } => print_loop(rt, cycles, input, output, faults, app),
+        Request::Segment { frames, port, idle } => {
+            print_segment(rt, frames, port, idle, input, output, faults, app)
         }
     }
 }
@@ -52,10 +51,7 @@ fn exit_status<F: Write>(ended: Result<(), Refusal>, faults: &mut F) -> u8
 {
     match ended {
         Ok(()) => 0,
-        Err(refusal) => {
-            let _ = tell(&refusal, faults);
-            refusal.status()
-        }
+        Err(refusal) => tell_and_end(&refusal, faults),
     }
 }
 
@@ -84,7 +80,7 @@ fn end_run<H: AllocGlobal + Net, R: Read, W: Write, F: Write>(
         Err(Notice::Memory) => exit_status(Err(Refusal::Memory), faults),
         Err(Notice::Help(text)) => exit_status(print_text(text.as_bytes(), output), faults),
         Err(Notice::Usage(text)) => {
-            let _ = print_text(text.as_bytes(), faults);
+            tell_text(text.as_bytes(), faults);
             2
         }
     }

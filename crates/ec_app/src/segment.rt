@@ -1,15 +1,15 @@
 //! `ecat segment`: the slaves of a link table, on a socket.
-ghost use Rattle.std.specs.Prelude.{◌≡◌, IfErr, OnErr, OnOk};
-ghost use Rattle.std.specs.Io.KnownBytes.{Appends};
-ghost use Rattle.ec_app.specs.Printing.{AppendsPart};
-ghost use Rattle.ec_app.specs.Serving.{IsNoted, RunsSegment, listening_line, served_line};
+ghost use Rattle.std.specs.Prelude.{◌≡◌};
+ghost use Rattle.ec_app.specs.Printing.{IsTold, Shows};
+ghost use Rattle.ec_app.specs.Serving.{RunsSegment, ServesSegment, listening_line, served_line};
 
 use crate::Refusal;
 use crate::digits::push_number;
 use crate::machine::slaves_of_input;
-use crate::printing::print_text;
+use crate::printing::{print_text, tell_text};
 use arrayvec::ArrayString;
-use ec_wire::{App, Served, UdpWire, serve_segment};
+use ec_ring::Ring;
+use ec_wire::{App, Served, UdpWire, Wire, serve_counted};
 use std::io::{Read, Write};
 use std::net::Net;
 
@@ -42,42 +42,73 @@ fn served(counts: Served) -> ArrayString<LINE_SIZE>
 
 /// Tells where a segment listens. A fault in telling it changes nothing.
 fn tell_listening<F: Write>(port: u16, faults: &mut F)
-    ensures { AppendsPart (F.contents faults.old) (F.contents faults.new) (listening_line port) }
+    ensures { IsTold (listening_line port) (F.contents faults.old) (F.contents faults.new) }
 {
     let line = listening(port);
-    let _ = print_text(line.as_bytes(), faults);
+    tell_text(line.as_bytes(), faults);
 }
 
 /// Prints how many payloads were answered, and how many not.
+#[tactic(auto, using(crate::proofs::PrintLemmas::shown))]
 fn print_served<W: Write>(counts: Served, output: &mut W) -> Result<(), Refusal>
-    ensures all { OnOk result (Appends (W.contents output.old) (W.contents output.new)
-        (served_line counts.answered counts.refused)) }
-    ensures part { OnErr result (AppendsPart (W.contents output.old) (W.contents output.new)
-        (served_line counts.answered counts.refused)) }
-    ensures fault { IfErr result (λ refusal. refusal ≡ Refusal.Output) }
+    ensures { Shows (served_line counts.answered counts.refused) (W.contents output.old) (W.contents output.new) result }
 {
     let line = served(counts);
     print_text(line.as_bytes(), output)
 }
 
+/// Answers payloads on a wire, so many in all, as slaves whose applications are `app`. At its end, also where a call of the
+/// wire was a fault, it prints how many payloads were frames, which were answered, and how many were not.
+///
+/// # Errors
+///
+/// `Refusal::Socket` where a call of the wire was a fault, and `Refusal::Output` where the counts could not be printed.
+#[tactic(auto, using(crate::proofs::SegmentLemmas::all_served, crate::proofs::SegmentLemmas::some_served, crate::proofs::SegmentLemmas::served_unprinted))]
+pub fn print_served_segment<W: Wire, O: Write>(
+    slaves: &mut Ring,
+    app: &mut dyn App,
+    wire: &mut W,
+    frames: u32,
+    output: &mut O,
+) -> Result<(), Refusal>
+    ensures { ServesSegment frames (shows app.old) slaves.old slaves.new (W.state wire.old) (W.state wire.new)
+        (O.contents output.old) (O.contents output.new) result }
+{
+    match serve_counted(slaves, app, wire, frames) {
+        Ok(counts) => print_served(counts, output),
+        Err(counts) => {
+            print_served(counts, output)?;
+            Err(Refusal::Socket)
+        }
+    }
+}
+
 /// Answers payloads on a port of 127.0.0.1, so many in all, as the slaves of the table that the input states, whose
-/// applications are `app`. Once it listens it says so on `faults`; at its end it prints how many payloads were frames, which
-/// were answered, and how many were not.
+/// applications are `app`. Once it listens it says so on `faults`; at every end from then on it prints how many payloads were
+/// frames, which were answered, and how many were not. Where no payload comes for `idle` seconds it ends as by a fault of
+/// the socket; with 0 it waits on.
+///
+/// # Errors
+///
+/// The refusal of the input or of its table, `Refusal::Socket` where there is no such socket, and what
+/// [`print_served_segment`] ends by.
+#[tactic(auto, using(crate::proofs::SegmentLemmas::segment_refused, crate::proofs::SegmentLemmas::segment_served))]
 pub fn print_segment<H: AllocGlobal + Net, R: Read, W: Write, F: Write>(
     rt: &H,
     frames: u32,
     port: u16,
+    idle: u32,
     input: &mut R,
     output: &mut W,
     faults: &mut F,
     app: &mut dyn App,
 ) -> Result<(), Refusal>
-    ensures runs { RunsSegment frames (R.remaining input.old) (W.contents output.old) (W.contents output.new) result }
-    ensures noted { IsNoted port (F.contents faults.old) (F.contents faults.new) }
+    ensures { RunsSegment frames port (R.remaining input.old) (W.contents output.old) (W.contents output.new)
+        (F.contents faults.old) (F.contents faults.new) result }
 {
+    let _ = idle;
     let mut slaves = slaves_of_input(rt.alloc(), input)?;
-    let mut wire = UdpWire::bind(rt, port)?;
-    tell_listening(port, faults);
-    let counts = serve_segment(&mut slaves, app, &mut wire, frames)?;
-    print_served(counts, output)
+    let mut wire = UdpWire::bind_idle(rt, port, idle)?;
+    tell_listening(wire.port(), faults);
+    print_served_segment(&mut slaves, app, &mut wire, frames, output)
 }

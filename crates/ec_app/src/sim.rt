@@ -1,35 +1,20 @@
 //! `ecat sim`: a link table and a script on the input, and what the script does to a simulated segment of the table.
-ghost use Rattle.std.specs.Prelude.{◌≡◌, IfErr, IfOk, None, OnErr, OnOk};
+ghost use Rattle.std.specs.Prelude.{◌≡◌, IfErr, None, OnErr, OnOk};
 ghost use Rattle.ec_link.specs.Faults.{compile_fault};
 ghost use Rattle.ec_link.specs.Plan.{plan_of};
-ghost use Rattle.ec_app.specs.Simulating.{AreIdentities, IsLate, PrintsLines, PrintsSome, RunsLines, RunsSim, RunsText};
+ghost use Rattle.ec_app.specs.Simulating.{IsLate, PrintsLines, PrintsSome, RunsLines, RunsSim, RunsText};
 ghost use Rattle.ec_app.specs.Stages.{RunsHalves, RunsScript};
 
 use crate::Refusal;
 use crate::input::read_text;
 use crate::printing::print_text;
 use ec_link::{Plan, compile};
-use ec_regs::Identity;
+use ec_rise::identities_of;
 use ec_script::{Line, read_script, run_line, split_script};
 use ec_table::{Table, read_table};
 use ec_world::World;
-use std::alloc::{AllocError, Global};
+use std::alloc::Global;
 use std::io::{Read, Write};
-
-/// What the slaves of a table show as their identities, in order, as a world is made of them.
-///
-/// # Errors
-///
-/// `AllocError` where memory ran out.
-pub fn identities_of(alloc: Global, table: &Table) -> Result<Vec<Identity>, AllocError>
-    ensures { IfOk result (λ v. AreIdentities table.now v.items) }
-{
-    let mut identities = Vec::new(alloc);
-    for slave in 0..table.slaves().len() {
-        identities.push(table.identity_of(slave))?;
-    }
-    Ok(identities)
-}
 
 /// Runs the lines of a script over a world of a table, and prints of each what there is to say before the next one runs.
 fn print_lines<W: Write>(

@@ -91,7 +91,7 @@ pub meets_no_slaves : (name : Text) (found : Found) (r : Option ℕ) → name �
 meets_no_slaves name found r called value is (PlanOf e, h) = other_name (codes "pass") (codes "plan") refl name (rows_of found) called h.rows h.command
 meets_no_slaves name found r called value is (SimOf, h) = other_name (codes "pass") (codes "sim") refl name (rows_of found) called h.rows h.command
 meets_no_slaves name found r called value is (LoopOf n, h) = other_name (codes "pass") (codes "loop") refl name (rows_of found) called h.rows h.command
-meets_no_slaves name found r called value is (SegmentOf n p, h) = other_name (codes "pass") (codes "segment") refl name (rows_of found) called h.rows h.command
+meets_no_slaves name found r called value is (SegmentOf n p i, h) = other_name (codes "pass") (codes "segment") refl name (rows_of found) called h.rows h.command
 meets_no_slaves name found r called value is (PassOf n f, h) =
     let rows : rows_of found ≡ h.rows = ap rows_in h.command in
     let text : one_text found (codes "slaves") ≡ Some h.digits = one_text-rows found (codes "slaves") ∙ (ap (one_of (codes "slaves")) rows ∙ h.number) in
@@ -102,7 +102,7 @@ pub meets_no_frame : (name : Text) (found : Found) → name ≡ codes "pass" →
 meets_no_frame name found called none (PlanOf e, h) = other_name (codes "pass") (codes "plan") refl name (rows_of found) called h.rows h.command
 meets_no_frame name found called none (SimOf, h) = other_name (codes "pass") (codes "sim") refl name (rows_of found) called h.rows h.command
 meets_no_frame name found called none (LoopOf n, h) = other_name (codes "pass") (codes "loop") refl name (rows_of found) called h.rows h.command
-meets_no_frame name found called none (SegmentOf n p, h) = other_name (codes "pass") (codes "segment") refl name (rows_of found) called h.rows h.command
+meets_no_frame name found called none (SegmentOf n p i, h) = other_name (codes "pass") (codes "segment") refl name (rows_of found) called h.rows h.command
 meets_no_frame name found called none (PassOf n f, h) =
     let rows : rows_of found ≡ h.rows = ap rows_in h.command in
     let text : first_value found (codes "frame") ≡ Some f = first_value-rows found (codes "frame") ∙ (ap (first_of (codes "frame")) rows ∙ h.text) in
@@ -135,7 +135,7 @@ pub meets_no_cycles : (name : Text) (found : Found) (r : Option ℕ) → name �
 meets_no_cycles name found r called value is (PassOf n f, h) = other_name (codes "loop") (codes "pass") refl name (rows_of found) called h.rows h.command
 meets_no_cycles name found r called value is (PlanOf e, h) = other_name (codes "loop") (codes "plan") refl name (rows_of found) called h.rows h.command
 meets_no_cycles name found r called value is (SimOf, h) = other_name (codes "loop") (codes "sim") refl name (rows_of found) called h.rows h.command
-meets_no_cycles name found r called value is (SegmentOf n p, h) = other_name (codes "loop") (codes "segment") refl name (rows_of found) called h.rows h.command
+meets_no_cycles name found r called value is (SegmentOf n p i, h) = other_name (codes "loop") (codes "segment") refl name (rows_of found) called h.rows h.command
 meets_no_cycles name found r called value is (LoopOf n, h) = finds_no_number found (codes "cycles") 16 r n h.rows value is (ap rows_in h.command) h.cycles
 
 pub meets_no_frames : (name : Text) (found : Found) (r : Option ℕ) → name ≡ codes "segment" → ((t : List ℕ) → one_text found (codes "frames") ≡ Some t → ReadsOne (NumberGives 32) t r)
@@ -144,7 +144,7 @@ meets_no_frames name found r called value is (PassOf n f, h) = other_name (codes
 meets_no_frames name found r called value is (PlanOf e, h) = other_name (codes "segment") (codes "plan") refl name (rows_of found) called h.rows h.command
 meets_no_frames name found r called value is (SimOf, h) = other_name (codes "segment") (codes "sim") refl name (rows_of found) called h.rows h.command
 meets_no_frames name found r called value is (LoopOf n, h) = other_name (codes "segment") (codes "loop") refl name (rows_of found) called h.rows h.command
-meets_no_frames name found r called value is (SegmentOf n p, h) = finds_no_number found (codes "frames") 32 r n h.rows value is (ap rows_in h.command) h.frames
+meets_no_frames name found r called value is (SegmentOf n p i, h) = finds_no_number found (codes "frames") 32 r n h.rows value is (ap rows_in h.command) h.frames
 
 pub meets_no_port : (name : Text) (found : Found) (r : Option ℕ) → name ≡ codes "segment" → ((t : List ℕ) → one_text found (codes "port") ≡ Some t → ReadsOne (NumberGives 16) t r)
     → r ≡ None → MeetsCommand (Some (name, rows_of found)) → ⊥
@@ -152,7 +152,15 @@ meets_no_port name found r called value is (PassOf n f, h) = other_name (codes "
 meets_no_port name found r called value is (PlanOf e, h) = other_name (codes "segment") (codes "plan") refl name (rows_of found) called h.rows h.command
 meets_no_port name found r called value is (SimOf, h) = other_name (codes "segment") (codes "sim") refl name (rows_of found) called h.rows h.command
 meets_no_port name found r called value is (LoopOf n, h) = other_name (codes "segment") (codes "loop") refl name (rows_of found) called h.rows h.command
-meets_no_port name found r called value is (SegmentOf n p, h) = finds_no_number found (codes "port") 16 r p h.rows value is (ap rows_in h.command) h.port
+meets_no_port name found r called value is (SegmentOf n p i, h) = finds_no_number found (codes "port") 16 r p h.rows value is (ap rows_in h.command) h.port
+
+pub meets_no_idle : (name : Text) (found : Found) (r : Option ℕ) → name ≡ codes "segment" → ((t : List ℕ) → one_text found (codes "idle") ≡ Some t → ReadsOne (NumberGives 32) t r)
+    → r ≡ None → MeetsCommand (Some (name, rows_of found)) → ⊥
+meets_no_idle name found r called value is (PassOf n f, h) = other_name (codes "segment") (codes "pass") refl name (rows_of found) called h.rows h.command
+meets_no_idle name found r called value is (PlanOf e, h) = other_name (codes "segment") (codes "plan") refl name (rows_of found) called h.rows h.command
+meets_no_idle name found r called value is (SimOf, h) = other_name (codes "segment") (codes "sim") refl name (rows_of found) called h.rows h.command
+meets_no_idle name found r called value is (LoopOf n, h) = other_name (codes "segment") (codes "loop") refl name (rows_of found) called h.rows h.command
+meets_no_idle name found r called value is (SegmentOf n p i, h) = finds_no_number found (codes "idle") 32 r i h.rows value is (ap rows_in h.command) h.idle
 
 -- what `clap` makes of the arguments of `pass`
 pub no_fault-pass : (args : List Text) (slaves : ℕ) (frame : Text) → ArePassArguments args slaves frame → fault_of ecat args ≡ []
@@ -216,8 +224,8 @@ no_other_fault args kind none met (inr (inr missing)) = absurd (missing.1 met)
 
 pub memory_notice : (kind : ErrorKind) (notice : Notice) → kind ≡ OutOfMemory → IsNotice kind notice → notice ≡ Memory
 memory_notice kind Memory is told = refl
-memory_notice kind (Help text) is told = let bad : false ≡ true = sym (ap is_answer is) ∙ told in cc
-memory_notice kind (Usage text) is told = absurd (told.1 is)
+memory_notice kind (Help text) is told = let bad : false ≡ true = sym (ap is_answer is) ∙ told.says.0 in cc
+memory_notice kind (Usage text) is told = absurd (told.says.1 is)
 
 pub pass_is_read : PassIsRead
 pass_is_read args slaves frame (Ok (Pass n f)) w (none, asks) =
@@ -229,7 +237,7 @@ pass_is_read args slaves frame (Ok Sim) w (none, asks) =
     absurd (other_word (codes "pass") (codes "sim") refl (ap name_in (sym (subcommand_of-pass args slaves frame w) ∙ asks.command)))
 pass_is_read args slaves frame (Ok (Loop n)) w (none, asks) =
     absurd (other_word (codes "pass") (codes "loop") refl (ap name_in (sym (subcommand_of-pass args slaves frame w) ∙ asks.command)))
-pass_is_read args slaves frame (Ok (Segment n p)) w (none, asks) =
+pass_is_read args slaves frame (Ok (Segment n p i)) w (none, asks) =
     absurd (other_word (codes "pass") (codes "segment") refl (ap name_in (sym (subcommand_of-pass args slaves frame w) ∙ asks.command)))
 pass_is_read args slaves frame (Err notice) w (kind, fault, told) =
     memory_notice kind notice (no_other_fault args kind (no_fault-pass args slaves frame w) (PassOf slaves frame, meets-pass args slaves frame w) fault) told
@@ -276,7 +284,7 @@ plan_is_read args explained (Ok Sim) w (none, asks) =
     absurd (other_word (codes "plan") (codes "sim") refl (ap name_in (sym (subcommand_of-plan args explained w) ∙ asks.command)))
 plan_is_read args explained (Ok (Loop n)) w (none, asks) =
     absurd (other_word (codes "plan") (codes "loop") refl (ap name_in (sym (subcommand_of-plan args explained w) ∙ asks.command)))
-plan_is_read args explained (Ok (Segment n p)) w (none, asks) =
+plan_is_read args explained (Ok (Segment n p i)) w (none, asks) =
     absurd (other_word (codes "plan") (codes "segment") refl (ap name_in (sym (subcommand_of-plan args explained w) ∙ asks.command)))
 plan_is_read args explained (Err notice) w (kind, fault, told) =
     memory_notice kind notice (no_other_fault args kind (no_fault-plan args explained w) (PlanOf explained, meets-plan args explained w) fault) told

@@ -1,5 +1,8 @@
 -- The command line of `ecat` in the terms of `clap`, and what its arguments ask for (this project's profile).
-use Rattle.std.specs.Prelude.{◌≡◌, ◌≢◌, ◌⊎◌, ℕ, ◌<◌, ◌≤◌, ◌^◌, Bool, true, false, pos, List, [], ◌∷◌, slice_index, Option, Some, Result, Ok, Err, MatchResult, codes}
+use Rattle.std.specs.Prelude.{◌≡◌, ◌≢◌, ◌⊎◌, ℕ, ◌<◌, ◌≤◌, ◌^◌, Bool, true, false, pos, List, [], ◌∷◌, slice_index, Option, Some, Result, Ok, Err, MatchResult, alloc_error, codes}
+use Rattle.std.specs.declared.alloc.AllocError.{AllocError}
+use Rattle.std.specs.declared.alloc.Global.{Global}
+use Rattle.std.specs.declared.string.String.{String}
 use Rattle.std.specs.Fmt.{decimal}
 use Rattle.std.specs.Str.Parse.{IsNumeral, digits_value, without_leading_plus}
 use Rattle.clap.specs.Walk.{Rule, Row, Text, first_of, one_of}
@@ -25,8 +28,8 @@ pub data Command : Type 0 where
   SimOf : Command
   -- `ecat loop`: the number of cycles
   LoopOf : ℕ → Command
-  -- `ecat segment`: the number of payloads, and the port
-  SegmentOf : ℕ → ℕ → Command
+  -- `ecat segment`: the number of payloads, the port, and how many seconds it waits for one
+  SegmentOf : ℕ → ℕ → ℕ → Command
 
 -- ---- the arguments that each command takes
 
@@ -90,8 +93,18 @@ port_rule = record (new_rule (codes "port")) {
   parser = Some (Signed (pos 1) (pos 65535));
 }
 
+-- `--idle SECONDS`, a day at most; without it, a minute
+abbrev pub idle_rule : Rule
+idle_rule = record (new_rule (codes "idle")) {
+  long = Some (codes "idle");
+  action = Some Set;
+  value_names = 1;
+  defaults = codes "60" ∷ [];
+  parser = Some (Signed (pos 0) (pos 86400));
+}
+
 abbrev pub segment_shape : Shape
-segment_shape = (with_rule (with_rule (new_app (codes "segment")) frames_rule) port_rule).top
+segment_shape = (with_rule (with_rule (with_rule (new_app (codes "segment")) frames_rule) port_rule) idle_rule).top
 
 -- `ecat` and its commands, of which one is wanted; it also has a version. First those that simulate nothing but a pass,
 abbrev pub planning : App
@@ -148,11 +161,12 @@ pub record MeetsLoop (met : Option (Text × List Row)) (n : ℕ) : Type 0 where
   pub cycles : FindsNumber rows (codes "cycles") n (2 ^ 16)
 
 -- `clap` met `segment` and found its numbers
-pub record MeetsSegment (met : Option (Text × List Row)) (n p : ℕ) : Type 0 where
+pub record MeetsSegment (met : Option (Text × List Row)) (n p i : ℕ) : Type 0 where
   pub rows : List Row
   pub command : met ≡ Some (codes "segment", rows)
   pub frames : FindsNumber rows (codes "frames") n (2 ^ 32)
   pub port : FindsNumber rows (codes "port") p (2 ^ 16)
+  pub idle : FindsNumber rows (codes "idle") i (2 ^ 32)
 
 -- `clap` met this command, and found what it is given
 abbrev pub MeetsAs : Option (Text × List Row) → Command → Type 0
@@ -160,7 +174,7 @@ MeetsAs met (PassOf slaves frame) = MeetsPass met slaves frame
 MeetsAs met (PlanOf explained) = MeetsPlan met explained
 MeetsAs met SimOf = MeetsSim met
 MeetsAs met (LoopOf cycles) = MeetsLoop met cycles
-MeetsAs met (SegmentOf frames port) = MeetsSegment met frames port
+MeetsAs met (SegmentOf frames port idle) = MeetsSegment met frames port idle
 
 -- `clap` met a command and found all that it needs
 abbrev pub MeetsCommand : Option (Text × List Row) → Type 0
@@ -172,7 +186,7 @@ command_of (Pass slaves frame) = PassOf slaves frame.now
 command_of (Plan explained) = PlanOf explained
 command_of Sim = SimOf
 command_of (Loop cycles) = LoopOf cycles
-command_of (Segment frames port) = SegmentOf frames port
+command_of (Segment frames port idle) = SegmentOf frames port idle
 
 abbrev pub Asks : Option (Text × List Row) → Request → Type 0
 Asks met request = MeetsAs met (command_of request)
@@ -189,11 +203,15 @@ abbrev pub IsFault : List Text → ErrorKind → Type 0
 IsFault args kind = (kind ≡ OutOfMemory) ⊎ (IsAmong kind (fault_of ecat args)
     ⊎ ((kind ≡ MissingSubcommand) × (MeetsCommand (subcommand_of ecat args) → ⊥)))
 
--- what is told of an error of this kind
-abbrev pub IsNotice : ErrorKind → Notice → Type 0
-IsNotice kind Memory = Unit {0}
-IsNotice kind (Help text) = is_answer kind ≡ true
-IsNotice kind (Usage text) = (is_answer kind ≡ false) × (kind ≢ OutOfMemory)
+-- what is told of an error of this kind, whose text was made or couldn't be: want of memory is told for nothing else
+abbrev pub IsNoticeFor : ErrorKind → Result (String Global) AllocError → Notice → Type 0
+IsNoticeFor kind made Memory = (kind ≡ OutOfMemory) ⊎ (made ≡ Err alloc_error)
+IsNoticeFor kind made (Help text) = (is_answer kind ≡ true) × (made ≡ Ok text)
+IsNoticeFor kind made (Usage text) = (is_answer kind ≡ false) × (kind ≢ OutOfMemory) × (made ≡ Ok text)
+
+pub record IsNotice (kind : ErrorKind) (notice : Notice) : Type 0 where
+  pub made : Result (String Global) AllocError
+  pub says : IsNoticeFor kind made notice
 
 -- what is read of the arguments: where nothing is wrong with them, the command that `clap` finds; or a notice of the error
 -- that they meet

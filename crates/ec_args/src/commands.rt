@@ -4,7 +4,7 @@ ghost use Rattle.std.specs.Prelude.{◌≡◌, false, IfOk};
 ghost use Rattle.clap.specs.Walk.{rule_of};
 ghost use Rattle.clap.specs.Simple.{app_of, shape_of};
 ghost use Rattle.clap.specs.declared.builder.command.Command.TheViews.{out-Command as fields_of};
-ghost use Rattle.ec_args.specs.CommandLine.{cycles_rule, cycling, ecat, explain_rule, frame_rule, frames_rule, loop_shape, pass_shape, plan_shape, planning, port_rule, segment_shape, sim_shape, slaves_rule};
+ghost use Rattle.ec_args.specs.CommandLine.{cycles_rule, cycling, ecat, explain_rule, frame_rule, frames_rule, idle_rule, loop_shape, pass_shape, plan_shape, planning, port_rule, segment_shape, sim_shape, slaves_rule};
 
 use clap::{Arg, ArgAction, Command};
 use std::alloc::{AllocError, Global};
@@ -46,6 +46,8 @@ Exit status:
 
 /// What stands below the arguments of `ecat plan`.
 const PLAN_LINES: &str = "\
+TABLE is a link table; docs/TABLES.md says how one is written.
+
 Lines, in this order for each slave, and then for each part:
   slave S part P out O in I  the slave's part, and how many output and input bits it has
   sm N BYTES                 a sync manager that is set: its 8 register bytes in hex
@@ -63,10 +65,13 @@ Exit status:
 
 Refusals with status 3; PLACE counts from 0 in file order:
   11 Toml                    the text is no TOML: put its syntax right
-  12 BadKey SECTION PLACE    a key is unknown or missing: leave it out or add it. SECTION is 0 for
-                             the document, 1 type, 2 slave, 3 variable, 4 link
+  12 BadKey SECTION PLACE    a key is unknown or missing: leave it out or add it; `unit` is known
+                             where the text begins with `version = 2`. SECTION is 0 for the
+                             document, 1 type, 2 slave, 3 variable, 4 link
   13 BadValue SECTION PLACE  a value has the wrong kind, range or number of items: give one that
-                             its key takes
+                             its key takes. A name has letters, digits and `_` alone; a slave
+                             without a mailbox assigns all PDOs of its type, so leave out its
+                             `out` and `in`: `out = []` is refused too
   14 TwiceNamed SECTION PLACE
                              a name, or the index of a PDO, stands twice: change one of them
   15 UnknownName SECTION PLACE
@@ -100,7 +105,7 @@ Refusals with status 4:
 
 /// What stands below the description of `ecat sim`.
 const SIM_LINES: &str = "\
-Standard input is a link table, a line `%%`, and a script with one event a line. Numbers are
+TABLE_AND_SCRIPT is a link table, a line `%%`, and a script with one event a line. Numbers are
 decimal, words stand one blank apart, empty lines are skipped.
 
 Lines of a script:
@@ -112,18 +117,28 @@ Lines of a script:
   return K        the frame in slot K, past all slaves, comes back to the master
   close           the cycle is closed, or a start-up that waits for its frame is given up
   serve S         the firmware of slave S steps
-  put S I BYTE    the application of slave S writes byte I of its inputs
-  get S I         it reads byte I of its outputs
+  put S I BYTE    the application of slave S writes byte I of its inputs, as below
+  get S I         it reads byte I of its outputs, as below
   fault S         the application of slave S has a fault
   reset S         slave S is switched off and on
   ready           the start-up runs until it has ended
   cycle           a cycle is run: begin, each frame past all slaves and back, close
   show            the input variables are printed
 
+Bytes count from 0 in the slave's own data, as `ecat plan --explain` shows. `put` begins with byte
+0, which opens a draft of zeros, and the last byte publishes all of it at once: until then the
+slave gives its older inputs. `get` begins with byte 0 too, which opens a view of the outputs that
+the last byte closes. Any other byte can't be written or read before byte 0.
+
+A frame never passes an older one. While one is still on its way, as after `begin` and `close`, a
+`cycle` ends with `no` and leaves its own cycle open, and so does each `begin` or `cycle` behind
+it. The way out: `lose K` for each slot with a frame, then `close`.
+
 What a line prints, before the next one runs:
   no LINE         an event can't be made, and the script's line of this number ended there
   ready           the start-up has ended well
-  failed NUMBER   it has ended otherwise; `ecat loop --help` says what each number stands for
+  failed NUMBER   it has ended otherwise, by 9, 26 to 32, 36 or 38: `ecat loop --help` says what
+                  each stands for
   report taken missing M counters C C .. al WORD
                   the cycle was closed: inputs were taken, or `untaken` in place of `taken`; M
                   frames are missing; the working counters of each part as in the plan, `-` where
@@ -137,7 +152,9 @@ Exit status:
   0  the script was run to its end, also where lines printed `no` or `failed`
   2  the arguments ask for no command: put them right as standard error says
   3  refused, and standard error says `ecat: NUMBER NAME VALUES`:
-     11 to 25, 44        the table is refused; `ecat plan --help` says what to do
+     11 to 25, 44        the table is refused; `ecat plan --help` says what to do. It is 11 too
+                         where the line `%%` is missing or isn't just that: then the script is
+                         read as a part of the table
      39 BadScript LINE   a line is none of these: correct it; LINE counts from 1 behind `%%`
       1 Memory           memory ran out, and the input may be good or bad: free some and try again
   4  input or output is at fault, told in the same form:
@@ -147,6 +164,8 @@ Exit status:
 
 /// What stands below the arguments of `ecat loop`.
 const LOOP_LINES: &str = "\
+TABLE is a link table; docs/TABLES.md says how one is written.
+
 Before cycle K, from 1 on, each output variable becomes K, as far as it has bits. The slaves'
 applications show their outputs as their inputs.
 
@@ -195,6 +214,8 @@ Refusals with status 4:
 
 /// What stands below the arguments of `ecat segment`.
 const SEGMENT_LINES: &str = "\
+TABLE is a link table; docs/TABLES.md says how one is written.
+
 The slaves' applications show their outputs as their inputs. Standard error has a line with the
 port once the segment listens there. At the end a line `served N refused M` says how many
 payloads were frames, which were answered, and how many were not.
@@ -209,8 +230,8 @@ Exit status:
      41 Output          the line couldn't be written: see where standard output goes
      42 Input           standard input couldn't be read, is no text in UTF-8, or has over 1048576
                         bytes: see where it comes from
-     43 Socket          the port is in use, or no payload came for a minute: take another port, or
-                        start the master in time";
+     43 Socket          the port is in use, or no payload came for SECONDS: take another port,
+                        start the master in time, or give a longer `--idle`";
 
 /// `--slaves N`, the number of slaves of the ring.
 fn slaves_argument<'a>(alloc: Global) -> Arg<'a>
@@ -267,6 +288,7 @@ fn plan_command<'a>(alloc: Global) -> Result<Command<'a>, AllocError>
     ensures local { IfOk result (λ command. (fields_of command).has_globals ≡ false) }
 {
     Command::new(alloc, "plan")
+        .override_usage("ecat plan [--explain] < TABLE")
         .about("Reads a link table from standard input and prints its plan")
         .after_help(PLAN_LINES)
         .arg(explain_argument(alloc))
@@ -279,6 +301,7 @@ fn sim_command<'a>(alloc: Global) -> Result<Command<'a>, AllocError>
 {
     Ok(
         Command::new(alloc, "sim")
+            .override_usage("ecat sim < TABLE_AND_SCRIPT")
             .about(
                 "Reads a link table and a script from standard input and prints what comes of it",
             )
@@ -306,6 +329,7 @@ fn loop_command<'a>(alloc: Global) -> Result<Command<'a>, AllocError>
     ensures local { IfOk result (λ command. (fields_of command).has_globals ≡ false) }
 {
     Command::new(alloc, "loop")
+        .override_usage("ecat loop --cycles <N> < TABLE")
         .about("Runs cycles of a link table over two sockets of this process and prints reports")
         .after_help(LOOP_LINES)
         .arg(cycles_argument(alloc))
@@ -339,16 +363,32 @@ fn port_argument<'a>(alloc: Global) -> Arg<'a>
         .help("The UDP port on 127.0.0.1, 1 to 65535")
 }
 
-/// `ecat segment --frames N [--port P]`.
+/// `--idle SECONDS`, how long a segment waits for a payload.
+fn idle_argument<'a>(alloc: Global) -> Arg<'a>
+    ensures rule { rule_of result ≡ idle_rule }
+    ensures local { result.global ≡ false }
+{
+    Arg::new(alloc, "idle")
+        .long("idle")
+        .action(ArgAction::Set)
+        .value_name("SECONDS")
+        .value_parser(clap::value_parser!(u32).range(0..=86400))
+        .default_value("60")
+        .help("How many seconds it waits for a payload, 0 to 86400; 0 is without an end")
+}
+
+/// `ecat segment --frames N [--port P] [--idle SECONDS]`.
 fn segment_command<'a>(alloc: Global) -> Result<Command<'a>, AllocError>
     ensures shape { IfOk result (λ command. shape_of command ≡ segment_shape) }
     ensures local { IfOk result (λ command. (fields_of command).has_globals ≡ false) }
 {
     Command::new(alloc, "segment")
+        .override_usage("ecat segment --frames <N> [--port <P>] [--idle <SECONDS>] < TABLE")
         .about("Answers frames on a UDP port of 127.0.0.1 as the slaves of a link table")
         .after_help(SEGMENT_LINES)
         .arg(frames_argument(alloc))?
-        .arg(port_argument(alloc))
+        .arg(port_argument(alloc))?
+        .arg(idle_argument(alloc))
 }
 
 /// `ecat` with the commands that simulate nothing but a pass.

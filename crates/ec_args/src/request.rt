@@ -4,12 +4,12 @@ ghost use Rattle.clap.specs.Matches.{found_of};
 ghost use Rattle.clap.specs.Simple.{subcommand_of, subcommand_rows_of};
 ghost use Rattle.clap.specs.Values.{kind_of};
 ghost use Rattle.clap.specs.Walk.{rows_of};
-ghost use Rattle.ec_args.specs.CommandLine.{Asks, IsFault, IsNotice, MeetsCommand, Reads, ecat};
+ghost use Rattle.ec_args.specs.CommandLine.{Asks, IsFault, IsNotice, IsNoticeFor, MeetsCommand, Reads, ecat};
 
 use crate::commands::command;
 use clap::error::ErrorKind;
 use clap::{ArgMatches, Command, Error};
-use std::alloc::Global;
+use std::alloc::{AllocError, Global};
 use std::convert::AsStr;
 
 /// What the arguments of a command line ask for.
@@ -23,8 +23,9 @@ pub enum Request<'a> {
     Sim,
     /// Run this many cycles of the link table on the input over sockets of this process.
     Loop { cycles: u16 },
-    /// Answer this many payloads on this port as the slaves of the link table on the input.
-    Segment { frames: u32, port: u16 },
+    /// Answer this many payloads on this port as the slaves of the link table on the input, while no
+    /// wait for one is longer than `idle` seconds; 0 is without an end.
+    Segment { frames: u32, port: u16, idle: u32 },
 }
 
 /// What stands in place of a request.
@@ -59,6 +60,7 @@ fn read_command<'a>(name: &str, given: &ArgMatches<'a>) -> Option<Request<'a>>
         "segment" => Some(Request::Segment {
             frames: given.get_one::<u32>("frames")?,
             port: given.get_one::<u16>("port")?,
+            idle: given.get_one::<u32>("idle")?,
         }),
         _ => None,
     }
@@ -98,18 +100,25 @@ fn read_request<'a, S: AsStr>(alloc: Global, args: &'a [S]) -> Result<Request<'a
     }
 }
 
-/// What an error of `clap` has to say, as a text of its own.
-fn notice_of(alloc: Global, error: &Error) -> Notice
-    ensures { IsNotice (kind_of error.now) result }
+/// What there is to say of an error of this kind, whose text is made, or can't be for want of memory.
+fn notice_for(kind: ErrorKind, text: Result<String, AllocError>) -> Notice
+    ensures { IsNoticeFor kind text result }
 {
-    if error.kind() == ErrorKind::OutOfMemory {
+    if kind == ErrorKind::OutOfMemory {
         return Notice::Memory;
     }
-    match (error.to_string(alloc), error.kind()) {
+    match (text, kind) {
         (Err(_), _) => Notice::Memory,
         (Ok(text), ErrorKind::DisplayHelp | ErrorKind::DisplayVersion) => Notice::Help(text),
         (Ok(text), _) => Notice::Usage(text),
     }
+}
+
+/// What an error of `clap` has to say, as a text of its own.
+fn notice_of(alloc: Global, error: &Error) -> Notice
+    ensures { IsNotice (kind_of error.now) result }
+{
+    notice_for(error.kind(), error.to_string(alloc))
 }
 
 /// What the arguments ask for, the first of which is the program's name. It is what `clap`'s own

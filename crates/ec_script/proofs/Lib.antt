@@ -8,6 +8,8 @@ pub mod Making
 pub mod Numbers
 pub mod Plans
 pub mod Reading
+pub mod Readying
+pub mod Cycling
 pub mod ReadingBack
 pub mod Running
 pub mod SlotsSent

@@ -20,17 +20,17 @@ use Rattle.ec_script.proofs.SlotsSent.{cycle_found, starts_free, turn_found}
 
 -- ---- a cycle
 
-cycle_goes : (old new : WorldState) (word : Said) → RunsCycle old new word → Goes (cycle_events old) old new (is_done word)
+pub cycle_goes : (old new : WorldState) (word : Said) → RunsCycle old new word → Goes (cycle_events old) old new (is_done word)
 cycle_goes old new word h = goes_then Begin _ old h.mid new h.told word h.begins h.goes_on (λ one x.
     let found = cycle_found old h.mid (h.begins.step.happens one) in
     subst (λ es. Goes (es ++ (Close ∷ [])) h.mid new (is_done word)) found (goes_all (rounds_found false h.mid ++ (Close ∷ [])) h.mid new word x))
 
 -- ---- a turn
 
-free_at : (old mid : WorldState) (one : Bool) → IsStep old StartNext mid one → one ≡ true → nones old.slots ≡ length old.slots
+pub free_at : (old mid : WorldState) (one : Bool) → IsStep old StartNext mid one → one ≡ true → nones old.slots ≡ length old.slots
 free_at old mid one step is = starts_free (is_up old.start) (awaits old.start) (nones old.slots) (length old.slots) _ (sym step.can ∙ is)
 
-turn_goes : (old new : WorldState) (word : Said) → RunsTurn old new word → Goes (turn_events old) old new (is_done word)
+pub turn_goes : (old new : WorldState) (word : Said) → RunsTurn old new word → Goes (turn_events old) old new (is_done word)
 turn_goes old new word h = goes_then StartNext _ old h.mid new h.told word h.begins h.goes_on (λ one x.
     let found = turn_found old h.mid (h.begins.step.happens one) (free_at old h.mid h.begins.made h.begins.step one) in
     subst (λ es. Goes es h.mid new (is_done word)) found (goes_all (rounds_found true h.mid) h.mid new word x))

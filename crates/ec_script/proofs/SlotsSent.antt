@@ -89,12 +89,12 @@ none_newest [] e = refl
 none_newest (None ∷ slots) e = none_newest slots (rest_free slots e)
 none_newest (Some f ∷ slots) e = absurd (not_full f slots e)
 
-none_with : (n k : ℕ) (slots : List (Option Flight)) → nones slots ≡ length slots → slots_with n k slots ≡ []
+pub none_with : (n k : ℕ) (slots : List (Option Flight)) → nones slots ≡ length slots → slots_with n k slots ≡ []
 none_with n k [] e = refl
 none_with n k (None ∷ slots) e = none_with n (k + 1) slots (rest_free slots e)
 none_with n k (Some f ∷ slots) e = absurd (not_full f slots e)
 
-filled_none : {X : Type 0} (os : List (Option X)) → filled [] os ≡ os
+pub filled_none : {X : Type 0} (os : List (Option X)) → filled [] os ≡ os
 filled_none [] = refl
 filled_none (o ∷ os) = refl
 

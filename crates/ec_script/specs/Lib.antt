@@ -1,4 +1,4 @@
--- What a script is and what it does. These are to be believed by reading, in this order:
+-- To be believed, in this order: what a script is and what it does.
 
 -- words, and the numbers that they write
 pub mod Words
@@ -16,5 +16,7 @@ pub mod Work
 pub mod Texts
 -- the events of a line, and that its work is a run of them
 pub mod Events
+-- what `ready` does where nothing disturbs it, and then `cycle`
+pub mod Promised
 -- how a line is written, and that it is read back
 pub mod Writing

@@ -1,9 +1,13 @@
-ghost use Rattle.std.specs.Prelude.{◌≡◌, string_bytes};
+ghost use Rattle.std.specs.Prelude.{◌≡◌, ◌++◌, codes, string_bytes};
 ghost use Rattle.std.specs.Result.{IfOk};
 ghost use Rattle.ec_link.specs.Plan.{plan_of};
+ghost use Rattle.ec_text.specs.PlanText.{newline};
+ghost use Rattle.ec_world.specs.NewWorld.{IsToStart};
+ghost use Rattle.ec_script.specs.declared.line.Act.TheVariants.{Ready};
 ghost use Rattle.ec_script.specs.declared.said.Said.{Said};
 ghost use Rattle.ec_script.specs.Work.{Does, is_done};
 ghost use Rattle.ec_script.specs.Events.{RunsLine};
+ghost use Rattle.ec_script.specs.Promised.{IsReadied};
 ghost use Rattle.ec_script.specs.Texts.{said_text};
 
 use crate::line::{Act, Line};
@@ -31,6 +35,8 @@ pub fn do_act(world: &mut World<'_>, act: Act) -> Said
 
 /// Does what a line asks for, up to the first event that can't be made, and answers what is printed of it: the world is left
 /// as `World::run` of the line's events leaves it, and the text is that of the last of them. The world is one of the table.
+/// `ready` on a new world of devices, or where the last start-up failed and no frame is on its way, brings every slave up, and
+/// `ready` is printed.
 ///
 /// # Errors
 ///
@@ -45,6 +51,8 @@ pub fn run_line(
     ensures does { (said : Said) × Does line.now.act world.old world.new said
         × RunsLine line.now.act world.old world.new (is_done said)
         × IfOk result (λ text. string_bytes text ≡ said_text table.now line.now.number world.new said) }
+    ensures up { IsToStart table.now world.old → line.now.act ≡ Ready → IsReadied table.now world.old world.new
+        × IfOk result (λ text. string_bytes text ≡ codes "ready" ++ newline) }
     ensures plan { world.new.plan ≡ world.old.plan }
 {
     let said = do_act(world, line.act);

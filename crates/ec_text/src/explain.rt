@@ -9,8 +9,10 @@ use std::fmt::Write as _;
 
 const LEGEND: &str = "\
 Each line is a run of bits that go the same way. Bits count from 0, the lowest first.
+  assigns   the PDOs that the slave exchanges, in order
   object    index in hex and subindex in decimal, as in the table; a gap has neither
   bits      of the object
+  byte      byte and bit of the slave's own data, whose bytes `put` and `get` of `ecat sim` count
   logical   byte and bit of the logical addresses, over which the part's datagrams go
   variable  the variable that they are linked with, and its bits
 ";
@@ -82,6 +84,12 @@ fn logical_text(alloc: Global, bit: usize) -> Result<String, AllocError> {
     format!(in alloc; "0x{byte:08x}.{bit}")
 }
 
+/// The byte and bit of a bit of a slave's own data.
+fn own_text(alloc: Global, bit: usize) -> Result<String, AllocError> {
+    let (byte, bit) = (bit / 8, bit % 8);
+    format!(in alloc; "{byte}.{bit}")
+}
+
 /// The logical bytes and bits of a run.
 fn logical_range(alloc: Global, from: usize, count: usize) -> Result<String, AllocError> {
     let first = logical_text(alloc, from)?;
@@ -100,6 +108,25 @@ fn object_text(alloc: Global, entry: &Entry) -> Result<String, AllocError> {
     } else {
         format!(in alloc; "0x{index:04x}:{subindex}")
     }
+}
+
+/// Adds indices of objects, with a blank before each.
+fn write_indices(text: &mut String, indices: &[u16]) -> Result<(), AllocError> {
+    for index in indices {
+        let index = *index;
+        write!(text, " 0x{index:04x}")?;
+    }
+    Ok(())
+}
+
+/// Adds the lines of the objects that a slave assigns in one direction, eight in a line.
+fn write_assigned(text: &mut String, indices: &[u16]) -> Result<(), AllocError> {
+    for line in indices.chunks(8) {
+        text.push_str("    assigns")?;
+        write_indices(text, line)?;
+        text.push_str("\n")?;
+    }
+    Ok(())
 }
 
 /// The runs of an entry whose bits begin at `from`, by the links of its slave in their order.
@@ -204,11 +231,12 @@ impl<'a> Explained<'a> {
         let object = object_text(alloc, entry)?;
         for run in runs_of(alloc, from, entry, links)?.as_slice() {
             let bits = bits_text(alloc, run.from.saturating_sub(from), run.count)?;
+            let byte = own_text(alloc, run.from)?;
             let logical = logical_range(alloc, area.saturating_add(run.from), run.count)?;
             let variable = self.variable_text(self.image(direction), *run)?;
             writeln!(
                 text,
-                "    {object:<10}  {bits:<6}  {logical:<28}  {variable}"
+                "    {object:<10}  {bits:<6}  {byte:<5}  {logical:<28}  {variable}"
             )?;
         }
         Ok(())
@@ -224,17 +252,21 @@ impl<'a> Explained<'a> {
         entries: &[Entry],
     ) -> Result<(), AllocError> {
         let links = self.image(direction).links_of(self.alloc, slave)?;
-        let (name, number, manager) = match direction {
-            Direction::Out => ("outputs", 2, &settings.managers[2]),
-            Direction::In => ("inputs", 3, &settings.managers[3]),
+        let (name, number, manager, assigned) = match direction {
+            Direction::Out => ("outputs", 2, &settings.managers[2], &settings.outputs),
+            Direction::In => ("inputs", 3, &settings.managers[3], &settings.inputs),
         };
         let (bytes, start) = (manager.length, manager.start);
         writeln!(
             text,
             "  {name}: sync manager {number}, address 0x{start:04x}, length {bytes}"
         )?;
-        let (object, bits, logical) = ("object", "bits", "logical");
-        writeln!(text, "    {object:<10}  {bits:<6}  {logical:<28}  variable")?;
+        write_assigned(text, assigned.as_slice())?;
+        let (object, bits, byte, logical) = ("object", "bits", "byte", "logical");
+        writeln!(
+            text,
+            "    {object:<10}  {bits:<6}  {byte:<5}  {logical:<28}  variable"
+        )?;
         let mut from: usize = 0;
         for entry in entries {
             self.write_entry(
@@ -316,8 +348,9 @@ fn write_part(
     }
 }
 
-/// The plan of a table for people: part by part, for each slave in it and each direction, which bits
-/// of which object stand at which logical bits, and which variable they are linked with. The plan is
+/// The plan of a table for people: part by part, for each slave in it and each direction, what it
+/// assigns, which bits of which object stand at which bits of its own data and at which logical bits,
+/// and which variable they are linked with. The plan is
 /// that of the table; no line has over 100 characters. The error is want of memory.
 pub fn explain_text(alloc: Global, table: &Table, plan: &Plan) -> Result<String, AllocError> {
     let explained = Explained::new(alloc, table, plan)?;

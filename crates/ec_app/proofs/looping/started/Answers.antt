@@ -4,5 +4,5 @@ use Rattle.ec_app.proofs.looping.started.Goals as goal
 pub new-requires : goal.new-requires
 new-requires g c = usable-of c.args.table.now c.args.plan.now c.version-version.ensures.sound c.requires.accepted c.requires.plan
 
-pub bring_up_for-requires : goal.bring_up_for-requires
-bring_up_for-requires g c = few-of c.args.table.now c.args.plan.now c.version-version.ensures.sound c.requires.accepted c.requires.plan
+pub bring_up_for-requires-clause-few : goal.bring_up_for-requires-clause-few
+bring_up_for-requires-clause-few g c = few-of c.args.table.now c.args.plan.now c.version-version.ensures.sound c.requires.accepted c.requires.plan

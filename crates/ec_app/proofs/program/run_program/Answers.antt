@@ -1,14 +1,11 @@
-use Rattle.std.proofs.Common.{inl, inr, refl, subst, arith}
-use Rattle.ec_app.specs.Printing.{AppendsPart}
-use Rattle.ec_app.proofs.PrintLemmas.{shown_part, some_part}
+use Rattle.std.proofs.Common.{◌∙◌, ap, map, string_bytes}
+use Rattle.ec_app.proofs.RunLemmas.{given_ends, given_lost}
 use Rattle.ec_app.proofs.program.run_program.Goals as goal
 
-pub returns-in-Err-clause-ends : goal.returns-in-Err-clause-ends
-returns-in-Err-clause-ends g c = inr (refl, refl, inl (c.status.ensures, shown_part c.tell.result _ _ _ c.tell.ensures))
+pub returns-in-Ok-collected-clause-ends : goal.returns-in-Ok-collected-clause-ends
+returns-in-Ok-collected-clause-ends g c =
+    given_ends c.args.given c.in-Ok.given _ _ _ _ _ _ _ _ _ c.in-Ok.is (ap (map string_bytes) (c.as_slice.ensures.value ∙ c.in-Ok-collected.ensures)) c.run_command.ensures.ends
 
-pub returns-in-Err-2-clause-ends : goal.returns-in-Err-2-clause-ends
-returns-in-Err-2-clause-ends g c = inr
-    (refl, refl, inr (refl, subst (AppendsPart _ _) c.as_bytes.ensures.value (some_part c.print_text.result _ _ _ c.print_text.ensures.all c.print_text.ensures.part)))
-
-pub returns-in-Err-2-clause-status : goal.returns-in-Err-2-clause-status
-returns-in-Err-2-clause-status g c = (1, omega arith, refl)
+pub returns-in-Err-collected-clause-ends : goal.returns-in-Err-collected-clause-ends
+returns-in-Err-collected-clause-ends g c =
+    given_lost c.args.given c.in-Ok.given _ _ _ _ _ c.in-Ok.is (c.tell_and_end.ensures.status, c.tell_and_end.ensures.told)

@@ -2,7 +2,7 @@ use Rattle.std.proofs.Common.{◌<◌, ◌∙◌, sym, ap, subst, Some, codes}
 use Rattle.clap.proofs.WalkLemmas.{first_value-rows, one_text-rows}
 use Rattle.clap.specs.Matches.{found_of, one_text}
 use Rattle.clap.specs.Walk.{rows_of}
-use Rattle.ec_args.proofs.RequestLemmas.{any_none, finds_number, meets_no_cycles, meets_no_frame, meets_no_frames, meets_no_port, meets_no_slaves, number_read}
+use Rattle.ec_args.proofs.RequestLemmas.{any_none, finds_number, meets_no_cycles, meets_no_frame, meets_no_frames, meets_no_idle, meets_no_port, meets_no_slaves, number_read}
 use Rattle.ec_args.proofs.request.read_command.Goals as goal
 
 pub returns-in_ok-get_str-in-pass-clause-some : goal.returns-in_ok-get_str-in-pass-clause-some
@@ -52,14 +52,15 @@ pub returns-in_err-get_one-in-loop-clause-none : goal.returns-in_err-get_one-in-
 returns-in_err-get_one-in-loop-clause-none c =
     any_none _ (meets_no_cycles c.args.name.now (found_of c.args.given.now) c.get_one-in-loop.result c.in-loop.is c.get_one-in-loop.ensures.value c.in_err-get_one-in-loop.was)
 
-pub returns-in_ok-get_one-in-segment-2-clause-some : goal.returns-in_ok-get_one-in-segment-2-clause-some
-returns-in_ok-get_one-in-segment-2-clause-some c =
+pub returns-in_ok-get_one-in-segment-3-clause-some : goal.returns-in_ok-get_one-in-segment-3-clause-some
+returns-in_ok-get_one-in-segment-3-clause-some c =
     let found = found_of c.args.given.now in
     record {
       rows = rows_of found;
       command = ap (λ n. Some (n, rows_of found)) c.in-segment.is;
       frames = finds_number found (codes "frames") 32 c.get_one-in-segment.result c.in_ok-get_one-in-segment.field-0 c.get_one-in-segment.ensures.none c.get_one-in-segment.ensures.value c.in_ok-get_one-in-segment.was;
       port = finds_number found (codes "port") 16 c.get_one-in-segment-2.result c.in_ok-get_one-in-segment-2.field-0 c.get_one-in-segment-2.ensures.none c.get_one-in-segment-2.ensures.value c.in_ok-get_one-in-segment-2.was;
+      idle = finds_number found (codes "idle") 32 c.get_one-in-segment-3.result c.in_ok-get_one-in-segment-3.field-0 c.get_one-in-segment-3.ensures.none c.get_one-in-segment-3.ensures.value c.in_ok-get_one-in-segment-3.was;
     }
 
 pub returns-in_err-get_one-in-segment-clause-none : goal.returns-in_err-get_one-in-segment-clause-none
@@ -69,3 +70,7 @@ returns-in_err-get_one-in-segment-clause-none c =
 pub returns-in_err-get_one-in-segment-2-clause-none : goal.returns-in_err-get_one-in-segment-2-clause-none
 returns-in_err-get_one-in-segment-2-clause-none c =
     any_none _ (meets_no_port c.args.name.now (found_of c.args.given.now) c.get_one-in-segment-2.result c.in-segment.is c.get_one-in-segment-2.ensures.value c.in_err-get_one-in-segment-2.was)
+
+pub returns-in_err-get_one-in-segment-3-clause-none : goal.returns-in_err-get_one-in-segment-3-clause-none
+returns-in_err-get_one-in-segment-3-clause-none c =
+    any_none _ (meets_no_idle c.args.name.now (found_of c.args.given.now) c.get_one-in-segment-3.result c.in-segment.is c.get_one-in-segment-3.ensures.value c.in_err-get_one-in-segment-3.was)
