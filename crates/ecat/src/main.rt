@@ -3,9 +3,10 @@
 #![tactic(auto)]
 
 use ec_app::run_program;
+use std::env;
 use std::process::ExitCode;
 
 fn main(rt: HostRuntime) -> ExitCode {
     let (mut input, mut output, mut faults) = (rt.stdin(), rt.stdout(), rt.stderr());
-    ExitCode::from(run_program(&rt, &mut input, &mut output, &mut faults))
+    ExitCode::from(run_program(&rt, env::args(&rt), &mut input, &mut output, &mut faults))
 }

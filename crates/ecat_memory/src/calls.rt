@@ -4,11 +4,11 @@ ghost use Rattle.ec_link.specs.Faults.{compile_fault};
 ghost use Rattle.ec_link.specs.Plan.{plan_of};
 ghost use Rattle.ec_link.specs.Usable.{IsUsable};
 
-use crate::table::{SCRIPT, TABLE, ring_of};
+use crate::table::{SCRIPT, TABLE};
 use ec_cycle::Master;
 use ec_link::{Plan, compile};
 use ec_regs::Identity;
-use ec_rise::bring_up;
+use ec_rise::{bring_up, slaves_of};
 use ec_script::read_script;
 use ec_slave::Slave;
 use ec_start::{Phase, Startup};
@@ -124,8 +124,11 @@ fn switched_on(alloc: Global, plan: &Plan) -> Result<Answer, AllocError> {
 }
 
 /// A start-up that then brings the slaves up, which takes no memory.
-fn started(alloc: Global, plan: &Plan) -> Result<Answer, AllocError> {
-    let mut ring = ring_of(alloc, plan)?;
+fn started(alloc: Global, table: &Table, plan: &Plan) -> Result<Answer, AllocError>
+    requires accepted { compile_fault table.now ≡ None }
+    requires plan { plan.now ≡ plan_of table.now }
+{
+    let mut ring = slaves_of(alloc, table, plan)?;
     if !Startup::can_start(plan) {
         return Ok(Ok(0));
     }
@@ -186,7 +189,7 @@ pub fn attempt(
         Call::Compile => Ok(compiled(alloc, table)),
         Call::PlanText => Ok(written(alloc, table, plan)),
         Call::NewSlave => switched_on(alloc, plan),
-        Call::NewStartup => started(alloc, plan),
+        Call::NewStartup => started(alloc, table, plan),
         Call::NewMaster => Ok(mastered(alloc, plan)),
         Call::NewWorld => Ok(world(alloc, table, plan, identities)),
         Call::ReadScript => Ok(script(alloc, table)),

@@ -15,9 +15,10 @@ ghost use Rattle.ec_link.specs.Plan.{plan_of};
 ghost use Rattle.ec_link.specs.Usable.{IsUsable};
 
 use crate::calls::{Answer, Call, MEMORY, attempt};
-use crate::table::{TABLE, identities_of};
+use crate::table::TABLE;
 use ec_link::{Plan, compile};
 use ec_regs::Identity;
+use ec_rise::identities_of;
 use ec_table::{Table, read_table};
 use std::alloc::{AllocError, Global};
 use std::env::Env;

@@ -1,12 +1,4 @@
 //! The table with three slaves, and what is made of it before a function is called.
-ghost use Rattle.std.specs.Prelude.{◌≡◌, length, IfOk};
-
-use ec_link::Plan;
-use ec_regs::Identity;
-use ec_ring::Ring;
-use ec_slave::Slave;
-use ec_table::Table;
-use std::alloc::{AllocError, Global};
 
 /// Three slaves: 4 outputs; 4 inputs; 12 outputs and 16 inputs behind mailboxes.
 pub const TABLE: &str = r#"type = [
@@ -21,24 +13,3 @@ link = [ { var = "a", slave = "s0", index = 0x7000, sub = 1 }, { var = "b", slav
 
 /// Four lines and an empty one.
 pub const SCRIPT: &str = "ready\nset a 10\n\ncycle\nshow\n";
-
-/// What the slaves of a table show as their identities.
-pub fn identities_of(alloc: Global, table: &Table) -> Result<Vec<Identity>, AllocError>
-    ensures { IfOk result (λ v. length v.items ≡ length table.now.slaves) }
-{
-    let mut identities = Vec::new(alloc);
-    for slave in 0..table.slaves().len() {
-        identities.push(table.identity_of(slave))?;
-    }
-    Ok(identities)
-}
-
-/// The slaves of a plan as they are switched on.
-pub fn ring_of(alloc: Global, plan: &Plan) -> Result<Ring, AllocError> {
-    let mut slaves = Vec::new(alloc);
-    for settings in plan.slaves() {
-        let identity = settings.kind.device().identity(0);
-        slaves.push(Slave::new(alloc, settings.kind.copied(alloc)?, identity)?)?;
-    }
-    Ok(Ring::new(slaves))
-}

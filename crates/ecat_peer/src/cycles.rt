@@ -1,5 +1,7 @@
 //! Cycles over a wire that lies, each judged by what the wire gave.
-ghost use Rattle.std.specs.Prelude.{IfSome};
+ghost use Rattle.std.specs.Prelude.{◌≡◌, None, IfSome};
+ghost use Rattle.ec_link.specs.Faults.{compile_fault};
+ghost use Rattle.ec_link.specs.Plan.{plan_of};
 ghost use Rattle.ec_link.specs.Usable.{IsUsable};
 
 use crate::judge::{counters_of, must_be_taken, number, take_inputs};
@@ -8,12 +10,11 @@ use ec_cycle::{Master, Report};
 use ec_frame::Frame;
 use ec_link::{Plan, compile};
 use ec_ring::Ring;
-use ec_rise::bring_up;
-use ec_slave::Slave;
+use ec_rise::{bring_up, slaves_of};
 use ec_start::{Phase, Startup};
-use ec_table::{Direction, read_table};
+use ec_table::{Direction, Table, read_table};
 use ec_wire::{RunError, run_cycle};
-use std::alloc::{AllocError, Global};
+use std::alloc::Global;
 
 /// What came of cycles.
 #[derive(Clone, Copy, Drop)]
@@ -39,40 +40,37 @@ impl Ran {
     }
 }
 
-/// The plan of a table; none where it has a fault, or memory was refused.
-pub fn plan_of(alloc: Global, text: &str) -> Option<Plan>
-    ensures { IfSome result IsUsable }
+/// Brings up the slaves of a table; none where that fails.
+#[tactic(auto, unfolding(ec_start::specs::Running::begun))]
+fn brought_up(alloc: Global, table: &Table, plan: &Plan) -> Option<(Startup, Ring)>
+    requires accepted { compile_fault table.now ≡ None }
+    requires plan { plan.now ≡ plan_of table.now }
+    ensures { IfSome result (λ up. up.0.plan ≡ plan.now.slaves) }
 {
-    let Ok(table) = read_table(alloc, text) else {
-        return None;
-    };
-    let Ok(plan) = compile(alloc, &table) else {
-        return None;
-    };
-    Some(plan)
-}
-
-/// The slaves of a plan as they are switched on.
-fn ring_of(alloc: Global, plan: &Plan) -> Result<Ring, AllocError> {
-    let mut slaves = Vec::new(alloc);
-    for settings in plan.slaves() {
-        let identity = settings.kind.device().identity(0);
-        slaves.push(Slave::new(alloc, settings.kind.copied(alloc)?, identity)?)?;
-    }
-    Ok(Ring::new(slaves))
-}
-
-/// Brings up the slaves of a plan; none where that fails.
-pub fn brought_up(alloc: Global, plan: &Plan) -> Option<(Startup, Ring)> {
     if !Startup::can_start(plan) {
         return None;
     }
     let mut startup = Startup::new(alloc, plan, 0).ok()?;
-    let mut ring = ring_of(alloc, plan).ok()?;
-    if let Phase::Idle = startup.phase() {
-        bring_up(&mut startup, &mut ring);
-    }
+    let mut ring = slaves_of(alloc, table, plan).ok()?;
+    bring_up(&mut startup, &mut ring);
     Some((startup, ring))
+}
+
+/// The slaves of a table that was read, once they have come up.
+fn slaves_up(alloc: Global, table: &Table) -> Option<Ring> {
+    let Ok(plan) = compile(alloc, table) else {
+        return None;
+    };
+    let (_startup, ring) = brought_up(alloc, table, &plan)?;
+    Some(ring)
+}
+
+/// The slaves of a table, once they have come up. None where it has a fault, memory was refused, or they don't come up.
+pub fn ring_of(alloc: Global, text: &str) -> Option<Ring> {
+    let Ok(table) = read_table(alloc, text) else {
+        return None;
+    };
+    slaves_up(alloc, &table)
 }
 
 /// Whether a report says what it must of each unit and of each part.
@@ -147,7 +145,8 @@ fn run_one(
 
 /// A master of a plan whose start-up is ready.
 fn ready_master<'p>(alloc: Global, plan: &'p Plan, startup: &Startup) -> Option<Master<'p>>
-    requires { IsUsable plan.now }
+    requires usable { IsUsable plan.now }
+    requires same { startup.now.plan ≡ plan.now.slaves }
 {
     let mut master = Master::new(alloc, plan).ok()?;
     match startup.phase() {
@@ -178,18 +177,30 @@ fn run_each(
 }
 
 /// Runs so many cycles of a plan.
-fn run_plan(alloc: Global, plan: &Plan, seed: u64, rounds: u32) -> Option<Ran>
-    requires { IsUsable plan.now }
+fn run_plan(alloc: Global, table: &Table, plan: &Plan, seed: u64, rounds: u32) -> Option<Ran>
+    requires usable { IsUsable plan.now }
+    requires accepted { compile_fault table.now ≡ None }
+    requires plan { plan.now ≡ plan_of table.now }
 {
     let mut image = vec![in alloc; false; plan.in_bits()].ok()?;
-    let (startup, ring) = brought_up(alloc, plan)?;
+    let (startup, ring) = brought_up(alloc, table, plan)?;
     let mut master = ready_master(alloc, plan, &startup)?;
     let mut liar = Liar::new(Segment::new(alloc, seed, ring));
     Some(run_each(plan, &mut master, &mut liar, image.as_mut_slice(), rounds))
 }
 
-/// Runs so many cycles of a table. None where memory was refused, or its slaves don't come up.
+/// Runs so many cycles of a table that was read.
+fn run_table(alloc: Global, table: &Table, seed: u64, rounds: u32) -> Option<Ran> {
+    let Ok(plan) = compile(alloc, table) else {
+        return None;
+    };
+    run_plan(alloc, table, &plan, seed, rounds)
+}
+
+/// Runs so many cycles of a table. None where it has a fault, memory was refused, or its slaves don't come up.
 pub fn run_cycles(alloc: Global, text: &str, seed: u64, rounds: u32) -> Option<Ran> {
-    let plan = plan_of(alloc, text)?;
-    run_plan(alloc, &plan, seed, rounds)
+    let Ok(table) = read_table(alloc, text) else {
+        return None;
+    };
+    run_table(alloc, &table, seed, rounds)
 }

@@ -16,7 +16,7 @@ mod plain;
 mod segment;
 mod tables;
 
-use crate::cycles::{Ran, brought_up, plan_of, run_cycles};
+use crate::cycles::{Ran, ring_of, run_cycles};
 use crate::segment::{Served, send_bursts, serve_in_memory};
 use crate::tables::{THREE_SLAVES, two_units, without_lrw};
 use std::alloc::Global;
@@ -59,8 +59,7 @@ fn task_of(args: &[String]) -> Option<Task> {
 
 /// Serves payloads over a segment in memory whose slaves have come up.
 fn serve(alloc: Global, task: &Task) -> Option<Served> {
-    let plan = plan_of(alloc, THREE_SLAVES)?;
-    let (_startup, mut ring) = brought_up(alloc, &plan)?;
+    let mut ring = ring_of(alloc, THREE_SLAVES)?;
     Some(serve_in_memory(&mut ring, task.seed, task.rounds))
 }
 

@@ -11,7 +11,7 @@ mod events;
 mod life;
 mod model;
 
-ghost use Rattle.std.specs.Prelude.{◌≡◌, None, length, IfOk};
+ghost use Rattle.std.specs.Prelude.{◌≡◌, None};
 ghost use Rattle.ec_link.specs.Faults.{compile_fault};
 ghost use Rattle.ec_link.specs.Plan.{plan_of};
 
@@ -19,7 +19,7 @@ use crate::events::Kind;
 use crate::life::{Seen, live};
 use ec_link::{Plan, compile};
 use ec_random::{Random, random_table};
-use ec_regs::Identity;
+use ec_rise::identities_of;
 use ec_table::{Table, read_table};
 use std::alloc::{AllocError, Global};
 use std::env::Env;
@@ -127,17 +127,6 @@ fn task_of(args: &[String]) -> Option<Task> {
         tables: number(args, 2, 20)?,
         events: number(args, 3, 1000)?,
     })
-}
-
-/// What the slaves of a table show as their identities.
-fn identities_of(alloc: Global, table: &Table) -> Result<Vec<Identity>, AllocError>
-    ensures { IfOk result (λ v. length v.items ≡ length table.now.slaves) }
-{
-    let mut identities = Vec::new(alloc);
-    for slave in 0..table.slaves().len() {
-        identities.push(table.identity_of(slave))?;
-    }
-    Ok(identities)
 }
 
 /// The worlds of a table.
