@@ -1,10 +1,11 @@
 //! The program's worked rows, over memory.
 
+mod helps;
 mod loops;
-mod machines;
 mod plans;
 mod programs;
 mod segments;
+mod serials;
 mod sims;
 mod tables;
 
@@ -355,12 +356,42 @@ fn expect_usage<H: AllocGlobal + Net + Abort>(
 #[test]
 fn tells_a_fault_of_the_args(rt: HostRuntime) {
     let too_many = ["ecat", "pass", "--slaves", "65", FRAME];
-    for (args, begins) in [
-        (too_many.as_slice(), "error: invalid value '65'"),
-        (&["ecat", "frob"], "error: unrecognized subcommand 'frob'"),
-        (&["ecat"], "error: 'ecat' requires a subcommand"),
+    let missing = "error: the following required arguments were not provided:";
+    for (args, begins, line) in [
+        (too_many.as_slice(), "error: invalid value '65'", ""),
+        (
+            &["ecat", "frob"],
+            "error: unrecognized subcommand 'frob'",
+            "",
+        ),
+        (&["ecat"], "error: 'ecat' requires a subcommand", ""),
+        (
+            &["ecat", "pass"],
+            missing,
+            "Usage: ecat pass --slaves <N> <HEX>",
+        ),
+        (
+            &["ecat", "loop"],
+            missing,
+            "Usage: ecat loop --cycles <N> < TABLE",
+        ),
+        (
+            &["ecat", "plan", "a.toml"],
+            "error: unexpected argument 'a.toml'",
+            "ecat plan [--explain] < TABLE",
+        ),
+        (
+            &["ecat", "sim", "a.toml"],
+            "error: unexpected argument 'a.toml'",
+            "ecat sim < TABLE_AND_SCRIPT",
+        ),
+        (
+            &["ecat", "segment"],
+            missing,
+            "--frames <N> [--port <P>] [--idle <SECONDS>] < TABLE",
+        ),
     ] {
-        expect_usage(&rt, args, 2, begins, "");
+        expect_usage(&rt, args, 2, begins, line);
     }
 }
 

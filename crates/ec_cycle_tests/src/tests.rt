@@ -143,9 +143,9 @@ fn refusals(rt: HostRuntime) -> Result<(), Fail> {
     let steps = [
         Refused(CycleError::NotReady),
         NotOpen,
-        Ready(7),
-        Ready(5),
-        Next(7),
+        Ready(200),
+        Ready(150),
+        Next(200),
         Begins,
         Refused(CycleError::Open),
         Closes(&[false], &[None], 0),

@@ -237,3 +237,29 @@ fn fields_are_read_and_written(rt: HostRuntime) -> Result<(), Fail> {
     assert_eq!(rt; &frame[4..8], [1, 2, 3, 4].as_slice());
     Ok(())
 }
+
+#[test]
+fn faults_say_what_is_wrong(rt: HostRuntime) -> Result<(), Fail> {
+    for (fault, wanted) in [
+        (
+            FrameError::Short,
+            "fewer bytes than the header has, or than it says",
+        ),
+        (FrameError::BadType, "the header's type isn't 1"),
+        (
+            FrameError::BadLength,
+            "no byte of datagrams, or too few for a datagram",
+        ),
+        (
+            FrameError::BadMore,
+            "a datagram is wrong on whether another follows",
+        ),
+        (FrameError::BadCommand, "a command over 14"),
+        (FrameError::TooLong, "more than 1470 bytes of datagrams"),
+    ] {
+        assert_eq!(rt; format!(in rt.alloc(); "{fault}")?.as_str(), wanted);
+    }
+    let full = format!(in rt.alloc(); "{Full}")?;
+    assert_eq!(rt; full.as_str(), "the datagram doesn't fit in the frame");
+    Ok(())
+}

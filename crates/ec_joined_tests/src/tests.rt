@@ -1,9 +1,12 @@
-//! Two hundred tables, each with a script, through the program and through the calls.
+//! Two hundred tables, each with a script, through the program and through the calls; and tables of every size.
 mod cycles;
 mod scripts;
+mod seeds;
+mod sizes;
 
 use self::cycles::cycles_of;
 use self::scripts::answers;
+use self::sizes::{filled_up, table_of_size};
 use ec_app::run_command;
 use ec_random::{Random, random_script, random_table};
 use ec_wire::Echo;
@@ -73,8 +76,15 @@ fn expect_cycles<H: AllocGlobal + Net + Abort>(rt: &H, seed: u64) -> Result<(), 
     let mut random = Random::new(seed);
     let table = random_table(rt.alloc(), &mut random)?;
     let printed = cycles_of(rt.alloc(), table.as_str())?;
-    let args = ["ecat", "loop", "--cycles", "3"];
-    expect_printed(rt, &args, table.as_str(), printed.as_str());
+    let ended = run(rt, &["ecat", "loop", "--cycles", "3"], table.as_str());
+    assert_eq!(rt; ended.status, 0);
+    assert!(rt; ended.printed.as_slice() == printed.as_bytes());
+    assert!(rt;
+        ended
+            .told
+            .as_slice()
+            .starts_with(b"ecat: loop between 127.0.0.1:")
+    );
     Ok(())
 }
 
@@ -83,6 +93,70 @@ fn expect_cycles<H: AllocGlobal + Net + Abort>(rt: &H, seed: u64) -> Result<(), 
 fn joined_by_loops(rt: HostRuntime) -> Result<(), Fail> {
     for seed in 0..200 {
         expect_cycles(&rt, seed)?;
+    }
+    Ok(())
+}
+
+/// Runs the program, which must end well and tell nothing; whether what it printed begins with these bytes.
+fn expect_well<H: AllocGlobal + Net + Abort>(rt: &H, args: &[&str], input: &str, first: &str) {
+    let ended = run(rt, args, input);
+    assert_eq!(rt; (ended.status, ended.told.len()), (0, 0));
+    assert!(rt; ended.printed.as_slice().starts_with(first.as_bytes()));
+}
+
+/// The plan of a table, and a start-up and a cycle of it, in a world.
+fn expect_size<H: AllocGlobal + Net + Abort>(rt: &H, slaves: u32, count: u32) -> Result<(), Fail> {
+    let table = table_of_size(rt.alloc(), slaves, count)?;
+    let input = format!(in rt.alloc(); "{table}%%\nready\ncycle\nshow\n")?;
+    let first = if slaves == 0 {
+        "part 0 "
+    } else {
+        "slave 0 part 0 out 16 in 16\n"
+    };
+    expect_well(rt, &["ecat", "plan"], table.as_str(), first);
+    expect_well(
+        rt,
+        &["ecat", "sim"],
+        input.as_str(),
+        "ready\nreport taken missing 0 ",
+    );
+    Ok(())
+}
+
+// No size is told as want of memory, nor as anything else.
+#[test]
+fn each_number_of_slaves_has_room(rt: HostRuntime) -> Result<(), Fail> {
+    for slaves in 0..=64 {
+        expect_size(&rt, slaves, 16)?;
+    }
+    Ok(())
+}
+
+#[test]
+fn each_number_of_links_has_room(rt: HostRuntime) -> Result<(), Fail> {
+    for bits in [1, 2, 4, 8] {
+        expect_size(&rt, 64, bits)?;
+    }
+    Ok(())
+}
+
+/// The plan of a table that is so many bytes long.
+fn expect_length<H: AllocGlobal + Net + Abort>(rt: &H, len: usize) -> Result<(), Fail> {
+    let table = table_of_size(rt.alloc(), 3, 16)?;
+    let input = filled_up(rt.alloc(), table.as_str(), len)?;
+    expect_well(
+        rt,
+        &["ecat", "plan"],
+        input.as_str(),
+        "slave 0 part 0 out 16 in 16\n",
+    );
+    Ok(())
+}
+
+#[test]
+fn each_length_of_an_input_has_room(rt: HostRuntime) -> Result<(), Fail> {
+    for len in [4096, 4097, 65_536, 400_001, 1_000_000, 1 << 20] {
+        expect_length(&rt, len)?;
     }
     Ok(())
 }

@@ -231,3 +231,24 @@ fn a_type_without_objects(rt: HostRuntime) {
     assert_eq!(rt; plain.input_bits(), 0);
     assert!(rt; plain.lrw());
 }
+
+/// A list of so many numbers.
+fn numbers(alloc: Global, count: u32) -> Result<Listed<u32>, Fail> {
+    let mut list = Listed::new(alloc);
+    for number in 0..count {
+        list.push(number)?;
+    }
+    Ok(list)
+}
+
+// No length is told as want of memory, nor is a copy of it.
+#[test]
+fn lists_of_each_length(rt: HostRuntime) -> Result<(), Fail> {
+    for count in 0..40 {
+        let list = numbers(rt.alloc(), count)?;
+        let copied = Listed::copied(rt.alloc(), list.as_slice())?;
+        assert_eq!(rt; copied.len(), list.len());
+    }
+    assert_eq!(rt; numbers(rt.alloc(), 100_000)?.len(), 100_000);
+    Ok(())
+}

@@ -256,3 +256,12 @@ fn full_payload_past_64_slaves(rt: HostRuntime) -> Result<(), Fail> {
     assert!(rt; frame[1470..] == [64, 0]);
     Ok(())
 }
+
+#[test]
+fn refusal_says_what_came(rt: HostRuntime) -> Result<(), Fail> {
+    assert_eq!(rt;
+        format!(in rt.alloc(); "{NotAFrame}")?.as_str(),
+        "not a frame"
+    );
+    Ok(())
+}

@@ -1,10 +1,11 @@
 //! Scripts over three slaves: what lines stand for, which are bad, and what is printed of them.
-ghost use Rattle.std.specs.Prelude.{◌≡◌, length, IfOk};
+ghost use Rattle.std.specs.Prelude.{◌≡◌, length};
 ghost use Rattle.ec_link.specs.Faults.{compile_fault};
 ghost use Rattle.ec_link.specs.Plan.{plan_of};
 
 use ec_link::{Plan, compile};
 use ec_regs::Identity;
+use ec_rise::identities_of;
 use ec_script::Act::{Cycle, One, Ready, Show};
 use ec_script::{Act, Line, ScriptError, read_script, run_line, split_script};
 use ec_table::{Table, read_table};
@@ -192,17 +193,6 @@ fn expect_bad_lines<H: AllocGlobal + Abort>(rt: &H, table: &Table) -> Result<(),
 fn tells_the_first_bad_line(rt: HostRuntime) -> Result<(), Fail> {
     let table = read_table(rt.alloc(), TABLE)?;
     expect_bad_lines(&rt, &table)
-}
-
-/// The identity of each slave of a table.
-fn identities_of(alloc: Global, table: &Table) -> Result<Vec<Identity>, AllocError>
-    ensures { IfOk result (λ v. length v.items ≡ length table.now.slaves) }
-{
-    let mut identities = Vec::new(alloc);
-    for slave in 0..table.slaves().len() {
-        identities.push(table.identity_of(slave))?;
-    }
-    Ok(identities)
 }
 
 /// What lines print, one after another.

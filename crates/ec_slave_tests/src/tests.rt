@@ -2,6 +2,7 @@
 //! file, so it stays in INIT; `firmware` does.
 mod borders;
 mod firmware;
+mod identities;
 mod overlaps;
 mod runs;
 mod steps;

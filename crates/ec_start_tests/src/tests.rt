@@ -11,6 +11,7 @@ use std::process::Abort;
 use std::test::Fail;
 
 mod rows;
+mod sizes;
 
 const THREE_SLAVES: &str = r#"[[type]]
 name = "do4"

@@ -376,6 +376,10 @@ fn says_what_is_wrong(rt: HostRuntime) -> Result<(), Fail> {
             "slave 7: a name or an index stands twice",
         ),
         (
+            TableError::Refused(Fault::BadKey(place(Section::Variable))),
+            "variable 7: a key is unknown, or one is missing",
+        ),
+        (
             TableError::Refused(Fault::UnknownName(place(Section::Link))),
             "link 7: a name or an index is unknown",
         ),

@@ -3,10 +3,11 @@ ghost use Rattle.std.specs.Prelude.{◌≡◌, None};
 ghost use Rattle.ec_link.specs.Faults.{compile_fault};
 ghost use Rattle.ec_link.specs.Plan.{plan_of};
 
-use crate::tests::machines::slaves_of;
+use crate::tests::Idle;
 use crate::tests::tables::THREE_SLAVES;
 use ec_app::{Refusal, run_command, run_loop};
 use ec_link::{Plan, compile};
+use ec_rise::slaves_of;
 use ec_start::StartError;
 use ec_table::{Table, read_table};
 use ec_wire::{Echo, MemoryWire, RunError};
@@ -15,7 +16,25 @@ use std::net::Net;
 use std::process::Abort;
 use std::test::Fail;
 
-/// A run of `ecat loop`: its cycles and its input, how it ends, what it prints and what it tells.
+/// Runs two cycles of the three slaves whose applications do nothing, and answers the exit status and what is printed.
+fn loop_idle<H: AllocGlobal + Net>(rt: &H) -> (u8, Vec<u8>) {
+    let mut output: Vec<u8> = Vec::new(rt.alloc());
+    let mut faults: Vec<u8> = Vec::new(rt.alloc());
+    let args = ["ecat", "loop", "--cycles", "2"];
+    let mut input = THREE_SLAVES.as_bytes();
+    let status = run_command(rt, &args, &mut input, &mut output, &mut faults, &mut Idle);
+    (status, output)
+}
+
+// The slaves' applications are those that the loop is given: of outputs that nobody shows no input comes.
+#[test]
+fn runs_its_application(rt: HostRuntime) {
+    let (status, printed) = loop_idle(&rt);
+    assert_eq!(rt; status, 0);
+    assert!(rt; printed.ends_with(b"\nc 0\nd 0\n"));
+}
+
+/// A run of `ecat loop`: its cycles and its input, how it ends, what it prints, and how what it tells begins.
 #[derive(Clone, Copy, Drop)]
 struct Loop<'a> {
     cycles: &'a str,
@@ -33,12 +52,13 @@ fn expect_loop<H: AllocGlobal + Net + Abort>(rt: &H, run: Loop) {
     let mut input = run.input;
     let status = run_command(rt, &args, &mut input, &mut output, &mut faults, &mut Echo);
     assert_eq!(rt;
-        (status, output.as_slice(), faults.as_slice()),
-        (run.status, run.printed.as_bytes(), run.told.as_bytes())
+        (status, output.as_slice()),
+        (run.status, run.printed.as_bytes())
     );
+    assert!(rt; faults.starts_with(run.told.as_bytes()));
 }
 
-// Outputs come back as inputs one cycle later; a slave without outputs shows 0.
+// Outputs come back as inputs one cycle later; a slave without outputs shows 0. The ports are told once there are sockets.
 #[test]
 fn runs_cycles(rt: HostRuntime) {
     for run in [
@@ -47,14 +67,14 @@ fn runs_cycles(rt: HostRuntime) {
             input: THREE_SLAVES.as_bytes(),
             status: 0,
             printed: "ready\nc 0\nd 0\n",
-            told: "",
+            told: "ecat: loop between 127.0.0.1:",
         },
         Loop {
             cycles: "2",
             input: THREE_SLAVES.as_bytes(),
             status: 0,
             printed: "ready\nreport taken missing 0 counters 6 al 0008\nreport taken missing 0 counters 6 al 0008\nc 0\nd 1\n",
-            told: "",
+            told: "ecat: loop between 127.0.0.1:",
         },
         Loop {
             cycles: "2",
@@ -86,7 +106,7 @@ fn run_failing(
     requires plan { plan.now ≡ plan_of table.now }
 {
     let mut output = Vec::new(alloc);
-    let mut wire = MemoryWire::new(alloc, slaves_of(alloc, plan)?, 100, fails_at)?;
+    let mut wire = MemoryWire::new(alloc, slaves_of(alloc, table, plan)?, 100, fails_at)?;
     let ended = run_loop(alloc, table, plan, &mut wire, 2, &mut output);
     Ok((ended, output))
 }

@@ -1,9 +1,9 @@
 //! `ecat plan`, over memory.
 
 use crate::tests::tables::{
-    BARE, BARE_EXPLAINED, BARE_PLAN, LEGEND, REFUSED_CHANGES, SMALL_MACHINE,
-    SMALL_MACHINE_EXPLAINED, SMALL_MACHINE_PLAN, SPLIT_VARIABLE, THREE_SLAVES,
-    THREE_SLAVES_EXPLAINED, THREE_SLAVES_PLAN, TWO_UNITS_PLAN,
+    BARE, BARE_EXPLAINED, BARE_PLAN, LEGEND, MIXED_PARTS, MIXED_PARTS_EXPLAINED, REFUSED_CHANGES,
+    SMALL_MACHINE, SMALL_MACHINE_EXPLAINED, SMALL_MACHINE_PLAN, SPLIT_VARIABLE, THREE_SLAVES,
+    THREE_SLAVES_EXPLAINED, THREE_SLAVES_INLINE, THREE_SLAVES_PLAN, TWO_UNITS_PLAN,
 };
 use crate::tests::{Run, expect_run, run_args};
 use ec_app::read_text;
@@ -73,6 +73,7 @@ fn prints_plans(rt: HostRuntime) -> Result<(), Fail> {
     let two_units = with_two_units(rt.alloc())?;
     for (table, printed) in [
         (THREE_SLAVES, THREE_SLAVES_PLAN),
+        (THREE_SLAVES_INLINE, THREE_SLAVES_PLAN),
         (SMALL_MACHINE, SMALL_MACHINE_PLAN),
         (two_units.as_str(), TWO_UNITS_PLAN),
         (BARE, BARE_PLAN),
@@ -117,6 +118,7 @@ fn explains_plans(rt: HostRuntime) -> Result<(), Fail> {
         (THREE_SLAVES, THREE_SLAVES_EXPLAINED),
         (SMALL_MACHINE, SMALL_MACHINE_EXPLAINED),
         (BARE, BARE_EXPLAINED),
+        (MIXED_PARTS, MIXED_PARTS_EXPLAINED),
     ] {
         expect_explained(&rt, table, explained)?;
     }
@@ -240,6 +242,40 @@ impl Read for Failing {
             _ => Err(io::Error::from(ErrorKind::TimedOut)),
         }
     }
+}
+
+/// A reader that is interrupted before each byte of a text.
+#[derive(Drop)]
+struct Halting<'a> {
+    left: &'a [u8],
+    halted: bool,
+}
+
+impl Read for Halting<'_> {
+    fn read(&mut self, buffer: &mut [u8]) -> io::Result<usize> {
+        self.halted = !self.halted;
+        if self.halted {
+            return Err(io::Error::from(ErrorKind::Interrupted));
+        }
+        match (self.left, buffer) {
+            ([next, left @ ..], [first, ..]) => {
+                *first = *next;
+                self.left = left;
+                Ok(1)
+            }
+            _ => Ok(0),
+        }
+    }
+}
+
+#[test]
+fn reads_on_past_interruptions(rt: HostRuntime) {
+    let mut input = Halting {
+        left: b"version = 2",
+        halted: false,
+    };
+    let text = read_text(rt.alloc(), &mut input);
+    assert!(rt; text.is_ok_and(|text| text.as_str() == "version = 2"));
 }
 
 /// `ecat plan` on an input that can't be read.

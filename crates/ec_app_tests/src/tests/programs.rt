@@ -2,19 +2,18 @@
 
 use crate::tests::FRAME;
 use ec_app::run_program;
+use std::env;
 use std::env::{Env, FillError};
-use std::io;
-use std::net::{Net, SocketAddr};
+use std::net::Net;
 use std::process::Abort;
 
 /// A system with arguments of a test.
 #[derive(Drop)]
-struct Called<'a, R> {
-    rt: &'a R,
+struct Called<'a> {
     args: &'a [&'a [u8]],
 }
 
-impl<R> Env for Called<'_, R> {
+impl Env for Called<'_> {
     fn arg(&self, place: usize, buffer: &mut [u8]) -> Result<usize, FillError> {
         let Some(arg) = self.args.get(place) else {
             return Err(FillError::NotPresent);
@@ -35,20 +34,6 @@ impl<R> Env for Called<'_, R> {
     }
 }
 
-impl<R: Net> Net for Called<'_, R> {
-    type Stream = R::Stream;
-
-    type Listener = R::Listener;
-
-    fn bind(&self, address: SocketAddr) -> io::Result<R::Listener> {
-        self.rt.bind(address)
-    }
-
-    fn connect(&self, address: SocketAddr) -> io::Result<R::Stream> {
-        self.rt.connect(address)
-    }
-}
-
 /// Runs the program on these arguments, and compares the exit status and what was printed.
 fn expect_program<H: AllocGlobal + Net + Abort>(
     rt: &H,
@@ -57,11 +42,11 @@ fn expect_program<H: AllocGlobal + Net + Abort>(
     printed: &str,
     told: &str,
 ) {
-    let system = (Called { rt, args }, rt.alloc());
+    let system = (Called { args }, rt.alloc());
     let mut output: Vec<u8> = Vec::new(rt.alloc());
     let mut faults: Vec<u8> = Vec::new(rt.alloc());
     let mut input: &[u8] = b"";
-    let answer = run_program(&system, &mut input, &mut output, &mut faults);
+    let answer = run_program(rt, env::args(&system), &mut input, &mut output, &mut faults);
     assert_eq!(rt;
         (answer, output.as_slice(), faults.as_slice()),
         (status, printed.as_bytes(), told.as_bytes())

@@ -16,10 +16,12 @@ enum Port {
     Zero,
 }
 
-/// A run of `ecat segment --frames 0`: its port and its input, how it ends, what it prints, and how what it tells begins.
+/// A run of `ecat segment --idle 1`: its port, how many payloads it awaits and its input, how it ends, what it prints, and how
+/// what it tells begins.
 #[derive(Clone, Copy, Drop)]
 struct Segment<'a> {
     port: Port,
+    frames: &'a str,
     input: &'a [u8],
     status: u8,
     printed: &'a str,
@@ -29,12 +31,15 @@ struct Segment<'a> {
 /// Runs `ecat segment` on a port. What it answers is told by no clause, so that the comparisons behind it carry nothing of it.
 fn run_on<H: AllocGlobal + Net>(
     rt: &H,
-    mut input: &[u8],
+    run: Segment,
     port: &str,
     output: &mut Vec<u8>,
     faults: &mut Vec<u8>,
 ) -> u8 {
-    let args = ["ecat", "segment", "--frames", "0", "--port", port];
+    let mut input = run.input;
+    let args = [
+        "ecat", "segment", "--frames", run.frames, "--port", port, "--idle", "1",
+    ];
     run_command(rt, &args, &mut input, output, faults, &mut Idle)
 }
 
@@ -47,7 +52,7 @@ fn expect_segment<H: AllocGlobal + Net + Abort>(
     let mut output: Vec<u8> = Vec::new(rt.alloc());
     let mut faults: Vec<u8> = Vec::new(rt.alloc());
     let port = format!(in rt.alloc(); "{port}")?;
-    let status = run_on(rt, run.input, port.as_str(), &mut output, &mut faults);
+    let status = run_on(rt, run, port.as_str(), &mut output, &mut faults);
     assert_eq!(rt;
         (status, output.as_slice()),
         (run.status, run.printed.as_bytes()),
@@ -65,13 +70,24 @@ fn listens_and_counts(rt: HostRuntime) -> Result<(), Fail> {
     for run in [
         Segment {
             port: Port::Free,
+            frames: "0",
             input: THREE_SLAVES.as_bytes(),
             status: 0,
             printed: "served 0 refused 0\n",
             told: "ecat: listening on 127.0.0.1:",
         },
+        // nothing comes for a second
+        Segment {
+            port: Port::Free,
+            frames: "1",
+            input: THREE_SLAVES.as_bytes(),
+            status: 4,
+            printed: "served 0 refused 0\n",
+            told: "ecat: listening on 127.0.0.1:",
+        },
         Segment {
             port: Port::InUse,
+            frames: "0",
             input: THREE_SLAVES.as_bytes(),
             status: 4,
             printed: "",
@@ -79,6 +95,7 @@ fn listens_and_counts(rt: HostRuntime) -> Result<(), Fail> {
         },
         Segment {
             port: Port::InUse,
+            frames: "0",
             input: b"[[",
             status: 3,
             printed: "",
@@ -86,6 +103,7 @@ fn listens_and_counts(rt: HostRuntime) -> Result<(), Fail> {
         },
         Segment {
             port: Port::Free,
+            frames: "0",
             input: b"\xff",
             status: 4,
             printed: "",
@@ -93,6 +111,7 @@ fn listens_and_counts(rt: HostRuntime) -> Result<(), Fail> {
         },
         Segment {
             port: Port::Zero,
+            frames: "0",
             input: b"",
             status: 2,
             printed: "",

@@ -328,8 +328,10 @@ part 1 address 65537 bytes 4 counter 1/1 unit 1
 
 pub const LEGEND: &str = "\
 Each line is a run of bits that go the same way. Bits count from 0, the lowest first.
+  assigns   the PDOs that the slave exchanges, in order
   object    index in hex and subindex in decimal, as in the table; a gap has neither
   bits      of the object
+  byte      byte and bit of the slave's own data, whose bytes `put` and `get` of `ecat sim` count
   logical   byte and bit of the logical addresses, over which the part's datagrams go
   variable  the variable that they are linked with, and its bits
 ";
@@ -340,21 +342,25 @@ part 0: address 0x00010000, length 3, unit 0
 
 slave 0  s0  type do4  part 0  unit 0
   outputs: sync manager 2, address 0x1100, length 1
-    object      bits    logical                       variable
-    0x7000:1    0..3    0x00010000.0 to 0x00010000.3  a 0..3
+    assigns 0x1600
+    object      bits    byte   logical                       variable
+    0x7000:1    0..3    0.0    0x00010000.0 to 0x00010000.3  a 0..3
 
 slave 1  s1  type di4  part 0  unit 0
   inputs: sync manager 3, address 0x1100, length 1
-    object      bits    logical                       variable
-    0x6000:1    0..3    0x00010000.4 to 0x00010000.7  c 0..3
+    assigns 0x1a00
+    object      bits    byte   logical                       variable
+    0x6000:1    0..3    0.0    0x00010000.4 to 0x00010000.7  c 0..3
 
 slave 2  s2  type mix  part 0  unit 0
   outputs: sync manager 2, address 0x1100, length 2
-    object      bits    logical                       variable
-    0x7010:1    0..11   0x00010001.0 to 0x00010002.3  b 0..11
+    assigns 0x1600
+    object      bits    byte   logical                       variable
+    0x7010:1    0..11   0.0    0x00010001.0 to 0x00010002.3  b 0..11
   inputs: sync manager 3, address 0x1400, length 2
-    object      bits    logical                       variable
-    0x6010:1    0..15   0x00010001.0 to 0x00010002.7  d 0..15
+    assigns 0x1a00
+    object      bits    byte   logical                       variable
+    0x6010:1    0..15   0.0    0x00010001.0 to 0x00010002.7  d 0..15
 ";
 
 pub const SMALL_MACHINE_EXPLAINED: &str = "
@@ -363,28 +369,32 @@ part 0: address 0x00010000, length 1, unit 0
 
 slave 0  panel  type coupler  part 0  unit 0
   outputs: sync manager 2, address 0x1100, length 1
-    object      bits    logical                       variable
-    0x7000:1    0       0x00010000.0                  lamp 0
-    0x7000:2    0       0x00010000.1                  valves 0
-    0x7000:3    0       0x00010000.2                  valves 1
-    0x7000:4    0       0x00010000.3                  -
-    gap         0..3    0x00010000.4 to 0x00010000.7  -
+    assigns 0x1600
+    object      bits    byte   logical                       variable
+    0x7000:1    0       0.0    0x00010000.0                  lamp 0
+    0x7000:2    0       0.1    0x00010000.1                  valves 0
+    0x7000:3    0       0.2    0x00010000.2                  valves 1
+    0x7000:4    0       0.3    0x00010000.3                  -
+    gap         0..3    0.4    0x00010000.4 to 0x00010000.7  -
   inputs: sync manager 3, address 0x1180, length 1
-    object      bits    logical                       variable
-    0x6000:1    0..7    0x00010000.0 to 0x00010000.7  switches 0..7
+    assigns 0x1a00
+    object      bits    byte   logical                       variable
+    0x6000:1    0..7    0.0    0x00010000.0 to 0x00010000.7  switches 0..7
 
 part 1: address 0x00010001, length 4, unit 1
   an LWR that comes back with counter 1, and an LRD with 1
 
 slave 1  press  type analog2  part 1  unit 1
   outputs: sync manager 2, address 0x1100, length 2
-    object      bits    logical                       variable
-    0x7020:17   0..15   0x00010001.0 to 0x00010002.7  force_wanted 0..15
+    assigns 0x1601
+    object      bits    byte   logical                       variable
+    0x7020:17   0..15   0.0    0x00010001.0 to 0x00010002.7  force_wanted 0..15
   inputs: sync manager 3, address 0x1400, length 4
-    object      bits    logical                       variable
-    0x6020:1    0..7    0x00010001.0 to 0x00010001.7  -
-    gap         0..7    0x00010002.0 to 0x00010002.7  -
-    0x6020:17   0..15   0x00010003.0 to 0x00010004.7  force 0..15
+    assigns 0x1a01
+    object      bits    byte   logical                       variable
+    0x6020:1    0..7    0.0    0x00010001.0 to 0x00010001.7  -
+    gap         0..7    1.0    0x00010002.0 to 0x00010002.7  -
+    0x6020:17   0..15   2.0    0x00010003.0 to 0x00010004.7  force 0..15
 ";
 
 /// A slave without process data, which takes no part in LRW.
@@ -429,4 +439,115 @@ pub const REFUSED_CHANGES: &str = r#"11 Toml: [[type]] => [[type]
 20 EntryTwice 2: [[0x7010, 1, 12]] => [[0x7010, 1, 12], [0x7010, 1, 4]]
 24 AreasOverlap 2: in_start = 0x1400 => in_start = 0x1105
 25 OutsideRam 2: in_start = 0x1400 => in_start = 0x2FFB
+"#;
+
+/// A word of sixteen bits in parts, linked from the last to the first: the parts of a variable and of
+/// the slave's data stand in another order.
+pub const MIXED_PARTS: &str = r#"
+[[type]]
+name = "do16"
+vendor = 1
+product = 1
+revision = 1
+out_start = 0x1100
+in_start = 0
+rxpdo = [
+    { index = 0x1601, entries = [[0x7000, 1, 8]] },
+    { index = 0x1600, entries = [[0x7000, 2, 8]] },
+]
+
+[[slave]]
+name = "s0"
+type = "do16"
+
+[[variable]]
+name = "w"
+dir = "out"
+bits = 16
+
+[[link]]
+var = "w"
+slave = "s0"
+index = 0x7000
+sub = 2
+bits = [9, 0, 7]
+[[link]]
+var = "w"
+slave = "s0"
+index = 0x7000
+sub = 1
+bits = [0, 4, 4]
+[[link]]
+var = "w"
+slave = "s0"
+index = 0x7000
+sub = 1
+bits = [4, 0, 4]
+"#;
+
+pub const MIXED_PARTS_EXPLAINED: &str = "
+part 0: address 0x00010000, length 2, unit 0
+  an LRW that comes back with counter 2
+
+slave 0  s0  type do16  part 0  unit 0
+  outputs: sync manager 2, address 0x1100, length 2
+    assigns 0x1601 0x1600
+    object      bits    byte   logical                       variable
+    0x7000:1    0..3    0.0    0x00010000.0 to 0x00010000.3  w 4..7
+    0x7000:1    4..7    0.4    0x00010000.4 to 0x00010000.7  w 0..3
+    0x7000:2    0..6    1.0    0x00010001.0 to 0x00010001.6  w 9..15
+    0x7000:2    7       1.7    0x00010001.7                  -
+";
+
+/// `examples/three_slaves_inline.toml`.
+pub const THREE_SLAVES_INLINE: &str =
+    r#"# The table of `three_slaves.toml` once more, with its sections as inline arrays, an
+# element a line. They stand before the first `[[..]]`, since what follows such a line
+# belongs to it. A section is written in one way or in the other, not in both.
+slave = [
+    { name = "s0", type = "do4" },
+    { name = "s1", type = "di4" },
+    { name = "s2", type = "mix" },
+]
+variable = [
+    { name = "a", dir = "out", bits = 4 },
+    { name = "b", dir = "out", bits = 12 },
+    { name = "c", dir = "in", bits = 4 },
+    { name = "d", dir = "in", bits = 16 },
+]
+link = [
+    { var = "a", slave = "s0", index = 0x7000, sub = 1 },
+    { var = "b", slave = "s2", index = 0x7010, sub = 1 },
+    { var = "c", slave = "s1", index = 0x6000, sub = 1 },
+    { var = "d", slave = "s2", index = 0x6010, sub = 1 },
+]
+
+[[type]]
+name = "do4"
+vendor = 0xABCD
+product = 1
+revision = 1
+out_start = 0x1100
+in_start = 0
+rxpdo = [ { index = 0x1600, entries = [[0x7000, 1, 4]] } ]
+
+[[type]]
+name = "di4"
+vendor = 0xABCD
+product = 2
+revision = 1
+out_start = 0
+in_start = 0x1100
+txpdo = [ { index = 0x1A00, entries = [[0x6000, 1, 4]] } ]
+
+[[type]]
+name = "mix"
+vendor = 0xABCD
+product = 3
+revision = 1
+mailbox = [0x1000, 128, 0x1080, 128]
+out_start = 0x1100
+in_start = 0x1400
+rxpdo = [ { index = 0x1600, entries = [[0x7010, 1, 12]] } ]
+txpdo = [ { index = 0x1A00, entries = [[0x6010, 1, 16]] } ]
 "#;

@@ -1,5 +1,5 @@
 //! Cycles whose frames are as long as a frame can be: 1470 bytes behind the header, 1472 in all.
-use crate::tests::steps::Step::{Begins, Closes, Keeps, Ready, Sends, Sets};
+use crate::tests::steps::Step::{Begins, Closes, Keeps, Next, Ready, Sends, Sets};
 use crate::tests::steps::expect_steps;
 use ec_link::Predicted::{Lrw, Split};
 use std::alloc::{AllocError, Global};
@@ -96,31 +96,31 @@ fn full_part(rt: HostRuntime) -> Result<(), Fail> {
     let steps = [
         Sets(0, 0xA5),
         Sets(1, 1),
-        Ready(5),
+        Ready(517),
         Begins,
         Sends(
             0,
             "be15 \
-             0005 0000 0000 0a80 0000 0500000000000000 0000 0000 \
+             0005 0000 0000 0a80 0000 0502000000000000 0000 0000 \
              0705 0000 3001 0280 0000 0000 0000 \
              0c05 00000100 8e05 0000 +1421 a5 0000",
         ),
         Sends(
             1,
             "3110 \
-             0005 0000 0000 0a80 0000 0500000000000000 0100 0000 \
+             0005 0000 0000 0a80 0000 0502000000000000 0100 0000 \
              0705 0000 3001 0280 0000 0000 0000 \
              0c05 8e050100 0100 0000 01 0000",
         ),
         Keeps(
             "be15 \
-             0005 0000 0000 0a80 0000 0500000000000000 0000 0000 \
+             0005 0000 0000 0a80 0000 0502000000000000 0000 0000 \
              0705 0700 3001 0280 0000 0800 0700 \
              0c05 00000100 8e05 0000 +1421 a5 0c00",
         ),
         Keeps(
             "3110 \
-             0005 0000 0000 0a80 0000 0500000000000000 0100 0000 \
+             0005 0000 0000 0a80 0000 0502000000000000 0100 0000 \
              0705 0700 3001 0280 0000 0800 0700 \
              0c05 8e050100 0100 0000 01 0200",
         ),
@@ -135,19 +135,19 @@ fn full_split_part(rt: HostRuntime) -> Result<(), Fail> {
     let table = table_of(rt.alloc(), &[2048, 2048, 1544], false, LINK_OF_THREE)?;
     let steps = [
         Sets(0, 0xA5),
-        Ready(5),
+        Ready(517),
         Begins,
         Sends(
             0,
             "be15 \
-             0005 0000 0000 0a80 0000 0500000000000000 0000 0000 \
+             0005 0000 0000 0a80 0000 0502000000000000 0000 0000 \
              0705 0000 3001 0280 0000 0000 0000 \
              0b05 00000100 c182 0000 +704 a5 0000 \
              0a05 00000100 c102 0000 +705 0000",
         ),
         Keeps(
             "be15 \
-             0005 0000 0000 0a80 0000 0500000000000000 0000 0000 \
+             0005 0000 0000 0a80 0000 0502000000000000 0000 0000 \
              0705 0300 3001 0280 0000 0800 0300 \
              0b05 00000100 c182 0000 +704 a5 0300 \
              0a05 00000100 c102 0000 +705 0000",
@@ -155,4 +155,27 @@ fn full_split_part(rt: HostRuntime) -> Result<(), Fail> {
         Closes(&[true], &[Some(Split { write: 3, read: 0 })], 0x0008),
     ];
     expect_steps(&rt, table.as_str(), &steps)
+}
+
+/// So many input variables of 64 bits.
+fn push_variables(text: &mut String, count: usize) -> Result<(), AllocError> {
+    for place in 0..count {
+        write!(
+            text,
+            "[[variable]]\nname = \"v{place}\"\ndir = \"in\"\nbits = 64\n"
+        )?;
+    }
+    Ok(())
+}
+
+// There is memory for a master of each number of slaves, each with as many outputs as a slave may have.
+#[test]
+fn masters_of_all_sizes(rt: HostRuntime) -> Result<(), Fail> {
+    let slaves = [2048; 64];
+    for count in 1..65 {
+        let mut table = table_of(rt.alloc(), &slaves[..count], true, "")?;
+        push_variables(&mut table, count)?;
+        expect_steps(&rt, table.as_str(), &[Next(0)])?;
+    }
+    Ok(())
 }

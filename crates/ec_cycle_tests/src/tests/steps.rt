@@ -1,11 +1,13 @@
 //! What is done with a master, and what must be seen of it.
-ghost use Rattle.std.specs.Prelude.{IfOk};
+ghost use Rattle.std.specs.Prelude.{◌≡◌, IfOk};
 ghost use Rattle.ec_link.specs.Usable.{IsUsable};
 
 use ec_cycle::{CycleError, Master, Report, Taken};
-use ec_frame::Frame;
 use ec_link::{Plan, Predicted, compile};
-use ec_start::{NextFrame, Phase, Startup};
+use ec_ring::Ring;
+use ec_rise::bring_up;
+use ec_slave::Slave;
+use ec_start::{Phase, Startup};
 use ec_table::read_table;
 use std::alloc::{AllocError, Global};
 use std::process::Abort;
@@ -14,7 +16,7 @@ use std::test::Fail;
 /// A step. Rows are hexadecimal digits with blanks between fields; the field `+7` stands for seven bytes of zeros.
 #[derive(Clone, Copy, Drop)]
 pub enum Step<'a> {
-    /// A start-up ended Ready, with this next number.
+    /// A start-up of the plan ended Ready, with this next number.
     Ready(u64),
     /// A variable gets a value.
     Sets(usize, u64),
@@ -68,35 +70,47 @@ fn plan_of(alloc: Global, text: &str) -> Result<Plan, Fail>
     Ok(plan)
 }
 
-/// A start-up of no slaves, whose first frame has this number.
-fn startup_of_none(rt: &(impl AllocGlobal + Abort), number: u64) -> Result<Startup, Fail> {
-    let plan = plan_of(rt.alloc(), "")?;
-    assert!(rt; Startup::can_start(&plan));
-    Ok(Startup::new(rt.alloc(), &plan, number)?)
+/// The slaves of a plan as they are switched on.
+fn ring_of(alloc: Global, plan: &Plan) -> Result<Ring, AllocError> {
+    let mut slaves = Vec::new(alloc);
+    for settings in plan.slaves() {
+        let identity = settings.kind.device().identity(0);
+        slaves.push(Slave::new(alloc, settings.kind.copied(alloc)?, identity)?)?;
+    }
+    Ok(Ring::new(slaves))
 }
 
-/// A start-up sends its only frame, and gets it back as it was sent.
-fn send_round(rt: &impl Abort, startup: &mut Startup) {
-    let mut frame = Frame::new();
-    assert_eq!(rt; startup.next(&mut frame), NextFrame::Send);
-    assert_eq!(rt; startup.take(frame.as_slice()), Taken::Kept);
-}
-
-/// A start-up of no slaves that has sent its only frame, with this number.
-fn ended_startup(rt: &(impl AllocGlobal + Abort), number: u64) -> Result<Startup, Fail> {
-    let mut startup = startup_of_none(rt, number)?;
-    send_round(rt, &mut startup);
+/// A start-up of a plan over its slaves, whose first frame has this number; it has ended.
+#[tactic(auto, unfolding(ec_start::specs::Running::begun))]
+fn ended_startup(rt: &(impl AllocGlobal + Abort), plan: &Plan, number: u64) -> Result<Startup, Fail>
+    ensures { IfOk result (λ s. s.plan ≡ plan.now.slaves) }
+{
+    assert!(rt; Startup::can_start(plan));
+    let mut startup = Startup::new(rt.alloc(), plan, number)?;
+    let mut ring = ring_of(rt.alloc(), plan)?;
+    bring_up(&mut startup, &mut ring);
     Ok(startup)
 }
 
-/// The master becomes ready by a start-up whose next number is this.
+/// The number of the first frame of a start-up whose next number is this when it has ended.
+fn first_number(rt: &(impl AllocGlobal + Abort), plan: &Plan, number: u64) -> Result<u64, Fail> {
+    let frames = ended_startup(rt, plan, 0)?.next_number();
+    Ok(
+        number
+            .checked_sub(frames)
+            .ok_or("a number behind so many frames")?,
+    )
+}
+
+/// The master becomes ready by a start-up of its plan whose next number is this.
 fn make_ready(
     rt: &(impl AllocGlobal + Abort),
     master: &mut Master,
     number: u64,
 ) -> Result<(), Fail> {
-    let last = number.checked_sub(1).ok_or("a number behind another")?;
-    let startup = ended_startup(rt, last)?;
+    let plan = master.plan();
+    let first = first_number(rt, plan, number)?;
+    let startup = ended_startup(rt, plan, first)?;
     assert_eq!(rt; startup.phase(), Phase::Ready);
     assert_eq!(rt; startup.next_number(), number);
     master.ready(&startup);

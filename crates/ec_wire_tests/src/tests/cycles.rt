@@ -1,4 +1,5 @@
 //! Cycles over memory, of which each call is a fault in turn.
+ghost use Rattle.std.specs.Prelude.{◌≡◌};
 ghost use Rattle.ec_link.specs.Usable.{IsUsable};
 
 use crate::tests::machines::{THREE_SLAVES, brought_up, full_table, plan_of, set, there, value_of};
@@ -167,7 +168,9 @@ impl Wire for Spent {
 }
 
 /// Brings the slaves of a plan up, where that is asked for. Whether they are up as asked.
-fn prepare(alloc: Global, plan: &Plan, master: &mut Master<'_>, is_up: bool) -> bool {
+fn prepare(alloc: Global, plan: &Plan, master: &mut Master<'_>, is_up: bool) -> bool
+    requires { master.old.plan ≡ plan.now }
+{
     !is_up || brought_up(alloc, plan, master).is_some()
 }
 

@@ -1,5 +1,5 @@
 //! Machines to run: their tables, plans, slaves and start-ups.
-ghost use Rattle.std.specs.Prelude.{IfOk};
+ghost use Rattle.std.specs.Prelude.{◌≡◌, IfOk, IfSome};
 ghost use Rattle.ec_link.specs.Usable.{IsUsable};
 
 use ec_cycle::Master;
@@ -95,21 +95,30 @@ pub fn three_slaves(alloc: Global) -> Result<Ring, Fail> {
 }
 
 /// A start-up of a plan whose first frame has this number.
-pub fn startup_from(alloc: Global, plan: &Plan, number: u64) -> Option<Startup> {
-    if Startup::can_start(plan) {
-        Startup::new(alloc, plan, number).ok()
-    } else {
-        None
+#[tactic(auto, unfolding(ec_start::specs::Running::begun))]
+pub fn startup_from(alloc: Global, plan: &Plan, number: u64) -> Option<Startup>
+    ensures { IfSome result (λ s. s.plan ≡ plan.now.slaves) }
+{
+    if !Startup::can_start(plan) {
+        return None;
+    }
+    match Startup::new(alloc, plan, number) {
+        Ok(startup) => Some(startup),
+        Err(_) => None,
     }
 }
 
 /// A start-up of a plan.
-pub fn startup_of(alloc: Global, plan: &Plan) -> Option<Startup> {
+pub fn startup_of(alloc: Global, plan: &Plan) -> Option<Startup>
+    ensures { IfSome result (λ s. s.plan ≡ plan.now.slaves) }
+{
     startup_from(alloc, plan, 0)
 }
 
 /// Brings the slaves up over a wire. Whether they have come up, and the master is ready.
-pub fn are_up<W: Wire>(startup: &mut Startup, wire: &mut W, master: &mut Master<'_>) -> bool {
+pub fn are_up<W: Wire>(startup: &mut Startup, wire: &mut W, master: &mut Master<'_>) -> bool
+    requires { startup.old.plan ≡ master.old.plan.slaves }
+{
     bring_up_wire(startup, wire);
     match startup.phase() {
         Phase::Ready => master.ready(startup),
@@ -124,7 +133,9 @@ pub fn brought_up_from(
     plan: &Plan,
     master: &mut Master<'_>,
     number: u64,
-) -> Option<Ring> {
+) -> Option<Ring>
+    requires { master.old.plan ≡ plan.now }
+{
     let mut startup = startup_from(alloc, plan, number)?;
     let ring = ring_of(alloc, plan).ok()?;
     let mut wire = MemoryWire::new(alloc, ring, 3000, u64::MAX).ok()?;
@@ -136,7 +147,9 @@ pub fn brought_up_from(
 }
 
 /// Brings the slaves of a plan up over memory, and makes the master ready.
-pub fn brought_up(alloc: Global, plan: &Plan, master: &mut Master<'_>) -> Option<Ring> {
+pub fn brought_up(alloc: Global, plan: &Plan, master: &mut Master<'_>) -> Option<Ring>
+    requires { master.old.plan ≡ plan.now }
+{
     brought_up_from(alloc, plan, master, 0)
 }
 

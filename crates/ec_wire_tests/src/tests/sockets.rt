@@ -1,4 +1,5 @@
 //! Segments and loops over the system's sockets.
+ghost use Rattle.std.specs.Prelude.{◌≡◌};
 ghost use Rattle.ec_link.specs.Usable.{IsUsable};
 
 use crate::tests::machines::{
@@ -206,6 +207,15 @@ fn make_call(pair: &mut Pair, call: Call) -> (usize, u64, u64) {
     (count, pair.master.failures(), pair.segment.failures())
 }
 
+// A wire waits as long as it is told to, and then the receive is a fault.
+#[test]
+fn waits_a_second(rt: HostRuntime) -> Result<(), Fail> {
+    let mut wire = UdpWire::bind_idle(&rt, 0, 1)?;
+    let mut buffer = [0; 16];
+    assert_eq!(rt; (wire.recv(&mut buffer), wire.failures()), (0, 1));
+    Ok(())
+}
+
 // What is too long to send is a fault, and so is a send to nobody and a receive that waits too long. A master receives
 // what its segment sends, and nothing else.
 #[test]
@@ -269,7 +279,9 @@ fn loop_to<R: Net>(rt: &R, alloc: Global, plan: &Plan) -> Option<LoopWire<Echo>>
 }
 
 /// Brings the slaves up over a wire, and runs two cycles that send 1 and 2. Whether all went well.
-fn run_two<W: Wire>(startup: &mut Startup, master: &mut Master<'_>, wire: &mut W) -> bool {
+fn run_two<W: Wire>(startup: &mut Startup, master: &mut Master<'_>, wire: &mut W) -> bool
+    requires { startup.old.plan ≡ master.old.plan.slaves }
+{
     are_up(startup, wire, master) && run_taken(master, wire, 1) && run_taken(master, wire, 2)
 }
 
@@ -277,7 +289,9 @@ fn run_two<W: Wire>(startup: &mut Startup, master: &mut Master<'_>, wire: &mut W
 type Seen = (bool, u64, u64, u64);
 
 /// What is seen of two cycles over a wire.
-fn seen_over<W: Wire>(startup: &mut Startup, master: &mut Master<'_>, wire: &mut W) -> Seen {
+fn seen_over<W: Wire>(startup: &mut Startup, master: &mut Master<'_>, wire: &mut W) -> Seen
+    requires { startup.old.plan ≡ master.old.plan.slaves }
+{
     let is_well = run_two(startup, master, wire);
     let (c, d) = (value_of(master, 2), value_of(master, 3));
     (is_well, c, d, wire.failures())
@@ -290,14 +304,17 @@ fn seen_of_loop<R: Net>(
     plan: &Plan,
     startup: &mut Startup,
     master: &mut Master<'_>,
-) -> Option<Seen> {
+) -> Option<Seen>
+    requires { startup.old.plan ≡ master.old.plan.slaves }
+{
     let mut wire = loop_to(rt, alloc, plan)?;
     Some(seen_over(startup, master, &mut wire))
 }
 
 /// What a start-up of a plan sees of two cycles over sockets.
 fn seen_by<R: Net>(rt: &R, alloc: Global, plan: &Plan, startup: &mut Startup) -> Option<Seen>
-    requires { IsUsable plan.now }
+    requires usable { IsUsable plan.now }
+    requires same { startup.old.plan ≡ plan.now.slaves }
 {
     let mut master = Master::new(alloc, plan).ok()?;
     seen_of_loop(rt, alloc, plan, startup, &mut master)
