@@ -29,7 +29,7 @@ use Rattle.ec_start.specs.declared.action.Request.{Request}
 use Rattle.ec_start.specs.declared.action.Action.TheVariants.{CountSlaves, AskInit, AwaitInit, ClearFmmus, ClearManagers, ClearStations, NameSlave, AskWord, AwaitWord, SetManager, SetFmmu, AskState, AwaitState, SendRequest, AwaitReply}
 use Rattle.ec_start.specs.Verdicts.{verdict, counted, word_verdict, state_verdict, reply_verdict, word_at, long_at, is_device, with_word}
 use Rattle.ec_start.specs.Scripts.{script}
-use Rattle.ec_start.specs.Running.{StartState, action_of, asked, asked_by, next_frame, next_frame_by, begun, sending, taken, judged, most_polls, second, is_ended, is_sent, last_number, type_of, IsStartAnswer, IsStartTaken}
+use Rattle.ec_start.specs.Running.{StartState, action_of, asked, asked_by, next_frame, next_frame_by, begun, sending, taken, judged, most_polls, second, is_ended, is_sent, last_number, type_of, IsStartTaken}
 use Rattle.ec_start.specs.declared.phase.NextFrame.{NextFrame}
 use Rattle.ec_start.specs.declared.phase.NextFrame.TheVariants.{Send, Waiting, Ended}
 use Rattle.ec_start.specs.declared.verdict.Verdict.{Verdict}
@@ -43,18 +43,24 @@ use Rattle.ec_rise.proofs.Up.{comes-up}
 
 -- ---- one turn
 
+-- a frame of a start-up that passed all slaves is kept
+pub turn-kept : (s t : StartState) (ss passed : List SlaveState) (before after : List ℕ) (kept : Bool)
+    → IsFrame before (bare_payload (frame_of (action_of s) s.next)) → HasPassedRing ss before passed after → IsStartTaken (sending s) after kept t → kept ≡ true
+turn-kept s t ss passed before after kept written ring took =
+    let p : Payload = bare_payload (frame_of (action_of s) s.next) in
+    let r = round s s.next ss written.each.1.0 in
+    (took.answers s.next (with_datagrams p (passes_ring ss (frame_of (action_of s) s.next)).datagrams) refl (ring.frame p written)).1 (record { shapes = r.answer.shapes; number_is = r.answer.number_is })
+
 -- the frame is written, passes all slaves, each serves, and the frame is taken: that is a turn
 pub turn-made : (s t : StartState) (ss passed : List SlaveState) (before after : List ℕ) (kept : Bool)
     → IsFrame before (bare_payload (frame_of (action_of s) s.next)) → HasPassedRing ss before passed after → IsStartTaken (sending s) after kept t
     → rising t (map served passed) ≡ turned (rising s ss)
 turn-made s t ss passed before after kept written ring took =
-    let a : Action = action_of s in
     let p : Payload = bare_payload (frame_of (action_of s) s.next) in
     let good : IsDatagram (datagram_of (action_of s) s.next) = written.each.1.0 in
     let r = round s s.next ss good in
     let back : IsFrame after (with_datagrams p (passes_ring ss (frame_of (action_of s) s.next)).datagrams) = ring.frame p written in
-    let answers : IsStartAnswer (sending s) s.next (passes_ring ss (frame_of (action_of s) s.next)).datagrams = record { shapes = r.answer.shapes; number_is = r.answer.number_is } in
-    let is : kept ≡ true = (took.answers s.next (with_datagrams p (passes_ring ss (frame_of (action_of s) s.next)).datagrams) refl back).1 answers in
+    let is : kept ≡ true = turn-kept s t ss passed before after kept written ring took in
     let state : t ≡ taken (sending s) (all_passed ss (datagram_of (action_of s) s.next))
     = took.kept (with_datagrams p (passes_ring ss (frame_of (action_of s) s.next)).datagrams) (all_passed ss (datagram_of (action_of s) s.next)) is back (ap second r.datagrams) in
     let slaves : passed ≡ all_met ss (datagram_of (action_of s) s.next) = ring.slaves p written ∙ r.slaves in

@@ -21,14 +21,17 @@ use Rattle.ec_rise.specs.Stages.{Stage, Up, Config, after}
 use Rattle.ec_rise.specs.Instants.{Leads}
 use Rattle.ec_rise.specs.Standing.{Stands}
 use Rattle.ec_rise.specs.Frames.{MayEnd}
-use Rattle.ec_rise.specs.Undisturbed.{IsSpelled, all_passed, all_met, Rising, frame_at, turned, turns}
+use Rattle.ec_rise.specs.Undisturbed.{all_passed, all_met, Rising, frame_at, turned}
+use Rattle.ec_rise.specs.BringUp.{rising}
+use Rattle.ec_rise.specs.Applied.{TurnsTo, Stays, Turns}
 use Rattle.ec_rise.proofs.PassLaws.{take-law}
 use Rattle.ec_rise.proofs.Messages.{stands-served}
 use Rattle.ec_rise.proofs.Sendable.{IsSendable, datagram-good}
 use Rattle.ec_rise.proofs.Commands.{word_of}
 use Rattle.ec_rise.proofs.Shown.{Tells}
-use Rattle.ec_rise.proofs.Next.{Prior, Prompted, Sure, Bless}
+use Rattle.ec_rise.proofs.Next.{Prior, Prompted, Bless}
 use Rattle.ec_rise.proofs.Passed.{Each, Priors, After, pass-all, spelled-served}
+use Rattle.ec_rise.proofs.Applying.{Stood, stood-applied, each-applied, applied-length}
 use Rattle.ec_rise.proofs.Goes.{wanted, IsInside, Told, sets-out, comes-back}
 
 -- ---- what is asked of the actions ahead
@@ -161,12 +164,6 @@ all-met-length (s ∷ ss) d = ap (λ (k : ℕ). suc k) (all-met-length ss (datag
 
 -- ---- one frame
 
--- what each slave shows before an action
-pub record Stood (kind : SlaveKind) (i : ℕ) (st : Stage) (a : Action) (s : SlaveState) : Type 0 where
-  pub stands : Stands kind i st false s
-  pub spelled : IsSpelled kind.device s
-  pub sure : Sure kind i a s
-
 -- the plan, as far as it matters to the walk
 pub record IsPath (ps : List Settings) (kinds : ℕ → SlaveKind) : Type 0 where
   pub some : 0 < length ps
@@ -259,58 +256,58 @@ pub record HasRisen (n : ℕ) (kinds : ℕ → SlaveKind) (ends : ℕ → Config
   pub numbers : r.start.next ≡ number
   pub each : Each (λ i s. Stands (kinds i) i (Up (ends i)) false s) 0 r.slaves
 
+-- no turn is left
+no-more : (j : ℕ) (a e : Rising) → j ≡ 0 → TurnsTo j a e → e ≡ a
+no-more zero a e z (Stays _) = refl
+no-more (suc j) a e z t = absurd (omega (arith, z))
+
 pub rises : (ps : List Settings) (kinds : ℕ → SlaveKind) (ends : ℕ → Config) (stages : ℕ → Stage) (a : Action) (rest : List Action) (r : Rising) → IsPath ps kinds → IsNow ps kinds ends stages a rest r
-    → HasRisen (length ps) kinds ends (r.start.next + suc (length rest)) (turns (suc (length rest)) r)
-    × ((k : ℕ) → k < suc (length rest) → IsWaiting (r.start.next + k) (turns k r))
-rises ps kinds ends stages a [] r path h =
-    let t = has-turned ps kinds ends stages a [] r path h in
-    let sp = split-at (script ps) r.start.place a [] h.ahead in
-    let size = sp.size in
-    let over : nat_lt (r.start.place + 1) (length (script r.start.plan)) ≡ false
-    = ap (λ (q : List Settings). nat_lt (r.start.place + 1) (length (script q))) h.plan_is ∙ le-ltb _ _ (omega (arith, size)) in (
-      record {
-        count = t.count;
+    → (k : ℕ) (e : Rising) → TurnsTo k r e → (k < suc (length rest) → IsWaiting (r.start.next + k) e) × (k ≡ suc (length rest) → HasRisen (length ps) kinds ends (r.start.next + k) e)
+rises ps kinds ends stages a rest r path h zero e (Stays _) =
+    let z : r.start.next ≡ r.start.next + 0 = omega arith in
+    (λ l. record { idle = h.idle; good = good-now ps kinds ends stages a rest r h; numbers = z }, λ q. absurd (omega (arith, q)))
+rises ps kinds ends stages a [] r path h (suc k) e (Turns _ _ _ ss app more) = (
+  λ l. absurd (omega (arith, l)),
+  λ q.
+      let t = has-turned ps kinds ends stages a [] r path h in
+      let sp = split-at (script ps) r.start.place a [] h.ahead in
+      let size = sp.size in
+      let over : nat_lt (r.start.place + 1) (length (script r.start.plan)) ≡ false
+      = ap (λ (x : List Settings). nat_lt (r.start.place + 1) (length (script x))) h.plan_is ∙ le-ltb _ _ (omega (arith, size)) in
+      let count : length ss ≡ length ps = applied-length (turned r).slaves ss app ∙ t.count in
+      let n : (turned r).start.next ≡ r.start.next + 1 = ap (λ (s : StartState). s.next) t.start in
+      let m : (turned r).start.next ≡ r.start.next + suc k = omega (arith, n, q) in
+      subst (λ (x : Rising). HasRisen (length ps) kinds ends (r.start.next + suc k) x) (sym (no-more k (rising (turned r).start ss) e (omega (arith, q)) more)) (record {
+        count = count;
         ready = ap (λ (s : StartState). s.phase) t.start ∙ if_false _ _ _ over;
-        numbers = ap (λ (s : StartState). s.next) t.start;
-        each = each-bound (λ i s. Stood (kinds i) i (after i (stages i) a) CountSlaves s) (λ i s. Stands (kinds i) i (Up (ends i)) false s) 0 (length ps) (turned r).slaves (let c = t.count in omega (arith, c))
-            (λ i s l k. subst (λ (x : Stage). Stands (kinds i) i x false s) (h.leads i l).1 k.stands) t.each;
-      },
-      first h.idle (good-now ps kinds ends stages a [] r h),
-    )
-  where
-    first : r.start.phase ≡ Idle → IsDatagram (frame_at r) → (k : ℕ) → k < 1 → IsWaiting (r.start.next + k) (turns k r)
-    first q g zero l = record { idle = q; good = g; numbers = let z : r.start.next ≡ r.start.next + 0 = omega arith in z }
-    first q g (suc k) l = absurd (omega (arith, l))
-rises ps kinds ends stages a (b ∷ rest) r path h =
+        numbers = m;
+        each = each-bound (λ i s. Stood (kinds i) i (after i (stages i) a) CountSlaves s) (λ i s. Stands (kinds i) i (Up (ends i)) false s) 0 (length ps) ss (omega (arith, count))
+            (λ i s l k. subst (λ (x : Stage). Stands (kinds i) i x false s) (h.leads i l).1 k.stands)
+            (each-applied (λ i s. Stood (kinds i) i (after i (stages i) a) CountSlaves s) 0 (turned r).slaves ss (λ i s t g q. stood-applied (kinds i) i (after i (stages i) a) CountSlaves s t g q) app t.each);
+      }),
+)
+rises ps kinds ends stages a (b ∷ rest) r path h (suc k) e (Turns _ _ _ ss app more) =
     let t = has-turned ps kinds ends stages a (b ∷ rest) r path h in
     let sp = split-at (script ps) r.start.place a (b ∷ rest) h.ahead in
     let size = sp.size in
-    let more : nat_lt (r.start.place + 1) (length (script r.start.plan)) ≡ true
+    let on : nat_lt (r.start.place + 1) (length (script r.start.plan)) ≡ true
     = ap (λ (q : List Settings). nat_lt (r.start.place + 1) (length (script q))) h.plan_is ∙ lt-ltb _ _ (omega (arith, size)) in
-    let both : HasRisen (length ps) kinds ends ((turned r).start.next + suc (length rest)) (turns (suc (length rest)) (turned r))
-    × ((j : ℕ) → j < suc (length rest) → IsWaiting ((turned r).start.next + j) (turns j (turned r)))
-    = rises ps kinds ends (λ i. after i (stages i) a) b rest (turned r) path (record {
+    let both : (k < suc (length rest) → IsWaiting ((turned r).start.next + k) e) × (k ≡ suc (length rest) → HasRisen (length ps) kinds ends ((turned r).start.next + k) e)
+    = rises ps kinds ends (λ i. after i (stages i) a) b rest (rising (turned r).start ss) path (record {
       plan_is = ap (λ (s : StartState). s.plan) t.start ∙ h.plan_is;
-      idle = ap (λ (s : StartState). s.phase) t.start ∙ if_true _ _ _ more;
+      idle = ap (λ (s : StartState). s.phase) t.start ∙ if_true _ _ _ on;
       ahead = ap (λ (s : StartState). drop s.place (script ps)) t.start ∙ sp.on;
-      count = t.count;
+      count = applied-length (turned r).slaves ss app ∙ t.count;
       told = subst (λ (s : StartState). Told (type_of ps) s.seen b) (sym t.start) (told-next (type_of ps) r.start.seen (length ps) a b h.chained.1 h.chained.0 h.told);
       inside = h.chained.1;
       sendable = h.chained.2;
       chained = h.chained.3;
       leads = λ i l. (h.leads i l).1;
       blessed = λ i l. (h.blessed i l).1;
-      each = t.each;
-    }) in
+      each = each-applied (λ i s. Stood (kinds i) i (after i (stages i) a) b s) 0 (turned r).slaves ss (λ i s t g q. stood-applied (kinds i) i (after i (stages i) a) b s t g q) app t.each;
+    }) k e more in
     let n : (turned r).start.next ≡ r.start.next + 1 = ap (λ (s : StartState). s.next) t.start in
-    let m : (turned r).start.next + suc (length rest) ≡ r.start.next + suc (suc (length rest)) = omega (arith, n) in
-    let k = both.0 in
-    (record { count = k.count; ready = k.ready; numbers = k.numbers ∙ m; each = k.each }, on h.idle (good-now ps kinds ends stages a (b ∷ rest) r h) n both.1)
-  where
-    on : r.start.phase ≡ Idle → IsDatagram (frame_at r) → (turned r).start.next ≡ r.start.next + 1 → ((j : ℕ) → j < suc (length rest) → IsWaiting ((turned r).start.next + j) (turns j (turned r)))
-        → (j : ℕ) → j < suc (suc (length rest)) → IsWaiting (r.start.next + j) (turns j r)
-    on q g n f zero l = record { idle = q; good = g; numbers = let z : r.start.next ≡ r.start.next + 0 = omega arith in z }
-    on q g n f (suc j) l =
-        let w = f j (omega (arith, l)) in
-        let e = w.numbers in
-        record { idle = w.idle; good = w.good; numbers = let z : (turned r).start.next + j ≡ r.start.next + suc j = omega (arith, n) in e ∙ z }
+    let m : (turned r).start.next + k ≡ r.start.next + suc k = omega (arith, n) in (
+      λ l. let w = both.0 (omega (arith, l)) in record { idle = w.idle; good = w.good; numbers = w.numbers ∙ m },
+      λ q. let w = both.1 (omega (arith, q)) in record { count = w.count; ready = w.ready; numbers = w.numbers ∙ m; each = w.each },
+    )

@@ -9,14 +9,17 @@ use Rattle.ec_start.specs.Running.{begun, type_of}
 use Rattle.ec_rise.specs.Stages.{Before, Up, end_of}
 use Rattle.ec_rise.specs.Standing.{Stands}
 use Rattle.ec_rise.specs.Complete.{IsIdentity}
-use Rattle.ec_rise.specs.Undisturbed.{AreDevices, ArePlans, Rising, turns, unplanned, plan_at, slave_of}
+use Rattle.ec_rise.specs.Undisturbed.{AreDevices, ArePlans, Rising, unplanned, plan_at, slave_of}
+use Rattle.ec_rise.specs.BringUp.{rising}
+use Rattle.ec_rise.specs.Applied.{TurnsTo, Stays, Turns}
 use Rattle.ec_rise.specs.ComesUp.{IsOnItsWay}
 use Rattle.ec_rise.specs.Turned.{IsBroughtUp, StandsUpLaw}
 use Rattle.ec_rise.proofs.Ends.{script-leads}
 use Rattle.ec_rise.proofs.Sendable.{datagram-good}
 use Rattle.ec_rise.proofs.Commands.{word_of}
 use Rattle.ec_rise.proofs.Passed.{Each}
-use Rattle.ec_rise.proofs.Climbs.{IsPath, IsNow, IsWaiting, Stood, HasRisen, rises}
+use Rattle.ec_rise.proofs.Applying.{Stood}
+use Rattle.ec_rise.proofs.Climbs.{IsPath, IsNow, IsWaiting, HasRisen, rises}
 use Rattle.ec_rise.proofs.Chains.{phases-free}
 use Rattle.ec_rise.proofs.Blessings.{phases-blessed}
 use Rattle.ec_rise.proofs.Granting.{is-lively}
@@ -48,9 +51,6 @@ big-word t (suc (suc which)) h = h.revision
 
 -- ---- the beginning
 
-abbrev starting : List Settings → ℕ → List SlaveState → Rising
-starting ps from ss = record { start = begun ps from; slaves = ss }
-
 is-path : (p : Settings) (ps : List Settings) → length (p ∷ ps) ≤ 64 → ArePlans (p ∷ ps) → IsPath (p ∷ ps) (λ i. (plan_at (p ∷ ps) i).kind)
 is-path p ps few h = record {
   some = omega arith;
@@ -60,7 +60,7 @@ is-path p ps few h = record {
 }
 
 is-now : (p : Settings) (ps : List Settings) (from : ℕ) (ss : List SlaveState) → ArePlans (p ∷ ps) → AreDevices (p ∷ ps) ss
-    → IsNow (p ∷ ps) (λ i. (plan_at (p ∷ ps) i).kind) (λ i. end_of (plan_at (p ∷ ps) i)) (λ i. Before) CountSlaves (phases (p ∷ ps)) (starting (p ∷ ps) from ss)
+    → IsNow (p ∷ ps) (λ i. (plan_at (p ∷ ps) i).kind) (λ i. end_of (plan_at (p ∷ ps) i)) (λ i. Before) CountSlaves (phases (p ∷ ps)) (rising (begun (p ∷ ps) from) ss)
 unfolding begun
 is-now p ps from ss h d = record {
   plan_is = refl;
@@ -82,37 +82,37 @@ is-now p ps from ss h d = record {
       (record { stands = record { slave = (d.each k b).slave; at = inl tt }; spelled = (d.each k b).spelled; sure = tt }));
 }
 
-brought-up : (p : Settings) (ps : List Settings) (from : ℕ) (ss : List SlaveState) → ArePlans (p ∷ ps) → AreDevices (p ∷ ps) ss
-    → IsBroughtUp (p ∷ ps) from (turns (length (script (p ∷ ps))) (starting (p ∷ ps) from ss)) × ((k : ℕ) → k < length (script (p ∷ ps)) → IsOnItsWay (from + k) (turns k (starting (p ∷ ps) from ss)))
+brought-up : (p : Settings) (ps : List Settings) (from : ℕ) (ss : List SlaveState) → ArePlans (p ∷ ps) → AreDevices (p ∷ ps) ss → (k : ℕ) (e : Rising) → TurnsTo k (rising (begun (p ∷ ps) from) ss) e
+    → (k < length (script (p ∷ ps)) → IsOnItsWay (from + k) e) × (k ≡ length (script (p ∷ ps)) → IsBroughtUp (p ∷ ps) (from + k) e)
 unfolding begun
-brought-up p ps from ss h d =
-    let both : HasRisen (length (p ∷ ps)) (λ i. (plan_at (p ∷ ps) i).kind) (λ i. end_of (plan_at (p ∷ ps) i)) (from + suc (length (phases (p ∷ ps)))) (turns (suc (length (phases (p ∷ ps)))) (starting (p ∷ ps) from ss))
-    × ((k : ℕ) → k < suc (length (phases (p ∷ ps))) → IsWaiting (from + k) (turns k (starting (p ∷ ps) from ss)))
-    = rises (p ∷ ps) (λ i. (plan_at (p ∷ ps) i).kind) (λ i. end_of (plan_at (p ∷ ps) i)) (λ i. Before) CountSlaves (phases (p ∷ ps)) (starting (p ∷ ps) from ss) (is-path p ps d.few h) (is-now p ps from ss h d) in
-    let k = both.0 in (
-      record {
-        ready = k.ready;
-        numbers = k.numbers;
-        count = k.count;
-        slaves = λ i l.
-            let z : 0 + i ≡ i = omega arith in
-            let r : Rising = turns (suc (length (phases (p ∷ ps)))) (starting (p ∷ ps) from ss) in
-            subst (λ (j : ℕ). Stands (plan_at (p ∷ ps) j).kind j (Up (end_of (plan_at (p ∷ ps) j))) false (slave_of (turns (suc (length (phases (p ∷ ps)))) (starting (p ∷ ps) from ss)).slaves i)) z
-            (each-at (λ j s. Stands (plan_at (p ∷ ps) j).kind j (Up (end_of (plan_at (p ∷ ps) j))) false s) 0 i (turns (suc (length (phases (p ∷ ps)))) (starting (p ∷ ps) from ss)).slaves (let c = k.count in omega (arith, l, c)) k.each);
-      },
-      λ n l. let w = both.1 n l in record { idle = w.idle; next_number = w.numbers; good = w.good },
+brought-up p ps from ss h d k e turns =
+    let both : (k < suc (length (phases (p ∷ ps))) → IsWaiting (from + k) e)
+    × (k ≡ suc (length (phases (p ∷ ps))) → HasRisen (length (p ∷ ps)) (λ i. (plan_at (p ∷ ps) i).kind) (λ i. end_of (plan_at (p ∷ ps) i)) (from + k) e)
+    = rises (p ∷ ps) (λ i. (plan_at (p ∷ ps) i).kind) (λ i. end_of (plan_at (p ∷ ps) i)) (λ i. Before) CountSlaves (phases (p ∷ ps)) (rising (begun (p ∷ ps) from) ss) (is-path p ps d.few h) (is-now p ps from ss h d) k e turns in (
+      λ l. let w = both.0 l in record { idle = w.idle; next_number = w.numbers; good = w.good },
+      λ q.
+          let w = both.1 q in
+          record {
+            ready = w.ready;
+            numbers = w.numbers;
+            count = w.count;
+            slaves = λ i l.
+                let z : 0 + i ≡ i = omega arith in
+                subst (λ (j : ℕ). Stands (plan_at (p ∷ ps) j).kind j (Up (end_of (plan_at (p ∷ ps) j))) false (slave_of e.slaves i)) z
+                (each-at (λ j s. Stands (plan_at (p ∷ ps) j).kind j (Up (end_of (plan_at (p ∷ ps) j))) false s) 0 i e.slaves (let c = w.count in omega (arith, l, c)) w.each);
+          },
     )
 
 -- no slaves: one frame
-none-up : (from : ℕ) (ss : List SlaveState) → AreDevices [] ss → IsBroughtUp [] from (turns 1 (starting [] from ss)) × ((k : ℕ) → k < 1 → IsOnItsWay (from + k) (turns k (starting [] from ss)))
+none-up : (from : ℕ) (ss : List SlaveState) → AreDevices [] ss → (k : ℕ) (e : Rising) → TurnsTo k (rising (begun [] from) ss) e
+    → (k < length (script []) → IsOnItsWay (from + k) e) × (k ≡ length (script []) → IsBroughtUp [] (from + k) e)
 unfolding begun
-none-up from [] d = (record { ready = refl; numbers = refl; count = refl; slaves = λ i l. absurd (omega (arith, l)) }, first)
-  where
-    first : (k : ℕ) → k < 1 → IsOnItsWay (from + k) (turns k (starting [] from []))
-    first zero l = record { idle = refl; good = datagram-good CountSlaves from tt; next_number = let z : from ≡ from + 0 = omega arith in z }
-    first (suc k) l = absurd (omega (arith, l))
-none-up from (s ∷ ss) d = absurd (let c = d.count in omega (arith, c))
+none-up from [] d zero e (Stays _) = (λ l. record { idle = refl; good = datagram-good CountSlaves from tt; next_number = let z : from ≡ from + 0 = omega arith in z }, λ q. absurd (omega (arith, q)))
+none-up from [] d (suc zero) e (Turns _ _ _ [] app (Stays _)) = (λ l. absurd (omega (arith, l)), λ q. record { ready = refl; numbers = refl; count = refl; slaves = λ i l. absurd (omega (arith, l)) })
+none-up from [] d (suc zero) e (Turns _ _ _ (t ∷ ts) app more) = absurd app
+none-up from [] d (suc (suc k)) e turns = (λ l. absurd (omega (arith, l)), λ q. absurd (omega (arith, q)))
+none-up from (s ∷ ss) d k e turns = absurd (let c = d.count in omega (arith, c))
 
 pub stands-up : StandsUpLaw
-stands-up [] h from ss d = none-up from ss d
-stands-up (p ∷ ps) h from ss d = brought-up p ps from ss h d
+stands-up [] h from ss d k e turns = none-up from ss d k e turns
+stands-up (p ∷ ps) h from ss d k e turns = brought-up p ps from ss h d k e turns

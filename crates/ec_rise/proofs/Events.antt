@@ -234,7 +234,7 @@ got-buffered s i = elim (cases_Bool (is_running s.al.state)) [
     by_right y true None q = Left refl
     by_right y false o q = Left refl
 
-buffered-stands : (kind : SlaveKind) (i : ℕ) (st : Stage) (trouble : Bool) (s t : SlaveState) (n : ℕ) → n < 4 → Buffered s n t → Stands kind i st trouble s → Stands kind i st trouble t
+pub buffered-stands : (kind : SlaveKind) (i : ℕ) (st : Stage) (trouble : Bool) (s t : SlaveState) (n : ℕ) → n < 4 → Buffered s n t → Stands kind i st trouble s → Stands kind i st trouble t
 buffered-stands kind i st trouble s t n l (Left e) h = subst (λ (x : SlaveState). Stands kind i st trouble x) (sym e) h
 buffered-stands kind i st trouble s t n l (Changed b y same e) h = subst (λ (x : SlaveState). Stands kind i st trouble x) (sym e)
     (stands-alike kind i st trouble s (with_manager s n (record (manager_at s.managers n) { buffer = b })) (buffer-alike s n b (let f = h.slave.four in omega arith) same) refl

@@ -32,6 +32,7 @@ pub mod Requests
 pub mod Next
 pub mod Passed
 pub mod Goes
+pub mod Applying
 pub mod Climbs
 pub mod Chains
 pub mod Blessings

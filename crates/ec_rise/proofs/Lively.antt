@@ -1,5 +1,5 @@
 -- The premises can be met: a segment of one slave with a mailbox and PDOs in both directions comes up.
-use Rattle.std.proofs.Common.{ℕ, zero, suc, ◌<◌, refl, arith, [], ◌∷◌, length, All}
+use Rattle.std.proofs.Common.{ℕ, zero, suc, ◌+◌, ◌<◌, refl, arith, [], ◌∷◌, length, All}
 use Rattle.ec_regs.specs.Managers.{is_set}
 use Rattle.ec_slave.specs.State.{power_on}
 use Rattle.ec_start.specs.Planned.{IsStartable}
@@ -8,7 +8,9 @@ use Rattle.ec_regs.specs.declared.slave_type.Entry.{Entry}
 use Rattle.ec_regs.specs.Types.{device_identity}
 use Rattle.ec_start.specs.Scripts.{script}
 use Rattle.ec_start.specs.Running.{begun}
-use Rattle.ec_rise.specs.Undisturbed.{IsDevice, AreDevices, ArePlans, plan_at, slave_of, turns}
+use Rattle.ec_rise.specs.Undisturbed.{IsDevice, AreDevices, ArePlans, Rising, plan_at, slave_of, turns}
+use Rattle.ec_rise.specs.BringUp.{rising}
+use Rattle.ec_rise.proofs.Applying.{turns-to}
 use Rattle.ec_rise.specs.Turned.{IsBroughtUp}
 use Rattle.ec_rise.proofs.Resets.{power_on_is}
 use Rattle.ec_rise.proofs.Table.{mix, planned}
@@ -94,5 +96,8 @@ devices = record { count = refl; few = omega arith; each = by-each }
     by-each zero l = device
     by-each (suc i) l = absurd (omega (arith, l))
 
-pub one-comes-up : IsBroughtUp (mix ∷ []) 0 (turns (length (script (mix ∷ []))) (record { start = begun (mix ∷ []) 0; slaves = power_on mix.kind (device_identity mix.kind.device 0) ∷ [] }))
-one-comes-up = (stands-up (mix ∷ []) plans 0 (power_on mix.kind (device_identity mix.kind.device 0) ∷ []) devices).0
+abbrev one : Rising
+one = rising (begun (mix ∷ []) 0) (power_on mix.kind (device_identity mix.kind.device 0) ∷ [])
+
+pub one-comes-up : IsBroughtUp (mix ∷ []) (0 + length (script (mix ∷ []))) (turns (length (script (mix ∷ []))) one)
+one-comes-up = (stands-up (mix ∷ []) plans 0 (power_on mix.kind (device_identity mix.kind.device 0) ∷ []) devices (length (script (mix ∷ []))) _ (turns-to (length (script (mix ∷ []))) one)).1 refl

@@ -19,6 +19,8 @@ pub mod Devices
 pub mod Keeping
 -- Bringing up a ring.
 pub mod BringUp
+-- Applications that step between the frames.
+pub mod Applied
 -- Private: the rest serves the proofs alone, and no public clause cites it.
 -- what holds at every instant of a world that starts up, and the frame's bytes in its slot
 pub mod Instants

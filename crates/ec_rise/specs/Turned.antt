@@ -7,19 +7,20 @@ use Rattle.ec_start.specs.Running.{begun}
 use Rattle.ec_start.specs.declared.phase.Phase.TheVariants.{Ready}
 use Rattle.ec_rise.specs.Stages.{Up, end_of}
 use Rattle.ec_rise.specs.Standing.{Stands}
-use Rattle.ec_rise.specs.Undisturbed.{Rising, turns, plan_at, slave_of, ArePlans, AreDevices}
+use Rattle.ec_rise.specs.Undisturbed.{Rising, plan_at, slave_of, ArePlans, AreDevices}
+use Rattle.ec_rise.specs.BringUp.{rising}
+use Rattle.ec_rise.specs.Applied.{TurnsTo}
 use Rattle.ec_rise.specs.ComesUp.{IsOnItsWay}
 
--- Ready, after as many frames as the script has actions, with every slave at the end of the script
-pub record IsBroughtUp (ps : List Settings) (from : ℕ) (r : Rising) : Type 0 where
+-- Ready, with every slave at the end of the script
+pub record IsBroughtUp (ps : List Settings) (number : ℕ) (r : Rising) : Type 0 where
   pub ready : r.start.phase ≡ Ready
-  pub numbers : r.start.next ≡ from + length (script ps)
+  pub numbers : r.start.next ≡ number
   pub count : length r.slaves ≡ length ps
   pub slaves : (i : ℕ) → i < length ps → Stands (plan_at ps i).kind i (Up (end_of (plan_at ps i))) false (slave_of r.slaves i)
 
--- One frame for each action of the script: no wait has a second poll.
+-- One frame for each action of the script: no wait has a second poll, whatever applications do between the frames.
 abbrev pub StandsUpLaw : Type 0
 StandsUpLaw =
-    (ps : List Settings) → ArePlans ps → (from : ℕ) (ss : List SlaveState) → AreDevices ps ss
-    → let r : Rising = record { start = begun ps from; slaves = ss } in
-    IsBroughtUp ps from (turns (length (script ps)) r) × ((k : ℕ) → k < length (script ps) → IsOnItsWay (from + k) (turns k r))
+    (ps : List Settings) → ArePlans ps → (from : ℕ) (ss : List SlaveState) → AreDevices ps ss → (k : ℕ) (e : Rising) → TurnsTo k (rising (begun ps from) ss) e
+    → (k < length (script ps) → IsOnItsWay (from + k) e) × (k ≡ length (script ps) → IsBroughtUp ps (from + k) e)

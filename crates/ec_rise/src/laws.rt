@@ -4,6 +4,7 @@ ghost use Rattle.ec_rise.specs.Keeping.{StandingLaw, GoneLaw, ForOthersLaw, Fram
 ghost use Rattle.ec_rise.specs.Runs.{BeginningLaw, StartUpLaw};
 ghost use Rattle.ec_rise.specs.Undisturbed.{RoundLaw};
 ghost use Rattle.ec_rise.specs.Devices.{DevicesLaw, RingLaw, SwitchedOnLaw};
+ghost use Rattle.ec_rise.specs.Applied.{AppliedUpLaw};
 ghost use Rattle.ec_rise.specs.ComesUp.{AgainLaw, ComesUpLaw, CompiledPlansLaw, CompiledUpLaw};
 
 /// After every run of a new world that makes it ready, each slave works as the plan says, or it had a fault or a reset
@@ -20,6 +21,12 @@ pub fn beginning()
 /// A start-up that nothing disturbs is Ready after one frame for each action of its script, from slaves in any state.
 pub fn comes_up()
     ensures { ComesUpLaw }
+{}
+
+/// Nor do the slaves' applications keep it from that, whatever they read and write between its frames.
+#[tactic(auto, using(crate::proofs::Up::applied_up))]
+pub fn comes_up_beside_applications()
+    ensures { AppliedUpLaw }
 {}
 
 /// After any run of a new world its slaves are devices of their types: from there too a start-up comes up.
