@@ -1,12 +1,19 @@
 //! The fixed form of a plan.
-ghost use Rattle.std.specs.Prelude.{◌≡◌, ◌++◌, IfOk, OnOk, string_bytes};
+ghost use Rattle.std.specs.Prelude.{◌≡◌, ◌+◌, ◌≤◌, ◌++◌, IfOk, OnErr, OnOk, string_bytes};
+ghost use Rattle.std.specs.Fmt.{decimal};
+ghost use Rattle.arrayvec.specs.ArrayString.{array_string_len};
 ghost use Rattle.ec_text.specs.PlanText.{counter_text, fmmu_line, lines_from, manager_line, part_line, plan_text, planned_part_line, record_line, slave_line, slave_lines, unit_text};
 
+use arrayvec::ArrayString;
 use ec_link::{PartPlan, Plan, Predicted, Settings};
 use ec_regs::{FmmuSettings, ManagerSettings, encode_fmmu, encode_manager};
 use ec_table::Version;
+use itoa::Buffer;
 use std::alloc::{AllocError, Global};
 use std::fmt::Write as _;
+
+/// As many bytes as working counters of a part may have: two numbers and what stands between them.
+const COUNTER_SIZE: usize = 41;
 
 /// Adds a line with the bytes of a register record.
 fn write_record(
@@ -126,21 +133,48 @@ fn write_slaves(alloc: Global, text: &mut String, slaves: &[Settings]) -> Result
     Ok(())
 }
 
-/// Adds working counters of a part: the one of its LRW, or `W/R` of its LWR and its LRD, and `0` where it has no byte. The error
-/// is want of memory.
+/// Adds a number.
+fn push_number(counter: &mut ArrayString<COUNTER_SIZE>, number: usize)
+    requires { array_string_len counter.old ≤ 21 }
+    ensures bytes { counter.new.bytes ≡ counter.old.bytes ++ decimal number }
+    ensures room { array_string_len counter.new ≤ array_string_len counter.old + 20 }
+{
+    let mut digits = Buffer::new();
+    counter.push_str(digits.format(number as u64));
+}
+
+/// Working counters of a part: the one of its LRW, or `W/R` of its LWR and its LRD, and `0` where it has no byte.
+fn counter_of(part: &PartPlan, predicted: Predicted) -> ArrayString<COUNTER_SIZE>
+    ensures { result.bytes ≡ counter_text part.now predicted }
+{
+    let mut counter = ArrayString::new();
+    match predicted {
+        Predicted::Lrw(count) => push_number(&mut counter, count),
+        Predicted::Split { .. } if part.bytes == 0 => counter.push_str("0"),
+        Predicted::Split { write, read } => {
+            push_number(&mut counter, write);
+            counter.push_str("/");
+            push_number(&mut counter, read);
+        }
+    }
+    counter
+}
+
+/// Adds working counters of a part, as `ecat plan` and reports show them.
+///
+/// # Errors
+///
+/// `AllocError` where memory ran out; the text is then as it was.
 pub fn write_counter(
     text: &mut String,
     part: &PartPlan,
     predicted: Predicted,
 ) -> Result<(), AllocError>
-    ensures { OnOk result
+    ensures added { OnOk result
         (string_bytes text.new ≡ string_bytes text.old ++ counter_text part.now predicted) }
+    ensures kept { OnErr result (string_bytes text.new ≡ string_bytes text.old) }
 {
-    match predicted {
-        Predicted::Lrw(count) => write!(text, "{count}"),
-        Predicted::Split { .. } if part.bytes == 0 => write!(text, "0"),
-        Predicted::Split { write, read } => write!(text, "{write}/{read}"),
-    }
+    text.push_str(counter_of(part, predicted).as_str())
 }
 
 /// Adds the sync unit of a part, where the table's version has units.

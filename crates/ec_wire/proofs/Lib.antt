@@ -3,3 +3,4 @@ pub mod Taking
 pub mod Applying
 pub mod Serving
 pub mod Bringing
+pub mod ComingUp

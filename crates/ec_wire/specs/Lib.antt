@@ -9,5 +9,7 @@ pub mod BringingUp
 -- what the applications of slaves do, and a segment that answers on a wire
 pub mod Applications
 pub mod Segments
+-- a start-up over a wire behind which a segment answers
+pub mod ComingUp
 -- the errors' numbers and names
 pub mod Errors

@@ -2,6 +2,7 @@
 ghost use Rattle.std.specs.Prelude.{◌≡◌, true, false};
 ghost use Rattle.ec_start.specs.Running.{is_ended};
 ghost use Rattle.ec_wire.specs.BringingUp.{IsAnswered, IsBroughtUp, IsTurn, IsUnanswered};
+ghost use Rattle.ec_wire.specs.ComingUp.{ComesUpOver};
 
 use crate::wire::{Wire, receive_on, send_on};
 use ec_frame::Frame;
@@ -55,9 +56,12 @@ fn turn<W: Wire>(startup: &mut Startup, wire: &mut W, frame: &mut Frame) -> bool
 /// Brings the slaves up that answer on a wire: turn after turn the next frame is sent and its answer taken, until the start-up
 /// has ended. A fault of the wire, or 64 payloads that don't answer a frame, ends it as lost.
 ///
+/// Where the wire carries each frame past all slaves and back, a new start-up ends Ready, and every slave works as planned.
+///
 /// A start-up whose frame is outstanding ends as lost.
 pub fn bring_up_wire<W: Wire>(startup: &mut Startup, wire: &mut W)
     ensures leads { IsBroughtUp startup.old (W.state wire.old) startup.new (W.state wire.new) }
+    ensures up { ComesUpOver startup.old startup.new (W.state wire.old) (W.state wire.new) }
     ensures ended { is_ended startup.new.phase ≡ true }
     ensures plan { startup.new.plan ≡ startup.old.plan }
 {

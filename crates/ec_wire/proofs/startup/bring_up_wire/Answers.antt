@@ -1,6 +1,7 @@
 use Rattle.std.proofs.Common.{◌≡◌, arith}
 use Rattle.ec_start.specs.Running.{last_number}
 use Rattle.ec_wire.proofs.Bringing.{brought_ended, brought_plan, last_turn, one_turn}
+use Rattle.ec_wire.proofs.ComingUp.{comes_up_over}
 use Rattle.ec_wire.proofs.startup.bring_up_wire.Goals as goal
 
 pub returns-then-not-turn-clause-ended : goal.returns-then-not-turn-clause-ended
@@ -32,3 +33,9 @@ returns-clause-ended g c = brought_ended _ _ _ _ (returns-clause-leads g c)
 
 pub returns-clause-plan : goal.returns-clause-plan
 returns-clause-plan g c = brought_plan _ _ _ _ (returns-clause-leads g c)
+
+pub returns-then-not-turn-clause-up : goal.returns-then-not-turn-clause-up
+returns-then-not-turn-clause-up g c = comes_up_over _ _ _ _ (returns-then-not-turn-clause-leads g c)
+
+pub returns-clause-up : goal.returns-clause-up
+returns-clause-up g c = comes_up_over _ _ _ _ (returns-clause-leads g c)
