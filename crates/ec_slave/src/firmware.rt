@@ -1,6 +1,6 @@
 //! What a slave's firmware does: it decides AL requests, finishes reads of the SII and takes faults.
 
-ghost use Rattle.std.specs.Prelude.{◌≡◌, ◌<◌, ◌^◌, ◌↔◌, length, IsTrue};
+ghost use Rattle.std.specs.Prelude.{◌≡◌, ◌<◌, ◌^◌, ◌↔◌, length, IsTrue, true};
 ghost use Rattle.ec_al.specs.declared.state.State.TheVariants.{Op};
 ghost use Rattle.ec_slave.specs.Checking.{checks_of, control_word as control_word_of, is_manager as is_manager_of, mailbox_check, process_check};
 ghost use Rattle.ec_slave.specs.Serving.{managers_entered, replies_entered, read_finished, request_decided, served, unlocked_empty};
@@ -154,9 +154,17 @@ impl Slave {
     fn decide_request(&mut self)
         ensures { self.new ≡ request_decided self.old }
     {
-        if !self.al.is_requested() {
-            return;
+        if self.al.is_requested() {
+            self.decide_waiting();
         }
+    }
+
+    /// The same, where one waits. It stands apart so that a step in which none does is short.
+    #[inline(never)]
+    fn decide_waiting(&mut self)
+        requires { self.old.al.requested ≡ true }
+        ensures { self.new ≡ request_decided self.old }
+    {
         let control = self.control_word();
         let checks = self.checks();
         let old = self.al.state();

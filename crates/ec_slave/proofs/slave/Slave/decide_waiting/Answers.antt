@@ -8,7 +8,7 @@ use Rattle.ec_slave.specs.Checking.{control_word, checks_of}
 use Rattle.ec_slave.specs.Serving.{managers_entered, replies_entered}
 use Rattle.ec_slave.proofs.Exchanges.{take_front}
 use Rattle.ec_slave.proofs.Stepping.{decided-by}
-use Rattle.ec_slave.proofs.slave.Slave.decide_request.Goals as goal
+use Rattle.ec_slave.proofs.slave.Slave.decide_waiting.Goals as goal
 
 pub returns : goal.returns
 returns c =
@@ -29,7 +29,7 @@ returns c =
     = take_front met _ c.self.inside.managers.len (omega (arith, ap length own, ok, long)) in
     ap (λ (x : SlaveState). record x { al = a; managers = take c.self.inside.managers.len (met ++ drop (length met) c.self.inside.managers.items); replies = c.replies_in-self-inside.result }) c.self.view_is
     ∙ decided-by s a _ c.replies_in-self-inside.result
-    (ap (λ (x : Al). x.requested) (sym al) ∙ (sym c.is_requested.ensures ∙ c.if-not-is_requested.false))
+    c.requires
     (c.step.ensures ∙ (ap (λ (x : Al). stepped x c.control_word-control.result c.checks-checks.result) al
     ∙ (ap (λ (n : ℕ). stepped s.al n c.checks-checks.result) control ∙ ap (λ (k : Checks). stepped s.al (control_word s) k) checks)))
     (front ∙ (c.enter_state.ensures ∙ (ap (λ (x : State). managers_entered x c.state-new.result c.deref_mut.result.now) old
