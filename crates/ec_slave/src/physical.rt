@@ -1,7 +1,7 @@
 //! Physical datagrams at a slave.
 
 ghost use Rattle.std.specs.Prelude.{◌≡◌, ◌+◌, ◌*◌, ◌<◌, ◌≤◌, ◌^◌, ◌&&◌, ℕ, Bool, true, false, None, IfSome, length, if◌then◌else◌, nat_lt};
-ghost use Rattle.ec_regs.specs.Memory.{fmmu_place, ram_start, ram_end};
+ghost use Rattle.ec_regs.specs.Memory.{al_status, fmmu_place, ram_start, ram_end};
 ghost use Rattle.ec_sync.specs.Governing.{governor as governor_of};
 ghost use Rattle.ec_al.specs.Al.{requesting};
 ghost use Rattle.std.specs.Int.{from_bool};
@@ -26,7 +26,7 @@ use ec_al::Al;
 use ec_bits::within;
 use ec_fmmu::FmmuTable;
 use ec_frame::{Header, cut_counter, cut_heading, read_counter, write_adp, write_counter};
-use ec_regs::registers::{AL_CONTROL, FMMUS, FMMUS_END, RAM_START};
+use ec_regs::registers::{AL_CONTROL, AL_STATUS, FMMUS, FMMUS_END, RAM_START};
 
 /// Marks an AL request, or not.
 fn request_if(al: &mut Al, is_written: bool)
@@ -120,12 +120,26 @@ impl Slave {
         ensures bytes { bytes.new ≡ retold bytes.old (byte_read self.now joining (record { from = from; bytes = bytes.old })) }
         ensures some { result ≡ some_byte_read self.now.managers (record { from = from; bytes = bytes.old }) }
     {
+        if from == AL_STATUS && bytes.len() == 2 {
+            self.read_status(joining, bytes);
+            return true;
+        }
         let is_some = !bytes.is_empty();
         for (i, byte) in bytes.iter_mut().enumerate() {
             let shown = self.register_at(from + i);
             *byte = read_over(joining, *byte, shown);
         }
         is_some
+    }
+
+    /// Reads the AL status word, which a master asks for most, into the two bytes of a datagram.
+    fn read_status(&self, joining: bool, bytes: &mut [u8])
+        requires { length bytes.old ≡ 2 }
+        ensures { bytes.new ≡ retold bytes.old (byte_read self.now joining (record { from = al_status; bytes = bytes.old })) }
+    {
+        let (low, high) = self.status_bytes();
+        bytes[0] = read_over(joining, bytes[0], low);
+        bytes[1] = read_over(joining, bytes[1], high);
     }
 
     /// Reads into the bytes of a datagram, and answers whether one was read. Who governs bytes, and whether they may be

@@ -1,5 +1,5 @@
 ghost use Rattle.std.specs.Prelude.{◌≡◌, ◌+◌, ◌*◌, ◌<◌, ◌≤◌, ◌^◌, ℕ, length, slice_index, IfOk, IfSome, if◌then◌else◌, [], ◌∷◌, Option, Some, None, nat_lt};
-ghost use Rattle.ec_regs.specs.Memory.{ram_start, ram_end};
+ghost use Rattle.ec_regs.specs.Memory.{al_status, ram_start, ram_end};
 ghost use Rattle.ec_sync.specs.Manager.{no_manager};
 ghost use Rattle.ec_sync.specs.Governing.{governor as governor_of};
 ghost use Rattle.ec_slave.specs.Physical.{byte_at, register_byte};
@@ -224,6 +224,16 @@ impl Slave {
         ensures { result ≡ byte_at self.now address }
     {
         self.register(address)
+    }
+
+    /// What the two registers of the AL status read, the low byte first.
+    #[tactic(auto, unfolding(crate::specs::Physical::byte_at, crate::specs::Physical::register_byte))]
+    pub(crate) fn status_bytes(&self) -> (u8, u8)
+        ensures low { result.0 ≡ byte_at self.now al_status }
+        ensures high { result.1 ≡ byte_at self.now (al_status + 1) }
+    {
+        let word = self.al.status_word();
+        ((word % 256) as u8, (word / 256) as u8)
     }
 
     /// What a register reads.

@@ -1,4 +1,4 @@
-use Rattle.std.proofs.Common.{◌≡◌, ◌+◌, length, ℕ, Option, not, refl, ◌∙◌, ap, arith}
+use Rattle.std.proofs.Common.{◌≡◌, ◌+◌, length, ℕ, Option, not, refl, ◌∙◌, ◌==◌, sym, ap, arith}
 use Rattle.ec_slave.specs.State.{SlaveState}
 use Rattle.ec_slave.specs.Physical.{Window, byte_read, may_read_byte, touches}
 use Rattle.ec_slave.proofs.Choices.{any-all}
@@ -29,4 +29,11 @@ returns-clause-some c =
     let w : Window = record { from = c.args.from; bytes = c.args.bytes.now } in
     let ms = c.args.self.now.managers in
     ap not c.is_empty-is_some.ensures
+    ∙ any-all (length w.bytes) (λ k. may_read_byte ms (touches w) (w.from + k)) (λ i l. read-register ms (touches w) (w.from + i) (omega arith))
+
+pub returns-then-bytes-eq2-clause-some : goal.returns-then-bytes-eq2-clause-some
+returns-then-bytes-eq2-clause-some c =
+    let w : Window = record { from = c.args.from; bytes = c.args.bytes.now } in
+    let ms = c.args.self.now.managers in
+    ap (λ n. not (n == 0)) (sym c.if-bytes-eq2.true)
     ∙ any-all (length w.bytes) (λ k. may_read_byte ms (touches w) (w.from + k)) (λ i l. read-register ms (touches w) (w.from + i) (omega arith))
