@@ -1,4 +1,4 @@
 pub mod AddressLaws
-pub mod Going
+pub mod Columns
 pub mod GridExists
 pub mod GridLaws

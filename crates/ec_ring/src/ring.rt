@@ -1,15 +1,16 @@
 ghost use Rattle.std.specs.Prelude.{◌≡◌, ◌==◌, ◌<◌, ◌↔◌, ℕ, List, length, slice_get, Some};
 ghost use Rattle.std.specs.Prelude.{IsErr, OnErr};
 ghost use Rattle.std.specs.Borrow.{sem};
-ghost use Rattle.ec_frame.specs.Frame.{Payload, IsFrame};
+ghost use Rattle.ec_slave.specs.Column.{datagram_past, slaves_met};
+ghost use Rattle.ec_slave.specs.Keeping.{past-keeps};
 ghost use Rattle.ec_slave.specs.Sound.{IsSlave};
 ghost use Rattle.ec_slave.specs.State.{SlaveState};
 ghost use Rattle.ec_ring.specs.Lending.{LendsSlave};
 ghost use Rattle.ec_ring.specs.Rings.{IsNoFrame, IsPassedAt, HasPassedRing};
 
 use crate::error::NotAFrame;
-use ec_frame::check;
-use ec_slave::Slave;
+use ec_frame::{Handler, check, pass};
+use ec_slave::{Slave, pass_each};
 use std::marker::Model;
 
 /// Slaves in the order in which a frame passes them.
@@ -103,8 +104,22 @@ impl Ring {
         if check(frame).is_err() {
             return Err(NotAFrame);
         }
-        pass_slaves(&mut self.slaves, frame);
+        pass(self, frame);
         Ok(())
+    }
+}
+
+/// A datagram passes all slaves, one after the other, before the next one does: slaves and datagrams meet in the cells of
+/// a grid, and by columns it ends as by rows.
+impl Handler for Ring {
+    ghost handled = { datagram_past };
+
+    ghost after = { slaves_met };
+
+    ghost keeps_length = { past-keeps };
+
+    fn handle(&mut self, part: &mut [u8]) {
+        pass_each(&mut self.slaves, part);
     }
 }
 
@@ -114,15 +129,5 @@ fn show_slaves(slaves: &[Slave])
 {
     for k in 0..slaves.len() {
         slaves[k].is_sound();
-    }
-}
-
-/// A frame passes slaves, one after the other.
-fn pass_slaves(slaves: &mut [Slave], frame: &mut [u8])
-    requires { (p : Payload) × IsFrame frame.old p }
-    ensures { HasPassedRing slaves.old frame.old slaves.new frame.new }
-{
-    for place in 0..slaves.len() {
-        slaves[place].pass(frame);
     }
 }

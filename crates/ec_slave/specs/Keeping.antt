@@ -1,6 +1,6 @@
 -- A datagram that met a slave is one, as long as it was.
 use Rattle.std.specs.Prelude.{ℕ, ◌+◌, ◌*◌, ◌/◌, ◌^◌, ◌<◌, List, [], ◌∷◌, length, ◌≡◌, Bool, true, false, if◌then◌else◌, Option, refl, suc}
-use Rattle.std.proofs.Common.{ap, arith}
+use Rattle.std.proofs.Common.{ap, arith, ◌∙◌}
 use Rattle.ec_frame.specs.declared.command.Command.{Command}
 use Rattle.ec_frame.specs.declared.command.Command.TheVariants.{Nop, Aprd, Apwr, Aprw, Fprd, Fpwr, Fprw, Brd, Bwr, Brw, Lrd, Lwr, Lrw, Armw, Frmw}
 use Rattle.ec_frame.specs.Datagram.{Datagram, IsDatagram, adp_of}
@@ -13,6 +13,7 @@ use Rattle.ec_slave.specs.Physical.{retold_from, Window, physical_met}
 use Rattle.ec_bits.proofs.BitLaws.{length-overlay}
 use Rattle.ec_slave.specs.Logical.{meets_logically}
 use Rattle.ec_slave.specs.Meeting.{window_of, meets, meets_physically, meets_by, datagram_met}
+use Rattle.ec_slave.specs.Column.{datagram_past}
 
 pub length-retold : (k : ℕ) (xs : List ℕ) (f : ℕ → Option ℕ) → length (retold_from k xs f) ≡ length xs
 length-retold k [] f = refl
@@ -95,3 +96,11 @@ by-keeps Frmw s d h = physically-keeps s d h
 pub meets-keeps : KeepsLength datagram_met
 unfolding meets
 meets-keeps s d h = by-keeps d.command s d h
+
+-- and of slaves that it passes one after the other
+pub past-keeps : KeepsLength datagram_past
+past-keeps [] d h = (h, refl)
+past-keeps (s ∷ ss) d h =
+    let one = meets-keeps s d h in
+    let rest = past-keeps ss (datagram_met s d) one.0 in
+    (rest.0, rest.1 ∙ one.1)

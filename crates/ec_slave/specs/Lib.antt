@@ -6,6 +6,7 @@ pub mod Meeting
 pub mod Physical
 pub mod Managers
 pub mod Logical
+pub mod Column
 pub mod Application
 -- What its firmware does: the checks before a state, the step, and a fault.
 pub mod Checking
@@ -25,6 +26,7 @@ pub mod Showing
 pub mod Held
 pub mod Mapped
 pub mod Encounters
+pub mod Carried
 pub mod Sights
 pub mod Written
 pub mod Untouched

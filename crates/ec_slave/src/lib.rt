@@ -2,6 +2,7 @@
 #![tactic(auto)]
 
 mod application;
+mod column;
 mod firmware;
 mod fmmus;
 pub mod laws;
@@ -15,4 +16,5 @@ mod runs;
 mod slave;
 mod sound;
 
+pub use crate::column::pass_each;
 pub use crate::slave::Slave;

@@ -4,16 +4,14 @@
 //! A datagram is given by its first logical bit and its data: bit `8 * k + j` of the data is the
 //! logical bit `from + 8 * k + j`. Nothing here takes memory.
 
-ghost use Rattle.std.specs.Prelude.{◌≡◌, ◌+◌, ◌*◌, ◌<◌, ◌^◌, Bool, true, false, length};
+ghost use Rattle.std.specs.Prelude.{◌≡◌, ◌+◌, ◌*◌, ◌<◌, ◌^◌, true, false, length};
 ghost use Rattle.std.specs.Bool.{OnTrue};
 ghost use Rattle.std.specs.Int.{from_bool};
 ghost use Rattle.ec_bits.specs.Bits.{overlay};
-ghost use Rattle.ec_frame.specs.Datagram.{Datagram, IsDatagram, IsSpelling, spelling};
-ghost use Rattle.ec_frame.specs.Fields.{header_of, with_data};
 ghost use Rattle.ec_slave.specs.State.{fmmus};
 ghost use Rattle.ec_slave.specs.LogicalLaws.{Misses};
 ghost use Rattle.ec_slave.specs.Logical.{logical_after, read_bit, some_read, some_written};
-ghost use Rattle.ec_slave.specs.Mapped.{MayWriteFirst, mapped_met, meets_mapped};
+ghost use Rattle.ec_slave.specs.Mapped.{MayWriteFirst, mapped_met};
 
 mod managers;
 mod reading;
@@ -25,7 +23,6 @@ use crate::logical::writing::write_logical;
 use crate::passing::MAX_DATA;
 use crate::role::Role;
 use crate::slave::Slave;
-use ec_frame::{Header, cut_counter, cut_heading, read_counter, write_counter};
 
 impl Slave {
     /// A datagram that reads through the FMMUs, and whether a bit was read.
@@ -122,7 +119,7 @@ impl Slave {
 
     /// Whether no FMMU has one of so many logical bits in its range, so that a datagram over them
     /// passes at the price of a few compares. False says nothing.
-    fn misses(&self, from: u64, bits: u64) -> bool
+    pub(crate) fn misses(&self, from: u64, bits: u64) -> bool
         requires { from + bits < 2 ^ 64 }
         ensures { OnTrue result (Misses self.now (record { from = from; bits = bits })) }
     {
@@ -130,7 +127,7 @@ impl Slave {
     }
 
     /// Meets the bits of a datagram in a role, and answers what the working counter grows by.
-    fn access_bits(&mut self, role: Role, from: u64, bytes: &mut [u8]) -> u16
+    pub(crate) fn access_bits(&mut self, role: Role, from: u64, bytes: &mut [u8]) -> u16
         requires small { from + 8 * length bytes.old < 2 ^ 64 }
         requires few { length bytes.old < 2048 }
         ensures slave { self.new ≡ (mapped_met self.old role (record { from = from; bits = 8 * length bytes.old }) bytes.old).slave }
@@ -146,35 +143,5 @@ impl Slave {
             Role::Write => self.write_bits(false, from, bytes) as u16,
             Role::ReadWrite | Role::OrReadWrite => self.exchange_bits(from, bytes),
         }
-    }
-
-    /// Meets the data of a datagram, and leaves its other fields.
-    fn access_logical_data(&mut self, role: Role, address: u32, part: &mut [u8]) -> u16
-        requires { IsSpelling part.old }
-        ensures slave { (more : Bool) (d : Datagram) → IsDatagram d → part.old ≡ spelling more d
-            → self.new ≡ (mapped_met self.old role (record { from = 8 * address; bits = 8 * length d.data_bytes }) d.data_bytes).slave }
-        ensures content { (more : Bool) (d : Datagram) → IsDatagram d → part.old ≡ spelling more d
-            → part.new ≡ spelling more (with_data d (mapped_met self.old role (record { from = 8 * address; bits = 8 * length d.data_bytes }) d.data_bytes).bytes) }
-        ensures added { (more : Bool) (d : Datagram) → IsDatagram d → part.old ≡ spelling more d
-            → result ≡ (mapped_met self.old role (record { from = 8 * address; bits = 8 * length d.data_bytes }) d.data_bytes).added }
-    {
-        let (_heading, body) = cut_heading(part);
-        let (content, _counter) = cut_counter(body);
-        self.access_bits(role, 8 * u64::from(address), content)
-    }
-
-    /// Answers a logical datagram whose header was read.
-    pub(crate) fn process_logical(&mut self, role: Role, header: Header, part: &mut [u8])
-        requires spelt { IsSpelling part.old }
-        requires read { (more : Bool) (d : Datagram) → IsDatagram d → part.old ≡ spelling more d
-            → header ≡ header_of more d }
-        ensures datagram { (more : Bool) (d : Datagram) → IsDatagram d → part.old ≡ spelling more d
-            → part.new ≡ spelling more (meets_mapped role self.old d).datagram }
-        ensures state { (more : Bool) (d : Datagram) → IsDatagram d → part.old ≡ spelling more d
-            → self.new ≡ (meets_mapped role self.old d).slave }
-    {
-        let counter = read_counter(part);
-        let added = self.access_logical_data(role, header.address, part);
-        write_counter(part, counter.wrapping_add(added));
     }
 }

@@ -6,9 +6,10 @@ ghost use Rattle.ec_slave.specs.Keeping.{meets-keeps};
 ghost use Rattle.ec_slave.specs.Sound.{IsSlave};
 ghost use Rattle.ec_slave.specs.Meeting.{IsPassed, datagram_met, slave_met};
 
-use crate::role::Encounter;
+use crate::column::pass_each;
 use crate::slave::Slave;
-use ec_frame::{Handler, Header, pass};
+use ec_frame::{Handler, pass};
+use std::slice;
 
 /// The data of a datagram have at most so many bytes.
 pub(crate) const MAX_DATA: usize = 2047;
@@ -36,11 +37,6 @@ impl Handler for Slave {
     ghost keeps_length = { meets-keeps };
 
     fn handle(&mut self, part: &mut [u8]) {
-        let header = Header::read(part);
-        match Encounter::of(header.command, header.adp(), self) {
-            Encounter::Passing => {}
-            Encounter::Physical { role, adp } => self.process_physical(role, adp, header, part),
-            Encounter::Logical(role) => self.process_logical(role, header, part),
-        }
+        pass_each(slice::from_mut(self), part);
     }
 }

@@ -1,14 +1,11 @@
 //! Physical datagrams at a slave.
 
-ghost use Rattle.std.specs.Prelude.{◌≡◌, ◌+◌, ◌*◌, ◌<◌, ◌≤◌, ◌^◌, ◌&&◌, ℕ, Bool, true, false, None, IfSome, length, if◌then◌else◌, nat_lt};
+ghost use Rattle.std.specs.Prelude.{◌≡◌, ◌+◌, ◌*◌, ◌<◌, ◌≤◌, ◌^◌, ◌&&◌, ℕ, true, false, None, IfSome, length, if◌then◌else◌, nat_lt};
 ghost use Rattle.ec_regs.specs.Memory.{al_status, fmmu_place, ram_start, ram_end};
 ghost use Rattle.ec_sync.specs.Governing.{governor as governor_of};
 ghost use Rattle.ec_al.specs.Al.{requesting};
 ghost use Rattle.std.specs.Int.{from_bool};
 ghost use Rattle.ec_bits.specs.Bits.{within};
-ghost use Rattle.ec_frame.specs.Datagram.{Datagram, IsDatagram, IsSpelling, spelling};
-ghost use Rattle.ec_frame.specs.Fields.{header_of, with_data};
-ghost use Rattle.ec_slave.specs.Encounters.{meets_addressed};
 ghost use Rattle.ec_slave.specs.Physical.{byte_read, may_read_byte, physical_met, retold, physical_after, some_byte_read, some_byte_written};
 ghost use Rattle.ec_slave.specs.State.{fmmus_of};
 
@@ -25,7 +22,6 @@ use crate::slave::Slave;
 use ec_al::Al;
 use ec_bits::within;
 use ec_fmmu::FmmuTable;
-use ec_frame::{Header, cut_counter, cut_heading, read_counter, write_adp, write_counter};
 use ec_regs::registers::{AL_CONTROL, AL_STATUS, FMMUS, FMMUS_END, RAM_START};
 
 /// Marks an AL request, or not.
@@ -242,7 +238,7 @@ impl Slave {
 
     /// Meets the bytes of a datagram in a role, and answers what the working counter grows by.
     #[tactic(auto, using(crate::proofs::Idle::slave_idle), unfolding(crate::specs::Physical::physical_met))]
-    fn access_bytes(&mut self, role: Role, from: usize, bytes: &mut [u8]) -> u16
+    pub(crate) fn access_bytes(&mut self, role: Role, from: usize, bytes: &mut [u8]) -> u16
         requires small { from + length bytes.old < 2 ^ 32 }
         requires few { length bytes.old < 2048 }
         ensures slave { self.new ≡ (physical_met self.old role (record { from = from; bytes = bytes.old })).slave }
@@ -257,36 +253,5 @@ impl Slave {
             Role::ReadWrite => self.read_write_copied_bytes(false, from, bytes),
             Role::OrReadWrite => self.read_write_copied_bytes(true, from, bytes),
         }
-    }
-
-    /// Meets the data of a datagram, and leaves its other fields.
-    fn access_physical_data(&mut self, role: Role, ado: u16, part: &mut [u8]) -> u16
-        requires { IsSpelling part.old }
-        ensures slave { (more : Bool) (d : Datagram) → IsDatagram d → part.old ≡ spelling more d
-            → self.new ≡ (physical_met self.old role (record { from = ado; bytes = d.data_bytes })).slave }
-        ensures content { (more : Bool) (d : Datagram) → IsDatagram d → part.old ≡ spelling more d
-            → part.new ≡ spelling more (with_data d (physical_met self.old role (record { from = ado; bytes = d.data_bytes })).bytes) }
-        ensures added { (more : Bool) (d : Datagram) → IsDatagram d → part.old ≡ spelling more d
-            → result ≡ (physical_met self.old role (record { from = ado; bytes = d.data_bytes })).added }
-    {
-        let (_heading, body) = cut_heading(part);
-        let (content, _counter) = cut_counter(body);
-        self.access_bytes(role, ado as usize, content)
-    }
-
-    /// Answers a physical datagram whose header was read, and which leaves with this ADP.
-    pub(crate) fn process_physical(&mut self, role: Role, adp: u16, header: Header, part: &mut [u8])
-        requires spelt { IsSpelling part.old }
-        requires read { (more : Bool) (d : Datagram) → IsDatagram d → part.old ≡ spelling more d
-            → header ≡ header_of more d }
-        ensures datagram { (more : Bool) (d : Datagram) → IsDatagram d → part.old ≡ spelling more d
-            → part.new ≡ spelling more (meets_addressed role adp self.old d).datagram }
-        ensures state { (more : Bool) (d : Datagram) → IsDatagram d → part.old ≡ spelling more d
-            → self.new ≡ (meets_addressed role adp self.old d).slave }
-    {
-        let counter = read_counter(part);
-        let added = self.access_physical_data(role, header.ado(), part);
-        write_adp(part, adp);
-        write_counter(part, counter.wrapping_add(added));
     }
 }
