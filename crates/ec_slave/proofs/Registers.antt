@@ -1,6 +1,6 @@
 -- What a slave's registers, managers and bits are after a datagram.
 use Rattle.std.proofs.Common.{ℕ, zero, suc, ◌+◌, ◌-◌, ◌*◌, ◌/◌, ◌%◌, ◌<◌, ◌≤◌, ◌≡◌, ◌==◌, ◌&&◌, ◌||◌, not, Bool, true, false, Option, Some, None, refl, sym, ◌∙◌, ap, inl, inr, arith, if◌then◌else◌, List, [], ◌∷◌, length, slice_index, unwrap_or, nat_lt}
-use Rattle.std.proofs.lemmas.Bool.{and_left, and_right, and_from, cases_Bool, both_ways, false_from_ne_true, false≢true, eqb-true, lt-leb, lt-ltb}
+use Rattle.std.proofs.lemmas.Bool.{or_left, or_right, and_left, and_right, and_from, cases_Bool, both_ways, false_from_ne_true, false≢true, eqb-true, lt-leb, lt-ltb}
 use Rattle.std.proofs.lemmas.List.{length-replicate}
 use Rattle.ec_bits.specs.Bits.{bit, within, zeros}
 use Rattle.ec_bits.proofs.AnyLaws.{if_true, if_false, within_above, within_below, within_parts, within_true}
@@ -81,6 +81,13 @@ kept-stored ms a l =
     with_not true true e = absurd (false≢true (sym e))
     with_not true false e = refl
     with_not false y e = refl
+
+-- the FMMUs' registers are stored, and kept in the memory itself
+pub fmmu-stored : (a : ℕ) → 0x0600 ≤ a → a < 0x0640 → is_stored a ≡ true
+fmmu-stored a l h = or_right (within 0x0010 2 a) _ (or_right (within 0x0120 2 a) _ (or_left (within 0x0600 64 a) _ (within_true 0x0600 64 a l (omega arith))))
+
+pub fmmu-kept : (ms : List Manager) (a : ℕ) → 0x0600 ≤ a → a < 0x0640 → is_kept ms a ≡ true
+fmmu-kept ms a l h = kept-stored ms a (omega arith) ∙ fmmu-stored a l h
 
 below-memory : (a : ℕ) → a < 0x0010 → in_memory a ≡ false
 below-memory a l =

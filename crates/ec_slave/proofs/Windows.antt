@@ -9,8 +9,8 @@ use Rattle.ec_sync.specs.Manager.{Manager, may_read, may_write}
 use Rattle.ec_sync.specs.Governing.{covers, governor, in_first_buffer, shown_byte}
 use Rattle.ec_slave.specs.State.{SlaveState, manager_at}
 use Rattle.ec_slave.specs.Managers.{reads_under, writes_under}
-use Rattle.ec_slave.specs.Physical.{Window, touches, register_byte, ram_byte, byte_at, byte_from, byte_read, may_read_byte, may_write_byte, is_kept}
-use Rattle.ec_slave.proofs.Told.{told_along, get-told_outside}
+use Rattle.ec_slave.specs.Physical.{Window, touches, register_byte, ram_byte, byte_at, byte_from, byte_read, may_read_byte, may_write_byte, is_kept, retold_from}
+use Rattle.ec_slave.proofs.Told.{told_along, get-told_outside, retold-alike}
 
 pub from-outside : (w : Window) (a : ℕ) → (a < w.from) ⊎ (w.from + length w.bytes ≤ a) → byte_from w a ≡ None
 from-outside w a h =
@@ -32,6 +32,17 @@ kept-inside ms w i h = ap (λ o. if is_kept ms (w.from + i) then o else None) (f
 
 pub kept-outside : (ms : List Manager) (w : Window) (a : ℕ) → (a < w.from) ⊎ (w.from + length w.bytes ≤ a) → kept_byte ms w a ≡ None
 kept-outside ms w a h = if_none _ _ (from-outside w a h)
+
+-- a datagram of which the memory itself keeps all bytes
+pub all-kept : (ms : List Manager) (w : Window) (memory : List ℕ) → ((a : ℕ) → w.from ≤ a → a < w.from + length w.bytes → is_kept ms a ≡ true)
+    → retold_from 0 memory (byte_from w) ≡ retold_from 0 memory (kept_byte ms w)
+all-kept ms w memory h = retold-alike memory (byte_from w) (kept_byte ms w) (λ a. elim (cases_lt a w.from) [
+  | inl x ↦ from-outside w a (inl x) ∙ sym (kept-outside ms w a (inl x))
+  | inr x ↦ elim (cases_lt a (w.from + length w.bytes)) [
+    | inl y ↦ sym (if_true (is_kept ms a) (byte_from w a) None (h a (omega arith) y))
+    | inr y ↦ from-outside w a (inr (omega arith)) ∙ sym (kept-outside ms w a (inr (omega arith)))
+  ]
+])
 
 -- the byte that a read puts over data byte x
 abbrev pub over : Bool → ℕ → ℕ → ℕ

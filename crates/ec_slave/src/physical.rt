@@ -1,12 +1,12 @@
 //! Physical datagrams at a slave.
 
-ghost use Rattle.std.specs.Prelude.{◌≡◌, ◌+◌, ◌*◌, ◌<◌, ◌≤◌, ◌^◌, ◌&&◌, ℕ, true, false, None, IfSome, length, if◌then◌else◌, nat_lt};
+ghost use Rattle.std.specs.Prelude.{◌≡◌, ◌+◌, ◌*◌, ◌<◌, ◌≤◌, ◌^◌, ◌&&◌, ℕ, true, false, None, IfSome, length, [], if◌then◌else◌, nat_lt};
 ghost use Rattle.ec_regs.specs.Memory.{al_status, fmmu_place, ram_start, ram_end};
 ghost use Rattle.ec_sync.specs.Governing.{governor as governor_of};
 ghost use Rattle.ec_al.specs.Al.{requesting};
 ghost use Rattle.std.specs.Int.{from_bool};
 ghost use Rattle.ec_bits.specs.Bits.{within};
-ghost use Rattle.ec_slave.specs.Physical.{byte_read, may_read_byte, physical_met, retold, physical_after, some_byte_read, some_byte_written};
+ghost use Rattle.ec_slave.specs.Physical.{byte_read, may_read_byte, physical_managers, physical_met, retold, physical_after, some_byte_read, some_byte_written};
 ghost use Rattle.ec_slave.specs.State.{fmmus_of};
 
 mod bytes;
@@ -22,7 +22,8 @@ use crate::slave::Slave;
 use ec_al::Al;
 use ec_bits::within;
 use ec_fmmu::FmmuTable;
-use ec_regs::registers::{AL_CONTROL, AL_STATUS, FMMUS, FMMUS_END, RAM_START};
+use ec_regs::registers::{AL_CONTROL, AL_STATUS, FMMUS, FMMUS_END, RAM_START, SYNC_MANAGERS};
+use ec_sync::Manager;
 
 /// Marks an AL request, or not.
 fn request_if(al: &mut Al, is_written: bool)
@@ -41,6 +42,17 @@ fn renew_fmmus(fmmus: &mut FmmuTable, memory: &[u8], from: usize, len: usize)
 {
     if from < FMMUS_END && FMMUS < from + len {
         *fmmus = read_fmmus(memory);
+    }
+}
+
+/// What a write does to the managers. Below their registers, and so below the RAM, it is none of theirs.
+fn write_managers(managers: &mut [Manager], reads: bool, from: usize, bytes: &[u8])
+    requires four { length managers.old ≡ 4 }
+    requires small { from + length bytes.now < 2 ^ 32 }
+    ensures { managers.new ≡ physical_managers [] reads true (record { from = from; bytes = bytes.now }) 0 managers.old }
+{
+    if from + bytes.len() > SYNC_MANAGERS {
+        access_managers(managers, reads, true, from, bytes);
     }
 }
 
@@ -172,7 +184,7 @@ impl Slave {
         let is_some = write_physical(&mut self.memory, &self.managers, is_busy, from, bytes);
         request_if(&mut self.al, within(from, bytes.len(), AL_CONTROL));
         self.port.write(from, bytes);
-        access_managers(&mut self.managers, reads, true, from, bytes);
+        write_managers(&mut self.managers, reads, from, bytes);
         renew_fmmus(&mut self.fmmus, &self.memory, from, bytes.len());
         is_some
     }

@@ -3,14 +3,14 @@
 ghost use Rattle.std.specs.Prelude.{◌≡◌, ◌+◌, ◌-◌, ◌<◌, ◌≤◌, ◌^◌, ℕ, Bool, List, if◌then◌else◌, bit_or, length, slice_index, Some, None, IfSome};
 ghost use Rattle.std.specs.Bool.{OnTrue};
 ghost use Rattle.ec_bits.specs.Bits.{within};
-ghost use Rattle.ec_regs.specs.Memory.{ram_start, ram_end};
+ghost use Rattle.ec_regs.specs.Memory.{fmmu_place, ram_start, ram_end};
 ghost use Rattle.ec_sync.specs.Governing.{governor as governor_of};
 ghost use Rattle.ec_sync.specs.Manager.{Manager};
 ghost use Rattle.ec_slave.specs.Physical.{byte_from, is_kept, may_read_byte, may_write_byte, memory_written, retold, some_byte_written};
 
 use crate::reach::owner_of;
 use crate::runs::{cut, end_of_alike};
-use ec_regs::registers::{RAM_END, RAM_START, SYNC_MANAGERS, SYNC_MANAGERS_END};
+use ec_regs::registers::{FMMUS, FMMUS_END, RAM_END, RAM_START, SYNC_MANAGERS, SYNC_MANAGERS_END};
 use ec_regs::{is_stored, takes_writes};
 use ec_sync::Manager;
 
@@ -145,6 +145,9 @@ fn write_registers(memory: &mut [u8], is_busy: bool, from: usize, bytes: &[u8]) 
     ensures memory { (ms : List Manager) → memory.new ≡ memory_written ms (record { from = from; bytes = bytes.now }) memory.old }
     ensures some { (ms : List Manager) → result ≡ some_byte_written ms is_busy (record { from = from; bytes = bytes.now }) }
 {
+    if FMMUS <= from && from + bytes.len() <= FMMUS_END {
+        return write_fmmus(memory, from, bytes);
+    }
     let mut is_some = false;
     for (i, byte) in bytes.iter().enumerate() {
         let address = from + i;
@@ -154,6 +157,19 @@ fn write_registers(memory: &mut [u8], is_busy: bool, from: usize, bytes: &[u8]) 
         }
     }
     is_some
+}
+
+/// Writes the bytes of a datagram that lies within the registers of the FMMUs, and answers whether one is written. The
+/// memory itself keeps all of them.
+fn write_fmmus(memory: &mut [u8], from: usize, bytes: &[u8]) -> bool
+    requires room { length memory.old ≡ ram_end }
+    requires low { fmmu_place 0 ≤ from }
+    requires high { from + length bytes.now ≤ fmmu_place 4 }
+    ensures memory { (ms : List Manager) → memory.new ≡ memory_written ms (record { from = from; bytes = bytes.now }) memory.old }
+    ensures some { (ms : List Manager) (busy : Bool) → result ≡ some_byte_written ms busy (record { from = from; bytes = bytes.now }) }
+{
+    store_slice(memory, from, bytes);
+    !bytes.is_empty()
 }
 
 /// Writes the bytes of a datagram, and answers whether one is written. Who governs bytes, and whether they may be
