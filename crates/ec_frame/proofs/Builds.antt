@@ -1,16 +1,16 @@
 -- What a builder's calls leave.
-use Rattle.std.proofs.Common.{◌≡◌, ℕ, zero, suc, ◌+◌, ◌-◌, ◌*◌, ◌/◌, ◌%◌, ◌^◌, ◌<◌, ◌≤◌, Bool, true, false, cond, List, [], ◌∷◌, ◌++◌, length, set, get_or, take, drop, refl, sym, ap, subst, ◌∙◌, append_assoc, arith}
+use Rattle.std.proofs.Common.{◌≡◌, ℕ, zero, suc, ◌+◌, ◌-◌, ◌*◌, ◌/◌, ◌%◌, ◌^◌, ◌<◌, ◌≤◌, Bool, true, false, cond, List, [], ◌∷◌, ◌++◌, length, set, get_or, take, drop, slice_index, refl, sym, ap, subst, ◌∙◌, append_assoc, arith}
 use Rattle.std.specs.List.{AllByRecursion}
 use Rattle.std.proofs.lemmas.List.{length-append, append-nil, set_at, get_or_at, length-set, length-drop, take_at}
 use Rattle.byteorder.specs.Endian.{little_bytes}
 use Rattle.ec_frame.specs.declared.command.Command.{Command}
-use Rattle.ec_frame.specs.Built.{IsBuilt}
+use Rattle.ec_frame.specs.Built.{IsBuilt, ten_bytes}
 use Rattle.ec_frame.specs.Building.{bare_payload, new_datagram}
 use Rattle.ec_frame.specs.Commands.{number_of}
 use Rattle.ec_frame.specs.Datagram.{Datagram, flags, spelling, IsDatagram, joined, opened}
 use Rattle.ec_frame.specs.Decoded.{after_data, decoded, datagrams_in}
 use Rattle.ec_frame.specs.Frame.{IsByte, IsFrame}
-use Rattle.ec_frame.proofs.Numbers.{all_append, all_drop, all_set, bytes_of_all, number_most, word_bytes}
+use Rattle.ec_frame.proofs.Numbers.{all_bytes, all_append, all_drop, all_set, bytes_of_all, number_most, word_bytes}
 use Rattle.ec_frame.proofs.Decoding.{after_again, decoded_again}
 use Rattle.ec_frame.proofs.Readings.{ended}
 use Rattle.ec_frame.proofs.Walked.{All-push, opened_push}
@@ -58,9 +58,6 @@ last_of (a ∷ xs) (b ∷ ys) x y e =
     let heads : a ≡ b = cc in
     let tails : xs ++ x ∷ [] ≡ ys ++ y ∷ [] = cc in
     ap (λ (z : Datagram). z ∷ xs) heads ∙ ap (λ (zs : List Datagram). b ∷ zs) (last_of xs ys x y tails)
-
-abbrev pub ten_bytes : Command → ℕ → ℕ → ℕ → List ℕ
-ten_bytes command index address word = number_of command ∷ index ∷ little_bytes 4 address ++ little_bytes 2 word ++ little_bytes 2 0
 
 ten_are_bytes : (command : Command) (index address word : ℕ) → index < 256 → AllByRecursion IsByte (ten_bytes command index address word)
 ten_are_bytes command index address word i =
@@ -190,3 +187,17 @@ module _ (bytes : List ℕ) (at : ℕ) (ds : List Datagram) (l : LastByte bytes 
 -- a builder that is seen as these datagrams is built of them
 pub seen_built : (bytes : List ℕ) (at : ℕ) (ds : List Datagram) → IsBuilt bytes at (datagrams_in (length bytes) (drop 2 bytes)) → datagrams_in (length bytes) (drop 2 bytes) ≡ ds → IsBuilt bytes at ds
 seen_built bytes at ds h is = subst (λ (es : List Datagram). IsBuilt bytes at es) is h
+
+-- two datagrams behind a header
+pub pair_built : (start first second : List ℕ) (two : ℕ) (a b : Command) (i j x y : ℕ) (content more : List ℕ)
+    → i < 256 → x < 2 ^ 32 → ((k : ℕ) → slice_index content k < 256) → j < 256 → y < 2 ^ 32 → ((k : ℕ) → slice_index more k < 256) → 24 + length content + length more ≤ 1470
+    → start ≡ 0 ∷ 0 ∷ []
+    → first ≡ ((start ++ ten_bytes a i x (length content + 32768)) ++ content) ++ (0 ∷ 0 ∷ []) → two ≡ length first
+    → second ≡ ((first ++ ten_bytes b j y (length more + 32768)) ++ more) ++ (0 ∷ 0 ∷ [])
+    → IsBuilt second two (new_datagram a i x content ∷ new_datagram b j y more ∷ [])
+pair_built start first second two a b i j x y content more fi fx fc fj fy fm room none e at f =
+    let built : IsBuilt first (length start) (new_datagram a i x content ∷ []) =
+    added start first 2 (length start) [] a i x content (none_built start 2 none) fi fx (all_bytes content fc) (omega (arith, ap length none)) refl e in
+    let long = built_length first (length start) (new_datagram a i x content ∷ []) built in
+    let short = joined_push [] (new_datagram a i x content) in
+    added first second (length start) two (new_datagram a i x content ∷ []) b j y more built fj fy (all_bytes more fm) (omega (arith, long, short)) at f

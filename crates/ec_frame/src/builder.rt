@@ -1,8 +1,8 @@
-ghost use Rattle.std.specs.Prelude.{◌≡◌, ◌≤◌, ◌<◌, ◌+◌, ◌∷◌, ◌++◌, [], List, length};
+ghost use Rattle.std.specs.Prelude.{◌≡◌, ◌≤◌, ◌<◌, ◌+◌, ◌∷◌, ◌++◌, ◌^◌, [], ℕ, List, length, slice_index};
 ghost use Rattle.std.specs.Prelude.{OnOk, OnErr};
 ghost use Rattle.byteorder.specs.Endian.{little_bytes};
 ghost use Rattle.ec_frame.specs.declared.command.Command.{Command};
-ghost use Rattle.ec_frame.specs.Built.{IsBuilt, built_datagrams};
+ghost use Rattle.ec_frame.specs.Built.{IsBuilt, built_datagrams, ten_bytes};
 ghost use Rattle.ec_frame.specs.Building.{bare_payload, new_datagram};
 ghost use Rattle.ec_frame.specs.Commands.{number_of};
 ghost use Rattle.ec_frame.specs.Datagram.{Datagram, joined};
@@ -60,6 +60,19 @@ fn append(frame: &mut Frame, bytes: &[u8])
     let _ = frame.try_extend_from_slice(bytes);
 }
 
+/// Appends a datagram with this data, counter 0 and its more bit set.
+fn append_datagram(frame: &mut Frame, command: Command, index: u8, address: u32, content: &[u8])
+    requires { length frame.old.items + 12 + length content.now ≤ 1472 }
+    ensures bytes { frame.new.items ≡ ((frame.old.items ++ ten_bytes command index address (length content.now + 32768))
+        ++ content.now) ++ (0 ∷ 0 ∷ []) }
+    ensures fits { (index < 256) × (address < 2 ^ 32) × ((k : ℕ) → slice_index content.now k < 256) }
+{
+    let heading = heading_of(command, index, address, content.len() as u16 + MORE);
+    append(frame, &heading);
+    append(frame, content);
+    append(frame, &[0, 0]);
+}
+
 /// Says in the header how long the datagrams are, and that none follows the last.
 fn close(frame: &mut Frame, last: usize)
     requires built { IsBuilt frame.old.items last (built_datagrams frame.old.items) }
@@ -70,6 +83,46 @@ fn close(frame: &mut Frame, last: usize)
     let bytes = frame.as_mut_slice();
     bytes[last + FLAGS_HIGH] -= (MORE >> 8) as u8;
     LittleEndian::write_u16(bytes, len as u16 + DATAGRAMS);
+}
+
+/// A datagram as a master sends it, with counter 0.
+#[derive(Clone, Copy)]
+pub struct Sent<'a> {
+    /// What the slaves are asked to do.
+    pub command: Command,
+    /// The index, which slaves leave as it is.
+    pub index: u8,
+    /// The four address bytes.
+    pub address: u32,
+    /// The data.
+    pub content: &'a [u8],
+}
+
+/// Writes the frame of two datagrams in place of what was in `frame`, with all reserved bits 0, as a builder of the two
+/// does, but without its own room for the longest frame. Both together have at most 1470 bytes.
+pub fn write_pair(frame: &mut Frame, first: Sent, second: Sent)
+    requires { 24 + length first.content.now + length second.content.now ≤ 1470 }
+    ensures { IsFrame frame.new.items (bare_payload (new_datagram first.entry.command first.entry.index first.entry.address first.entry.content.now
+        ∷ new_datagram second.entry.command second.entry.index second.entry.address second.entry.content.now ∷ [])) }
+{
+    frame.clear();
+    append(frame, &[0, 0]);
+    append_datagram(
+        frame,
+        first.command,
+        first.index,
+        first.address,
+        first.content,
+    );
+    let last = frame.len();
+    append_datagram(
+        frame,
+        second.command,
+        second.index,
+        second.address,
+        second.content,
+    );
+    close(frame, last);
 }
 
 /// Makes a frame, datagram by datagram. In contracts a builder is the list of its datagrams.
@@ -122,10 +175,7 @@ impl Builder {
             return Err(Full);
         }
         self.last = self.frame.len();
-        let heading = heading_of(command, index, address, content.len() as u16 + MORE);
-        append(&mut self.frame, &heading);
-        append(&mut self.frame, content);
-        append(&mut self.frame, &[0, 0]);
+        append_datagram(&mut self.frame, command, index, address, content);
         Ok(())
     }
 

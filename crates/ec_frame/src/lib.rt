@@ -12,7 +12,7 @@ pub mod field;
 pub mod laws;
 mod walk;
 
-pub use crate::builder::{Builder, Frame, Full};
+pub use crate::builder::{Builder, Frame, Full, Sent, write_pair};
 pub use crate::checking::check;
 pub use crate::command::Command;
 pub use crate::cursor::{Places, Span};

@@ -1,13 +1,13 @@
 //! A start-up as it runs.
 
-ghost use Rattle.std.specs.Prelude.{◌≡◌, ◌≢◌, ◌++◌, ◌<◌, ◌+◌, true, false, ◌↔◌, All, IfOk, IsTrue};
+ghost use Rattle.std.specs.Prelude.{◌≡◌, ◌≢◌, ◌++◌, ◌<◌, ◌≤◌, ◌+◌, length, true, false, ◌↔◌, All, IfOk, IsTrue};
 ghost use Rattle.std.specs.Int.{to_le_bytes, w16, w64};
 ghost use Rattle.ec_frame.specs.Building.{bare_payload};
 ghost use Rattle.ec_frame.specs.Frame.{IsFrame};
 ghost use Rattle.ec_start.specs.declared.verdict.Verdict.TheVariants.{Again};
 ghost use Rattle.ec_start.specs.Held.{first_step};
 ghost use Rattle.ec_start.specs.declared.phase.NextFrame.TheVariants.{Send};
-ghost use Rattle.ec_start.specs.Actions.{frame_of};
+ghost use Rattle.ec_start.specs.Actions.{datagram_of, frame_of};
 ghost use Rattle.ec_start.specs.Planned.{HasFewAssigned};
 ghost use Rattle.ec_start.specs.Doable.{IsDoable};
 ghost use Rattle.ec_start.specs.Running.{begun, action_of, has_failed, asked, next_frame, IsStartTaken, is_kept, advanced, judged, given_up, restarted, outcome_of, is_sent, with_shown};
@@ -18,11 +18,14 @@ use crate::error::StartError;
 use crate::phase::{NextFrame, Phase, Taken};
 use crate::script::{Cursor, Step, Stretch};
 use crate::verdict::{Verdict, nothing_seen, verdict_on, with_word};
-use ec_frame::{Builder, Command, Frame, read_counter, read_data};
+use ec_frame::{Command, Frame, Sent, read_counter, read_data, write_pair};
 use ec_link::{Plan, Settings};
 use ec_regs::{Device, Listed};
 use std::alloc::{AllocError, Global};
 use std::marker::Model;
+
+/// So many bytes are enough for the data of each datagram but a mailbox message.
+const SHORT_DATA: usize = 64;
 
 /// How often a wait is tried.
 const MOST_POLLS: u16 = 1000;
@@ -114,19 +117,52 @@ fn name_of(number: u64) -> [u8; 10]
     [a, b, c, d, e, f, g, h, 0, 0]
 }
 
-/// Writes the frame of an action with a number: the datagram that names it, and the action's.
+/// Writes the frame of an action with a number: the datagram that names it, and the action's, whose data come by way of
+/// a buffer.
+fn write_through(buffer: &mut [u8], action: &Action, number: u64, frame: &mut Frame)
+    requires doable { IsDoable action.now }
+    requires room { length (datagram_of action.now 0).data_bytes ≤ length buffer.old }
+    ensures { IsFrame frame.new.items (bare_payload (frame_of action.now number)) }
+{
+    let index = (number % 256) as u8;
+    let name = name_of(number);
+    let data = &mut buffer[..action.data_length()];
+    action.write_data(data);
+    let naming = Sent {
+        command: Command::Nop,
+        index,
+        address: 0,
+        content: &name,
+    };
+    let asking = Sent {
+        command: action.command(),
+        index,
+        address: action.address(),
+        content: data,
+    };
+    write_pair(frame, naming, asking);
+}
+
+/// The same by way of the longest buffer, which a mailbox message may need.
+#[inline(never)]
+fn write_long(action: &Action, number: u64, frame: &mut Frame)
+    requires { IsDoable action.now }
+    ensures { IsFrame frame.new.items (bare_payload (frame_of action.now number)) }
+{
+    let _few = action.data_length();
+    write_through(&mut [0; MAX_DATA], action, number, frame);
+}
+
+/// The same by way of a buffer that is long enough.
 fn write_frame(action: &Action, number: u64, frame: &mut Frame)
     requires { IsDoable action.now }
     ensures { IsFrame frame.new.items (bare_payload (frame_of action.now number)) }
 {
-    let index = (number % 256) as u8;
-    let mut builder = Builder::new();
-    let _ = builder.add(Command::Nop, index, 0, &name_of(number));
-    let mut buffer = [0; MAX_DATA];
-    let data = &mut buffer[..action.data_length()];
-    action.write_data(data);
-    let _ = builder.add(action.command(), index, action.address(), data);
-    builder.write(frame);
+    if action.data_length() <= SHORT_DATA {
+        write_through(&mut [0; SHORT_DATA], action, number, frame);
+    } else {
+        write_long(action, number, frame);
+    }
 }
 
 impl Startup {

@@ -13,12 +13,12 @@ returns-then-room-lt-OVERHEAD-clause-full c =
 pub invariant_of-self : goal.invariant_of-self
 invariant_of-self c =
     let h = seen_built c.self.inside.frame.items c.self.inside.last c.args.self.now c.self.invariant c.self.view_is in
-    added_built c.append-3.new.frame.items c.len-self-inside.result _ (added c.self.inside.frame.items c.append-3.new.frame.items c.self.inside.last c.len-self-inside.result c.args.self.now c.args.command c.args.index c.args.address c.args.content.now h c.ranges.index.fits c.ranges.address.fits (all_bytes c.args.content.now (λ i. omega (arith, c.type_inv.content i))) (omega arith) c.len-self-inside.ensures.value (cc (c.append-3.ensures, c.append-2.ensures, c.append.ensures, c.heading_of-heading.ensures)))
+    added_built c.append_datagram.new.frame.items c.len-self-inside.result _ (added c.self.inside.frame.items c.append_datagram.new.frame.items c.self.inside.last c.len-self-inside.result c.args.self.now c.args.command c.args.index c.args.address c.args.content.now h c.ranges.index.fits c.ranges.address.fits (all_bytes c.args.content.now (λ i. omega (arith, c.type_inv.content i))) (omega arith) c.len-self-inside.ensures.value c.append_datagram.ensures.bytes)
 
 pub returns-clause-ok : goal.returns-clause-ok
 returns-clause-ok c =
     let h = seen_built c.self.inside.frame.items c.self.inside.last c.args.self.now c.self.invariant c.self.view_is in
-    added_view c.append-3.new.frame.items c.len-self-inside.result _ (added c.self.inside.frame.items c.append-3.new.frame.items c.self.inside.last c.len-self-inside.result c.args.self.now c.args.command c.args.index c.args.address c.args.content.now h c.ranges.index.fits c.ranges.address.fits (all_bytes c.args.content.now (λ i. omega (arith, c.type_inv.content i))) (omega arith) c.len-self-inside.ensures.value (cc (c.append-3.ensures, c.append-2.ensures, c.append.ensures, c.heading_of-heading.ensures)))
+    added_view c.append_datagram.new.frame.items c.len-self-inside.result _ (added c.self.inside.frame.items c.append_datagram.new.frame.items c.self.inside.last c.len-self-inside.result c.args.self.now c.args.command c.args.index c.args.address c.args.content.now h c.ranges.index.fits c.ranges.address.fits (all_bytes c.args.content.now (λ i. omega (arith, c.type_inv.content i))) (omega arith) c.len-self-inside.ensures.value c.append_datagram.ensures.bytes)
 
 pub returns-clause-fits : goal.returns-clause-fits
 returns-clause-fits c =
