@@ -1,17 +1,17 @@
 -- A value of which each bit is told doesn't depend on what it held, and whether a datagram writes a manager.
-use Rattle.std.proofs.Common.{ℕ, ◌+◌, ◌*◌, ◌/◌, ◌%◌, ◌<◌, ◌≡◌, ◌&&◌, ◌||◌, [], ◌∷◌, ◌++◌, take, drop, append_assoc, ap₂, Bool, true, false, Option, Some, None, is_some, is_none, unwrap_or, option_map, refl, sym, ◌∙◌, ap, subst, arith, List, length, get_or, slice_index, All, inl, inr}
+use Rattle.std.proofs.Common.{ℕ, ◌+◌, ◌-◌, ◌*◌, ◌/◌, ◌%◌, ◌<◌, ◌≡◌, ◌&&◌, ◌||◌, [], ◌∷◌, ◌++◌, take, drop, append_assoc, ap₂, Bool, true, false, Option, Some, None, is_some, is_none, unwrap_or, option_map, refl, sym, ◌∙◌, ap, subst, arith, List, length, get_or, slice_index, All, inl, inr}
 use Rattle.std.proofs.lemmas.Bool.{and_parts, and_from, false≢true, cases_lt}
 use Rattle.std.proofs.lemmas.List.{get_or_default, take_more, length-take-le, length-replicate, get_or-replicate, get_or_past}
-use Rattle.ec_bits.specs.Bits.{bit, overlay, any_below, zeros}
+use Rattle.ec_bits.specs.Bits.{bit, overlay, any_below, copied, run_told, within, zeros}
 use Rattle.ec_bits.proofs.Algebra.{same_bits, overlay_keeps_bytes}
-use Rattle.ec_bits.proofs.AnyLaws.{any_below_from, any_below_some, if_true}
-use Rattle.ec_bits.proofs.BitLaws.{bit-overlay, length-overlay}
+use Rattle.ec_bits.proofs.AnyLaws.{any_below_from, any_below_some, if_true, within_true}
+use Rattle.ec_bits.proofs.BitLaws.{bit-overlay, length-overlay, overlay_alike}
 use Rattle.ec_regs.specs.declared.fmmu.FmmuSettings.{FmmuSettings}
 use Rattle.ec_sync.specs.Manager.{Manager, may_write}
 use Rattle.ec_sync.specs.Governing.{covers, governor}
 use Rattle.ec_fmmu.specs.Applied.{Place, touched_by_writing, data_bit_for}
 use Rattle.ec_slave.specs.Managers.{is_ungoverned, is_written_by}
-use Rattle.ec_slave.specs.Logical.{brought, logical_managers, plain_bit}
+use Rattle.ec_slave.specs.Logical.{brought, logical_managers, logical_value, plain_bit}
 use Rattle.ec_slave.specs.Written.{some_brought}
 use Rattle.ec_slave.proofs.Exchanges.{one_written, exchanged_from, written_from, written_from-next, take_front, drop_front}
 use Rattle.ec_slave.proofs.SomeWritten.{same_truth, if-some}
@@ -86,6 +86,42 @@ written_by-is lower fs p bytes m = same_truth _ _
     let a = and_parts (covers (touched_by_writing fs p) m) _ h in
     let b = and_parts (may_write m) _ a.1 in
     and_from _ _ b.0 (and_from _ _ a.0 (own-brought lower fs p bytes m.settings.start m.settings.length b.1)))
+
+-- a bit that is brought outside the bytes that lower ones govern is touched
+plain-touched : (lower : List Manager) (fs : List FmmuSettings) (p : Place) (bytes : List ℕ) (q a : ℕ) → q / 8 ≡ a → is_some (plain_bit lower fs p bytes q) ≡ true → touched_by_writing fs p a ≡ true
+plain-touched lower fs p bytes q a e h =
+    let parts = if-some (is_none (governor lower (q / 8))) (brought fs p bytes q) h in
+    let at : q ≡ 8 * a + q % 8 = omega arith in
+    let bit_there : is_some (data_bit_for fs p (8 * a + q % 8)) ≡ true
+    = ap (λ (n : ℕ). is_some (data_bit_for fs p n)) (sym at) ∙ (sym (some-mapped bytes (data_bit_for fs p q)) ∙ parts.1) in
+    any_below_from 8 (λ j. is_some (data_bit_for fs p (8 * a + j))) (q % 8) (omega arith) bit_there
+
+-- a manager that may be written and to all of whose value bits are brought is written
+pub wholly-written : (lower : List Manager) (fs : List FmmuSettings) (p : Place) (bytes : List ℕ) (m : Manager) → may_write m ≡ true → 0 < m.settings.length
+    → ((k : ℕ) → k < 8 * m.settings.length → is_some (plain_bit lower fs p bytes (8 * m.settings.start + k)) ≡ true)
+    → is_written_by (touched_by_writing fs p) (is_ungoverned lower) m ≡ true
+wholly-written lower fs p bytes m may some h =
+    let start : ℕ = m.settings.start in
+    let len : ℕ = m.settings.length in
+    let first : touched_by_writing fs p start ≡ true = plain-touched lower fs p bytes (8 * start + 0) start (omega arith) (h 0 (omega arith)) in
+    let last : touched_by_writing fs p (start + len - 1) ≡ true = plain-touched lower fs p bytes (8 * start + 8 * (len - 1)) (start + len - 1) (omega arith) (h (8 * (len - 1)) (omega arith)) in
+    let brought : some_brought lower fs p bytes start len ≡ true = any_below_from (8 * len) (λ k. is_some (plain_bit lower fs p bytes (8 * start + k))) 0 (omega arith) (h 0 (omega arith)) in
+    written_by-is lower fs p bytes m ∙ and_from _ _ (and_from _ _ first last) (and_from _ _ may brought)
+
+-- and its value is one copy
+pub wholly-copied : (lower : List Manager) (fs : List FmmuSettings) (p : Place) (bytes : List ℕ) (start len at : ℕ)
+    → ((k : ℕ) → k < 8 * len → plain_bit lower fs p bytes (8 * start + k) ≡ Some (bit bytes (at + k)))
+    → copied (zeros len) 0 bytes (at + 8 * (start - start)) (8 * len) ≡ logical_value lower fs p bytes start len
+wholly-copied lower fs p bytes start len at h =
+    let n : length (zeros len) ≡ len = length-replicate len 0 in
+    let z : at + 8 * (start - start) ≡ at = omega arith in
+    ap (λ (x : ℕ). copied (zeros len) 0 bytes x (8 * len)) z
+    ∙ overlay_alike (zeros len) (run_told 0 bytes at (8 * len)) (λ k. plain_bit lower fs p bytes (8 * start + k)) (λ k l.
+    let i : k < 8 * len = omega (arith, l, n) in
+    let o : k - 0 ≡ k = omega arith in
+    ap (λ (x : Option Bool). unwrap_or x (bit (zeros len) k))
+    (if_true (within 0 (8 * len) k) (Some (bit bytes (at + (k - 0)))) None (within_true 0 (8 * len) k (omega arith) (omega (arith, i)))
+    ∙ (ap (λ (x : ℕ). Some (bit bytes (at + x))) o ∙ sym (h k i))))
 
 -- ---- from the last manager to the first
 

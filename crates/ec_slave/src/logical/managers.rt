@@ -1,8 +1,9 @@
 //! What a logical datagram does to the sync managers.
 
-ghost use Rattle.std.specs.Prelude.{◌≡◌, ◌<◌, ◌≤◌, ◌+◌, ◌*◌, ◌^◌, ◌&&◌, ℕ, length, [], Some, IfSome, slice_index};
-ghost use Rattle.ec_bits.specs.Bits.{bit};
+ghost use Rattle.std.specs.Prelude.{◌≡◌, ◌<◌, ◌≤◌, ◌+◌, ◌*◌, ◌^◌, ◌&&◌, ℕ, length, [], Some, IfSome, if◌then◌else◌, ◌-◌, slice_index};
+ghost use Rattle.ec_bits.specs.Bits.{bit, copied, zeros};
 ghost use Rattle.ec_regs.specs.Memory.{ram_end};
+ghost use Rattle.ec_sync.specs.Manager.{ring_written};
 ghost use Rattle.ec_fmmu.specs.Applied.{Place, touched_by_reading, touched_by_writing};
 ghost use Rattle.ec_slave.specs.Managers.{is_ungoverned, is_written_by, manager_after};
 ghost use Rattle.ec_slave.specs.Logical.{logical_managers, plain_bit, logical_value};
@@ -11,7 +12,7 @@ ghost use Rattle.ec_slave.specs.Written.{some_manager_written};
 use crate::logical::writing::Ungoverned;
 use crate::reach::{read_manager, write_manager};
 use crate::runs::are_ungoverned;
-use ec_bits::copy_by_words;
+use ec_bits::{copy_by_words, within};
 use ec_fmmu::{
     FmmuTable, apply_write, is_touched_by_reading, is_touched_by_writing, wholly_brought_from,
 };
@@ -96,27 +97,9 @@ impl Bits<'_> {
         wholly_brought_from(self.fmmus, self.from, bits, first, count)
     }
 
-    /// Fills a value that begins at `start`: 0 in each bit that isn't brought. One that is brought whole, as one run, is
-    /// one copy.
-    fn bring(&self, start: usize, value: &mut [u8])
-        requires some { 0 < length value.old }
-        requires inside { start + length value.old ≤ ram_end }
-        requires small { (k : ℕ) → slice_index value.old k < 256 }
-        ensures { value.new ≡ logical_value self.now.lower.now self.now.fmmus.now
-            (record { from = self.now.from; bits = 8 * length self.now.bytes.now }) self.now.bytes.now start (length value.old) }
-    {
-        match self.source(start, value.len()) {
-            Some(at) => {
-                let count = 8 * value.len();
-                copy_by_words(value, 0, self.bytes, at, count);
-            }
-            None => self.bring_parts(start, value),
-        }
-    }
-
     /// Fills a value that begins at `start` with zeros, and then with what is brought.
     #[inline(never)]
-    fn bring_parts(&self, start: usize, value: &mut [u8])
+    fn bring(&self, start: usize, value: &mut [u8])
         requires { start + length value.old ≤ ram_end }
         ensures { value.new ≡ logical_value self.now.lower.now self.now.fmmus.now
             (record { from = self.now.from; bits = 8 * length self.now.bytes.now }) self.now.bytes.now start (length value.old) }
@@ -127,6 +110,86 @@ impl Bits<'_> {
         };
         let origin = 8 * start as u32;
         let _ = apply_write(self.fmmus, &rights, self.from, self.bytes, origin, value);
+    }
+}
+
+/// The `len` bytes from `start` on, to each bit of which a data bit is brought, one after the other from `at` on.
+#[derive(Clone, Copy)]
+struct Whole<'a> {
+    start: usize,
+    len: usize,
+    bytes: &'a [u8],
+    at: usize,
+    ghost fits: { at + 8 * len ≤ 8 * length bytes.now },
+    ghost small: { at + 8 * len < 2 ^ 64 },
+}
+
+impl Touching for Whole<'_> {
+    ghost use Rattle.ec_bits.specs.Bits.{within};
+
+    ghost touched = { λ w a. within w.start w.len a };
+
+    fn touches(&self, address: usize) -> bool {
+        within(self.start, self.len, address)
+    }
+}
+
+impl Writing for Whole<'_> {
+    ghost use Rattle.std.specs.Prelude.{◌+◌, ◌-◌, ◌*◌};
+    ghost use Rattle.ec_bits.specs.Bits.{copied, zeros};
+    ghost use Rattle.ec_sync.specs.Touching.{all_touched};
+
+    ghost written = { λ w start len. copied (zeros len) 0 w.bytes.now (w.at + 8 * (start - w.start)) (8 * len) };
+
+    ghost zero_untouched = { λ w start len k first last inside untouched.
+        absurd (all_touched w.start w.len start len k first last inside untouched) };
+
+    fn fill(&self, start: usize, value: &mut [u8]) {
+        self.copy(start, value);
+    }
+}
+
+impl Whole<'_> {
+    /// Fills a value that begins at `start` and lies within its bytes.
+    fn copy(&self, start: usize, value: &mut [u8])
+        requires low { self.now.start ≤ start }
+        requires high { start + length value.old ≤ self.now.start + self.now.len }
+        requires small { (k : ℕ) → slice_index value.old k < 256 }
+        ensures { value.new ≡ copied (zeros (length value.old)) 0 self.now.bytes.now (self.now.at + 8 * (start - self.now.start)) (8 * length value.old) }
+    {
+        let at = self.at + 8 * (start - self.start);
+        let count = 8 * value.len();
+        copy_by_words(value, 0, self.bytes, at, count);
+    }
+}
+
+/// A manager that a datagram gets at takes what is brought to it, if it is let. Answers whether. Most often all of its
+/// value is brought, as one run: then the datagram gets at it, and the value is one copy.
+fn write_bits(manager: &mut Manager, access: &Bits<'_>) -> bool
+    ensures written { let place : Place = record { from = access.now.from; bits = 8 * length access.now.bytes.now } in
+        result ≡ is_written_by (touched_by_writing access.now.fmmus.now place) (is_ungoverned access.now.lower.now) manager.old }
+    ensures after { let place : Place = record { from = access.now.from; bits = 8 * length access.now.bytes.now } in
+        let m = manager.old in
+        manager.new ≡ (if is_written_by (touched_by_writing access.now.fmmus.now place) (is_ungoverned access.now.lower.now) m
+        then ring_written m (logical_value access.now.lower.now access.now.fmmus.now place access.now.bytes.now m.settings.start m.settings.length) else m) }
+{
+    if !manager.may_write() {
+        return false;
+    }
+    let start = manager.settings().start as usize;
+    let len = manager.settings().length as usize;
+    let bytes = access.bytes;
+    match access.source(start, len) {
+        Some(at) => {
+            manager.store(&Whole {
+                start,
+                len,
+                bytes,
+                at,
+            });
+            true
+        }
+        None => write_manager(access.lower, manager, access),
     }
 }
 
@@ -154,7 +217,7 @@ fn access_manager(
         from,
         bytes,
     };
-    if writing && write_manager(lower, manager, &access) {
+    if writing && write_bits(manager, &access) {
         return true;
     }
     if reading {

@@ -2,7 +2,7 @@ use Rattle.std.proofs.Common.{ℕ, ◌≡◌, ◌+◌, ◌*◌, ◌∙◌, Bool,
 use Rattle.ec_bits.specs.Bits.{overlay, zeros}
 use Rattle.ec_fmmu.specs.Applied.{Place}
 use Rattle.ec_slave.specs.Logical.{plain_bit}
-use Rattle.ec_slave.proofs.logical.managers.Bits.bring_parts.Goals as goal
+use Rattle.ec_slave.proofs.logical.managers.Bits.bring.Goals as goal
 
 pub returns : goal.returns
 returns c =
