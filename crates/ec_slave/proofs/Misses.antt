@@ -65,27 +65,6 @@ misses reading writing weight s d h c =
     = rw (r, w) (let z : d.counter + (0 + weight * 0) ≡ d.counter = omega arith in rw z (mod-eq_of_lt c)) in
     rw (memory, managers, bytes, n) refl
 
--- ---- the same of its parts, for the code
-
-pub missed_slave : (reading writing : Bool) (s : SlaveState) (p : Place) (bytes : List ℕ) → Misses s p → s ≡ logical_after s reading writing p bytes
-missed_slave reading writing s p bytes h =
-    let memory = overlay_own s.memory (λ q. only_if writing (plain_bit s.managers (fmmus s) p bytes q))
-    (λ q l. ap (λ o. unwrap_or o (bit s.memory q)) (if_none writing _ (no_plain_bit s p bytes q h))) in
-    let managers = managers_kept s [] s.managers reading writing p bytes h in
-    rw (memory, managers) refl
-
-pub missed_data : (role : Role) (s : SlaveState) (p : Place) (bytes : List ℕ) → Misses s p → p.bits ≡ 8 * length bytes → bytes ≡ (mapped_met s role p bytes).bytes
-missed_data role s p bytes h e =
-    sym (overlay_own bytes (λ i. only_if (is_reading role) (read_bit s.memory s.managers (fmmus s) p i))
-    (λ i l. ap (λ o. unwrap_or o (bit bytes i)) (if_none (is_reading role) _ (no_read_bit s p i h (omega (arith, e))))))
-
-pub missed_count : (role : Role) (s : SlaveState) (p : Place) (bytes : List ℕ) → Misses s p → 0 ≡ (mapped_met s role p bytes).added
-missed_count role s p bytes h =
-    let r : (is_reading role && some_read s.memory s.managers (fmmus s) p) ≡ false = and_right (is_reading role) _ (any_below_none p.bits _ (λ i l. ap is_some (no_read_bit s p i h l))) in
-    let w : (is_writing role && some_written s.managers (fmmus s) p bytes) ≡ false = and_right (is_writing role) _ (any_below_none (8 * ram_end) _ (λ q l. ap is_some (no_written_bit s p bytes q h))) in
-    let z : 0 ≡ 0 + weight role * 0 = omega arith in
-    rw (r, w) z
-
 -- ---- a role that neither reads nor writes
 
 managers_left : (lower ms : List Manager) (fs : List FmmuSettings) (p : Place) (bytes : List ℕ) → ms ≡ logical_managers lower false false fs p bytes ms

@@ -126,7 +126,8 @@ impl Slave {
         self.fmmus.is_missed(from, bits)
     }
 
-    /// Meets the bits of a datagram in a role, and answers what the working counter grows by.
+    /// Meets the bits of a datagram in a role, and answers what the working counter grows by. Whether
+    /// it concerns the slave at all is asked before, by `misses`.
     pub(crate) fn access_bits(&mut self, role: Role, from: u64, bytes: &mut [u8]) -> u16
         requires small { from + 8 * length bytes.old < 2 ^ 64 }
         requires few { length bytes.old < 2048 }
@@ -134,9 +135,6 @@ impl Slave {
         ensures bytes { bytes.new ≡ (mapped_met self.old role (record { from = from; bits = 8 * length bytes.old }) bytes.old).bytes }
         ensures added { result ≡ (mapped_met self.old role (record { from = from; bits = 8 * length bytes.old }) bytes.old).added }
     {
-        if self.misses(from, 8 * bytes.len() as u64) {
-            return 0;
-        }
         match role {
             Role::Nothing => 0,
             Role::Read | Role::OrRead => self.read_bits(from, bytes) as u16,

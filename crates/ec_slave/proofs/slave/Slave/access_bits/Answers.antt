@@ -4,24 +4,9 @@ use Rattle.ec_fmmu.specs.Applied.{Place}
 use Rattle.ec_slave.specs.Roles.{is_reading, is_writing}
 use Rattle.ec_slave.specs.Mapped.{mapped_met}
 use Rattle.ec_slave.specs.Logical.{logical_after}
-use Rattle.ec_slave.proofs.Misses.{missed_slave, missed_data, missed_count, slave_left}
+use Rattle.ec_slave.proofs.Misses.{slave_left}
 use Rattle.ec_slave.specs.declared.role.Role.{Role}
 use Rattle.ec_slave.proofs.slave.Slave.access_bits.Goals as goal
-
-pub returns-then-misses-clause-slave : goal.returns-then-misses-clause-slave
-returns-then-misses-clause-slave c =
-    let p : Place = record { from = c.args.from; bits = 8 * length c.args.bytes.now } in
-    missed_slave (is_reading c.args.role) (is_writing c.args.role) c.args.self.now p c.args.bytes.now (c.if-misses.ensures)
-
-pub returns-then-misses-clause-bytes : goal.returns-then-misses-clause-bytes
-returns-then-misses-clause-bytes c =
-    let p : Place = record { from = c.args.from; bits = 8 * length c.args.bytes.now } in
-    missed_data c.args.role c.args.self.now p c.args.bytes.now (c.if-misses.ensures) refl
-
-pub returns-then-misses-clause-added : goal.returns-then-misses-clause-added
-returns-then-misses-clause-added c =
-    let p : Place = record { from = c.args.from; bits = 8 * length c.args.bytes.now } in
-    missed_count c.args.role c.args.self.now p c.args.bytes.now (c.if-misses.ensures)
 
 pub returns-in-Write-clause-bytes : goal.returns-in-Write-clause-bytes
 returns-in-Write-clause-bytes c =
