@@ -8,8 +8,9 @@ ghost use Rattle.ec_frame.specs.Kept.{IsDatagram-with_adp, IsDatagram-with_count
 ghost use Rattle.ec_frame.specs.Kept.{IsDatagram-with_data};
 
 use ec_frame::{
-    Builder, Command, Frame, FrameError, Full, Handler, Header, Places, check, cut_counter,
+    Builder, Command, Frame, FrameError, Full, Handler, Header, Places, Sent, check, cut_counter,
     cut_heading, pass, read_counter, read_data, write_address, write_adp, write_counter,
+    write_pair,
 };
 use std::process::Abort;
 use std::test::Fail;
@@ -118,6 +119,32 @@ fn builder_makes_the_frame(rt: HostRuntime) -> Result<(), Fail> {
     let expected = bytes_of(&rt, STATUS)?;
     assert_eq!(rt; written.as_slice(), expected.as_slice());
     assert_eq!(rt; frame.as_slice(), expected.as_slice());
+    Ok(())
+}
+
+#[test]
+fn pair_makes_the_frame(rt: HostRuntime) -> Result<(), Fail> {
+    let naming = Sent {
+        command: Command::Nop,
+        index: 7,
+        address: 0,
+        content: &[1, 2],
+    };
+    let asking = Sent {
+        command: Command::Brd,
+        index: 8,
+        address: 0x0130_0000,
+        content: &[0, 0],
+    };
+    // what was in a frame before is gone
+    let mut written = Frame::new();
+    written.push(0xFF);
+    write_pair(&mut written, naming, asking);
+    let expected = bytes_of(
+        &rt,
+        "1c10 0007 00000000 0280 0000 0102 0000 0708 00003001 0200 0000 0000 0000",
+    )?;
+    assert_eq!(rt; written.as_slice(), expected.as_slice());
     Ok(())
 }
 
