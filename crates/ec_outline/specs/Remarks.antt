@@ -1,0 +1,23 @@
+-- Remarks on a text, and the places that they name.
+use Rattle.std.specs.Prelude.{◌++◌, ◌∷◌, [], ℕ, List, codes, Option, Some, None}
+use Rattle.std.specs.Fmt.{decimal}
+use Rattle.ec_outline.specs.declared.spot.Spot.{Spot}
+use Rattle.ec_outline.specs.declared.remark.Remark.{Remark}
+use Rattle.ec_outline.specs.Spots.{LiesIn}
+
+-- a text and what is said of it
+pub record Said : Type 0 where
+  pub text : List ℕ
+  pub remarks : List Remark
+
+-- the place that a remark names, if it names one, lies in the text
+abbrev pub IsIn : List ℕ → Option Spot → Type 0
+IsIn text None = Unit {0}
+IsIn text (Some spot) = LiesIn text spot
+
+abbrev pub StandsIn : List ℕ → Remark → Type 0
+StandsIn text remark = IsIn text remark.spot
+
+-- the line that says where it stands
+abbrev pub heading : Spot → List ℕ → List ℕ
+heading spot words = codes "line " ++ (decimal spot.line ++ (codes ", column " ++ (decimal spot.column ++ (codes ": " ++ (words ++ 10 ∷ [])))))

@@ -1,0 +1,208 @@
+//! Remarks on a text, and how they are told.
+ghost use Rattle.std.specs.Prelude.{◌≡◌, ◌++◌, ◌∷◌, [], All, IfOk, OnOk, string_bytes};
+ghost use Rattle.ec_outline.specs.Remarks.{StandsIn, heading};
+
+use crate::spot::{Span, Spot, spot_of};
+use crate::words::printed;
+use std::alloc::{AllocError, Global};
+use std::fmt::Write as _;
+use std::marker::Model;
+
+/// How many characters of a line are shown.
+const SHOWN: usize = 100;
+
+/// Something that there is to say of a text.
+#[derive(Debug, Drop)]
+pub struct Remark {
+    /// Where it stands; of some there is no place to say.
+    pub spot: Option<Spot>,
+    /// How many characters are marked there.
+    pub width: usize,
+    /// What there is to say.
+    pub words: String,
+}
+
+/// Remarks on a text. Each place that they name lies in it.
+#[derive(Drop)]
+pub struct Remarks<'a> {
+    text: &'a str,
+    list: Vec<Remark>,
+}
+
+impl<'a> Model for Remarks<'a> {
+    ghost use Rattle.std.specs.Prelude.{All};
+    ghost use Rattle.ec_outline.specs.Remarks.{Said, StandsIn};
+
+    ghost Value = { Said };
+
+    ghost view = { λ a. record { text = a.text.now; remarks = a.list.items } };
+
+    ghost invariant = { λ a. All (StandsIn a.text.now) a.list.items };
+}
+
+/// How many characters some bytes of a text are, 1 at least.
+fn width_of(text: &str, span: Span) -> usize {
+    match text.get(span.start..span.end) {
+        Some(marked) => marked.chars().count().max(1),
+        None => 1,
+    }
+}
+
+impl<'a> Remarks<'a> {
+    /// None yet.
+    pub fn new(alloc: Global, text: &'a str) -> Remarks<'a>
+        ensures text { result.text ≡ text.now }
+        ensures none { result.remarks ≡ [] }
+    {
+        Remarks {
+            text,
+            list: Vec::new(alloc),
+        }
+    }
+
+    /// Says something of some bytes of the text.
+    pub fn at(&mut self, span: Span, words: String) -> Result<(), AllocError>
+        ensures { self.new.text ≡ self.old.text }
+    {
+        let remark = Remark {
+            spot: Some(spot_of(self.text, span.start)),
+            width: width_of(self.text, span),
+            words,
+        };
+        self.list.push(remark)?;
+        Ok(())
+    }
+
+    /// Says something that has no place.
+    pub fn note(&mut self, words: String) -> Result<(), AllocError>
+        ensures { self.new.text ≡ self.old.text }
+    {
+        self.list.push(Remark {
+            spot: None,
+            width: 0,
+            words,
+        })?;
+        Ok(())
+    }
+
+    /// The remarks in order.
+    pub fn list(&self) -> &[Remark]
+        ensures value { result.now ≡ self.now.remarks }
+        ensures lie { All (StandsIn self.now.text) self.now.remarks }
+    {
+        self.list.as_slice()
+    }
+
+    /// What is told of them: for each one that has a place a line with that place and what there is to
+    /// say, the text's line, and a mark under it; for another a line with what there is to say. No line
+    /// has a character that controls but for tabs of the text. The error is want of memory.
+    pub fn told(&self, alloc: Global) -> Result<String, AllocError> {
+        let mut told = String::new(alloc);
+        for remark in self.list() {
+            match remark.spot {
+                Some(spot) => write_marked(&mut told, self.text, spot, remark)?,
+                None => writeln!(told, "{}", remark.words.as_str())?,
+            }
+        }
+        Ok(told)
+    }
+}
+
+/// Adds the line that says where a remark stands.
+fn write_heading(told: &mut String, spot: Spot, words: &str) -> Result<(), AllocError>
+    ensures { OnOk result (string_bytes told.new ≡ string_bytes told.old ++ heading spot words.now) }
+{
+    let (line, column) = (spot.line, spot.column);
+    writeln!(told, "line {line}, column {column}: {words}")
+}
+
+/// A line of a text, counted from 1, without its end.
+fn line_of(text: &str, line: usize) -> &str {
+    let place = line.saturating_sub(1);
+    match text.split('\n').nth(place) {
+        Some(found) => found.trim_end_matches('\r'),
+        None => "",
+    }
+}
+
+/// The first character of a line that is shown, so that the one in a column is among them.
+fn first_shown(column: usize) -> usize {
+    if column <= SHOWN * 3 / 4 {
+        1
+    } else {
+        column.saturating_sub(SHOWN / 2)
+    }
+}
+
+/// Adds characters of a line from one on.
+fn write_shown(told: &mut String, line: &str, first: usize) -> Result<(), AllocError> {
+    if first > 1 {
+        told.push_str("..")?;
+    }
+    let skipped = first.saturating_sub(1);
+    for (place, character) in line.chars().skip(skipped).enumerate() {
+        if place == SHOWN {
+            told.push_str("..")?;
+            return Ok(());
+        }
+        told.push(if character == '\t' {
+            '\t'
+        } else {
+            printed(character)
+        })?;
+    }
+    Ok(())
+}
+
+/// Adds what leads under a column: blanks, and a tab for each tab.
+fn write_indent(
+    told: &mut String,
+    line: &str,
+    first: usize,
+    column: usize,
+) -> Result<(), AllocError> {
+    if first > 1 {
+        told.push_str("  ")?;
+    }
+    let skipped = first.saturating_sub(1);
+    let count = column.saturating_sub(first);
+    for character in line.chars().skip(skipped).take(count) {
+        told.push(if character == '\t' { '\t' } else { ' ' })?;
+    }
+    Ok(())
+}
+
+/// Adds a mark of so many characters, as far as the line is shown.
+fn write_mark(
+    told: &mut String,
+    line: &str,
+    spot: Spot,
+    first: usize,
+    width: usize,
+) -> Result<(), AllocError> {
+    let length = line.chars().count();
+    let behind = length.saturating_add(1).saturating_sub(spot.column);
+    let shown = first.saturating_add(SHOWN).saturating_sub(spot.column);
+    for _ in 0..width.min(behind).min(shown).max(1) {
+        told.push('^')?;
+    }
+    Ok(())
+}
+
+/// Adds a remark that has a place.
+fn write_marked(
+    told: &mut String,
+    text: &str,
+    spot: Spot,
+    remark: &Remark,
+) -> Result<(), AllocError> {
+    write_heading(told, spot, remark.words.as_str())?;
+    let (line, number) = (line_of(text, spot.line), spot.line);
+    let first = first_shown(spot.column);
+    write!(told, "{number:>6} | ")?;
+    write_shown(told, line, first)?;
+    told.push_str("\n       | ")?;
+    write_indent(told, line, first, spot.column)?;
+    write_mark(told, line, spot, first, remark.width)?;
+    told.push_str("\n")
+}

@@ -1,0 +1,147 @@
+//! What is being told of a text: remarks at the ends of ways through it.
+ghost use Rattle.std.specs.Prelude.{◌≡◌, IfOk};
+
+use crate::outline::{Outline, Step};
+use crate::remark::Remarks;
+use crate::spot::{Span, spot_of};
+use std::alloc::{AllocError, Global};
+
+/// Which bytes at the end of a way are marked.
+#[derive(Clone, Copy, PartialEq, Eq)]
+pub enum Part {
+    /// The key.
+    Key,
+    /// The value.
+    Value,
+}
+
+/// Something that was said, of some bytes or of none.
+#[derive(Drop)]
+struct Saying {
+    span: Option<Span>,
+    words: String,
+}
+
+/// A text with its outline, and what was said of it so far.
+#[derive(Drop)]
+pub struct Telling<'a> {
+    /// Where memory comes from.
+    pub alloc: Global,
+    text: &'a str,
+    outline: Outline<'a>,
+    sayings: Vec<Saying>,
+    /// Where the element begins that was said last.
+    element: Option<usize>,
+}
+
+/// Remarks on a text of what was said.
+fn remarks_of<'t>(
+    alloc: Global,
+    text: &'t str,
+    sayings: Vec<Saying>,
+) -> Result<Remarks<'t>, AllocError>
+    ensures { IfOk result (λ remarks. remarks.text ≡ text.now) }
+{
+    let mut remarks = Remarks::new(alloc, text);
+    for saying in sayings {
+        let Saying { span, words } = saying;
+        match span {
+            Some(span) => remarks.at(span, words)?,
+            None => remarks.note(words)?,
+        }
+    }
+    Ok(remarks)
+}
+
+impl<'a> Telling<'a> {
+    /// Nothing is said yet.
+    pub fn new(alloc: Global, text: &'a str) -> Result<Telling<'a>, AllocError> {
+        Ok(Telling {
+            alloc,
+            text,
+            outline: Outline::new(alloc, text)?,
+            sayings: Vec::new(alloc),
+            element: None,
+        })
+    }
+
+    /// What was said, as remarks on the text that it was said of.
+    pub fn into_remarks<'t>(self, text: &'t str) -> Result<Remarks<'t>, AllocError>
+        ensures { IfOk result (λ remarks. remarks.text ≡ text.now) }
+    {
+        let Telling {
+            alloc,
+            text: _,
+            outline: _,
+            sayings,
+            element: _,
+        } = self;
+        remarks_of(alloc, text, sayings)
+    }
+
+    fn say(&mut self, span: Option<Span>, words: String) -> Result<(), AllocError> {
+        self.sayings.push(Saying { span, words })?;
+        Ok(())
+    }
+
+    /// Says something that has no place.
+    pub fn note(&mut self, words: String) -> Result<(), AllocError> {
+        self.say(None, words)
+    }
+
+    /// Says what to do.
+    pub fn advise(&mut self, what: &str) -> Result<(), AllocError> {
+        let alloc = self.alloc;
+        self.note(format!(in alloc; "To do: {what}.")?)
+    }
+
+    /// Says which element a way goes through, where that stands in another line than its end.
+    fn say_element(&mut self, way: &[Step<'_>], start: usize) -> Result<(), AllocError> {
+        let [Step::Key(section), Step::Item(element), _, ..] = way else {
+            return Ok(());
+        };
+        let (section, element) = (*section, *element);
+        let found = self
+            .outline
+            .find(&[Step::Key(section), Step::Item(element)]);
+        let here = spot_of(self.text, found.key.start);
+        let is_elsewhere = here.line != spot_of(self.text, start).line;
+        if found.steps == 2 && is_elsewhere && self.element != Some(found.key.start) {
+            self.element = Some(found.key.start);
+            let alloc = self.alloc;
+            let words = format!(in alloc; "{section} {element} begins here")?;
+            self.at_span(found.key, words)?;
+        }
+        Ok(())
+    }
+
+    /// Says something of what stands at the end of a way, in whose element it is, and marks it. Where
+    /// a part of the way isn't found, the last that is found is marked, and where none is, that is said.
+    pub fn at(&mut self, way: &[Step<'_>], part: Part, words: String) -> Result<(), AllocError> {
+        let alloc = self.alloc;
+        let found = self.outline.find(way);
+        if found.steps == 0 {
+            let all = words.as_str();
+            let words = format!(in alloc; "{all} (where that stands in the text isn't found)")?;
+            return self.note(words);
+        }
+        let is_whole = found.steps == way.len();
+        let span = if is_whole && part == Part::Value {
+            found.value
+        } else {
+            found.key
+        };
+        self.say_element(way, span.start)?;
+        self.at_span(span, words)
+    }
+
+    /// Says something of some bytes of the text.
+    pub fn at_span(&mut self, span: Span, words: String) -> Result<(), AllocError> {
+        self.say(Some(span), words)
+    }
+
+    /// Whether a way is found in the text as a whole.
+    pub fn has(&self, way: &[Step<'_>]) -> bool {
+        self.outline.find(way).steps == way.len()
+    }
+}

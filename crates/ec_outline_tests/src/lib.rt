@@ -1,0 +1,5 @@
+//! What `ec_outline` finds in texts, by its public calls.
+#![tactic(auto)]
+
+#[cfg(test)]
+mod tests;
