@@ -1,6 +1,6 @@
 //! Words for people: names that someone may have meant, lists and numbers of things.
 use std::alloc::{AllocError, Global};
-use strsim::levenshtein;
+use strsim::osa_distance;
 
 /// Words with more bytes than this are near no name.
 const LONGEST: usize = 64;
@@ -18,7 +18,7 @@ pub fn nearest<'n>(
     let mut least = (word.len() / 3).max(1);
     let mut found = None;
     for name in names {
-        let edits = levenshtein(alloc, word, name)?;
+        let edits = osa_distance(alloc, word, name)?;
         if edits < least || (edits == least && found.is_none()) {
             least = edits;
             found = Some(*name);

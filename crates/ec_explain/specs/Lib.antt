@@ -1,0 +1,2 @@
+-- To be believed by reading: which text is explained.
+pub mod Texts

@@ -1,0 +1,89 @@
+//! A refusal explained.
+ghost use Rattle.std.specs.Prelude.{All, IfOk};
+ghost use Rattle.ec_outline.specs.Remarks.{StandsIn};
+ghost use Rattle.ec_explain.specs.Texts.{IsUnmarked};
+
+use crate::linking::tell_link_fault;
+use crate::reading::tell_fault;
+use crate::script::tell_bad_line;
+use crate::starting::{tell_cycle_error, tell_start_error, tell_wire_fault};
+use ec_cycle::CycleError;
+use ec_link::LinkFault;
+use ec_outline::{Remarks, Telling};
+use ec_start::StartError;
+use ec_table::{Fault, read_table};
+use std::alloc::{AllocError, Global};
+
+/// Why a command was refused, as far as there is something to explain.
+#[derive(Clone, Copy, Debug, PartialEq, Eq)]
+pub enum Cause {
+    /// The text is no link table: 11 to 15.
+    Table(Fault),
+    /// Its table has no plan: 16 to 25 and 44.
+    Link(LinkFault),
+    /// The start-up of its slaves failed: 9, 26 to 32, 36 and 38.
+    Start(StartError),
+    /// A cycle couldn't begin: 33 to 36.
+    Cycle(CycleError),
+    /// The wire was at fault in a cycle: 37.
+    Wire,
+    /// A line of the script behind the table stands for nothing: 39.
+    Script {
+        /// The byte of the text at which the script begins.
+        from: usize,
+        /// The line, counted from 1 there.
+        line: usize,
+    },
+}
+
+/// A text without the mark that some editors write before it.
+fn without_mark(text: &str) -> &str
+    ensures { IsUnmarked text.now result.now }
+{
+    match text.strip_prefix('\u{FEFF}') {
+        Some(rest) => rest,
+        None => text,
+    }
+}
+
+/// Tells of the table that a text states.
+fn tell_of_table(telling: &mut Telling<'_>, text: &str, cause: Cause) -> Result<(), AllocError> {
+    let table = match read_table(telling.alloc, text) {
+        Ok(table) => table,
+        Err(error) if error.number() == 1 => return Err(AllocError),
+        Err(_) => return Ok(()),
+    };
+    match cause {
+        Cause::Link(fault) => tell_link_fault(telling, &table, fault),
+        Cause::Start(error) => tell_start_error(telling, &table, error),
+        _ => Ok(()),
+    }
+}
+
+/// What there is to say of a text that was refused for a cause: which lines are at fault, what is wrong
+/// there, and what to do. It is the text of a link table, and for `Script` all of the text, with the
+/// script. Of a text that isn't the one that was refused it says less. The error is want of memory.
+pub fn remarks_on<'a>(alloc: Global, text: &'a str, cause: Cause) -> Result<Remarks<'a>, AllocError>
+    ensures text { IfOk result (λ remarks. IsUnmarked text.now remarks.text) }
+    ensures lie { IfOk result (λ remarks. All (StandsIn remarks.text) remarks.remarks) }
+{
+    let rest = without_mark(text);
+    let mut telling = Telling::new(alloc, rest)?;
+    match cause {
+        Cause::Table(fault) => tell_fault(&mut telling, rest, fault)?,
+        Cause::Link(_) | Cause::Start(_) => tell_of_table(&mut telling, rest, cause)?,
+        Cause::Cycle(error) => tell_cycle_error(&mut telling, error)?,
+        Cause::Wire => tell_wire_fault(&mut telling)?,
+        Cause::Script { from, line } => {
+            let from = from.saturating_sub(text.len().saturating_sub(rest.len()));
+            tell_bad_line(&mut telling, rest, from, line)?;
+        }
+    }
+    telling.into_remarks(rest)
+}
+
+/// The same as a text: it stands behind the line that tells the refusal.
+pub fn explanation(alloc: Global, text: &str, cause: Cause) -> Result<String, AllocError> {
+    let remarks = remarks_on(alloc, text, cause)?;
+    remarks.told(alloc)
+}
