@@ -14,4 +14,5 @@ pub mod Runs
 pub mod Judging
 pub mod ProcessBits
 pub mod Outgoing
+pub mod Owning
 pub mod Variables

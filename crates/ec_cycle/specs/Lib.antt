@@ -14,4 +14,5 @@ pub mod Refusals
 -- Private: these serve private code and its proofs alone.
 pub mod Matching
 pub mod Kept
+pub mod Owned
 pub mod Renewing

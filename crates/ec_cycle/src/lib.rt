@@ -19,6 +19,6 @@ mod report;
 mod run;
 
 pub use crate::error::CycleError;
-pub use crate::master::Master;
+pub use crate::master::{Master, OwnMaster};
 pub use crate::report::Report;
 pub use ec_start::Taken;

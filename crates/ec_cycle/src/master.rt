@@ -33,6 +33,11 @@ use ec_table::Direction;
 use std::alloc::{AllocError, Global};
 use std::marker::Model;
 
+mod owned;
+mod rest;
+
+pub use self::owned::OwnMaster;
+
 /// A master of the cyclic frames of a plan. All memory that it needs is found when it is made.
 #[derive(Drop)]
 pub struct Master<'p> {

@@ -1,0 +1,102 @@
+//! Ethernet frames that carry EtherCAT (IEEE 802.3; ETG.1000.4, "EtherCAT frame structure").
+ghost use Rattle.std.specs.Prelude.{◌≡◌, ◌≤◌, ◌+◌, ◌↔◌, ℕ, List, ◌++◌, length, replicate, IfSome, IfNone, IsTrue};
+ghost use Rattle.ec_card.specs.Ethernet.{HandsOn, framed, source_of};
+ghost use Rattle.ec_card.specs.Headings.{IsHandedOn};
+
+use arrayvec::ArrayVec;
+
+/// How many bytes stand before the payload: two addresses and the type.
+pub(crate) const HEADING_LEN: usize = 14;
+
+/// How many bytes stand behind it at least: an Ethernet frame has 60, without its check sequence.
+const LEAST_PAYLOAD: usize = 46;
+
+/// The destination of a frame that every station takes.
+const TO_ALL: [u8; 6] = [0xFF; 6];
+
+/// The type of EtherCAT, its high byte first.
+const ETHER_TYPE: [u8; 2] = [0x88, 0xA4];
+
+/// Whom a frame comes from: the master, or the segment of its slaves, which set bit 1 of the first
+/// byte of the source.
+#[derive(Clone, Copy, Debug, PartialEq, Eq, Drop)]
+pub enum Sender {
+    Master,
+    Segment,
+}
+
+/// An Ethernet frame with a payload of at most 1472 bytes.
+pub type EthernetFrame = ArrayVec<u8, 1486>;
+
+impl Sender {
+    /// The source of its frames.
+    fn source(self) -> [u8; 6]
+        ensures { result ≡ source_of self }
+    {
+        match self {
+            Sender::Master => [0, 0, 0, 0x45, 0x43, 1],
+            Sender::Segment => [2, 0, 0, 0x45, 0x43, 1],
+        }
+    }
+}
+
+fn append(frame: &mut EthernetFrame, bytes: &[u8])
+    requires { length frame.old.items + length bytes.now ≤ 1486 }
+    ensures { frame.new.items ≡ frame.old.items ++ bytes.now }
+{
+    let _ = frame.try_extend_from_slice(bytes);
+}
+
+fn append_zeros(frame: &mut EthernetFrame, count: usize)
+    requires few { count ≤ 46 }
+    requires room { length frame.old.items + count ≤ 1486 }
+    ensures { frame.new.items ≡ frame.old.items ++ replicate count 0 }
+{
+    append(frame, &[0; LEAST_PAYLOAD][..count]);
+}
+
+/// The frame in which one sends a payload: to all, from the sender, of type 0x88A4, with zeros
+/// behind it up to 60 bytes.
+pub fn framed(sender: Sender, payload: &[u8]) -> EthernetFrame
+    requires { length payload.now ≤ 1472 }
+    ensures { result.items ≡ framed sender payload.now }
+{
+    let mut frame = EthernetFrame::new();
+    append(&mut frame, &TO_ALL);
+    append(&mut frame, &sender.source());
+    append(&mut frame, &ETHER_TYPE);
+    append(&mut frame, payload);
+    append_zeros(&mut frame, LEAST_PAYLOAD.saturating_sub(payload.len()));
+    frame
+}
+
+/// Whether bytes are these.
+fn are(bytes: &[u8], wanted: &[u8]) -> bool
+    ensures { IsTrue result ↔ (bytes.now ≡ wanted.now) }
+{
+    bytes == wanted
+}
+
+/// Whether a frame with this heading is handed on: its type is that of EtherCAT, and its source not
+/// one's own.
+fn is_handed_on(own: Sender, heading: &[u8]) -> bool
+    requires { length heading.now ≡ 14 }
+    ensures { IsTrue result ↔ IsHandedOn own heading.now }
+{
+    are(&heading[12..], &ETHER_TYPE) && !are(&heading[6..12], &own.source())
+}
+
+/// What is handed on of a frame that came: all that stands behind its type. Of another type, of
+/// fewer than 14 bytes, and of one's own, it is nothing.
+#[tactic(auto, using(crate::proofs::Through::handed_on, crate::proofs::Through::not_handed_on))]
+pub fn payload_of<'a>(own: Sender, frame: &'a [u8]) -> Option<&'a [u8]>
+    ensures some { IfSome result (λ payload. HandsOn own frame.entry.now payload.now) }
+    ensures none { IfNone result ((payload : List ℕ) → HandsOn own frame.entry.now payload → ⊥) }
+{
+    let (heading, payload) = frame.split_at_checked(HEADING_LEN)?;
+    if is_handed_on(own, heading) {
+        Some(payload)
+    } else {
+        None
+    }
+}

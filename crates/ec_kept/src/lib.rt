@@ -1,0 +1,38 @@
+//! A box as the pointer to what is in it.
+#![tactic(auto)]
+
+ghost use Rattle.std.specs.Prelude.{◌≡◌};
+ghost use Rattle.ec_kept.specs.Keeping.{keeps};
+
+use std::alloc::Global;
+use std::marker::Model;
+
+/// What a box owned, as the pointer to it.
+pub struct Kept<T> {
+    pub at: *mut T,
+    pub ghost value: { T },
+}
+
+impl<T> Model for Kept<T> {
+    ghost also_owns = { λ k. keeps T.row k.at k.value };
+}
+
+impl<T> Kept<T> {
+    /// Takes a box apart.
+    pub fn of(boxed: Box<T>) -> Kept<T>
+    where
+        T: Drop,
+        ensures { result.value ≡ boxed.value }
+    {
+        let at = Box::into_raw(boxed);
+        Kept { at }
+    }
+
+    /// Makes the box again.
+    pub fn into_box(self, alloc: Global) -> Box<T>
+        ensures { result.value ≡ self.value }
+    {
+        let Kept { at } = self;
+        unsafe { Box::from_raw(alloc, at) }
+    }
+}
