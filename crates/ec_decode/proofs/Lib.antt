@@ -1,0 +1,4 @@
+pub mod Lines
+pub mod Payloads
+pub mod Places
+pub mod Walking

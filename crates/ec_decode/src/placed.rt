@@ -1,0 +1,172 @@
+//! Where a payload stops being a frame.
+ghost use Rattle.std.specs.Prelude.{◌≡◌, ◌++◌, IfErr, IfNone, IfOk, IfSome, List, OnOk, length, string_bytes};
+ghost use Rattle.ec_frame.specs.Datagram.{Datagram};
+ghost use Rattle.ec_frame.specs.Frame.{IsFrame, Payload, area};
+ghost use Rattle.ec_frame.specs.Refusals.{IsRefused};
+ghost use Rattle.ec_decode.specs.Faults.{IsRefusedAt, error_name, refused_line, refused_text};
+ghost use Rattle.ec_decode.specs.Standing.{IsNotOpened, IsOpened};
+ghost use Rattle.ec_decode.specs.Stopping.{Stops};
+
+use crate::datagram::{flags_at, length_at, write_datagrams};
+use byteorder::{ByteOrder, LittleEndian};
+use ec_frame::field::{FRAME_HEADER_LEN, OVERHEAD};
+use ec_frame::{Command, FrameError, check};
+use std::alloc::{AllocError, Global};
+use std::fmt::Write as _;
+
+/// In the frame's header: how many bits of length there are.
+const LENGTH_BITS: u32 = 11;
+/// In a datagram's flags: another follows.
+const MORE: u16 = 0x8000;
+
+/// Why a payload is no frame, and where.
+#[derive(Clone, Copy, Debug, PartialEq, Eq, Drop)]
+pub struct Refused {
+    /// The first fault, as `ec_frame::check` gives it.
+    pub error: FrameError,
+    /// How many datagrams stand whole before it.
+    pub whole: usize,
+    /// The byte where what is wrong begins: of `Short` the payload's length; 0 where it is the
+    /// header; else where the next datagram begins.
+    pub at: usize,
+}
+
+/// The datagrams that stand at the front of an area.
+#[derive(Clone, Copy)]
+struct Front {
+    /// How many they are.
+    whole: usize,
+    /// How many bytes they have.
+    len: usize,
+}
+
+/// The length of the datagram at the front of some bytes, if it stands there whole and says rightly
+/// that another follows. What is cut goes on behind these bytes, so there it may end them.
+fn opened_length(bytes: &[u8], is_cut: bool) -> Option<usize>
+    ensures found { IfSome result (IsOpened is_cut bytes.now) }
+    ensures none { IfNone result (IsNotOpened is_cut bytes.now) }
+{
+    if bytes.len() < OVERHEAD {
+        return None;
+    }
+    let len = length_at(bytes);
+    let most = if is_cut { bytes.len() } else { bytes.len() - 1 };
+    if most < len || flags_at(bytes) < MORE {
+        return None;
+    }
+    let _command = Command::from_number(bytes[0])?;
+    Some(len)
+}
+
+/// The datagrams at the front of an area that say rightly that another follows.
+fn front_of(area: &[u8], is_cut: bool) -> Front
+    ensures { Stops is_cut area.now result }
+{
+    let mut rest = area;
+    let mut whole = 0;
+    while let Some(len) = opened_length(rest, is_cut) {
+        let (_, after) = rest.split_at(len);
+        rest = after;
+        whole += 1;
+    }
+    Front {
+        whole,
+        len: area.len() - rest.len(),
+    }
+}
+
+/// The bytes of datagrams that are there, as many as the header says at most.
+fn area_of(payload: &[u8]) -> &[u8]
+    ensures { result.now ≡ area payload.now }
+{
+    if payload.len() < FRAME_HEADER_LEN {
+        return &[];
+    }
+    let header = LittleEndian::read_u16(payload);
+    let (_, rest) = payload.split_at(FRAME_HEADER_LEN);
+    let len = usize::from(header % (1 << LENGTH_BITS)).min(rest.len());
+    let (area, _) = rest.split_at(len);
+    area
+}
+
+/// Finds the place of a fault.
+fn place(payload: &[u8], error: FrameError) -> Refused
+    requires { IsRefused payload.now error }
+    ensures { (ds : List Datagram) × IsRefusedAt payload.now result ds × (result.error ≡ error) }
+{
+    let area = area_of(payload);
+    let header = Refused {
+        error,
+        whole: 0,
+        at: 0,
+    };
+    match error {
+        FrameError::Short => Refused {
+            error,
+            whole: front_of(area, true).whole,
+            at: payload.len(),
+        },
+        FrameError::BadType | FrameError::TooLong => header,
+        _ if area.is_empty() => header,
+        _ => {
+            let Front { whole, len } = front_of(area, false);
+            Refused {
+                error,
+                whole,
+                at: FRAME_HEADER_LEN + len,
+            }
+        }
+    }
+}
+
+/// Tells whether a payload is a frame, and of how many datagrams, as `ec_frame::check` does; and of
+/// one that isn't, where its first fault is.
+pub fn check_placed(payload: &[u8]) -> Result<usize, Refused>
+    ensures accepted { IfOk result (λ count.
+        (p : Payload) × IsFrame payload.now p × (count ≡ length p.datagrams)) }
+    ensures refused { IfErr result (λ refused.
+        (ds : List Datagram) × IsRefusedAt payload.now refused ds) }
+{
+    check(payload).map_err(|error| place(payload, error))
+}
+
+/// The name of a refusal, one word.
+pub fn error_name(error: FrameError) -> &'static str
+    ensures { result.now ≡ error_name error }
+{
+    match error {
+        FrameError::Short => "Short",
+        FrameError::BadType => "BadType",
+        FrameError::BadLength => "BadLength",
+        FrameError::BadMore => "BadMore",
+        FrameError::BadCommand => "BadCommand",
+        FrameError::TooLong => "TooLong",
+    }
+}
+
+/// Adds the line of a refusal.
+#[tactic(auto, unfolding(crate::specs::Faults::refused_line))]
+fn write_line(text: &mut String, refused: Refused) -> Result<(), AllocError>
+    ensures { OnOk result
+        (string_bytes text.new ≡ string_bytes text.old ++ refused_line refused) }
+{
+    let Refused { error, whole, at } = refused;
+    let (number, name) = (error.number(), error_name(error));
+    writeln!(text, "refused {number} {name} datagram {whole} byte {at}")
+}
+
+/// Adds the text of a payload that is no frame: the lines of the datagrams that stand whole before
+/// its fault, and that of its refusal. The error is want of memory.
+pub fn write_refused(
+    alloc: Global,
+    text: &mut String,
+    payload: &[u8],
+    refused: Refused,
+) -> Result<(), AllocError>
+    requires { (ds : List Datagram) × IsRefusedAt payload.now refused ds }
+    ensures { OnOk result ((ds : List Datagram) → IsRefusedAt payload.now refused ds
+        → string_bytes text.new ≡ string_bytes text.old ++ refused_text refused ds) }
+{
+    write_datagrams(alloc, text, refused.whole, area_of(payload))?;
+    write_line(text, refused)
+}
