@@ -41,7 +41,7 @@ fn name_of(command: Command) -> &'static str
 }
 
 /// Whether a command goes by a logical address.
-fn is_logical(command: Command) -> bool
+pub(crate) fn is_logical(command: Command) -> bool
     ensures { result ≡ is_logical command }
 {
     matches!(&command, Command::Lrd | Command::Lwr | Command::Lrw)
