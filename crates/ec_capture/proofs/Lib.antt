@@ -1,0 +1,4 @@
+pub mod Growing
+pub mod Spelled
+pub mod ReadBack
+pub mod Growth

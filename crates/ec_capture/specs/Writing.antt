@@ -1,0 +1,13 @@
+-- What a write of bytes leaves in a file, where its bytes are known.
+use Rattle.std.specs.Prelude.{ℕ, List, take, Option, Result, OnOk, OnErr}
+use Rattle.std.specs.Io.KnownBytes.{Appends}
+use Rattle.ec_capture.specs.declared.writing.WriteFault.{WriteFault}
+
+-- known bytes stay, and some first part of these stands behind them
+abbrev pub AppendsPart : Option (List ℕ) → Option (List ℕ) → List ℕ → Type 0
+AppendsPart old new bytes = (count : ℕ) × Appends old new (take count bytes)
+
+-- all of the bytes were written; or a write was refused, and some first part of them was
+pub record Writes (bytes : List ℕ) (old new : Option (List ℕ)) (ended : Result Unit WriteFault) : Type 0 where
+  pub all : OnOk ended (Appends old new bytes)
+  pub part : OnErr ended (AppendsPart old new bytes)
