@@ -2,3 +2,4 @@ pub mod Growing
 pub mod Spelled
 pub mod ReadBack
 pub mod Growth
+pub mod Named

@@ -5,8 +5,10 @@
 mod blocks;
 pub mod laws;
 mod packet;
+mod recorder;
 mod writing;
 
 pub use crate::blocks::{write_interface, write_packet, write_section};
 pub use crate::packet::{MAX_PAYLOAD, MAX_TEXT, Packet};
+pub use crate::recorder::Recorder;
 pub use crate::writing::WriteFault;
