@@ -47,6 +47,10 @@ pub part_then : (a b : List ℕ) (old mid new : Option (List ℕ)) → Appends o
 part_then a b old mid new first then =
     (length a + then.0, subst (λ (xs : List ℕ). Appends old new xs) (sym (take-append-add a b then.0)) (appends_more old mid new a (take then.0 b) first then.1))
 
+-- nothing is a first part
+pub no_part : (known : Option (List ℕ)) (bytes : List ℕ) → AppendsPart known known bytes
+no_part known bytes = (0, appends_nothing known)
+
 -- a write is refused, and that ends it
 pub refused : (bytes : List ℕ) (old new : Option (List ℕ)) (r : Result Unit WriteFault) → IsErr r → AppendsPart old new bytes → Writes bytes old new r
 refused bytes old new (Ok done) failed part = cc

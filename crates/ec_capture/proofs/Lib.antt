@@ -3,3 +3,4 @@ pub mod Spelled
 pub mod ReadBack
 pub mod Growth
 pub mod Named
+pub mod Noting

@@ -175,10 +175,8 @@ pub fn write_packet<W: Write>(packet: &Packet<'_>, file: &mut W) -> Result<(), W
     let size = 32 + (count + padding(count)) as u32 + comment_size(packet.comment);
     let (high, low) = ((packet.time / HIGH) as u32, (packet.time % HIGH) as u32);
     let kept = count as u32;
-    write_numbers(
-        &[PACKET, size, packet.interface, high, low, kept, kept],
-        file,
-    )?;
+    let interface = packet.interface as u32;
+    write_numbers(&[PACKET, size, interface, high, low, kept, kept], file)?;
     write_frame(packet.passed, packet.payload, file)?;
     write_comment(packet.comment, file)?;
     write_numbers(&[size], file)

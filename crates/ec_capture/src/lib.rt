@@ -9,6 +9,6 @@ mod recorder;
 mod writing;
 
 pub use crate::blocks::{write_interface, write_packet, write_section};
-pub use crate::packet::{MAX_PAYLOAD, MAX_TEXT, Packet};
+pub use crate::packet::{MAX_INTERFACES, MAX_PAYLOAD, MAX_TEXT, Packet};
 pub use crate::recorder::Recorder;
 pub use crate::writing::WriteFault;

@@ -1,13 +1,13 @@
 //! A capture that is being written.
-ghost use Rattle.std.specs.Prelude.{◌≡◌, ◌<◌, ◌≤◌, ◌∷◌, [], All, IfOk, IsOk, false, length, map, true};
+ghost use Rattle.std.specs.Prelude.{◌≡◌, ◌<◌, ◌≤◌, ◌∷◌, [], All, IfOk, IsOk, false, length, map, option_map, true};
 ghost use Rattle.std.specs.Io.KnownBytes.{Appends, Keeps};
-ghost use Rattle.ec_capture.specs.Captures.{IsSeen, IsText, file_of, interface_block, seen_as};
-ghost use Rattle.ec_capture.specs.Blocks.{blocks_bytes};
+ghost use Rattle.ec_capture.specs.Captures.{IsComment, IsText, file_of, interface_block, packet_block, seen_as};
+ghost use Rattle.ec_capture.specs.Blocks.{block_bytes, blocks_bytes};
 ghost use Rattle.ec_capture.specs.Recordings.{Notes, Recording};
-ghost use Rattle.ec_capture.specs.Writing.{Writes};
+ghost use Rattle.ec_capture.specs.Writing.{AppendsPart, Writes};
 
 use crate::blocks::{write_interface, write_packet, write_section};
-use crate::packet::Packet;
+use crate::packet::{MAX_INTERFACES, MAX_PAYLOAD, Packet};
 use crate::writing::WriteFault;
 use std::convert::AsStr;
 use std::io::Write;
@@ -18,7 +18,7 @@ use std::marker::Model;
 #[derive(Drop)]
 pub struct Recorder<W: Write + Drop> {
     file: W,
-    interfaces: u32,
+    interfaces: usize,
     is_whole: bool,
 }
 
@@ -41,6 +41,23 @@ fn write_interfaces<W: Write, S: AsStr>(names: &[S], file: &mut W) -> Result<(),
     Ok(())
 }
 
+/// Writes a packet, if it is at one of so many interfaces and has no more payload than an Ethernet frame. Whether it is
+/// written.
+#[tactic(auto, using(crate::proofs::Growing::no_part))]
+fn write_fitting<W: Write>(packet: &Packet<'_>, interfaces: usize, file: &mut W) -> bool
+    requires { IsComment (option_map (λ t. t.now) packet.now.comment) }
+    ensures all { result ≡ true
+        → Appends (W.contents file.old) (W.contents file.new) (block_bytes (packet_block (seen_as packet.now))) }
+    ensures part { result ≡ false
+        → AppendsPart (W.contents file.old) (W.contents file.new) (block_bytes (packet_block (seen_as packet.now))) }
+{
+    let _time = packet.time;
+    if packet.interface >= interfaces.min(MAX_INTERFACES) || packet.payload.len() > MAX_PAYLOAD {
+        return false;
+    }
+    write_packet(packet, file).is_ok()
+}
+
 impl<W: Write + Drop> Recorder<W> {
     /// Begins a capture in a file, with interfaces of these names, the first of which has number 0.
     ///
@@ -48,8 +65,7 @@ impl<W: Write + Drop> Recorder<W> {
     ///
     /// `WriteFault` where a write was refused.
     pub fn open<S: AsStr>(file: W, names: &[S]) -> Result<Recorder<W>, WriteFault>
-        requires texts { All IsText (map S.text names.now) }
-        requires few { length names.now < 4294967296 }
+        requires { All IsText (map S.text names.now) }
         ensures { IfOk result (λ r. (r.is_whole ≡ true) × (r.interfaces ≡ length names.now)
             × Appends (W.contents file) r.file (file_of (record { names = map S.text names.now; seen = [] }))) }
     {
@@ -58,7 +74,7 @@ impl<W: Write + Drop> Recorder<W> {
         write_interfaces(names, &mut file)?;
         Ok(Recorder {
             file,
-            interfaces: names.len() as u32,
+            interfaces: names.len(),
             is_whole: true,
         })
     }
@@ -70,20 +86,20 @@ impl<W: Write + Drop> Recorder<W> {
         self.is_whole
     }
 
-    /// Cuts it short: from here on nothing is noted.
-    pub fn cut(&mut self)
-        ensures { self.new ≡ record self.old { is_whole = false } }
+    /// Its file.
+    pub fn file(&self) -> &W
+        ensures { W.contents result.now ≡ self.now.file }
     {
-        self.is_whole = false;
+        &self.file
     }
 
-    /// Notes a packet, which stands in the file then, unless a write was refused now or before.
+    /// Notes a packet, which stands in the file then, unless a write was refused now or before. One at an interface that isn't
+    /// there, or with more payload than an Ethernet frame has room for, cuts the capture short as a refused write does.
     pub fn note(&mut self, packet: &Packet<'_>)
-        requires fits { IsSeen (seen_as packet.now) }
-        requires there { packet.now.interface < self.old.interfaces }
+        requires { IsComment (option_map (λ t. t.now) packet.now.comment) }
         ensures { Notes (seen_as packet.now ∷ []) self.old self.new }
     {
-        if self.is_whole && write_packet(packet, &mut self.file).is_err() {
+        if self.is_whole && !write_fitting(packet, self.interfaces, &mut self.file) {
             self.is_whole = false;
         }
     }
