@@ -89,3 +89,32 @@ told_by r old new text shows = record { ended = r; shows = shows }
 pub if_err : {T E P : Type 0} (r : Result T E) → P → OnErr r P
 if_err (Ok x) p = tt
 if_err (Err e) p = p
+
+-- a text with more behind it: where a first part of it is told, that is a first part of both
+part_of_both : (count : ℕ) (text more : List ℕ) → (k : ℕ) × (take k (text ++ more) ≡ take count text)
+part_of_both zero text more = (0, refl)
+part_of_both (suc n) [] more = (0, refl)
+part_of_both (suc n) (x ∷ xs) more =
+    let rest = part_of_both n xs more in
+    (suc rest.0, ap (λ l. x ∷ l) rest.1)
+
+pub told_first : (old new : Option (List ℕ)) (text more : List ℕ) (refusal : Refusal) → Shows text old new (Err refusal) → IsTold (text ++ more) old new
+told_first old new text more refusal shows =
+    let part = part_of_both shows.1.0 text more in
+    record { ended = Err refusal; shows = (shows.0, (part.0, subst (Appends old new) (sym part.1) shows.1.1)) }
+
+-- and where all of it is told, so is a first part of what is behind it
+part_behind : (text more : List ℕ) (n : ℕ) → text ++ take n more ≡ take (length text + n) (text ++ more)
+part_behind [] more n = ap (λ k. take k more) (sym (zero-add n))
+part_behind (x ∷ xs) more n =
+    let e : suc (length xs) + n ≡ suc (length xs + n) = omega arith in
+    rw e (ap (λ l. x ∷ l) (part_behind xs more n))
+
+more_shown : (r : Result Unit Refusal) (old mid new : Option (List ℕ)) (text more : List ℕ) → Appends old mid text → Shows more mid new r → Shows (text ++ more) old new r
+more_shown (Ok done) old mid new text more first then = appends_more old mid new text more first then
+more_shown (Err refusal) old mid new text more first then =
+    let both : Appends old new (text ++ take then.1.0 more) = appends_more old mid new text (take then.1.0 more) first then.1.1 in
+    (then.0, (length text + then.1.0, subst (Appends old new) (part_behind text more then.1.0) both))
+
+pub told_both : (old mid new : Option (List ℕ)) (text more : List ℕ) → Appends old mid text → IsTold more mid new → IsTold (text ++ more) old new
+told_both old mid new text more first then = record { ended = then.ended; shows = more_shown then.ended old mid new text more first then.shows }

@@ -6,7 +6,7 @@ use Rattle.std.specs.Prelude.{Contains, if◌then◌else◌}
 use Rattle.ec_app.specs.declared.refusal.Refusal.{Refusal}
 use Rattle.ec_app.specs.Refusals.{number_of, status_of}
 use Rattle.ec_app.specs.declared.refusal.Refusal.TheVariants.{Memory}
-use Rattle.ec_app.specs.Running.{Ends, EndsAlone, EndsGiven, EndsUnread, Stream, Tells, given_words}
+use Rattle.ec_app.specs.Running.{Ends, EndsAlone, EndsGiven, EndsUnread, Stream, Tells, TellsWith, given_words}
 use Rattle.ec_args.specs.CommandLine.{Reads}
 use Rattle.ec_args.specs.declared.request.Notice.{Notice}
 use Rattle.ec_args.specs.declared.request.Request.{Request}
@@ -24,13 +24,17 @@ pub tells_known : (faults : Stream) (status : ℕ) (ended : Result Unit Refusal)
 tells_known faults status (Ok done) told = subst (Contains {X = ℕ} (0 ∷ 2 ∷ 3 ∷ 4 ∷ [])) (sym told.0) (0, omega arith, refl)
 tells_known faults status (Err refusal) told = subst (Contains {X = ℕ} (0 ∷ 2 ∷ 3 ∷ 4 ∷ [])) (sym told.0) (status_known refusal)
 
+pub tells_with_known : (more : List ℕ) (faults : Stream) (status : ℕ) (ended : Result Unit Refusal) → TellsWith more faults status ended → Contains {X = ℕ} (0 ∷ 2 ∷ 3 ∷ 4 ∷ []) status
+tells_with_known more faults status (Ok done) told = subst (Contains {X = ℕ} (0 ∷ 2 ∷ 3 ∷ 4 ∷ [])) (sym told.0) (0, omega arith, refl)
+tells_with_known more faults status (Err refusal) told = subst (Contains {X = ℕ} (0 ∷ 2 ∷ 3 ∷ 4 ∷ [])) (sym told.0) (status_known refusal)
+
 -- what leaves the input and the application alone leaves the input alone
 ends_unread : {R A : Type 0} (read : Result Request Notice) (old new : R) (app_old app_new : A) → EndsAlone read old new app_old app_new → EndsUnread read old new
 ends_unread (Ok (Pass n f)) old new app_old app_new alone = alone.0
 ends_unread (Ok (Plan e)) old new app_old app_new alone = tt
-ends_unread (Ok Sim) old new app_old app_new alone = tt
-ends_unread (Ok (Loop n)) old new app_old app_new alone = tt
-ends_unread (Ok (Segment n p i)) old new app_old app_new alone = tt
+ends_unread (Ok (Sim e)) old new app_old app_new alone = tt
+ends_unread (Ok (Loop n e)) old new app_old app_new alone = tt
+ends_unread (Ok (Segment n p i e)) old new app_old app_new alone = tt
 ends_unread (Err told) old new app_old app_new alone = alone.0
 
 -- a run on the arguments that were given, as texts

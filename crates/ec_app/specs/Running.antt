@@ -14,6 +14,7 @@ use Rattle.ec_args.specs.declared.request.Notice.TheVariants as notice
 use Rattle.ec_args.specs.declared.request.Request.{Request}
 use Rattle.ec_app.specs.declared.refusal.Refusal.{Refusal}
 use Rattle.ec_app.specs.declared.refusal.Refusal.TheVariants.{Memory}
+use Rattle.ec_app.specs.Explaining.{MayTell, is_explained}
 use Rattle.ec_app.specs.Looping.{RunsLoop}
 use Rattle.ec_app.specs.Passing.{RunsPass}
 use Rattle.ec_app.specs.Planning.{RunsPlan}
@@ -35,29 +36,34 @@ IsQuiet told = told.new ≡ told.old
 abbrev pub Runs : Command → (given : Option (List ℕ)) → (output told : Stream) → Result Unit Refusal → Type 0
 Runs (PassOf slaves text) given output told ended = RunsPass slaves text output.old output.new ended × IsQuiet told
 Runs (PlanOf explained) given output told ended = RunsPlan explained given output.old output.new ended × IsQuiet told
-Runs SimOf given output told ended = RunsSim given output.old output.new ended × IsQuiet told
-Runs (LoopOf cycles) given output told ended = RunsLoop cycles given output.old output.new told.old told.new ended
-Runs (SegmentOf frames port idle) given output told ended = RunsSegment frames port given output.old output.new told.old told.new ended
+Runs (SimOf explained) given output told ended = RunsSim given output.old output.new ended × IsQuiet told
+Runs (LoopOf cycles explained) given output told ended = RunsLoop cycles given output.old output.new told.old told.new ended
+Runs (SegmentOf frames port idle explained) given output told ended = RunsSegment frames port given output.old output.new told.old told.new ended
 
 -- what a command leaves alone: one that reads no input leaves it as it is, and one with no simulated application steps
 -- none
 abbrev pub LeavesAlone : {R A : Type 0} → Command → (input_old input_new : R) → (app_old app_new : A) → Type 0
 LeavesAlone (PassOf slaves text) input_old input_new app_old app_new = (input_new ≡ input_old) × (app_new ≡ app_old)
 LeavesAlone (PlanOf explained) input_old input_new app_old app_new = app_new ≡ app_old
-LeavesAlone SimOf input_old input_new app_old app_new = app_new ≡ app_old
-LeavesAlone (LoopOf cycles) input_old input_new app_old app_new = Unit {0}
-LeavesAlone (SegmentOf frames port idle) input_old input_new app_old app_new = Unit {0}
+LeavesAlone (SimOf explained) input_old input_new app_old app_new = app_new ≡ app_old
+LeavesAlone (LoopOf cycles explained) input_old input_new app_old app_new = Unit {0}
+LeavesAlone (SegmentOf frames port idle explained) input_old input_new app_old app_new = Unit {0}
 
 -- the exit status of a run, and what is told of it: a refusal's line
 abbrev pub Tells : Stream → ℕ → Result Unit Refusal → Type 0
 Tells faults status (Ok done) = (status ≡ 0) × (faults.new ≡ faults.old)
 Tells faults status (Err refusal) = (status ≡ status_of refusal) × IsTold (line_of refusal) faults.old faults.new
 
+-- the same of a run that may explain a refusal: what is told begins with its line, and behind that there is more
+abbrev pub TellsWith : List ℕ → Stream → ℕ → Result Unit Refusal → Type 0
+TellsWith more faults status (Ok done) = (status ≡ 0) × (faults.new ≡ faults.old)
+TellsWith more faults status (Err refusal) = (status ≡ status_of refusal) × IsTold (line_of refusal ++ more) faults.old faults.new
+
 -- how a run ends that was asked for a command, or that has to tell something in place of one
 abbrev pub Ends : Result Request Notice → (given : Option (List ℕ)) → (output faults : Stream) → ℕ → Type 0
 Ends (Ok request) given output faults status =
-    (ended : Result Unit Refusal) × (noted : Option (List ℕ)) × Runs (command_of request) given output (record { old = faults.old; new = noted }) ended
-    × Tells (record { old = noted; new = faults.new }) status ended
+    (ended : Result Unit Refusal) × (noted : Option (List ℕ)) × (more : List ℕ) × Runs (command_of request) given output (record { old = faults.old; new = noted }) ended
+    × MayTell (is_explained (command_of request)) more × TellsWith more (record { old = noted; new = faults.new }) status ended
 Ends (Err notice.Memory) given output faults status = (output.new ≡ output.old) × Tells faults status (Err Memory)
 Ends (Err (notice.Help text)) given output faults status = (ended : Result Unit Refusal) × Shows (string_bytes text) output.old output.new ended × Tells faults status ended
 Ends (Err (notice.Usage text)) given output faults status = (status ≡ 2) × (output.new ≡ output.old) × IsTold (string_bytes text) faults.old faults.new
@@ -71,9 +77,9 @@ EndsAlone (Err told) input_old input_new app_old app_new = (input_new ≡ input_
 abbrev pub LeavesInput : {R : Type 0} → Command → (old new : R) → Type 0
 LeavesInput (PassOf slaves text) old new = new ≡ old
 LeavesInput (PlanOf explained) old new = Unit {0}
-LeavesInput SimOf old new = Unit {0}
-LeavesInput (LoopOf cycles) old new = Unit {0}
-LeavesInput (SegmentOf frames port idle) old new = Unit {0}
+LeavesInput (SimOf explained) old new = Unit {0}
+LeavesInput (LoopOf cycles explained) old new = Unit {0}
+LeavesInput (SegmentOf frames port idle explained) old new = Unit {0}
 
 -- what a run leaves of it: all, too, where there is something to tell in place of a command
 abbrev pub EndsUnread : {R : Type 0} → Result Request Notice → (old new : R) → Type 0

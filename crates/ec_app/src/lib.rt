@@ -3,6 +3,7 @@
 #![tactic(auto)]
 
 mod digits;
+mod explain;
 mod input;
 mod looping;
 mod machine;
@@ -15,6 +16,7 @@ mod run;
 mod segment;
 mod sim;
 
+pub use crate::explain::Explanation;
 pub use crate::input::read_text;
 pub use crate::looping::{print_loop, run_loop};
 pub use crate::pass::{pass_hex, print_pass};

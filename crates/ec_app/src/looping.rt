@@ -11,12 +11,14 @@ ghost use Rattle.ec_rise.specs.SwitchedOn.{AreSlavesOf};
 ghost use Rattle.ec_wire.specs.Running.{IsRun};
 ghost use Rattle.ec_script.specs.Texts.{report_text};
 ghost use Rattle.ec_text.specs.PlanText.{lines_from};
+ghost use Rattle.ec_app.specs.Explaining.{IsLeft};
 ghost use Rattle.ec_app.specs.Looping.{AreRun, CanCycle, IsCycleRefusal, IsRunEnd, IsStartRefusal, IsUnbound, IsUp, Loops, LoopsText, RunsCycles, RunsLoop, cycles_text, input_line, inputs_text, output_put, ports_line, shown, with_outputs};
 ghost use Rattle.ec_app.specs.Printing.{IsTold};
 ghost use Rattle.ec_app.specs.Stages.{IsCut, LoopsOnSockets, LoopsTable};
 
 use crate::Refusal;
 use crate::digits::push_number;
+use crate::explain::Explanation;
 use crate::input::read_text;
 use crate::printing::{print_text, tell_text};
 use arrayvec::ArrayString;
@@ -372,7 +374,8 @@ fn loop_text<H: AllocGlobal + Net, W: Write, F: Write>(
 /// Runs so many cycles of the table that the input states, master and slaves on two sockets of this process, the slaves'
 /// applications being `app`. It tells the ports of the sockets on `faults`. In the n-th cycle each output variable is sent
 /// as n, as far as it has bits. It prints a line when the slaves are up, the report on each cycle before the next begins,
-/// and at the end the input variables.
+/// and at the end the input variables. A refusal of the table, of its start-up or of a cycle is explained, where that is
+/// wanted.
 pub fn print_loop<H: AllocGlobal + Net, R: Read, W: Write, F: Write>(
     rt: &H,
     cycles: u16,
@@ -380,10 +383,16 @@ pub fn print_loop<H: AllocGlobal + Net, R: Read, W: Write, F: Write>(
     output: &mut W,
     faults: &mut F,
     app: &mut dyn App,
+    behind: &mut Explanation,
 ) -> Result<(), Refusal>
-    ensures { RunsLoop cycles (R.remaining input.old) (W.contents output.old) (W.contents output.new)
+    ensures runs { RunsLoop cycles (R.remaining input.old) (W.contents output.old) (W.contents output.new)
         (F.contents faults.old) (F.contents faults.new) result }
+    ensures explains { IsLeft behind.old behind.new }
 {
     let text = read_text(rt.alloc(), input)?;
-    loop_text(rt, cycles, text.as_str(), output, faults, app)
+    let ended = loop_text(rt, cycles, text.as_str(), output, faults, app);
+    if let Err(refusal) = &ended {
+        behind.explain(rt.alloc(), text.as_str(), refusal);
+    }
+    ended
 }

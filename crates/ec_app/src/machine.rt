@@ -1,10 +1,12 @@
 //! The machine that a link table on the input states.
 ghost use Rattle.std.specs.Prelude.{IfErr, IfOk};
+ghost use Rattle.ec_app.specs.Explaining.{IsLeft};
 ghost use Rattle.ec_app.specs.Planning.{IsTableRefusal, RefusesPlan};
 ghost use Rattle.ec_app.specs.Serving.{GivesSlaves, HasSlaves, StatesSlaves};
 ghost use Rattle.ec_app.specs.Stages.{IsLinkRefusal};
 
 use crate::Refusal;
+use crate::explain::Explanation;
 use crate::input::read_text;
 use ec_link::compile;
 use ec_ring::Ring;
@@ -32,12 +34,22 @@ fn slaves_of_text(alloc: Global, text: &str) -> Result<Ring, Refusal>
     slaves_of_table(alloc, &table)
 }
 
-/// The slaves of the table that the input states, as they are switched on.
+/// The slaves of the table that the input states, as they are switched on. A refusal of the table is
+/// explained, where that is wanted.
 #[tactic(auto, using(crate::proofs::SegmentLemmas::if_gives))]
-pub(crate) fn slaves_of_input<R: Read>(alloc: Global, input: &mut R) -> Result<Ring, Refusal>
+pub(crate) fn slaves_of_input<R: Read>(
+    alloc: Global,
+    input: &mut R,
+    behind: &mut Explanation,
+) -> Result<Ring, Refusal>
     ensures slaves { IfOk result (GivesSlaves (R.remaining input.old)) }
     ensures refused { IfErr result (RefusesPlan (R.remaining input.old)) }
+    ensures explains { IsLeft behind.old behind.new }
 {
     let text = read_text(alloc, input)?;
-    slaves_of_text(alloc, text.as_str())
+    let made = slaves_of_text(alloc, text.as_str());
+    if let Err(refusal) = &made {
+        behind.explain(alloc, text.as_str(), refusal);
+    }
+    made
 }

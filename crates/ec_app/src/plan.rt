@@ -1,12 +1,14 @@
 //! `ecat plan`: a link table on the input, and its plan.
 ghost use Rattle.std.specs.Prelude.{◌≡◌, None, IfErr, IfOk, OnOk};
 ghost use Rattle.std.specs.String.{string_bytes};
+ghost use Rattle.ec_app.specs.Explaining.{IsLeft};
 ghost use Rattle.ec_app.specs.Planning.{IsPlanAnswer, IsShown, IsTableRefusal, RunsPlan};
 ghost use Rattle.ec_app.specs.Stages.{IsLinkRefusal};
 ghost use Rattle.ec_link.specs.Faults.{compile_fault};
 ghost use Rattle.ec_link.specs.Plan.{plan_of};
 
 use crate::Refusal;
+use crate::explain::Explanation;
 use crate::input::read_text;
 use crate::printing::print_text;
 use ec_link::{Plan, compile};
@@ -48,17 +50,25 @@ pub fn show_plan(alloc: Global, explained: bool, text: &str) -> Result<String, R
     show_table(alloc, explained, &table)
 }
 
-/// Prints what `show_plan` answers to all that the input gives.
+/// Prints what `show_plan` answers to all that the input gives; a refusal of it is explained, where
+/// that is wanted.
 pub fn print_plan<R: Read, W: Write>(
     alloc: Global,
     explained: bool,
     input: &mut R,
     output: &mut W,
+    behind: &mut Explanation,
 ) -> Result<(), Refusal>
-    ensures { RunsPlan explained (R.remaining input.old) (W.contents output.old)
+    ensures runs { RunsPlan explained (R.remaining input.old) (W.contents output.old)
         (W.contents output.new) result }
+    ensures explains { IsLeft behind.old behind.new }
 {
     let text = read_text(alloc, input)?;
-    let answer = show_plan(alloc, explained, text.as_str())?;
-    print_text(answer.as_bytes(), output)
+    match show_plan(alloc, explained, text.as_str()) {
+        Ok(answer) => print_text(answer.as_bytes(), output),
+        Err(refusal) => {
+            behind.explain(alloc, text.as_str(), &refusal);
+            Err(refusal)
+        }
+    }
 }

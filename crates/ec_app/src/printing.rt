@@ -1,5 +1,5 @@
 //! Texts on the output and on the fault stream.
-ghost use Rattle.std.specs.Prelude.{◌≡◌, IfErr, OnErr, OnOk};
+ghost use Rattle.std.specs.Prelude.{◌≡◌, ◌++◌, IfErr, OnErr, OnOk};
 ghost use Rattle.std.specs.Io.KnownBytes.{Appends};
 ghost use Rattle.ec_app.specs.Printing.{AppendsPart, IsTold, Shows};
 ghost use Rattle.ec_app.specs.Refusals.{line_of, status_of};
@@ -66,5 +66,24 @@ pub(crate) fn tell_and_end<F: Write>(refusal: &Refusal, faults: &mut F) -> u8
     ensures told { IsTold (line_of refusal.now) (F.contents faults.old) (F.contents faults.new) }
 {
     let _ = tell(refusal, faults);
+    refusal.status()
+}
+
+/// Tells a refusal and more behind its line. A fault in telling it changes nothing.
+fn tell_both<F: Write>(refusal: &Refusal, more: &[u8], faults: &mut F)
+    ensures { IsTold (line_of refusal.now ++ more.now) (F.contents faults.old) (F.contents faults.new) }
+{
+    match tell(refusal, faults) {
+        Ok(()) => tell_text(more, faults),
+        Err(_) => {}
+    }
+}
+
+/// The same, and it answers the exit status of the refusal.
+pub(crate) fn tell_explained<F: Write>(refusal: &Refusal, more: &[u8], faults: &mut F) -> u8
+    ensures status { result ≡ status_of refusal.now }
+    ensures told { IsTold (line_of refusal.now ++ more.now) (F.contents faults.old) (F.contents faults.new) }
+{
+    tell_both(refusal, more, faults);
     refusal.status()
 }

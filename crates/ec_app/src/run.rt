@@ -3,13 +3,15 @@ ghost use Rattle.std.specs.Prelude.{◌≡◌, ◌∷◌, [], map, Contains, Res
 ghost use Rattle.ec_args.specs.CommandLine.{Reads, command_of};
 ghost use Rattle.ec_args.specs.declared.request.Notice.{Notice as NoticeValue};
 ghost use Rattle.ec_args.specs.declared.request.Request.{Request as RequestValue};
-ghost use Rattle.ec_app.specs.Running.{Ends, EndsAlone, LeavesAlone, Runs, Tells};
+ghost use Rattle.ec_app.specs.Explaining.{IsLeft, is_explained};
+ghost use Rattle.ec_app.specs.Running.{Ends, EndsAlone, LeavesAlone, Runs, Tells, TellsWith};
 
 use crate::Refusal;
+use crate::explain::Explanation;
 use crate::looping::print_loop;
 use crate::pass::print_pass;
 use crate::plan::print_plan;
-use crate::printing::{print_text, tell_and_end, tell_text};
+use crate::printing::{print_text, tell_and_end, tell_explained, tell_text};
 use crate::segment::print_segment;
 use crate::sim::print_sim;
 use ec_args::{Notice, Request, read_args};
@@ -27,20 +29,40 @@ fn run_request<H: AllocGlobal + Net, R: Read, W: Write, F: Write>(
     output: &mut W,
     faults: &mut F,
     app: &mut dyn App,
+    behind: &mut Explanation,
 ) -> Result<(), Refusal>
     ensures runs { Runs (command_of request.entry) (R.remaining input.old)
         (record { old = W.contents output.old; new = W.contents output.new })
         (record { old = F.contents faults.old; new = F.contents faults.new }) result }
     ensures alone { LeavesAlone (command_of request.entry) input.old input.new app.old app.new }
+    ensures explains { IsLeft behind.old behind.new }
 {
     match request {
         Request::Pass { slaves, frame } => print_pass(rt.alloc(), slaves.into(), frame, output),
-        Request::Plan { explained } => print_plan(rt.alloc(), explained, input, output),
-        Request::Sim => print_sim(rt.alloc(), input, output),
-        Request::Loop { cycles } => print_loop(rt, cycles, input, output, faults, app),
-        Request::Segment { frames, port, idle } => {
-            print_segment(rt, frames, port, idle, input, output, faults, app)
+        Request::Plan { explained } => print_plan(rt.alloc(), explained, input, output, behind),
+        Request::Sim { .. } => print_sim(rt.alloc(), input, output, behind),
+        Request::Loop { cycles, .. } => {
+            print_loop(rt, cycles, input, output, faults, app, behind)
         }
+        Request::Segment {
+            frames,
+            port,
+            idle,
+            ..
+        } => print_segment(rt, frames, port, idle, input, output, faults, app, behind),
+    }
+}
+
+/// Whether a command is to explain a refusal.
+fn is_explained(request: &Request<'_>) -> bool
+    ensures { result ≡ is_explained (command_of request.now) }
+{
+    match *request {
+        Request::Pass { .. } => false,
+        Request::Plan { explained }
+        | Request::Sim { explained }
+        | Request::Loop { explained, .. }
+        | Request::Segment { explained, .. } => explained,
     }
 }
 
@@ -52,6 +74,17 @@ fn exit_status<F: Write>(ended: Result<(), Refusal>, faults: &mut F) -> u8
     match ended {
         Ok(()) => 0,
         Err(refusal) => tell_and_end(&refusal, faults),
+    }
+}
+
+/// The exit status of a run, a refusal of which is told with more behind its line.
+fn explained_status<F: Write>(ended: Result<(), Refusal>, more: &[u8], faults: &mut F) -> u8
+    ensures { TellsWith more.now (record { old = F.contents faults.old; new = F.contents faults.new })
+        result ended }
+{
+    match ended {
+        Ok(()) => 0,
+        Err(refusal) => tell_explained(&refusal, more, faults),
     }
 }
 
@@ -74,8 +107,9 @@ fn end_run<H: AllocGlobal + Net, R: Read, W: Write, F: Write>(
 {
     match read {
         Ok(request) => {
-            let ended = run_request(rt, request, input, output, faults, app);
-            exit_status(ended, faults)
+            let mut behind = Explanation::new(rt.alloc(), is_explained(&request));
+            let ended = run_request(rt, request, input, output, faults, app, &mut behind);
+            explained_status(ended, behind.as_bytes(), faults)
         }
         Err(Notice::Memory) => exit_status(Err(Refusal::Memory), faults),
         Err(Notice::Help(text)) => exit_status(print_text(text.as_bytes(), output), faults),
@@ -89,7 +123,8 @@ fn end_run<H: AllocGlobal + Net, R: Read, W: Write, F: Write>(
 /// Runs the command that the arguments ask for, the first of which is the program's name, and
 /// answers the exit status: 0 done, also where help was asked for and is on the output; 2 the
 /// arguments ask for no command; 3 refused; 4 a fault of input or output. What failed is told on
-/// `faults`, and a fault in writing it changes nothing.
+/// `faults`, with an explanation behind it where the arguments ask for one, and a fault in writing it
+/// changes nothing.
 ///
 /// Simulated slaves take their inputs from `app`, and a command that reads a text reads `input`.
 pub fn run_command<H: AllocGlobal + Net, S: AsStr, R: Read, W: Write, F: Write>(

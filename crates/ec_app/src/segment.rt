@@ -1,10 +1,12 @@
 //! `ecat segment`: the slaves of a link table, on a socket.
 ghost use Rattle.std.specs.Prelude.{◌≡◌};
+ghost use Rattle.ec_app.specs.Explaining.{IsLeft};
 ghost use Rattle.ec_app.specs.Printing.{IsTold, Shows};
 ghost use Rattle.ec_app.specs.Serving.{RunsSegment, ServesSegment, listening_line, served_line};
 
 use crate::Refusal;
 use crate::digits::push_number;
+use crate::explain::Explanation;
 use crate::machine::slaves_of_input;
 use crate::printing::{print_text, tell_text};
 use arrayvec::ArrayString;
@@ -86,7 +88,7 @@ pub fn print_served_segment<W: Wire, O: Write>(
 /// Answers payloads on a port of 127.0.0.1, so many in all, as the slaves of the table that the input states, whose
 /// applications are `app`. Once it listens it says so on `faults`; at every end from then on it prints how many payloads were
 /// frames, which were answered, and how many were not. Where no payload comes for `idle` seconds it ends as by a fault of
-/// the socket; with 0 it waits on.
+/// the socket; with 0 it waits on. A refusal of the table is explained, where that is wanted.
 ///
 /// # Errors
 ///
@@ -102,12 +104,14 @@ pub fn print_segment<H: AllocGlobal + Net, R: Read, W: Write, F: Write>(
     output: &mut W,
     faults: &mut F,
     app: &mut dyn App,
+    behind: &mut Explanation,
 ) -> Result<(), Refusal>
-    ensures { RunsSegment frames port (R.remaining input.old) (W.contents output.old) (W.contents output.new)
+    ensures runs { RunsSegment frames port (R.remaining input.old) (W.contents output.old) (W.contents output.new)
         (F.contents faults.old) (F.contents faults.new) result }
+    ensures explains { IsLeft behind.old behind.new }
 {
     let _ = idle;
-    let mut slaves = slaves_of_input(rt.alloc(), input)?;
+    let mut slaves = slaves_of_input(rt.alloc(), input, behind)?;
     let mut wire = UdpWire::bind_idle(rt, port, idle)?;
     tell_listening(wire.port(), faults);
     print_served_segment(&mut slaves, app, &mut wire, frames, output)

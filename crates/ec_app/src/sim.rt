@@ -2,10 +2,12 @@
 ghost use Rattle.std.specs.Prelude.{◌≡◌, IfErr, None, OnErr, OnOk};
 ghost use Rattle.ec_link.specs.Faults.{compile_fault};
 ghost use Rattle.ec_link.specs.Plan.{plan_of};
+ghost use Rattle.ec_app.specs.Explaining.{IsLeft};
 ghost use Rattle.ec_app.specs.Simulating.{IsLate, PrintsLines, PrintsSome, RunsLines, RunsSim, RunsText};
 ghost use Rattle.ec_app.specs.Stages.{RunsHalves, RunsScript};
 
 use crate::Refusal;
+use crate::explain::Explanation;
 use crate::input::read_text;
 use crate::printing::print_text;
 use ec_link::{Plan, compile};
@@ -96,15 +98,22 @@ fn run_text<W: Write>(alloc: Global, text: &str, output: &mut W) -> Result<(), R
 }
 
 /// Runs the script that the input gives behind a link table and a line `%%`. Its slaves begin at power-on, with the
-/// identities that the table says. What a line says is printed before the next line runs.
+/// identities that the table says. What a line says is printed before the next line runs. A refusal of the text is
+/// explained, where that is wanted.
 pub fn print_sim<R: Read, W: Write>(
     alloc: Global,
     input: &mut R,
     output: &mut W,
+    behind: &mut Explanation,
 ) -> Result<(), Refusal>
-    ensures { RunsSim (R.remaining input.old) (W.contents output.old) (W.contents output.new)
+    ensures runs { RunsSim (R.remaining input.old) (W.contents output.old) (W.contents output.new)
         result }
+    ensures explains { IsLeft behind.old behind.new }
 {
     let text = read_text(alloc, input)?;
-    run_text(alloc, text.as_str(), output)
+    let ended = run_text(alloc, text.as_str(), output);
+    if let Err(refusal) = &ended {
+        behind.explain_script(alloc, text.as_str(), refusal);
+    }
+    ended
 }

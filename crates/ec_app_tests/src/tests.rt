@@ -1,5 +1,6 @@
 //! The program's worked rows, over memory.
 
+mod explains;
 mod helps;
 mod loops;
 mod plans;
@@ -373,7 +374,7 @@ fn tells_a_fault_of_the_args(rt: HostRuntime) {
         (
             &["ecat", "loop"],
             missing,
-            "Usage: ecat loop --cycles <N> < TABLE",
+            "Usage: ecat loop --cycles <N> [--explain] < TABLE",
         ),
         (
             &["ecat", "plan", "a.toml"],
@@ -383,12 +384,12 @@ fn tells_a_fault_of_the_args(rt: HostRuntime) {
         (
             &["ecat", "sim", "a.toml"],
             "error: unexpected argument 'a.toml'",
-            "ecat sim < TABLE_AND_SCRIPT",
+            "ecat sim [--explain] < TABLE_AND_SCRIPT",
         ),
         (
             &["ecat", "segment"],
             missing,
-            "--frames <N> [--port <P>] [--idle <SECONDS>] < TABLE",
+            "--frames <N> [--port <P>] [--idle <SECONDS>] [--explain] < TABLE",
         ),
     ] {
         expect_usage(&rt, args, 2, begins, line);

@@ -20,8 +20,9 @@ use Rattle.clap.specs.declared.parser.matches.Found.{Found}
 use Rattle.clap.proofs.WalkLemmas.{first_value-rows, one_text-rows}
 use Rattle.ec_args.specs.declared.request.Notice.{Notice}
 use Rattle.ec_args.specs.declared.request.Notice.TheVariants.{Memory, Help, Usage}
+use Rattle.ec_args.specs.declared.request.Request.{Request}
 use Rattle.ec_args.specs.declared.request.Request.TheVariants.{Pass, Plan, Sim, Loop, Segment}
-use Rattle.ec_args.specs.CommandLine.{ArePassArguments, FindsNumber, IsFault, IsNotice, MeetsCommand, MeetsPass, MeetsPlan, ArePlanArguments, PassIsRead, PassOf, PlanIsRead, PlanOf, SimOf, LoopOf, SegmentOf, ecat, is_answer}
+use Rattle.ec_args.specs.CommandLine.{Asks, ArePassArguments, FindsExplain, FindsNumber, IsFault, IsNotice, MeetsCommand, MeetsPass, MeetsPlan, ArePlanArguments, PassIsRead, PassOf, PlanIsRead, PlanOf, SimOf, LoopOf, SegmentOf, ecat, is_answer}
 use Rattle.ec_args.proofs.PlanArguments.{explain-met, explain-no_fault, explain_row, plan-met, plan-no_fault}
 use Rattle.ec_args.proofs.PassArguments.{ecat-is_simple, ecat-simple, frame_row, no-fault, number_argument, slaves_row, subcommand-pass, value_argument}
 
@@ -89,9 +90,9 @@ other_name word other differ name rows called others met = other_word word other
 pub meets_no_slaves : (name : Text) (found : Found) (r : Option ℕ) → name ≡ codes "pass" → ((t : List ℕ) → one_text found (codes "slaves") ≡ Some t → ReadsOne (NumberGives 8) t r)
     → r ≡ None → MeetsCommand (Some (name, rows_of found)) → ⊥
 meets_no_slaves name found r called value is (PlanOf e, h) = other_name (codes "pass") (codes "plan") refl name (rows_of found) called h.rows h.command
-meets_no_slaves name found r called value is (SimOf, h) = other_name (codes "pass") (codes "sim") refl name (rows_of found) called h.rows h.command
-meets_no_slaves name found r called value is (LoopOf n, h) = other_name (codes "pass") (codes "loop") refl name (rows_of found) called h.rows h.command
-meets_no_slaves name found r called value is (SegmentOf n p i, h) = other_name (codes "pass") (codes "segment") refl name (rows_of found) called h.rows h.command
+meets_no_slaves name found r called value is (SimOf e, h) = other_name (codes "pass") (codes "sim") refl name (rows_of found) called h.rows h.command
+meets_no_slaves name found r called value is (LoopOf n e, h) = other_name (codes "pass") (codes "loop") refl name (rows_of found) called h.rows h.command
+meets_no_slaves name found r called value is (SegmentOf n p i e, h) = other_name (codes "pass") (codes "segment") refl name (rows_of found) called h.rows h.command
 meets_no_slaves name found r called value is (PassOf n f, h) =
     let rows : rows_of found ≡ h.rows = ap rows_in h.command in
     let text : one_text found (codes "slaves") ≡ Some h.digits = one_text-rows found (codes "slaves") ∙ (ap (one_of (codes "slaves")) rows ∙ h.number) in
@@ -100,9 +101,9 @@ meets_no_slaves name found r called value is (PassOf n f, h) =
 
 pub meets_no_frame : (name : Text) (found : Found) → name ≡ codes "pass" → first_value found (codes "frame") ≡ None → MeetsCommand (Some (name, rows_of found)) → ⊥
 meets_no_frame name found called none (PlanOf e, h) = other_name (codes "pass") (codes "plan") refl name (rows_of found) called h.rows h.command
-meets_no_frame name found called none (SimOf, h) = other_name (codes "pass") (codes "sim") refl name (rows_of found) called h.rows h.command
-meets_no_frame name found called none (LoopOf n, h) = other_name (codes "pass") (codes "loop") refl name (rows_of found) called h.rows h.command
-meets_no_frame name found called none (SegmentOf n p i, h) = other_name (codes "pass") (codes "segment") refl name (rows_of found) called h.rows h.command
+meets_no_frame name found called none (SimOf e, h) = other_name (codes "pass") (codes "sim") refl name (rows_of found) called h.rows h.command
+meets_no_frame name found called none (LoopOf n e, h) = other_name (codes "pass") (codes "loop") refl name (rows_of found) called h.rows h.command
+meets_no_frame name found called none (SegmentOf n p i e, h) = other_name (codes "pass") (codes "segment") refl name (rows_of found) called h.rows h.command
 meets_no_frame name found called none (PassOf n f, h) =
     let rows : rows_of found ≡ h.rows = ap rows_in h.command in
     let text : first_value found (codes "frame") ≡ Some f = first_value-rows found (codes "frame") ∙ (ap (first_of (codes "frame")) rows ∙ h.text) in
@@ -122,6 +123,12 @@ finds_number found id bits r n none value is =
       small = subst (λ k. k < 2 ^ bits) read.2.value read.2.small;
     }
 
+-- the flag that `get_flag` read
+pub finds_explain : (found : Found) (e : Bool) → (one_text found (codes "explain") ≡ Some (codes "true") → e ≡ true) → (one_text found (codes "explain") ≡ Some (codes "false") → e ≡ false) → FindsExplain (rows_of found) e
+finds_explain found e given absent =
+    let same = one_text-rows found (codes "explain") in
+    record { given = λ is. given (same ∙ is); absent = λ is. absent (same ∙ is) }
+
 finds_no_number : (found : Found) (id : Text) (bits : ℕ) (r : Option ℕ) (n : ℕ) (rows : List Row)
     → ((t : List ℕ) → one_text found id ≡ Some t → ReadsOne (NumberGives bits) t r) → r ≡ None → rows_of found ≡ rows → FindsNumber rows id n (2 ^ bits) → ⊥
 finds_no_number found id bits r n rows value is same h =
@@ -134,33 +141,33 @@ pub meets_no_cycles : (name : Text) (found : Found) (r : Option ℕ) → name �
     → r ≡ None → MeetsCommand (Some (name, rows_of found)) → ⊥
 meets_no_cycles name found r called value is (PassOf n f, h) = other_name (codes "loop") (codes "pass") refl name (rows_of found) called h.rows h.command
 meets_no_cycles name found r called value is (PlanOf e, h) = other_name (codes "loop") (codes "plan") refl name (rows_of found) called h.rows h.command
-meets_no_cycles name found r called value is (SimOf, h) = other_name (codes "loop") (codes "sim") refl name (rows_of found) called h.rows h.command
-meets_no_cycles name found r called value is (SegmentOf n p i, h) = other_name (codes "loop") (codes "segment") refl name (rows_of found) called h.rows h.command
-meets_no_cycles name found r called value is (LoopOf n, h) = finds_no_number found (codes "cycles") 16 r n h.rows value is (ap rows_in h.command) h.cycles
+meets_no_cycles name found r called value is (SimOf e, h) = other_name (codes "loop") (codes "sim") refl name (rows_of found) called h.rows h.command
+meets_no_cycles name found r called value is (SegmentOf n p i e, h) = other_name (codes "loop") (codes "segment") refl name (rows_of found) called h.rows h.command
+meets_no_cycles name found r called value is (LoopOf n e, h) = finds_no_number found (codes "cycles") 16 r n h.rows value is (ap rows_in h.command) h.cycles
 
 pub meets_no_frames : (name : Text) (found : Found) (r : Option ℕ) → name ≡ codes "segment" → ((t : List ℕ) → one_text found (codes "frames") ≡ Some t → ReadsOne (NumberGives 32) t r)
     → r ≡ None → MeetsCommand (Some (name, rows_of found)) → ⊥
 meets_no_frames name found r called value is (PassOf n f, h) = other_name (codes "segment") (codes "pass") refl name (rows_of found) called h.rows h.command
 meets_no_frames name found r called value is (PlanOf e, h) = other_name (codes "segment") (codes "plan") refl name (rows_of found) called h.rows h.command
-meets_no_frames name found r called value is (SimOf, h) = other_name (codes "segment") (codes "sim") refl name (rows_of found) called h.rows h.command
-meets_no_frames name found r called value is (LoopOf n, h) = other_name (codes "segment") (codes "loop") refl name (rows_of found) called h.rows h.command
-meets_no_frames name found r called value is (SegmentOf n p i, h) = finds_no_number found (codes "frames") 32 r n h.rows value is (ap rows_in h.command) h.frames
+meets_no_frames name found r called value is (SimOf e, h) = other_name (codes "segment") (codes "sim") refl name (rows_of found) called h.rows h.command
+meets_no_frames name found r called value is (LoopOf n e, h) = other_name (codes "segment") (codes "loop") refl name (rows_of found) called h.rows h.command
+meets_no_frames name found r called value is (SegmentOf n p i e, h) = finds_no_number found (codes "frames") 32 r n h.rows value is (ap rows_in h.command) h.frames
 
 pub meets_no_port : (name : Text) (found : Found) (r : Option ℕ) → name ≡ codes "segment" → ((t : List ℕ) → one_text found (codes "port") ≡ Some t → ReadsOne (NumberGives 16) t r)
     → r ≡ None → MeetsCommand (Some (name, rows_of found)) → ⊥
 meets_no_port name found r called value is (PassOf n f, h) = other_name (codes "segment") (codes "pass") refl name (rows_of found) called h.rows h.command
 meets_no_port name found r called value is (PlanOf e, h) = other_name (codes "segment") (codes "plan") refl name (rows_of found) called h.rows h.command
-meets_no_port name found r called value is (SimOf, h) = other_name (codes "segment") (codes "sim") refl name (rows_of found) called h.rows h.command
-meets_no_port name found r called value is (LoopOf n, h) = other_name (codes "segment") (codes "loop") refl name (rows_of found) called h.rows h.command
-meets_no_port name found r called value is (SegmentOf n p i, h) = finds_no_number found (codes "port") 16 r p h.rows value is (ap rows_in h.command) h.port
+meets_no_port name found r called value is (SimOf e, h) = other_name (codes "segment") (codes "sim") refl name (rows_of found) called h.rows h.command
+meets_no_port name found r called value is (LoopOf n e, h) = other_name (codes "segment") (codes "loop") refl name (rows_of found) called h.rows h.command
+meets_no_port name found r called value is (SegmentOf n p i e, h) = finds_no_number found (codes "port") 16 r p h.rows value is (ap rows_in h.command) h.port
 
 pub meets_no_idle : (name : Text) (found : Found) (r : Option ℕ) → name ≡ codes "segment" → ((t : List ℕ) → one_text found (codes "idle") ≡ Some t → ReadsOne (NumberGives 32) t r)
     → r ≡ None → MeetsCommand (Some (name, rows_of found)) → ⊥
 meets_no_idle name found r called value is (PassOf n f, h) = other_name (codes "segment") (codes "pass") refl name (rows_of found) called h.rows h.command
 meets_no_idle name found r called value is (PlanOf e, h) = other_name (codes "segment") (codes "plan") refl name (rows_of found) called h.rows h.command
-meets_no_idle name found r called value is (SimOf, h) = other_name (codes "segment") (codes "sim") refl name (rows_of found) called h.rows h.command
-meets_no_idle name found r called value is (LoopOf n, h) = other_name (codes "segment") (codes "loop") refl name (rows_of found) called h.rows h.command
-meets_no_idle name found r called value is (SegmentOf n p i, h) = finds_no_number found (codes "idle") 32 r i h.rows value is (ap rows_in h.command) h.idle
+meets_no_idle name found r called value is (SimOf e, h) = other_name (codes "segment") (codes "sim") refl name (rows_of found) called h.rows h.command
+meets_no_idle name found r called value is (LoopOf n e, h) = other_name (codes "segment") (codes "loop") refl name (rows_of found) called h.rows h.command
+meets_no_idle name found r called value is (SegmentOf n p i e, h) = finds_no_number found (codes "idle") 32 r i h.rows value is (ap rows_in h.command) h.idle
 
 -- what `clap` makes of the arguments of `pass`
 pub no_fault-pass : (args : List Text) (slaves : ℕ) (frame : Text) → ArePassArguments args slaves frame → fault_of ecat args ≡ []
@@ -209,6 +216,13 @@ refused_fault line args error is kinds =
     let known : HasKind (fault_of ecat args) error = subst (λ (l : App). is_simple_and_free l ≡ true → HasKind (fault_of l args) error) is kinds ecat-simple in
     elim known [ inl memory ↦ inl memory | inr among ↦ inr (inl among) ]
 
+-- what it met is asked for
+pub found_asks : (line : App) (args : List Text) (m : ArgMatches) (request : Request) → line ≡ ecat → HasMatchesOf line args m
+    → Asks (subcommand_rows_of m) request → Asks (subcommand_of ecat args) request
+found_asks line args m request is matches asks =
+    let same : subcommand_rows_of m ≡ subcommand_of ecat args = (subst (λ (l : App). HasMatchesOf l args m) is matches ecat-is_simple).1 in
+    subst (λ (met : Option (Text × List Row)). Asks met request) same asks
+
 -- and so is what is answered where it met no command
 pub missing_fault : (line : App) (args : List Text) (m : ArgMatches) (kind : ErrorKind) → line ≡ ecat → HasMatchesOf line args m
     → (MeetsCommand (subcommand_rows_of m) → ⊥) → (kind ≡ OutOfMemory) ⊎ (kind ≡ MissingSubcommand) → IsFault args kind
@@ -233,11 +247,11 @@ pass_is_read args slaves frame (Ok (Pass n f)) w (none, asks) =
     (λ i. PassOf (same.0 i) (same.1 i))
 pass_is_read args slaves frame (Ok (Plan e)) w (none, asks) =
     absurd (other_word (codes "pass") (codes "plan") refl (ap name_in (sym (subcommand_of-pass args slaves frame w) ∙ asks.command)))
-pass_is_read args slaves frame (Ok Sim) w (none, asks) =
+pass_is_read args slaves frame (Ok (Sim e)) w (none, asks) =
     absurd (other_word (codes "pass") (codes "sim") refl (ap name_in (sym (subcommand_of-pass args slaves frame w) ∙ asks.command)))
-pass_is_read args slaves frame (Ok (Loop n)) w (none, asks) =
+pass_is_read args slaves frame (Ok (Loop n e)) w (none, asks) =
     absurd (other_word (codes "pass") (codes "loop") refl (ap name_in (sym (subcommand_of-pass args slaves frame w) ∙ asks.command)))
-pass_is_read args slaves frame (Ok (Segment n p i)) w (none, asks) =
+pass_is_read args slaves frame (Ok (Segment n p i e)) w (none, asks) =
     absurd (other_word (codes "pass") (codes "segment") refl (ap name_in (sym (subcommand_of-pass args slaves frame w) ∙ asks.command)))
 pass_is_read args slaves frame (Err notice) w (kind, fault, told) =
     memory_notice kind notice (no_other_fault args kind (no_fault-pass args slaves frame w) (PassOf slaves frame, meets-pass args slaves frame w) fault) told
@@ -280,11 +294,11 @@ plan_is_read args explained (Ok (Plan e)) w (none, asks) =
     ap PlanOf (same_flag explained e
     (subst (λ (l : List Row). one_of (codes "explain") l ≡ Some (codes "true") → e ≡ true) rows asks.given)
     (subst (λ (l : List Row). one_of (codes "explain") l ≡ Some (codes "false") → e ≡ false) rows asks.absent))
-plan_is_read args explained (Ok Sim) w (none, asks) =
+plan_is_read args explained (Ok (Sim e)) w (none, asks) =
     absurd (other_word (codes "plan") (codes "sim") refl (ap name_in (sym (subcommand_of-plan args explained w) ∙ asks.command)))
-plan_is_read args explained (Ok (Loop n)) w (none, asks) =
+plan_is_read args explained (Ok (Loop n e)) w (none, asks) =
     absurd (other_word (codes "plan") (codes "loop") refl (ap name_in (sym (subcommand_of-plan args explained w) ∙ asks.command)))
-plan_is_read args explained (Ok (Segment n p i)) w (none, asks) =
+plan_is_read args explained (Ok (Segment n p i e)) w (none, asks) =
     absurd (other_word (codes "plan") (codes "segment") refl (ap name_in (sym (subcommand_of-plan args explained w) ∙ asks.command)))
 plan_is_read args explained (Err notice) w (kind, fault, told) =
     memory_notice kind notice (no_other_fault args kind (no_fault-plan args explained w) (PlanOf explained, meets-plan args explained w) fault) told

@@ -22,14 +22,14 @@ use Rattle.ec_args.specs.declared.request.Request.TheVariants.{Pass, Plan, Sim, 
 pub data Command : Type 0 where
   -- `ecat pass`: the number of slaves, and the text of a frame
   PassOf : ℕ → Text → Command
-  -- `ecat plan`: whether the plan is to be explained
+  -- `ecat plan`: whether the plan is to be explained, and so a refusal
   PlanOf : Bool → Command
-  -- `ecat sim`
-  SimOf : Command
+  -- `ecat sim`: whether a refusal is to be explained, as the last of each
+  SimOf : Bool → Command
   -- `ecat loop`: the number of cycles
-  LoopOf : ℕ → Command
+  LoopOf : ℕ → Bool → Command
   -- `ecat segment`: the number of payloads, the port, and how many seconds it waits for one
-  SegmentOf : ℕ → ℕ → ℕ → Command
+  SegmentOf : ℕ → ℕ → ℕ → Bool → Command
 
 -- ---- the arguments that each command takes
 
@@ -58,7 +58,7 @@ abbrev pub plan_shape : Shape
 plan_shape = (with_rule (new_app (codes "plan")) explain_rule).top
 
 abbrev pub sim_shape : Shape
-sim_shape = (new_app (codes "sim")).top
+sim_shape = (with_rule (new_app (codes "sim")) explain_rule).top
 
 -- `--cycles N`, where N is 0 to 1000
 abbrev pub cycles_rule : Rule
@@ -71,7 +71,7 @@ cycles_rule = record (new_rule (codes "cycles")) {
 }
 
 abbrev pub loop_shape : Shape
-loop_shape = (with_rule (new_app (codes "loop")) cycles_rule).top
+loop_shape = (with_rule (with_rule (new_app (codes "loop")) cycles_rule) explain_rule).top
 
 -- `--frames N`, where N has 32 bits
 abbrev pub frames_rule : Rule
@@ -103,8 +103,12 @@ idle_rule = record (new_rule (codes "idle")) {
   parser = Some (Signed (pos 0) (pos 86400));
 }
 
+-- which payloads a segment is to answer
+abbrev pub listening : App
+listening = with_rule (with_rule (new_app (codes "segment")) frames_rule) port_rule
+
 abbrev pub segment_shape : Shape
-segment_shape = (with_rule (with_rule (with_rule (new_app (codes "segment")) frames_rule) port_rule) idle_rule).top
+segment_shape = (with_rule (with_rule listening idle_rule) explain_rule).top
 
 -- `ecat` and its commands, of which one is wanted; it also has a version. First those that simulate nothing but a pass,
 abbrev pub planning : App
@@ -149,32 +153,40 @@ pub record FindsNumber (rows : List Row) (id : Text) (n limit : ℕ) : Type 0 wh
   pub value : digits_value 10 (without_leading_plus digits) ≡ n
   pub small : n < limit
 
+-- the flag `--explain` was given or wasn't
+pub record FindsExplain (rows : List Row) (explained : Bool) : Type 0 where
+  pub given : one_of (codes "explain") rows ≡ Some (codes "true") → explained ≡ true
+  pub absent : one_of (codes "explain") rows ≡ Some (codes "false") → explained ≡ false
+
 -- `clap` met `sim`
-pub record MeetsSim (met : Option (Text × List Row)) : Type 0 where
+pub record MeetsSim (met : Option (Text × List Row)) (explained : Bool) : Type 0 where
   pub rows : List Row
   pub command : met ≡ Some (codes "sim", rows)
+  pub flag : FindsExplain rows explained
 
 -- `clap` met `loop` and found its number
-pub record MeetsLoop (met : Option (Text × List Row)) (n : ℕ) : Type 0 where
+pub record MeetsLoop (met : Option (Text × List Row)) (n : ℕ) (explained : Bool) : Type 0 where
   pub rows : List Row
   pub command : met ≡ Some (codes "loop", rows)
   pub cycles : FindsNumber rows (codes "cycles") n (2 ^ 16)
+  pub flag : FindsExplain rows explained
 
 -- `clap` met `segment` and found its numbers
-pub record MeetsSegment (met : Option (Text × List Row)) (n p i : ℕ) : Type 0 where
+pub record MeetsSegment (met : Option (Text × List Row)) (n p i : ℕ) (explained : Bool) : Type 0 where
   pub rows : List Row
   pub command : met ≡ Some (codes "segment", rows)
   pub frames : FindsNumber rows (codes "frames") n (2 ^ 32)
   pub port : FindsNumber rows (codes "port") p (2 ^ 16)
   pub idle : FindsNumber rows (codes "idle") i (2 ^ 32)
+  pub flag : FindsExplain rows explained
 
 -- `clap` met this command, and found what it is given
 abbrev pub MeetsAs : Option (Text × List Row) → Command → Type 0
 MeetsAs met (PassOf slaves frame) = MeetsPass met slaves frame
 MeetsAs met (PlanOf explained) = MeetsPlan met explained
-MeetsAs met SimOf = MeetsSim met
-MeetsAs met (LoopOf cycles) = MeetsLoop met cycles
-MeetsAs met (SegmentOf frames port idle) = MeetsSegment met frames port idle
+MeetsAs met (SimOf explained) = MeetsSim met explained
+MeetsAs met (LoopOf cycles explained) = MeetsLoop met cycles explained
+MeetsAs met (SegmentOf frames port idle explained) = MeetsSegment met frames port idle explained
 
 -- `clap` met a command and found all that it needs
 abbrev pub MeetsCommand : Option (Text × List Row) → Type 0
@@ -184,9 +196,9 @@ MeetsCommand met = (command : Command) × MeetsAs met command
 abbrev pub command_of : Request → Command
 command_of (Pass slaves frame) = PassOf slaves frame.now
 command_of (Plan explained) = PlanOf explained
-command_of Sim = SimOf
-command_of (Loop cycles) = LoopOf cycles
-command_of (Segment frames port idle) = SegmentOf frames port idle
+command_of (Sim explained) = SimOf explained
+command_of (Loop cycles explained) = LoopOf cycles explained
+command_of (Segment frames port idle explained) = SegmentOf frames port idle explained
 
 abbrev pub Asks : Option (Text × List Row) → Request → Type 0
 Asks met request = MeetsAs met (command_of request)

@@ -4,7 +4,7 @@ ghost use Rattle.std.specs.Prelude.{◌≡◌, false, IfOk};
 ghost use Rattle.clap.specs.Walk.{rule_of};
 ghost use Rattle.clap.specs.Simple.{app_of, shape_of};
 ghost use Rattle.clap.specs.declared.builder.command.Command.TheViews.{out-Command as fields_of};
-ghost use Rattle.ec_args.specs.CommandLine.{cycles_rule, cycling, ecat, explain_rule, frame_rule, frames_rule, idle_rule, loop_shape, pass_shape, plan_shape, planning, port_rule, segment_shape, sim_shape, slaves_rule};
+ghost use Rattle.ec_args.specs.CommandLine.{cycles_rule, cycling, ecat, explain_rule, frame_rule, frames_rule, idle_rule, listening, loop_shape, pass_shape, plan_shape, planning, port_rule, segment_shape, sim_shape, slaves_rule};
 
 use clap::{Arg, ArgAction, Command};
 use std::alloc::{AllocError, Global};
@@ -279,7 +279,18 @@ fn explain_argument<'a>(alloc: Global) -> Arg<'a>
     Arg::new(alloc, "explain")
         .long("explain")
         .action(ArgAction::SetTrue)
-        .help("Show the plan as tables of bits, for people")
+        .help("Show the plan as tables of bits, and tell of a refusal what is wrong, for people")
+}
+
+/// `--explain` of the commands that show no plan.
+fn explain_refusal_argument<'a>(alloc: Global) -> Arg<'a>
+    ensures rule { rule_of result ≡ explain_rule }
+    ensures local { result.global ≡ false }
+{
+    Arg::new(alloc, "explain")
+        .long("explain")
+        .action(ArgAction::SetTrue)
+        .help("Tell of a refusal which line is at fault, what is wrong and what to do")
 }
 
 /// `ecat plan [--explain]`.
@@ -294,19 +305,16 @@ fn plan_command<'a>(alloc: Global) -> Result<Command<'a>, AllocError>
         .arg(explain_argument(alloc))
 }
 
-/// `ecat sim`.
+/// `ecat sim [--explain]`.
 fn sim_command<'a>(alloc: Global) -> Result<Command<'a>, AllocError>
     ensures shape { IfOk result (λ command. shape_of command ≡ sim_shape) }
     ensures local { IfOk result (λ command. (fields_of command).has_globals ≡ false) }
 {
-    Ok(
-        Command::new(alloc, "sim")
-            .override_usage("ecat sim < TABLE_AND_SCRIPT")
-            .about(
-                "Reads a link table and a script from standard input and prints what comes of it",
-            )
-            .after_help(SIM_LINES),
-    )
+    Command::new(alloc, "sim")
+        .override_usage("ecat sim [--explain] < TABLE_AND_SCRIPT")
+        .about("Reads a link table and a script from standard input and prints what comes of it")
+        .after_help(SIM_LINES)
+        .arg(explain_refusal_argument(alloc))
 }
 
 /// `--cycles N`, the number of cycles.
@@ -323,16 +331,17 @@ fn cycles_argument<'a>(alloc: Global) -> Arg<'a>
         .help("How many cycles are run, 0 to 1000")
 }
 
-/// `ecat loop --cycles N`.
+/// `ecat loop --cycles N [--explain]`.
 fn loop_command<'a>(alloc: Global) -> Result<Command<'a>, AllocError>
     ensures shape { IfOk result (λ command. shape_of command ≡ loop_shape) }
     ensures local { IfOk result (λ command. (fields_of command).has_globals ≡ false) }
 {
     Command::new(alloc, "loop")
-        .override_usage("ecat loop --cycles <N> < TABLE")
+        .override_usage("ecat loop --cycles <N> [--explain] < TABLE")
         .about("Runs cycles of a link table over two sockets of this process and prints reports")
         .after_help(LOOP_LINES)
-        .arg(cycles_argument(alloc))
+        .arg(cycles_argument(alloc))?
+        .arg(explain_refusal_argument(alloc))
 }
 
 /// `--frames N`, the number of payloads.
@@ -377,18 +386,29 @@ fn idle_argument<'a>(alloc: Global) -> Arg<'a>
         .help("How many seconds it waits for a payload, 0 to 86400; 0 is without an end")
 }
 
-/// `ecat segment --frames N [--port P] [--idle SECONDS]`.
+/// `ecat segment` with the arguments that say which payloads come.
+fn listening_command<'a>(alloc: Global) -> Result<Command<'a>, AllocError>
+    ensures shape { IfOk result (λ command. shape_of command ≡ listening.top) }
+    ensures local { IfOk result (λ command. (fields_of command).has_globals ≡ false) }
+{
+    Command::new(alloc, "segment")
+        .override_usage(
+            "ecat segment --frames <N> [--port <P>] [--idle <SECONDS>] [--explain] < TABLE",
+        )
+        .about("Answers frames on a UDP port of 127.0.0.1 as the slaves of a link table")
+        .after_help(SEGMENT_LINES)
+        .arg(frames_argument(alloc))?
+        .arg(port_argument(alloc))
+}
+
+/// `ecat segment --frames N [--port P] [--idle SECONDS] [--explain]`.
 fn segment_command<'a>(alloc: Global) -> Result<Command<'a>, AllocError>
     ensures shape { IfOk result (λ command. shape_of command ≡ segment_shape) }
     ensures local { IfOk result (λ command. (fields_of command).has_globals ≡ false) }
 {
-    Command::new(alloc, "segment")
-        .override_usage("ecat segment --frames <N> [--port <P>] [--idle <SECONDS>] < TABLE")
-        .about("Answers frames on a UDP port of 127.0.0.1 as the slaves of a link table")
-        .after_help(SEGMENT_LINES)
-        .arg(frames_argument(alloc))?
-        .arg(port_argument(alloc))?
-        .arg(idle_argument(alloc))
+    listening_command(alloc)?
+        .arg(idle_argument(alloc))?
+        .arg(explain_refusal_argument(alloc))
 }
 
 /// `ecat` with the commands that simulate nothing but a pass.

@@ -16,16 +16,33 @@ use std::convert::AsStr;
 #[derive(Clone, Copy, Debug, PartialEq, Eq, Drop)]
 pub enum Request<'a> {
     /// Pass the frame that the text spells in hex through this many slaves at power-on.
-    Pass { slaves: u8, frame: &'a str },
-    /// Show the plan of the link table on the input, explained for people if it says so.
-    Plan { explained: bool },
-    /// Run the script behind the link table on the input.
-    Sim,
+    Pass {
+        slaves: u8,
+        frame: &'a str,
+    },
+    /// Show the plan of the link table on the input, explained for people if it says so, and so is a
+    /// refusal then.
+    Plan {
+        explained: bool,
+    },
+    /// Run the script behind the link table on the input. A refusal is explained if it says so, as
+    /// with the others.
+    Sim {
+        explained: bool,
+    },
     /// Run this many cycles of the link table on the input over sockets of this process.
-    Loop { cycles: u16 },
+    Loop {
+        cycles: u16,
+        explained: bool,
+    },
     /// Answer this many payloads on this port as the slaves of the link table on the input, while no
     /// wait for one is longer than `idle` seconds; 0 is without an end.
-    Segment { frames: u32, port: u16, idle: u32 },
+    Segment {
+        frames: u32,
+        port: u16,
+        idle: u32,
+        explained: bool,
+    },
 }
 
 /// What stands in place of a request.
@@ -53,14 +70,18 @@ fn read_command<'a>(name: &str, given: &ArgMatches<'a>) -> Option<Request<'a>>
         "plan" => Some(Request::Plan {
             explained: given.get_flag("explain"),
         }),
-        "sim" => Some(Request::Sim),
+        "sim" => Some(Request::Sim {
+            explained: given.get_flag("explain"),
+        }),
         "loop" => Some(Request::Loop {
             cycles: given.get_one::<u16>("cycles")?,
+            explained: given.get_flag("explain"),
         }),
         "segment" => Some(Request::Segment {
             frames: given.get_one::<u32>("frames")?,
             port: given.get_one::<u16>("port")?,
             idle: given.get_one::<u32>("idle")?,
+            explained: given.get_flag("explain"),
         }),
         _ => None,
     }

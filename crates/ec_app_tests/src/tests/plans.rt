@@ -1,5 +1,6 @@
 //! `ecat plan`, over memory.
 
+use crate::tests::explains::expect_explanation;
 use crate::tests::tables::{
     BARE, BARE_EXPLAINED, BARE_PLAN, LEGEND, MIXED_PARTS, MIXED_PARTS_EXPLAINED, REFUSED_CHANGES,
     SMALL_MACHINE, SMALL_MACHINE_EXPLAINED, SMALL_MACHINE_PLAN, SPLIT_VARIABLE, THREE_SLAVES,
@@ -141,7 +142,7 @@ fn expect_refused<H: AllocGlobal + Net + Abort>(
 ) -> Result<(), Fail> {
     let table = changed_by(rt.alloc(), table, change)?;
     expect_told(rt, &PLAN, table.as_bytes(), 3, refusal)?;
-    expect_told(rt, &EXPLAIN, table.as_bytes(), 3, refusal)
+    expect_explanation(rt, &EXPLAIN, table.as_bytes(), refusal, &["To do: "])
 }
 
 #[test]
