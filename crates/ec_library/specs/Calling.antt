@@ -1,0 +1,132 @@
+-- What a call does to what is behind its handle, and what it answers.
+use Rattle.std.specs.Prelude.{◌≡◌, ◌≢◌, ◌≤◌, ◌<◌, ℕ, Bool, true, false, List, length, take, set, nat_lt, slice_get, is_some, option_and_then, Option, None, Some, Result, Ok, Err, IsUtf8}
+use Rattle.std.specs.List.{list_all}
+use Rattle.ec_cycle.specs.Closing.{ReportState}
+use Rattle.ec_cycle.specs.Master.{Begun, IsClosed, MasterState, OpenCycle, begin_refusal, frame_of, holds_value, missing_of, value_at, variable_set}
+use Rattle.ec_cycle.specs.Refusals.{refusal_number}
+use Rattle.ec_cycle.specs.declared.error.CycleError.{CycleError}
+use Rattle.ec_ring.specs.Rings.{HasPassedRing, IsNoFrame}
+use Rattle.ec_slave.specs.State.{SlaveState}
+use Rattle.ec_start.specs.Errors.{error_number}
+use Rattle.ec_start.specs.Running.{asked, given_up, next_frame, outcome_of}
+use Rattle.ec_start.specs.declared.error.StartError.{StartError}
+use Rattle.ec_start.specs.declared.phase.NextFrame.TheVariants.{Send}
+use Rattle.ec_owned.specs.Machines.{IsGiven, IsNextFrame, MachineState, resumed, unit_taken, variable_named}
+use Rattle.ec_library.specs.declared.done.Done.{Done}
+
+-- From what was behind the handle that is passed to what is behind the one that is handed back: there is something behind both.
+pub record Leads {S : Type 0} (old new : Option S) (step : S → S → Type 0) : Type 0 where
+  pub before : S
+  pub after : S
+  pub was : old ≡ Some before
+  pub is : new ≡ Some after
+  pub leads : step before after
+
+-- ---- answers
+
+abbrev pub refused : ℕ → Done
+refused number = record { number = number; is_done = false; count = 0; value = 0 }
+
+abbrev pub counted : Bool → ℕ → Done
+counted is_done count = record { number = 0; is_done = is_done; count = count; value = 0 }
+
+-- bytes are shown in a room that has place for them; it is told how many they are
+pub record AreShown (bytes room : List ℕ) (done : Done) (shown : List ℕ) : Type 0 where
+  pub fits : length bytes ≤ length room → (done ≡ counted true (length bytes)) × (take (length bytes) shown ≡ bytes)
+  pub short : length room < length bytes → (done ≡ counted false (length bytes)) × (shown ≡ room)
+
+-- ---- the start-up
+
+pub record AsksNext (old : MachineState) (room : List ℕ) (done : Done) (shown : List ℕ) (new : MachineState) : Type 0 where
+  pub short : length room < 1472 → (done.count ≡ 0) × (new ≡ old)
+  pub state : 1472 ≤ length room → new ≡ record old { startup = asked (resumed old.startup) }
+  pub frame : 1472 ≤ length room → next_frame (resumed old.startup) ≡ Send → IsNextFrame (resumed old.startup) (take done.count shown)
+  pub none : next_frame (resumed old.startup) ≢ Send → done.count ≡ 0
+
+abbrev pub Takes : MachineState → List ℕ → Done → MachineState → Type 0
+Takes old payload done new = IsGiven old payload done.is_done new × (done.count ≡ missing_of new.master.cycle)
+
+-- 1 Ready, or a failure's number
+abbrev pub phase_told : Option (Result Unit StartError) → Done
+phase_told None = counted false 0
+phase_told (Some (Ok done)) = counted true 0
+phase_told (Some (Err error)) = refused (error_number error)
+
+abbrev pub TellsPhase : MachineState → Done → MachineState → Type 0
+TellsPhase old done new = (new ≡ old) × (done ≡ phase_told (outcome_of old.startup.phase))
+
+abbrev pub GivesUp : MachineState → MachineState → Type 0
+GivesUp old new = new ≡ record old { startup = given_up old.startup }
+
+-- ---- cycles
+
+abbrev pub begin_told : Option CycleError → ℕ → Done
+begin_told None parts = counted true parts
+begin_told (Some error) parts = refused (refusal_number error)
+
+pub record Begins (old : MachineState) (done : Done) (new : MachineState) : Type 0 where
+  pub told : done ≡ begin_told (begin_refusal old.master) (length new.master.plan.parts)
+  pub begun : begin_refusal old.master ≡ None → (c : OpenCycle) × Begun old.master new.master c
+  pub kept : done.is_done ≡ false → new ≡ old
+  pub rest : new ≡ record old { master = new.master }
+
+pub record ShowsPart (old : MachineState) (part : ℕ) (room : List ℕ) (done : Done) (shown : List ℕ) (new : MachineState) : Type 0 where
+  pub there : is_some old.master.cycle ≡ true → part < length old.master.plan.parts → AreShown (frame_of old.master.cycle part) room done shown
+  pub none : (is_some old.master.cycle ≡ true → part < length old.master.plan.parts → ⊥) → (done ≡ counted false 0) × (shown ≡ room)
+  pub same : new ≡ old
+
+abbrev pub report_told : ReportState → Done
+report_told r = record { number = 0; is_done = list_all (λ (t : Bool). t) r.taken; count = r.missing; value = r.al_word }
+
+pub record Closes (old : MachineState) (done : Done) (new : MachineState) : Type 0 where
+  pub closed : is_some old.master.cycle ≡ true → (r : ReportState) × (new.report ≡ Some r) × IsClosed old.master new.master r × (done ≡ report_told r)
+  pub not_open : old.master.cycle ≡ None → (done ≡ refused 35) × (new ≡ old)
+  pub rest : new ≡ record old { master = new.master; report = new.report }
+
+abbrev pub unit_told : Option Bool → Done
+unit_told None = counted false 0
+unit_told (Some is_taken) = counted is_taken 1
+
+abbrev pub TellsUnit : MachineState → ℕ → Done → MachineState → Type 0
+TellsUnit old unit done new = (new ≡ old) × (done ≡ unit_told (option_and_then (unit_taken unit) old.report))
+
+-- ---- variables
+
+pub record Sets (old : MachineState) (variable value : ℕ) (done : Done) (new : MachineState) : Type 0 where
+  pub told : done ≡ counted (holds_value value (slice_get old.master.plan.variables variable)) 0
+  pub is : done.is_done ≡ true → new ≡ record old { master = variable_set old.master variable value }
+  pub kept : done.is_done ≡ false → new ≡ old
+
+pub record Gets (old : MachineState) (variable : ℕ) (done : Done) (new : MachineState) : Type 0 where
+  pub same : new ≡ old
+  pub there : variable < length old.master.plan.variables → done.value ≡ value_at old.master (slice_get old.master.plan.variables variable)
+  pub none : length old.master.plan.variables ≤ variable → done ≡ counted false 0
+
+pub record SetsOutputs (old : MachineState) (outputs : List ℕ) (done : Done) (new : MachineState) : Type 0 where
+  pub size : done.count ≡ length old.master.outputs
+  pub is : length outputs ≡ done.count → new ≡ record old { master = record old.master { outputs = outputs } }
+  pub kept : length outputs ≢ done.count → new ≡ old
+
+abbrev pub ShowsInputs : MachineState → List ℕ → Done → List ℕ → MachineState → Type 0
+ShowsInputs old room done shown new = (new ≡ old) × AreShown old.master.inputs room done shown
+
+abbrev pub place_told : Option ℕ → Done
+place_told None = counted false 0
+place_told (Some place) = counted true place
+
+-- a name that is no text in UTF-8 is no variable's
+pub record Finds (old : MachineState) (name : List ℕ) (done : Done) (new : MachineState) : Type 0 where
+  pub same : new ≡ old
+  pub found : IsUtf8 name → done ≡ place_told (variable_named old.table name)
+  pub none : (IsUtf8 name → ⊥) → done ≡ counted false 0
+
+-- ---- a segment
+
+-- a frame passes all slaves; bytes that are none pass none
+pub record Passes (old : List SlaveState) (frame : List ℕ) (is_frame : Bool) (passed : List ℕ) (new : List SlaveState) : Type 0 where
+  pub through : is_frame ≡ true → HasPassedRing old frame new passed
+  pub refused : is_frame ≡ false → IsNoFrame frame × (new ≡ old) × (passed ≡ frame)
+
+-- the slave at a place, if it is there, becomes another, and all others stay
+abbrev pub AtSlave : List SlaveState → ℕ → (SlaveState → SlaveState) → List SlaveState → Type 0
+AtSlave old place f new = ((s : SlaveState) → slice_get old place ≡ Some s → new ≡ set old place (f s)) × (slice_get old place ≡ None → new ≡ old)

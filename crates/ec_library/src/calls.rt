@@ -1,0 +1,166 @@
+//! The calls of a master, over a machine.
+ghost use Rattle.std.specs.Prelude.{◌≡◌};
+ghost use Rattle.ec_cycle.specs.Closing.{ReportState};
+ghost use Rattle.ec_library.specs.Calling.{AreShown, AsksNext, Begins, Closes, Finds, Gets, GivesUp, Sets, SetsOutputs, ShowsInputs, ShowsPart, Takes, TellsPhase, TellsUnit, report_told};
+
+use crate::done::{Done, counted, refused};
+use ec_cycle::Report;
+use ec_owned::Machine;
+
+/// Shows bytes in a room, if it has place for them, and tells how many they are.
+fn show(bytes: &[u8], room: &mut [u8]) -> Done
+    ensures { AreShown bytes.now room.old result room.new }
+{
+    let count = bytes.len();
+    if count > room.len() {
+        return counted(false, count);
+    }
+    room[..count].copy_from_slice(bytes);
+    counted(true, count)
+}
+
+/// The next frame of the start-up.
+pub fn next(machine: &mut Machine, room: &mut [u8]) -> Done
+    ensures { AsksNext machine.old room.old result room.new machine.new }
+{
+    let count = machine.next(room);
+    counted(count > 0, count)
+}
+
+/// Takes a payload.
+pub fn take(machine: &mut Machine, payload: &[u8]) -> Done
+    ensures { Takes machine.old payload.now result machine.new }
+{
+    let is_kept = machine.take(payload);
+    counted(is_kept, machine.missing())
+}
+
+/// Where the start-up stands.
+pub fn phase(machine: &Machine) -> Done
+    ensures { TellsPhase machine.now result machine.now }
+{
+    match machine.outcome() {
+        None => counted(false, 0),
+        Some(Ok(())) => counted(true, 0),
+        Some(Err(error)) => refused(error.number()),
+    }
+}
+
+/// An answer of the start-up is awaited no longer.
+pub fn give_up(machine: &mut Machine)
+    ensures { GivesUp machine.old machine.new }
+{
+    machine.give_up();
+}
+
+/// Begins a cycle.
+pub fn begin(machine: &mut Machine) -> Done
+    ensures { Begins machine.old result machine.new }
+{
+    match machine.begin() {
+        Ok(()) => counted(true, machine.parts()),
+        Err(error) => refused(error.number()),
+    }
+}
+
+/// Shows the frame of a part of the open cycle.
+pub fn show_part(machine: &Machine, part: usize, room: &mut [u8]) -> Done
+    ensures { ShowsPart machine.now part room.old result room.new machine.now }
+{
+    match machine.part(part) {
+        Some(frame) => show(frame, room),
+        None => counted(false, 0),
+    }
+}
+
+/// What a report says.
+fn tell_report(report: &Report) -> Done
+    ensures { result ≡ report_told report.now }
+{
+    Done {
+        number: 0,
+        is_done: report.is_taken(),
+        count: report.missing(),
+        value: u64::from(report.al_word()),
+    }
+}
+
+/// What the last report says, if there was one.
+fn tell_last(machine: &Machine) -> Done
+    ensures { (r : ReportState) → machine.now.report ≡ Some r → result ≡ report_told r }
+{
+    match machine.report() {
+        Some(report) => tell_report(report),
+        None => counted(false, 0),
+    }
+}
+
+/// Closes the cycle.
+pub fn close(machine: &mut Machine) -> Done
+    ensures { Closes machine.old result machine.new }
+{
+    match machine.close() {
+        Ok(()) => tell_last(machine),
+        Err(error) => refused(error.number()),
+    }
+}
+
+/// Whether a sync unit was taken in the last report.
+pub fn tell_unit(machine: &Machine, unit: u8) -> Done
+    ensures { TellsUnit machine.now unit result machine.now }
+{
+    match machine.unit(unit) {
+        Some(is_taken) => counted(is_taken, 1),
+        None => counted(false, 0),
+    }
+}
+
+/// Sets a variable of the outputs.
+pub fn set(machine: &mut Machine, variable: usize, value: u64) -> Done
+    ensures { Sets machine.old variable value result machine.new }
+{
+    counted(machine.set(variable, value), 0)
+}
+
+/// What a variable is.
+pub fn get(machine: &Machine, variable: usize) -> Done
+    ensures { Gets machine.now variable result machine.now }
+{
+    match machine.get(variable) {
+        Some(value) => Done {
+            number: 0,
+            is_done: true,
+            count: 0,
+            value,
+        },
+        None => counted(false, 0),
+    }
+}
+
+/// Sets the image of all outputs.
+pub fn set_outputs(machine: &mut Machine, outputs: &[u8]) -> Done
+    ensures { SetsOutputs machine.old outputs.now result machine.new }
+{
+    let count = machine.set_outputs(outputs);
+    counted(count == outputs.len(), count)
+}
+
+/// Shows the image of all inputs.
+pub fn show_inputs(machine: &Machine, room: &mut [u8]) -> Done
+    ensures { ShowsInputs machine.now room.old result room.new machine.now }
+{
+    show(machine.inputs(), room)
+}
+
+/// The number of the variable with a name.
+pub fn find(machine: &Machine, name: &[u8]) -> Done
+    ensures { Finds machine.now name.now result machine.now }
+{
+    let Ok(name) = str::from_utf8(name) else {
+        return counted(false, 0);
+    };
+    match machine.variable(name) {
+        Some(place) => counted(true, place),
+        None => counted(false, 0),
+    }
+}

@@ -1,0 +1,410 @@
+//! The master and the segment of a link table for programs in C; `include/ecat.h` has the calls as C sees them.
+//!
+//! An export is given a handle by value and hands one back through `out`, so that a handle is never in two places. Each is
+//! proved as it stands: what is behind the handle that it hands back is what the call of a machine, or of slaves, makes of
+//! what was behind the one that it was given.
+#![tactic(auto)]
+
+ghost use Rattle.std.specs.Prelude.{◌≡◌, true, is_some, unwrap_or};
+ghost use Rattle.ec_owned.specs.Opening.{AreOpened, IsOpened};
+ghost use Rattle.ec_slave.specs.Application.{input_put, output_got, output_taken};
+ghost use Rattle.ec_slave.specs.Serving.{faulted, served};
+ghost use Rattle.ec_slave.specs.State.{power_on};
+ghost use Rattle.ec_library.specs.Calling.{AsksNext, AtSlave, Begins, Closes, Finds, Gets, GivesUp, Leads, Passes, Sets, SetsOutputs, ShowsInputs, ShowsPart, Takes, TellsPhase, TellsUnit};
+ghost use Rattle.ec_library.specs.Refusing.{HasOpened};
+
+mod calls;
+mod done;
+mod handle;
+mod opening;
+mod segments;
+
+use crate::done::Done;
+use crate::handle::{
+    MasterHandle, SegmentHandle, conceal_master, conceal_segment, reveal_master, reveal_segment,
+};
+use crate::opening::{Refused, boxed_machine, boxed_slaves, opened, tell_refusal};
+use ec_kept::Kept;
+use std::alloc::Global;
+
+/// Opens the master of the table that bytes state.
+#[unsafe(no_mangle)]
+pub extern "C" fn ecat_c_open(
+    alloc: Global,
+    table: &[u8],
+    name: &mut [u8],
+    told: &mut Refused,
+    out: &mut MasterHandle,
+)
+    ensures { HasOpened (IsOpened table.now) table.now told.new out.new.machine out.old out.new }
+{
+    match boxed_machine(alloc, table) {
+        Ok(machine) => {
+            *told = opened();
+            *out = conceal_master(Kept::of(machine));
+        }
+        Err(error) => *told = tell_refusal(error, name),
+    }
+}
+
+/// Frees a master.
+#[unsafe(no_mangle)]
+pub extern "C" fn ecat_c_drop(alloc: Global, machine: MasterHandle)
+    requires { is_some machine.machine ≡ true }
+{
+    let _machine = reveal_master(machine).into_box(alloc);
+}
+
+/// The next frame of the start-up.
+#[unsafe(no_mangle)]
+pub extern "C" fn ecat_c_next(
+    alloc: Global,
+    machine: MasterHandle,
+    frame: &mut [u8],
+    done: &mut Done,
+    out: &mut MasterHandle,
+)
+    requires { is_some machine.machine ≡ true }
+    ensures { Leads machine.machine out.new.machine (λ m n. AsksNext m frame.old done.new frame.new n) }
+{
+    let mut machine = reveal_master(machine).into_box(alloc);
+    *done = calls::next(&mut machine, frame);
+    *out = conceal_master(Kept::of(machine));
+}
+
+/// Takes a payload that came.
+#[unsafe(no_mangle)]
+pub extern "C" fn ecat_c_take(
+    alloc: Global,
+    machine: MasterHandle,
+    payload: &[u8],
+    done: &mut Done,
+    out: &mut MasterHandle,
+)
+    requires { is_some machine.machine ≡ true }
+    ensures { Leads machine.machine out.new.machine (λ m n. Takes m payload.now done.new n) }
+{
+    let mut machine = reveal_master(machine).into_box(alloc);
+    *done = calls::take(&mut machine, payload);
+    *out = conceal_master(Kept::of(machine));
+}
+
+/// Where the start-up stands.
+#[unsafe(no_mangle)]
+pub extern "C" fn ecat_c_phase(
+    alloc: Global,
+    machine: MasterHandle,
+    done: &mut Done,
+    out: &mut MasterHandle,
+)
+    requires { is_some machine.machine ≡ true }
+    ensures { Leads machine.machine out.new.machine (λ m n. TellsPhase m done.new n) }
+{
+    let machine = reveal_master(machine).into_box(alloc);
+    *done = calls::phase(&machine);
+    *out = conceal_master(Kept::of(machine));
+}
+
+/// An answer of the start-up is awaited no longer.
+#[unsafe(no_mangle)]
+pub extern "C" fn ecat_c_give_up(alloc: Global, machine: MasterHandle, out: &mut MasterHandle)
+    requires { is_some machine.machine ≡ true }
+    ensures { Leads machine.machine out.new.machine (λ m n. GivesUp m n) }
+{
+    let mut machine = reveal_master(machine).into_box(alloc);
+    calls::give_up(&mut machine);
+    *out = conceal_master(Kept::of(machine));
+}
+
+/// Begins a cycle.
+#[unsafe(no_mangle)]
+pub extern "C" fn ecat_c_begin(
+    alloc: Global,
+    machine: MasterHandle,
+    done: &mut Done,
+    out: &mut MasterHandle,
+)
+    requires { is_some machine.machine ≡ true }
+    ensures { Leads machine.machine out.new.machine (λ m n. Begins m done.new n) }
+{
+    let mut machine = reveal_master(machine).into_box(alloc);
+    *done = calls::begin(&mut machine);
+    *out = conceal_master(Kept::of(machine));
+}
+
+/// The frame of a part of the open cycle.
+#[unsafe(no_mangle)]
+pub extern "C" fn ecat_c_part(
+    alloc: Global,
+    machine: MasterHandle,
+    part: usize,
+    frame: &mut [u8],
+    done: &mut Done,
+    out: &mut MasterHandle,
+)
+    requires { is_some machine.machine ≡ true }
+    ensures { Leads machine.machine out.new.machine (λ m n. ShowsPart m part frame.old done.new frame.new n) }
+{
+    let machine = reveal_master(machine).into_box(alloc);
+    *done = calls::show_part(&machine, part, frame);
+    *out = conceal_master(Kept::of(machine));
+}
+
+/// Closes the cycle.
+#[unsafe(no_mangle)]
+pub extern "C" fn ecat_c_close(
+    alloc: Global,
+    machine: MasterHandle,
+    done: &mut Done,
+    out: &mut MasterHandle,
+)
+    requires { is_some machine.machine ≡ true }
+    ensures { Leads machine.machine out.new.machine (λ m n. Closes m done.new n) }
+{
+    let mut machine = reveal_master(machine).into_box(alloc);
+    *done = calls::close(&mut machine);
+    *out = conceal_master(Kept::of(machine));
+}
+
+/// Whether a sync unit was taken in the last report.
+#[unsafe(no_mangle)]
+pub extern "C" fn ecat_c_unit(
+    alloc: Global,
+    machine: MasterHandle,
+    unit: u8,
+    done: &mut Done,
+    out: &mut MasterHandle,
+)
+    requires { is_some machine.machine ≡ true }
+    ensures { Leads machine.machine out.new.machine (λ m n. TellsUnit m unit done.new n) }
+{
+    let machine = reveal_master(machine).into_box(alloc);
+    *done = calls::tell_unit(&machine, unit);
+    *out = conceal_master(Kept::of(machine));
+}
+
+/// Sets a variable of the outputs.
+#[unsafe(no_mangle)]
+pub extern "C" fn ecat_c_set(
+    alloc: Global,
+    machine: MasterHandle,
+    variable: usize,
+    value: u64,
+    done: &mut Done,
+    out: &mut MasterHandle,
+)
+    requires { is_some machine.machine ≡ true }
+    ensures { Leads machine.machine out.new.machine (λ m n. Sets m variable value done.new n) }
+{
+    let mut machine = reveal_master(machine).into_box(alloc);
+    *done = calls::set(&mut machine, variable, value);
+    *out = conceal_master(Kept::of(machine));
+}
+
+/// What a variable is.
+#[unsafe(no_mangle)]
+pub extern "C" fn ecat_c_get(
+    alloc: Global,
+    machine: MasterHandle,
+    variable: usize,
+    done: &mut Done,
+    out: &mut MasterHandle,
+)
+    requires { is_some machine.machine ≡ true }
+    ensures { Leads machine.machine out.new.machine (λ m n. Gets m variable done.new n) }
+{
+    let machine = reveal_master(machine).into_box(alloc);
+    *done = calls::get(&machine, variable);
+    *out = conceal_master(Kept::of(machine));
+}
+
+/// Sets the image of all outputs.
+#[unsafe(no_mangle)]
+pub extern "C" fn ecat_c_outputs(
+    alloc: Global,
+    machine: MasterHandle,
+    outputs: &[u8],
+    done: &mut Done,
+    out: &mut MasterHandle,
+)
+    requires { is_some machine.machine ≡ true }
+    ensures { Leads machine.machine out.new.machine (λ m n. SetsOutputs m outputs.now done.new n) }
+{
+    let mut machine = reveal_master(machine).into_box(alloc);
+    *done = calls::set_outputs(&mut machine, outputs);
+    *out = conceal_master(Kept::of(machine));
+}
+
+/// Shows the image of all inputs.
+#[unsafe(no_mangle)]
+pub extern "C" fn ecat_c_inputs(
+    alloc: Global,
+    machine: MasterHandle,
+    inputs: &mut [u8],
+    done: &mut Done,
+    out: &mut MasterHandle,
+)
+    requires { is_some machine.machine ≡ true }
+    ensures { Leads machine.machine out.new.machine (λ m n. ShowsInputs m inputs.old done.new inputs.new n) }
+{
+    let machine = reveal_master(machine).into_box(alloc);
+    *done = calls::show_inputs(&machine, inputs);
+    *out = conceal_master(Kept::of(machine));
+}
+
+/// The number of the variable with a name.
+#[unsafe(no_mangle)]
+pub extern "C" fn ecat_c_variable(
+    alloc: Global,
+    machine: MasterHandle,
+    name: &[u8],
+    done: &mut Done,
+    out: &mut MasterHandle,
+)
+    requires { is_some machine.machine ≡ true }
+    ensures { Leads machine.machine out.new.machine (λ m n. Finds m name.now done.new n) }
+{
+    let machine = reveal_master(machine).into_box(alloc);
+    *done = calls::find(&machine, name);
+    *out = conceal_master(Kept::of(machine));
+}
+
+/// Opens the slaves of the table that bytes state, just switched on.
+#[unsafe(no_mangle)]
+pub extern "C" fn ecat_c_segment_open(
+    alloc: Global,
+    table: &[u8],
+    name: &mut [u8],
+    told: &mut Refused,
+    out: &mut SegmentHandle,
+)
+    ensures { HasOpened (AreOpened table.now) table.now told.new out.new.slaves out.old out.new }
+{
+    match boxed_slaves(alloc, table) {
+        Ok(slaves) => {
+            *told = opened();
+            *out = conceal_segment(Kept::of(slaves));
+        }
+        Err(error) => *told = tell_refusal(error, name),
+    }
+}
+
+/// Frees a segment.
+#[unsafe(no_mangle)]
+pub extern "C" fn ecat_c_segment_drop(alloc: Global, segment: SegmentHandle)
+    requires { is_some segment.slaves ≡ true }
+{
+    let _slaves = reveal_segment(segment).into_box(alloc);
+}
+
+/// A frame passes all slaves.
+#[unsafe(no_mangle)]
+pub extern "C" fn ecat_c_segment_pass(
+    alloc: Global,
+    segment: SegmentHandle,
+    frame: &mut [u8],
+    done: &mut bool,
+    out: &mut SegmentHandle,
+)
+    requires { is_some segment.slaves ≡ true }
+    ensures { Leads segment.slaves out.new.slaves (λ old new. Passes old frame.old done.new frame.new new) }
+{
+    let mut slaves = reveal_segment(segment).into_box(alloc);
+    *done = segments::pass(&mut slaves, frame);
+    *out = conceal_segment(Kept::of(slaves));
+}
+
+/// The firmware of a slave steps.
+#[unsafe(no_mangle)]
+pub extern "C" fn ecat_c_segment_serve(
+    alloc: Global,
+    segment: SegmentHandle,
+    slave: usize,
+    done: &mut bool,
+    out: &mut SegmentHandle,
+)
+    requires { is_some segment.slaves ≡ true }
+    ensures { Leads segment.slaves out.new.slaves (λ old new. AtSlave old slave served new) }
+{
+    let mut slaves = reveal_segment(segment).into_box(alloc);
+    *done = segments::serve(&mut slaves, slave);
+    *out = conceal_segment(Kept::of(slaves));
+}
+
+/// The application of a slave reads a byte of its outputs.
+#[unsafe(no_mangle)]
+pub extern "C" fn ecat_c_segment_get(
+    alloc: Global,
+    segment: SegmentHandle,
+    slave: usize,
+    place: usize,
+    byte: &mut u8,
+    done: &mut bool,
+    out: &mut SegmentHandle,
+)
+    requires { is_some segment.slaves ≡ true }
+    ensures { Leads segment.slaves out.new.slaves (λ old new. AtSlave old slave (λ s. output_taken s (output_got s place)) new) }
+{
+    let mut slaves = reveal_segment(segment).into_box(alloc);
+    match segments::get(&mut slaves, slave, place) {
+        Some(read) => {
+            *byte = read;
+            *done = true;
+        }
+        None => *done = false,
+    }
+    *out = conceal_segment(Kept::of(slaves));
+}
+
+/// The application of a slave writes a byte of its inputs.
+#[unsafe(no_mangle)]
+pub extern "C" fn ecat_c_segment_put(
+    alloc: Global,
+    segment: SegmentHandle,
+    slave: usize,
+    place: usize,
+    byte: u8,
+    done: &mut bool,
+    out: &mut SegmentHandle,
+)
+    requires { is_some segment.slaves ≡ true }
+    ensures { Leads segment.slaves out.new.slaves (λ old new. AtSlave old slave (λ s. unwrap_or (input_put s place byte) s) new) }
+{
+    let mut slaves = reveal_segment(segment).into_box(alloc);
+    *done = segments::put(&mut slaves, slave, place, byte);
+    *out = conceal_segment(Kept::of(slaves));
+}
+
+/// The application of a slave has a fault.
+#[unsafe(no_mangle)]
+pub extern "C" fn ecat_c_segment_fault(
+    alloc: Global,
+    segment: SegmentHandle,
+    slave: usize,
+    done: &mut bool,
+    out: &mut SegmentHandle,
+)
+    requires { is_some segment.slaves ≡ true }
+    ensures { Leads segment.slaves out.new.slaves (λ old new. AtSlave old slave faulted new) }
+{
+    let mut slaves = reveal_segment(segment).into_box(alloc);
+    *done = segments::fault(&mut slaves, slave);
+    *out = conceal_segment(Kept::of(slaves));
+}
+
+/// A slave is switched off and on.
+#[unsafe(no_mangle)]
+pub extern "C" fn ecat_c_segment_reset(
+    alloc: Global,
+    segment: SegmentHandle,
+    slave: usize,
+    done: &mut bool,
+    out: &mut SegmentHandle,
+)
+    requires { is_some segment.slaves ≡ true }
+    ensures { Leads segment.slaves out.new.slaves (λ old new. AtSlave old slave (λ s. power_on s.kind s.identity) new) }
+{
+    let mut slaves = reveal_segment(segment).into_box(alloc);
+    *done = segments::reset(&mut slaves, slave);
+    *out = conceal_segment(Kept::of(slaves));
+}

@@ -1,0 +1,96 @@
+//! What is opened, and why it isn't.
+ghost use Rattle.std.specs.Prelude.{◌≡◌, ◌≤◌, length, take, IfOk, IfErr};
+ghost use Rattle.ec_owned.specs.Opening.{AreOpened, IsOpenFault, IsOpened, listed};
+ghost use Rattle.ec_library.specs.Refusing.{TellsRefusal, no_refusal, with_values};
+
+use ec_owned::{Machine, OpenError, Values, open_machine, open_slaves};
+use ec_ring::Ring;
+use std::alloc::Global;
+
+/// Why there is nothing behind a handle that was to be opened: the refusal's number, how many bytes its name has, how many
+/// values there are, and these.
+#[repr(C)]
+#[derive(Clone, Copy, Drop)]
+pub struct Refused {
+    pub is_open: bool,
+    pub number: u8,
+    pub name: usize,
+    pub count: usize,
+    pub first: u64,
+    pub second: u64,
+}
+
+/// It is open.
+pub fn opened() -> Refused
+    ensures { result ≡ no_refusal }
+{
+    Refused {
+        is_open: true,
+        number: 0,
+        name: 0,
+        count: 0,
+        first: 0,
+        second: 0,
+    }
+}
+
+/// How many values there are, and these.
+fn spread(values: Values) -> (usize, u64, u64)
+    ensures { with_values result.0 result.1 result.2 ≡ listed values }
+{
+    match values {
+        Values::Empty => (0, 0, 0),
+        Values::One(first) => (1, first, 0),
+        Values::Two(first, second) => (2, first, second),
+    }
+}
+
+/// Writes as much of a name as there is room for, and answers how many bytes that is.
+fn write_name(name: &str, room: &mut [u8]) -> usize
+    ensures few { result ≤ length room.new }
+    ensures written { take result room.new ≡ take result name.now }
+{
+    let bytes = name.as_bytes();
+    let count = bytes.len().min(room.len());
+    room[..count].copy_from_slice(&bytes[..count]);
+    count
+}
+
+/// Tells a refusal, and writes its name.
+pub fn tell_refusal(error: OpenError, room: &mut [u8]) -> Refused
+    ensures { TellsRefusal error result }
+{
+    let (count, first, second) = spread(error.values());
+    Refused {
+        is_open: false,
+        number: error.number(),
+        name: write_name(error.name(), room),
+        count,
+        first,
+        second,
+    }
+}
+
+/// The box of the machine of the table that bytes state.
+pub fn boxed_machine(alloc: Global, table: &[u8]) -> Result<Box<Machine>, OpenError>
+    ensures opened { IfOk result (λ boxed. IsOpened table.now boxed.value) }
+    ensures refused { IfErr result (IsOpenFault table.now) }
+{
+    let machine = open_machine(alloc, table)?;
+    match Box::new(alloc, machine) {
+        Ok(boxed) => Ok(boxed),
+        Err(_) => Err(OpenError::Memory),
+    }
+}
+
+/// The box of the slaves of the table that bytes state.
+pub fn boxed_slaves(alloc: Global, table: &[u8]) -> Result<Box<Ring>, OpenError>
+    ensures opened { IfOk result (λ boxed. AreOpened table.now boxed.value) }
+    ensures refused { IfErr result (IsOpenFault table.now) }
+{
+    let slaves = open_slaves(alloc, table)?;
+    match Box::new(alloc, slaves) {
+        Ok(boxed) => Ok(boxed),
+        Err(_) => Err(OpenError::Memory),
+    }
+}

@@ -1,0 +1,6 @@
+-- To be believed, in this order.
+
+-- a master with all that it needs, and what its calls do
+pub mod Machines
+-- what a text is opened to, and why it isn't
+pub mod Opening

@@ -1,0 +1,73 @@
+//! From a text to what it states.
+ghost use Rattle.std.specs.Prelude.{◌≡◌, None, Ok, IfOk, IfErr, IsUtf8};
+ghost use Rattle.ec_link.specs.Faults.{compile_fault};
+ghost use Rattle.ec_rise.specs.SwitchedOn.{AreSlavesOf};
+ghost use Rattle.ec_table.specs.Reading.{table_of};
+ghost use Rattle.ec_owned.specs.Machines.{new_machine};
+ghost use Rattle.ec_owned.specs.Opening.{AreOpened, IsLinkFault, IsOpenFault, IsOpened};
+
+use crate::error::OpenError;
+use crate::machine::Machine;
+use ec_link::compile;
+use ec_ring::Ring;
+use ec_rise::slaves_of;
+use ec_table::{Table, read_table};
+use std::alloc::Global;
+
+/// The table that bytes state.
+fn table_in(alloc: Global, text: &[u8]) -> Result<Table, OpenError>
+    ensures readable { IfOk result (λ t. IsUtf8 text.now) }
+    ensures stated { IfOk result (λ t. table_of text.now ≡ Ok t) }
+    ensures refused { IfErr result (IsOpenFault text.now) }
+{
+    let Ok(text) = str::from_utf8(text) else {
+        return Err(OpenError::Text);
+    };
+    Ok(read_table(alloc, text)?)
+}
+
+/// The machine of a table.
+fn machine_of(alloc: Global, table: Table) -> Result<Machine, OpenError>
+    ensures accepted { IfOk result (λ m. compile_fault table ≡ None) }
+    ensures new { IfOk result (λ m. m ≡ new_machine table) }
+    ensures refused { IfErr result (IsLinkFault table) }
+{
+    let plan = compile(alloc, &table)?;
+    Ok(Machine::new(alloc, table, plan)?)
+}
+
+/// The machine of the table that bytes state.
+///
+/// # Errors
+///
+/// `Text` where they are no text, and the first fault of the text or of its table; `Memory` where that was refused.
+pub fn open_machine(alloc: Global, text: &[u8]) -> Result<Machine, OpenError>
+    ensures opened { IfOk result (IsOpened text.now) }
+    ensures refused { IfErr result (IsOpenFault text.now) }
+{
+    let table = table_in(alloc, text)?;
+    machine_of(alloc, table)
+}
+
+/// The slaves of a table, just switched on.
+fn slaves_in(alloc: Global, table: &Table) -> Result<Ring, OpenError>
+    ensures accepted { IfOk result (λ slaves. compile_fault table.now ≡ None) }
+    ensures slaves { IfOk result (AreSlavesOf table.now) }
+    ensures refused { IfErr result (IsLinkFault table.now) }
+{
+    let plan = compile(alloc, table)?;
+    Ok(slaves_of(alloc, table, &plan)?)
+}
+
+/// The slaves of the table that bytes state, just switched on.
+///
+/// # Errors
+///
+/// As those of [`open_machine`].
+pub fn open_slaves(alloc: Global, text: &[u8]) -> Result<Ring, OpenError>
+    ensures opened { IfOk result (AreOpened text.now) }
+    ensures refused { IfErr result (IsOpenFault text.now) }
+{
+    let table = table_in(alloc, text)?;
+    slaves_in(alloc, &table)
+}
