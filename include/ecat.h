@@ -22,6 +22,12 @@ extern "C" {
 #include <stddef.h>
 #include <stdint.h>
 
+/* The calls are functions of each file that includes this one. One that defines this as nothing has them for others, as a shared
+   library does. */
+#ifndef ECAT_CALL
+#define ECAT_CALL static inline
+#endif
+
 /* A room for a frame has so many bytes: the most that a frame has. */
 #define ECAT_FRAME 1472
 
@@ -93,7 +99,7 @@ static inline uint8_t ecat_told(const struct ecat_refused *told, const uint8_t *
 
 /* Opens the master of a link table, and answers 0; or the refusal's number, and tells more of it where `refusal` isn't null.
    255 is none of the table: there is no handle, or it is open already. */
-static inline uint8_t ecat_open(struct ecat *m, const char *table, size_t len, struct ecat_refusal *refusal) {
+ECAT_CALL uint8_t ecat_open(struct ecat *m, const char *table, size_t len, struct ecat_refusal *refusal) {
     struct ecat_refused told = {0, 0, 0, 0, 0, 0};
     uint8_t name[24];
     uint8_t *bytes = ecat_bytes(table, &len);
@@ -103,13 +109,13 @@ static inline uint8_t ecat_open(struct ecat *m, const char *table, size_t len, s
 }
 
 /* Frees all that the handle owns. Of one that is {0} it is nothing. */
-static inline void ecat_drop(struct ecat *m) {
+ECAT_CALL void ecat_drop(struct ecat *m) {
     if (m && m->at) ecat_c_drop(ecat_lent(m));
 }
 
 /* Writes the next frame of the start-up, and answers its length: 0 where none is to be sent, or the room has less than
    ECAT_FRAME bytes. After a failure the start-up begins again. */
-static inline size_t ecat_next(struct ecat *m, uint8_t *frame, size_t room) {
+ECAT_CALL size_t ecat_next(struct ecat *m, uint8_t *frame, size_t room) {
     struct ecat_done done = {0, 0, 0, 0};
     uint8_t *bytes = ecat_bytes(frame, &room);
     if (!m || !m->at) return 0;
@@ -119,7 +125,7 @@ static inline size_t ecat_next(struct ecat *m, uint8_t *frame, size_t room) {
 
 /* Takes a payload that came, and answers whether it answered a frame of the start-up or of the open cycle. `missing` becomes
    how many frames of that cycle are not back. */
-static inline bool ecat_take(struct ecat *m, const uint8_t *payload, size_t len, size_t *missing) {
+ECAT_CALL bool ecat_take(struct ecat *m, const uint8_t *payload, size_t len, size_t *missing) {
     struct ecat_done done = {0, 0, 0, 0};
     uint8_t *bytes = ecat_bytes(payload, &len);
     if (!m || !m->at) return false;
@@ -129,7 +135,7 @@ static inline bool ecat_take(struct ecat *m, const uint8_t *payload, size_t len,
 }
 
 /* 1 Ready, 0 starting, or minus the number of the start-up's failure. */
-static inline int ecat_phase(struct ecat *m) {
+ECAT_CALL int ecat_phase(struct ecat *m) {
     struct ecat_done done = {0, 0, 0, 0};
     if (!m || !m->at) return 0;
     ecat_c_phase(ecat_lent(m), &done, m);
@@ -137,12 +143,12 @@ static inline int ecat_phase(struct ecat *m) {
 }
 
 /* An answer of the start-up is awaited no longer: one that runs has failed. */
-static inline void ecat_give_up(struct ecat *m) {
+ECAT_CALL void ecat_give_up(struct ecat *m) {
     if (m && m->at) ecat_c_give_up(ecat_lent(m), m);
 }
 
 /* Begins a cycle and answers how many parts it has, or minus the number of the refusal; -255 without a handle. */
-static inline int ecat_begin(struct ecat *m) {
+ECAT_CALL int ecat_begin(struct ecat *m) {
     struct ecat_done done = {0, 0, 0, 0};
     if (!m || !m->at) return -255;
     ecat_c_begin(ecat_lent(m), &done, m);
@@ -150,7 +156,7 @@ static inline int ecat_begin(struct ecat *m) {
 }
 
 /* Writes the frame of a part of the open cycle, and answers its length: 0 where there is none, or no room for it. */
-static inline size_t ecat_part(struct ecat *m, size_t part, uint8_t *frame, size_t room) {
+ECAT_CALL size_t ecat_part(struct ecat *m, size_t part, uint8_t *frame, size_t room) {
     struct ecat_done done = {0, 0, 0, 0};
     uint8_t *bytes = ecat_bytes(frame, &room);
     if (!m || !m->at) return 0;
@@ -160,7 +166,7 @@ static inline size_t ecat_part(struct ecat *m, size_t part, uint8_t *frame, size
 
 /* Closes the cycle, and answers whether the inputs of all sync units were taken. `missing` becomes how many frames were not
    back, and `al` the OR of the slaves' AL status words. */
-static inline bool ecat_close(struct ecat *m, size_t *missing, uint16_t *al) {
+ECAT_CALL bool ecat_close(struct ecat *m, size_t *missing, uint16_t *al) {
     struct ecat_done done = {0, 0, 0, 0};
     if (!m || !m->at) return false;
     ecat_c_close(ecat_lent(m), &done, m);
@@ -170,7 +176,7 @@ static inline bool ecat_close(struct ecat *m, size_t *missing, uint16_t *al) {
 }
 
 /* Of the last report: 1 where the inputs of the sync unit with this number were taken, 0 where not, -1 of no such unit. */
-static inline int ecat_unit(struct ecat *m, size_t unit) {
+ECAT_CALL int ecat_unit(struct ecat *m, size_t unit) {
     struct ecat_done done = {0, 0, 0, 0};
     if (!m || !m->at || unit > 255) return -1;
     ecat_c_unit(ecat_lent(m), (uint8_t)unit, &done, m);
@@ -178,7 +184,7 @@ static inline int ecat_unit(struct ecat *m, size_t unit) {
 }
 
 /* A variable of the outputs becomes a value; false where it isn't there, is an input or has too few bits. */
-static inline bool ecat_set(struct ecat *m, size_t variable, uint64_t value) {
+ECAT_CALL bool ecat_set(struct ecat *m, size_t variable, uint64_t value) {
     struct ecat_done done = {0, 0, 0, 0};
     if (!m || !m->at) return false;
     ecat_c_set(ecat_lent(m), variable, value, &done, m);
@@ -186,7 +192,7 @@ static inline bool ecat_set(struct ecat *m, size_t variable, uint64_t value) {
 }
 
 /* What a variable is; 0 where it isn't there. */
-static inline uint64_t ecat_get(struct ecat *m, size_t variable) {
+ECAT_CALL uint64_t ecat_get(struct ecat *m, size_t variable) {
     struct ecat_done done = {0, 0, 0, 0};
     if (!m || !m->at) return 0;
     ecat_c_get(ecat_lent(m), variable, &done, m);
@@ -194,7 +200,7 @@ static inline uint64_t ecat_get(struct ecat *m, size_t variable) {
 }
 
 /* How many bytes the image of all outputs has. Where that is `len`, they become its bytes: the variables bit after bit. */
-static inline size_t ecat_outputs(struct ecat *m, const uint8_t *outputs, size_t len) {
+ECAT_CALL size_t ecat_outputs(struct ecat *m, const uint8_t *outputs, size_t len) {
     struct ecat_done done = {0, 0, 0, 0};
     uint8_t *bytes = ecat_bytes(outputs, &len);
     if (!m || !m->at) return 0;
@@ -203,7 +209,7 @@ static inline size_t ecat_outputs(struct ecat *m, const uint8_t *outputs, size_t
 }
 
 /* How many bytes the image of all inputs has. Where they have room they are written there. */
-static inline size_t ecat_inputs(struct ecat *m, uint8_t *inputs, size_t room) {
+ECAT_CALL size_t ecat_inputs(struct ecat *m, uint8_t *inputs, size_t room) {
     struct ecat_done done = {0, 0, 0, 0};
     uint8_t *bytes = ecat_bytes(inputs, &room);
     if (!m || !m->at) return 0;
@@ -212,7 +218,7 @@ static inline size_t ecat_inputs(struct ecat *m, uint8_t *inputs, size_t room) {
 }
 
 /* The number of the variable with a name, or -1. */
-static inline long ecat_variable(struct ecat *m, const char *name) {
+ECAT_CALL long ecat_variable(struct ecat *m, const char *name) {
     struct ecat_done done = {0, 0, 0, 0};
     size_t len = 0;
     if (!m || !m->at || !name) return -1;
@@ -224,7 +230,7 @@ static inline long ecat_variable(struct ecat *m, const char *name) {
 /* ---- a segment: the slaves of a link table, just switched on */
 
 /* As `ecat_open`. `full` asks for slaves as usual masters expect them; where they can't be shown so, it is refused by 255. */
-static inline uint8_t ecat_segment_open(struct ecat_segment *s, const char *table, size_t len, bool full, struct ecat_refusal *refusal) {
+ECAT_CALL uint8_t ecat_segment_open(struct ecat_segment *s, const char *table, size_t len, bool full, struct ecat_refusal *refusal) {
     struct ecat_refused told = {0, 0, 0, 0, 0, 0};
     uint8_t name[24];
     uint8_t *bytes = ecat_bytes(table, &len);
@@ -233,12 +239,12 @@ static inline uint8_t ecat_segment_open(struct ecat_segment *s, const char *tabl
     return ecat_told(&told, name, refusal);
 }
 
-static inline void ecat_segment_drop(struct ecat_segment *s) {
+ECAT_CALL void ecat_segment_drop(struct ecat_segment *s) {
     if (s && s->at) ecat_c_segment_drop(ecat_segment_lent(s));
 }
 
 /* A frame passes all slaves in place; false, and nothing changes, where the bytes are none. */
-static inline bool ecat_segment_pass(struct ecat_segment *s, uint8_t *frame, size_t len) {
+ECAT_CALL bool ecat_segment_pass(struct ecat_segment *s, uint8_t *frame, size_t len) {
     bool done = false;
     uint8_t *bytes = ecat_bytes(frame, &len);
     if (!s || !s->at) return false;
@@ -249,7 +255,7 @@ static inline bool ecat_segment_pass(struct ecat_segment *s, uint8_t *frame, siz
 /* The calls of a slave, the first being 0. Each answers false, and changes nothing, where it isn't there or denies. */
 
 /* Its firmware steps. */
-static inline bool ecat_segment_serve(struct ecat_segment *s, size_t slave) {
+ECAT_CALL bool ecat_segment_serve(struct ecat_segment *s, size_t slave) {
     bool done = false;
     if (!s || !s->at) return false;
     ecat_c_segment_serve(ecat_segment_lent(s), slave, &done, s);
@@ -257,7 +263,7 @@ static inline bool ecat_segment_serve(struct ecat_segment *s, size_t slave) {
 }
 
 /* Its application reads a byte of its outputs. Byte 0 comes first and opens a view, which the last closes. */
-static inline bool ecat_segment_get(struct ecat_segment *s, size_t slave, size_t place, uint8_t *byte) {
+ECAT_CALL bool ecat_segment_get(struct ecat_segment *s, size_t slave, size_t place, uint8_t *byte) {
     bool done = false;
     uint8_t read = 0;
     if (!s || !s->at) return false;
@@ -267,7 +273,7 @@ static inline bool ecat_segment_get(struct ecat_segment *s, size_t slave, size_t
 }
 
 /* Its application writes a byte of its inputs. Byte 0 comes first and opens a draft, which the last publishes. */
-static inline bool ecat_segment_put(struct ecat_segment *s, size_t slave, size_t place, uint8_t byte) {
+ECAT_CALL bool ecat_segment_put(struct ecat_segment *s, size_t slave, size_t place, uint8_t byte) {
     bool done = false;
     if (!s || !s->at) return false;
     ecat_c_segment_put(ecat_segment_lent(s), slave, place, byte, &done, s);
@@ -275,7 +281,7 @@ static inline bool ecat_segment_put(struct ecat_segment *s, size_t slave, size_t
 }
 
 /* Its application has a fault: it goes from OP to SAFEOP, and shows an error. */
-static inline bool ecat_segment_fault(struct ecat_segment *s, size_t slave) {
+ECAT_CALL bool ecat_segment_fault(struct ecat_segment *s, size_t slave) {
     bool done = false;
     if (!s || !s->at) return false;
     ecat_c_segment_fault(ecat_segment_lent(s), slave, &done, s);
@@ -283,7 +289,7 @@ static inline bool ecat_segment_fault(struct ecat_segment *s, size_t slave) {
 }
 
 /* It is switched off and on. */
-static inline bool ecat_segment_reset(struct ecat_segment *s, size_t slave) {
+ECAT_CALL bool ecat_segment_reset(struct ecat_segment *s, size_t slave) {
     bool done = false;
     if (!s || !s->at) return false;
     ecat_c_segment_reset(ecat_segment_lent(s), slave, &done, s);
