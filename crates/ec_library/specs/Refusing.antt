@@ -18,7 +18,7 @@ pub record TellsRefusal (error : OpenError) (told : Refused) : Type 0 where
 
 -- Something is opened of a table, and there is something behind the handle that is like it; or the refusal is told, and the
 -- handle stays.
-abbrev Opens : {S H : Type 0} → (S → Type 0) → List ℕ → Bool → Refused → Option S → (old new : H) → Type 0
+abbrev pub Opens : {S H : Type 0} → (S → Type 0) → List ℕ → Bool → Refused → Option S → (old new : H) → Type 0
 Opens {S} is_opened table true told behind old new = (told ≡ no_refusal) × ((s : S) × (behind ≡ Some s) × is_opened s)
 Opens {S} is_opened table false told behind old new = ((error : OpenError) × IsOpenFault table error × TellsRefusal error told) × (new ≡ old)
 

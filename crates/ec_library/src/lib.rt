@@ -8,7 +8,8 @@
 ghost use Rattle.std.specs.Prelude.{◌≡◌, true, is_some, unwrap_or};
 ghost use Rattle.ec_owned.specs.Opening.{AreOpened, IsOpened};
 ghost use Rattle.ec_slave.specs.Application.{input_put, output_got, output_taken};
-ghost use Rattle.ec_slave.specs.Serving.{faulted, served};
+ghost use Rattle.ec_slave.specs.Faulting.{faulted};
+ghost use Rattle.ec_slave.specs.Serving.{served};
 ghost use Rattle.ec_slave.specs.State.{power_on};
 ghost use Rattle.ec_library.specs.Calling.{AsksNext, AtSlave, Begins, Closes, Finds, Gets, GivesUp, Leads, Passes, Sets, SetsOutputs, ShowsInputs, ShowsPart, Takes, TellsPhase, TellsUnit};
 ghost use Rattle.ec_library.specs.Refusing.{HasOpened};
@@ -28,6 +29,7 @@ use ec_kept::Kept;
 use std::alloc::Global;
 
 /// Opens the master of the table that bytes state.
+#[tactic(auto, using(crate::proofs::Leading::opened_as, crate::proofs::Leading::refused_as))]
 #[unsafe(no_mangle)]
 pub extern "C" fn ecat_c_open(
     alloc: Global,
@@ -56,6 +58,7 @@ pub extern "C" fn ecat_c_drop(alloc: Global, machine: MasterHandle)
 }
 
 /// The next frame of the start-up.
+#[tactic(auto, using(crate::proofs::Leading::leads))]
 #[unsafe(no_mangle)]
 pub extern "C" fn ecat_c_next(
     alloc: Global,
@@ -73,6 +76,7 @@ pub extern "C" fn ecat_c_next(
 }
 
 /// Takes a payload that came.
+#[tactic(auto, using(crate::proofs::Leading::leads))]
 #[unsafe(no_mangle)]
 pub extern "C" fn ecat_c_take(
     alloc: Global,
@@ -90,6 +94,7 @@ pub extern "C" fn ecat_c_take(
 }
 
 /// Where the start-up stands.
+#[tactic(auto, using(crate::proofs::Leading::leads))]
 #[unsafe(no_mangle)]
 pub extern "C" fn ecat_c_phase(
     alloc: Global,
@@ -106,6 +111,7 @@ pub extern "C" fn ecat_c_phase(
 }
 
 /// An answer of the start-up is awaited no longer.
+#[tactic(auto, using(crate::proofs::Leading::leads))]
 #[unsafe(no_mangle)]
 pub extern "C" fn ecat_c_give_up(alloc: Global, machine: MasterHandle, out: &mut MasterHandle)
     requires { is_some machine.machine ≡ true }
@@ -117,6 +123,7 @@ pub extern "C" fn ecat_c_give_up(alloc: Global, machine: MasterHandle, out: &mut
 }
 
 /// Begins a cycle.
+#[tactic(auto, using(crate::proofs::Leading::leads))]
 #[unsafe(no_mangle)]
 pub extern "C" fn ecat_c_begin(
     alloc: Global,
@@ -133,6 +140,7 @@ pub extern "C" fn ecat_c_begin(
 }
 
 /// The frame of a part of the open cycle.
+#[tactic(auto, using(crate::proofs::Leading::leads))]
 #[unsafe(no_mangle)]
 pub extern "C" fn ecat_c_part(
     alloc: Global,
@@ -151,6 +159,7 @@ pub extern "C" fn ecat_c_part(
 }
 
 /// Closes the cycle.
+#[tactic(auto, using(crate::proofs::Leading::leads))]
 #[unsafe(no_mangle)]
 pub extern "C" fn ecat_c_close(
     alloc: Global,
@@ -167,6 +176,7 @@ pub extern "C" fn ecat_c_close(
 }
 
 /// Whether a sync unit was taken in the last report.
+#[tactic(auto, using(crate::proofs::Leading::leads))]
 #[unsafe(no_mangle)]
 pub extern "C" fn ecat_c_unit(
     alloc: Global,
@@ -184,6 +194,7 @@ pub extern "C" fn ecat_c_unit(
 }
 
 /// Sets a variable of the outputs.
+#[tactic(auto, using(crate::proofs::Leading::leads))]
 #[unsafe(no_mangle)]
 pub extern "C" fn ecat_c_set(
     alloc: Global,
@@ -202,6 +213,7 @@ pub extern "C" fn ecat_c_set(
 }
 
 /// What a variable is.
+#[tactic(auto, using(crate::proofs::Leading::leads))]
 #[unsafe(no_mangle)]
 pub extern "C" fn ecat_c_get(
     alloc: Global,
@@ -219,6 +231,7 @@ pub extern "C" fn ecat_c_get(
 }
 
 /// Sets the image of all outputs.
+#[tactic(auto, using(crate::proofs::Leading::leads))]
 #[unsafe(no_mangle)]
 pub extern "C" fn ecat_c_outputs(
     alloc: Global,
@@ -236,6 +249,7 @@ pub extern "C" fn ecat_c_outputs(
 }
 
 /// Shows the image of all inputs.
+#[tactic(auto, using(crate::proofs::Leading::leads))]
 #[unsafe(no_mangle)]
 pub extern "C" fn ecat_c_inputs(
     alloc: Global,
@@ -253,6 +267,7 @@ pub extern "C" fn ecat_c_inputs(
 }
 
 /// The number of the variable with a name.
+#[tactic(auto, using(crate::proofs::Leading::leads))]
 #[unsafe(no_mangle)]
 pub extern "C" fn ecat_c_variable(
     alloc: Global,
@@ -270,6 +285,7 @@ pub extern "C" fn ecat_c_variable(
 }
 
 /// Opens the slaves of the table that bytes state, just switched on.
+#[tactic(auto, using(crate::proofs::Leading::opened_as, crate::proofs::Leading::refused_as))]
 #[unsafe(no_mangle)]
 pub extern "C" fn ecat_c_segment_open(
     alloc: Global,
@@ -298,6 +314,7 @@ pub extern "C" fn ecat_c_segment_drop(alloc: Global, segment: SegmentHandle)
 }
 
 /// A frame passes all slaves.
+#[tactic(auto, using(crate::proofs::Leading::leads))]
 #[unsafe(no_mangle)]
 pub extern "C" fn ecat_c_segment_pass(
     alloc: Global,
@@ -315,6 +332,7 @@ pub extern "C" fn ecat_c_segment_pass(
 }
 
 /// The firmware of a slave steps.
+#[tactic(auto, using(crate::proofs::Leading::leads))]
 #[unsafe(no_mangle)]
 pub extern "C" fn ecat_c_segment_serve(
     alloc: Global,
@@ -332,6 +350,7 @@ pub extern "C" fn ecat_c_segment_serve(
 }
 
 /// The application of a slave reads a byte of its outputs.
+#[tactic(auto, using(crate::proofs::Leading::leads))]
 #[unsafe(no_mangle)]
 pub extern "C" fn ecat_c_segment_get(
     alloc: Global,
@@ -357,6 +376,7 @@ pub extern "C" fn ecat_c_segment_get(
 }
 
 /// The application of a slave writes a byte of its inputs.
+#[tactic(auto, using(crate::proofs::Leading::leads))]
 #[unsafe(no_mangle)]
 pub extern "C" fn ecat_c_segment_put(
     alloc: Global,
@@ -376,6 +396,7 @@ pub extern "C" fn ecat_c_segment_put(
 }
 
 /// The application of a slave has a fault.
+#[tactic(auto, using(crate::proofs::Leading::leads))]
 #[unsafe(no_mangle)]
 pub extern "C" fn ecat_c_segment_fault(
     alloc: Global,
@@ -393,6 +414,7 @@ pub extern "C" fn ecat_c_segment_fault(
 }
 
 /// A slave is switched off and on.
+#[tactic(auto, using(crate::proofs::Leading::leads))]
 #[unsafe(no_mangle)]
 pub extern "C" fn ecat_c_segment_reset(
     alloc: Global,

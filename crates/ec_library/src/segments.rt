@@ -1,7 +1,8 @@
 //! The calls of a segment, over its slaves.
 ghost use Rattle.std.specs.Prelude.{◌≡◌, nat_lt, length, slice_get, is_some, option_and_then, option_map, unwrap_or};
 ghost use Rattle.ec_slave.specs.Application.{input_put, output_got, output_taken};
-ghost use Rattle.ec_slave.specs.Serving.{faulted, served};
+ghost use Rattle.ec_slave.specs.Faulting.{faulted};
+ghost use Rattle.ec_slave.specs.Serving.{served};
 ghost use Rattle.ec_slave.specs.State.{power_on};
 ghost use Rattle.ec_library.specs.Calling.{AtSlave, Passes};
 
