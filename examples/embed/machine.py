@@ -69,15 +69,16 @@ def main():
         serve(lib, segment)
         must(lib.ecat_take(master, frame, count, None), "its answer is taken")
     must(lib.ecat_phase(master) == 1, "the start-up ends ready")
-    wanted, force, taken = lib.ecat_variable(master, b"force_wanted"), lib.ecat_variable(master, b"force"), 0
+    valves, switches, taken = lib.ecat_variable(master, b"valves"), lib.ecat_variable(master, b"switches"), 0
     for k in range(1, cycles + 1):
-        must(lib.ecat_set(master, wanted, k & 0xFFFF), "a variable is set")
+        must(lib.ecat_set(master, valves, k & 3), "a variable is set")
         for part in range(lib.ecat_begin(master)):
             count = lib.ecat_part(master, part, frame, FRAME)
             must(lib.ecat_segment_pass(segment, frame, count) and lib.ecat_take(master, frame, count, ctypes.byref(missing)), "a part passes")
         serve(lib, segment)
         taken += lib.ecat_close(master, ctypes.byref(missing), ctypes.byref(al))
-    print(f"{cycles} cycles, {taken} taken, AL {al.value:04x}, force {lib.ecat_get(master, force)}")
+        must(k == 1 or lib.ecat_get(master, switches) == (k - 1 & 3) << 1, "inputs are what the slave showed")
+    print(f"{cycles} cycles, {taken} taken, AL {al.value:04x}")
     must(taken == cycles and al.value == 8, "all cycles are taken")
     lib.ecat_drop(master)
     lib.ecat_drop(master)
