@@ -5,9 +5,7 @@ use std::process::Abort;
 use std::test::Fail;
 
 /// A broadcast read of the AL status: 16 bytes.
-const STATUS: [u8; 16] = [
-    0x0e, 0x10, 7, 1, 0, 0, 0x30, 0x01, 2, 0, 0, 0, 0, 0, 0, 0,
-];
+const STATUS: [u8; 16] = [0x0e, 0x10, 7, 1, 0, 0, 0x30, 0x01, 2, 0, 0, 0, 0, 0, 0, 0];
 
 /// The head of a file, as the form is written down: type, size, byte order, version 1.0, no length, size.
 const SECTION: &str = "0a0d0d0a 1c000000 4d3c2b1a 0100 0000 ffffffffffffffff 1c000000";
@@ -15,12 +13,14 @@ const SECTION: &str = "0a0d0d0a 1c000000 4d3c2b1a 0100 0000 ffffffffffffffff 1c0
 /// Two interfaces: type, size, Ethernet, frames of up to 65535 bytes, the name, the end of options, size.
 const MASTER: &str =
     "01000000 24000000 0100 0000 ffff0000 0200 0600 6d6173746572 0000 0000 0000 24000000";
+
 const BEHIND: &str =
     "01000000 28000000 0100 0000 ffff0000 0200 0900 626568696e6420696f 000000 0000 0000 28000000";
 
 /// Two packets: type, size, interface, time, the counts, the Ethernet frame with what fills it up, the comment, size.
 const SENT: &str = "06000000 40000000 00000000 00000000 01000000 1e000000 1e000000
     ffffffffffff 000000454301 88a4 0e10070100003001020000000000 0000 0000 40000000";
+
 const PASSED: &str = "06000000 54000000 01000000 01000000 89674523 1d000000 1d000000
     ffffffffffff 020000454301 88a4 0e1007010000300102000000000000 000000
     0100 0900 6c6f7374 20686572 65 000000 0000 0000 54000000";

@@ -9,7 +9,9 @@ grows-none None = tt
 grows-none (Some xs) = sym (append-nil xs)
 
 grows-then : (a b c : Option (List (List ℕ))) (ps qs : List (List ℕ)) → Grows a b ps → Grows b c qs → Grows a c (ps ++ qs)
-grows-then None b c ps qs g h = tt
+grows-then None None None ps qs g h = tt
+grows-then None None (Some zs) ps qs g h = absurd h
+grows-then None (Some ys) c ps qs g h = absurd g
 grows-then (Some xs) None c ps qs g h = absurd g
 grows-then (Some xs) (Some ys) None ps qs g h = absurd h
 grows-then (Some xs) (Some ys) (Some zs) ps qs g h = h ∙ ap (λ (l : List (List ℕ)). l ++ qs) g ∙ append_assoc xs ps qs

@@ -15,9 +15,10 @@ most_failed = 18446744073709551615
 abbrev pub is_fault : WireState → WireState → Bool
 is_fault old new = nat_lt old.failed new.failed || (old.failed == most_failed)
 
--- Told payloads stay, and these come behind them. Of a wire that tells none nothing is said.
+-- Told payloads stay, and these come behind them. Of a wire that tells none nothing is said, and it goes on telling none.
 abbrev pub Grows : Option (List (List ℕ)) → Option (List (List ℕ)) → List (List ℕ) → Type 0
-Grows None new payloads = Unit {0}
+Grows None None payloads = Unit {0}
+Grows None (Some new) payloads = ⊥
 Grows (Some old) None payloads = ⊥
 Grows (Some old) (Some new) payloads = new ≡ old ++ payloads
 

@@ -23,4 +23,4 @@ pub use crate::payload::Payload;
 pub use crate::segment::{Served, serve_counted, serve_segment};
 pub use crate::startup::bring_up_wire;
 pub use crate::udp::UdpWire;
-pub use crate::wire::Wire;
+pub use crate::wire::{Wire, receive_on, send_on};

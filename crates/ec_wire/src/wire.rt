@@ -33,7 +33,7 @@ fn is_fine(before: u64, after: u64) -> bool
 }
 
 /// Sends a payload, and answers whether that was no fault.
-pub(crate) fn send_on<W: Wire>(wire: &mut W, payload: &[u8]) -> bool
+pub fn send_on<W: Wire>(wire: &mut W, payload: &[u8]) -> bool
     ensures fault { result ≡ not (is_fault (W.state wire.old) (W.state wire.new)) }
     ensures same { result ≡ true → (W.state wire.new).failed ≡ (W.state wire.old).failed }
     ensures done { result ≡ true → Carries (W.state wire.old) (W.state wire.new) (payload.now ∷ []) [] }
@@ -45,7 +45,7 @@ pub(crate) fn send_on<W: Wire>(wire: &mut W, payload: &[u8]) -> bool
 }
 
 /// Receives a payload into `buffer`, and answers its length there, or nothing at a fault.
-pub(crate) fn receive_on<W: Wire>(wire: &mut W, buffer: &mut [u8]) -> Option<usize>
+pub fn receive_on<W: Wire>(wire: &mut W, buffer: &mut [u8]) -> Option<usize>
     ensures fault { is_some result ≡ not (is_fault (W.state wire.old) (W.state wire.new)) }
     ensures same { IfSome result (λ count. (W.state wire.new).failed ≡ (W.state wire.old).failed) }
     ensures within { IfSome result (λ count. count ≤ length buffer.new) }

@@ -1,0 +1,2 @@
+-- To be believed: what is noted of a wire.
+pub mod Taps

@@ -1,0 +1,140 @@
+ghost use Rattle.std.specs.Prelude.{◌≡◌, ℕ, [], ◌∷◌};
+ghost use Rattle.ec_capture.specs.Recordings.{Notes};
+ghost use Rattle.ec_tap.specs.Taps.{has_passed, seen_of};
+
+use ec_capture::{Packet, Recorder};
+use ec_wire::{Wire, receive_on, send_on};
+use std::io::Write;
+use std::marker::Model;
+use std::time::{Clock, SystemTime, UNIX_EPOCH};
+
+/// At which end of a segment a wire is.
+#[derive(Clone, Copy, Debug, PartialEq, Eq)]
+pub enum Side {
+    /// At the master's: what it receives has passed the slaves.
+    Master,
+    /// At the slaves': what they send has passed them.
+    Segment,
+}
+
+/// A wire whose payloads are noted in a capture, at its first interface, with the time of a clock. It carries them as the wire
+/// in it does; a capture that is cut short changes nothing of that.
+#[derive(Drop)]
+pub struct CapturedWire<'c, W: Wire + Drop, O: Write + Drop, C: Clock> {
+    wire: W,
+    capture: Recorder<O>,
+    side: Side,
+    clock: &'c C,
+}
+
+impl<'c, W: Wire + Drop, O: Write + Drop, C: Clock> Model for CapturedWire<'c, W, O, C> {
+    ghost use Rattle.ec_tap.specs.Taps.{IsTapped, Tap};
+
+    ghost Value = { Tap };
+
+    ghost view = { λ t. record { side = t.side; wire = W.state t.wire; capture = t.capture } };
+
+    ghost invariant = { λ t. IsTapped t.side (W.state t.wire) t.capture };
+}
+
+/// The time since 1970 in microseconds, or 0 where the clock tells none.
+fn micros_now<C: Clock>(clock: &C) -> u64 {
+    let Ok(now) = SystemTime::now(clock) else {
+        return 0;
+    };
+    match now.duration_since(UNIX_EPOCH) {
+        Ok(passed) => u64::try_from(passed.as_micros()).unwrap_or(0),
+        Err(_) => 0,
+    }
+}
+
+/// Whether a payload has passed slaves.
+fn has_passed(side: Side, is_sent: bool) -> bool
+    ensures { result ≡ has_passed side is_sent }
+{
+    match side {
+        Side::Master => !is_sent,
+        Side::Segment => is_sent,
+    }
+}
+
+/// Notes a payload, with the time.
+fn note<O: Write + Drop, C: Clock>(
+    capture: &mut Recorder<O>,
+    side: Side,
+    clock: &C,
+    is_sent: bool,
+    payload: &[u8],
+)
+    ensures { (time : ℕ) × Notes (seen_of side (record { is_sent = is_sent; time = time; payload = payload.now }) ∷ []) capture.old capture.new }
+{
+    let time = micros_now(clock);
+    capture.note(&Packet {
+        interface: 0,
+        time,
+        passed: has_passed(side, is_sent),
+        payload,
+        comment: None,
+    });
+}
+
+impl<'c, W: Wire + Drop, O: Write + Drop, C: Clock> CapturedWire<'c, W, O, C> {
+    ghost use Rattle.ec_tap.specs.Taps.{IsTapped, Tells};
+
+    /// The wire, which has carried nothing yet, with a capture.
+    pub fn new(wire: W, capture: Recorder<O>, side: Side, clock: &'c C) -> CapturedWire<'c, W, O, C>
+        requires sent { Tells (W.state wire).sent [] }
+        requires received { Tells (W.state wire).received [] }
+        ensures { result ≡ record { side = side; wire = W.state wire; capture = capture } }
+    {
+        CapturedWire {
+            wire,
+            capture,
+            side,
+            clock,
+        }
+    }
+
+    /// The wire, and the capture, in which all that the wire carried is noted, in order.
+    pub fn into_parts(self) -> (W, Recorder<O>)
+        ensures wire { W.state result.0 ≡ self.entry.wire }
+        ensures capture { result.1 ≡ self.entry.capture }
+        ensures tapped { IsTapped self.entry.side self.entry.wire self.entry.capture }
+    {
+        let CapturedWire {
+            wire,
+            capture,
+            side: _,
+            clock: _,
+        } = self;
+        (wire, capture)
+    }
+}
+
+impl<'c, W: Wire + Drop, O: Write + Drop, C: Clock> Wire for CapturedWire<'c, W, O, C> {
+    ghost state = { λ t. t.wire };
+
+    fn failures(&self) -> u64 {
+        self.wire.failures()
+    }
+
+    fn send(&mut self, payload: &[u8]) {
+        if send_on(&mut self.wire, payload) {
+            note(&mut self.capture, self.side, self.clock, true, payload);
+        }
+    }
+
+    fn recv(&mut self, buffer: &mut [u8]) -> usize {
+        let Some(count) = receive_on(&mut self.wire, buffer) else {
+            return 0;
+        };
+        note(
+            &mut self.capture,
+            self.side,
+            self.clock,
+            false,
+            &buffer[..count],
+        );
+        count
+    }
+}
