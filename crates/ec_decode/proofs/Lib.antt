@@ -1,6 +1,11 @@
+pub mod Encoding
+pub mod Holdings
 pub mod Lines
 pub mod Numbers
 pub mod Payloads
 pub mod Places
+pub mod ReadingFrames
+pub mod ReadingLines
+pub mod ReadingWords
 pub mod Verbs
 pub mod Walking

@@ -38,7 +38,7 @@ parts false b c h = cc
 pub is_true : (m n : ℕ) → m < n → nat_lt m n ≡ true
 is_true m n h = grind (arith, nat_tests)
 
-is_less : (m n : ℕ) → nat_lt m n ≡ true → m < n
+pub is_less : (m n : ℕ) → nat_lt m n ≡ true → m < n
 is_less m n h = grind (arith, nat_tests)
 
 pub by_test : (word : Text) (b : Bool) → is_number word ≡ b → number_in word ≡ (if b then Some (digits_value 10 word) else None)

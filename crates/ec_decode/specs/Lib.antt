@@ -2,6 +2,14 @@
 pub mod FrameText
 pub mod Faults
 pub mod Words
+pub mod Lines
+pub mod Reading
+pub mod Answers
+-- Laws: other words for the same, proved.
+pub mod Laws
 -- Private: these serve private code alone, and no public clause cites them.
 pub mod Standing
+pub mod Stating
 pub mod Stopping
+pub mod Holding
+pub mod Growing

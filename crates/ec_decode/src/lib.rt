@@ -1,10 +1,19 @@
 //! EtherCAT frames as text in a fixed form, and back.
 #![tactic(auto)]
 
+mod begun;
 mod datagram;
+mod error;
 mod frame;
+pub mod laws;
+mod line;
 mod placed;
+mod reader;
+mod text;
 mod words;
 
+pub use crate::error::DecodeError;
 pub use crate::frame::write_frame;
 pub use crate::placed::{Refused, check_placed, error_name, write_refused};
+pub use crate::reader::Reader;
+pub use crate::text::{decode_line, encode_text, payload_text};

@@ -1,5 +1,5 @@
 //! The words of a line, and what they write.
-ghost use Rattle.std.specs.Prelude.{◌≡◌, map, IfOk, option_map};
+ghost use Rattle.std.specs.Prelude.{◌≡◌, ◌<◌, map, IfOk, IfSome, option_map};
 ghost use Rattle.ec_decode.specs.Words.{address_in, bits_in, bytes_in, command_in, counter_in, data_in, hex_in, number_in, physical_in, words_of};
 
 use crate::datagram::is_logical;
@@ -36,7 +36,8 @@ pub(crate) fn counter_in(word: &str) -> Option<u16>
 /// The three reserved bits that a word writes as a number.
 #[tactic(auto, unfolding(crate::specs::Words::bits_in))]
 pub(crate) fn bits_in(word: &str) -> Option<u8>
-    ensures { result ≡ bits_in word.now }
+    ensures value { result ≡ bits_in word.now }
+    ensures few { IfSome result (λ bits. bits < 8) }
 {
     let bits = number_in(word)?;
     if bits < 8 { Some(bits as u8) } else { None }

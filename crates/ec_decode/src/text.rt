@@ -1,0 +1,80 @@
+//! Lines of hex as text, and text as lines of hex.
+ghost use Rattle.std.specs.Prelude.{◌≡◌, ◌++◌, IfOk, OnOk, map, string_bytes};
+ghost use Rattle.std.specs.Str.Lines.{lines};
+ghost use Rattle.hex.specs.Hex.{encode_lower};
+ghost use Rattle.ec_decode.specs.Answers.{DecodesLine, EncodesText, IsTextOf};
+ghost use Rattle.ec_decode.specs.FrameText.{newline};
+
+use crate::error::DecodeError;
+use crate::frame::write_counted;
+use crate::placed::{check_placed, write_refused};
+use crate::reader::Reader;
+use hex::FromHexError;
+use std::alloc::{AllocError, Global};
+
+/// The text of a payload: of a frame a line for it and one for each of its datagrams; of what is none
+/// a line for each datagram that stands whole before its fault, and one for its refusal.
+pub fn payload_text(alloc: Global, payload: &[u8]) -> Result<String, AllocError>
+    ensures { IfOk result (λ text. IsTextOf payload.now (string_bytes text)) }
+{
+    let mut text = String::new(alloc);
+    match check_placed(payload) {
+        Ok(count) => write_counted(alloc, &mut text, count, payload)?,
+        Err(refused) => write_refused(alloc, &mut text, payload, refused)?,
+    }
+    Ok(text)
+}
+
+/// The text of the payload that a line spells in hex digits of either case; none where the line isn't
+/// hex. The error is want of memory.
+pub fn decode_line(alloc: Global, line: &str) -> Result<Option<String>, AllocError>
+    ensures { IfOk result (DecodesLine line.now) }
+{
+    let payload = match hex::decode(alloc, line) {
+        Ok(payload) => payload,
+        Err(FromHexError::OutOfMemory) => return Err(AllocError),
+        Err(_) => return Ok(None),
+    };
+    Ok(Some(payload_text(alloc, payload.as_slice())?))
+}
+
+/// The lines of a text.
+fn lines_of<'a>(alloc: Global, text: &'a str) -> Result<Vec<&'a str>, AllocError>
+    ensures { IfOk result (λ v. map (λ x. x.now) v.items ≡ lines text.now) }
+{
+    text.lines().collect(alloc)
+}
+
+/// Adds a payload in hex, and a newline.
+fn write_payload(alloc: Global, text: &mut String, payload: &[u8]) -> Result<(), AllocError>
+    ensures { OnOk result (string_bytes text.new
+        ≡ string_bytes text.old ++ (encode_lower payload.now ++ newline)) }
+{
+    let digits = hex::encode(alloc, payload)?;
+    text.push_str(digits.as_str())?;
+    text.push_str("\n")
+}
+
+/// The payloads of the frames that a text states, in lower-case hex, a line for each. Empty lines and
+/// indented ones are skipped.
+///
+/// # Errors
+///
+/// `BadScript`, with the number of the first line that is out of form, or of the line that is missing
+/// where a text ends within a frame; `Memory` where memory ran out.
+pub fn encode_text(alloc: Global, text: &str) -> Result<String, DecodeError>
+    ensures { EncodesText text.now result }
+{
+    let lines = lines_of(alloc, text)?;
+    let mut reader = Reader::new();
+    let mut answer = String::new(alloc);
+    for (place, line) in lines.as_slice().iter().enumerate() {
+        if let Some(payload) = reader.read_line(alloc, place + 1, line)? {
+            write_payload(alloc, &mut answer, payload.as_slice())?;
+        }
+    }
+    if !reader.is_between() {
+        return Err(DecodeError::BadScript(lines.len() + 1));
+    }
+    Ok(answer)
+}
