@@ -1,9 +1,9 @@
 -- What comes through in Ethernet frames.
-use Rattle.std.proofs.Common.{◌≡◌, ◌≢◌, ℕ, zero, suc, ◌+◌, ◌-◌, ◌<◌, ◌≤◌, if◌then◌else◌, List, [], ◌∷◌, ◌++◌, length, take, drop, replicate, refl, sym, ap, subst, ◌∙◌, arith}
+use Rattle.std.proofs.Common.{◌≡◌, ◌≢◌, ℕ, zero, suc, ◌+◌, ◌-◌, ◌≤◌, if◌then◌else◌, List, ◌++◌, length, take, drop, replicate, refl, sym, ap, subst, ◌∙◌, arith}
 use Rattle.std.specs.List.{AllByRecursion}
 use Rattle.std.proofs.lemmas.List.{append_assoc, drop-drop, drop_at, length-append, length-drop, length-replicate, length-take-le, take-append-drop, take_at}
 use Rattle.ec_frame.specs.Datagram.{joined}
-use Rattle.ec_frame.specs.Frame.{IsByte, IsFrame, Payload}
+use Rattle.ec_frame.specs.Frame.{IsByte}
 use Rattle.byteorder.specs.Endian.{little_bytes}
 use Rattle.ec_frame.proofs.Numbers.{all_append}
 use Rattle.ec_card.specs.declared.ethernet.Sender.{Sender}

@@ -14,10 +14,12 @@ use std::time::Duration;
 const READ: &str = "0e100701000030010200000000000000";
 
 /// The same as a master sends it in an Ethernet frame: to all, from 00:00:00:45:43:01, of type 0x88A4, padded to 60 bytes.
-const SENT: &str = "ffffffffffff00000045430188a40e100701000030010200000000000000000000000000000000000000000000000000000000000000000000000000";
+const SENT: &str =
+    "ffffffffffff00000045430188a40e100701000030010200000000000000000000000000000000000000000000000000000000000000000000000000";
 
 /// What comes back past three slaves, the first of which set bit 1 of the source's first byte.
-const CAME: &str = "ffffffffffff02000045430188a40e100701030030010200000001000300000000000000000000000000000000000000000000000000000000000000";
+const CAME: &str =
+    "ffffffffffff02000045430188a40e100701030030010200000001000300000000000000000000000000000000000000000000000000000000000000";
 
 /// A port on 127.0.0.1.
 fn here(port: u16) -> SocketAddr {
@@ -61,7 +63,10 @@ fn frame_as_sent(rt: HostRuntime) -> Result<(), Fail> {
     let back = framed(Sender::Segment, &payload);
     assert_eq!(rt; back.as_slice().get(6..9), Some(&[2, 0, 0][..]));
     let longest = framed(Sender::Master, &[7; 1472]);
-    assert_eq!(rt; (longest.len(), longest.as_slice().last()), (1486, Some(&7)));
+    assert_eq!(rt;
+        (longest.len(), longest.as_slice().last()),
+        (1486, Some(&7))
+    );
     Ok(())
 }
 
@@ -83,11 +88,17 @@ fn frames_that_come(rt: HostRuntime) -> Result<(), Fail> {
     ] {
         let frame = bytes(rt.alloc(), frame)?;
         let handed = payload_of(Sender::Master, &frame);
-        assert_eq!(rt; handed.map(|payload| check(payload).ok()), datagrams.map(|count| Some(count)));
+        assert_eq!(rt;
+            handed.map(|payload| check(payload).ok()),
+            datagrams.map(|count| Some(count))
+        );
     }
     assert_eq!(rt; payload_of(Sender::Segment, &came).is_none(), true);
     let heading = came.get(..14).unwrap_or(&[]);
-    assert_eq!(rt; payload_of(Sender::Master, heading).map(|payload| payload.len()), Some(0));
+    assert_eq!(rt;
+        payload_of(Sender::Master, heading).map(|payload| payload.len()),
+        Some(0)
+    );
     Ok(())
 }
 
@@ -100,7 +111,10 @@ fn master_over_a_socket(rt: HostRuntime) -> Result<(), Fail> {
     wire.send(&payload);
     let mut frame = [0; 1514];
     let count = peer.recv(&mut frame)?;
-    assert_eq!(rt; hex::encode(rt.alloc(), &frame[..count.min(1514)])?.as_str(), SENT);
+    assert_eq!(rt;
+        hex::encode(rt.alloc(), &frame[..count.min(1514)])?.as_str(),
+        SENT
+    );
     for digits in [SENT, "0800", "", CAME] {
         peer.send(&bytes(rt.alloc(), digits)?)?;
     }
@@ -120,7 +134,10 @@ fn short_buffer(rt: HostRuntime) -> Result<(), Fail> {
     let mut wire = wire_over(&rt, card, Sender::Segment)?;
     peer.send(&bytes(rt.alloc(), SENT)?)?;
     let mut room = [0; 2];
-    assert_eq!(rt; (wire.recv(&mut room), room, wire.failures()), (2, [0x0e, 0x10], 0));
+    assert_eq!(rt;
+        (wire.recv(&mut room), room, wire.failures()),
+        (2, [0x0e, 0x10], 0)
+    );
     Ok(())
 }
 

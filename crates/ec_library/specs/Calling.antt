@@ -1,8 +1,8 @@
 -- What a call does to what is behind its handle, and what it answers.
-use Rattle.std.specs.Prelude.{◌≡◌, ◌≢◌, ◌≤◌, ◌<◌, ℕ, Bool, true, false, List, length, take, set, nat_lt, slice_get, is_some, option_and_then, Option, None, Some, Result, Ok, Err, IsUtf8}
+use Rattle.std.specs.Prelude.{◌≡◌, ◌≢◌, ◌≤◌, ◌<◌, ℕ, Bool, true, false, List, length, take, set, slice_get, is_some, option_and_then, Option, None, Some, Result, Ok, Err, IsUtf8}
 use Rattle.std.specs.List.{list_all}
 use Rattle.ec_cycle.specs.Closing.{ReportState}
-use Rattle.ec_cycle.specs.Master.{Begun, IsClosed, MasterState, OpenCycle, begin_refusal, frame_of, holds_value, missing_of, value_at, variable_set}
+use Rattle.ec_cycle.specs.Master.{Begun, IsClosed, OpenCycle, begin_refusal, frame_of, holds_value, missing_of, value_at, variable_set}
 use Rattle.ec_cycle.specs.Refusals.{refusal_number}
 use Rattle.ec_cycle.specs.declared.error.CycleError.{CycleError}
 use Rattle.ec_ring.specs.Rings.{HasPassedRing, IsNoFrame}

@@ -1,5 +1,5 @@
 -- What a text is opened to.
-use Rattle.std.specs.Prelude.{◌≡◌, ℕ, List, [], ◌∷◌, Option, Some, None, Result, Ok, Err, IsUtf8, codes}
+use Rattle.std.specs.Prelude.{◌≡◌, ℕ, List, [], ◌∷◌, Option, Some, None, Ok, IsUtf8, codes}
 use Rattle.ec_slave.specs.State.{SlaveState}
 use Rattle.ec_table.specs.Contents.{Contents}
 use Rattle.ec_table.specs.InOrder.{Fails as TableFails}
