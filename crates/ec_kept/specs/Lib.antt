@@ -1,1 +1,2 @@
+-- Private: this serves the code and its proofs alone, and no public clause cites it.
 pub mod Keeping
