@@ -1,6 +1,5 @@
 use ec_decode::{
-    DecodeError, Reader, check_placed, decode_line, encode_text, error_name,
-    write_frame,
+    DecodeError, Reader, check_placed, decode_line, encode_text, error_name, write_frame,
 };
 use std::process::Abort;
 use std::test::Fail;
