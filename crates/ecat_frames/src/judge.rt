@@ -5,11 +5,7 @@ use std::alloc::{AllocError, Global};
 
 /// The last line of a text.
 fn last_line(text: &str) -> &str {
-    let mut last = "";
-    for line in text.lines() {
-        last = line;
-    }
-    last
+    text.lines().last().unwrap_or("")
 }
 
 /// Whether the text of a frame is read back as the same bytes.

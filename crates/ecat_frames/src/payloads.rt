@@ -1,4 +1,6 @@
 //! Payloads at random.
+ghost use Rattle.std.specs.Prelude.{◌≤◌};
+
 use ec_random::Random;
 use std::alloc::{AllocError, Global};
 
@@ -10,8 +12,10 @@ fn push_bytes(bytes: &mut Vec<u8>, random: &mut Random, count: u32) -> Result<()
     Ok(())
 }
 
-/// A number that is 0 in half of all cases.
-fn seldom(random: &mut Random, limit: u32) -> u32 {
+/// A number below a limit that is 0 in half of all cases.
+fn seldom(random: &mut Random, limit: u32) -> u32
+    ensures { result ≤ limit }
+{
     if random.in_hundred(50) || limit == 0 {
         0
     } else {
