@@ -58,7 +58,7 @@ fn each_command_explains(rt: HostRuntime) -> Result<(), Fail> {
     let wanted = [
         "slave s2 has no input 0x6010:2",
         "it has 0x6010:1",
-        "| index = 0x6010\n",
+        "| sub = 2\n",
     ];
     for args in COMMANDS {
         expect_explanation(&rt, args, text.as_bytes(), "17 NoEntry 3", &wanted)?;
