@@ -28,6 +28,8 @@ pub mod NewWorld
 -- what the AL word of a report says
 pub mod AlWords
 pub mod Example
+-- what can be seen of its frames
+pub mod Watching
 -- Private: the rest serves the code and the proofs alone, and no public clause cites it.
 -- slots in use, and a frame in its slot as it passes its next slave
 pub mod Slots

@@ -7,8 +7,10 @@ mod making;
 mod progress;
 mod slot;
 mod slots;
+mod watcher;
 mod world;
 
 pub use crate::event::Event;
 pub use crate::progress::Progress;
+pub use crate::watcher::{Unwatched, Watcher};
 pub use crate::world::World;

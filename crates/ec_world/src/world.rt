@@ -12,6 +12,7 @@ ghost use Rattle.ec_world.specs.Laws.{IsRun, StepShows, RunShows};
 ghost use Rattle.ec_world.specs.Headline.{HeadlineShows, EachIsPromised};
 ghost use Rattle.ec_world.specs.NewWorld.{BringUp, IsBroughtUp, IsToStart};
 ghost use Rattle.ec_world.specs.Whole.{IsNew, Told, no_trouble};
+ghost use Rattle.ec_world.specs.Watching.{sent_of};
 ghost use Rattle.ec_world.specs.World.{WorldState, IsStep, slave_of, flight_at, flight_progress, is_up};
 
 use crate::event::Event;
@@ -208,6 +209,21 @@ impl<'p> World<'p> {
         self.ring.slave(slave).outputs()
     }
 
+    /// The slave at a place, the first at 0.
+    pub fn slave(&self, slave: usize) -> &Slave
+        requires { slave < length self.now.slaves }
+        ensures { result.now ≡ slave_of self.now slave }
+    {
+        self.ring.slave(slave)
+    }
+
+    /// How many parts a cycle has.
+    pub fn parts(&self) -> usize
+        ensures { result ≡ length self.now.master.plan.parts }
+    {
+        self.master.parts()
+    }
+
     /// How many slots for frames there are.
     pub fn slots(&self) -> usize
         ensures { result ≡ length self.now.slots }
@@ -230,6 +246,27 @@ impl<'p> World<'p> {
         ensures { result ≡ option_map flight_progress (flight_at self.now slot) }
     {
         self.slots.progress(slot)
+    }
+
+    /// The bytes of the frame in a slot; none where there is no frame, or no slot.
+    pub fn bytes(&self, slot: usize) -> Option<&[u8]>
+        ensures { option_map (λ b. b.now) result ≡ option_map (λ f. f.bytes) (flight_at self.now slot) }
+    {
+        match self.slots.progress(slot) {
+            Some(_) => Some(self.slots.bytes(slot)),
+            None => None,
+        }
+    }
+
+    /// The frame of a part of the open cycle, as it was sent; none where no cycle is open, or where it has no such part.
+    pub fn sent(&self, part: usize) -> Option<&[u8]>
+        ensures { option_map (λ b. b.now) result ≡ sent_of self.now part }
+    {
+        if self.master.is_open() && part < self.master.parts() {
+            Some(self.master.frame(part))
+        } else {
+            None
+        }
     }
 
     /// The byte that an application read last.
