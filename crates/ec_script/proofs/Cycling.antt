@@ -1,5 +1,5 @@
 -- A `cycle` that nothing disturbs.
-use Rattle.std.proofs.Common.{◌≡◌, ◌∙◌, ℕ, zero, suc, ◌+◌, ◌-◌, ◌<◌, ◌≤◌, ◌==◌, ◌&&◌, max, List, [], ◌∷◌, ◌++◌, length, get_or, map, replicate, Bool, true, false, Option, Some, None, is_some, is_none, if◌then◌else◌, refl, sym, ap, subst, append_assoc, length-append, arith}
+use Rattle.std.proofs.Common.{◌≡◌, ◌∙◌, ℕ, zero, suc, ◌+◌, ◌<◌, ◌≤◌, max, List, [], ◌∷◌, ◌++◌, length, get_or, replicate, Bool, true, false, Option, Some, None, is_none, if◌then◌else◌, refl, sym, ap, subst, arith}
 use Rattle.std.specs.List.{list_all}
 use Rattle.std.specs.Prelude.{codes}
 use Rattle.std.specs.Fmt.{decimal}
@@ -9,7 +9,6 @@ use Rattle.ec_table.specs.declared.rows.Version.{Version}
 use Rattle.ec_table.specs.declared.rows.Version.TheVariants as version
 use Rattle.ec_text.specs.PlanText.{lines_from}
 use Rattle.ec_cycle.specs.Closing.{nones, KeptPart, ReportState, report_of, unit_taken}
-use Rattle.ec_cycle.specs.Master.{cycle_limit}
 use Rattle.ec_start.specs.Running.{StartState, outcome_of}
 use Rattle.ec_start.specs.declared.phase.Phase.{Phase}
 use Rattle.ec_start.specs.declared.phase.Phase.TheVariants.{Idle, Sent, Failed, Ready as IsUp}
@@ -21,7 +20,7 @@ use Rattle.ec_script.specs.declared.said.Said.{Said}
 use Rattle.ec_script.specs.declared.said.Said.TheVariants as said
 use Rattle.ec_script.specs.Events.{cycle_events, newest_slots, slots_sent}
 use Rattle.ec_script.specs.Rounds.{greatest, rounds, rounds_found, slots_with}
-use Rattle.ec_script.specs.Work.{Makes, MakesAll, RunsCycle, ends, is_done, said_of}
+use Rattle.ec_script.specs.Work.{MakesAll, RunsCycle, ends, is_done, said_of}
 use Rattle.ec_script.proofs.Goes.{Goes, done_as_made}
 use Rattle.ec_script.proofs.Readying.{to_world, run_of, ready_law, AllOf, all_both, all_passes, on_done, told_done, last_of}
 use Rattle.ec_script.proofs.SlotsSent.{none_with, filled_none, cycle_found}

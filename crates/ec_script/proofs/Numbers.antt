@@ -9,7 +9,7 @@ use Rattle.std.proofs.lemmas.Str.Parse.{IsNumeralModel, numerals_by_value, parse
 use Rattle.std.proofs.lemmas.Bool.Decides.{nat_tests}
 use Rattle.ec_script.specs.Words.{Text, is_number, number_of}
 
-abbrev first_of : Text → ℕ
+abbrev pub first_of : Text → ℕ
 first_of word = unwrap_or (slice_get word 0) 43
 
 -- an empty word, and one that begins with a plus, write no number
@@ -18,7 +18,7 @@ unfolding number_of
 no_number [] h = refl
 no_number (c ∷ cs) h = let e : c ≡ 43 = h in rw e refl
 
-not_plus : (word : Text) → first_of word ≢ 43 → get_or word 0 0 ≢ 43
+pub not_plus : (word : Text) → first_of word ≢ 43 → get_or word 0 0 ≢ 43
 not_plus [] h = absurd (h refl)
 not_plus (c ∷ cs) h = h
 
@@ -28,7 +28,7 @@ digits = numerals_by_value _ tells_all_ascii_digits
 pub both : (a b c : Bool) → a ≡ true → b ≡ true → c ≡ true → a && (b && c) ≡ true
 both a b c ha hb hc = rw (ha, hb, hc) refl
 
-parts : (a b c : Bool) → a && (b && c) ≡ true → (a ≡ true) × (b ≡ true) × (c ≡ true)
+pub parts : (a b c : Bool) → a && (b && c) ≡ true → (a ≡ true) × (b ≡ true) × (c ≡ true)
 parts true true true h = (refl, refl, refl)
 parts true true false h = cc
 parts true false c h = cc
@@ -37,7 +37,7 @@ parts false b c h = cc
 pub is_true : (m n : ℕ) → m < n → nat_lt m n ≡ true
 is_true m n h = grind (arith, nat_tests)
 
-is_less : (m n : ℕ) → nat_lt m n ≡ true → m < n
+pub is_less : (m n : ℕ) → nat_lt m n ≡ true → m < n
 is_less m n h = grind (arith, nat_tests)
 
 pub by_test : (word : Text) (b : Bool) → is_number word ≡ b → number_of word ≡ (if b then Some (digits_value 10 word) else None)
@@ -63,3 +63,8 @@ parsed word r h read = told word r (parse_plain digits 64 word r read (not_plus 
 pub byte_told : {E : Type 0} (n : ℕ) (r : Result ℕ E) → OkIff r (n < 256) n → result_ok r ≡ (if nat_lt n 256 then Some n else None)
 byte_told n (Ok x) h = let t : nat_lt n 256 ≡ true = is_true n 256 h.0 in rw t (ap Some h.1)
 byte_told n (Err e) h = let t : nat_lt n 256 ≡ false = grind (arith, nat_tests) in rw t refl
+
+-- the same of a number below any limit
+pub short_told : {E : Type 0} (most n : ℕ) (r : Result ℕ E) → OkIff r (n < most) n → result_ok r ≡ (if nat_lt n most then Some n else None)
+short_told most n (Ok x) h = let t : nat_lt n most ≡ true = is_true n most h.0 in rw t (ap Some h.1)
+short_told most n (Err e) h = let t : nat_lt n most ≡ false = grind (arith, nat_tests) in rw t refl

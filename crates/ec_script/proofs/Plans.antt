@@ -1,15 +1,17 @@
 -- No event changes the plan of a world, so no line does.
-use Rattle.std.proofs.Common.{◌≡◌, ◌∙◌, ℕ, zero, suc, ◌&&◌, List, [], ◌∷◌, ◌++◌, Bool, true, false, refl, ap}
+use Rattle.std.proofs.Common.{◌≡◌, ◌∙◌, ℕ, zero, suc, ◌&&◌, List, [], ◌∷◌, ◌++◌, Bool, true, false, slice_get, refl, ap}
 use Rattle.ec_world.specs.declared.event.Event.{Event}
 use Rattle.ec_world.specs.declared.event.Event.TheVariants.{StartNext, Set, Begin, Pass, Lose, Return, Close, Serve, AppPut, AppGet, Fault, Reset}
 use Rattle.ec_world.specs.World.{WorldState, IsStep, ByStart, Sends, Begins, Passes, Returns, StartReturns, GivesUp, Closes, Puts, Gets, awaits}
 use Rattle.ec_script.specs.declared.line.Act.{Act}
-use Rattle.ec_script.specs.declared.line.Act.TheVariants.{One, Ready, Cycle, Show}
+use Rattle.ec_script.specs.declared.line.Act.TheVariants.{One, Input, Never, Expect, Ready, Cycle, Show}
 use Rattle.ec_script.specs.declared.said.Said.{Said}
+use Rattle.ec_script.specs.declared.said.Said.TheVariants.{No}
+use Rattle.ec_script.specs.Inputs.{input_events, is_input_of}
 use Rattle.ec_script.specs.Rounds.{rounds_found}
 use Rattle.ec_script.specs.Work.{Does, Makes, MakesAll, Onward, RunsTurn, Starts, is_done, is_starting, last_turn}
 
-abbrev Keeps : WorldState → WorldState → Type 0
+abbrev pub Keeps : WorldState → WorldState → Type 0
 Keeps old new = new.plan ≡ old.plan
 
 returned : (b : Bool) (old : WorldState) (j : ℕ) (new : WorldState) → ByStart b (StartReturns old j new) (Returns old j new) → Keeps old new
@@ -45,7 +47,7 @@ onward : {X : Type 0} (b : Bool) (old mid new : WorldState) (word told : Said) �
 onward true old mid new word told first h f = f h ∙ first
 onward false old mid new word told first h f = ap (λ w. w.plan) h.0 ∙ first
 
-all : (es : List Event) (old new : WorldState) (word : Said) → MakesAll es old new word → Keeps old new
+pub all : (es : List Event) (old new : WorldState) (word : Said) → MakesAll es old new word → Keeps old new
 all [] old new word h = ap (λ w. w.plan) h.0
 all (e ∷ []) old new word h = one e old new word h
 all (e ∷ f ∷ es) old new word h = onward (is_done h.told) old h.mid new word h.told (one e old h.mid h.told h.begins) h.goes_on (all (f ∷ es) h.mid new word)
@@ -58,8 +60,15 @@ unfolding Starts
 starts zero old new word h = ap (λ w. w.plan) h.0
 starts (suc n) old new word h = onward (is_starting h.mid && is_done h.told) old h.mid new word h.told (turn old h.mid h.told h.begins) h.goes_on (starts n h.mid new word)
 
+put_in : (b : Bool) (es : List Event) (old new : WorldState) (word : Said) → Onward b (MakesAll es old new word) ((new ≡ old) × (word ≡ No)) → Keeps old new
+put_in true es old new word h = all es old new word h
+put_in false es old new word h = ap (λ w. w.plan) h.0
+
 pub act_keeps : (act : Act) (old new : WorldState) (word : Said) → Does act old new word → new.plan ≡ old.plan
 act_keeps (One e) old new word h = one e old new word h
+act_keeps (Input v x) old new word h = put_in (is_input_of x (slice_get old.plan.variables v)) (input_events old v x) old new word h
+act_keeps (Never v) old new word h = ap (λ w. w.plan) h.0
+act_keeps (Expect e) old new word h = ap (λ w. w.plan) h.0
 act_keeps Ready old new word h = starts last_turn old new word h
 act_keeps Cycle old new word h =
     onward (is_done h.told) old h.mid new word h.told (one Begin old h.mid h.told h.begins) h.goes_on (all (rounds_found false h.mid ++ (Close ∷ [])) h.mid new word)

@@ -1,10 +1,11 @@
--- What is written for an act is read back.
-use Rattle.std.proofs.Common.{◌≡◌, ◌≢◌, ◌∙◌, ℕ, ◌<◌, ◌^◌, ◌==◌, ◌&&◌, List, [], ◌∷◌, length, get_or, Bool, true, false, not, nat_lt, nat_le, position, Some, All, AllPairs, slice_get, codes, option_and_then, refl, sym, ap, subst, arith}
+-- What is written for a line is read back.
+use Rattle.std.proofs.Common.{◌≡◌, ◌≢◌, ◌∙◌, ℕ, ◌+◌, ◌-◌, ◌*◌, ◌/◌, ◌%◌, ◌<◌, ◌≤◌, ◌^◌, ◌==◌, ◌&&◌, List, [], ◌∷◌, ◌++◌, length, take, get_or, Bool, true, false, not, nat_lt, nat_le, position, Option, Some, None, All, AllPairs, slice_get, codes, option_and_then, if◌then◌else◌, refl, sym, ap, subst, arith}
 use Rattle.std.specs.Fmt.{decimal}
 use Rattle.std.specs.List.{list_all, position_or_len}
-use Rattle.std.specs.Char.{is_ascii_digit}
+use Rattle.std.specs.Char.{digit_char, digit_value, is_ascii_digit}
 use Rattle.std.specs.Str.{all_ascii_digits, bytes_eq}
 use Rattle.std.specs.Str.Parse.{digits_value}
+use Rattle.std.proofs.Math.Pow.{pow_mono}
 use Rattle.std.proofs.lemmas.Bool.Decides.{nat_tests}
 use Rattle.std.proofs.lemmas.Fmt.{decimal_nonempty, digits_decimal, digits_value-decimal}
 use Rattle.std.proofs.lemmas.List.Elements.{All-nil, All-cons}
@@ -12,18 +13,29 @@ use Rattle.std.proofs.lemmas.List.Splits.{slice_split_at, slice_split_none}
 use Rattle.std.proofs.lemmas.List.Sums.{position_or_len_is}
 use Rattle.std.proofs.lemmas.Option.{slice_get_within, get_or_from_slice_get, slice_get-get_or}
 use Rattle.std.proofs.lemmas.Slice.Eq.{bytes_eq-Decides}
+use Rattle.std.proofs.lemmas.Str.{digit_value-digit_char}
+use Rattle.ec_al.specs.declared.state.State.{State}
+use Rattle.ec_al.specs.declared.state.State.TheVariants.{Init, PreOp, SafeOp, Op}
+use Rattle.ec_table.specs.Contents.{Contents}
 use Rattle.ec_table.specs.Fields.{is_name_byte}
 use Rattle.ec_table.specs.Sound as table
 use Rattle.ec_table.specs.declared.rows.VariableRow.{VariableRow}
 use Rattle.ec_world.specs.declared.event.Event.{Event}
 use Rattle.ec_world.specs.declared.event.Event.TheVariants.{StartNext, Set, Begin, Pass, Lose, Return, Close, Serve, AppPut, AppGet, Fault, Reset}
+use Rattle.ec_script.specs.declared.expectation.Expectation.{Expectation}
+use Rattle.ec_script.specs.declared.expectation.Expectation.TheVariants as expects
 use Rattle.ec_script.specs.declared.line.Act.{Act}
-use Rattle.ec_script.specs.declared.line.Act.TheVariants.{One, Ready, Cycle, Show}
-use Rattle.ec_script.specs.Acts.{act_of_one, act_of_two, act_of_place, act_of_three, act_of_four, act_of_words, variable_named}
-use Rattle.ec_script.specs.Scripts.{act_on}
-use Rattle.ec_script.specs.Words.{Text, byte_of, is_number, number_of, words_of}
-use Rattle.ec_script.specs.Writing.{ActsReadBack, IsActOf, IsEventOf, joined_words, row_name, words_for, words_for_event}
+use Rattle.ec_script.specs.declared.line.Act.TheVariants.{One, Input, Never, Expect, Ready, Cycle, Show}
+use Rattle.ec_script.specs.declared.line.Line.{Line}
+use Rattle.ec_script.specs.declared.read.Reading.TheVariants as reading
+use Rattle.ec_script.specs.declared.value.Value.{Value}
+use Rattle.ec_script.specs.declared.value.Value.TheVariants.{Number, Outside}
+use Rattle.ec_script.specs.Acts.{act_of_one, act_of_two, act_of_three, act_of_four, act_of_five, act_of_words, expected_by_one, expected_by_two, expected_by_three, expected_by_four, input_act, is_act, set_act, slave_in, state_named, value_expected, value_for, variable_named}
+use Rattle.ec_script.specs.Scripts.{found_line, line_of_words, line_on, reading_of, reading_without}
+use Rattle.ec_script.specs.Words.{Text, byte_of, code_of, hex_of, is_number, number_of, plain_of, times_of, uncommented, value_of, words_of}
+use Rattle.ec_script.specs.Writing.{ActsReadBack, IsActOf, IsCode, IsEventOf, IsExpectationOf, IsLineOf, IsNumber, IsOtherWord, below_all, code_word, code_words, joined_words, number_words, row_name, state_name, taken_word, words_expecting, words_for, words_for_event}
 use Rattle.ec_script.proofs.Numbers.{by_test, both, digits, is_true}
+use Rattle.ec_script.proofs.Values.{often}
 use Rattle.ec_script.proofs.Verbs.{differ, false_from}
 
 -- ---- numbers
@@ -44,51 +56,118 @@ byte_back : (x : ℕ) → x < 256 → byte_of (decimal x) ≡ Some x
 unfolding byte_of
 byte_back x h = let t : nat_lt x 256 ≡ true = is_true x 256 h in rw (number_back x (small x h), t) refl
 
--- ---- words between blanks
+times_back : (n : ℕ) → 1 ≤ n → n ≤ 1000000 → times_of (decimal n) ≡ Some n
+unfolding times_of
+times_back n some most = let low : n < 2 ^ 64 = omega arith in rw (number_back n low, often n some most) refl
+
+-- ---- bytes of words
 
 abbrev IsBlank : ℕ → Bool
 IsBlank b = b == 32
 
-abbrev IsWord : Text → Type 0
-IsWord word = All (λ b. IsBlank b ≡ false) word
+abbrev IsMark : ℕ → Bool
+IsMark b = b == 35
 
-abbrev AreWords : List Text → Type 0
-AreWords [] = Unit {0}
-AreWords (word ∷ words) = IsWord word × AreWords words
+-- neither a blank nor the mark of a comment
+abbrev is_plain : ℕ → Bool
+is_plain b = not (IsBlank b) && not (IsMark b)
 
-split_back : (word : Text) (words : List Text) → AreWords (word ∷ words) → words_of (joined_words (word ∷ words)) ≡ word ∷ words
-split_back word [] h = slice_split_none IsBlank word h.0
-split_back word (next ∷ words) h = slice_split_at IsBlank word 32 (joined_words (next ∷ words)) h.0 refl ∙ ap (λ ws. word ∷ ws) (split_back next words h.1)
+abbrev is_word : Text → Bool
+is_word word = list_all is_plain word
 
--- a test that a blank fails
-no_blank_byte : (test : ℕ → Bool) → test 32 ≡ false → (b : ℕ) → test b ≡ true → IsBlank b ≡ false
-no_blank_byte test blank b h = false_from (b == 32) (λ e.
-    let is : b ≡ 32 = grind (arith, nat_tests) in
-    let bad : true ≡ false = sym h ∙ (ap test is ∙ blank) in
-    cc)
+abbrev are_words : List Text → Bool
+are_words [] = true
+are_words (word ∷ words) = is_word word && are_words words
+
+and : (a b : Bool) → a ≡ true → b ≡ true → a && b ≡ true
+and true true g h = refl
+and true false g h = cc
+and false b g h = cc
 
 both_of : (a b : Bool) → (a && b) ≡ true → (a ≡ true) × (b ≡ true)
 both_of true true h = (refl, refl)
 both_of true false h = cc
 both_of false b h = cc
 
-word_from : (test : ℕ → Bool) → test 32 ≡ false → (word : Text) → list_all test word ≡ true → IsWord word
-word_from test blank [] h = All-nil (λ b. IsBlank b ≡ false)
-word_from test blank (b ∷ bs) h =
+not_true : (b : Bool) → not b ≡ true → b ≡ false
+not_true true h = cc
+not_true false h = refl
+
+not_false : (b : Bool) → b ≡ false → not b ≡ true
+not_false true h = cc
+not_false false h = refl
+
+-- a test that this byte fails
+other_byte : (test : ℕ → Bool) (c : ℕ) → test c ≡ false → (b : ℕ) → test b ≡ true → (b == c) ≡ false
+other_byte test c fails b h = false_from (b == c) (λ e.
+    let is : b ≡ c = grind (arith, nat_tests) in
+    let bad : true ≡ false = sym h ∙ (ap test is ∙ fails) in
+    cc)
+
+plain_by : (test : ℕ → Bool) → test 32 ≡ false → test 35 ≡ false → (word : Text) → list_all test word ≡ true → is_word word ≡ true
+plain_by test blank mark [] h = refl
+plain_by test blank mark (b ∷ bs) h =
     let p = both_of (test b) (list_all test bs) h in
-    All-cons (λ b. IsBlank b ≡ false) b bs (no_blank_byte test blank b p.0) (word_from test blank bs p.1)
+    and (is_plain b) (is_word bs)
+    (and (not (IsBlank b)) (not (IsMark b)) (not_false _ (other_byte test 32 blank b p.0)) (not_false _ (other_byte test 35 mark b p.0)))
+    (plain_by test blank mark bs p.1)
 
-verb_word : (word : Text) → list_all (λ b. not (IsBlank b)) word ≡ true → IsWord word
-verb_word word h = word_from (λ b. not (IsBlank b)) refl word h
+all_digits : (word : Text) → all_ascii_digits word ≡ true → list_all is_ascii_digit word ≡ true
+all_digits [] h = refl
+all_digits (b ∷ bs) h = let p = both_of (is_ascii_digit b) (all_ascii_digits bs) h in and _ _ p.0 (all_digits bs p.1)
 
-digits_word : (word : Text) → all_ascii_digits word ≡ true → IsWord word
-digits_word [] h = All-nil (λ b. IsBlank b ≡ false)
-digits_word (b ∷ bs) h =
-    let p = both_of (is_ascii_digit b) (all_ascii_digits bs) h in
-    All-cons (λ b. IsBlank b ≡ false) b bs (no_blank_byte is_ascii_digit refl b p.0) (digits_word bs p.1)
+number_digits : (n : ℕ) → n < 2 ^ 64 → list_all is_ascii_digit (decimal n) ≡ true
+number_digits n h = all_digits (decimal n) (digits_decimal digits n h)
 
-number_word : (n : ℕ) → n < 2 ^ 64 → IsWord (decimal n)
-number_word n h = digits_word (decimal n) (digits_decimal digits n h)
+number_word : (n : ℕ) → n < 2 ^ 64 → is_word (decimal n) ≡ true
+number_word n h = plain_by is_ascii_digit refl refl (decimal n) (number_digits n h)
+
+-- ---- words between blanks
+
+no_blanks : (word : Text) → is_word word ≡ true → All (λ b. IsBlank b ≡ false) word
+no_blanks [] h = All-nil (λ b. IsBlank b ≡ false)
+no_blanks (b ∷ bs) h =
+    let p = both_of (is_plain b) (is_word bs) h in
+    let q = both_of (not (IsBlank b)) (not (IsMark b)) p.0 in
+    All-cons (λ b. IsBlank b ≡ false) b bs (not_true _ q.0) (no_blanks bs p.1)
+
+split_back : (word : Text) (words : List Text) → are_words (word ∷ words) ≡ true → words_of (joined_words (word ∷ words)) ≡ word ∷ words
+split_back word [] h = slice_split_none IsBlank word (no_blanks word (both_of _ _ h).0)
+split_back word (next ∷ words) h =
+    let p = both_of (is_word word) (are_words (next ∷ words)) h in
+    slice_split_at IsBlank word 32 (joined_words (next ∷ words)) (no_blanks word p.0) refl ∙ ap (λ ws. word ∷ ws) (split_back next words p.1)
+
+-- ---- no comment
+
+no_marks : (word : Text) → is_word word ≡ true → list_all (λ b. not (IsMark b)) word ≡ true
+no_marks [] h = refl
+no_marks (b ∷ bs) h =
+    let p = both_of (is_plain b) (is_word bs) h in
+    let q = both_of (not (IsBlank b)) (not (IsMark b)) p.0 in
+    and _ _ q.1 (no_marks bs p.1)
+
+all_joined : (test : ℕ → Bool) (xs ys : Text) → list_all test xs ≡ true → list_all test ys ≡ true → list_all test (xs ++ ys) ≡ true
+all_joined test [] ys h g = g
+all_joined test (x ∷ xs) ys h g = let p = both_of (test x) (list_all test xs) h in and _ _ p.0 (all_joined test xs ys p.1 g)
+
+none_marked : (words : List Text) → are_words words ≡ true → list_all (λ b. not (IsMark b)) (joined_words words) ≡ true
+none_marked [] h = refl
+none_marked (word ∷ []) h = no_marks word (both_of _ _ h).0
+none_marked (word ∷ next ∷ words) h =
+    let p = both_of (is_word word) (are_words (next ∷ words)) h in
+    all_joined (λ b. not (IsMark b)) word (32 ∷ joined_words (next ∷ words)) (no_marks word p.0) (and _ _ refl (none_marked (next ∷ words) p.1))
+
+no_place : (line : Text) → list_all (λ b. not (IsMark b)) line ≡ true → position_or_len IsMark line ≡ length line
+no_place [] h = refl
+no_place (b ∷ bs) h =
+    let p = both_of (not (IsMark b)) (list_all (λ b. not (IsMark b)) bs) h in
+    rw p.0 (let e : position_or_len IsMark bs ≡ length bs = no_place bs p.1 in omega arith)
+
+whole : (line : Text) → list_all (λ b. not (IsMark b)) line ≡ true → uncommented line ≡ line
+whole line h =
+    let same : position_or_len IsMark line ≡ length line = no_place line h in
+    let past : nat_lt (position_or_len IsMark line) (length line) ≡ false = grind (arith, nat_tests) in
+    rw past refl
 
 -- ---- names
 
@@ -110,80 +189,387 @@ named rows k row once is =
     position_is (λ (y : VariableRow). bytes_eq y.name row.name) rows k row is ((bytes_eq-Decides row.name row.name).1 refl)
     (λ j lt. differ (get_or rows j row).name row.name (λ same. once j k row lt within (same ∙ ap (λ (w : VariableRow). w.name) (sym here))))
 
-name_word : (rows : List VariableRow) (k : ℕ) (row : VariableRow) → All table.IsVariable rows → slice_get rows k ≡ Some row → IsWord row.name
-name_word rows k row each is =
+sound_row : (rows : List VariableRow) (k : ℕ) (row : VariableRow) → All table.IsVariable rows → slice_get rows k ≡ Some row → table.IsVariable row
+sound_row rows k row each is =
     let within : k < length rows = slice_get_within rows k row is in
     let here : get_or rows k row ≡ row = get_or_from_slice_get rows k row row is in
-    let sound : table.IsVariable row = subst table.IsVariable here (each k row within) in
+    subst table.IsVariable here (each k row within)
+
+name_word : (row : VariableRow) → table.IsVariable row → is_word row.name ≡ true
+name_word row sound =
     let all = both_of (nat_le 1 (length row.name) && nat_le (length row.name) 32) (list_all is_name_byte row.name) sound.name in
-    word_from is_name_byte refl row.name all.1
+    plain_by is_name_byte refl refl row.name all.1
 
--- ---- acts
+-- a variable of the table, and what is known of its row
+record Row (t : Contents) (v : ℕ) : Type 0 where
+  row : VariableRow
+  at : slice_get t.variables v ≡ Some row
+  plain : is_word (row_name (slice_get t.variables v)) ≡ true
+  named : variable_named t.variables (row_name (slice_get t.variables v)) ≡ Some v
+  some : 1 ≤ row.bits
+  few : row.bits ≤ 64
 
-line_back : (rows : List VariableRow) (word : Text) (words : List Text) (act : Act) → AreWords (word ∷ words) → act_of_words rows (word ∷ words) ≡ Some act
-    → act_on rows (joined_words (word ∷ words)) ≡ Some act
-line_back rows word words act h e = ap (act_of_words rows) (split_back word words h) ∙ e
+row_from : (t : Contents) (v : ℕ) → table.IsSound t → (r : (row : VariableRow) × (slice_get t.variables v ≡ Some row)) → Row t v
+row_from t v sound (row, at) =
+    let is = sound_row t.variables v row sound.variables.each at in
+    record {
+      row = row;
+      at = at;
+      plain = rw at (name_word row is);
+      named = rw at (named t.variables v row sound.variables.once at);
+      some = is.least;
+      few = is.most;
+    }
 
-one_back : (rows : List VariableRow) (verb : Text) (act : Act) → list_all (λ b. not (IsBlank b)) verb ≡ true → act_of_one verb ≡ Some act → act_on rows (joined_words (verb ∷ [])) ≡ Some act
-one_back rows verb act h e = line_back rows verb [] act (verb_word verb h, tt) e
+row_at : (t : Contents) (v : ℕ) → table.IsSound t → v < length t.variables → Row t v
+row_at t v sound h = row_from t v sound (there_is t.variables v h)
 
-two_back : (rows : List VariableRow) (verb : Text) (n : ℕ) (act : Act) → list_all (λ b. not (IsBlank b)) verb ≡ true → n < 2 ^ 64 → act_of_place verb n ≡ Some act
-    → act_on rows (joined_words (verb ∷ decimal n ∷ [])) ≡ Some act
-unfolding act_of_two
-two_back rows verb n act h k e =
-    line_back rows verb (decimal n ∷ []) act (verb_word verb h, (number_word n k, tt)) (ap (option_and_then (act_of_place verb)) (number_back n k) ∙ e)
+-- ---- values
 
-set_back : (rows : List VariableRow) (v x : ℕ) (row : VariableRow) → table.AreVariables rows → slice_get rows v ≡ Some row → x < 2 ^ 64
-    → act_on rows (joined_words (codes "set" ∷ row.name ∷ decimal x ∷ [])) ≡ Some (One (Set v x))
+first_digit : (c : ℕ) (cs : Text) → list_all is_ascii_digit (c ∷ cs) ≡ true → (c == 45) ≡ false
+first_digit c cs h = other_byte is_ascii_digit 45 refl c (both_of _ _ h).0
+
+no_sign : (word : Text) → list_all is_ascii_digit word ≡ true → (get_or word 0 0 == 45) ≡ false
+no_sign [] h = refl
+no_sign (c ∷ cs) h = first_digit c cs h
+
+abbrev take_two : Text → Text
+take_two word = take 2 word
+
+abbrev second : Text → ℕ
+second [] = 0
+second (a ∷ []) = 0
+second (a ∷ b ∷ cs) = b
+
+-- digits alone have no x among them
+no_prefix : (word : Text) → list_all is_ascii_digit word ≡ true → bytes_eq (take_two word) (codes "0x") ≡ false
+no_prefix [] h = refl
+no_prefix (a ∷ []) h = differ (a ∷ []) (codes "0x") (λ e. let bad : length (a ∷ []) ≡ length (codes "0x") = ap length e in omega arith)
+no_prefix (a ∷ b ∷ cs) h =
+    let p = both_of (is_ascii_digit b) (list_all is_ascii_digit cs) (both_of (is_ascii_digit a) (list_all is_ascii_digit (b ∷ cs)) h).1 in
+    differ (a ∷ b ∷ []) (codes "0x") (λ e.
+    let x : b ≡ 120 = ap second e in
+    let bad : true ≡ false = sym p.0 ∙ ap is_ascii_digit x in
+    cc)
+
+value_back : (bits x : ℕ) → x < 2 ^ 64 → value_of bits (decimal x) ≡ Some (Number x)
+unfolding value_of plain_of
+value_back bits x h = let d = number_digits x h in rw (no_sign (decimal x) d, no_prefix (decimal x) d, number_back x h) refl
+
+few_less : (bits : ℕ) → bits ≤ 64 → bits - 1 ≤ 63
+few_less bits few = omega arith
+
+below_back : (bits : ℕ) → bits ≤ 64 → value_of bits below_all ≡ Some Outside
+unfolding value_of number_of
+below_back bits few =
+    let most : 2 ^ (bits - 1) ≤ 2 ^ 63 = pow_mono (few_less bits few) in
+    let no : nat_le 9223372036854775809 (2 ^ (bits - 1)) ≡ false = grind (arith, nat_tests) in
+    rw no refl
+
+value_for_back : (t : Contents) (v x : ℕ) → Row t v → x < 2 ^ 64 → value_for t.variables v (decimal x) ≡ Some (Number x)
+value_for_back t v x r h = rw r.at (value_back r.row.bits x h)
+
+below_for_back : (t : Contents) (v : ℕ) → Row t v → value_for t.variables v below_all ≡ Some Outside
+below_for_back t v r = rw r.at (below_back r.row.bits r.few)
+
+-- ---- what can be read back
+
+record IsBack (t : Contents) (act : Act) (words : List Text) : Type 0 where
+  verb : Text
+  rest : List Text
+  are : words ≡ verb ∷ rest
+  some : nat_lt 0 (length verb) ≡ true
+  other : bytes_eq verb (codes "repeat") ≡ false
+  plain : are_words (verb ∷ rest) ≡ true
+  reads : act_of_words t (verb ∷ rest) ≡ Some act
+
+one_back : (t : Contents) (verb : Text) (act : Act) → nat_lt 0 (length verb) ≡ true → bytes_eq verb (codes "repeat") ≡ false → is_word verb ≡ true
+    → act_of_one verb ≡ Some act → IsBack t act (verb ∷ [])
+one_back t verb act some other plain reads =
+    record { verb = verb; rest = []; are = refl; some = some; other = other; plain = and _ _ plain refl; reads = reads }
+
+slave_back : (t : Contents) (s : ℕ) → s < 2 ^ 64 → slave_in t (decimal s) ≡ Some s
+unfolding slave_in
+slave_back t s h = rw (number_digits s h, number_back s h) refl
+
+-- ---- one more word
+
+two_back : (t : Contents) (verb word : Text) (act : Act) → nat_lt 0 (length verb) ≡ true → bytes_eq verb (codes "repeat") ≡ false → is_word verb ≡ true
+    → is_word word ≡ true → act_of_two t verb word ≡ Some act → IsBack t act (verb ∷ word ∷ [])
+two_back t verb word act some other plain word_plain reads =
+    record { verb = verb; rest = word ∷ []; are = refl; some = some; other = other; plain = and _ _ plain (and _ _ word_plain refl); reads = reads }
+
+place_back : (t : Contents) (verb : Text) (n : ℕ) (act : ℕ → Act) → nat_lt 0 (length verb) ≡ true → bytes_eq verb (codes "repeat") ≡ false → is_word verb ≡ true
+    → n < 2 ^ 64 → act_of_two t verb (decimal n) ≡ option_and_then (λ k. Some (act k)) (number_of (decimal n)) → IsBack t (act n) (verb ∷ decimal n ∷ [])
+place_back t verb n act some other plain h e =
+    two_back t verb (decimal n) (act n) some other plain (number_word n h) (e ∙ ap (option_and_then (λ k. Some (act k))) (number_back n h))
+
+by_slave : (t : Contents) (verb : Text) (n : ℕ) (act : ℕ → Act) → nat_lt 0 (length verb) ≡ true → bytes_eq verb (codes "repeat") ≡ false → is_word verb ≡ true
+    → n < 2 ^ 64 → act_of_two t verb (decimal n) ≡ option_and_then (λ k. Some (act k)) (slave_in t (decimal n)) → IsBack t (act n) (verb ∷ decimal n ∷ [])
+by_slave t verb n act some other plain h e =
+    two_back t verb (decimal n) (act n) some other plain (number_word n h) (e ∙ ap (option_and_then (λ k. Some (act k))) (slave_back t n h))
+
+-- ---- two more words
+
+three_back : (t : Contents) (verb a b : Text) (act : Act) → nat_lt 0 (length verb) ≡ true → bytes_eq verb (codes "repeat") ≡ false → is_word verb ≡ true
+    → is_word a ≡ true → is_word b ≡ true → act_of_three t verb a b ≡ Some act → IsBack t act (verb ∷ a ∷ b ∷ [])
+three_back t verb a b act some other plain pa pb reads =
+    record { verb = verb; rest = a ∷ b ∷ []; are = refl; some = some; other = other; plain = and _ _ plain (and _ _ pa (and _ _ pb refl)); reads = reads }
+
+set_back : (t : Contents) (v x : ℕ) → Row t v → x < 2 ^ 64 → IsBack t (One (Set v x)) (codes "set" ∷ row_name (slice_get t.variables v) ∷ decimal x ∷ [])
 unfolding act_of_three
-set_back rows v x row sound is h =
-    line_back rows (codes "set") (row.name ∷ decimal x ∷ []) (One (Set v x)) (verb_word (codes "set") refl, (name_word rows v row sound.each is, (number_word x h, tt)))
-    (ap (option_and_then (λ v. option_and_then (λ x. Some (One (Set v x))) (number_of (decimal x)))) (named rows v row sound.once is)
-    ∙ ap (option_and_then (λ x. Some (One (Set v x)))) (number_back x h))
+set_back t v x r h =
+    three_back t (codes "set") _ (decimal x) (One (Set v x)) refl refl refl r.plain (number_word x h)
+    (ap (option_and_then (λ k. option_and_then (λ y. Some (set_act k y)) (value_for t.variables k (decimal x)))) r.named
+    ∙ ap (option_and_then (λ y. Some (set_act v y))) (value_for_back t v x r h))
 
-get_back : (rows : List VariableRow) (s i : ℕ) → s < 2 ^ 64 → i < 2 ^ 64 → act_on rows (joined_words (codes "get" ∷ decimal s ∷ decimal i ∷ [])) ≡ Some (One (AppGet s i))
+input_back : (t : Contents) (v x : ℕ) → Row t v → x < 2 ^ 64 → IsBack t (Input v x) (codes "in" ∷ row_name (slice_get t.variables v) ∷ decimal x ∷ [])
 unfolding act_of_three
-get_back rows s i h g =
-    line_back rows (codes "get") (decimal s ∷ decimal i ∷ []) (One (AppGet s i)) (verb_word (codes "get") refl, (number_word s h, (number_word i g, tt)))
-    (ap (option_and_then (λ s. option_and_then (λ i. Some (One (AppGet s i))) (number_of (decimal i)))) (number_back s h)
+input_back t v x r h =
+    three_back t (codes "in") _ (decimal x) (Input v x) refl refl refl r.plain (number_word x h)
+    (ap (option_and_then (λ k. option_and_then (λ y. Some (input_act k y)) (value_for t.variables k (decimal x)))) r.named
+    ∙ ap (option_and_then (λ y. Some (input_act v y))) (value_for_back t v x r h))
+
+never_back : (t : Contents) (v : ℕ) → Row t v → IsBack t (Never v) (codes "set" ∷ row_name (slice_get t.variables v) ∷ below_all ∷ [])
+unfolding act_of_three
+never_back t v r =
+    three_back t (codes "set") _ below_all (Never v) refl refl refl r.plain refl
+    (ap (option_and_then (λ k. option_and_then (λ y. Some (set_act k y)) (value_for t.variables k below_all))) r.named
+    ∙ ap (option_and_then (λ y. Some (set_act v y))) (below_for_back t v r))
+
+get_back : (t : Contents) (s i : ℕ) → s < 2 ^ 64 → i < 2 ^ 64 → IsBack t (One (AppGet s i)) (codes "get" ∷ decimal s ∷ decimal i ∷ [])
+unfolding act_of_three
+get_back t s i h g =
+    three_back t (codes "get") (decimal s) (decimal i) (One (AppGet s i)) refl refl refl (number_word s h) (number_word i g)
+    (ap (option_and_then (λ s. option_and_then (λ i. Some (One (AppGet s i))) (number_of (decimal i)))) (slave_back t s h)
     ∙ ap (option_and_then (λ i. Some (One (AppGet s i)))) (number_back i g))
 
-put_back : (rows : List VariableRow) (s i x : ℕ) → s < 2 ^ 64 → i < 2 ^ 64 → x < 256
-    → act_on rows (joined_words (codes "put" ∷ decimal s ∷ decimal i ∷ decimal x ∷ [])) ≡ Some (One (AppPut s i x))
+-- ---- three more words
+
+put_back : (t : Contents) (s i x : ℕ) → s < 2 ^ 64 → i < 2 ^ 64 → x < 256 → IsBack t (One (AppPut s i x)) (codes "put" ∷ decimal s ∷ decimal i ∷ decimal x ∷ [])
 unfolding act_of_four
-put_back rows s i x h g b =
-    line_back rows (codes "put") (decimal s ∷ decimal i ∷ decimal x ∷ []) (One (AppPut s i x))
-    (verb_word (codes "put") refl, (number_word s h, (number_word i g, (number_word x (small x b), tt))))
-    (ap (option_and_then (λ s. option_and_then (λ i. option_and_then (λ x. Some (One (AppPut s i x))) (byte_of (decimal x))) (number_of (decimal i)))) (number_back s h)
-    ∙ (ap (option_and_then (λ i. option_and_then (λ x. Some (One (AppPut s i x))) (byte_of (decimal x)))) (number_back i g)
-    ∙ ap (option_and_then (λ x. Some (One (AppPut s i x)))) (byte_back x b)))
+put_back t s i x h g b = record {
+  verb = codes "put";
+  rest = decimal s ∷ decimal i ∷ decimal x ∷ [];
+  are = refl;
+  some = refl;
+  other = refl;
+  plain = and _ _ refl (and _ _ (number_word s h) (and _ _ (number_word i g) (and _ _ (number_word x (small x b)) refl)));
+  reads =
+      ap (option_and_then (λ s. option_and_then (λ i. option_and_then (λ x. Some (One (AppPut s i x))) (byte_of (decimal x))) (number_of (decimal i)))) (slave_back t s h)
+      ∙ (ap (option_and_then (λ i. option_and_then (λ x. Some (One (AppPut s i x))) (byte_of (decimal x)))) (number_back i g)
+      ∙ ap (option_and_then (λ x. Some (One (AppPut s i x)))) (byte_back x b));
+}
 
-set_by_place : (rows : List VariableRow) (v x : ℕ) → table.AreVariables rows → (r : (row : VariableRow) × (slice_get rows v ≡ Some row)) → x < 2 ^ 64
-    → act_on rows (joined_words (codes "set" ∷ row_name (slice_get rows v) ∷ decimal x ∷ [])) ≡ Some (One (Set v x))
-set_by_place rows v x sound r h =
-    ap (λ o. act_on rows (joined_words (codes "set" ∷ row_name o ∷ decimal x ∷ []))) r.1 ∙ set_back rows v x r.0 sound r.1 h
+event_back : (t : Contents) (e : Event) → table.IsSound t → IsEventOf t.variables e → IsBack t (One e) (words_for_event t.variables e)
+unfolding act_of_one act_of_two
+event_back t StartNext sound h = one_back t (codes "start") _ refl refl refl refl
+event_back t (Set v x) sound h = set_back t v x (row_at t v sound h.0) h.1
+event_back t Begin sound h = one_back t (codes "begin") _ refl refl refl refl
+event_back t (Pass k) sound h = place_back t (codes "pass") k (λ k. One (Pass k)) refl refl refl h refl
+event_back t (Lose k) sound h = place_back t (codes "lose") k (λ k. One (Lose k)) refl refl refl h refl
+event_back t (Return k) sound h = place_back t (codes "return") k (λ k. One (Return k)) refl refl refl h refl
+event_back t Close sound h = one_back t (codes "close") _ refl refl refl refl
+event_back t (Serve s) sound h = by_slave t (codes "serve") s (λ s. One (Serve s)) refl refl refl h refl
+event_back t (AppPut s i x) sound h = put_back t s i x h.0 h.1 h.2
+event_back t (AppGet s i) sound h = get_back t s i h.0 h.1
+event_back t (Fault s) sound h = by_slave t (codes "fault") s (λ s. One (Fault s)) refl refl refl h refl
+event_back t (Reset s) sound h = by_slave t (codes "reset") s (λ s. One (Reset s)) refl refl refl h refl
 
-event_back : (rows : List VariableRow) (e : Event) → table.AreVariables rows → IsEventOf rows e → act_on rows (joined_words (words_for_event rows e)) ≡ Some (One e)
-unfolding act_of_one act_of_place
-event_back rows StartNext sound h = one_back rows (codes "start") _ refl refl
-event_back rows (Set v x) sound h = set_by_place rows v x sound (there_is rows v h.0) h.1
-event_back rows Begin sound h = one_back rows (codes "begin") _ refl refl
-event_back rows (Pass k) sound h = two_back rows (codes "pass") k _ refl h refl
-event_back rows (Lose k) sound h = two_back rows (codes "lose") k _ refl h refl
-event_back rows (Return k) sound h = two_back rows (codes "return") k _ refl h refl
-event_back rows Close sound h = one_back rows (codes "close") _ refl refl
-event_back rows (Serve s) sound h = two_back rows (codes "serve") s _ refl h refl
-event_back rows (AppPut s i x) sound h = put_back rows s i x h.0 h.1 h.2
-event_back rows (AppGet s i) sound h = get_back rows s i h.0 h.1
-event_back rows (Fault s) sound h = two_back rows (codes "fault") s _ refl h refl
-event_back rows (Reset s) sound h = two_back rows (codes "reset") s _ refl h refl
+-- ---- what is expected
 
-act_back : (rows : List VariableRow) (act : Act) → table.AreVariables rows → IsActOf rows act → act_on rows (joined_words (words_for rows act)) ≡ Some act
+expect_one : (t : Contents) (word : Text) (e : Expectation) → is_word word ≡ true → expected_by_one word ≡ Some e → IsBack t (Expect e) (codes "expect" ∷ word ∷ [])
+unfolding act_of_two
+expect_one t word e plain reads = two_back t (codes "expect") word (Expect e) refl refl refl plain (ap (option_and_then (λ x. Some (Expect x))) reads)
+
+expect_two : (t : Contents) (a b : Text) (e : Expectation) → is_word a ≡ true → is_word b ≡ true → expected_by_two t a b ≡ Some e → IsBack t (Expect e) (codes "expect" ∷ a ∷ b ∷ [])
+unfolding act_of_three
+expect_two t a b e pa pb reads = three_back t (codes "expect") a b (Expect e) refl refl refl pa pb (ap (option_and_then (λ x. Some (Expect x))) reads)
+
+value_of_name : (t : Contents) (v : ℕ) (word : Text) (value : Value) → Row t v → IsOtherWord (row_name (slice_get t.variables v)) → is_word word ≡ true
+    → value_for t.variables v word ≡ Some value → IsBack t (Expect (is_act v value)) (codes "expect" ∷ row_name (slice_get t.variables v) ∷ word ∷ [])
+unfolding expected_by_two value_expected
+value_of_name t v word value r free plain is =
+    expect_two t (row_name (slice_get t.variables v)) word (is_act v value) r.plain plain
+    (rw (differ _ _ free.0, differ _ _ free.1, differ _ _ free.2)
+    (ap (option_and_then (λ k. option_and_then (λ x. Some (is_act k x)) (value_for t.variables k word))) r.named
+    ∙ ap (option_and_then (λ x. Some (is_act v x))) is))
+
+units_back : (t : Contents) (taken : Bool) → IsBack t (Expect (expects.Units taken)) (codes "expect" ∷ taken_word taken ∷ [])
+unfolding expected_by_one
+units_back t true = expect_one t (codes "taken") _ refl refl
+units_back t false = expect_one t (codes "untaken") _ refl refl
+
+unit_back : (t : Contents) (u : ℕ) (taken : Bool) → u < 2 ^ 64 → IsBack t (Expect (expects.Unit u taken)) (codes "expect" ∷ taken_word taken ∷ decimal u ∷ [])
+unfolding expected_by_two
+unit_back t u true h = expect_two t (codes "taken") (decimal u) _ refl (number_word u h) (ap (option_and_then (λ u. Some (expects.Unit u true))) (number_back u h))
+unit_back t u false h = expect_two t (codes "untaken") (decimal u) _ refl (number_word u h) (ap (option_and_then (λ u. Some (expects.Unit u false))) (number_back u h))
+
+failed_back : (t : Contents) (number : Option ℕ) → IsNumber number → IsBack t (Expect (expects.Failed number)) (codes "expect" ∷ codes "failed" ∷ number_words number)
+unfolding expected_by_one expected_by_two
+failed_back t None h = expect_one t (codes "failed") _ refl refl
+failed_back t (Some n) h = expect_two t (codes "failed") (decimal n) _ refl (number_word n h) (ap (option_and_then (λ n. Some (expects.Failed (Some n)))) (number_back n h))
+
+-- ---- AL states
+
+state_back : (state : State) → state_named (state_name state) ≡ Some state
+unfolding state_named
+state_back Init = refl
+state_back PreOp = refl
+state_back SafeOp = refl
+state_back Op = refl
+
+state_plain : (state : State) → is_word (state_name state) ≡ true
+state_plain Init = refl
+state_plain PreOp = refl
+state_plain SafeOp = refl
+state_plain Op = refl
+
+-- a hex digit
+digit_is : (d : ℕ) → d < 16 → nat_lt (digit_value (digit_char d)) 16 ≡ true
+digit_is d h = rw (digit_value-digit_char d (omega arith)) (is_true d 16 h)
+
+plain_by_digit : (c : ℕ) → nat_lt (digit_value c) 16 ≡ true → is_plain c ≡ true
+plain_by_digit c h =
+    and (not (IsBlank c)) (not (IsMark c))
+    (not_false _ (other_byte (λ b. nat_lt (digit_value b) 16) 32 refl c h)) (not_false _ (other_byte (λ b. nat_lt (digit_value b) 16) 35 refl c h))
+
+digit_plain : (d : ℕ) → d < 16 → is_plain (digit_char d) ≡ true
+digit_plain d h = plain_by_digit (digit_char d) (digit_is d h)
+
+code_value : (a b c d : ℕ) → a < 16 → b < 16 → c < 16 → d < 16
+    → digits_value 16 (digit_char a ∷ digit_char b ∷ digit_char c ∷ digit_char d ∷ []) ≡ ((a * 16 + b) * 16 + c) * 16 + d
+code_value a b c d ha hb hc hd =
+    let ea : digit_value (digit_char a) ≡ a = digit_value-digit_char a (omega arith) in
+    let eb : digit_value (digit_char b) ≡ b = digit_value-digit_char b (omega arith) in
+    let ec : digit_value (digit_char c) ≡ c = digit_value-digit_char c (omega arith) in
+    let ed : digit_value (digit_char d) ≡ d = digit_value-digit_char d (omega arith) in
+    rw (ea, eb, ec, ed) (omega arith)
+
+code_hex : (a b c d : ℕ) → a < 16 → b < 16 → c < 16 → d < 16
+    → hex_of (digit_char a ∷ digit_char b ∷ digit_char c ∷ digit_char d ∷ []) ≡ Some (((a * 16 + b) * 16 + c) * 16 + d)
+unfolding hex_of
+code_hex a b c d ha hb hc hd =
+    let value = code_value a b c d ha hb hc hd in
+    let low : nat_lt (((a * 16 + b) * 16 + c) * 16 + d) (2 ^ 64) ≡ true = is_true _ _ (omega arith) in
+    rw (digit_is a ha, digit_is b hb, digit_is c hc, digit_is d hd, value, low) refl
+
+digits_join : (n : ℕ) → n < 2 ^ 16 → ((n / 4096 * 16 + n / 256 % 16) * 16 + n / 16 % 16) * 16 + n % 16 ≡ n
+digits_join n h = omega arith
+
+code_back : (n : ℕ) → n < 2 ^ 16 → code_of (code_word n) ≡ Some n
+unfolding code_of
+code_back n h =
+    let a : n / 4096 < 16 = omega arith in
+    let hex = code_hex (n / 4096) (n / 256 % 16) (n / 16 % 16) (n % 16) a (omega arith) (omega arith) (omega arith) in
+    let low : nat_lt n (2 ^ 16) ≡ true = is_true n (2 ^ 16) h in
+    ap (option_and_then (λ k. if nat_lt k (2 ^ 16) then Some k else None)) (hex ∙ ap Some (digits_join n h)) ∙ rw low refl
+
+code_plain : (n : ℕ) → n < 2 ^ 16 → is_word (code_word n) ≡ true
+code_plain n h =
+    let a : n / 4096 < 16 = omega arith in
+    rw (digit_plain (n / 4096) a, digit_plain (n / 256 % 16) (omega arith), digit_plain (n / 16 % 16) (omega arith), digit_plain (n % 16) (omega arith)) refl
+
+in_state : (t : Contents) (s : ℕ) (state : State) (code : Option ℕ) → s < 2 ^ 64 → IsCode code
+    → IsBack t (Expect (expects.State s state code)) (codes "expect" ∷ codes "state" ∷ decimal s ∷ state_name state ∷ code_words code)
+unfolding act_of_four act_of_five expected_by_three expected_by_four
+in_state t s state None h g = record {
+  verb = codes "expect";
+  rest = codes "state" ∷ decimal s ∷ state_name state ∷ [];
+  are = refl;
+  some = refl;
+  other = refl;
+  plain = and _ _ refl (and _ _ refl (and _ _ (number_word s h) (and _ _ (state_plain state) refl)));
+  reads = rw (slave_back t s h, state_back state) refl;
+}
+in_state t s state (Some code) h g = record {
+  verb = codes "expect";
+  rest = codes "state" ∷ decimal s ∷ state_name state ∷ code_word code ∷ [];
+  are = refl;
+  some = refl;
+  other = refl;
+  plain = and _ _ refl (and _ _ refl (and _ _ (number_word s h) (and _ _ (state_plain state) (and _ _ (code_plain code g) refl))));
+  reads = rw (slave_back t s h, state_back state, code_back code g) refl;
+}
+
+expectation_back : (t : Contents) (e : Expectation) → table.IsSound t → IsExpectationOf t.variables e → IsBack t (Expect e) (codes "expect" ∷ words_expecting t.variables e)
+unfolding expected_by_one
+expectation_back t (expects.Is v x) sound h =
+    let r = row_at t v sound h.0.0 in value_of_name t v (decimal x) (Number x) r h.0.1 (number_word x h.1) (value_for_back t v x r h.1)
+expectation_back t (expects.Never v) sound h =
+    let r = row_at t v sound h.0 in value_of_name t v below_all Outside r h.1 refl (below_for_back t v r)
+expectation_back t (expects.Units taken) sound h = units_back t taken
+expectation_back t (expects.Unit u taken) sound h = unit_back t u taken h
+expectation_back t (expects.State s state code) sound h = in_state t s state code h.0 h.1
+expectation_back t expects.Ready sound h = expect_one t (codes "ready") _ refl refl
+expectation_back t (expects.Failed number) sound h = failed_back t number h
+
+-- ---- acts and lines
+
+act_back : (t : Contents) (act : Act) → table.IsSound t → IsActOf t.variables act → IsBack t act (words_for t.variables act)
 unfolding act_of_one
-act_back rows (One e) sound h = event_back rows e sound h
-act_back rows Ready sound h = one_back rows (codes "ready") _ refl refl
-act_back rows Cycle sound h = one_back rows (codes "cycle") _ refl refl
-act_back rows Show sound h = one_back rows (codes "show") _ refl refl
+act_back t (One e) sound h = event_back t e sound h
+act_back t (Input v x) sound h = input_back t v x (row_at t v sound h.0) h.1
+act_back t (Never v) sound h = never_back t v (row_at t v sound h)
+act_back t (Expect e) sound h = expectation_back t e sound h
+act_back t Ready sound h = one_back t (codes "ready") _ refl refl refl refl
+act_back t Cycle sound h = one_back t (codes "cycle") _ refl refl refl refl
+act_back t Show sound h = one_back t (codes "show") _ refl refl refl refl
+
+-- words that stand for a line
+record IsLineBack (t : Contents) (line : Line) (words : List Text) : Type 0 where
+  verb : Text
+  rest : List Text
+  are : words ≡ verb ∷ rest
+  some : nat_lt 0 (length verb) ≡ true
+  plain : are_words (verb ∷ rest) ≡ true
+  reads : line_of_words t line.number (verb ∷ rest) ≡ Some line
+
+once_back : (t : Contents) (line : Line) → line.times ≡ 1 → IsBack t line.act (words_for t.variables line.act) → IsLineBack t line (words_for t.variables line.act)
+once_back t line once b = record {
+  verb = b.verb;
+  rest = b.rest;
+  are = b.are;
+  some = b.some;
+  plain = b.plain;
+  reads = rw (b.other, b.reads) (ap (λ (n : ℕ). Some (record line { times = n })) (sym once));
+}
+
+often_back : (t : Contents) (line : Line) → IsLineOf t.variables line → IsBack t line.act (words_for t.variables line.act)
+    → IsLineBack t line (codes "repeat" ∷ decimal line.times ∷ words_for t.variables line.act)
+often_back t line h b =
+    let times = times_back line.times h.some h.most in
+    let low : line.times < 2 ^ 64 = let m : line.times ≤ 1000000 = h.most in omega arith in
+    record {
+      verb = codes "repeat";
+      rest = decimal line.times ∷ b.verb ∷ b.rest;
+      are = ap (λ (ws : List Text). codes "repeat" ∷ decimal line.times ∷ ws) b.are;
+      some = refl;
+      plain = and _ _ refl (and _ _ (number_word line.times low) b.plain);
+      reads = rw (times, b.reads) refl;
+    }
+
+line_words : (t : Contents) (line : Line) (once : Bool) → (line.times == 1) ≡ once → IsLineOf t.variables line → IsBack t line.act (words_for t.variables line.act)
+    → IsLineBack t line (if once then words_for t.variables line.act else codes "repeat" ∷ decimal line.times ∷ words_for t.variables line.act)
+line_words t line true is h b = once_back t line (grind (arith, nat_tests)) b
+line_words t line false is h b = often_back t line h b
+
+nonempty : (word : Text) (words : List Text) → nat_lt 0 (length word) ≡ true → nat_lt 0 (length (joined_words (word ∷ words))) ≡ true
+nonempty [] words h = cc
+nonempty (c ∷ cs) [] h = is_true _ _ (omega arith)
+nonempty (c ∷ cs) (next ∷ words) h = is_true _ _ (omega arith)
+
+found : (t : Contents) (n : ℕ) (text : Text) (line : Line) → nat_lt 0 (length text) ≡ true → line_on t n text ≡ Some line → reading_without t n text ≡ reading.Line line
+found t n [] line h is = cc
+found t n (c ∷ cs) line h is = ap found_line is
+
+text_back : (t : Contents) (line : Line) (words : List Text) → IsLineBack t line words → reading_of t line.number (joined_words words) ≡ reading.Line line
+text_back t line words b =
+    let text = joined_words (b.verb ∷ b.rest) in
+    let same : uncommented text ≡ text = whole text (none_marked (b.verb ∷ b.rest) b.plain) in
+    ap (λ (ws : List Text). reading_of t line.number (joined_words ws)) b.are
+    ∙ (ap (reading_without t line.number) same
+    ∙ found t line.number text line (nonempty b.verb b.rest b.some) (ap (line_of_words t line.number) (split_back b.verb b.rest b.plain) ∙ b.reads))
 
 pub acts_read_back : ActsReadBack
-acts_read_back t act sound h = act_back t.variables act sound.variables h
+acts_read_back t line sound h = text_back t line _ (line_words t line (line.times == 1) refl h (act_back t line.act sound h.act))

@@ -1,11 +1,9 @@
 -- `ready` brings a world up where nothing disturbs it.
-use Rattle.std.proofs.Common.{◌≡◌, ◌∙◌, ℕ, zero, suc, ◌+◌, ◌<◌, ◌≤◌, ◌&&◌, List, [], ◌∷◌, ◌++◌, length, replicate, take, Bool, true, false, Option, Some, None, is_some, is_none, if◌then◌else◌, refl, sym, ap, subst, append-nil, append_assoc, length-append, arith}
+use Rattle.std.proofs.Common.{◌≡◌, ◌∙◌, ℕ, zero, suc, ◌+◌, ◌≤◌, ◌&&◌, List, [], ◌∷◌, ◌++◌, length, replicate, take, Bool, true, false, Option, None, is_some, is_none, if◌then◌else◌, refl, sym, ap, subst, append-nil, append_assoc, length-append, arith}
 use Rattle.std.specs.Prelude.{codes}
 use Rattle.std.proofs.lemmas.List.{take_all}
 use Rattle.ec_text.specs.PlanText.{newline}
 use Rattle.ec_table.specs.Contents.{Contents}
-use Rattle.ec_link.specs.Plan.{plan_of}
-use Rattle.ec_start.specs.Scripts.{script}
 use Rattle.ec_start.specs.Running.{StartState, outcome_of}
 use Rattle.ec_start.specs.declared.phase.Phase.{Phase}
 use Rattle.ec_start.specs.declared.phase.Phase.TheVariants.{Idle, Ready as IsUp}
@@ -22,7 +20,7 @@ use Rattle.ec_world.proofs.ComingUp.{MayTurn, turned_on, turned_idle, turned_man
 use Rattle.ec_script.specs.declared.said.Said.{Said}
 use Rattle.ec_script.specs.declared.said.Said.TheVariants as said
 use Rattle.ec_script.specs.Events.{lowest_slot, turn_events}
-use Rattle.ec_script.specs.Promised.{IsReadied, ReadyLaw}
+use Rattle.ec_script.specs.Promised.{ReadyLaw}
 use Rattle.ec_script.specs.Rounds.{rounds, rounds_found}
 use Rattle.ec_script.specs.declared.line.Act.TheVariants.{Ready}
 use Rattle.ec_script.specs.Texts.{outcome_text, said_text}

@@ -1,5 +1,5 @@
 -- What a line does is a run of its events.
-use Rattle.std.proofs.Common.{◌≡◌, ◌∙◌, ◌⊎◌, inl, inr, ℕ, zero, suc, ◌<◌, ◌≤◌, ◌&&◌, List, [], ◌∷◌, ◌++◌, length, take, Bool, true, false, Option, Some, None, is_some, is_none, if◌then◌else◌, refl, sym, ap, subst, arith, append-nil, length-append}
+use Rattle.std.proofs.Common.{◌≡◌, ◌∙◌, ◌⊎◌, inl, inr, ℕ, zero, suc, ◌<◌, ◌≤◌, ◌&&◌, List, [], ◌∷◌, ◌++◌, length, take, Bool, true, false, Option, Some, None, is_some, is_none, slice_get, if◌then◌else◌, refl, sym, ap, subst, arith, append-nil, length-append}
 use Rattle.std.proofs.lemmas.List.{length-take-le}
 use Rattle.ec_cycle.specs.Closing.{nones}
 use Rattle.ec_start.specs.Running.{outcome_of}
@@ -9,11 +9,16 @@ use Rattle.ec_world.specs.Laws.{IsRun}
 use Rattle.ec_world.specs.World.{WorldState, IsStep, awaits, is_up}
 use Rattle.ec_world.proofs.Runs.{runs_join}
 use Rattle.ec_script.specs.declared.line.Act.{Act}
-use Rattle.ec_script.specs.declared.line.Act.TheVariants.{One, Ready, Cycle, Show}
+use Rattle.ec_script.specs.declared.line.Act.TheVariants.{One, Input, Never, Expect, Ready, Cycle, Show}
 use Rattle.ec_script.specs.declared.said.Said.{Said}
-use Rattle.ec_script.specs.Events.{AreMade, GoesOn, LinesRun, RunsLine, RunsReady, ScriptsRun, cycle_events, lowest_slot, turn_events, turns_events}
+use Rattle.ec_script.specs.declared.line.Line.{Line}
+use Rattle.ec_script.specs.declared.said.Said.TheVariants as said
+use Rattle.ec_script.specs.Expecting.{is_met}
+use Rattle.ec_script.specs.Inputs.{input_events, is_input_of}
+use Rattle.ec_script.specs.Scripts.{repeated}
+use Rattle.ec_script.specs.Events.{AreMade, DoesAll, GoesOn, LinesRun, RunsLine, RunsReady, ScriptsRun, cycle_events, lowest_slot, turn_events, turns_events}
 use Rattle.ec_script.specs.Rounds.{rounds, rounds_found}
-use Rattle.ec_script.specs.Work.{Onward, RunsCycle, RunsTurn, Starts, has_ended, is_done, is_starting, last_turn}
+use Rattle.ec_script.specs.Work.{MakesAll, Onward, RunsCycle, RunsTurn, Starts, has_ended, is_done, is_starting, last_turn, said_if}
 use Rattle.ec_script.proofs.Goes.{Goes, are_made, goes_all, goes_join, goes_one, goes_then}
 use Rattle.ec_script.proofs.Keeping.{Kept, free_frames, goes_kept}
 use Rattle.ec_script.proofs.SlotsSent.{cycle_found, starts_free, turn_found}
@@ -161,8 +166,20 @@ ready_made old new all r = record {
 
 -- ---- lines and scripts
 
+said_done : (b : Bool) → is_done (said_if b) ≡ true
+said_done true = refl
+said_done false = refl
+
+input_made : (b : Bool) (es : List Event) (old new : WorldState) (word : Said) → Onward b (MakesAll es old new word) ((new ≡ old) × (word ≡ said.No))
+    → Onward b (AreMade es old new (is_done word)) ((new ≡ old) × (is_done word ≡ false))
+input_made true es old new word h = are_made es old new (is_done word) (goes_all es old new word h)
+input_made false es old new word h = (h.0, ap is_done h.1)
+
 pub lines_run : LinesRun
 lines_run (One e) old new word h = are_made (e ∷ []) old new (is_done word) (goes_one e old new word h)
+lines_run (Input v x) old new word h = input_made (is_input_of x (slice_get old.plan.variables v)) (input_events old v x) old new word h
+lines_run (Never v) old new word h = (h.0, ap is_done h.1)
+lines_run (Expect e) old new word h = are_made [] old new (is_done word) (h.0, ap is_done h.1 ∙ said_done (is_met e old))
 lines_run Ready old new word h = ready_made old new (is_done word) (starts_goes last_turn old new word h)
 lines_run Cycle old new word h = are_made (cycle_events old) old new (is_done word) (cycle_goes old new word h)
 lines_run Show old new word h = are_made [] old new (is_done word) (h.0, ap is_done h.1)
@@ -173,8 +190,18 @@ HasRun old new = (events : List Event) × IsRun old events new (length events)
 made_run : (events : List Event) (old new : WorldState) (all : Bool) → AreMade events old new all → HasRun old new
 made_run events old new all h = (take h.made events, subst (λ n. IsRun old (take h.made events) new n) (sym (length-take-le h.made events h.within)) h.run)
 
+none_run : (old new : WorldState) → new ≡ old → HasRun old new
+none_run old new same = ([], (same, refl))
+
+input_run : (b : Bool) (es : List Event) (old new : WorldState) (all : Bool) → Onward b (AreMade es old new all) ((new ≡ old) × (all ≡ false)) → HasRun old new
+input_run true es old new all h = made_run es old new all h
+input_run false es old new all h = none_run old new h.0
+
 line_run : (act : Act) (old new : WorldState) (all : Bool) → RunsLine act old new all → HasRun old new
 line_run (One e) old new all h = made_run (e ∷ []) old new all h
+line_run (Input v x) old new all h = input_run (is_input_of x (slice_get old.plan.variables v)) (input_events old v x) old new all h
+line_run (Never v) old new all h = none_run old new h.0
+line_run (Expect e) old new all h = made_run [] old new all h
 line_run Ready old new all h = made_run (turns_events old h.turns) old new all h.made
 line_run Cycle old new all h = made_run (cycle_events old) old new all h
 line_run Show old new all h = made_run [] old new all h
@@ -185,7 +212,10 @@ both_run old mid new h g = (
   subst (λ n. IsRun old (h.0 ++ g.0) new n) (sym (length-append h.0 g.0)) (runs_join old h.0 mid (length h.0) g.0 new (length g.0) h.1 g.1),
 )
 
+all_run : (lines : List Line) (old new : WorldState) → DoesAll lines old new → HasRun old new
+all_run [] old new h = none_run old new h
+all_run (line ∷ lines) old new h =
+    both_run old h.0 new (line_run line.act old h.0 (is_done h.1) (lines_run line.act old h.0 h.1 h.2)) (all_run lines h.0 new h.3)
+
 pub scripts_run : ScriptsRun
-scripts_run [] old new h = ([], (h, refl))
-scripts_run (line ∷ lines) old new h =
-    both_run old h.0 new (line_run line.act old h.0 (is_done h.1) (lines_run line.act old h.0 h.1 h.2)) (scripts_run lines h.0 new h.3)
+scripts_run lines old new h = all_run (repeated lines) old new h

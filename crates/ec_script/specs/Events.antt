@@ -1,17 +1,19 @@
 -- The events of a line, and that its work is a run of them: of a line, of `ready`, of `cycle`, of a whole script (this
 -- project's profile).
-use Rattle.std.specs.Prelude.{ℕ, zero, suc, ◌<◌, ◌≤◌, ◌≡◌, ◌⊎◌, List, [], ◌∷◌, ◌++◌, length, replicate, take, get_or, Bool, true, false, Option}
+use Rattle.std.specs.Prelude.{ℕ, zero, suc, ◌<◌, ◌≤◌, ◌≡◌, ◌⊎◌, List, [], ◌∷◌, ◌++◌, length, replicate, take, get_or, slice_get, Bool, true, false, Option}
 use Rattle.ec_world.specs.declared.event.Event.{Event}
 use Rattle.ec_world.specs.declared.event.Event.TheVariants.{StartNext, Begin, Close}
 use Rattle.ec_world.specs.Laws.{IsRun}
 use Rattle.ec_world.specs.Plain.{filled}
 use Rattle.ec_world.specs.World.{Flight, WorldState, can_happen, flights_from}
 use Rattle.ec_script.specs.declared.line.Act.{Act}
-use Rattle.ec_script.specs.declared.line.Act.TheVariants.{One, Ready, Cycle, Show}
+use Rattle.ec_script.specs.declared.line.Act.TheVariants.{One, Input, Never, Expect, Ready, Cycle, Show}
 use Rattle.ec_script.specs.declared.line.Line.{Line}
 use Rattle.ec_script.specs.declared.said.Said.{Said}
+use Rattle.ec_script.specs.Inputs.{input_events, is_input_of}
 use Rattle.ec_script.specs.Rounds.{greatest, rounds, slots_with}
-use Rattle.ec_script.specs.Work.{Does, has_ended, is_done, last_turn}
+use Rattle.ec_script.specs.Scripts.{repeated}
+use Rattle.ec_script.specs.Work.{Does, Onward, has_ended, is_done, last_turn}
 
 -- ---- events as far as they can be made
 
@@ -70,9 +72,13 @@ pub record RunsReady (old new : WorldState) (all : Bool) : Type 0 where
 
 -- ---- a line
 
--- whether all of its events could be made
+-- Whether all of its events could be made. What expects something, or shows it, has none; a variable that can't be given a
+-- value has none either, and that can't be done.
 abbrev pub RunsLine : Act → WorldState → WorldState → Bool → Type 0
 RunsLine (One e) old new all = AreMade (e ∷ []) old new all
+RunsLine (Input v x) old new all = Onward (is_input_of x (slice_get old.plan.variables v)) (AreMade (input_events old v x) old new all) ((new ≡ old) × (all ≡ false))
+RunsLine (Never v) old new all = (new ≡ old) × (all ≡ false)
+RunsLine (Expect e) old new all = AreMade [] old new all
 RunsLine Ready old new all = RunsReady old new all
 RunsLine Cycle old new all = AreMade (cycle_events old) old new all
 RunsLine Show old new all = AreMade [] old new all
@@ -88,6 +94,6 @@ abbrev pub DoesAll : List Line → WorldState → WorldState → Type 0
 DoesAll [] old new = new ≡ old
 DoesAll (line ∷ lines) old new = (mid : WorldState) × (word : Said) × Does line.act old mid word × DoesAll lines mid new
 
--- Whatever a script does to a world, a run of events does it.
+-- Whatever a script does to a world, with each line as often as it is done, a run of events does it.
 abbrev pub ScriptsRun : Type 0
-ScriptsRun = (lines : List Line) (old new : WorldState) → DoesAll lines old new → (events : List Event) × IsRun old events new (length events)
+ScriptsRun = (lines : List Line) (old new : WorldState) → DoesAll (repeated lines) old new → (events : List Event) × IsRun old events new (length events)

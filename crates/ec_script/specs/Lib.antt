@@ -8,6 +8,10 @@ pub mod Halves
 pub mod Acts
 -- what the lines of a script stand for, and which line is the first bad one
 pub mod Scripts
+-- an input variable as the plant has it, as events
+pub mod Inputs
+-- when what a line expects of a world is so
+pub mod Expecting
 -- how frames go round, as events
 pub mod Rounds
 -- what a line does to a world, and what there is to say of it

@@ -1,14 +1,17 @@
--- What a script stands for: an act for each line that isn't empty, or the number of the first that stands for none (this
--- project's profile).
-use Rattle.std.specs.Prelude.{◌≡◌, ℕ, ◌+◌, List, [], ◌∷◌, Option, Some, None, Result, Ok, Err, codes}
+-- What a script stands for: a line for each text that isn't empty without its comment, or the number of the first that stands
+-- for none (this project's profile).
+use Rattle.std.specs.Prelude.{◌≡◌, ℕ, ◌+◌, List, [], ◌∷◌, ◌++◌, replicate, if◌then◌else◌, Option, Some, None, option_map, Result, Ok, Err, codes}
+use Rattle.std.specs.Str.{bytes_eq}
 use Rattle.std.specs.Str.Lines.{lines}
-use Rattle.ec_table.specs.declared.rows.VariableRow.{VariableRow}
+use Rattle.ec_table.specs.Contents.{Contents}
 use Rattle.ec_script.specs.declared.line.Act.{Act}
 use Rattle.ec_script.specs.declared.line.Line.{Line}
+use Rattle.ec_script.specs.declared.read.Reading.{Reading}
+use Rattle.ec_script.specs.declared.read.Reading.TheVariants as reading
 use Rattle.ec_script.specs.declared.error.ScriptError.{ScriptError}
 use Rattle.ec_script.specs.declared.error.ScriptError.TheVariants.{Memory, BadScript}
-use Rattle.ec_script.specs.Words.{Text, words_of}
-use Rattle.ec_script.specs.Acts.{act_of_words}
+use Rattle.ec_script.specs.Words.{Text, times_of, uncommented, words_of}
+use Rattle.ec_script.specs.Acts.{◌>>=◌, act_of_words}
 
 -- ---- errors
 
@@ -26,25 +29,54 @@ error_line (BadScript n) = Some n
 
 -- ---- lines
 
--- what a line stands for that isn't empty
-abbrev pub act_on : List VariableRow → Text → Option Act
-act_on variables text = act_of_words variables (words_of text)
+-- line n, whose act is done so often
+abbrev pub done_times : ℕ → ℕ → Option Act → Option Line
+done_times n times act = option_map (λ a. record { number = n; times = times; act = a }) act
 
--- line n with its act, before what follows it
-abbrev pub with_act : ℕ → Option Act → Result (List Line) ℕ → Result (List Line) ℕ
-with_act n None rest = Err n
-with_act n (Some act) (Ok lines) = Ok (record { number = n; act = act } ∷ lines)
-with_act n (Some act) (Err bad) = Err bad
+-- behind `repeat` stand a number and the words of an act
+abbrev pub repeated_line : Contents → ℕ → List Text → Option Line
+repeated_line t n [] = None
+repeated_line t n (count ∷ words) = times_of count >>= (λ times. done_times n times (act_of_words t words))
 
--- lines of which the first has number n
-unfoldable pub script_from : List VariableRow → ℕ → List Text → Result (List Line) ℕ
-script_from variables n [] = Ok []
-script_from variables n ([] ∷ texts) = script_from variables (n + 1) texts
-script_from variables n ((c ∷ cs) ∷ texts) = with_act n (act_on variables (c ∷ cs)) (script_from variables (n + 1) texts)
+-- what words stand for as line n
+abbrev pub line_of_words : Contents → ℕ → List Text → Option Line
+line_of_words t n [] = None
+line_of_words t n (verb ∷ words) = if bytes_eq verb (codes "repeat") then repeated_line t n words else done_times n 1 (act_of_words t (verb ∷ words))
+
+-- what a text stands for as line n that isn't empty and has no comment
+abbrev pub line_on : Contents → ℕ → Text → Option Line
+line_on t n text = line_of_words t n (words_of text)
+
+-- what the words of line n stand for
+abbrev pub found_line : Option Line → Reading
+found_line None = reading.Bad
+found_line (Some line) = reading.Line line
+
+abbrev pub reading_without : Contents → ℕ → Text → Reading
+reading_without t n [] = reading.Empty
+reading_without t n (c ∷ cs) = found_line (line_on t n (c ∷ cs))
+
+-- what the text of line n is: without its comment it may be empty
+abbrev pub reading_of : Contents → ℕ → Text → Reading
+reading_of t n text = reading_without t n (uncommented text)
+
+-- ---- scripts
+
+-- line n before what follows it
+abbrev pub with_reading : ℕ → Reading → Result (List Line) ℕ → Result (List Line) ℕ
+with_reading n reading.Empty rest = rest
+with_reading n reading.Bad rest = Err n
+with_reading n (reading.Line line) (Ok lines) = Ok (line ∷ lines)
+with_reading n (reading.Line line) (Err bad) = Err bad
+
+-- texts of which the first has number n
+unfoldable pub script_from : Contents → ℕ → List Text → Result (List Line) ℕ
+script_from t n [] = Ok []
+script_from t n (text ∷ texts) = with_reading n (reading_of t n text) (script_from t (n + 1) texts)
 
 -- the lines of a script are counted from 1
-abbrev pub script_of : List VariableRow → Text → Result (List Line) ℕ
-script_of variables text = script_from variables 1 (lines text)
+abbrev pub script_of : Contents → Text → Result (List Line) ℕ
+script_of t text = script_from t 1 (lines text)
 
 -- what a reader answers is what the definition gives, unless memory ran out
 abbrev pub Fails : ScriptError → Result (List Line) ℕ → Type 0
@@ -54,3 +86,10 @@ Fails (BadScript n) read = read ≡ Err n
 abbrev pub Gives : Result (List Line) ScriptError → Result (List Line) ℕ → Type 0
 Gives (Ok lines) read = read ≡ Ok lines
 Gives (Err e) read = Fails e read
+
+-- ---- repetition
+
+-- each line as often as it is done
+unfoldable pub repeated : List Line → List Line
+repeated [] = []
+repeated (line ∷ lines) = replicate line.times line ++ repeated lines

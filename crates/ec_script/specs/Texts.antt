@@ -19,7 +19,7 @@ use Rattle.ec_cycle.specs.Master.{value_at}
 use Rattle.ec_world.specs.World.{WorldState}
 use Rattle.ec_text.specs.PlanText.{counter_text, lines_from, newline}
 use Rattle.ec_script.specs.declared.said.Said.{Said}
-use Rattle.ec_script.specs.declared.said.Said.TheVariants.{Nothing, No, Byte, Ended, Report, Values}
+use Rattle.ec_script.specs.declared.said.Said.TheVariants.{Nothing, No, Unmet, Byte, Ended, Report, Values}
 
 -- ---- reports
 
@@ -88,6 +88,7 @@ last_report_text v w = report_if v w.plan.parts w.report
 abbrev pub said_text : Contents → ℕ → WorldState → Said → List ℕ
 said_text t n w Nothing = []
 said_text t n w No = codes "no " ++ decimal n ++ newline
+said_text t n w Unmet = codes "unmet " ++ decimal n ++ newline
 said_text t n w Byte = byte_text w.got
 said_text t n w Ended = outcome_text (outcome_of w.start.phase)
 said_text t n w Report = last_report_text t.version w

@@ -1,14 +1,16 @@
 -- What a line of a script does to a world, and what there is to say of it (this project's profile). A line ends at the first
 -- event that can't be made; what its last event says is said.
-use Rattle.std.specs.Prelude.{ℕ, zero, suc, ◌-◌, ◌^◌, ◌≡◌, ◌&&◌, List, [], ◌∷◌, ◌++◌, Bool, true, false, if◌then◌else◌, is_some, is_none}
+use Rattle.std.specs.Prelude.{ℕ, zero, suc, ◌-◌, ◌^◌, ◌≡◌, ◌&&◌, List, [], ◌∷◌, ◌++◌, Bool, true, false, if◌then◌else◌, is_some, is_none, slice_get}
 use Rattle.ec_start.specs.Running.{outcome_of}
 use Rattle.ec_world.specs.declared.event.Event.{Event}
 use Rattle.ec_world.specs.declared.event.Event.TheVariants.{StartNext, Set, Begin, Pass, Lose, Return, Close, Serve, AppPut, AppGet, Fault, Reset}
 use Rattle.ec_world.specs.World.{WorldState, IsStep}
 use Rattle.ec_script.specs.declared.line.Act.{Act}
-use Rattle.ec_script.specs.declared.line.Act.TheVariants.{One, Ready, Cycle, Show}
+use Rattle.ec_script.specs.declared.line.Act.TheVariants.{One, Input, Never, Expect, Ready, Cycle, Show}
 use Rattle.ec_script.specs.declared.said.Said.{Said}
 use Rattle.ec_script.specs.declared.said.Said.TheVariants as said
+use Rattle.ec_script.specs.Expecting.{is_met}
+use Rattle.ec_script.specs.Inputs.{input_events, is_input_of}
 use Rattle.ec_script.specs.Rounds.{rounds_found}
 
 -- ---- one event
@@ -44,15 +46,25 @@ pub record Makes (e : Event) (old new : WorldState) (word : Said) : Type 0 where
   pub step : IsStep old e new made
   pub says : word ≡ said_of old e new made
 
+-- what there is to say where something is expected, by whether it is so
+abbrev pub said_if : Bool → Said
+said_if true = said.Nothing
+said_if false = said.Unmet
+
 -- ---- events one after another
 
 abbrev pub is_done : Said → Bool
 is_done said.Nothing = true
 is_done said.No = false
+is_done said.Unmet = true
 is_done said.Byte = true
 is_done said.Ended = true
 is_done said.Report = true
 is_done said.Values = true
+
+abbrev pub is_unmet : Said → Bool
+is_unmet said.Unmet = true
+is_unmet _ = false
 
 abbrev pub Onward : Bool → Type 0 → Type 0 → Type 0
 Onward true x y = x
@@ -97,10 +109,20 @@ last_turn = 2 ^ 64 - 1
 abbrev pub RunsCycle : WorldState → WorldState → Said → Type 0
 RunsCycle old new word = Then always (Makes Begin) (λ w. MakesAll (rounds_found false w ++ (Close ∷ [])) w) old new word
 
+-- ---- a variable of the inputs
+
+-- slave after slave writes its inputs; where it is no input, or doesn't hold the value, nothing is done
+abbrev pub RunsInput : ℕ → ℕ → WorldState → WorldState → Said → Type 0
+RunsInput v x old new word =
+    Onward (is_input_of x (slice_get old.plan.variables v)) (MakesAll (input_events old v x) old new word) ((new ≡ old) × (word ≡ said.No))
+
 -- ---- an act
 
 abbrev pub Does : Act → WorldState → WorldState → Said → Type 0
 Does (One e) old new word = Makes e old new word
+Does (Input v x) old new word = RunsInput v x old new word
+Does (Never v) old new word = (new ≡ old) × (word ≡ said.No)
+Does (Expect e) old new word = (new ≡ old) × (word ≡ said_if (is_met e old))
 Does Ready old new word = Starts last_turn old new word
 Does Cycle old new word = RunsCycle old new word
 Does Show old new word = (new ≡ old) × (word ≡ said.Values)

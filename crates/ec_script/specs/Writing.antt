@@ -1,15 +1,22 @@
 -- How a line is written, and that it is read back (this project's profile).
-use Rattle.std.specs.Prelude.{ℕ, ◌<◌, ◌≡◌, ◌^◌, List, [], ◌∷◌, ◌++◌, length, Option, Some, None, slice_get, codes}
+use Rattle.std.specs.Prelude.{ℕ, ◌<◌, ◌≤◌, ◌≡◌, ◌≢◌, ◌/◌, ◌%◌, ◌^◌, ◌==◌, List, [], ◌∷◌, ◌++◌, length, Bool, true, false, if◌then◌else◌, Option, Some, None, slice_get, codes}
+use Rattle.std.specs.Char.{digit_char}
 use Rattle.std.specs.Fmt.{decimal}
+use Rattle.ec_al.specs.declared.state.State.{State}
+use Rattle.ec_al.specs.declared.state.State.TheVariants.{Init, PreOp, SafeOp, Op}
 use Rattle.ec_table.specs.Contents.{Contents}
 use Rattle.ec_table.specs.Sound as table
 use Rattle.ec_table.specs.declared.rows.VariableRow.{VariableRow}
 use Rattle.ec_world.specs.declared.event.Event.{Event}
 use Rattle.ec_world.specs.declared.event.Event.TheVariants.{StartNext, Set, Begin, Pass, Lose, Return, Close, Serve, AppPut, AppGet, Fault, Reset}
+use Rattle.ec_script.specs.declared.expectation.Expectation.{Expectation}
+use Rattle.ec_script.specs.declared.expectation.Expectation.TheVariants as expects
 use Rattle.ec_script.specs.declared.line.Act.{Act}
-use Rattle.ec_script.specs.declared.line.Act.TheVariants.{One, Ready, Cycle, Show}
+use Rattle.ec_script.specs.declared.line.Act.TheVariants.{One, Input, Never, Expect, Ready, Cycle, Show}
+use Rattle.ec_script.specs.declared.line.Line.{Line}
+use Rattle.ec_script.specs.declared.read.Reading.TheVariants as reading
 use Rattle.ec_script.specs.Words.{Text}
-use Rattle.ec_script.specs.Scripts.{act_on}
+use Rattle.ec_script.specs.Scripts.{reading_of}
 
 -- ---- words
 
@@ -31,11 +38,54 @@ words_for_event variables (AppGet s i) = codes "get" ∷ decimal s ∷ decimal i
 words_for_event variables (Fault s) = codes "fault" ∷ decimal s ∷ []
 words_for_event variables (Reset s) = codes "reset" ∷ decimal s ∷ []
 
+-- below each number that 64 bits hold
+abbrev pub below_all : Text
+below_all = codes "-9223372036854775809"
+
+abbrev pub state_name : State → Text
+state_name Init = codes "INIT"
+state_name PreOp = codes "PREOP"
+state_name SafeOp = codes "SAFEOP"
+state_name Op = codes "OP"
+
+abbrev pub taken_word : Bool → Text
+taken_word true = codes "taken"
+taken_word false = codes "untaken"
+
+-- four hex digits, the highest first
+abbrev pub code_word : ℕ → Text
+code_word n = digit_char (n / 4096) ∷ digit_char (n / 256 % 16) ∷ digit_char (n / 16 % 16) ∷ digit_char (n % 16) ∷ []
+
+abbrev pub code_words : Option ℕ → List Text
+code_words None = []
+code_words (Some code) = code_word code ∷ []
+
+abbrev pub number_words : Option ℕ → List Text
+number_words None = []
+number_words (Some n) = decimal n ∷ []
+
+abbrev pub words_expecting : List VariableRow → Expectation → List Text
+words_expecting variables (expects.Is v x) = row_name (slice_get variables v) ∷ decimal x ∷ []
+words_expecting variables (expects.Never v) = row_name (slice_get variables v) ∷ below_all ∷ []
+words_expecting variables (expects.Units taken) = taken_word taken ∷ []
+words_expecting variables (expects.Unit u taken) = taken_word taken ∷ decimal u ∷ []
+words_expecting variables (expects.State s state code) = codes "state" ∷ decimal s ∷ state_name state ∷ code_words code
+words_expecting variables expects.Ready = codes "ready" ∷ []
+words_expecting variables (expects.Failed number) = codes "failed" ∷ number_words number
+
 abbrev pub words_for : List VariableRow → Act → List Text
 words_for variables (One e) = words_for_event variables e
+words_for variables (Input v x) = codes "in" ∷ row_name (slice_get variables v) ∷ decimal x ∷ []
+words_for variables (Never v) = codes "set" ∷ row_name (slice_get variables v) ∷ below_all ∷ []
+words_for variables (Expect e) = codes "expect" ∷ words_expecting variables e
 words_for variables Ready = codes "ready" ∷ []
 words_for variables Cycle = codes "cycle" ∷ []
 words_for variables Show = codes "show" ∷ []
+
+-- an act that is done once stands alone
+abbrev pub words_for_line : List VariableRow → Line → List Text
+words_for_line variables line =
+    if line.times == 1 then words_for variables line.act else codes "repeat" ∷ decimal line.times ∷ words_for variables line.act
 
 -- with a blank between them
 abbrev pub joined_words : List Text → Text
@@ -64,13 +114,47 @@ IsEventOf variables (AppGet s i) = IsWord64 s × IsWord64 i
 IsEventOf variables (Fault s) = IsWord64 s
 IsEventOf variables (Reset s) = IsWord64 s
 
+-- `expect` has words of its own, behind which no variable's value stands
+abbrev pub IsOtherWord : Text → Type 0
+IsOtherWord name = (name ≢ codes "taken") × (name ≢ codes "untaken") × (name ≢ codes "failed")
+
+abbrev pub IsExpectedVariable : List VariableRow → ℕ → Type 0
+IsExpectedVariable variables v = (v < length variables) × IsOtherWord (row_name (slice_get variables v))
+
+abbrev pub IsCode : Option ℕ → Type 0
+IsCode None = Unit {0}
+IsCode (Some code) = code < 2 ^ 16
+
+abbrev pub IsNumber : Option ℕ → Type 0
+IsNumber None = Unit {0}
+IsNumber (Some n) = IsWord64 n
+
+abbrev pub IsExpectationOf : List VariableRow → Expectation → Type 0
+IsExpectationOf variables (expects.Is v x) = IsExpectedVariable variables v × IsWord64 x
+IsExpectationOf variables (expects.Never v) = IsExpectedVariable variables v
+IsExpectationOf variables (expects.Units taken) = Unit {0}
+IsExpectationOf variables (expects.Unit u taken) = IsWord64 u
+IsExpectationOf variables (expects.State s state code) = IsWord64 s × IsCode code
+IsExpectationOf variables expects.Ready = Unit {0}
+IsExpectationOf variables (expects.Failed number) = IsNumber number
+
 abbrev pub IsActOf : List VariableRow → Act → Type 0
 IsActOf variables (One e) = IsEventOf variables e
+IsActOf variables (Input v x) = (v < length variables) × IsWord64 x
+IsActOf variables (Never v) = v < length variables
+IsActOf variables (Expect e) = IsExpectationOf variables e
 IsActOf variables Ready = Unit {0}
 IsActOf variables Cycle = Unit {0}
 IsActOf variables Show = Unit {0}
 
--- The line that is written for an act of a table's script stands for that act.
+-- an act that can be written, once or more often
+pub record IsLineOf (variables : List VariableRow) (line : Line) : Type 0 where
+  pub some : 1 ≤ line.times
+  pub most : line.times ≤ 1000000
+  pub act : IsActOf variables line.act
+
+-- The line that is written for an act of a table's script is read as that line.
 abbrev pub ActsReadBack : Type 0
 ActsReadBack =
-    (t : Contents) (act : Act) → table.IsSound t → IsActOf t.variables act → act_on t.variables (joined_words (words_for t.variables act)) ≡ Some act
+    (t : Contents) (line : Line) → table.IsSound t → IsLineOf t.variables line
+    → reading_of t line.number (joined_words (words_for_line t.variables line)) ≡ reading.Line line

@@ -1,18 +1,77 @@
-ghost use Rattle.std.specs.Prelude.{◌≡◌, map};
-ghost use Rattle.ec_script.specs.Acts.{act_of_one, act_of_two, act_of_three, act_of_four, act_of_words, variable_named};
+ghost use Rattle.std.specs.Prelude.{◌≡◌, map, length, ◌<◌, IfSome};
+ghost use Rattle.std.specs.Char.{is_ascii_digit};
+ghost use Rattle.std.specs.List.{list_all};
+ghost use Rattle.ec_script.specs.Acts.{act_of_one, act_of_two, act_of_three, act_of_four, act_of_five, act_of_words, input_act, set_act, slave_in, slave_named, value_for, variable_named};
 
+use crate::expecting::{expected_by_four, expected_by_one, expected_by_three, expected_by_two};
 use crate::line::Act;
+use crate::value::{Value, value_of};
 use crate::words::{byte_of, number_of};
-use ec_table::{Table, VariableRow};
+use ec_table::{SlaveRow, Table, VariableRow};
 use ec_world::Event;
 
 /// The place of the variable with a name.
-fn variable_named(variables: &[VariableRow], name: &str) -> Option<usize>
-    ensures { result ≡ variable_named variables.now name.now }
+pub fn variable_named(variables: &[VariableRow], name: &str) -> Option<usize>
+    ensures place { result ≡ variable_named variables.now name.now }
+    ensures there { IfSome result (λ place. place < length variables.now) }
 {
     variables
         .iter()
         .position(|variable| variable.name.as_str() == name)
+}
+
+/// The place of the slave with a name.
+fn slave_named(slaves: &[SlaveRow], name: &str) -> Option<usize>
+    ensures { result ≡ slave_named slaves.now name.now }
+{
+    slaves.iter().position(|slave| slave.name.as_str() == name)
+}
+
+/// Whether a word is digits alone.
+fn is_digits(word: &str) -> bool
+    ensures { result ≡ list_all is_ascii_digit word.now }
+{
+    word.as_bytes().iter().all(|byte| byte.is_ascii_digit())
+}
+
+/// The place of the slave that a word names, by its number or by its name; digits alone are a number.
+#[tactic(auto, unfolding(crate::specs::Acts::slave_in))]
+pub fn slave_in(table: &Table, word: &str) -> Option<usize>
+    ensures { result ≡ slave_in table.now word.now }
+{
+    if is_digits(word) {
+        Some(number_of(word)? as usize)
+    } else {
+        slave_named(table.slaves(), word)
+    }
+}
+
+/// The value that a word writes for the variable at a place.
+pub fn value_for(table: &Table, variable: usize, word: &str) -> Option<Value>
+    requires { variable < length table.now.variables }
+    ensures { result ≡ value_for table.now.variables variable word.now }
+{
+    value_of(table.variables()[variable].bits, word)
+}
+
+/// A variable of the outputs becomes a value.
+fn set_act(variable: usize, value: Value) -> Act
+    ensures { result ≡ set_act variable value }
+{
+    match value {
+        Value::Number(value) => Act::One(Event::Set(variable, value)),
+        Value::Outside => Act::Never(variable),
+    }
+}
+
+/// A variable of the inputs becomes a value.
+fn input_act(variable: usize, value: Value) -> Act
+    ensures { result ≡ input_act variable value }
+{
+    match value {
+        Value::Number(value) => Act::Input(variable, value),
+        Value::Outside => Act::Never(variable),
+    }
 }
 
 /// What one word stands for.
@@ -31,65 +90,83 @@ fn act_of_one(verb: &str) -> Option<Act>
     }
 }
 
-/// What a word and a number stand for.
-#[tactic(auto, unfolding(crate::specs::Acts::act_of_two, crate::specs::Acts::act_of_place))]
-fn act_of_two(verb: &str, number: &str) -> Option<Act>
-    ensures { result ≡ act_of_two verb.now number.now }
+/// What a word and one more stand for.
+#[tactic(auto, unfolding(crate::specs::Acts::act_of_two))]
+fn act_of_two(table: &Table, verb: &str, word: &str) -> Option<Act>
+    ensures { result ≡ act_of_two table.now verb.now word.now }
 {
-    let place = number_of(number)? as usize;
     match verb {
-        "pass" => Some(Act::One(Event::Pass(place))),
-        "lose" => Some(Act::One(Event::Lose(place))),
-        "return" => Some(Act::One(Event::Return(place))),
-        "serve" => Some(Act::One(Event::Serve(place))),
-        "fault" => Some(Act::One(Event::Fault(place))),
-        "reset" => Some(Act::One(Event::Reset(place))),
+        "pass" => Some(Act::One(Event::Pass(number_of(word)? as usize))),
+        "lose" => Some(Act::One(Event::Lose(number_of(word)? as usize))),
+        "return" => Some(Act::One(Event::Return(number_of(word)? as usize))),
+        "serve" => Some(Act::One(Event::Serve(slave_in(table, word)?))),
+        "fault" => Some(Act::One(Event::Fault(slave_in(table, word)?))),
+        "reset" => Some(Act::One(Event::Reset(slave_in(table, word)?))),
+        "expect" => Some(Act::Expect(expected_by_one(word)?)),
         _ => None,
     }
 }
 
 /// What a word and two more stand for.
 #[tactic(auto, unfolding(crate::specs::Acts::act_of_three))]
-fn act_of_three(variables: &[VariableRow], verb: &str, first: &str, second: &str) -> Option<Act>
-    ensures { result ≡ act_of_three variables.now verb.now first.now second.now }
+fn act_of_three(table: &Table, verb: &str, first: &str, second: &str) -> Option<Act>
+    ensures { result ≡ act_of_three table.now verb.now first.now second.now }
 {
     match verb {
         "set" => {
-            let variable = variable_named(variables, first)?;
-            Some(Act::One(Event::Set(variable, number_of(second)?)))
+            let variable = variable_named(table.variables(), first)?;
+            Some(set_act(variable, value_for(table, variable, second)?))
+        }
+        "in" => {
+            let variable = variable_named(table.variables(), first)?;
+            Some(input_act(variable, value_for(table, variable, second)?))
         }
         "get" => {
-            let slave = number_of(first)? as usize;
+            let slave = slave_in(table, first)?;
             Some(Act::One(Event::AppGet(slave, number_of(second)? as usize)))
         }
+        "expect" => Some(Act::Expect(expected_by_two(table, first, second)?)),
         _ => None,
     }
 }
 
 /// What a word and three more stand for.
 #[tactic(auto, unfolding(crate::specs::Acts::act_of_four))]
-fn act_of_four(verb: &str, slave: &str, place: &str, byte: &str) -> Option<Act>
-    ensures { result ≡ act_of_four verb.now slave.now place.now byte.now }
+fn act_of_four(table: &Table, verb: &str, first: &str, second: &str, third: &str) -> Option<Act>
+    ensures { result ≡ act_of_four table.now verb.now first.now second.now third.now }
 {
     match verb {
         "put" => {
-            let slave = number_of(slave)? as usize;
-            let place = number_of(place)? as usize;
-            Some(Act::One(Event::AppPut(slave, place, byte_of(byte)?)))
+            let slave = slave_in(table, first)?;
+            let place = number_of(second)? as usize;
+            Some(Act::One(Event::AppPut(slave, place, byte_of(third)?)))
         }
+        "expect" => Some(Act::Expect(expected_by_three(table, first, second, third)?)),
+        _ => None,
+    }
+}
+
+/// What a word and four more stand for.
+#[tactic(auto, unfolding(crate::specs::Acts::act_of_five))]
+fn act_of_five(table: &Table, verb: &str, a: &str, b: &str, c: &str, d: &str) -> Option<Act>
+    ensures { result ≡ act_of_five table.now verb.now a.now b.now c.now d.now }
+{
+    match verb {
+        "expect" => Some(Act::Expect(expected_by_four(table, a, b, c, d)?)),
         _ => None,
     }
 }
 
 /// What the words of a line stand for.
 pub fn act_of_words(table: &Table, words: &[&str]) -> Option<Act>
-    ensures { result ≡ act_of_words table.now.variables (map (λ x. x.now) words.now) }
+    ensures { result ≡ act_of_words table.now (map (λ x. x.now) words.now) }
 {
     match words {
         [verb] => act_of_one(verb),
-        [verb, number] => act_of_two(verb, number),
-        [verb, first, second] => act_of_three(table.variables(), verb, first, second),
-        [verb, slave, place, byte] => act_of_four(verb, slave, place, byte),
+        [verb, a] => act_of_two(table, verb, a),
+        [verb, a, b] => act_of_three(table, verb, a, b),
+        [verb, a, b, c] => act_of_four(table, verb, a, b, c),
+        [verb, a, b, c, d] => act_of_five(table, verb, a, b, c, d),
         _ => None,
     }
 }

@@ -3,20 +3,26 @@
 
 mod acts;
 mod error;
+mod expectation;
+mod expecting;
 mod halves;
+mod inputs;
 pub mod laws;
 mod line;
+mod met;
 mod read;
 mod report;
 mod rounds;
 mod run;
 mod said;
+mod value;
 mod words;
 
 pub use crate::error::ScriptError;
+pub use crate::expectation::Expectation;
 pub use crate::halves::split_script;
 pub use crate::line::{Act, Line};
-pub use crate::read::read_script;
+pub use crate::read::{Reading, read_line, read_script};
 pub use crate::report::write_report;
-pub use crate::run::{do_act, run_line};
+pub use crate::run::{do_act, run_line, watch_act};
 pub use crate::said::{Said, said_text};

@@ -1,3 +1,4 @@
+use crate::expectation::Expectation;
 use ec_world::Event;
 
 /// What a line of a script asks for.
@@ -5,6 +6,12 @@ use ec_world::Event;
 pub enum Act {
     /// One event.
     One(Event),
+    /// A variable of the inputs, by its place, becomes this value in the slaves that have bits of it.
+    Input(usize, u64),
+    /// The variable at a place becomes a value that its bits don't hold: no event does that.
+    Never(usize),
+    /// Nothing is done: something is expected of the world.
+    Expect(Expectation),
     /// The frames of a start-up, until it ends.
     Ready,
     /// A whole cycle, which nothing disturbs.
@@ -18,5 +25,7 @@ pub enum Act {
 pub struct Line {
     /// Its number, counted from 1; empty lines count too.
     pub number: usize,
+    /// How often its act is done, one time after another; 1 without `repeat`.
+    pub times: u32,
     pub act: Act,
 }

@@ -1,40 +1,104 @@
-ghost use Rattle.std.specs.Prelude.{◌≡◌, IfOk};
-ghost use Rattle.ec_script.specs.Scripts.{Gives, act_on, script_of};
+ghost use Rattle.std.specs.Prelude.{◌≡◌, IfOk, map};
+ghost use Rattle.ec_script.specs.Scripts.{Gives, line_of_words, line_on, reading_of, repeated_line, script_of};
 
 use crate::acts::act_of_words;
 use crate::error::ScriptError;
-use crate::line::{Act, Line};
-use crate::words::{lines_of, words_of};
+use crate::line::Line;
+use crate::words::{lines_of, times_of, uncommented, words_of};
 use ec_regs::Listed;
 use ec_table::Table;
 use std::alloc::{AllocError, Global};
 
-/// What a line stands for that isn't empty.
-fn act_on(alloc: Global, table: &Table, text: &str) -> Result<Option<Act>, AllocError>
-    ensures { IfOk result (λ act. act ≡ act_on table.now.variables text.now) }
-{
-    let words = words_of(alloc, text)?;
-    Ok(act_of_words(table, words.as_slice()))
+/// What the text of a line is.
+#[derive(Clone, Copy, Debug, PartialEq, Eq, Drop)]
+pub enum Reading {
+    /// Nothing but a comment, or nothing at all.
+    Empty,
+    /// It stands for nothing.
+    Bad,
+    /// What it asks for.
+    Line(Line),
 }
 
-/// The lines of a script that aren't empty. Its variables are the table's.
+/// What the words behind `repeat` stand for.
+fn repeated_line(table: &Table, number: usize, words: &[&str]) -> Option<Line>
+    ensures { result ≡ repeated_line table.now number (map (λ x. x.now) words.now) }
+{
+    let (count, words) = words.split_first()?;
+    let times = times_of(count)?;
+    let act = act_of_words(table, words)?;
+    Some(Line { number, times, act })
+}
+
+/// What words stand for as the line of a number.
+fn line_of_words(table: &Table, number: usize, words: &[&str]) -> Option<Line>
+    ensures { result ≡ line_of_words table.now number (map (λ x. x.now) words.now) }
+{
+    let (verb, rest) = words.split_first()?;
+    if *verb == "repeat" {
+        return repeated_line(table, number, rest);
+    }
+    let act = act_of_words(table, words)?;
+    Some(Line {
+        number,
+        times: 1,
+        act,
+    })
+}
+
+/// What a text stands for as the line of a number that isn't empty and has no comment.
+fn line_on(
+    alloc: Global,
+    table: &Table,
+    number: usize,
+    text: &str,
+) -> Result<Option<Line>, AllocError>
+    ensures { IfOk result (λ line. line ≡ line_on table.now number text.now) }
+{
+    let words = words_of(alloc, text)?;
+    Ok(line_of_words(table, number, words.as_slice()))
+}
+
+/// What the text of the line with a number is; its names are the table's.
+///
+/// # Errors
+///
+/// `AllocError` where memory ran out.
+pub fn read_line(
+    alloc: Global,
+    table: &Table,
+    number: usize,
+    text: &str,
+) -> Result<Reading, AllocError>
+    ensures { IfOk result (λ reading. reading ≡ reading_of table.now number text.now) }
+{
+    let text = uncommented(text);
+    if text.is_empty() {
+        return Ok(Reading::Empty);
+    }
+    Ok(match line_on(alloc, table, number, text)? {
+        Some(line) => Reading::Line(line),
+        None => Reading::Bad,
+    })
+}
+
+/// The lines of a script that aren't empty without their comments. Its names are the table's.
 ///
 /// # Errors
 ///
 /// `BadScript`, with the number of the first line that stands for nothing; `Memory` where memory ran
 /// out.
 pub fn read_script(alloc: Global, table: &Table, text: &str) -> Result<Listed<Line>, ScriptError>
-    ensures { Gives result (script_of table.now.variables text.now) }
+    ensures { Gives result (script_of table.now text.now) }
 {
     let texts = lines_of(alloc, text)?;
     let mut lines = Listed::new(alloc);
     for (place, line) in texts.as_slice().iter().enumerate() {
-        if !line.is_empty() {
-            let number = place + 1;
-            match act_on(alloc, table, line)? {
-                Some(act) => lines.push(Line { number, act })?,
-                None => return Err(ScriptError::BadScript(number)),
-            }
+        let number = place + 1;
+        match read_line(alloc, table, number, line)? {
+            Reading::Empty => {}
+            Reading::Line(line) => lines.push(line)?,
+            Reading::Bad => return Err(ScriptError::BadScript(number)),
         }
     }
     Ok(lines)

@@ -5,14 +5,14 @@ ghost use Rattle.ec_script.specs.Work.{Makes, MakesAll, Starts, RunsTurn, RunsCy
 ghost use Rattle.ec_script.specs.Rounds.{greatest, has_number, round_events, rounds_found};
 
 use crate::said::Said;
-use ec_world::{Event, World};
+use ec_world::{Event, Watcher, World};
 
 /// Makes an event, if it can be made, and answers what there is to say of it.
-pub fn make(world: &mut World<'_>, event: Event) -> Said
+pub fn make<S: Watcher>(world: &mut World<'_>, watcher: &mut S, event: Event) -> Said
     ensures { Makes event world.old world.new result }
 {
     let starting = world.outcome().is_none();
-    if !world.step(event) {
+    if !watcher.step(world, event) {
         return Said::No;
     }
     if starting && world.outcome().is_some() {
@@ -47,12 +47,17 @@ fn holds(world: &World<'_>, slot: usize, number: u64) -> bool
 }
 
 /// The frame in a slot passes so many slaves, up to one that it can't pass.
-fn pass_slaves(world: &mut World<'_>, slot: usize, slaves: usize) -> Said
+fn pass_slaves<S: Watcher>(
+    world: &mut World<'_>,
+    watcher: &mut S,
+    slot: usize,
+    slaves: usize,
+) -> Said
     ensures { MakesAll (replicate slaves (Event.Pass slot)) world.old world.new result }
 {
     let mut said = Said::Nothing;
     for _ in 0..slaves {
-        said = make(world, Event::Pass(slot));
+        said = make(world, watcher, Event::Pass(slot));
         if !said.is_done() {
             return said;
         }
@@ -61,12 +66,12 @@ fn pass_slaves(world: &mut World<'_>, slot: usize, slaves: usize) -> Said
 }
 
 /// So many slaves make a firmware step, each in its turn.
-fn serve_slaves(world: &mut World<'_>, slaves: usize) -> Said
+fn serve_slaves<S: Watcher>(world: &mut World<'_>, watcher: &mut S, slaves: usize) -> Said
     ensures { MakesAll (servings 0 slaves) world.old world.new result }
 {
     let mut said = Said::Nothing;
     for slave in 0..slaves {
-        said = make(world, Event::Serve(slave));
+        said = make(world, watcher, Event::Serve(slave));
         if !said.is_done() {
             return said;
         }
@@ -75,33 +80,44 @@ fn serve_slaves(world: &mut World<'_>, slaves: usize) -> Said
 }
 
 /// The same, if they are to.
-fn serve_if(world: &mut World<'_>, slaves: usize, serving: bool) -> Said
+fn serve_if<S: Watcher>(
+    world: &mut World<'_>,
+    watcher: &mut S,
+    slaves: usize,
+    serving: bool,
+) -> Said
     ensures { MakesAll (if serving then servings 0 slaves else []) world.old world.new result }
 {
     if serving {
-        serve_slaves(world, slaves)
+        serve_slaves(world, watcher, slaves)
     } else {
         Said::Nothing
     }
 }
 
 /// The frame in a slot passes so many slaves, which make a firmware step if `serving` says so, and comes back.
-fn go_round(world: &mut World<'_>, slot: usize, slaves: usize, serving: bool) -> Said
+fn go_round<S: Watcher>(
+    world: &mut World<'_>,
+    watcher: &mut S,
+    slot: usize,
+    slaves: usize,
+    serving: bool,
+) -> Said
     ensures { MakesAll (round_events slaves serving slot) world.old world.new result }
 {
-    let passed = pass_slaves(world, slot, slaves);
+    let passed = pass_slaves(world, watcher, slot, slaves);
     if !passed.is_done() {
         return passed;
     }
-    let served = serve_if(world, slaves, serving);
+    let served = serve_if(world, watcher, slaves, serving);
     if !served.is_done() {
         return served;
     }
-    make(world, Event::Return(slot))
+    make(world, watcher, Event::Return(slot))
 }
 
 /// The newest frames go round, one after another in the order of their slots.
-fn go_rounds(world: &mut World<'_>, serving: bool) -> Said
+fn go_rounds<S: Watcher>(world: &mut World<'_>, watcher: &mut S, serving: bool) -> Said
     ensures { MakesAll (rounds_found serving world.old) world.old world.new result }
 {
     let slaves = world.slaves();
@@ -109,7 +125,7 @@ fn go_rounds(world: &mut World<'_>, serving: bool) -> Said
     let mut said = Said::Nothing;
     for slot in 0..world.slots() {
         if holds(world, slot, number) {
-            said = go_round(world, slot, slaves, serving);
+            said = go_round(world, watcher, slot, slaves, serving);
             if !said.is_done() {
                 return said;
             }
@@ -119,22 +135,22 @@ fn go_rounds(world: &mut World<'_>, serving: bool) -> Said
 }
 
 /// One frame of a start-up is sent and goes round.
-fn take_turn(world: &mut World<'_>) -> Said
+fn take_turn<S: Watcher>(world: &mut World<'_>, watcher: &mut S) -> Said
     ensures { RunsTurn world.old world.new result }
 {
-    let sent = make(world, Event::StartNext);
+    let sent = make(world, watcher, Event::StartNext);
     if !sent.is_done() {
         return sent;
     }
-    go_rounds(world, true)
+    go_rounds(world, watcher, true)
 }
 
 /// Frames of a start-up are sent and go round, until it has ended.
-pub fn start_up(world: &mut World<'_>) -> Said
+pub fn start_up<S: Watcher>(world: &mut World<'_>, watcher: &mut S) -> Said
     ensures { Starts last_turn world.old world.new result }
 {
     for _ in 0..u64::MAX {
-        let said = take_turn(world);
+        let said = take_turn(world, watcher);
         if !said.is_done() {
             return said;
         }
@@ -146,16 +162,16 @@ pub fn start_up(world: &mut World<'_>) -> Said
 }
 
 /// A cycle begins, its frames go round, and it is closed.
-pub fn run_cycle(world: &mut World<'_>) -> Said
+pub fn run_cycle<S: Watcher>(world: &mut World<'_>, watcher: &mut S) -> Said
     ensures { RunsCycle world.old world.new result }
 {
-    let begun = make(world, Event::Begin);
+    let begun = make(world, watcher, Event::Begin);
     if !begun.is_done() {
         return begun;
     }
-    let back = go_rounds(world, false);
+    let back = go_rounds(world, watcher, false);
     if !back.is_done() {
         return back;
     }
-    make(world, Event::Close)
+    make(world, watcher, Event::Close)
 }

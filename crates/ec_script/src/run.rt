@@ -5,35 +5,63 @@ ghost use Rattle.ec_text.specs.PlanText.{newline};
 ghost use Rattle.ec_world.specs.NewWorld.{IsToStart};
 ghost use Rattle.ec_script.specs.declared.line.Act.TheVariants.{Ready};
 ghost use Rattle.ec_script.specs.declared.said.Said.{Said};
-ghost use Rattle.ec_script.specs.Work.{Does, is_done};
+ghost use Rattle.ec_script.specs.Work.{Does, is_done, said_if};
+ghost use Rattle.ec_script.specs.Expecting.{is_met};
 ghost use Rattle.ec_script.specs.Events.{RunsLine};
 ghost use Rattle.ec_script.specs.Promised.{IsReadied};
 ghost use Rattle.ec_script.specs.Texts.{said_text};
 
+use crate::expectation::Expectation;
+use crate::inputs::put_input;
 use crate::line::{Act, Line};
+use crate::met::is_met;
 use crate::rounds::{make, run_cycle, start_up};
 use crate::said::{Said, said_text};
 use ec_table::Table;
-use ec_world::World;
+use ec_world::{Unwatched, Watcher, World};
 use std::alloc::{AllocError, Global};
 
-/// Does what a line asks for, up to the first event that can't be made, and answers what there is to say of it. The world is
-/// left as `World::run` of the line's events leaves it. It takes no memory.
+/// What there is to say where something is expected of a world.
+fn expect(world: &World<'_>, expected: Expectation) -> Said
+    ensures { result ≡ said_if (is_met expected world.now) }
+{
+    if is_met(world, expected) {
+        Said::Nothing
+    } else {
+        Said::Unmet
+    }
+}
+
+/// Does what a line asks for, as [`do_act`] does; its events are made by a watcher, which may keep what it sees of them.
 #[tactic(auto, using(crate::proofs::Plans::act_keeps, crate::proofs::Running::lines_run))]
-pub fn do_act(world: &mut World<'_>, act: Act) -> Said
+pub fn watch_act<S: Watcher>(world: &mut World<'_>, watcher: &mut S, act: Act) -> Said
     ensures does { Does act world.old world.new result }
     ensures run { RunsLine act world.old world.new (is_done result) }
     ensures plan { world.new.plan ≡ world.old.plan }
 {
     match act {
-        Act::One(event) => make(world, event),
-        Act::Ready => start_up(world),
-        Act::Cycle => run_cycle(world),
+        Act::One(event) => make(world, watcher, event),
+        Act::Input(variable, value) => put_input(world, watcher, variable, value),
+        Act::Never(_) => Said::No,
+        Act::Expect(expected) => expect(world, expected),
+        Act::Ready => start_up(world, watcher),
+        Act::Cycle => run_cycle(world, watcher),
         Act::Show => Said::Values,
     }
 }
 
-/// Does what a line asks for, up to the first event that can't be made, and answers what is printed of it: the world is left
+/// Does what a line asks for, up to the first event that can't be made, and answers what there is to say of it. The world is
+/// left as `World::run` of the line's events leaves it. It takes no memory.
+pub fn do_act(world: &mut World<'_>, act: Act) -> Said
+    ensures does { Does act world.old world.new result }
+    ensures run { RunsLine act world.old world.new (is_done result) }
+    ensures plan { world.new.plan ≡ world.old.plan }
+{
+    watch_act(world, &mut Unwatched, act)
+}
+
+/// Does once what a line asks for, up to the first event that can't be made, and answers what is printed of it: a line is done
+/// by as many calls as its `times` say. The world is left
 /// as `World::run` of the line's events leaves it, and the text is that of the last of them. The world is one of the table.
 /// `ready` on a new world of devices, or where the last start-up failed and no frame is on its way, brings every slave up, and
 /// `ready` is printed.

@@ -3,7 +3,7 @@ ghost use Rattle.ec_cycle.specs.Master.{value_at};
 ghost use Rattle.ec_text.specs.PlanText.{lines_from};
 ghost use Rattle.ec_script.specs.Texts.{byte_text, last_report_text, outcome_text, said_text, value_line};
 ghost use Rattle.ec_link.specs.Plan.{plan_of};
-ghost use Rattle.ec_script.specs.Work.{is_done};
+ghost use Rattle.ec_script.specs.Work.{is_done, is_unmet};
 
 use crate::report::write_report;
 use ec_start::StartError;
@@ -19,6 +19,8 @@ pub enum Said {
     Nothing,
     /// An event can't be made, and the line ended there.
     No,
+    /// What was expected isn't so.
+    Unmet,
     /// The byte that an application read.
     Byte,
     /// How the start-up ended.
@@ -36,8 +38,16 @@ impl Said {
     {
         match self {
             Said::No => false,
-            Said::Nothing | Said::Byte | Said::Ended | Said::Report | Said::Values => true,
+            Said::Nothing | Said::Unmet | Said::Byte | Said::Ended | Said::Report | Said::Values =>
+                true,
         }
+    }
+
+    /// Whether what was expected isn't so.
+    pub fn is_unmet(self) -> bool
+        ensures { result ≡ is_unmet self }
+    {
+        matches!(self, Said::Unmet)
     }
 }
 
@@ -72,7 +82,7 @@ fn write_outcome(
 }
 
 /// What a variable is now; 0 where the world has no such variable.
-fn value_of(world: &World<'_>, place: usize) -> u64
+pub fn value_of(world: &World<'_>, place: usize) -> u64
     ensures { result ≡ value_at world.now.master (slice_get world.now.master.plan.variables place) }
 {
     if place < world.variables() {
@@ -149,6 +159,7 @@ pub fn said_text(
     match said {
         Said::Nothing => {}
         Said::No => writeln!(text, "no {number}")?,
+        Said::Unmet => writeln!(text, "unmet {number}")?,
         Said::Byte => write_byte(alloc, &mut text, world.byte())?,
         Said::Ended => write_outcome(&mut text, world.outcome())?,
         Said::Report => write_last_report(alloc, &mut text, table.version(), world)?,

@@ -1,7 +1,8 @@
 ghost use Rattle.std.specs.Prelude.{◌≡◌, map, IfOk};
 ghost use Rattle.std.specs.Str.Lines.{lines};
-ghost use Rattle.ec_script.specs.Words.{byte_of, number_of, words_of};
+ghost use Rattle.ec_script.specs.Words.{byte_of, code_of, number_of, times_of, uncommented, without_end_blanks, words_of};
 
+use crate::value::hex_of;
 use std::alloc::{AllocError, Global};
 
 /// The lines of a text.
@@ -9,6 +10,23 @@ pub fn lines_of<'a>(alloc: Global, text: &'a str) -> Result<Vec<&'a str>, AllocE
     ensures { IfOk result (λ v. map (λ x. x.now) v.items ≡ lines text.now) }
 {
     text.lines().collect(alloc)
+}
+
+/// A text without the blanks at its end.
+fn without_end_blanks(text: &str) -> &str
+    ensures { result.now ≡ without_end_blanks text.now }
+{
+    text.trim_end_matches(' ')
+}
+
+/// A line without its comment, which is from a `#` on, and the blanks before it.
+pub fn uncommented(line: &str) -> &str
+    ensures { result.now ≡ uncommented line.now }
+{
+    match line.split_once('#') {
+        Some((before, _)) => without_end_blanks(before),
+        None => line,
+    }
 }
 
 /// The words of a line, which stand between single blanks.
@@ -34,4 +52,25 @@ pub fn byte_of(word: &str) -> Option<u8>
     ensures { result ≡ byte_of word.now }
 {
     u8::try_from(number_of(word)?).ok()
+}
+
+/// The number of 16 bits that four hex digits write.
+pub fn code_of(word: &str) -> Option<u16>
+    ensures { result ≡ code_of word.now }
+{
+    if word.len() != 4 {
+        return None;
+    }
+    u16::try_from(hex_of(word)?).ok()
+}
+
+/// How often a line is to be done that this word stands before: 1 to 1,000,000 times.
+pub fn times_of(word: &str) -> Option<u32>
+    ensures { result ≡ times_of word.now }
+{
+    let times = number_of(word)?;
+    if times == 0 || times > 1_000_000 {
+        return None;
+    }
+    Some(times as u32)
 }

@@ -5,12 +5,12 @@ use Rattle.ec_script.proofs.Making.{nonempty, stopped, then_on}
 use Rattle.ec_script.proofs.rounds.go_round.Goals as goal
 
 pub returns-then-not-is_done : goal.returns-then-not-is_done
-returns-then-not-is_done c =
+returns-then-not-is_done g c =
     stopped (replicate c.args.slaves (Pass c.args.slot)) _ c.args.world.now c.pass_slaves-passed.new.world c.pass_slaves-passed.result c.pass_slaves-passed.ensures
     (sym c.is_done.ensures ∙ c.if-not-is_done.true)
 
 pub returns-then-not-is_done-2 : goal.returns-then-not-is_done-2
-returns-then-not-is_done-2 c =
+returns-then-not-is_done-2 g c =
     let serves = if c.args.serving then servings 0 c.args.slaves else [] in
     then_on (replicate c.args.slaves (Pass c.args.slot)) (serves ++ (Return c.args.slot ∷ [])) c.args.world.now c.pass_slaves-passed.new.world c.serve_if-served.new.world
     c.pass_slaves-passed.result c.serve_if-served.result (nonempty serves (Return c.args.slot) []) c.pass_slaves-passed.ensures (sym c.is_done.ensures ∙ c.if-not-is_done.false)
@@ -18,7 +18,7 @@ returns-then-not-is_done-2 c =
     (sym c.is_done-2.ensures ∙ c.if-not-is_done-2.true))
 
 pub returns : goal.returns
-returns c =
+returns g c =
     let serves = if c.args.serving then servings 0 c.args.slaves else [] in
     let one : 0 < length (Return c.args.slot ∷ []) = omega arith in
     then_on (replicate c.args.slaves (Pass c.args.slot)) (serves ++ (Return c.args.slot ∷ [])) c.args.world.now c.pass_slaves-passed.new.world c.make.new.world

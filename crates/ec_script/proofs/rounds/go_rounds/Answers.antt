@@ -6,7 +6,7 @@ use Rattle.ec_script.proofs.rounds.go_rounds.Goals as goal
 use Rattle.ec_script.proofs.rounds.go_rounds.Goals.{then-holds+else-not-is_done, else-holds}
 
 pub returns-then-not-is_done : goal.returns-then-not-is_done
-returns-then-not-is_done c =
+returns-then-not-is_done g c =
     let old = c.args.world.now in
     let serving = c.args.serving in
     let lt : c.loop-slot.slot < length old.slots = subst (λ n. c.loop-slot.slot < n) c.slots-slot-end.ensures c.loop-slot-test.true in
@@ -16,7 +16,7 @@ returns-then-not-is_done c =
     (subst (λ k. MakesAll (rounds c.slaves-slaves.result serving (slots_with k 0 old.slots)) old c.go_round-said.new.world c.go_round-said.result) c.newest-number.ensures made)
 
 pub loop-slot-preserved : goal.loop-slot-preserved
-loop-slot-preserved c =
+loop-slot-preserved g c =
     let old = c.args.world.now in
     let n = c.slaves-slaves.result in
     let number = c.newest-number.result in
@@ -35,7 +35,7 @@ loop-slot-preserved c =
     ]
 
 pub returns : goal.returns
-returns c =
+returns g c =
     let old = c.args.world.now in
     let serving = c.args.serving in
     let le : length old.slots ≤ c.loop-slot.slot = subst (λ n. n ≤ c.loop-slot.slot) c.slots-slot-end.ensures c.loop-slot-test.false in

@@ -4,12 +4,12 @@ use Rattle.ec_script.proofs.Making.{once_more, stopped_at}
 use Rattle.ec_script.proofs.rounds.pass_slaves.Goals as goal
 
 pub returns-then-not-is_done : goal.returns-then-not-is_done
-returns-then-not-is_done c =
+returns-then-not-is_done g c =
     stopped_at (Pass c.args.slot) c.args.slaves c.loop.counter c.args.world.now c.loop.world c.make-said.new.world c.loop.said c.make-said.result c.loop-test.true
     c.loop.invariant.made c.loop.invariant.going c.make-said.ensures (sym c.is_done.ensures ∙ c.if-not-is_done.true)
 
 pub loop-preserved : goal.loop-preserved
-loop-preserved c = record {
+loop-preserved g c = record {
   made = once_more (Pass c.args.slot) c.loop.counter c.args.world.now c.loop.world c.make-said.new.world c.loop.said c.make-said.result c.loop.invariant.made c.loop.invariant.going c.make-said.ensures;
   going = sym c.is_done.ensures ∙ c.if-not-is_done.false;
 }

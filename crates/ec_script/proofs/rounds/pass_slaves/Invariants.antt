@@ -4,7 +4,7 @@ use Rattle.ec_script.specs.Work.{MakesAll, is_done}
 use Rattle.ec_script.proofs.rounds.pass_slaves.Given as goal
 
 abbrev pub invariant-loop : goal.invariant-loop
-invariant-loop l = record {
+invariant-loop g l = record {
   made : MakesAll (replicate l.counter (Pass l.slot)) l.initial.world l.world l.said;
   going : is_done l.said ≡ true;
 }

@@ -4,7 +4,7 @@ use Rattle.ec_script.specs.Work.{MakesAll, is_done}
 use Rattle.ec_script.proofs.rounds.serve_slaves.Given as goal
 
 abbrev pub invariant-loop-slave : goal.invariant-loop-slave
-invariant-loop-slave l = record {
+invariant-loop-slave g l = record {
   made : MakesAll (servings 0 l.slave) l.initial.world l.world l.said;
   going : is_done l.said ≡ true;
 }

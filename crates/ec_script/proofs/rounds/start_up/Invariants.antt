@@ -6,4 +6,4 @@ use Rattle.ec_script.proofs.rounds.start_up.Given as goal
 
 -- what the turns ahead make of it, all turns make of the first world
 abbrev pub invariant-loop : goal.invariant-loop
-invariant-loop l = (new : WorldState) (word : Said) → Starts (last_turn - l.counter) l.world new word → Starts last_turn l.initial.world new word
+invariant-loop g l = (new : WorldState) (word : Said) → Starts (last_turn - l.counter) l.world new word → Starts last_turn l.initial.world new word

@@ -1,0 +1,5 @@
+use Rattle.ec_script.proofs.InputPuts.{AreWritten}
+use Rattle.ec_script.proofs.inputs.put_slaves.Given as goal
+
+abbrev pub invariant-loop-slave : goal.invariant-loop-slave
+invariant-loop-slave g l = AreWritten l.variable l.value l.initial.world l.slave l.world
