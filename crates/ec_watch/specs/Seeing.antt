@@ -1,0 +1,116 @@
+-- What is seen of the frames of a world, event by event (this project's profile). Interface 0 is the master's, and interface
+-- s + 1 is behind slave s. The time is the number of the event among those that were made, counted from 1.
+use Rattle.std.specs.Prelude.{ℕ, zero, suc, ◌+◌, ◌-◌, ◌^◌, ◌≡◌, List, [], ◌∷◌, ◌++◌, length, min, Bool, true, false, nat_lt, Option, None, Some, codes}
+use Rattle.ec_capture.specs.Captures.{Seen}
+use Rattle.ec_capture.specs.Recordings.{Notes, Recording}
+use Rattle.ec_world.specs.declared.event.Event.{Event}
+use Rattle.ec_world.specs.declared.event.Event.TheVariants.{StartNext, Set, Begin, Pass, Lose, Return, Close, Serve, AppPut, AppGet, Fault, Reset}
+use Rattle.ec_world.specs.Watching.{sent_of}
+use Rattle.ec_world.specs.World.{Flight, IsStep, WorldState, can_happen, flight_at}
+
+-- ---- frames
+
+-- a frame where it is: at the master before it has passed a slave, else behind the slave that it passed last
+abbrev pub seen_at : ℕ → Option (List ℕ) → Flight → Seen
+seen_at time comment f = record { interface = f.passed; time = time; passed = nat_lt 0 f.passed; payload = f.bytes; comment = comment }
+
+-- if there is one
+abbrev pub seen_if : ℕ → Option (List ℕ) → Option Flight → List Seen
+seen_if time comment None = []
+seen_if time comment (Some f) = seen_at time comment f ∷ []
+
+-- a frame that comes back to the master
+abbrev pub seen_back : ℕ → Option Flight → List Seen
+seen_back time None = []
+seen_back time (Some f) = record { interface = 0; time = time; passed = nat_lt 0 f.passed; payload = f.bytes; comment = None } ∷ []
+
+-- a frame that the master sends
+abbrev pub seen_sent : ℕ → Option (List ℕ) → List Seen
+seen_sent time None = []
+seen_sent time (Some bytes) = record { interface = 0; time = time; passed = false; payload = bytes; comment = None } ∷ []
+
+-- those of the first parts of the open cycle
+abbrev pub seen_parts : ℕ → WorldState → ℕ → List Seen
+seen_parts time w zero = []
+seen_parts time w (suc n) = seen_parts time w n ++ seen_sent time (sent_of w n)
+
+-- ---- events
+
+-- the comment where a frame is lost
+abbrev pub lost_here : List ℕ
+lost_here = codes "lost here"
+
+abbrev pub comment_if : Bool → Option (List ℕ)
+comment_if true = Some lost_here
+comment_if false = None
+
+-- what is seen of a frame before it leaves: it is lost where it is, or comes back
+abbrev pub seen_before : ℕ → WorldState → Event → List Seen
+seen_before time w (Lose k) = seen_if time (Some lost_here) (flight_at w k)
+seen_before time w (Return k) = seen_back time (flight_at w k)
+seen_before time w StartNext = []
+seen_before time w (Set v x) = []
+seen_before time w Begin = []
+seen_before time w (Pass k) = []
+seen_before time w Close = []
+seen_before time w (Serve s) = []
+seen_before time w (AppPut s i x) = []
+seen_before time w (AppGet s i) = []
+seen_before time w (Fault s) = []
+seen_before time w (Reset s) = []
+
+-- what is seen of frames that were sent, and of one behind the slave that it passed
+abbrev pub seen_after : ℕ → Event → WorldState → List Seen
+seen_after time StartNext w = seen_if time None (flight_at w 0)
+seen_after time Begin w = seen_parts time w (length w.master.plan.parts)
+seen_after time (Pass k) w = seen_if time None (flight_at w k)
+seen_after time (Lose k) w = []
+seen_after time (Return k) w = []
+seen_after time (Set v x) w = []
+seen_after time Close w = []
+seen_after time (Serve s) w = []
+seen_after time (AppPut s i x) w = []
+seen_after time (AppGet s i) w = []
+seen_after time (Fault s) w = []
+seen_after time (Reset s) w = []
+
+-- what is seen of an event that was made
+abbrev pub seen_of : ℕ → WorldState → Event → WorldState → List Seen
+seen_of time old event new = seen_before time old event ++ seen_after time event new
+
+-- ---- a capture of it
+
+-- What is known of a capture of a world: what was noted, and how many events were made.
+pub record Watched : Type 0 where
+  pub capture : Recording
+  pub events : ℕ
+
+-- the number of the next event, as far as the count goes
+abbrev pub next_event : ℕ → ℕ
+next_event n = min (n + 1) (2 ^ 64 - 1)
+
+-- An event was made, and exactly what is seen of it is noted.
+pub record Saw (a : Watched) (old : WorldState) (event : Event) (new : WorldState) (b : Watched) : Type 0 where
+  pub events : b.events ≡ next_event a.events
+  pub notes : Notes (seen_of (next_event a.events) old event new) a.capture b.capture
+
+-- Events one after another: each is made if it can be made, and exactly what is seen of those that were is noted, in order.
+abbrev pub SeesRun : Watched → WorldState → List Event → WorldState → Watched → Type 0
+SeesRun a w [] v b = (v ≡ w) × (b ≡ a)
+SeesRun a w (e ∷ es) v b =
+    (x : WorldState) × (c : Watched) × (made : Bool) × IsStep w e x made × (made ≡ true → Saw a w e x c) × (made ≡ false → c ≡ a) × SeesRun c x es v b
+
+-- whether a frame leaves a world by an event that can be made
+abbrev pub leaves : WorldState → Event → Bool
+leaves w (Lose k) = can_happen w (Lose k)
+leaves w (Return k) = can_happen w (Return k)
+leaves w StartNext = false
+leaves w (Set v x) = false
+leaves w Begin = false
+leaves w (Pass k) = false
+leaves w Close = false
+leaves w (Serve s) = false
+leaves w (AppPut s i x) = false
+leaves w (AppGet s i) = false
+leaves w (Fault s) = false
+leaves w (Reset s) = false
