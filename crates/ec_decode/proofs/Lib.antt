@@ -1,3 +1,4 @@
+pub mod Adding
 pub mod Encoding
 pub mod Holdings
 pub mod Lines

@@ -1,5 +1,5 @@
 -- What is printed of a line of hex, and of a text of frames (this project's profile).
-use Rattle.std.specs.Prelude.{◌≡◌, ◌⊎◌, ℕ, List, [], ◌∷◌, ◌++◌, Option, Some, None, Result, Ok, Err}
+use Rattle.std.specs.Prelude.{◌≡◌, ◌≢◌, ◌⊎◌, ℕ, List, [], ◌∷◌, ◌++◌, Bool, true, false, Option, Some, None, Result, Ok, Err}
 use Rattle.std.specs.String.{string_bytes}
 use Rattle.std.specs.declared.alloc.Global.{Global}
 use Rattle.std.specs.declared.string.String.{String}
@@ -23,6 +23,21 @@ IsTextOf payload text =
 abbrev pub DecodesLine : Text → Option (String Global) → Type 0
 DecodesLine line (Some text) = (payload : List ℕ) × (decode_of line ≡ Ok payload) × IsTextOf payload (string_bytes text)
 DecodesLine line None = (e : FromHexError) × (decode_of line ≡ Err e)
+
+-- what a line is printed as: its payload's text, and an empty line nothing
+abbrev pub IsLineText : Text → Text → Type 0
+IsLineText line text =
+    ((line ≡ []) × (text ≡ [])) ⊎ ((line ≢ []) × ((payload : List ℕ) × (decode_of line ≡ Ok payload) × IsTextOf payload text))
+
+-- a line that isn't hex
+abbrev pub IsNoHex : Text → Type 0
+IsNoHex line = (line ≢ []) × ((e : FromHexError) × (decode_of line ≡ Err e))
+
+-- what lines are printed as, one after another, up to the first that isn't hex; and whether there is none
+abbrev pub DecodesLines : List Text → Text → Bool → Type 0
+DecodesLines [] printed whole = (printed ≡ []) × (whole ≡ true)
+DecodesLines (line ∷ lines) printed whole =
+    (IsNoHex line × (printed ≡ []) × (whole ≡ false)) ⊎ ((text : Text) × (more : Text) × IsLineText line text × DecodesLines lines more whole × (printed ≡ text ++ more))
 
 -- the payloads of frames in lower-case hex, a line for each
 abbrev pub AreSpelled : List Payload → Text → Type 0

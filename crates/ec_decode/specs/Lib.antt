@@ -13,3 +13,4 @@ pub mod Stating
 pub mod Stopping
 pub mod Holding
 pub mod Growing
+pub mod Steps

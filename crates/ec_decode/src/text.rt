@@ -2,8 +2,9 @@
 ghost use Rattle.std.specs.Prelude.{◌≡◌, ◌++◌, IfOk, OnOk, map, string_bytes};
 ghost use Rattle.std.specs.Str.Lines.{lines};
 ghost use Rattle.hex.specs.Hex.{encode_lower};
-ghost use Rattle.ec_decode.specs.Answers.{DecodesLine, EncodesText, IsTextOf};
+ghost use Rattle.ec_decode.specs.Answers.{DecodesLine, DecodesLines, EncodesText, IsTextOf};
 ghost use Rattle.ec_decode.specs.FrameText.{newline};
+ghost use Rattle.ec_decode.specs.Steps.{AddsLine, AddsLines};
 
 use crate::error::DecodeError;
 use crate::frame::write_counted;
@@ -43,6 +44,56 @@ fn lines_of<'a>(alloc: Global, text: &'a str) -> Result<Vec<&'a str>, AllocError
     ensures { IfOk result (λ v. map (λ x. x.now) v.items ≡ lines text.now) }
 {
     text.lines().collect(alloc)
+}
+
+/// What lines of hex are printed as.
+#[derive(Debug, Drop)]
+pub struct Decoded {
+    /// The texts of the payloads, one after another.
+    pub text: String,
+    /// Whether each line is hex or empty; else the text ends before the first that is neither.
+    pub is_whole: bool,
+}
+
+/// Adds what a line of hex is printed as, which is nothing where it is empty, and answers whether it is hex.
+fn add_line(alloc: Global, text: &mut String, line: &str) -> Result<bool, AllocError>
+    ensures { IfOk result (AddsLine line.now (string_bytes text.old) (string_bytes text.new)) }
+{
+    if line.is_empty() {
+        return Ok(true);
+    }
+    let Some(more) = decode_line(alloc, line)? else {
+        return Ok(false);
+    };
+    text.push_str(more.as_str())?;
+    Ok(true)
+}
+
+/// Adds what lines of hex are printed as, up to the first that isn't hex, and answers whether each is.
+fn add_lines(alloc: Global, text: &mut String, lines: &[&str]) -> Result<bool, AllocError>
+    ensures { IfOk result (AddsLines (map (λ x. x.now) lines.now) (string_bytes text.old) (string_bytes text.new)) }
+{
+    for line in lines {
+        if !add_line(alloc, text, line)? {
+            return Ok(false);
+        }
+    }
+    Ok(true)
+}
+
+/// The texts of the payloads that the lines of a text spell in hex, one after another, up to the first
+/// line that isn't hex. Empty lines are skipped. The error is want of memory.
+pub fn decode_text(alloc: Global, text: &str) -> Result<Decoded, AllocError>
+    ensures { IfOk result (λ decoded.
+        DecodesLines (lines text.now) (string_bytes decoded.text) decoded.is_whole) }
+{
+    let lines = lines_of(alloc, text)?;
+    let mut answer = String::new(alloc);
+    let is_whole = add_lines(alloc, &mut answer, lines.as_slice())?;
+    Ok(Decoded {
+        text: answer,
+        is_whole,
+    })
 }
 
 /// Adds a payload in hex, and a newline.
