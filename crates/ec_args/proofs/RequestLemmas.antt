@@ -1,5 +1,5 @@
--- What a number that `get_one` read says of the text that it read, and what it says that it read none.
-use Rattle.std.proofs.Common.{◌≡◌, ◌<◌, ◌^◌, ◌⊎◌, ℕ, List, [], ◌∷◌, Option, None, Some, inl, inr, Result, Ok, Err, IfNone, codes, unwrap_or, true, false, refl, sym, ap, subst, ◌∙◌, arith, slice_index, Bool}
+-- What is read of the arguments of a command, and of those that are spelled out.
+use Rattle.std.proofs.Common.{◌≡◌, ◌<◌, ◌≤◌, ◌^◌, ◌⊎◌, ℕ, List, [], ◌∷◌, Option, None, Some, inl, inr, Result, Ok, Err, IfNone, IfSome, codes, unwrap_or, true, false, refl, sym, ap, subst, ◌∙◌, arith, slice_index, Bool}
 use Rattle.std.specs.Str.Parse.{ExplainsUnsignedError, HasUnsignedDigitsIfOk, IsNumeral, ParsesUnsigned, digits_value, without_leading_plus}
 use Rattle.std.specs.declared.num.ParseIntError.{ParseIntError}
 use Rattle.std.specs.Fmt.{decimal}
@@ -7,7 +7,7 @@ use Rattle.std.specs.Str.{bytes_eq}
 use Rattle.std.proofs.lemmas.Slice.Eq.{bytes_eq-Decides}
 use Rattle.clap.specs.Lexer.{without_minus}
 use Rattle.clap.specs.Matches.{ReadsOne, first_value, one_text}
-use Rattle.clap.specs.Walk.{Row, Text, first_of, one_of, rows_of}
+use Rattle.clap.specs.Walk.{Row, Text, rows_of}
 use Rattle.clap.specs.Simple.{App, HasMatchesOf, subcommand_of, subcommand_rows_of}
 use Rattle.clap.specs.Faults.{fault_of, is_simple_and_free}
 use Rattle.clap.specs.Kinds.{HasKind, IsAmong}
@@ -21,8 +21,9 @@ use Rattle.clap.proofs.WalkLemmas.{first_value-rows, one_text-rows}
 use Rattle.ec_args.specs.declared.request.Notice.{Notice}
 use Rattle.ec_args.specs.declared.request.Notice.TheVariants.{Memory, Help, Usage}
 use Rattle.ec_args.specs.declared.request.Request.{Request}
-use Rattle.ec_args.specs.declared.request.Request.TheVariants.{Pass, Plan, Sim, Loop, Segment}
-use Rattle.ec_args.specs.CommandLine.{Asks, ArePassArguments, FindsExplain, FindsNumber, IsFault, IsNotice, MeetsCommand, MeetsPass, MeetsPlan, ArePlanArguments, PassIsRead, PassOf, PlanIsRead, PlanOf, SimOf, LoopOf, SegmentOf, ecat, is_answer}
+use Rattle.ec_args.specs.CommandLine.{ecat}
+use Rattle.ec_args.specs.Requests.{Asks, ArePassArguments, ArePlanArguments, Command, Finds, FindsAny, FindsFlag, FindsNumber, FindsText, IsFault, IsNotice, MeetsAs, MeetsCommand, PassIsRead, PlanIsRead, PassOf, PlanOf, DecodeOf, EncodeOf, SimOf, LoopOf, SegmentOf, command_of, is_answer, word_of}
+use Rattle.ec_args.specs.Stages.{IsAskedAs, IsNeverAsked}
 use Rattle.ec_args.proofs.PlanArguments.{explain-met, explain-no_fault, explain_row, plan-met, plan-no_fault}
 use Rattle.ec_args.proofs.PassArguments.{ecat-is_simple, ecat-simple, frame_row, no-fault, number_argument, slaves_row, subcommand-pass, value_argument}
 
@@ -62,15 +63,6 @@ rows_in (Some met) = met.1
 pub same_text : (a b : Text) → Some a ≡ Some b → a ≡ b
 same_text a b h = ap (λ o. unwrap_or o a) h
 
--- what `clap` met tells the number and the text
-pub meets_rows : (met : Option (Text × List Row)) (rows : List Row) (n : ℕ) (f : Text) → MeetsPass met n f → met ≡ Some (codes "pass", rows)
-    → (first_of (codes "frame") rows ≡ Some f) × ((t : Text) → one_of (codes "slaves") rows ≡ Some t → n ≡ digits_value 10 (without_leading_plus t))
-meets_rows met rows n f h is =
-    let same : h.rows ≡ rows = ap rows_in (sym h.command ∙ is) in (
-      ap (first_of (codes "frame")) (sym same) ∙ h.text,
-      λ t found. sym h.value ∙ ap (λ d. digits_value 10 (without_leading_plus d)) (same_text h.digits t (sym h.number ∙ (ap (one_of (codes "slaves")) same ∙ found))),
-    )
-
 -- the names of the commands differ
 abbrev pub name_in : Option (Text × List Row) → Text
 name_in None = []
@@ -79,38 +71,75 @@ name_in (Some met) = met.0
 pub other_word : (a b : Text) → bytes_eq a b ≡ false → a ≡ b → ⊥
 other_word a b differ same = let bad : true ≡ false = sym ((bytes_eq-Decides a b).1 same) ∙ differ in cc
 
-abbrev pub met_as : Text → List Row → Option (Text × List Row)
-met_as name rows = Some (name, rows)
+-- so a word is that of one command
+pub is_pass : (command : Command) → word_of command ≡ codes "pass" → (n : ℕ) × (f : Text) × (command ≡ PassOf n f)
+is_pass (PassOf n f) called = (n, f, refl)
+is_pass (PlanOf e) called = absurd (other_word (codes "plan") (codes "pass") refl called)
+is_pass DecodeOf called = absurd (other_word (codes "decode") (codes "pass") refl called)
+is_pass EncodeOf called = absurd (other_word (codes "encode") (codes "pass") refl called)
+is_pass (SimOf c e) called = absurd (other_word (codes "sim") (codes "pass") refl called)
+is_pass (LoopOf n c e) called = absurd (other_word (codes "loop") (codes "pass") refl called)
+is_pass (SegmentOf n p d i c e) called = absurd (other_word (codes "segment") (codes "pass") refl called)
 
-pub other_name : (word other : Text) → bytes_eq word other ≡ false → (name : Text) (rows : List Row) → name ≡ word → (others : List Row)
-    → met_as name rows ≡ met_as other others → ⊥
-other_name word other differ name rows called others met = other_word word other differ (sym called ∙ ap name_in met)
+pub is_plan : (command : Command) → word_of command ≡ codes "plan" → (e : Bool) × (command ≡ PlanOf e)
+is_plan (PassOf n f) called = absurd (other_word (codes "pass") (codes "plan") refl called)
+is_plan (PlanOf e) called = (e, refl)
+is_plan DecodeOf called = absurd (other_word (codes "decode") (codes "plan") refl called)
+is_plan EncodeOf called = absurd (other_word (codes "encode") (codes "plan") refl called)
+is_plan (SimOf c e) called = absurd (other_word (codes "sim") (codes "plan") refl called)
+is_plan (LoopOf n c e) called = absurd (other_word (codes "loop") (codes "plan") refl called)
+is_plan (SegmentOf n p d i c e) called = absurd (other_word (codes "segment") (codes "plan") refl called)
 
--- where `get_one` read no number, or `get_str` no text, `clap` met no command with all that it needs
-pub meets_no_slaves : (name : Text) (found : Found) (r : Option ℕ) → name ≡ codes "pass" → ((t : List ℕ) → one_text found (codes "slaves") ≡ Some t → ReadsOne (NumberGives 8) t r)
-    → r ≡ None → MeetsCommand (Some (name, rows_of found)) → ⊥
-meets_no_slaves name found r called value is (PlanOf e, h) = other_name (codes "pass") (codes "plan") refl name (rows_of found) called h.rows h.command
-meets_no_slaves name found r called value is (SimOf e, h) = other_name (codes "pass") (codes "sim") refl name (rows_of found) called h.rows h.command
-meets_no_slaves name found r called value is (LoopOf n e, h) = other_name (codes "pass") (codes "loop") refl name (rows_of found) called h.rows h.command
-meets_no_slaves name found r called value is (SegmentOf n p i e, h) = other_name (codes "pass") (codes "segment") refl name (rows_of found) called h.rows h.command
-meets_no_slaves name found r called value is (PassOf n f, h) =
-    let rows : rows_of found ≡ h.rows = ap rows_in h.command in
-    let text : one_text found (codes "slaves") ≡ Some h.digits = one_text-rows found (codes "slaves") ∙ (ap (one_of (codes "slaves")) rows ∙ h.number) in
-    let byte : digits_value 10 (without_leading_plus h.digits) < 256 = subst (λ k. k < 256) (sym h.value) h.byte in
-    no_number_read 8 (one_text found (codes "slaves")) r h.digits n value is text (record { numeral = h.numeral; value = h.value; small = byte })
+pub is_loop : (command : Command) → word_of command ≡ codes "loop" → (n : ℕ) × (c : Option Text) × (e : Bool) × (command ≡ LoopOf n c e)
+is_loop (PassOf n f) called = absurd (other_word (codes "pass") (codes "loop") refl called)
+is_loop (PlanOf e) called = absurd (other_word (codes "plan") (codes "loop") refl called)
+is_loop DecodeOf called = absurd (other_word (codes "decode") (codes "loop") refl called)
+is_loop EncodeOf called = absurd (other_word (codes "encode") (codes "loop") refl called)
+is_loop (SimOf c e) called = absurd (other_word (codes "sim") (codes "loop") refl called)
+is_loop (LoopOf n c e) called = (n, c, e, refl)
+is_loop (SegmentOf n p d i c e) called = absurd (other_word (codes "segment") (codes "loop") refl called)
 
-pub meets_no_frame : (name : Text) (found : Found) → name ≡ codes "pass" → first_value found (codes "frame") ≡ None → MeetsCommand (Some (name, rows_of found)) → ⊥
-meets_no_frame name found called none (PlanOf e, h) = other_name (codes "pass") (codes "plan") refl name (rows_of found) called h.rows h.command
-meets_no_frame name found called none (SimOf e, h) = other_name (codes "pass") (codes "sim") refl name (rows_of found) called h.rows h.command
-meets_no_frame name found called none (LoopOf n e, h) = other_name (codes "pass") (codes "loop") refl name (rows_of found) called h.rows h.command
-meets_no_frame name found called none (SegmentOf n p i e, h) = other_name (codes "pass") (codes "segment") refl name (rows_of found) called h.rows h.command
-meets_no_frame name found called none (PassOf n f, h) =
-    let rows : rows_of found ≡ h.rows = ap rows_in h.command in
-    let text : first_value found (codes "frame") ≡ Some f = first_value-rows found (codes "frame") ∙ (ap (first_of (codes "frame")) rows ∙ h.text) in
-    let bad : Some f ≡ None = sym text ∙ none in
-    cc
+pub is_segment : (command : Command) → word_of command ≡ codes "segment" → (n : ℕ) × (p : ℕ) × (d : Option ℕ) × (i : ℕ) × (c : Option Text) × (e : Bool) × (command ≡ SegmentOf n p d i c e)
+is_segment (PassOf n f) called = absurd (other_word (codes "pass") (codes "segment") refl called)
+is_segment (PlanOf e) called = absurd (other_word (codes "plan") (codes "segment") refl called)
+is_segment DecodeOf called = absurd (other_word (codes "decode") (codes "segment") refl called)
+is_segment EncodeOf called = absurd (other_word (codes "encode") (codes "segment") refl called)
+is_segment (SimOf c e) called = absurd (other_word (codes "sim") (codes "segment") refl called)
+is_segment (LoopOf n c e) called = absurd (other_word (codes "loop") (codes "segment") refl called)
+is_segment (SegmentOf n p d i c e) called = (n, p, d, i, c, e, refl)
 
--- a number that `get_one` read, and that it read none
+-- what is found for the arguments of a command of this name is what `clap` met
+pub asked_one : (name word : Text) (rows : List Row) (request : Request) → name ≡ word → IsAskedAs word rows request → Asks (Some (name, rows)) request
+asked_one name word rows request called asks = record {
+  rows = rows;
+  named = ap (λ n. Some (n, rows)) (called ∙ sym asks.0);
+  found = asks.1;
+}
+
+pub asked : (r : Option Request) (name word : Text) (rows : List Row) → name ≡ word → IfSome r (IsAskedAs word rows) → IfSome r (Asks (Some (name, rows)))
+asked None name word rows called asks = tt
+asked (Some request) name word rows called asks = asked_one name word rows request called asks
+
+meets_none : (name word : Text) (rows : List Row) → name ≡ word → IsNeverAsked word rows → MeetsCommand (Some (name, rows)) → ⊥
+meets_none name word rows called never met =
+    never met.0 (sym (ap name_in met.1.named) ∙ called) (subst (λ (l : List Row). Finds l met.0) (ap rows_in (sym met.1.named)) met.1.found)
+
+pub not_asked : (r : Option Request) (name word : Text) (rows : List Row) → name ≡ word → IfNone r (IsNeverAsked word rows) → IfNone r (MeetsCommand (Some (name, rows)) → ⊥)
+not_asked None name word rows called never = meets_none name word rows called never
+not_asked (Some request) name word rows called never = tt
+
+-- and a word that is none of theirs is no command
+pub no_such_word : (name : Text) (rows : List Row) → (name ≡ codes "pass" → ⊥) → (name ≡ codes "plan" → ⊥) → (name ≡ codes "decode" → ⊥) → (name ≡ codes "encode" → ⊥)
+    → (name ≡ codes "sim" → ⊥) → (name ≡ codes "loop" → ⊥) → (name ≡ codes "segment" → ⊥) → MeetsCommand (Some (name, rows)) → ⊥
+no_such_word name rows pass plan decode encode sim loop segment (PassOf n f, met) = pass (ap name_in met.named)
+no_such_word name rows pass plan decode encode sim loop segment (PlanOf e, met) = plan (ap name_in met.named)
+no_such_word name rows pass plan decode encode sim loop segment (DecodeOf, met) = decode (ap name_in met.named)
+no_such_word name rows pass plan decode encode sim loop segment (EncodeOf, met) = encode (ap name_in met.named)
+no_such_word name rows pass plan decode encode sim loop segment (SimOf c e, met) = sim (ap name_in met.named)
+no_such_word name rows pass plan decode encode sim loop segment (LoopOf n c e, met) = loop (ap name_in met.named)
+no_such_word name rows pass plan decode encode sim loop segment (SegmentOf n p d i c e, met) = segment (ap name_in met.named)
+
+-- a number that `get_one` read, one that it may leave out, a text that `get_str` read, and a flag
 pub finds_number : (found : Found) (id : Text) (bits : ℕ) (r : Option ℕ) (n : ℕ) → (one_text found id ≡ None → r ≡ None)
     → ((t : List ℕ) → one_text found id ≡ Some t → ReadsOne (NumberGives bits) t r) → r ≡ Some n → FindsNumber (rows_of found) id n (2 ^ bits)
 finds_number found id bits r n none value is =
@@ -123,51 +152,67 @@ finds_number found id bits r n none value is =
       small = subst (λ k. k < 2 ^ bits) read.2.value read.2.small;
     }
 
--- the flag that `get_flag` read
-pub finds_explain : (found : Found) (e : Bool) → (one_text found (codes "explain") ≡ Some (codes "true") → e ≡ true) → (one_text found (codes "explain") ≡ Some (codes "false") → e ≡ false) → FindsExplain (rows_of found) e
-finds_explain found e given absent =
-    let same = one_text-rows found (codes "explain") in
-    record { given = λ is. given (same ∙ is); absent = λ is. absent (same ∙ is) }
-
-finds_no_number : (found : Found) (id : Text) (bits : ℕ) (r : Option ℕ) (n : ℕ) (rows : List Row)
-    → ((t : List ℕ) → one_text found id ≡ Some t → ReadsOne (NumberGives bits) t r) → r ≡ None → rows_of found ≡ rows → FindsNumber rows id n (2 ^ bits) → ⊥
-finds_no_number found id bits r n rows value is same h =
-    let text : one_text found id ≡ Some h.digits = one_text-rows found id ∙ (ap (one_of id) same ∙ h.number) in
+finds_no_number : (found : Found) (id : Text) (bits : ℕ) (r : Option ℕ) (n : ℕ)
+    → ((t : List ℕ) → one_text found id ≡ Some t → ReadsOne (NumberGives bits) t r) → r ≡ None → FindsNumber (rows_of found) id n (2 ^ bits) → ⊥
+finds_no_number found id bits r n value is h =
+    let text : one_text found id ≡ Some h.digits = one_text-rows found id ∙ h.number in
     let small : digits_value 10 (without_leading_plus h.digits) < 2 ^ bits = subst (λ k. k < 2 ^ bits) (sym h.value) h.small in
     no_number_read bits (one_text found id) r h.digits n value is text (record { numeral = h.numeral; value = h.value; small = small })
 
--- without one of its numbers a command isn't met
-pub meets_no_cycles : (name : Text) (found : Found) (r : Option ℕ) → name ≡ codes "loop" → ((t : List ℕ) → one_text found (codes "cycles") ≡ Some t → ReadsOne (NumberGives 16) t r)
-    → r ≡ None → MeetsCommand (Some (name, rows_of found)) → ⊥
-meets_no_cycles name found r called value is (PassOf n f, h) = other_name (codes "loop") (codes "pass") refl name (rows_of found) called h.rows h.command
-meets_no_cycles name found r called value is (PlanOf e, h) = other_name (codes "loop") (codes "plan") refl name (rows_of found) called h.rows h.command
-meets_no_cycles name found r called value is (SimOf e, h) = other_name (codes "loop") (codes "sim") refl name (rows_of found) called h.rows h.command
-meets_no_cycles name found r called value is (SegmentOf n p i e, h) = other_name (codes "loop") (codes "segment") refl name (rows_of found) called h.rows h.command
-meets_no_cycles name found r called value is (LoopOf n e, h) = finds_no_number found (codes "cycles") 16 r n h.rows value is (ap rows_in h.command) h.cycles
+pub finds_any : (found : Found) (id : Text) (bits : ℕ) (r : Option ℕ) → (one_text found id ≡ None → r ≡ None)
+    → ((t : List ℕ) → one_text found id ≡ Some t → ReadsOne (NumberGives bits) t r) → FindsAny (rows_of found) id r (2 ^ bits)
+finds_any found id bits None none value = λ n. finds_no_number found id bits None n value refl
+finds_any found id bits (Some n) none value = finds_number found id bits (Some n) n none value refl
 
-pub meets_no_frames : (name : Text) (found : Found) (r : Option ℕ) → name ≡ codes "segment" → ((t : List ℕ) → one_text found (codes "frames") ≡ Some t → ReadsOne (NumberGives 32) t r)
-    → r ≡ None → MeetsCommand (Some (name, rows_of found)) → ⊥
-meets_no_frames name found r called value is (PassOf n f, h) = other_name (codes "segment") (codes "pass") refl name (rows_of found) called h.rows h.command
-meets_no_frames name found r called value is (PlanOf e, h) = other_name (codes "segment") (codes "plan") refl name (rows_of found) called h.rows h.command
-meets_no_frames name found r called value is (SimOf e, h) = other_name (codes "segment") (codes "sim") refl name (rows_of found) called h.rows h.command
-meets_no_frames name found r called value is (LoopOf n e, h) = other_name (codes "segment") (codes "loop") refl name (rows_of found) called h.rows h.command
-meets_no_frames name found r called value is (SegmentOf n p i e, h) = finds_no_number found (codes "frames") 32 r n h.rows value is (ap rows_in h.command) h.frames
+pub finds_text : (found : Found) (id : Text) (text : Option Text) → text ≡ first_value found id → FindsText (rows_of found) id text
+finds_text found id text is = sym (first_value-rows found id) ∙ sym is
 
-pub meets_no_port : (name : Text) (found : Found) (r : Option ℕ) → name ≡ codes "segment" → ((t : List ℕ) → one_text found (codes "port") ≡ Some t → ReadsOne (NumberGives 16) t r)
-    → r ≡ None → MeetsCommand (Some (name, rows_of found)) → ⊥
-meets_no_port name found r called value is (PassOf n f, h) = other_name (codes "segment") (codes "pass") refl name (rows_of found) called h.rows h.command
-meets_no_port name found r called value is (PlanOf e, h) = other_name (codes "segment") (codes "plan") refl name (rows_of found) called h.rows h.command
-meets_no_port name found r called value is (SimOf e, h) = other_name (codes "segment") (codes "sim") refl name (rows_of found) called h.rows h.command
-meets_no_port name found r called value is (LoopOf n e, h) = other_name (codes "segment") (codes "loop") refl name (rows_of found) called h.rows h.command
-meets_no_port name found r called value is (SegmentOf n p i e, h) = finds_no_number found (codes "port") 16 r p h.rows value is (ap rows_in h.command) h.port
+pub finds_flag : (found : Found) (id : Text) (flag : Bool) → (one_text found id ≡ Some (codes "true") → flag ≡ true) → (one_text found id ≡ Some (codes "false") → flag ≡ false)
+    → FindsFlag (rows_of found) id flag
+finds_flag found id flag given absent =
+    let same = one_text-rows found id in
+    record { given = λ is. given (same ∙ is); absent = λ is. absent (same ∙ is) }
 
-pub meets_no_idle : (name : Text) (found : Found) (r : Option ℕ) → name ≡ codes "segment" → ((t : List ℕ) → one_text found (codes "idle") ≡ Some t → ReadsOne (NumberGives 32) t r)
-    → r ≡ None → MeetsCommand (Some (name, rows_of found)) → ⊥
-meets_no_idle name found r called value is (PassOf n f, h) = other_name (codes "segment") (codes "pass") refl name (rows_of found) called h.rows h.command
-meets_no_idle name found r called value is (PlanOf e, h) = other_name (codes "segment") (codes "plan") refl name (rows_of found) called h.rows h.command
-meets_no_idle name found r called value is (SimOf e, h) = other_name (codes "segment") (codes "sim") refl name (rows_of found) called h.rows h.command
-meets_no_idle name found r called value is (LoopOf n e, h) = other_name (codes "segment") (codes "loop") refl name (rows_of found) called h.rows h.command
-meets_no_idle name found r called value is (SegmentOf n p i e, h) = finds_no_number found (codes "idle") 32 r i h.rows value is (ap rows_in h.command) h.idle
+-- without one of its numbers, or its text, a command isn't asked for
+pub no_slaves : (found : Found) (r : Option ℕ) → ((t : List ℕ) → one_text found (codes "slaves") ≡ Some t → ReadsOne (NumberGives 8) t r) → r ≡ None
+    → IsNeverAsked (codes "pass") (rows_of found)
+no_slaves found r value is command called h =
+    let it = is_pass command called in
+    finds_no_number found (codes "slaves") 8 r it.0 value is (subst (Finds (rows_of found)) it.2 h).for_slaves
+
+no_text : (found : Found) (id f : Text) → first_value found id ≡ None → FindsText (rows_of found) id (Some f) → ⊥
+no_text found id f none h =
+    let bad : Some f ≡ None = sym h ∙ (sym (first_value-rows found id) ∙ none) in
+    cc
+
+pub no_frame : (found : Found) → first_value found (codes "frame") ≡ None → IsNeverAsked (codes "pass") (rows_of found)
+no_frame found none command called h =
+    let it = is_pass command called in
+    no_text found (codes "frame") it.1 none (subst (Finds (rows_of found)) it.2 h).for_frame
+
+pub no_cycles : (found : Found) (r : Option ℕ) → ((t : List ℕ) → one_text found (codes "cycles") ≡ Some t → ReadsOne (NumberGives 16) t r) → r ≡ None
+    → IsNeverAsked (codes "loop") (rows_of found)
+no_cycles found r value is command called h =
+    let it = is_loop command called in
+    finds_no_number found (codes "cycles") 16 r it.0 value is (subst (Finds (rows_of found)) it.3 h).for_cycles
+
+pub no_frames : (found : Found) (r : Option ℕ) → ((t : List ℕ) → one_text found (codes "frames") ≡ Some t → ReadsOne (NumberGives 32) t r) → r ≡ None
+    → IsNeverAsked (codes "segment") (rows_of found)
+no_frames found r value is command called h =
+    let it = is_segment command called in
+    finds_no_number found (codes "frames") 32 r it.0 value is (subst (Finds (rows_of found)) it.6 h).for_frames
+
+pub no_port : (found : Found) (r : Option ℕ) → ((t : List ℕ) → one_text found (codes "port") ≡ Some t → ReadsOne (NumberGives 16) t r) → r ≡ None
+    → IsNeverAsked (codes "segment") (rows_of found)
+no_port found r value is command called h =
+    let it = is_segment command called in
+    finds_no_number found (codes "port") 16 r it.1 value is (subst (Finds (rows_of found)) it.6 h).for_port
+
+pub no_idle : (found : Found) (r : Option ℕ) → ((t : List ℕ) → one_text found (codes "idle") ≡ Some t → ReadsOne (NumberGives 32) t r) → r ≡ None
+    → IsNeverAsked (codes "segment") (rows_of found)
+no_idle found r value is command called h =
+    let it = is_segment command called in
+    finds_no_number found (codes "idle") 32 r it.3 value is (subst (Finds (rows_of found)) it.6 h).for_idle
 
 -- what `clap` makes of the arguments of `pass`
 pub no_fault-pass : (args : List Text) (slaves : ℕ) (frame : Text) → ArePassArguments args slaves frame → fault_of ecat args ≡ []
@@ -183,27 +228,36 @@ subcommand_of-pass args slaves frame w =
     subst (λ (given : List Text). subcommand_of ecat given ≡ Some (codes "pass", slaves_row (decimal slaves) ∷ frame_row frame ∷ [])) (sym w.spelled)
     (subcommand-pass w.name (decimal slaves) frame number.value (value_argument frame w.no_flag))
 
-pub meets-pass : (args : List Text) (slaves : ℕ) (frame : Text) → ArePassArguments args slaves frame → MeetsPass (subcommand_of ecat args) slaves frame
-meets-pass args slaves frame w =
-    let number = number_argument slaves w.few in
+pub finds-pass : (slaves : ℕ) (frame : Text) → slaves ≤ 64 → Finds (slaves_row (decimal slaves) ∷ frame_row frame ∷ []) (PassOf slaves frame)
+finds-pass slaves frame few =
+    let number = number_argument slaves few in
     record {
-      rows = slaves_row (decimal slaves) ∷ frame_row frame ∷ [];
-      digits = without_minus (decimal slaves);
-      command = subcommand_of-pass args slaves frame w;
-      text = refl;
-      number = refl;
-      numeral = number.numeral.0;
-      value = number.reads;
-      byte = omega (arith, w.few);
+      for_slaves = record { digits = without_minus (decimal slaves); number = refl; numeral = number.numeral.0; value = number.reads; small = omega (arith, few) };
+      for_frame = refl;
     }
 
+pub meets-pass : (args : List Text) (slaves : ℕ) (frame : Text) → ArePassArguments args slaves frame → MeetsAs (subcommand_of ecat args) (PassOf slaves frame)
+meets-pass args slaves frame w = record {
+  rows = slaves_row (decimal slaves) ∷ frame_row frame ∷ [];
+  named = subcommand_of-pass args slaves frame w;
+  found = finds-pass slaves frame w.few;
+}
+
 -- and nothing else is met
-pub meets-same : (args : List Text) (slaves : ℕ) (frame : Text) → ArePassArguments args slaves frame → (n : ℕ) (f : Text)
-    → MeetsPass (subcommand_of ecat args) n f → (n ≡ slaves) × (f ≡ frame)
-meets-same args slaves frame w n f h =
-    let number = number_argument slaves w.few in
-    let told = meets_rows (subcommand_of ecat args) (slaves_row (decimal slaves) ∷ frame_row frame ∷ []) n f h (subcommand_of-pass args slaves frame w) in
-    (told.1 (without_minus (decimal slaves)) refl ∙ number.reads, sym (same_text frame f told.0))
+same_pass : (slaves : ℕ) (frame : Text) → slaves ≤ 64 → (n : ℕ) (f : Text) → Finds (slaves_row (decimal slaves) ∷ frame_row frame ∷ []) (PassOf n f) → PassOf n f ≡ PassOf slaves frame
+same_pass slaves frame few n f h =
+    let number = number_argument slaves few in
+    let digits : h.for_slaves.digits ≡ without_minus (decimal slaves) = same_text h.for_slaves.digits (without_minus (decimal slaves)) (sym h.for_slaves.number) in
+    let count : n ≡ slaves = sym h.for_slaves.value ∙ (ap (λ d. digits_value 10 (without_leading_plus d)) digits ∙ number.reads) in
+    let text : f ≡ frame = sym (same_text frame f h.for_frame) in
+    (λ i. PassOf (count i) (text i))
+
+pub only-pass : (args : List Text) (slaves : ℕ) (frame : Text) → ArePassArguments args slaves frame → (command : Command) → MeetsAs (subcommand_of ecat args) command → command ≡ PassOf slaves frame
+only-pass args slaves frame w command met =
+    let is = sym met.named ∙ subcommand_of-pass args slaves frame w in
+    let it = is_pass command (ap name_in is) in
+    let found = subst (λ (l : List Row). Finds l command) (ap rows_in is) met.found in
+    it.2 ∙ same_pass slaves frame w.few it.0 it.1 (subst (Finds (slaves_row (decimal slaves) ∷ frame_row frame ∷ [])) it.2 found)
 
 -- nothing is wrong with arguments that `clap` takes
 pub none_wrong : (line : App) (args : List Text) → line ≡ ecat → (is_simple_and_free line ≡ true → fault_of line args ≡ []) → fault_of ecat args ≡ []
@@ -242,24 +296,13 @@ memory_notice kind (Help text) is told = let bad : false ≡ true = sym (ap is_a
 memory_notice kind (Usage text) is told = absurd (told.says.1 is)
 
 pub pass_is_read : PassIsRead
-pass_is_read args slaves frame (Ok (Pass n f)) w (none, asks) =
-    let same = meets-same args slaves frame w n f.now asks in
-    (λ i. PassOf (same.0 i) (same.1 i))
-pass_is_read args slaves frame (Ok (Plan e)) w (none, asks) =
-    absurd (other_word (codes "pass") (codes "plan") refl (ap name_in (sym (subcommand_of-pass args slaves frame w) ∙ asks.command)))
-pass_is_read args slaves frame (Ok (Sim e)) w (none, asks) =
-    absurd (other_word (codes "pass") (codes "sim") refl (ap name_in (sym (subcommand_of-pass args slaves frame w) ∙ asks.command)))
-pass_is_read args slaves frame (Ok (Loop n e)) w (none, asks) =
-    absurd (other_word (codes "pass") (codes "loop") refl (ap name_in (sym (subcommand_of-pass args slaves frame w) ∙ asks.command)))
-pass_is_read args slaves frame (Ok (Segment n p i e)) w (none, asks) =
-    absurd (other_word (codes "pass") (codes "segment") refl (ap name_in (sym (subcommand_of-pass args slaves frame w) ∙ asks.command)))
+pass_is_read args slaves frame (Ok request) w (none, asks) = only-pass args slaves frame w (command_of request) asks
 pass_is_read args slaves frame (Err notice) w (kind, fault, told) =
     memory_notice kind notice (no_other_fault args kind (no_fault-pass args slaves frame w) (PassOf slaves frame, meets-pass args slaves frame w) fault) told
 
 -- ---- `ecat plan`
 
-pub subcommand_of-plan : (args : List Text) (explained : Bool) → ArePlanArguments args explained
-    → subcommand_of ecat args ≡ Some (codes "plan", explain_row explained ∷ [])
+pub subcommand_of-plan : (args : List Text) (explained : Bool) → ArePlanArguments args explained → subcommand_of ecat args ≡ Some (codes "plan", explain_row explained ∷ [])
 subcommand_of-plan args true w = subst (λ (given : List Text). subcommand_of ecat given ≡ Some (codes "plan", explain_row true ∷ [])) (sym w.spelled) (explain-met w.name)
 subcommand_of-plan args false w = subst (λ (given : List Text). subcommand_of ecat given ≡ Some (codes "plan", explain_row false ∷ [])) (sym w.spelled) (plan-met w.name)
 
@@ -267,38 +310,33 @@ pub no_fault-plan : (args : List Text) (explained : Bool) → ArePlanArguments a
 no_fault-plan args true w = subst (λ (given : List Text). fault_of ecat given ≡ []) (sym w.spelled) (explain-no_fault w.name)
 no_fault-plan args false w = subst (λ (given : List Text). fault_of ecat given ≡ []) (sym w.spelled) (plan-no_fault w.name)
 
-pub meets-plan : (args : List Text) (explained : Bool) → ArePlanArguments args explained → MeetsPlan (subcommand_of ecat args) explained
-meets-plan args true w = record {
-  rows = explain_row true ∷ [];
-  command = subcommand_of-plan args true w;
-  given = λ is. refl;
-  absent = λ is. let bad : 116 ≡ 102 = ap (λ (t : Text). slice_index t 0) (same_text (codes "true") (codes "false") is) in absurd (omega (arith, bad));
-}
-meets-plan args false w = record {
-  rows = explain_row false ∷ [];
-  command = subcommand_of-plan args false w;
-  given = λ is. let bad : 102 ≡ 116 = ap (λ (t : Text). slice_index t 0) (same_text (codes "false") (codes "true") is) in absurd (omega (arith, bad));
-  absent = λ is. refl;
+-- "true" isn't "false"
+other_flag : {P : Type 0} → Some (codes "true") ≡ Some (codes "false") → P
+other_flag is = let bad : 116 ≡ 102 = ap (λ (t : Text). slice_index t 0) (same_text (codes "true") (codes "false") is) in absurd (omega (arith, bad))
+
+finds-plan : (explained : Bool) → Finds (explain_row explained ∷ []) (PlanOf explained)
+finds-plan true = record { given = λ found. refl; absent = λ found. other_flag found }
+finds-plan false = record { given = λ found. other_flag (sym found); absent = λ found. refl }
+
+pub meets-plan : (args : List Text) (explained : Bool) → ArePlanArguments args explained → MeetsAs (subcommand_of ecat args) (PlanOf explained)
+meets-plan args explained w = record {
+  rows = explain_row explained ∷ [];
+  named = subcommand_of-plan args explained w;
+  found = finds-plan explained;
 }
 
-same_flag : (explained e : Bool) → (one_of (codes "explain") (explain_row explained ∷ []) ≡ Some (codes "true") → e ≡ true)
-    → (one_of (codes "explain") (explain_row explained ∷ []) ≡ Some (codes "false") → e ≡ false) → e ≡ explained
-same_flag true e given absent = given refl
-same_flag false e given absent = absent refl
+same_flag : (explained e : Bool) → FindsFlag (explain_row explained ∷ []) (codes "explain") e → e ≡ explained
+same_flag true e flag = flag.given refl
+same_flag false e flag = flag.absent refl
+
+pub only-plan : (args : List Text) (explained : Bool) → ArePlanArguments args explained → (command : Command) → MeetsAs (subcommand_of ecat args) command → command ≡ PlanOf explained
+only-plan args explained w command met =
+    let is = sym met.named ∙ subcommand_of-plan args explained w in
+    let it = is_plan command (ap name_in is) in
+    let found = subst (λ (l : List Row). Finds l command) (ap rows_in is) met.found in
+    it.1 ∙ ap PlanOf (same_flag explained it.0 (subst (Finds (explain_row explained ∷ [])) it.1 found))
 
 pub plan_is_read : PlanIsRead
-plan_is_read args explained (Ok (Pass n f)) w (none, asks) =
-    absurd (other_word (codes "plan") (codes "pass") refl (ap name_in (sym (subcommand_of-plan args explained w) ∙ asks.command)))
-plan_is_read args explained (Ok (Plan e)) w (none, asks) =
-    let rows : asks.rows ≡ explain_row explained ∷ [] = ap rows_in (sym asks.command ∙ subcommand_of-plan args explained w) in
-    ap PlanOf (same_flag explained e
-    (subst (λ (l : List Row). one_of (codes "explain") l ≡ Some (codes "true") → e ≡ true) rows asks.given)
-    (subst (λ (l : List Row). one_of (codes "explain") l ≡ Some (codes "false") → e ≡ false) rows asks.absent))
-plan_is_read args explained (Ok (Sim e)) w (none, asks) =
-    absurd (other_word (codes "plan") (codes "sim") refl (ap name_in (sym (subcommand_of-plan args explained w) ∙ asks.command)))
-plan_is_read args explained (Ok (Loop n e)) w (none, asks) =
-    absurd (other_word (codes "plan") (codes "loop") refl (ap name_in (sym (subcommand_of-plan args explained w) ∙ asks.command)))
-plan_is_read args explained (Ok (Segment n p i e)) w (none, asks) =
-    absurd (other_word (codes "plan") (codes "segment") refl (ap name_in (sym (subcommand_of-plan args explained w) ∙ asks.command)))
+plan_is_read args explained (Ok request) w (none, asks) = only-plan args explained w (command_of request) asks
 plan_is_read args explained (Err notice) w (kind, fault, told) =
     memory_notice kind notice (no_other_fault args kind (no_fault-plan args explained w) (PlanOf explained, meets-plan args explained w) fault) told

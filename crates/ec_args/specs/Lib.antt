@@ -1,2 +1,5 @@
--- To be believed by reading: what each command's arguments are, in the terms of `clap`, and what is read of them.
+-- To be believed by reading, in this order: the command line in the terms of `clap`; and what its arguments ask for.
 pub mod CommandLine
+pub mod Requests
+-- Private: these serve private code and its proofs alone.
+pub mod Stages

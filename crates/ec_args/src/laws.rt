@@ -1,7 +1,7 @@
 //! What `clap`'s specification says of arguments that are spelled out. Each function does nothing; its
 //! contract is the law.
 
-ghost use Rattle.ec_args.specs.CommandLine.{PassIsRead, PlanIsRead};
+ghost use Rattle.ec_args.specs.Requests.{PassIsRead, PlanIsRead};
 
 /// `ecat pass --slaves N HEX` asks for that pass, and for nothing else.
 pub fn pass_is_read_as_pass()

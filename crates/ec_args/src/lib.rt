@@ -1,7 +1,9 @@
 //! The arguments of `ecat`'s command line, read by `clap`.
 #![tactic(auto)]
 
+mod arguments;
 mod commands;
+mod helps;
 mod laws;
 mod request;
 

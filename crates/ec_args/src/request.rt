@@ -1,10 +1,12 @@
-ghost use Rattle.std.specs.Prelude.{◌≡◌, ◌⊎◌, [], map, IfOk, IfErr, IfSome, IfNone, OnOk};
+ghost use Rattle.std.specs.Prelude.{◌≡◌, ◌⊎◌, [], Some, codes, map, IfOk, IfErr, IfSome, IfNone, OnOk};
 ghost use Rattle.clap.specs.Faults.{fault_of};
 ghost use Rattle.clap.specs.Matches.{found_of};
 ghost use Rattle.clap.specs.Simple.{subcommand_of, subcommand_rows_of};
 ghost use Rattle.clap.specs.Values.{kind_of};
 ghost use Rattle.clap.specs.Walk.{rows_of};
-ghost use Rattle.ec_args.specs.CommandLine.{Asks, IsFault, IsNotice, IsNoticeFor, MeetsCommand, Reads, ecat};
+ghost use Rattle.ec_args.specs.CommandLine.{ecat};
+ghost use Rattle.ec_args.specs.Requests.{Asks, IsFault, IsNotice, IsNoticeFor, MeetsCommand, Reads};
+ghost use Rattle.ec_args.specs.Stages.{IsAskedAs, IsNeverAsked};
 
 use crate::commands::command;
 use clap::error::ErrorKind;
@@ -25,22 +27,31 @@ pub enum Request<'a> {
     Plan {
         explained: bool,
     },
-    /// Run the script behind the link table on the input. A refusal is explained if it says so, as
-    /// with the others.
+    /// Show as text the payloads that the lines of the input spell in hex.
+    Decode,
+    /// Show in hex the frames that the text on the input states.
+    Encode,
+    /// Run the script behind the link table on the input. The frames that pass go into a capture, if a
+    /// file is named, and a refusal is explained if it says so, as with the others.
     Sim {
+        capture: Option<&'a str>,
         explained: bool,
     },
     /// Run this many cycles of the link table on the input over sockets of this process.
     Loop {
         cycles: u16,
+        capture: Option<&'a str>,
         explained: bool,
     },
-    /// Answer this many payloads on this port as the slaves of the link table on the input, while no
-    /// wait for one is longer than `idle` seconds; 0 is without an end.
+    /// Answer this many payloads on this port, or on the card whose socket has this descriptor, as the
+    /// slaves of the link table on the input, while no wait for one is longer than `idle` seconds; 0 is
+    /// without an end.
     Segment {
         frames: u32,
         port: u16,
+        descriptor: Option<u16>,
         idle: u32,
+        capture: Option<&'a str>,
         explained: bool,
     },
 }
@@ -56,33 +67,77 @@ pub enum Notice {
     Usage(String),
 }
 
+/// What the arguments of `pass` ask for; none where one of them is missing, as of the other commands.
+fn read_pass<'a>(given: &ArgMatches<'a>) -> Option<Request<'a>>
+    ensures some { IfSome result (IsAskedAs (codes "pass") (rows_of (found_of given.now))) }
+    ensures none { IfNone result (IsNeverAsked (codes "pass") (rows_of (found_of given.now))) }
+{
+    Some(Request::Pass {
+        slaves: given.get_one::<u8>("slaves")?,
+        frame: given.get_str("frame")?,
+    })
+}
+
+/// What those of `plan` ask for.
+fn read_plan<'a>(given: &ArgMatches<'a>) -> Request<'a>
+    ensures { IsAskedAs (codes "plan") (rows_of (found_of given.now)) result }
+{
+    Request::Plan {
+        explained: given.get_flag("explain"),
+    }
+}
+
+/// What those of `sim` ask for.
+fn read_sim<'a>(given: &ArgMatches<'a>) -> Request<'a>
+    ensures { IsAskedAs (codes "sim") (rows_of (found_of given.now)) result }
+{
+    Request::Sim {
+        capture: given.get_str("capture"),
+        explained: given.get_flag("explain"),
+    }
+}
+
+/// What those of `loop` ask for.
+fn read_loop<'a>(given: &ArgMatches<'a>) -> Option<Request<'a>>
+    ensures some { IfSome result (IsAskedAs (codes "loop") (rows_of (found_of given.now))) }
+    ensures none { IfNone result (IsNeverAsked (codes "loop") (rows_of (found_of given.now))) }
+{
+    Some(Request::Loop {
+        cycles: given.get_one::<u16>("cycles")?,
+        capture: given.get_str("capture"),
+        explained: given.get_flag("explain"),
+    })
+}
+
+/// What those of `segment` ask for.
+fn read_segment<'a>(given: &ArgMatches<'a>) -> Option<Request<'a>>
+    ensures some { IfSome result (IsAskedAs (codes "segment") (rows_of (found_of given.now))) }
+    ensures none { IfNone result (IsNeverAsked (codes "segment") (rows_of (found_of given.now))) }
+{
+    Some(Request::Segment {
+        frames: given.get_one::<u32>("frames")?,
+        port: given.get_one::<u16>("port")?,
+        descriptor: given.get_one::<u16>("descriptor"),
+        idle: given.get_one::<u32>("idle")?,
+        capture: given.get_str("capture"),
+        explained: given.get_flag("explain"),
+    })
+}
+
 /// What the arguments of the command `name` ask for.
+#[tactic(auto, using(crate::proofs::RequestLemmas::asked, crate::proofs::RequestLemmas::asked_one, crate::proofs::RequestLemmas::not_asked))]
 fn read_command<'a>(name: &str, given: &ArgMatches<'a>) -> Option<Request<'a>>
     ensures some { IfSome result (Asks (Some (name.now, rows_of (found_of given.now)))) }
-    ensures none { IfNone result
-        (MeetsCommand (Some (name.now, rows_of (found_of given.now))) → ⊥) }
+    ensures none { IfNone result (MeetsCommand (Some (name.now, rows_of (found_of given.now))) → ⊥) }
 {
     match name {
-        "pass" => Some(Request::Pass {
-            slaves: given.get_one::<u8>("slaves")?,
-            frame: given.get_str("frame")?,
-        }),
-        "plan" => Some(Request::Plan {
-            explained: given.get_flag("explain"),
-        }),
-        "sim" => Some(Request::Sim {
-            explained: given.get_flag("explain"),
-        }),
-        "loop" => Some(Request::Loop {
-            cycles: given.get_one::<u16>("cycles")?,
-            explained: given.get_flag("explain"),
-        }),
-        "segment" => Some(Request::Segment {
-            frames: given.get_one::<u32>("frames")?,
-            port: given.get_one::<u16>("port")?,
-            idle: given.get_one::<u32>("idle")?,
-            explained: given.get_flag("explain"),
-        }),
+        "pass" => read_pass(given),
+        "plan" => Some(read_plan(given)),
+        "decode" => Some(Request::Decode),
+        "encode" => Some(Request::Encode),
+        "sim" => Some(read_sim(given)),
+        "loop" => read_loop(given),
+        "segment" => read_segment(given),
         _ => None,
     }
 }

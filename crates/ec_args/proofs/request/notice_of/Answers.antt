@@ -1,5 +1,5 @@
 use Rattle.std.proofs.Common.{subst}
-use Rattle.ec_args.specs.CommandLine.{IsNoticeFor}
+use Rattle.ec_args.specs.Requests.{IsNoticeFor}
 use Rattle.ec_args.proofs.request.notice_of.Goals as goal
 
 pub returns : goal.returns

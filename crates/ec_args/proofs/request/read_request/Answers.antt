@@ -2,7 +2,7 @@ use Rattle.std.proofs.Common.{map}
 use Rattle.clap.proofs.TakesLemmas.{passed_up}
 use Rattle.clap.specs.Simple.{app_of}
 use Rattle.clap.specs.Values.{kind_of}
-use Rattle.ec_args.specs.CommandLine.{IsFault}
+use Rattle.ec_args.specs.Requests.{IsFault}
 use Rattle.ec_args.proofs.RequestLemmas.{found_asks, missing_fault, none_wrong, refused_fault}
 use Rattle.ec_args.proofs.request.read_request.Goals as goal
 

@@ -1,0 +1,182 @@
+-- What the arguments of `ecat` ask for (this project's profile).
+use Rattle.std.specs.Prelude.{◌≡◌, ◌≢◌, ◌⊎◌, ℕ, ◌<◌, ◌≤◌, ◌^◌, Bool, true, false, List, [], ◌∷◌, slice_index, Option, None, Some, option_map, Result, Ok, Err, MatchResult, alloc_error, codes}
+use Rattle.std.specs.declared.alloc.AllocError.{AllocError}
+use Rattle.std.specs.declared.alloc.Global.{Global}
+use Rattle.std.specs.declared.string.String.{String}
+use Rattle.std.specs.Fmt.{decimal}
+use Rattle.std.specs.Str.Parse.{IsNumeral, digits_value, without_leading_plus}
+use Rattle.clap.specs.Walk.{Row, Text, first_of, one_of}
+use Rattle.clap.specs.Simple.{subcommand_of}
+use Rattle.clap.specs.Faults.{fault_of}
+use Rattle.clap.specs.Kinds.{IsAmong}
+use Rattle.clap.specs.declared.error.kind.ErrorKind.{ErrorKind}
+use Rattle.clap.specs.declared.error.kind.ErrorKind.TheVariants.{DisplayHelp, DisplayVersion, MissingSubcommand, OutOfMemory}
+use Rattle.ec_args.specs.CommandLine.{ecat}
+use Rattle.ec_args.specs.declared.request.Notice.{Notice}
+use Rattle.ec_args.specs.declared.request.Notice.TheVariants.{Memory, Help, Usage}
+use Rattle.ec_args.specs.declared.request.Request.{Request}
+use Rattle.ec_args.specs.declared.request.Request.TheVariants.{Pass, Plan, Decode, Encode, Sim, Loop, Segment}
+
+-- a command, and what it is given
+pub data Command : Type 0 where
+  -- `ecat pass`: the number of slaves, and the text of a frame
+  PassOf : ℕ → Text → Command
+  -- `ecat plan`: whether the plan is to be explained, and so a refusal
+  PlanOf : Bool → Command
+  -- `ecat decode` and `ecat encode`
+  DecodeOf : Command
+  EncodeOf : Command
+  -- `ecat sim`: the file of a capture, if one is named, and whether a refusal is to be explained, as the last two of each from
+  -- here on
+  SimOf : Option Text → Bool → Command
+  -- `ecat loop`: the number of cycles
+  LoopOf : ℕ → Option Text → Bool → Command
+  -- `ecat segment`: the number of payloads, the port, the descriptor that is given in its place, if one is, and how many seconds
+  -- it waits for a payload
+  SegmentOf : ℕ → ℕ → Option ℕ → ℕ → Option Text → Bool → Command
+
+-- the word that asks for it
+abbrev pub word_of : Command → Text
+word_of (PassOf slaves frame) = codes "pass"
+word_of (PlanOf explained) = codes "plan"
+word_of DecodeOf = codes "decode"
+word_of EncodeOf = codes "encode"
+word_of (SimOf capture explained) = codes "sim"
+word_of (LoopOf cycles capture explained) = codes "loop"
+word_of (SegmentOf frames port descriptor idle capture explained) = codes "segment"
+
+-- ---- what `clap` finds for its arguments
+
+-- for an argument, the numeral of a number below a limit
+pub record FindsNumber (rows : List Row) (id : Text) (n limit : ℕ) : Type 0 where
+  pub digits : Text
+  pub number : one_of id rows ≡ Some digits
+  pub numeral : IsNumeral 10 (without_leading_plus digits)
+  pub value : digits_value 10 (without_leading_plus digits) ≡ n
+  pub small : n < limit
+
+-- or it is left out, and no such number is found
+abbrev pub FindsAny : List Row → Text → Option ℕ → ℕ → Type 0
+FindsAny rows id None limit = (n : ℕ) → FindsNumber rows id n limit → ⊥
+FindsAny rows id (Some n) limit = FindsNumber rows id n limit
+
+-- a text, or that there is none
+abbrev pub FindsText : List Row → Text → Option Text → Type 0
+FindsText rows id text = first_of id rows ≡ text
+
+-- that a flag was given, or wasn't
+pub record FindsFlag (rows : List Row) (id : Text) (flag : Bool) : Type 0 where
+  pub given : one_of id rows ≡ Some (codes "true") → flag ≡ true
+  pub absent : one_of id rows ≡ Some (codes "false") → flag ≡ false
+
+pub record FindsPass (rows : List Row) (slaves : ℕ) (frame : Text) : Type 0 where
+  pub for_slaves : FindsNumber rows (codes "slaves") slaves (2 ^ 8)
+  pub for_frame : FindsText rows (codes "frame") (Some frame)
+
+pub record FindsSim (rows : List Row) (capture : Option Text) (explained : Bool) : Type 0 where
+  pub for_capture : FindsText rows (codes "capture") capture
+  pub for_explain : FindsFlag rows (codes "explain") explained
+
+pub record FindsLoop (rows : List Row) (cycles : ℕ) (capture : Option Text) (explained : Bool) : Type 0 where
+  pub for_cycles : FindsNumber rows (codes "cycles") cycles (2 ^ 16)
+  pub for_capture : FindsText rows (codes "capture") capture
+  pub for_explain : FindsFlag rows (codes "explain") explained
+
+pub record FindsSegment (rows : List Row) (frames port : ℕ) (descriptor : Option ℕ) (idle : ℕ) (capture : Option Text) (explained : Bool) : Type 0 where
+  pub for_frames : FindsNumber rows (codes "frames") frames (2 ^ 32)
+  pub for_port : FindsNumber rows (codes "port") port (2 ^ 16)
+  pub for_descriptor : FindsAny rows (codes "descriptor") descriptor (2 ^ 16)
+  pub for_idle : FindsNumber rows (codes "idle") idle (2 ^ 32)
+  pub for_capture : FindsText rows (codes "capture") capture
+  pub for_explain : FindsFlag rows (codes "explain") explained
+
+-- for the arguments of a command
+abbrev pub Finds : List Row → Command → Type 0
+Finds rows (PassOf slaves frame) = FindsPass rows slaves frame
+Finds rows (PlanOf explained) = FindsFlag rows (codes "explain") explained
+Finds rows DecodeOf = Unit {0}
+Finds rows EncodeOf = Unit {0}
+Finds rows (SimOf capture explained) = FindsSim rows capture explained
+Finds rows (LoopOf cycles capture explained) = FindsLoop rows cycles capture explained
+Finds rows (SegmentOf frames port descriptor idle capture explained) = FindsSegment rows frames port descriptor idle capture explained
+
+-- `clap` met this command, and found what it is given
+pub record MeetsAs (met : Option (Text × List Row)) (command : Command) : Type 0 where
+  pub rows : List Row
+  pub named : met ≡ Some (word_of command, rows)
+  pub found : Finds rows command
+
+-- `clap` met a command and found all that it needs
+abbrev pub MeetsCommand : Option (Text × List Row) → Type 0
+MeetsCommand met = (command : Command) × MeetsAs met command
+
+-- the command that is asked for
+abbrev pub command_of : Request → Command
+command_of (Pass slaves frame) = PassOf slaves frame.now
+command_of (Plan explained) = PlanOf explained
+command_of Decode = DecodeOf
+command_of Encode = EncodeOf
+command_of (Sim capture explained) = SimOf (option_map (λ file. file.now) capture) explained
+command_of (Loop cycles capture explained) = LoopOf cycles (option_map (λ file. file.now) capture) explained
+command_of (Segment frames port descriptor idle capture explained) =
+    SegmentOf frames port descriptor idle (option_map (λ file. file.now) capture) explained
+
+abbrev pub Asks : Option (Text × List Row) → Request → Type 0
+Asks met request = MeetsAs met (command_of request)
+
+-- the kinds of `clap`'s errors that are answers: help and the version
+abbrev pub is_answer : ErrorKind → Bool
+is_answer DisplayHelp = true
+is_answer DisplayVersion = true
+is_answer _ = false
+
+-- the error that the arguments meet first, by `clap`'s specification; without one, no command was found; memory may
+-- run out at any time
+abbrev pub IsFault : List Text → ErrorKind → Type 0
+IsFault args kind = (kind ≡ OutOfMemory) ⊎ (IsAmong kind (fault_of ecat args)
+    ⊎ ((kind ≡ MissingSubcommand) × (MeetsCommand (subcommand_of ecat args) → ⊥)))
+
+-- what is told of an error of this kind, whose text was made or couldn't be: want of memory is told for nothing else
+abbrev pub IsNoticeFor : ErrorKind → Result (String Global) AllocError → Notice → Type 0
+IsNoticeFor kind made Memory = (kind ≡ OutOfMemory) ⊎ (made ≡ Err alloc_error)
+IsNoticeFor kind made (Help text) = (is_answer kind ≡ true) × (made ≡ Ok text)
+IsNoticeFor kind made (Usage text) = (is_answer kind ≡ false) × (kind ≢ OutOfMemory) × (made ≡ Ok text)
+
+pub record IsNotice (kind : ErrorKind) (notice : Notice) : Type 0 where
+  pub made : Result (String Global) AllocError
+  pub says : IsNoticeFor kind made notice
+
+-- what is read of the arguments: where nothing is wrong with them, the command that `clap` finds; or a notice of the error
+-- that they meet
+abbrev pub Reads : List Text → Result Request Notice → Type 0
+Reads args (Ok request) = (fault_of ecat args ≡ []) × Asks (subcommand_of ecat args) request
+Reads args (Err notice) = (kind : ErrorKind) × IsFault args kind × IsNotice kind notice
+
+-- ---- some spellings, spelled out
+
+-- the arguments `NAME pass --slaves N HEX`: N in decimal, 0 to 64, and HEX a text that doesn't begin with a hyphen
+pub record ArePassArguments (args : List Text) (slaves : ℕ) (frame : Text) : Type 0 where
+  pub name : Text
+  pub spelled : args ≡ name ∷ codes "pass" ∷ codes "--slaves" ∷ decimal slaves ∷ frame ∷ []
+  pub few : slaves ≤ 64
+  pub no_flag : slice_index frame 0 ≢ 45
+
+-- they are read as that pass; in its place there is only want of memory
+abbrev pub PassIsRead : Type 0
+PassIsRead = (args : List Text) (slaves : ℕ) (frame : Text) (read : Result Request Notice)
+    → ArePassArguments args slaves frame → Reads args read
+    → MatchResult read (λ request. command_of request ≡ PassOf slaves frame) (λ notice. notice ≡ Memory)
+
+-- the arguments `NAME plan`, or `NAME plan --explain`
+abbrev pub explain_arguments : Bool → List Text
+explain_arguments true = codes "--explain" ∷ []
+explain_arguments false = []
+
+pub record ArePlanArguments (args : List Text) (explained : Bool) : Type 0 where
+  pub name : Text
+  pub spelled : args ≡ name ∷ codes "plan" ∷ explain_arguments explained
+
+abbrev pub PlanIsRead : Type 0
+PlanIsRead = (args : List Text) (explained : Bool) (read : Result Request Notice)
+    → ArePlanArguments args explained → Reads args read
+    → MatchResult read (λ request. command_of request ≡ PlanOf explained) (λ notice. notice ≡ Memory)

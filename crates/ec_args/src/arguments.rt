@@ -1,0 +1,137 @@
+//! The arguments of the commands, each built in a function of its own: one function that builds them all takes
+//! minutes to check.
+ghost use Rattle.std.specs.Prelude.{◌≡◌, false};
+ghost use Rattle.clap.specs.Walk.{rule_of};
+ghost use Rattle.ec_args.specs.CommandLine.{capture_rule, cycles_rule, descriptor_rule, explain_rule, frame_rule, frames_rule, idle_rule, port_rule, slaves_rule};
+
+use clap::{Arg, ArgAction};
+use std::alloc::Global;
+
+/// `--slaves N`, the number of slaves of the ring.
+pub(crate) fn slaves_argument<'a>(alloc: Global) -> Arg<'a>
+    ensures rule { rule_of result ≡ slaves_rule }
+    ensures local { result.global ≡ false }
+{
+    Arg::new(alloc, "slaves")
+        .long("slaves")
+        .required(true)
+        .action(ArgAction::Set)
+        .value_name("N")
+        .value_parser(clap::value_parser!(u8).range(0..=64))
+        .help("How many slaves the ring has, 0 to 64")
+}
+
+/// `HEX`, the payload of a UDP datagram that carries a frame.
+pub(crate) fn frame_argument<'a>(alloc: Global) -> Arg<'a>
+    ensures rule { rule_of result ≡ frame_rule }
+    ensures local { result.global ≡ false }
+{
+    Arg::new(alloc, "frame")
+        .required(true)
+        .action(ArgAction::Set)
+        .value_name("HEX")
+        .help("The payload in hex digits of either case, at most 1472 bytes")
+}
+
+/// `--explain` of the command that shows a plan.
+pub(crate) fn explain_plan_argument<'a>(alloc: Global) -> Arg<'a>
+    ensures rule { rule_of result ≡ explain_rule }
+    ensures local { result.global ≡ false }
+{
+    Arg::new(alloc, "explain")
+        .long("explain")
+        .action(ArgAction::SetTrue)
+        .help("Show the plan as tables of bits, and tell of a refusal what is wrong, for people")
+}
+
+/// `--explain` of the commands that show neither.
+pub(crate) fn explain_argument<'a>(alloc: Global) -> Arg<'a>
+    ensures rule { rule_of result ≡ explain_rule }
+    ensures local { result.global ≡ false }
+{
+    Arg::new(alloc, "explain")
+        .long("explain")
+        .action(ArgAction::SetTrue)
+        .help("Tell of a refusal which line is at fault, what is wrong and what to do")
+}
+
+/// `--cycles N`, the number of cycles.
+pub(crate) fn cycles_argument<'a>(alloc: Global) -> Arg<'a>
+    ensures rule { rule_of result ≡ cycles_rule }
+    ensures local { result.global ≡ false }
+{
+    Arg::new(alloc, "cycles")
+        .long("cycles")
+        .required(true)
+        .action(ArgAction::Set)
+        .value_name("N")
+        .value_parser(clap::value_parser!(u16).range(0..=1000))
+        .help("How many cycles are run, 0 to 1000")
+}
+
+/// `--frames N`, the number of payloads.
+pub(crate) fn frames_argument<'a>(alloc: Global) -> Arg<'a>
+    ensures rule { rule_of result ≡ frames_rule }
+    ensures local { result.global ≡ false }
+{
+    Arg::new(alloc, "frames")
+        .long("frames")
+        .required(true)
+        .action(ArgAction::Set)
+        .value_name("N")
+        .value_parser(clap::value_parser!(u32))
+        .help("How many payloads are received, 0 to 4294967295")
+}
+
+/// `--port P`, the port on 127.0.0.1.
+pub(crate) fn port_argument<'a>(alloc: Global) -> Arg<'a>
+    ensures rule { rule_of result ≡ port_rule }
+    ensures local { result.global ≡ false }
+{
+    Arg::new(alloc, "port")
+        .long("port")
+        .action(ArgAction::Set)
+        .value_name("P")
+        .value_parser(clap::value_parser!(u16).range(1..=65535))
+        .default_value("34980")
+        .help("The UDP port on 127.0.0.1, 1 to 65535")
+}
+
+/// `--descriptor N`, the socket of a card.
+pub(crate) fn descriptor_argument<'a>(alloc: Global) -> Arg<'a>
+    ensures rule { rule_of result ≡ descriptor_rule }
+    ensures local { result.global ≡ false }
+{
+    Arg::new(alloc, "descriptor")
+        .long("descriptor")
+        .action(ArgAction::Set)
+        .value_name("N")
+        .value_parser(clap::value_parser!(u16).range(0..=1023))
+        .help("In its place, the descriptor of a network card's open raw socket, 0 to 1023")
+}
+
+/// `--idle SECONDS`, how long a segment waits for a payload.
+pub(crate) fn idle_argument<'a>(alloc: Global) -> Arg<'a>
+    ensures rule { rule_of result ≡ idle_rule }
+    ensures local { result.global ≡ false }
+{
+    Arg::new(alloc, "idle")
+        .long("idle")
+        .action(ArgAction::Set)
+        .value_name("SECONDS")
+        .value_parser(clap::value_parser!(u32).range(0..=86400))
+        .default_value("60")
+        .help("How many seconds it waits for a payload, 0 to 86400; 0 is without an end")
+}
+
+/// `--capture FILE`, where the frames that pass are noted.
+pub(crate) fn capture_argument<'a>(alloc: Global) -> Arg<'a>
+    ensures rule { rule_of result ≡ capture_rule }
+    ensures local { result.global ≡ false }
+{
+    Arg::new(alloc, "capture")
+        .long("capture")
+        .action(ArgAction::Set)
+        .value_name("FILE")
+        .help("Write the frames that pass into a pcapng file, which Wireshark opens")
+}

@@ -1,0 +1,300 @@
+//! What the helps of `ecat` and its commands say below their arguments.
+
+/// What stands below the list of commands.
+pub(crate) const EXIT_STATUSES: &str = "\
+Exit status:
+  0  done: the answer, or the help that was asked for, is on standard output
+  2  the arguments ask for no command; standard error says why
+  3  refused: standard error has a line `ecat: NUMBER NAME VALUES`
+  4  a fault of input or output, told in the same form
+  5  what a script of `ecat sim` expects wasn't so, told in the same form
+
+`ecat COMMAND --help` lists what a command refuses, and what to do.";
+
+/// What stands below the arguments of `ecat pass`.
+pub(crate) const PASS_REFUSALS: &str = "\
+HEX is the payload of a UDP datagram to port 34980 (0x88A4): two bytes of header and the
+datagrams. The same bytes stand behind the header of an Ethernet frame of type 0x88A4.
+
+Exit status:
+  0  the frame is on standard output as it comes back: one line of hex digits
+  2  the arguments ask for no command: put them right as standard error says
+  3  HEX is refused, and standard error says `ecat: NUMBER NAME`:
+     40 BadHex      HEX isn't pairs of hex digits: leave out blanks and 0x
+      7 TooLong     HEX has over 1472 bytes, or the header says over 1470 bytes of datagrams:
+                    send fewer datagrams in a frame
+      2 Short       HEX has fewer bytes than the header, or than bits 0 to 10 of the header say:
+                    give all of them, or put the header right
+      3 BadType     bits 12 to 15 of the header aren't 1: begin with the EtherCAT header, not with
+                    that of Ethernet, IP or UDP
+      4 BadLength   no datagram fits where one begins: see the header's length, and the length at
+                    offset 6 of each datagram
+      6 BadCommand  a datagram's command is over 14: see its first byte
+      5 BadMore     a datagram's bit 15 at offset 6 must be set but in the last datagram
+      1 Memory      memory ran out, and HEX may be good or bad: free some and try again
+  4  the output is at fault, told in the same form:
+     41 Output      the answer couldn't be written, or a part of it is: see where standard output
+                    goes";
+
+/// What stands below the arguments of `ecat plan`.
+pub(crate) const PLAN_LINES: &str = "\
+TABLE is a link table; docs/TABLES.md says how one is written.
+
+Lines, in this order for each slave, and then for each part:
+  slave S part P out O in I  the slave's part, and how many output and input bits it has
+  sm N BYTES                 a sync manager that is set: its 8 register bytes in hex
+  fmmu N BYTES               an FMMU that is active: its 16 register bytes in hex
+  part P address A bytes B counter C
+                             the part's first logical byte, its bytes, and the working counter
+                             of its LRW; W/R are those of an LWR and an LRD, where a slave of the
+                             part takes no part in LRW. A table of version 2 adds ` unit U`
+
+Exit status:
+  0  the plan is on standard output
+  2  the arguments ask for no command: put them right as standard error says
+  3  the table is refused, and standard error says `ecat: NUMBER NAME VALUES`
+  4  input or output is at fault, told in the same form
+
+Refusals with status 3; PLACE counts from 0 in file order:
+  11 Toml                    the text is no TOML: put its syntax right
+  12 BadKey SECTION PLACE    a key is unknown or missing: leave it out or add it; `unit` is known
+                             where the text begins with `version = 2`. SECTION is 0 for the
+                             document, 1 type, 2 slave, 3 variable, 4 link
+  13 BadValue SECTION PLACE  a value has the wrong kind, range or number of items: give one that
+                             its key takes. A name has letters, digits and `_` alone; a slave
+                             without a mailbox assigns all PDOs of its type, so leave out its
+                             `out` and `in`: `out = []` is refused too
+  14 TwiceNamed SECTION PLACE
+                             a name, or the index of a PDO, stands twice: change one of them
+  15 UnknownName SECTION PLACE
+                             a name, or the index of a PDO, is unknown: correct it, or add what
+                             it names
+  16 WrongDirection PLACE    of a link: the slave has that entry in the other direction: link a
+                             variable of that direction
+  17 NoEntry PLACE           of a link: the slave assigns no such entry: assign its PDO, or link
+                             another
+  18 OutsideEntry PLACE      of a link: it has bits past the entry or the variable: link fewer
+  19 LinkedTwice PLACE       of a link: an earlier link gives one of its bits: leave one out
+  20 EntryTwice PLACE        of a slave: it assigns an entry twice in one direction: assign one of
+                             its PDOs less
+  21 TooManyBits PLACE       of a slave: it has over 2048 bits in a direction: assign fewer PDOs
+  22 TooManySlaves COUNT     over 64 slaves: make two tables
+  23 TooManyParts COUNT      over 32 parts: put slaves into fewer sync units
+  24 AreasOverlap PLACE      of a slave: areas of two of its sync managers overlap; a buffer has
+                             three times its length: see the starts in its type
+  25 OutsideRam PLACE        of a slave: an area is not within 0x1000 to 0x2fff: see the starts in
+                             its type
+  44 SplitVariable PLACE     of an input variable: it has links from two sync units: make two
+                             variables of it, or put the slaves into one unit
+   1 Memory                  memory ran out, and the table may be good or bad: free some and try
+                             again
+
+Refusals with status 4:
+  41 Output                  the plan couldn't be written, or a part of it is: see where standard
+                             output goes
+  42 Input                   standard input couldn't be read, is no text in UTF-8, or has over
+                             1048576 bytes: see where it comes from";
+
+/// What stands below the description of `ecat decode`.
+pub(crate) const DECODE_LINES: &str = "\
+PAYLOADS are payloads of UDP datagrams to port 34980 (0x88A4) in hex, one a line; empty lines are
+skipped. The same bytes stand behind the header of an Ethernet frame of type 0x88A4.
+
+Lines for each payload, in this order:
+  frame COUNT     it is a frame of COUNT datagrams; ` reserved` where bit 11 of its header is set,
+                  ` rest HEX` where bytes stand behind the datagrams
+  N COMMAND index II at ADP:ADO counter C data HEX
+                  for each datagram: its number from 0, its command, its index, ADP and ADO (of
+                  LRD, LWR and LRW ` logical ADDRESS`) in hex; then, where they aren't zero,
+                  ` irq XXXX`, ` reserved R`, ` circulating`; its counter in decimal, and its data
+                  in hex, `-` for none
+  refused NUMBER NAME datagram WHOLE byte AT
+                  in place of the line `frame`, behind the lines of the WHOLE datagrams before the
+                  fault: the payload is no frame, by what `ecat pass --help` lists, and what is
+                  wrong begins at byte AT
+
+Exit status:
+  0  every payload was told, also one that is refused
+  2  the arguments ask for no command: put them right as standard error says
+  3  refused, and standard error says `ecat: NUMBER NAME`:
+     40 BadHex      a line isn't pairs of hex digits: leave out blanks and 0x; what stands before
+                    it is told
+      1 Memory      memory ran out, and the input may be good or bad: free some and try again
+  4  input or output is at fault, told in the same form:
+     41 Output      a text couldn't be written, or a part of it is: see where standard output goes
+     42 Input       standard input couldn't be read, is no text in UTF-8, or has over 1048576
+                    bytes: see where it comes from";
+
+/// What stands below the description of `ecat encode`.
+pub(crate) const ENCODE_LINES: &str = "\
+TEXT is what `ecat decode` prints of frames: `ecat decode --help` says how their lines are written.
+Empty lines and indented ones are skipped. Each frame is printed as one line of hex digits.
+
+Exit status:
+  0  every frame is on standard output
+  2  the arguments ask for no command: put them right as standard error says
+  3  refused, and standard error says `ecat: NUMBER NAME VALUES`:
+     39 BadScript LINE   a line is out of form, or says `refused`: correct it; LINE counts from 1,
+                         and is the line behind the last where datagrams are missing
+      1 Memory           memory ran out, and the input may be good or bad: free some and try again
+  4  input or output is at fault, told in the same form:
+     41 Output           a frame couldn't be written, or a part of it is: see where standard output
+                         goes
+     42 Input            standard input couldn't be read, is no text in UTF-8, or has over 1048576
+                         bytes: see where it comes from";
+
+/// What stands below the description of `ecat sim`.
+pub(crate) const SIM_LINES: &str = "\
+TABLE_AND_SCRIPT is a link table, a line `%%`, and a script with one event a line. Numbers are
+decimal, words stand one blank apart, empty lines are skipped. From a `#` on a line is a comment,
+with the blanks before it. VALUE is decimal, `0x` and hex digits, or `-` and decimal, which is its
+two's complement in the variable's bits; a value that they don't hold can't be set. S is a slave's
+number from 0, or its name in the table; digits alone are a number.
+
+Lines of a script:
+  start           the next frame of the start-up is sent
+  set NAME VALUE  an output variable becomes a value
+  begin           a cycle begins: the frame of each part is sent
+  pass K          the frame in slot K passes its next slave
+  lose K          the frame in slot K is lost
+  return K        the frame in slot K, past all slaves, comes back to the master
+  close           the cycle is closed, or a start-up that waits for its frame is given up
+  serve S         the firmware of slave S steps
+  put S I BYTE    the application of slave S writes byte I of its inputs, as below
+  get S I         it reads byte I of its outputs, as below
+  fault S         the application of slave S has a fault
+  reset S         slave S is switched off and on
+  in NAME VALUE   an input variable becomes a value: each slave with bits of it writes all bytes of
+                  its inputs, with the other bits as it published them last
+  ready           the start-up runs until it has ended
+  cycle           a cycle is run: begin, each frame past all slaves and back, close
+  show            the input variables are printed
+  repeat N LINE   LINE is done N times, 1 to 1000000; it is none of `repeat`
+
+Lines that change nothing, and print something only where what they expect isn't so:
+  expect NAME VALUE           an input variable of the image is VALUE; of an output variable, the
+                              slaves publish VALUE in those of its bits that are linked
+  expect taken, expect untaken
+                              in the last report all sync units are that; with a number behind it,
+                              that unit
+  expect state S STATE CODE   slave S is in INIT, PREOP, SAFEOP or OP, with this AL status code in
+                              four hex digits, which may be left out
+  expect ready, expect failed
+                              how the start-up ended; behind `failed` may stand a number
+
+Bytes count from 0 in the slave's own data, as `ecat plan --explain` shows. `put` begins with byte
+0, which opens a draft of zeros, and the last byte publishes all of it at once: until then the
+slave gives its older inputs. `get` begins with byte 0 too, which opens a view of the outputs that
+the last byte closes. Any other byte can't be written or read before byte 0.
+
+A frame never passes an older one. While one is still on its way, as after `begin` and `close`, a
+`cycle` ends with `no` and leaves its own cycle open, and so does each `begin` or `cycle` behind
+it. The way out: `lose K` for each slot with a frame, then `close`.
+
+What a line prints, before the next one runs:
+  no LINE         an event can't be made, and the script's line of this number ended there
+  ready           the start-up has ended well
+  failed NUMBER   it has ended otherwise, by 9, 26 to 32, 36 or 38: `ecat loop --help` says what
+                  each stands for
+  report taken missing M counters C C .. al WORD
+                  the cycle was closed: inputs were taken, or `untaken` in place of `taken`; M
+                  frames are missing; the working counters of each part as in the plan, `-` where
+                  its frame is missing; and the OR of the slaves' AL status words in hex. With a
+                  table of version 2 each sync unit has its number and its own `taken` or `untaken`
+  byte BYTE       what `get` read, in hex
+  NAME VALUE      of `show`, for each input variable
+  unmet LINE      what this line expects isn't so; the script goes on
+Other lines print nothing. What an act prints that is repeated, it prints each time.
+
+Exit status:
+  0  the script was run to its end, also where lines printed `no` or `failed`
+  2  the arguments ask for no command: put them right as standard error says
+  3  refused, and standard error says `ecat: NUMBER NAME VALUES`:
+     11 to 25, 44        the table is refused; `ecat plan --help` says what to do. It is 11 too
+                         where the line `%%` is missing or isn't just that: then the script is
+                         read as a part of the table
+     39 BadScript LINE   a line is none of these: correct it; LINE counts from 1 behind `%%`
+      1 Memory           memory ran out, and the input may be good or bad: free some and try again
+  4  input or output is at fault, told in the same form:
+     41 Output           what a line says, or the capture, couldn't be written: see where standard
+                         output goes, and the file
+     42 Input            standard input couldn't be read, is no text in UTF-8, or has over 1048576
+                         bytes: see where it comes from
+  5  the script was run to its end, and standard error says `ecat: NUMBER NAME VALUE`:
+     45 Unmet COUNT      so many times `unmet` was printed: see its lines";
+
+/// What stands below the arguments of `ecat loop`.
+pub(crate) const LOOP_LINES: &str = "\
+TABLE is a link table; docs/TABLES.md says how one is written.
+
+Before cycle K, from 1 on, each output variable becomes K, as far as it has bits. The slaves'
+applications show their outputs as their inputs.
+
+Lines, in this order:
+  ready              the start-up has ended well
+  report ...         for each cycle: whether inputs were taken, how many frames are missing, the
+                     working counters of each part, and the slaves' AL states
+  NAME VALUE         for each input variable: its value at the end
+
+Exit status:
+  0  all cycles were run
+  2  the arguments ask for no command: put them right as standard error says
+  3  refused, and standard error says `ecat: NUMBER NAME VALUES`
+  4  input, output or a socket is at fault, told in the same form
+
+Refusals with status 3; SLAVE and STEP count from 0, and `failed` of `ecat sim` has these numbers too:
+  11 to 25, 44             the table is refused; `ecat plan --help` says what to do
+   9 BadMailbox SLAVE      what the slave's mailbox held is no reply to the request: see the
+                           mailbox of its type
+  26 Count SEEN            SEEN slaves answered the first frame, and not as many as the table
+                           has: see which slaves it passed
+  27 Identity SLAVE VENDOR PRODUCT REVISION
+                           the slave is another device than its type says: see the order of the
+                           slaves, and the type
+  28 Counter STEP          a frame came back with another working counter than it must have: see
+                           whether a slave was switched off
+  29 AlError SLAVE CODE    the slave refused a state, and shows this AL status code: see what
+                           ETG.1000.6 says of it
+  30 Abort SLAVE CODE      the slave aborted a transfer with this code: see what ETG.1000.6 says
+                           of it
+  31 TooSlow STEP          a wait wasn't over after 1000 polls: see whether the slave works
+  32 Lost                  a socket was faulty in the start-up: try again
+  36 NumbersSpent          no frame number is left: try again
+  38 Mapping SLAVE INDEX SUBINDEX SEEN
+                           an object of the slave's PDO mapping holds SEEN, and not what its
+                           type says: correct the type
+   1 Memory                memory ran out, and the table may be good or bad: free some and try
+                           again
+
+Refusals with status 4:
+  37 Wire                  a socket was faulty in a cycle: try again
+  41 Output                a line, or the capture, couldn't be written: see where standard output
+                           goes, and the file
+  42 Input                 standard input couldn't be read, is no text in UTF-8, or has over
+                           1048576 bytes: see where it comes from
+  43 Socket                there is no socket on 127.0.0.1 to be had: see what else has sockets";
+
+/// What stands below the arguments of `ecat segment`.
+pub(crate) const SEGMENT_LINES: &str = "\
+TABLE is a link table; docs/TABLES.md says how one is written.
+
+The slaves' applications show their outputs as their inputs. Standard error has a line with the
+port once the segment listens there. With `--descriptor` it answers Ethernet frames of type 0x88A4
+on the raw socket of a network card, which is open already, as `tools/with_card` leaves one. At the
+end a line `served N refused M` says how many payloads were frames, which were answered, and how
+many were not.
+
+Exit status:
+  0  all payloads came, and the line is on standard output
+  2  the arguments ask for no command: put them right as standard error says
+  3  refused, and standard error says `ecat: NUMBER NAME VALUES`:
+     11 to 25, 44       the table is refused; `ecat plan --help` says what to do
+      1 Memory          memory ran out, and the table may be good or bad: free some and try again
+  4  input, output or a socket is at fault, told in the same form:
+     41 Output          the line, or the capture, couldn't be written: see where standard output
+                        goes, and the file
+     42 Input           standard input couldn't be read, is no text in UTF-8, or has over 1048576
+                        bytes: see where it comes from
+     43 Socket          the port is in use, the descriptor is no socket of a card, or no payload
+                        came for SECONDS: take another port, open the card, start the master in
+                        time, or give a longer `--idle`";
