@@ -1,9 +1,3 @@
-mod InputLemmas
-mod LoopLemmas
 mod PassLemmas
 mod PlanLemmas
-mod PrintLemmas
-mod RefusalLemmas
 mod RunLemmas
-mod SegmentLemmas
-mod SimLemmas

@@ -1,8 +1,8 @@
 -- A text that spells no frame is refused by the fault of the payload.
 use Rattle.std.proofs.Common.{◌≡◌, ℕ, List, inl, refl, sym, subst, Result, Ok, Err, IfErr}
 use Rattle.std.specs.Result.{IsErr, IsErrAnd, IsOk}
-use Rattle.ec_app.specs.declared.refusal.Refusal.{Refusal}
-use Rattle.ec_app.specs.declared.refusal.Refusal.TheVariants.{Frame}
+use Rattle.ec_console.specs.declared.refusal.Refusal.{Refusal}
+use Rattle.ec_console.specs.declared.refusal.Refusal.TheVariants.{Frame}
 use Rattle.ec_frame.specs.declared.error.FrameError.{FrameError}
 use Rattle.ec_app.specs.Passing.{SpellsNoFrame, IsPassRefusal}
 

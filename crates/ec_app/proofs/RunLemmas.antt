@@ -3,38 +3,42 @@ use Rattle.std.proofs.Common.{◌≡◌, ℕ, List, [], ◌∷◌, ◌==◌, ◌
 use Rattle.std.specs.declared.io.Error.{Error}
 use Rattle.std.specs.declared.vec.IntoIter.{IntoIter}
 use Rattle.std.specs.Prelude.{Contains, if◌then◌else◌}
-use Rattle.ec_app.specs.declared.refusal.Refusal.{Refusal}
-use Rattle.ec_app.specs.Refusals.{number_of, status_of}
-use Rattle.ec_app.specs.declared.refusal.Refusal.TheVariants.{Memory}
+use Rattle.ec_console.specs.declared.refusal.Refusal.{Refusal}
+use Rattle.ec_console.specs.Refusals.{number_of, status_of}
+use Rattle.ec_console.specs.declared.refusal.Refusal.TheVariants.{Memory}
+use Rattle.ec_captured.specs.Capturing.{EndsCaptured}
 use Rattle.ec_app.specs.Running.{Ends, EndsAlone, EndsGiven, EndsUnread, Stream, Tells, TellsWith, given_words}
-use Rattle.ec_args.specs.CommandLine.{Reads}
+use Rattle.ec_args.specs.Requests.{Reads}
 use Rattle.ec_args.specs.declared.request.Notice.{Notice}
 use Rattle.ec_args.specs.declared.request.Request.{Request}
-use Rattle.ec_args.specs.declared.request.Request.TheVariants.{Pass, Plan, Sim, Loop, Segment}
+use Rattle.ec_args.specs.declared.request.Request.TheVariants.{Pass, Plan, Decode, Encode, Sim, Loop, Segment}
 
-three_or_four : (b : Bool) → Contains {X = ℕ} (0 ∷ 2 ∷ 3 ∷ 4 ∷ []) (if b then 4 else 3)
-three_or_four true = (3, omega arith, refl)
-three_or_four false = (2, omega arith, refl)
+three_to_five : (b c : Bool) → Contains {X = ℕ} (0 ∷ 2 ∷ 3 ∷ 4 ∷ 5 ∷ []) (if b then 4 else (if c then 5 else 3))
+three_to_five true c = (3, omega arith, refl)
+three_to_five false true = (4, omega arith, refl)
+three_to_five false false = (2, omega arith, refl)
 
--- each refusal ends the program with 3 or 4
-pub status_known : (refusal : Refusal) → Contains {X = ℕ} (0 ∷ 2 ∷ 3 ∷ 4 ∷ []) (status_of refusal)
-status_known refusal = let n = number_of refusal in three_or_four (n == 37 || (n == 41 || (n == 42 || n == 43)))
+-- each refusal ends the program with 3, 4 or 5
+pub status_known : (refusal : Refusal) → Contains {X = ℕ} (0 ∷ 2 ∷ 3 ∷ 4 ∷ 5 ∷ []) (status_of refusal)
+status_known refusal = let n = number_of refusal in three_to_five (n == 37 || (n == 41 || (n == 42 || n == 43))) (n == 45)
 
-pub tells_known : (faults : Stream) (status : ℕ) (ended : Result Unit Refusal) → Tells faults status ended → Contains {X = ℕ} (0 ∷ 2 ∷ 3 ∷ 4 ∷ []) status
-tells_known faults status (Ok done) told = subst (Contains {X = ℕ} (0 ∷ 2 ∷ 3 ∷ 4 ∷ [])) (sym told.0) (0, omega arith, refl)
-tells_known faults status (Err refusal) told = subst (Contains {X = ℕ} (0 ∷ 2 ∷ 3 ∷ 4 ∷ [])) (sym told.0) (status_known refusal)
+pub tells_known : (faults : Stream) (status : ℕ) (ended : Result Unit Refusal) → Tells faults status ended → Contains {X = ℕ} (0 ∷ 2 ∷ 3 ∷ 4 ∷ 5 ∷ []) status
+tells_known faults status (Ok done) told = subst (Contains {X = ℕ} (0 ∷ 2 ∷ 3 ∷ 4 ∷ 5 ∷ [])) (sym told.0) (0, omega arith, refl)
+tells_known faults status (Err refusal) told = subst (Contains {X = ℕ} (0 ∷ 2 ∷ 3 ∷ 4 ∷ 5 ∷ [])) (sym told.0) (status_known refusal)
 
-pub tells_with_known : (more : List ℕ) (faults : Stream) (status : ℕ) (ended : Result Unit Refusal) → TellsWith more faults status ended → Contains {X = ℕ} (0 ∷ 2 ∷ 3 ∷ 4 ∷ []) status
-tells_with_known more faults status (Ok done) told = subst (Contains {X = ℕ} (0 ∷ 2 ∷ 3 ∷ 4 ∷ [])) (sym told.0) (0, omega arith, refl)
-tells_with_known more faults status (Err refusal) told = subst (Contains {X = ℕ} (0 ∷ 2 ∷ 3 ∷ 4 ∷ [])) (sym told.0) (status_known refusal)
+pub tells_with_known : (more : List ℕ) (faults : Stream) (status : ℕ) (ended : Result Unit Refusal) → TellsWith more faults status ended → Contains {X = ℕ} (0 ∷ 2 ∷ 3 ∷ 4 ∷ 5 ∷ []) status
+tells_with_known more faults status (Ok done) told = subst (Contains {X = ℕ} (0 ∷ 2 ∷ 3 ∷ 4 ∷ 5 ∷ [])) (sym told.0) (0, omega arith, refl)
+tells_with_known more faults status (Err refusal) told = subst (Contains {X = ℕ} (0 ∷ 2 ∷ 3 ∷ 4 ∷ 5 ∷ [])) (sym told.0) (status_known refusal)
 
 -- what leaves the input and the application alone leaves the input alone
 ends_unread : {R A : Type 0} (read : Result Request Notice) (old new : R) (app_old app_new : A) → EndsAlone read old new app_old app_new → EndsUnread read old new
 ends_unread (Ok (Pass n f)) old new app_old app_new alone = alone.0
 ends_unread (Ok (Plan e)) old new app_old app_new alone = tt
-ends_unread (Ok (Sim e)) old new app_old app_new alone = tt
-ends_unread (Ok (Loop n e)) old new app_old app_new alone = tt
-ends_unread (Ok (Segment n p i e)) old new app_old app_new alone = tt
+ends_unread (Ok Decode) old new app_old app_new alone = tt
+ends_unread (Ok Encode) old new app_old app_new alone = tt
+ends_unread (Ok (Sim c e)) old new app_old app_new alone = tt
+ends_unread (Ok (Loop n c e)) old new app_old app_new alone = tt
+ends_unread (Ok (Segment n p d i c e)) old new app_old app_new alone = tt
 ends_unread (Err told) old new app_old app_new alone = alone.0
 
 -- a run on the arguments that were given, as texts
@@ -52,3 +56,9 @@ pub given_lost : {R : Type 0} (given : Result (IntoIter (String Global) Global) 
     → EndsGiven given known input input (record { old = output; new = output }) faults status
 given_lost given words known input output faults status is told =
     subst (λ g. EndsGiven g known input input (record { old = output; new = output }) faults status) (sym is) (inr (refl, refl, told))
+
+-- what holds of each end of a command that has a capture
+pub captured_more : (P Q : Result Unit Refusal → Type 0) (N M : Type 0) → ((r : Result Unit Refusal) → P r → Q r) → (N → M) → (r : Result Unit Refusal) → EndsCaptured P N r → EndsCaptured Q M r
+captured_more P Q N M more nothing r (inl ends) = inl (more r ends)
+captured_more P Q N M more nothing r (inr (inl (cut, done))) = inr (inl (cut, more (Ok tt) done))
+captured_more P Q N M more nothing r (inr (inr (refusal, is, why, none))) = inr (inr (refusal, is, why, nothing none))

@@ -9,9 +9,9 @@ use Rattle.ec_frame.specs.declared.error.FrameError.{FrameError}
 use Rattle.ec_frame.specs.declared.error.FrameError.TheVariants.{TooLong}
 use Rattle.ec_slave.specs.State.{SlaveState, power_on}
 use Rattle.ec_ring.specs.Rings.{passes_ring}
-use Rattle.ec_app.specs.Printing.{Prints}
-use Rattle.ec_app.specs.declared.refusal.Refusal.{Refusal}
-use Rattle.ec_app.specs.declared.refusal.Refusal.TheVariants.{Memory, Frame, BadHex}
+use Rattle.ec_console.specs.Printing.{Prints}
+use Rattle.ec_console.specs.declared.refusal.Refusal.{Refusal}
+use Rattle.ec_console.specs.declared.refusal.Refusal.TheVariants.{Memory, Frame, BadHex}
 
 -- a slave at power-on without PDOs, with identity 0
 abbrev pub plain_slave : SlaveState

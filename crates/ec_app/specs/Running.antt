@@ -1,5 +1,5 @@
 -- How a run of `ecat` ends, whatever it was asked for (this project's profile).
-use Rattle.std.specs.Prelude.{◌≡◌, ◌≢◌, ◌⊎◌, ℕ, List, [], ◌∷◌, ◌++◌, map, Option, Result, Ok, Err, codes}
+use Rattle.std.specs.Prelude.{◌≡◌, ◌≢◌, ◌⊎◌, ℕ, true, false, List, [], ◌∷◌, ◌++◌, map, Option, None, Some, Result, Ok, Err, codes}
 use Rattle.std.specs.IoError.{error_kind}
 use Rattle.std.specs.Vec.Iter.{into_iter_items}
 use Rattle.std.specs.declared.alloc.Global.{Global}
@@ -8,20 +8,22 @@ use Rattle.std.specs.declared.io.ErrorKind.TheVariants.{OutOfMemory}
 use Rattle.std.specs.declared.string.String.{String}
 use Rattle.std.specs.declared.vec.IntoIter.{IntoIter}
 use Rattle.std.specs.String.{string_bytes}
-use Rattle.ec_args.specs.CommandLine.{Command, PassOf, PlanOf, SimOf, LoopOf, SegmentOf, Reads, command_of}
+use Rattle.ec_args.specs.Requests.{Command, PassOf, PlanOf, DecodeOf, EncodeOf, SimOf, LoopOf, SegmentOf, Reads, command_of}
 use Rattle.ec_args.specs.declared.request.Notice.{Notice}
 use Rattle.ec_args.specs.declared.request.Notice.TheVariants as notice
 use Rattle.ec_args.specs.declared.request.Request.{Request}
-use Rattle.ec_app.specs.declared.refusal.Refusal.{Refusal}
-use Rattle.ec_app.specs.declared.refusal.Refusal.TheVariants.{Memory}
+use Rattle.ec_console.specs.declared.refusal.Refusal.{Refusal}
+use Rattle.ec_console.specs.declared.refusal.Refusal.TheVariants.{Memory}
 use Rattle.ec_app.specs.Explaining.{MayTell, is_explained}
-use Rattle.ec_app.specs.Looping.{RunsLoop}
+use Rattle.ec_loop.specs.Looping.{RunsLoop}
 use Rattle.ec_app.specs.Passing.{RunsPass}
 use Rattle.ec_app.specs.Planning.{RunsPlan}
-use Rattle.ec_app.specs.Printing.{IsTold, Shows}
-use Rattle.ec_app.specs.Refusals.{line_of, status_of}
-use Rattle.ec_app.specs.Serving.{RunsSegment}
-use Rattle.ec_app.specs.Simulating.{RunsSim}
+use Rattle.ec_console.specs.Printing.{IsTold, Shows}
+use Rattle.ec_console.specs.Refusals.{line_of, status_of}
+use Rattle.ec_captured.specs.Capturing.{EndsWith}
+use Rattle.ec_segment.specs.Serving.{RunsCardSegment, RunsSegment}
+use Rattle.ec_translate.specs.Translating.{RunsDecode, RunsEncode}
+use Rattle.ec_sim.specs.Simulating.{RunsSim}
 
 -- what a stream holds before and after, where it is known
 pub record Stream : Type 0 where
@@ -32,22 +34,42 @@ pub record Stream : Type 0 where
 abbrev pub IsQuiet : Stream → Type 0
 IsQuiet told = told.new ≡ told.old
 
+-- `ecat segment` on a port; or on the card whose socket has a descriptor, where one is given, and nothing is told
+abbrev pub RunsSegmentOn : (descriptor : Option ℕ) → (frames port : ℕ) → (given : Option (List ℕ)) → (output told : Stream) → Result Unit Refusal → Type 0
+RunsSegmentOn None frames port given output told ended = RunsSegment frames port given output.old output.new told.old told.new ended
+RunsSegmentOn (Some descriptor) frames port given output told ended = RunsCardSegment frames given output.old output.new ended × IsQuiet told
+
+-- nothing is printed or told
+abbrev pub IsStill : (output told : Stream) → Type 0
+IsStill output told = IsQuiet output × IsQuiet told
+
+-- and with a capture, if its file is named
+abbrev pub RunsSegmentAt : (descriptor : Option ℕ) → (frames port : ℕ) → (file : Option (List ℕ)) → (given : Option (List ℕ)) → (output told : Stream) → Result Unit Refusal → Type 0
+RunsSegmentAt descriptor frames port file given output told ended =
+    EndsWith file (RunsSegmentOn descriptor frames port given output told) (IsStill output told) ended
+
 -- what a command does with the output, and what is told of it while it runs, by what the input gives, where that is known
 abbrev pub Runs : Command → (given : Option (List ℕ)) → (output told : Stream) → Result Unit Refusal → Type 0
 Runs (PassOf slaves text) given output told ended = RunsPass slaves text output.old output.new ended × IsQuiet told
 Runs (PlanOf explained) given output told ended = RunsPlan explained given output.old output.new ended × IsQuiet told
-Runs (SimOf explained) given output told ended = RunsSim given output.old output.new ended × IsQuiet told
-Runs (LoopOf cycles explained) given output told ended = RunsLoop cycles given output.old output.new told.old told.new ended
-Runs (SegmentOf frames port idle explained) given output told ended = RunsSegment frames port given output.old output.new told.old told.new ended
+Runs DecodeOf given output told ended = RunsDecode given output.old output.new ended × IsQuiet told
+Runs EncodeOf given output told ended = RunsEncode given output.old output.new ended × IsQuiet told
+Runs (SimOf capture explained) given output told ended = RunsSim given output.old output.new ended × IsQuiet told
+Runs (LoopOf cycles capture explained) given output told ended =
+    EndsWith capture (λ ended. RunsLoop cycles given output.old output.new told.old told.new ended) (IsStill output told) ended
+Runs (SegmentOf frames port descriptor idle capture explained) given output told ended =
+    RunsSegmentAt descriptor frames port capture given output told ended
 
 -- what a command leaves alone: one that reads no input leaves it as it is, and one with no simulated application steps
 -- none
 abbrev pub LeavesAlone : {R A : Type 0} → Command → (input_old input_new : R) → (app_old app_new : A) → Type 0
 LeavesAlone (PassOf slaves text) input_old input_new app_old app_new = (input_new ≡ input_old) × (app_new ≡ app_old)
 LeavesAlone (PlanOf explained) input_old input_new app_old app_new = app_new ≡ app_old
-LeavesAlone (SimOf explained) input_old input_new app_old app_new = app_new ≡ app_old
-LeavesAlone (LoopOf cycles explained) input_old input_new app_old app_new = Unit {0}
-LeavesAlone (SegmentOf frames port idle explained) input_old input_new app_old app_new = Unit {0}
+LeavesAlone DecodeOf input_old input_new app_old app_new = app_new ≡ app_old
+LeavesAlone EncodeOf input_old input_new app_old app_new = app_new ≡ app_old
+LeavesAlone (SimOf capture explained) input_old input_new app_old app_new = app_new ≡ app_old
+LeavesAlone (LoopOf cycles capture explained) input_old input_new app_old app_new = Unit {0}
+LeavesAlone (SegmentOf frames port descriptor idle capture explained) input_old input_new app_old app_new = Unit {0}
 
 -- the exit status of a run, and what is told of it: a refusal's line
 abbrev pub Tells : Stream → ℕ → Result Unit Refusal → Type 0
@@ -77,9 +99,11 @@ EndsAlone (Err told) input_old input_new app_old app_new = (input_new ≡ input_
 abbrev pub LeavesInput : {R : Type 0} → Command → (old new : R) → Type 0
 LeavesInput (PassOf slaves text) old new = new ≡ old
 LeavesInput (PlanOf explained) old new = Unit {0}
-LeavesInput (SimOf explained) old new = Unit {0}
-LeavesInput (LoopOf cycles explained) old new = Unit {0}
-LeavesInput (SegmentOf frames port idle explained) old new = Unit {0}
+LeavesInput DecodeOf old new = Unit {0}
+LeavesInput EncodeOf old new = Unit {0}
+LeavesInput (SimOf capture explained) old new = Unit {0}
+LeavesInput (LoopOf cycles capture explained) old new = Unit {0}
+LeavesInput (SegmentOf frames port descriptor idle capture explained) old new = Unit {0}
 
 -- what a run leaves of it: all, too, where there is something to tell in place of a command
 abbrev pub EndsUnread : {R : Type 0} → Result Request Notice → (old new : R) → Type 0

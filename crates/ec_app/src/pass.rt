@@ -3,8 +3,7 @@ ghost use Rattle.std.specs.Prelude.{◌≡◌, IfOk, IfErr, replicate};
 ghost use Rattle.std.specs.String.{string_bytes};
 ghost use Rattle.ec_app.specs.Passing.{IsAnswer, IsPassRefusal, RunsPass, SpellsPayload, plain_slave};
 
-use crate::Refusal;
-use crate::printing::print_text;
+use ec_console::{Refusal, print_text};
 use ec_frame::FrameError;
 use ec_frame::field::MAX_FRAME_LEN;
 use ec_regs::{Identity, SlaveType};

@@ -1,16 +1,14 @@
 //! `ecat plan`: a link table on the input, and its plan.
 ghost use Rattle.std.specs.Prelude.{◌≡◌, None, IfErr, IfOk, OnOk};
 ghost use Rattle.std.specs.String.{string_bytes};
-ghost use Rattle.ec_app.specs.Explaining.{IsLeft};
-ghost use Rattle.ec_app.specs.Planning.{IsPlanAnswer, IsShown, IsTableRefusal, RunsPlan};
-ghost use Rattle.ec_app.specs.Stages.{IsLinkRefusal};
+ghost use Rattle.ec_console.specs.Explaining.{IsLeft};
+ghost use Rattle.ec_app.specs.Planning.{IsPlanAnswer, IsShown, RunsPlan};
+ghost use Rattle.ec_console.specs.Given.{IsTableRefusal};
+ghost use Rattle.ec_console.specs.Given.{IsLinkRefusal};
 ghost use Rattle.ec_link.specs.Faults.{compile_fault};
 ghost use Rattle.ec_link.specs.Plan.{plan_of};
 
-use crate::Refusal;
-use crate::explain::Explanation;
-use crate::input::read_text;
-use crate::printing::print_text;
+use ec_console::{Explanation, Refusal, print_text, read_text};
 use ec_link::{Plan, compile};
 use ec_table::{Table, read_table};
 use ec_text::{explain_text, plan_text};

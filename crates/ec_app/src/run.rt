@@ -1,28 +1,73 @@
 //! All commands, by their arguments.
-ghost use Rattle.std.specs.Prelude.{◌≡◌, ◌∷◌, [], map, Contains, Result};
-ghost use Rattle.ec_args.specs.CommandLine.{Reads, command_of};
+ghost use Rattle.std.specs.Prelude.{◌≡◌, ◌∷◌, [], map, option_map, Contains, Result};
+ghost use Rattle.ec_args.specs.Requests.{Reads, command_of};
 ghost use Rattle.ec_args.specs.declared.request.Notice.{Notice as NoticeValue};
 ghost use Rattle.ec_args.specs.declared.request.Request.{Request as RequestValue};
-ghost use Rattle.ec_app.specs.Explaining.{IsLeft, is_explained};
-ghost use Rattle.ec_app.specs.Running.{Ends, EndsAlone, LeavesAlone, Runs, Tells, TellsWith};
+ghost use Rattle.ec_console.specs.Explaining.{IsLeft};
+ghost use Rattle.ec_app.specs.Explaining.{is_explained};
+ghost use Rattle.ec_app.specs.Running.{Ends, EndsAlone, LeavesAlone, Runs, RunsSegmentAt, Tells, TellsWith};
 
-use crate::Refusal;
-use crate::explain::Explanation;
-use crate::looping::print_loop;
 use crate::pass::print_pass;
 use crate::plan::print_plan;
-use crate::printing::{print_text, tell_and_end, tell_explained, tell_text};
-use crate::segment::print_segment;
-use crate::sim::print_sim;
 use ec_args::{Notice, Request, read_args};
+use ec_console::{Explanation, Refusal, print_text, tell_and_end, tell_explained, tell_text};
+use ec_loop::{capture_loop, print_loop};
+use ec_segment::{capture_card_segment, capture_segment, print_card_segment, print_segment};
+use ec_sim::print_sim;
+use ec_translate::{print_decode, print_encode};
 use ec_wire::App;
 use std::convert::AsStr;
+use std::fs::Files;
 use std::io::{Read, Write};
 use std::net::Net;
+use std::time::Clock;
+
+/// Where a segment waits for payloads, and how long for one.
+#[derive(Clone, Copy, Drop)]
+struct Place {
+    port: u16,
+    /// The socket of a card, in the place of the port.
+    descriptor: Option<u16>,
+    idle: u32,
+}
+
+/// Runs `ecat segment`, on a port or a card, with a capture or without.
+fn run_segment<H: AllocGlobal + Net + Files + Clock, R: Read, W: Write, F: Write>(
+    rt: &H,
+    frames: u32,
+    place: Place,
+    capture: Option<&str>,
+    input: &mut R,
+    output: &mut W,
+    faults: &mut F,
+    app: &mut dyn App,
+    behind: &mut Explanation,
+) -> Result<(), Refusal>
+    ensures runs { RunsSegmentAt place.descriptor frames place.port (option_map (λ file. file.now) capture.entry)
+        (R.remaining input.old) (record { old = W.contents output.old; new = W.contents output.new })
+        (record { old = F.contents faults.old; new = F.contents faults.new }) result }
+    ensures explains { IsLeft behind.old behind.new }
+{
+    let (port, idle) = (place.port, place.idle);
+    match (place.descriptor, capture) {
+        (None, None) => print_segment(rt, frames, port, idle, input, output, faults, app, behind),
+        (None, Some(file)) => {
+            capture_segment(
+                rt, frames, port, idle, file, input, output, faults, app, behind,
+            )
+        }
+        (Some(card), None) => {
+            print_card_segment(rt, frames, card, idle, input, output, app, behind)
+        }
+        (Some(card), Some(file)) => {
+            capture_card_segment(rt, frames, card, idle, file, input, output, app, behind)
+        }
+    }
+}
 
 /// Runs one command. The application and sockets are for the commands that simulate slaves or serve
 /// them; the fault stream is for what is told of a command while it runs.
-fn run_request<H: AllocGlobal + Net, R: Read, W: Write, F: Write>(
+fn run_request<H: AllocGlobal + Net + Files + Clock, R: Read, W: Write, F: Write>(
     rt: &H,
     request: Request<'_>,
     input: &mut R,
@@ -40,16 +85,36 @@ fn run_request<H: AllocGlobal + Net, R: Read, W: Write, F: Write>(
     match request {
         Request::Pass { slaves, frame } => print_pass(rt.alloc(), slaves.into(), frame, output),
         Request::Plan { explained } => print_plan(rt.alloc(), explained, input, output, behind),
-        Request::Sim { .. } => print_sim(rt.alloc(), input, output, behind),
-        Request::Loop { cycles, .. } => {
-            print_loop(rt, cycles, input, output, faults, app, behind)
-        }
+        Request::Decode => print_decode(rt.alloc(), input, output),
+        Request::Encode => print_encode(rt.alloc(), input, output),
+        Request::Sim { capture, .. } => print_sim(rt, capture, input, output, behind),
+        Request::Loop {
+            cycles,
+            capture: None,
+            ..
+        } => print_loop(rt, cycles, input, output, faults, app, behind),
+        Request::Loop {
+            cycles,
+            capture: Some(file),
+            ..
+        } => capture_loop(rt, cycles, file, input, output, faults, app, behind),
         Request::Segment {
             frames,
             port,
+            descriptor,
             idle,
+            capture,
             ..
-        } => print_segment(rt, frames, port, idle, input, output, faults, app, behind),
+        } => {
+            let place = Place {
+                port,
+                descriptor,
+                idle,
+            };
+            run_segment(
+                rt, frames, place, capture, input, output, faults, app, behind,
+            )
+        }
     }
 }
 
@@ -58,9 +123,9 @@ fn is_explained(request: &Request<'_>) -> bool
     ensures { result ≡ is_explained (command_of request.now) }
 {
     match *request {
-        Request::Pass { .. } => false,
+        Request::Pass { .. } | Request::Decode | Request::Encode => false,
         Request::Plan { explained }
-        | Request::Sim { explained }
+        | Request::Sim { explained, .. }
         | Request::Loop { explained, .. }
         | Request::Segment { explained, .. } => explained,
     }
@@ -90,7 +155,7 @@ fn explained_status<F: Write>(ended: Result<(), Refusal>, more: &[u8], faults: &
 
 /// Ends a run whose arguments were read: runs the command, or tells what there is to tell in its
 /// place, and answers the exit status.
-fn end_run<H: AllocGlobal + Net, R: Read, W: Write, F: Write>(
+fn end_run<H: AllocGlobal + Net + Files + Clock, R: Read, W: Write, F: Write>(
     rt: &H,
     read: Result<Request<'_>, Notice>,
     input: &mut R,
@@ -102,7 +167,7 @@ fn end_run<H: AllocGlobal + Net, R: Read, W: Write, F: Write>(
         (record { old = W.contents output.old; new = W.contents output.new })
         (record { old = F.contents faults.old; new = F.contents faults.new }) result }
     ensures alone { EndsAlone read.entry input.old input.new app.old app.new }
-    ensures status { Contains (0 ∷ 2 ∷ 3 ∷ 4 ∷ []) result }
+    ensures status { Contains (0 ∷ 2 ∷ 3 ∷ 4 ∷ 5 ∷ []) result }
     ensures unprinted { result ≡ 2 → output.new ≡ output.old }
 {
     match read {
@@ -122,12 +187,12 @@ fn end_run<H: AllocGlobal + Net, R: Read, W: Write, F: Write>(
 
 /// Runs the command that the arguments ask for, the first of which is the program's name, and
 /// answers the exit status: 0 done, also where help was asked for and is on the output; 2 the
-/// arguments ask for no command; 3 refused; 4 a fault of input or output. What failed is told on
-/// `faults`, with an explanation behind it where the arguments ask for one, and a fault in writing it
-/// changes nothing.
+/// arguments ask for no command; 3 refused; 4 a fault of input or output; 5 what a script expects
+/// wasn't so. What failed is told on `faults`, with an explanation behind it where the arguments ask
+/// for one, and a fault in writing it changes nothing.
 ///
 /// Simulated slaves take their inputs from `app`, and a command that reads a text reads `input`.
-pub fn run_command<H: AllocGlobal + Net, S: AsStr, R: Read, W: Write, F: Write>(
+pub fn run_command<H: AllocGlobal + Net + Files + Clock, S: AsStr, R: Read, W: Write, F: Write>(
     rt: &H,
     args: &[S],
     input: &mut R,
@@ -142,7 +207,7 @@ pub fn run_command<H: AllocGlobal + Net, S: AsStr, R: Read, W: Write, F: Write>(
         (record { old = W.contents output.old; new = W.contents output.new })
         (record { old = F.contents faults.old; new = F.contents faults.new }) result
         × EndsAlone read input.old input.new app.old app.new }
-    ensures status { Contains (0 ∷ 2 ∷ 3 ∷ 4 ∷ []) result }
+    ensures status { Contains (0 ∷ 2 ∷ 3 ∷ 4 ∷ 5 ∷ []) result }
     ensures unprinted { result ≡ 2 → output.new ≡ output.old }
 {
     end_run(rt, read_args(rt.alloc(), args), input, output, faults, app)

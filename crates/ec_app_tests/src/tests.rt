@@ -12,11 +12,13 @@ mod tables;
 
 use ec_app::{App, print_text, run_command};
 use std::alloc::{AllocError, Global};
+use std::fs::Files;
 use std::io;
 use std::io::{ErrorKind, Read, Write};
 use std::net::Net;
 use std::process::Abort;
 use std::test::Fail;
+use std::time::Clock;
 
 const FRAME: &str = "0e100701000030010200000000000000";
 
@@ -91,7 +93,7 @@ impl Write for Narrow {
 }
 
 /// Runs the program, and answers the exit status. It promises nothing, so what calls it is quickly checked.
-fn run_args<H: AllocGlobal + Net, R: Read, W: Write, F: Write>(
+fn run_args<H: AllocGlobal + Net + Files + Clock, R: Read, W: Write, F: Write>(
     rt: &H,
     args: &[&str],
     input: &mut R,
@@ -110,7 +112,11 @@ struct Ended {
 }
 
 /// Runs the program over memory.
-fn run_in_memory<H: AllocGlobal + Net>(rt: &H, args: &[&str], input: &[u8]) -> Ended {
+fn run_in_memory<H: AllocGlobal + Net + Files + Clock>(
+    rt: &H,
+    args: &[&str],
+    input: &[u8],
+) -> Ended {
     let mut input = input;
     let mut printed: Vec<u8> = Vec::new(rt.alloc());
     let mut told: Vec<u8> = Vec::new(rt.alloc());
@@ -133,7 +139,7 @@ struct Run<'a> {
 }
 
 /// Runs the program, and compares how it ends.
-fn expect_run<H: AllocGlobal + Net + Abort>(rt: &H, run: Run) {
+fn expect_run<H: AllocGlobal + Net + Files + Clock + Abort>(rt: &H, run: Run) {
     let (args, ended) = (run.args, run_in_memory(rt, run.args, run.input));
     assert_eq!(rt;
         (
@@ -264,7 +270,7 @@ const REFUSED_PASSES: [Pass; 11] = [
 ];
 
 /// Runs `ecat pass` with these args, and compares what is printed, or what is told.
-fn expect_line<H: AllocGlobal + Net + Abort>(
+fn expect_line<H: AllocGlobal + Net + Files + Clock + Abort>(
     rt: &H,
     slaves: &str,
     hex: &str,
@@ -298,7 +304,10 @@ fn line_of(alloc: Global, zeros: usize, back: Result<&str, &str>) -> Result<Stri
 }
 
 /// How `ecat pass` ends: with what it prints, or with what it tells.
-fn expect_pass<H: AllocGlobal + Net + Abort>(rt: &H, pass: Pass) -> Result<(), Fail> {
+fn expect_pass<H: AllocGlobal + Net + Files + Clock + Abort>(
+    rt: &H,
+    pass: Pass,
+) -> Result<(), Fail> {
     let (slaves, zeros, sent, back) = pass;
     let sent = digits(rt.alloc(), sent, zeros)?;
     let line = line_of(rt.alloc(), zeros, back)?;
@@ -333,7 +342,7 @@ fn holds(text: &[u8], part: &[u8]) -> bool {
 
 /// Runs args that are at fault, or ask for help: what is printed or told, and not both, begins with
 /// one text and holds another.
-fn expect_usage<H: AllocGlobal + Net + Abort>(
+fn expect_usage<H: AllocGlobal + Net + Files + Clock + Abort>(
     rt: &H,
     args: &[&str],
     status: u8,
@@ -374,7 +383,7 @@ fn tells_a_fault_of_the_args(rt: HostRuntime) {
         (
             &["ecat", "loop"],
             missing,
-            "Usage: ecat loop --cycles <N> [--explain] < TABLE",
+            "Usage: ecat loop --cycles <N> [--capture <FILE>] [--explain] < TABLE",
         ),
         (
             &["ecat", "plan", "a.toml"],
@@ -384,12 +393,17 @@ fn tells_a_fault_of_the_args(rt: HostRuntime) {
         (
             &["ecat", "sim", "a.toml"],
             "error: unexpected argument 'a.toml'",
-            "ecat sim [--explain] < TABLE_AND_SCRIPT",
+            "ecat sim [--capture <FILE>] [--explain] < TABLE_AND_SCRIPT",
+        ),
+        (
+            &["ecat", "decode", "07"],
+            "error: unexpected argument '07'",
+            "ecat decode < PAYLOADS",
         ),
         (
             &["ecat", "segment"],
             missing,
-            "--frames <N> [--port <P>] [--idle <SECONDS>] [--explain] < TABLE",
+            "--frames <N> [--port <P> | --descriptor <N>] [--idle <SECONDS>] [--capture <FILE>] [--explain] < TABLE",
         ),
     ] {
         expect_usage(&rt, args, 2, begins, line);
@@ -422,7 +436,11 @@ fn prints_the_help_that_is_asked_for(rt: HostRuntime) {
 }
 
 /// Runs the program on an output that takes nothing.
-fn expect_full_output<H: AllocGlobal + Net + Abort>(rt: &H, args: &[&str], input: &[u8]) {
+fn expect_full_output<H: AllocGlobal + Net + Files + Clock + Abort>(
+    rt: &H,
+    args: &[&str],
+    input: &[u8],
+) {
     let mut input = input;
     let mut faults: Vec<u8> = Vec::new(rt.alloc());
     let mut output = Narrow { left: 0 };
@@ -440,7 +458,7 @@ fn tells_a_full_output(rt: HostRuntime) {
 }
 
 /// Runs the program on an output that isn't handed on.
-fn expect_stuck_output<H: AllocGlobal + Net + Abort>(rt: &H, args: &[&str]) {
+fn expect_stuck_output<H: AllocGlobal + Net + Files + Clock + Abort>(rt: &H, args: &[&str]) {
     let mut input: &[u8] = b"";
     let mut faults: Vec<u8> = Vec::new(rt.alloc());
     let mut output = Stuck { flushes: 0 };
@@ -454,7 +472,11 @@ fn expect_stuck_output<H: AllocGlobal + Net + Abort>(rt: &H, args: &[&str]) {
 }
 
 /// Runs the program where what it tells isn't handed on.
-fn expect_stuck_faults<H: AllocGlobal + Net + Abort>(rt: &H, args: &[&str], status: u8) {
+fn expect_stuck_faults<H: AllocGlobal + Net + Files + Clock + Abort>(
+    rt: &H,
+    args: &[&str],
+    status: u8,
+) {
     let mut input: &[u8] = b"";
     let mut output: Vec<u8> = Vec::new(rt.alloc());
     let mut faults = Stuck { flushes: 0 };

@@ -10,9 +10,11 @@ use self::sizes::{filled_up, table_of_size};
 use ec_app::run_command;
 use ec_random::{Random, random_script, random_table};
 use ec_wire::Echo;
+use std::fs::Files;
 use std::net::Net;
 use std::process::Abort;
 use std::test::Fail;
+use std::time::Clock;
 
 /// How a run of the program ended: its exit status, what it printed and what it told.
 #[derive(Drop)]
@@ -23,7 +25,7 @@ struct Ended {
 }
 
 /// Runs the program, with applications that show their slaves' outputs as inputs.
-fn run<H: AllocGlobal + Net>(rt: &H, args: &[&str], input: &str) -> Ended {
+fn run<H: AllocGlobal + Net + Files + Clock>(rt: &H, args: &[&str], input: &str) -> Ended {
     let mut input = input.as_bytes();
     let mut printed: Vec<u8> = Vec::new(rt.alloc());
     let mut told: Vec<u8> = Vec::new(rt.alloc());
@@ -36,14 +38,46 @@ fn run<H: AllocGlobal + Net>(rt: &H, args: &[&str], input: &str) -> Ended {
 }
 
 /// Runs the program, which must end well, print this and tell nothing.
-fn expect_printed<H: AllocGlobal + Net + Abort>(rt: &H, args: &[&str], input: &str, printed: &str) {
+fn expect_printed<H: AllocGlobal + Net + Files + Clock + Abort>(
+    rt: &H,
+    args: &[&str],
+    input: &str,
+    printed: &str,
+) {
     let ended = run(rt, args, input);
     assert_eq!(rt; (ended.status, ended.told.len()), (0, 0));
     assert!(rt; ended.printed.as_slice() == printed.as_bytes());
 }
 
+/// How often what a script expects wasn't so, by what it printed.
+fn unmet_in(printed: &str) -> usize {
+    printed
+        .lines()
+        .filter(|line| line.starts_with("unmet "))
+        .count()
+}
+
+/// `ecat sim` prints this, and ends with status 5 where a line of it says that what is expected isn't so.
+fn expect_run<H: AllocGlobal + Net + Files + Clock + Abort>(
+    rt: &H,
+    input: &str,
+    printed: &str,
+) -> Result<(), Fail> {
+    let ended = run(rt, &["ecat", "sim"], input);
+    let unmet = unmet_in(printed);
+    let told = if unmet == 0 {
+        String::new(rt.alloc())
+    } else {
+        format!(in rt.alloc(); "ecat: 45 Unmet {unmet}\n")?
+    };
+    assert_eq!(rt; ended.status, if unmet == 0 { 0 } else { 5 });
+    assert!(rt; ended.told.as_slice() == told.as_bytes());
+    assert!(rt; ended.printed.as_slice() == printed.as_bytes());
+    Ok(())
+}
+
 /// `ecat plan` and `ecat sim` print what the calls answer to a table and a script.
-fn expect_answers<H: AllocGlobal + Net + Abort>(
+fn expect_answers<H: AllocGlobal + Net + Files + Clock + Abort>(
     rt: &H,
     table: &str,
     script: &str,
@@ -51,12 +85,14 @@ fn expect_answers<H: AllocGlobal + Net + Abort>(
     let (plan, printed) = answers(rt.alloc(), table, script)?;
     let input = format!(in rt.alloc(); "{table}%%\n{script}")?;
     expect_printed(rt, &["ecat", "plan"], table, plan.as_str());
-    expect_printed(rt, &["ecat", "sim"], input.as_str(), printed.as_str());
-    Ok(())
+    expect_run(rt, input.as_str(), printed.as_str())
 }
 
 /// The same of a table and a script that a seed decides.
-fn expect_script<H: AllocGlobal + Net + Abort>(rt: &H, seed: u64) -> Result<(), Fail> {
+fn expect_script<H: AllocGlobal + Net + Files + Clock + Abort>(
+    rt: &H,
+    seed: u64,
+) -> Result<(), Fail> {
     let mut random = Random::new(seed);
     let table = random_table(rt.alloc(), &mut random)?;
     let script = random_script(rt.alloc(), &mut random, table.as_str())?;
@@ -72,7 +108,10 @@ fn joined(rt: HostRuntime) -> Result<(), Fail> {
 }
 
 /// Three cycles by `ecat loop`, over the system's sockets, of the table that a seed decides, and as events of a world.
-fn expect_cycles<H: AllocGlobal + Net + Abort>(rt: &H, seed: u64) -> Result<(), Fail> {
+fn expect_cycles<H: AllocGlobal + Net + Files + Clock + Abort>(
+    rt: &H,
+    seed: u64,
+) -> Result<(), Fail> {
     let mut random = Random::new(seed);
     let table = random_table(rt.alloc(), &mut random)?;
     let printed = cycles_of(rt.alloc(), table.as_str())?;
@@ -98,14 +137,23 @@ fn joined_by_loops(rt: HostRuntime) -> Result<(), Fail> {
 }
 
 /// Runs the program, which must end well and tell nothing; whether what it printed begins with these bytes.
-fn expect_well<H: AllocGlobal + Net + Abort>(rt: &H, args: &[&str], input: &str, first: &str) {
+fn expect_well<H: AllocGlobal + Net + Files + Clock + Abort>(
+    rt: &H,
+    args: &[&str],
+    input: &str,
+    first: &str,
+) {
     let ended = run(rt, args, input);
     assert_eq!(rt; (ended.status, ended.told.len()), (0, 0));
     assert!(rt; ended.printed.as_slice().starts_with(first.as_bytes()));
 }
 
 /// The plan of a table, and a start-up and a cycle of it, in a world.
-fn expect_size<H: AllocGlobal + Net + Abort>(rt: &H, slaves: u32, count: u32) -> Result<(), Fail> {
+fn expect_size<H: AllocGlobal + Net + Files + Clock + Abort>(
+    rt: &H,
+    slaves: u32,
+    count: u32,
+) -> Result<(), Fail> {
     let table = table_of_size(rt.alloc(), slaves, count)?;
     let input = format!(in rt.alloc(); "{table}%%\nready\ncycle\nshow\n")?;
     let first = if slaves == 0 {
@@ -141,7 +189,10 @@ fn each_number_of_links_has_room(rt: HostRuntime) -> Result<(), Fail> {
 }
 
 /// The plan of a table that is so many bytes long.
-fn expect_length<H: AllocGlobal + Net + Abort>(rt: &H, len: usize) -> Result<(), Fail> {
+fn expect_length<H: AllocGlobal + Net + Files + Clock + Abort>(
+    rt: &H,
+    len: usize,
+) -> Result<(), Fail> {
     let table = table_of_size(rt.alloc(), 3, 16)?;
     let input = filled_up(rt.alloc(), table.as_str(), len)?;
     expect_well(

@@ -6,75 +6,158 @@ use std::fmt::Write as _;
 /// So many lines stand behind the start-up.
 const LINES: u32 = 20;
 
-/// An output variable of a table.
+/// A variable of a table.
 #[derive(Clone, Copy, Drop)]
-struct Output<'a> {
+struct Named<'a> {
     name: &'a str,
     bits: u32,
+    is_output: bool,
 }
 
-/// The output variable in the lines behind a section's head, as `random_table` writes them; none where they are another section's.
-fn output_in(lines: &str) -> Option<Output<'_>> {
+/// The variable in the lines behind a section's head, as `random_table` writes them; none where they are another section's.
+fn variable_in(lines: &str) -> Option<Named<'_>> {
     let mut lines = lines.lines();
     let name = lines.next()?.strip_prefix("name = \"")?.strip_suffix("\"")?;
-    if lines.next()? != "dir = \"out\"" {
-        return None;
-    }
+    let direction = lines.next()?.strip_prefix("dir = \"")?;
     let bits = lines.next()?.strip_prefix("bits = ")?.parse::<u32>().ok()?;
-    Some(Output { name, bits })
+    Some(Named {
+        name,
+        bits,
+        is_output: direction == "out\"",
+    })
 }
 
-/// The output variables of a table.
-fn outputs_of(alloc: Global, table: &str) -> Result<Vec<Output<'_>>, AllocError> {
-    let mut outputs = Vec::new(alloc);
+/// The variables of a table.
+fn variables_of(alloc: Global, table: &str) -> Result<Vec<Named<'_>>, AllocError> {
+    let mut variables = Vec::new(alloc);
     for lines in table.split("[[variable]]\n") {
-        if let Some(output) = output_in(lines) {
-            outputs.push(output)?;
+        if let Some(variable) = variable_in(lines) {
+            variables.push(variable)?;
         }
     }
-    Ok(outputs)
+    Ok(variables)
 }
 
-/// A line that sets one of these variables to a value that it holds; where there is none, a line that shows the inputs.
+/// One of these variables; none where there is none.
+fn one_of<'a>(random: &mut Random, variables: &[Named<'a>]) -> Option<Named<'a>> {
+    let place = random.place(variables.len());
+    variables.get(place).copied()
+}
+
+/// A value in decimal, in hex or with a sign, which most times the variable's bits hold.
+fn write_value(random: &mut Random, text: &mut String, bits: u32) -> Result<(), AllocError> {
+    let spare = 32u32.saturating_sub(bits);
+    let value = random.word().checked_shr(spare).unwrap_or(0);
+    match random.below(5) {
+        0 => write!(text, " 0x{value:x}"),
+        1 => write!(text, " -{value}"),
+        2 => write!(text, " 0"),
+        _ => write!(text, " {value}"),
+    }
+}
+
+/// A line of a word, a variable and a value; where there is no variable, a line that shows the inputs.
+fn write_valued(
+    random: &mut Random,
+    text: &mut String,
+    word: &str,
+    variable: Option<Named<'_>>,
+) -> Result<(), AllocError> {
+    let Some(variable) = variable else {
+        return write!(text, "show");
+    };
+    let name = variable.name;
+    write!(text, "{word} {name}")?;
+    write_value(random, text, variable.bits)
+}
+
+/// A line that sets an output variable, or has the slaves publish an input variable.
 fn write_set(
     random: &mut Random,
     text: &mut String,
-    outputs: &[Output<'_>],
+    variables: &[Named<'_>],
 ) -> Result<(), AllocError> {
-    let place = random.place(outputs.len());
-    let Some(output) = outputs.get(place) else {
-        return writeln!(text, "show");
+    let variable = one_of(random, variables);
+    let word = match variable {
+        Some(found) if !found.is_output => "in",
+        _ => "set",
     };
-    let name = output.name;
-    let spare = 32u32.saturating_sub(output.bits);
-    let value = random.word().checked_shr(spare).unwrap_or(0);
-    writeln!(text, "set {name} {value}")
+    write_valued(random, text, word, variable)
 }
 
-/// A line that names no variable, so that it is a line of a script on every table, or one that sets one of these.
+/// A line that expects something of the last report or of the start-up.
+fn write_outcome(random: &mut Random, text: &mut String) -> Result<(), AllocError> {
+    let unit = random.below(3);
+    match random.below(6) {
+        0 => write!(text, "expect taken"),
+        1 => write!(text, "expect untaken"),
+        2 => write!(text, "expect taken {unit}"),
+        3 => write!(text, "expect failed"),
+        4 => write!(text, "expect failed 32"),
+        _ => write!(text, "expect ready"),
+    }
+}
+
+/// A line that expects something of the world.
+fn write_expectation(
+    random: &mut Random,
+    text: &mut String,
+    variables: &[Named<'_>],
+) -> Result<(), AllocError> {
+    let slave = random.below(5);
+    match random.below(4) {
+        0 => write!(text, "expect state {slave} OP"),
+        1 => write!(text, "expect state {slave} PREOP 0000"),
+        2 => write_outcome(random, text),
+        _ => {
+            let variable = one_of(random, variables);
+            write_valued(random, text, "expect", variable)
+        }
+    }
+}
+
+/// What a line does: a line of a script on every table, if it names no variable.
+fn write_act(
+    random: &mut Random,
+    text: &mut String,
+    variables: &[Named<'_>],
+) -> Result<(), AllocError> {
+    let (first, second, byte) = (random.below(5), random.below(3), random.byte());
+    match random.below(22) {
+        0 => write!(text, "start"),
+        1 => write!(text, "begin"),
+        2 => write!(text, "pass {first}"),
+        3 => write!(text, "lose {second}"),
+        4 => write!(text, "return {second}"),
+        5 => write!(text, "close"),
+        6 => write!(text, "serve {first}"),
+        7 => write!(text, "put {first} {second} {byte}"),
+        8 => write!(text, "get {first} {second}"),
+        9 => write!(text, "fault {first}"),
+        10 => write!(text, "reset {first}"),
+        11 | 12 => write!(text, "ready"),
+        13 | 14 => write!(text, "cycle"),
+        15 | 16 | 17 => write_set(random, text, variables),
+        18 | 19 | 20 => write_expectation(random, text, variables),
+        _ => write!(text, "show"),
+    }
+}
+
+/// A line, some with `repeat` before what it does, and some with a comment behind it.
 fn write_line(
     random: &mut Random,
     text: &mut String,
-    outputs: &[Output<'_>],
+    variables: &[Named<'_>],
 ) -> Result<(), AllocError> {
-    let (first, second, byte) = (random.below(5), random.below(3), random.byte());
-    match random.below(18) {
-        0 => writeln!(text, "start"),
-        1 => writeln!(text, "begin"),
-        2 => writeln!(text, "pass {first}"),
-        3 => writeln!(text, "lose {second}"),
-        4 => writeln!(text, "return {second}"),
-        5 => writeln!(text, "close"),
-        6 => writeln!(text, "serve {first}"),
-        7 => writeln!(text, "put {first} {second} {byte}"),
-        8 => writeln!(text, "get {first} {second}"),
-        9 => writeln!(text, "fault {first}"),
-        10 => writeln!(text, "reset {first}"),
-        11 | 12 => writeln!(text, "ready"),
-        13 | 14 => writeln!(text, "cycle"),
-        15 | 16 => write_set(random, text, outputs),
-        _ => writeln!(text, "show"),
+    if random.in_hundred(15) {
+        let times = 1 + random.below(4);
+        write!(text, "repeat {times} ")?;
     }
+    write_act(random, text, variables)?;
+    if random.in_hundred(10) {
+        write!(text, "  # as it comes")?;
+    }
+    writeln!(text)
 }
 
 /// The text of a script on a table that `random_table` made: a start-up, and twenty lines at random. Each can be made or not, as the
@@ -84,10 +167,10 @@ pub fn random_script(
     random: &mut Random,
     table: &str,
 ) -> Result<String, AllocError> {
-    let outputs = outputs_of(alloc, table)?;
+    let variables = variables_of(alloc, table)?;
     let mut text = String::from_str(alloc, "ready\n")?;
     for _ in 0..LINES {
-        write_line(random, &mut text, outputs.as_slice())?;
+        write_line(random, &mut text, variables.as_slice())?;
     }
     Ok(text)
 }

@@ -1,13 +1,15 @@
 //! Refusals that are explained: behind the line that is told as ever there is more.
 use crate::tests::tables::THREE_SLAVES;
 use crate::tests::{Narrow, run_args, run_in_memory};
+use std::fs::Files;
 use std::net::Net;
 use std::process::Abort;
 use std::test::Fail;
+use std::time::Clock;
 
 /// Runs the program, and compares what it tells: the line of a refusal first, and behind it these
 /// phrases.
-pub fn expect_explanation<H: AllocGlobal + Net + Abort>(
+pub fn expect_explanation<H: AllocGlobal + Net + Files + Clock + Abort>(
     rt: &H,
     args: &[&str],
     input: &[u8],

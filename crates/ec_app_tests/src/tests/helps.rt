@@ -9,9 +9,11 @@ use ec_regs::Device;
 use ec_start::StartError;
 use ec_table::{Fault, Place, Section, TableError};
 use ec_wire::RunError;
+use std::fs::Files;
 use std::net::Net;
 use std::process::Abort;
 use std::test::Fail;
+use std::time::Clock;
 
 const PLACE: Place = Place {
     section: Section::Top,
@@ -52,9 +54,10 @@ const OF_PLAN: [Refusal; 19] = [
     Refusal::Input,
 ];
 
-const OF_SIM: [Refusal; 4] = [
+const OF_SIM: [Refusal; 5] = [
     Refusal::Memory,
     Refusal::Script(ScriptError::BadScript(1)),
+    Refusal::Unmet(1),
     Refusal::Output,
     Refusal::Input,
 ];
@@ -98,8 +101,22 @@ const OF_SEGMENT: [Refusal; 4] = [
     Refusal::Socket,
 ];
 
+const OF_DECODE: [Refusal; 4] = [
+    Refusal::Memory,
+    Refusal::BadHex,
+    Refusal::Output,
+    Refusal::Input,
+];
+
+const OF_ENCODE: [Refusal; 4] = [
+    Refusal::Memory,
+    Refusal::Script(ScriptError::BadScript(1)),
+    Refusal::Output,
+    Refusal::Input,
+];
+
 /// The help of a command has these refusals, each by its number and its name.
-fn expect_listed<H: AllocGlobal + Net + Abort>(
+fn expect_listed<H: AllocGlobal + Net + Files + Clock + Abort>(
     rt: &H,
     command: &str,
     refusals: &[Refusal],
@@ -117,6 +134,8 @@ fn expect_listed<H: AllocGlobal + Net + Abort>(
 fn helps_list_the_refusals(rt: HostRuntime) -> Result<(), Fail> {
     expect_listed(&rt, "pass", &OF_PASS)?;
     expect_listed(&rt, "plan", &OF_PLAN)?;
+    expect_listed(&rt, "decode", &OF_DECODE)?;
+    expect_listed(&rt, "encode", &OF_ENCODE)?;
     expect_listed(&rt, "sim", &OF_SIM)?;
     expect_listed(&rt, "loop", &OF_LOOP)?;
     expect_listed(&rt, "segment", &OF_SEGMENT)
@@ -132,6 +151,10 @@ fn helps_say_the_limits(rt: HostRuntime) {
             "The UDP port on 127.0.0.1, 1 to 65535 [default: 34980]",
         ),
         ("segment", "0 to 86400; 0 is without an end [default: 60]"),
+        (
+            "segment",
+            "In its place, the descriptor of a network card's open raw socket, 0 to 1023",
+        ),
     ] {
         expect_usage(&rt, &["ecat", command, "--help"], 0, "", limit);
     }

@@ -12,12 +12,14 @@ use ec_start::StartError;
 use ec_table::{Table, read_table};
 use ec_wire::{Echo, MemoryWire, RunError};
 use std::alloc::Global;
+use std::fs::Files;
 use std::net::Net;
 use std::process::Abort;
 use std::test::Fail;
+use std::time::Clock;
 
 /// Runs two cycles of the three slaves whose applications do nothing, and answers the exit status and what is printed.
-fn loop_idle<H: AllocGlobal + Net>(rt: &H) -> (u8, Vec<u8>) {
+fn loop_idle<H: AllocGlobal + Net + Files + Clock>(rt: &H) -> (u8, Vec<u8>) {
     let mut output: Vec<u8> = Vec::new(rt.alloc());
     let mut faults: Vec<u8> = Vec::new(rt.alloc());
     let args = ["ecat", "loop", "--cycles", "2"];
@@ -45,7 +47,7 @@ struct Loop<'a> {
 }
 
 /// Runs `ecat loop`, and compares how it ends.
-fn expect_loop<H: AllocGlobal + Net + Abort>(rt: &H, run: Loop) {
+fn expect_loop<H: AllocGlobal + Net + Files + Clock + Abort>(rt: &H, run: Loop) {
     let mut output: Vec<u8> = Vec::new(rt.alloc());
     let mut faults: Vec<u8> = Vec::new(rt.alloc());
     let args = ["ecat", "loop", "--cycles", run.cycles];

@@ -9,18 +9,20 @@ use crate::tests::tables::{
 use crate::tests::{Run, expect_run, run_args};
 use ec_app::read_text;
 use std::alloc::{AllocError, Global};
+use std::fs::Files;
 use std::io;
 use std::io::{ErrorKind, Read};
 use std::net::Net;
 use std::process::Abort;
 use std::test::Fail;
+use std::time::Clock;
 
 const PLAN: [&str; 2] = ["ecat", "plan"];
 
 const EXPLAIN: [&str; 3] = ["ecat", "plan", "--explain"];
 
 /// Runs the program on a table, and compares what is printed.
-pub fn expect_printed<H: AllocGlobal + Net + Abort>(
+pub fn expect_printed<H: AllocGlobal + Net + Files + Clock + Abort>(
     rt: &H,
     args: &[&str],
     table: &str,
@@ -37,7 +39,7 @@ pub fn expect_printed<H: AllocGlobal + Net + Abort>(
 }
 
 /// Makes the plan of an input that has none, and compares what is told.
-fn expect_told<H: AllocGlobal + Net + Abort>(
+fn expect_told<H: AllocGlobal + Net + Files + Clock + Abort>(
     rt: &H,
     args: &[&str],
     input: &[u8],
@@ -101,7 +103,7 @@ fn prints_split_counters(rt: HostRuntime) -> Result<(), Fail> {
 }
 
 /// The legend and what stands below it, in lines of at most 100 bytes.
-fn expect_explained<H: AllocGlobal + Net + Abort>(
+fn expect_explained<H: AllocGlobal + Net + Files + Clock + Abort>(
     rt: &H,
     table: &str,
     explained: &str,
@@ -134,7 +136,7 @@ fn changed_by(alloc: Global, table: &str, change: &str) -> Result<String, Fail> 
 }
 
 /// Makes the change `OLD => NEW`, `|` being the end of a line, of which a refusal is told.
-fn expect_refused<H: AllocGlobal + Net + Abort>(
+fn expect_refused<H: AllocGlobal + Net + Files + Clock + Abort>(
     rt: &H,
     table: &str,
     change: &str,
@@ -280,7 +282,7 @@ fn reads_on_past_interruptions(rt: HostRuntime) {
 }
 
 /// `ecat plan` on an input that can't be read.
-fn expect_input<H: AllocGlobal + Net + Abort, R: Read>(rt: &H, input: &mut R) {
+fn expect_input<H: AllocGlobal + Net + Files + Clock + Abort, R: Read>(rt: &H, input: &mut R) {
     let mut output: Vec<u8> = Vec::new(rt.alloc());
     let mut faults: Vec<u8> = Vec::new(rt.alloc());
     let status = run_args(rt, &PLAN, input, &mut output, &mut faults);

@@ -4,8 +4,10 @@ use crate::tests::FRAME;
 use ec_app::run_program;
 use std::env;
 use std::env::{Env, FillError};
+use std::fs::Files;
 use std::net::Net;
 use std::process::Abort;
+use std::time::Clock;
 
 /// A system with arguments of a test.
 #[derive(Drop)]
@@ -35,7 +37,7 @@ impl Env for Called<'_> {
 }
 
 /// Runs the program on these arguments, and compares the exit status and what was printed.
-fn expect_program<H: AllocGlobal + Net + Abort>(
+fn expect_program<H: AllocGlobal + Net + Files + Clock + Abort>(
     rt: &H,
     args: &[&[u8]],
     status: u8,

@@ -4,9 +4,11 @@ use crate::tests::Idle;
 use crate::tests::tables::THREE_SLAVES;
 use ec_app::run_command;
 use ec_wire::UdpWire;
+use std::fs::Files;
 use std::net::Net;
 use std::process::Abort;
 use std::test::Fail;
+use std::time::Clock;
 
 /// Which port a segment is told to listen on.
 #[derive(Clone, Copy, Debug, PartialEq, Eq, Drop)]
@@ -29,7 +31,7 @@ struct Segment<'a> {
 }
 
 /// Runs `ecat segment` on a port. What it answers is told by no clause, so that the comparisons behind it carry nothing of it.
-fn run_on<H: AllocGlobal + Net>(
+fn run_on<H: AllocGlobal + Net + Files + Clock>(
     rt: &H,
     run: Segment,
     port: &str,
@@ -44,7 +46,7 @@ fn run_on<H: AllocGlobal + Net>(
 }
 
 /// Runs `ecat segment` on a port, and compares how it ends.
-fn expect_segment<H: AllocGlobal + Net + Abort>(
+fn expect_segment<H: AllocGlobal + Net + Files + Clock + Abort>(
     rt: &H,
     run: Segment,
     port: u16,

@@ -4,9 +4,11 @@ use crate::tests::plans::expect_printed;
 use crate::tests::tables::{THREE_SLAVES, VALVES_AND_SWITCHES};
 use crate::tests::{Run, expect_run};
 use std::alloc::Global;
+use std::fs::Files;
 use std::net::Net;
 use std::process::Abort;
 use std::test::Fail;
+use std::time::Clock;
 
 /// Scripts on the table of three slaves, and what they print; `;` stands for the end of a line.
 const THREE_SLAVES_RUNS: [(&str, &str); 8] = [
@@ -102,10 +104,30 @@ const BAD_LINES: [(&str, usize); 16] = [
     ("cycle;Show;", 2),
 ];
 
+/// Scripts that expect what isn't so, what they print, and how often it isn't.
+const UNMET_RUNS: [(&str, &str, u64); 4] = [
+    (
+        "ready;expect a 1;expect failed;cycle;expect taken;",
+        "ready;unmet 2;unmet 3;report taken missing 0 counters 6 al 0008;",
+        2,
+    ),
+    ("repeat 3 expect ready", "unmet 1;unmet 1;unmet 1;", 3),
+    (
+        "expect ready;repeat 2 begin;ready;expect ready",
+        "unmet 1;no 2;no 2;ready;",
+        1,
+    ),
+    (
+        "repeat 2 expect c -9;repeat 2 expect c 0",
+        "unmet 1;unmet 1;",
+        2,
+    ),
+];
+
 const SIM: [&str; 2] = ["ecat", "sim"];
 
 /// Runs a script over a table, and compares how the run ends.
-fn expect_sim<H: AllocGlobal + Net + Abort>(
+fn expect_sim<H: AllocGlobal + Net + Files + Clock + Abort>(
     rt: &H,
     table: &str,
     script: &str,
@@ -128,7 +150,7 @@ fn expect_sim<H: AllocGlobal + Net + Abort>(
 }
 
 /// Scripts over a table, each with what it prints.
-fn expect_runs<H: AllocGlobal + Net + Abort>(
+fn expect_runs<H: AllocGlobal + Net + Files + Clock + Abort>(
     rt: &H,
     table: &str,
     runs: &[(&str, &str)],
@@ -140,7 +162,7 @@ fn expect_runs<H: AllocGlobal + Net + Abort>(
 }
 
 /// Runs a script that is refused, and compares what is told.
-fn expect_refusal<H: AllocGlobal + Net + Abort>(
+fn expect_refusal<H: AllocGlobal + Net + Files + Clock + Abort>(
     rt: &H,
     table: &str,
     script: &str,
@@ -151,7 +173,7 @@ fn expect_refusal<H: AllocGlobal + Net + Abort>(
 }
 
 /// Runs a script over three slaves whose first bad line has a number.
-fn expect_bad_line<H: AllocGlobal + Net + Abort>(
+fn expect_bad_line<H: AllocGlobal + Net + Files + Clock + Abort>(
     rt: &H,
     script: &str,
     line: usize,
@@ -169,6 +191,25 @@ fn changed(alloc: Global, old: &str, new: &str) -> Result<String, Fail> {
 #[test]
 fn runs_scripts(rt: HostRuntime) -> Result<(), Fail> {
     expect_runs(&rt, THREE_SLAVES, &THREE_SLAVES_RUNS)
+}
+
+/// Runs a script over three slaves that expects what isn't so.
+fn expect_unmet<H: AllocGlobal + Net + Files + Clock + Abort>(
+    rt: &H,
+    script: &str,
+    printed: &str,
+    count: u64,
+) -> Result<(), Fail> {
+    let told = format!(in rt.alloc(); "ecat: 45 Unmet {count}\n")?;
+    expect_sim(rt, THREE_SLAVES, script, 5, printed, told.as_str())
+}
+
+#[test]
+fn tells_what_is_unmet(rt: HostRuntime) -> Result<(), Fail> {
+    for (script, printed, count) in UNMET_RUNS {
+        expect_unmet(&rt, script, printed, count)?;
+    }
+    Ok(())
 }
 
 #[test]

@@ -9,6 +9,24 @@ use ec_table::{Table, read_table};
 use ec_world::World;
 use std::alloc::{AllocError, Global};
 
+/// What a line prints, each time that it is done, by the calls.
+fn said_of(
+    alloc: Global,
+    table: &Table,
+    world: &mut World,
+    line: &Line,
+    printed: &mut String,
+) -> Result<(), AllocError>
+    requires { world.old.plan ≡ plan_of table.now }
+    ensures { world.new.plan ≡ world.old.plan }
+{
+    for _ in 0..line.times {
+        let text = run_line(alloc, world, table, line)?;
+        printed.push_str(text.as_str())?;
+    }
+    Ok(())
+}
+
 /// What the lines of a script print, by the calls.
 fn said(
     alloc: Global,
@@ -20,8 +38,7 @@ fn said(
 {
     let mut printed = String::new(alloc);
     for line in lines {
-        let text = run_line(alloc, world, table, line)?;
-        printed.push_str(text.as_str())?;
+        said_of(alloc, table, world, line, &mut printed)?;
     }
     Ok(printed)
 }

@@ -4,9 +4,9 @@ use std::process::Abort;
 use std::test::Fail;
 
 /// The first words of a script's lines.
-const WORDS: [&str; 15] = [
+const WORDS: [&str; 18] = [
     "start", "set", "begin", "pass", "lose", "return", "close", "serve", "put", "get", "fault",
-    "reset", "ready", "cycle", "show",
+    "reset", "ready", "cycle", "show", "in", "expect", "repeat",
 ];
 
 /// More than half of the tables are unlike, and more than half have a slave.

@@ -1,4 +1,4 @@
-use Rattle.ec_app.proofs.PlanLemmas.{table_refused, text_refused}
+use Rattle.ec_console.proofs.TableLemmas.{table_refused, text_refused}
 use Rattle.ec_app.proofs.plan.show_plan.Goals as goal
 
 pub returns-in_err-table-clause-refused : goal.returns-in_err-table-clause-refused

@@ -2,7 +2,7 @@ use Rattle.std.proofs.Common.{◌≡◌, ◌∙◌, true, false, inr, refl, ap, 
 use Rattle.std.specs.contracts.io.ErrorKind.{the_type}
 use Rattle.std.specs.declared.io.ErrorKind.TheVariants.{OutOfMemory}
 use denote.Enum.Bare.{sameb}
-use Rattle.ec_app.specs.Printing.{IsTold}
+use Rattle.ec_console.specs.Printing.{IsTold}
 use Rattle.ec_app.proofs.program.tell_unread.Goals as goal
 
 pub returns-clause-tells : goal.returns-clause-tells

@@ -1,0 +1,122 @@
+//! A capture in a file of the system, and how a command ends that has one.
+ghost use Rattle.std.specs.Prelude.{◌≡◌, All, IfErr, IfOk, map, true};
+ghost use Rattle.ec_capture.specs.Captures.{IsText};
+ghost use Rattle.ec_captured.specs.Capturing.{Finishes, IsUnopened};
+
+use ec_capture::{MAX_TEXT, Recorder};
+use ec_console::Refusal;
+use ec_table::Table;
+use std::alloc::{AllocError, Global};
+use std::fs::{File, Files};
+use std::io::{BufWriter, Write};
+
+/// What is written into a file of the system as a capture.
+pub type Recording<F> = Recorder<BufWriter<F>>;
+
+/// The capture of a command, if there is to be one.
+pub type Capture<F> = Option<Recording<F>>;
+
+/// Whether a name is short enough for an interface.
+fn is_text(name: &str) -> bool
+    ensures { result ≡ true → IsText name.now }
+{
+    name.len() <= MAX_TEXT
+}
+
+/// A name, or none where it is longer than that of an interface may be.
+fn short(name: &str) -> &str
+    ensures { IsText result.now }
+{
+    if is_text(name) { name } else { "" }
+}
+
+/// Opens a file and begins a capture in it, with interfaces of these names.
+fn open_recorder<H: AllocGlobal + Files>(
+    rt: &H,
+    path: &str,
+    names: &[&str],
+) -> Result<Recording<H::File>, Refusal>
+    requires { All IsText (map (λ t. t.now) names.now) }
+    ensures { IfErr result IsUnopened }
+{
+    let Ok(file) = File::create(rt, path) else {
+        return Err(Refusal::Output);
+    };
+    let Ok(file) = BufWriter::new(rt.alloc(), file) else {
+        return Err(Refusal::Memory);
+    };
+    Recorder::open(file, names).map_err(|_| Refusal::Output)
+}
+
+/// Opens the file of a capture with one interface, of this name.
+///
+/// # Errors
+///
+/// `Refusal::Output` where it can't be opened or begun, `Refusal::Memory` where there is no memory for it.
+pub fn open_capture<H: AllocGlobal + Files>(
+    rt: &H,
+    path: &str,
+    name: &'static str,
+) -> Result<Capture<H::File>, Refusal>
+    ensures { IfErr result IsUnopened }
+{
+    Ok(Some(open_recorder(rt, path, &[short(name)])?))
+}
+
+/// The interfaces of a segment: the master's, and one behind each slave, by its name.
+#[tactic(auto, using(crate::proofs::CaptureLemmas::texts_more))]
+fn interfaces_of<'t>(alloc: Global, table: &'t Table) -> Result<Vec<&'t str>, AllocError>
+    ensures { IfOk result (λ names. All IsText (map (λ t. t.now) names.items)) }
+{
+    let mut names = Vec::new(alloc);
+    names.push("master")?;
+    for slave in table.slaves() {
+        names.push(short(slave.name.as_str()))?;
+    }
+    Ok(names)
+}
+
+/// Opens the file of a capture of the frames of a table's segment: an interface `master`, and one behind each slave.
+///
+/// # Errors
+///
+/// Those of [`open_capture`].
+pub fn open_segment<H: AllocGlobal + Files>(
+    rt: &H,
+    path: &str,
+    table: &Table,
+) -> Result<Recording<H::File>, Refusal>
+    ensures { IfErr result IsUnopened }
+{
+    let names = interfaces_of(rt.alloc(), table)?;
+    open_recorder(rt, path, names.as_slice())
+}
+
+/// What came of what was captured, once the capture is written to the end: where that can't be done, what was through ends
+/// with `Refusal::Output`.
+pub fn finish_recording<T: Copy + Drop, F: Write + Drop>(
+    ended: Result<T, Refusal>,
+    recording: Recording<F>,
+) -> Result<T, Refusal>
+    ensures { Finishes ended result }
+{
+    let mut recording = recording;
+    let written = recording.finish();
+    match (ended, written) {
+        (Ok(_), Err(_)) => Err(Refusal::Output),
+        _ => ended,
+    }
+}
+
+/// The same of a command that may have a capture.
+pub fn close_capture<F: Write + Drop>(
+    ended: Result<(), Refusal>,
+    capture: Capture<F>,
+) -> Result<(), Refusal>
+    ensures { Finishes ended result }
+{
+    match capture {
+        Some(recording) => finish_recording(ended, recording),
+        None => ended,
+    }
+}

@@ -1,0 +1,4 @@
+pub mod InputLemmas
+pub mod PrintLemmas
+mod RefusalLemmas
+pub mod TableLemmas

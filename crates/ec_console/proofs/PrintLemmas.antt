@@ -1,0 +1,120 @@
+-- Streams that grow in steps.
+use Rattle.std.proofs.Common.{◌≡◌, ◌∙◌, ℕ, zero, suc, ◌+◌, ◌-◌, ◌≤◌, List, [], ◌∷◌, ◌++◌, length, take, drop, Option, None, Some, refl, sym, ap, subst, append_assoc, zero-add, arith, Result, Ok, Err, IfErr, OnOk, OnErr}
+use Rattle.std.specs.Io.KnownBytes.{Appends, Keeps}
+use Rattle.std.proofs.lemmas.List.{append-nil}
+use Rattle.ec_console.specs.Printing.{AppendsPart, IsTold, Shows}
+use Rattle.ec_console.specs.declared.refusal.Refusal.{Refusal}
+use Rattle.ec_console.specs.declared.refusal.Refusal.TheVariants.{Output}
+
+pub appends_nothing : (known : Option (List ℕ)) → Appends known known []
+appends_nothing None = tt
+appends_nothing (Some xs) = sym (append-nil xs)
+
+pub appends_more : (old mid new : Option (List ℕ)) (a b : List ℕ) → Appends old mid a → Appends mid new b → Appends old new (a ++ b)
+appends_more None mid new a b first then = tt
+appends_more (Some xs) None new a b first then = absurd first
+appends_more (Some xs) (Some ys) None a b first then = absurd then
+appends_more (Some xs) (Some ys) (Some zs) a b first then = then ∙ (ap (λ s. s ++ b) first ∙ append_assoc xs a b)
+
+pub appends_kept : (old mid new : Option (List ℕ)) (bytes : List ℕ) → Appends old mid bytes → Keeps mid new → Appends old new bytes
+appends_kept None mid new bytes first kept = tt
+appends_kept (Some xs) None new bytes first kept = absurd first
+appends_kept (Some xs) (Some ys) None bytes first kept = absurd kept
+appends_kept (Some xs) (Some ys) (Some zs) bytes first kept = kept ∙ first
+
+-- a first part, and some first part of the rest
+pub take-more : (k n : ℕ) (xs : List ℕ) → take k xs ++ take n (drop k xs) ≡ take (k + n) xs
+take-more zero n xs = ap (λ m. take m xs) (sym (zero-add n))
+take-more (suc k) zero [] = let e : suc k + 0 ≡ suc k = omega arith in rw e refl
+take-more (suc k) (suc n) [] = let e : suc k + suc n ≡ suc (k + suc n) = omega arith in rw e refl
+take-more (suc k) n (x ∷ xs) = let e : suc k + n ≡ suc (k + n) = omega arith in rw e (ap (λ rest. x ∷ rest) (take-more k n xs))
+
+pub take-all : (xs : List ℕ) → take (length xs) xs ≡ xs
+take-all [] = refl
+take-all (x ∷ xs) = ap (λ rest. x ∷ rest) (take-all xs)
+
+pub drop-rest : (k : ℕ) (xs : List ℕ) → take (length xs - k) (drop k xs) ≡ drop k xs
+drop-rest zero xs = let e : length xs - 0 ≡ length xs = omega arith in rw e (take-all xs)
+drop-rest (suc k) [] = let e : 0 - suc k ≡ 0 = omega arith in rw e refl
+drop-rest (suc k) (x ∷ xs) = let e : suc (length xs) - suc k ≡ length xs - k = omega arith in rw e (drop-rest k xs)
+
+pub length-rest : (k : ℕ) (xs : List ℕ) → k ≤ length xs → length (drop k xs) + k ≡ length xs
+length-rest zero xs le = omega arith
+length-rest (suc k) [] le = absurd (omega arith)
+length-rest (suc k) (x ∷ xs) le =
+    let below : k ≤ length xs = omega arith in
+    let rest = length-rest k xs below in
+    omega (arith, rest)
+
+-- what stands after a further write of the rest took some bytes
+pub appends_part : (old mid new : Option (List ℕ)) (k n : ℕ) (text : List ℕ) → Appends old mid (take k text) → Appends mid new (take n (drop k text))
+    → Appends old new (take (k + n) text)
+appends_part old mid new k n text first then =
+    subst (Appends old new) (take-more k n text) (appends_more old mid new (take k text) (take n (drop k text)) first then)
+
+pub part_after : (old mid new : Option (List ℕ)) (text : List ℕ) (k n : ℕ) → Appends old mid (take k text) → k ≤ length text
+    → n ≤ length (take (length text - k) (drop k text)) → Appends mid new (take n (take (length text - k) (drop k text)))
+    → Appends old new (take (k + n) text) × (k + n ≤ length text)
+part_after old mid new text k n first within bound then =
+    let rest = drop-rest k text in
+    let below : n ≤ length (drop k text) = subst (λ (r : List ℕ). n ≤ length r) rest bound in (
+      appends_part old mid new k n text first (subst (λ (r : List ℕ). Appends mid new (take n r)) rest then),
+      omega (arith, below, length-rest k text within),
+    )
+
+-- the whole of a text is a first part of it
+pub whole_part : (old new : Option (List ℕ)) (text : List ℕ) → Appends old new text → AppendsPart old new text
+whole_part old new text whole = (length text, subst (Appends old new) (sym (take-all text)) whole)
+
+-- and so a first part stands there, whatever came of the write
+pub some_part : (r : Result Unit Refusal) (old new : Option (List ℕ)) (text : List ℕ) → OnOk r (Appends old new text) → OnErr r (AppendsPart old new text)
+    → AppendsPart old new text
+some_part (Ok done) old new text all part = whole_part old new text all
+some_part (Err refusal) old new text all part = part
+
+-- what a write says of it, as one fact, and back
+pub shown : (r : Result Unit Refusal) (old new : Option (List ℕ)) (text : List ℕ) → OnOk r (Appends old new text) → OnErr r (AppendsPart old new text)
+    → IfErr r (λ e. e ≡ Output) → Shows text old new r
+shown (Ok done) old new text all part fault = all
+shown (Err refusal) old new text all part fault = (fault, part)
+
+-- what it leaves is told, whatever came of it
+pub told : (r : Result Unit Refusal) (old new : Option (List ℕ)) (text : List ℕ) → OnOk r (Appends old new text) → OnErr r (AppendsPart old new text)
+    → IfErr r (λ e. e ≡ Output) → IsTold text old new
+told r old new text all part fault = record { ended = r; shows = shown r old new text all part fault }
+
+pub told_by : (r : Result Unit Refusal) (old new : Option (List ℕ)) (text : List ℕ) → Shows text old new r → IsTold text old new
+told_by r old new text shows = record { ended = r; shows = shows }
+
+pub if_err : {T E P : Type 0} (r : Result T E) → P → OnErr r P
+if_err (Ok x) p = tt
+if_err (Err e) p = p
+
+-- a text with more behind it: where a first part of it is told, that is a first part of both
+part_of_both : (count : ℕ) (text more : List ℕ) → (k : ℕ) × (take k (text ++ more) ≡ take count text)
+part_of_both zero text more = (0, refl)
+part_of_both (suc n) [] more = (0, refl)
+part_of_both (suc n) (x ∷ xs) more =
+    let rest = part_of_both n xs more in
+    (suc rest.0, ap (λ l. x ∷ l) rest.1)
+
+pub told_first : (old new : Option (List ℕ)) (text more : List ℕ) (refusal : Refusal) → Shows text old new (Err refusal) → IsTold (text ++ more) old new
+told_first old new text more refusal shows =
+    let part = part_of_both shows.1.0 text more in
+    record { ended = Err refusal; shows = (shows.0, (part.0, subst (Appends old new) (sym part.1) shows.1.1)) }
+
+-- and where all of it is told, so is a first part of what is behind it
+part_behind : (text more : List ℕ) (n : ℕ) → text ++ take n more ≡ take (length text + n) (text ++ more)
+part_behind [] more n = ap (λ k. take k more) (sym (zero-add n))
+part_behind (x ∷ xs) more n =
+    let e : suc (length xs) + n ≡ suc (length xs + n) = omega arith in
+    rw e (ap (λ l. x ∷ l) (part_behind xs more n))
+
+more_shown : (r : Result Unit Refusal) (old mid new : Option (List ℕ)) (text more : List ℕ) → Appends old mid text → Shows more mid new r → Shows (text ++ more) old new r
+more_shown (Ok done) old mid new text more first then = appends_more old mid new text more first then
+more_shown (Err refusal) old mid new text more first then =
+    let both : Appends old new (text ++ take then.1.0 more) = appends_more old mid new text (take then.1.0 more) first then.1.1 in
+    (then.0, (length text + then.1.0, subst (Appends old new) (part_behind text more then.1.0) both))
+
+pub told_both : (old mid new : Option (List ℕ)) (text more : List ℕ) → Appends old mid text → IsTold more mid new → IsTold (text ++ more) old new
+told_both old mid new text more first then = record { ended = then.ended; shows = more_shown then.ended old mid new text more first then.shows }

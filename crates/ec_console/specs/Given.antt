@@ -1,0 +1,54 @@
+-- What the input gives, and by what it, or the link table that it states, is refused (this project's profile).
+use Rattle.std.specs.Prelude.{◌≡◌, ◌≢◌, ◌⊎◌, ℕ, ◌<◌, ◌^◌, List, length, Option, Ok, IfSome}
+use Rattle.std.specs.IoError.{error_kind}
+use Rattle.std.specs.Str.{IsUtf8}
+use Rattle.std.specs.declared.io.Error.{Error}
+use Rattle.std.specs.declared.io.ErrorKind.TheVariants.{Interrupted}
+use Rattle.ec_table.specs.Contents.{Contents}
+use Rattle.ec_table.specs.InOrder.{Fails as TableFails}
+use Rattle.ec_table.specs.Reading.{table_of}
+use Rattle.ec_link.specs.Faults.{Fails as LinkFails, compile_fault}
+use Rattle.ec_console.specs.declared.refusal.Refusal.{Refusal}
+use Rattle.ec_console.specs.declared.refusal.Refusal.TheVariants.{Memory, Input, Table, Link}
+
+-- the text is all that an input gives, where that is known
+abbrev pub GivesText : Option (List ℕ) → List ℕ → Type 0
+GivesText known text = IfSome known (λ bytes. text ≡ bytes)
+
+-- A read was refused, and not for an interruption, after which it is made again. Which error it gave is not for a clause to
+-- say: what a reader refuses is in no model of it.
+abbrev pub IsReadRefused : Type 0
+IsReadRefused = (error : Error) × (error_kind error ≢ Interrupted)
+
+-- what a read that is refused is told as; memory may run out at any time
+abbrev pub IsReadRefusal : Refusal → Type 0
+IsReadRefusal Memory = Unit {0}
+IsReadRefusal Input = IsReadRefused
+IsReadRefusal _ = ⊥
+
+-- bytes that are no input: over 2^20, or no text in UTF-8
+abbrev pub IsNoInput : List ℕ → Type 0
+IsNoInput bytes = (2 ^ 20 < length bytes) ⊎ (IsUtf8 bytes → ⊥)
+
+-- a read of the input was refused; or what it gives, where that is known, is no input
+abbrev pub IsInputRefusal : Option (List ℕ) → Refusal → Type 0
+IsInputRefusal known Memory = Unit {0}
+IsInputRefusal known Input = IsReadRefused ⊎ IfSome known IsNoInput
+IsInputRefusal known _ = ⊥
+
+-- the first fault of a table that was read
+abbrev pub IsLinkRefusal : Contents → Refusal → Type 0
+IsLinkRefusal table Memory = Unit {0}
+IsLinkRefusal table (Link error) = LinkFails error (compile_fault table)
+IsLinkRefusal table _ = ⊥
+
+-- the first fault of the text as a table, or of the table that it states
+abbrev pub IsTableRefusal : List ℕ → Refusal → Type 0
+IsTableRefusal text Memory = Unit {0}
+IsTableRefusal text (Table error) = TableFails error (table_of text)
+IsTableRefusal text (Link error) = (table : Contents) × (table_of text ≡ Ok table) × LinkFails error (compile_fault table)
+IsTableRefusal text _ = ⊥
+
+-- by what a command is refused that reads a link table: a fault of the input, or of the table that it states
+abbrev pub RefusesTable : Option (List ℕ) → Refusal → Type 0
+RefusesTable known refusal = IsInputRefusal known refusal ⊎ ((text : List ℕ) × GivesText known text × IsTableRefusal text refusal)

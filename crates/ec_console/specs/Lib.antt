@@ -1,0 +1,6 @@
+-- To be believed by reading, in this order: the refusals by number, name and values; what an input gives, and by what it or
+-- its table is refused; what is left on the output; and what stands behind a refusal's line.
+pub mod Refusals
+pub mod Given
+pub mod Printing
+pub mod Explaining

@@ -1,0 +1,26 @@
+-- What a command leaves on the output.
+use Rattle.std.specs.Prelude.{◌≡◌, ◌⊎◌, ℕ, List, take, Option, Result, Ok, Err}
+use Rattle.std.specs.Io.KnownBytes.{Appends}
+use Rattle.ec_console.specs.declared.refusal.Refusal.{Refusal}
+use Rattle.ec_console.specs.declared.refusal.Refusal.TheVariants.{Output}
+
+-- known bytes stay, and grow by some first part of a text
+abbrev pub AppendsPart : Option (List ℕ) → Option (List ℕ) → List ℕ → Type 0
+AppendsPart old new text = (count : ℕ) × Appends old new (take count text)
+
+-- a text is printed once; or a write was refused, and a first part of it is printed
+abbrev pub Shows : List ℕ → Option (List ℕ) → Option (List ℕ) → Result Unit Refusal → Type 0
+Shows text old new (Ok done) = Appends old new text
+Shows text old new (Err refusal) = (refusal ≡ Output) × AppendsPart old new text
+
+-- a text is told, all of it unless a write was refused; whether one was changes nothing else
+pub record IsTold (text : List ℕ) (old new : Option (List ℕ)) : Type 0 where
+  pub ended : Result Unit Refusal
+  pub shows : Shows text old new ended
+
+-- a command that prints its answer as a whole: it is printed; or a write was refused, and a first part of it is printed;
+-- or the command is refused, and nothing is printed
+abbrev pub Prints : (List ℕ → Type 0) → (Refusal → Type 0) → Option (List ℕ) → Option (List ℕ) → Result Unit Refusal → Type 0
+Prints Answers Refuses old new (Ok done) = (text : List ℕ) × Answers text × Appends old new text
+Prints Answers Refuses old new (Err refusal) =
+    (Refuses refusal × (new ≡ old)) ⊎ ((refusal ≡ Output) × ((text : List ℕ) × Answers text × AppendsPart old new text))

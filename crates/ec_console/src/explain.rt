@@ -1,0 +1,113 @@
+//! What is told of a refusal behind its line, for people.
+ghost use Rattle.std.specs.Prelude.{◌≡◌, []};
+ghost use Rattle.ec_console.specs.Explaining.{IsLeft};
+
+use crate::Refusal;
+use ec_explain::{Cause, explanation};
+use ec_link::LinkError;
+use ec_script::{ScriptError, split_script};
+use ec_table::{Fault, TableError};
+use ec_wire::RunError;
+use std::alloc::{AllocError, Global};
+use std::marker::Model;
+
+/// What is told behind the line of a refusal, if it is wanted.
+#[derive(Drop)]
+pub struct Explanation {
+    is_wanted: bool,
+    text: String,
+}
+
+impl Model for Explanation {
+    ghost use Rattle.std.specs.Prelude.{string_bytes};
+    ghost use Rattle.ec_console.specs.Explaining.{Behind};
+
+    ghost Value = { Behind };
+
+    ghost view = { λ e. record { is_wanted = e.is_wanted; text = string_bytes e.text } };
+}
+
+/// What there is to explain of a refusal; the line of a script is one of a script that begins at a byte
+/// of its text.
+fn cause_of(refusal: &Refusal, from: usize) -> Option<Cause> {
+    match *refusal {
+        Refusal::Table(TableError::Refused(fault)) => Some(Cause::Table(fault)),
+        Refusal::Link(LinkError::Refused(fault)) => Some(Cause::Link(fault)),
+        Refusal::Start(error) => Some(Cause::Start(error)),
+        Refusal::Run(RunError::Refused(error)) => Some(Cause::Cycle(error)),
+        Refusal::Run(RunError::Wire) => Some(Cause::Wire),
+        Refusal::Script(ScriptError::BadScript(line)) => Some(Cause::Script { from, line }),
+        _ => None,
+    }
+}
+
+/// A refusal of a link table explained; nothing where there is nothing to explain.
+fn table_text(alloc: Global, table: &str, refusal: &Refusal) -> Result<String, AllocError> {
+    match cause_of(refusal, 0) {
+        Some(cause) => explanation(alloc, table, cause),
+        None => Ok(String::new(alloc)),
+    }
+}
+
+/// A refusal of a link table and a script explained.
+fn script_text(alloc: Global, text: &str, refusal: &Refusal) -> Result<String, AllocError> {
+    let (table, script) = split_script(text);
+    let from = text.len().saturating_sub(script.len());
+    match cause_of(refusal, from) {
+        Some(cause @ Cause::Script { .. }) => explanation(alloc, text, cause),
+        Some(cause) => {
+            let mut told = explanation(alloc, table, cause)?;
+            if cause == Cause::Table(Fault::Toml) && table.len() == text.len() {
+                told.push_str(
+                    "There is no line `%%`, so all lines were read as lines of the table.\n",
+                )?;
+            }
+            Ok(told)
+        }
+        None => Ok(String::new(alloc)),
+    }
+}
+
+impl Explanation {
+    /// None yet.
+    pub fn new(alloc: Global, is_wanted: bool) -> Explanation
+        ensures { result ≡ record { is_wanted = is_wanted; text = [] } }
+    {
+        Explanation {
+            is_wanted,
+            text: String::new(alloc),
+        }
+    }
+
+    /// The text.
+    pub fn as_bytes(&self) -> &[u8]
+        ensures { result.now ≡ self.now.text }
+    {
+        self.text.as_bytes()
+    }
+
+    /// A text becomes this one's, if memory was there for it.
+    fn keep(&mut self, made: Result<String, AllocError>) {
+        if let Ok(text) = made {
+            self.text = text;
+        }
+    }
+
+    /// Explains the refusal of a link table, if that is wanted and memory is there for it.
+    pub fn explain(&mut self, alloc: Global, table: &str, refusal: &Refusal)
+        ensures { IsLeft self.old self.new }
+    {
+        if self.is_wanted {
+            self.keep(table_text(alloc, table, refusal));
+        }
+    }
+
+    /// The same of a link table and a script.
+    pub fn explain_script(&mut self, alloc: Global, text: &str, refusal: &Refusal)
+        ensures { IsLeft self.old self.new }
+    {
+        if self.is_wanted {
+            self.keep(script_text(alloc, text, refusal));
+        }
+    }
+}

@@ -1,0 +1,15 @@
+//! What the commands of `ecat` share: the refusals by number, the text that an input gives, what is printed on the output,
+//! and what is told on the fault stream, with an explanation behind it for people.
+#![tactic(auto)]
+
+mod digits;
+mod explain;
+mod input;
+mod printing;
+mod refusal;
+
+pub use crate::digits::{push_number, push_value};
+pub use crate::explain::Explanation;
+pub use crate::input::read_text;
+pub use crate::printing::{print_text, tell, tell_and_end, tell_explained, tell_text};
+pub use crate::refusal::{Refusal, Values};

@@ -1,0 +1,14 @@
+use Rattle.std.proofs.Common.{◌∙◌, refl}
+use Rattle.ec_loop.proofs.LoopLemmas.{cycles_shown, cycles_unshown}
+use Rattle.ec_loop.proofs.looping.run_started.Goals as goal
+
+pub returns-in_err-lines : goal.returns-in_err-lines
+returns-in_err-lines g c =
+    let r = c.in_ok-print_cycles.ensures.all in
+    cycles_unshown _ _ _ _ _ _ _ _ _ _ r.0 r.1 c.from_residual-in_err-lines.ensures.1 refl r.2 r.3
+
+pub returns : goal.returns
+returns g c =
+    let r = c.in_ok-print_cycles.ensures.all in
+    cycles_shown c.print_text.result _ c.args.table.now _ c.print_cycles.new.master _ _ _ _ _ r.0 c.as_bytes.result.now r.1 r.2 r.3 (c.as_bytes.ensures.value ∙ c.in_ok-lines.ensures) c.print_text.ensures.all
+    c.print_text.ensures.part c.print_text.ensures.fault

@@ -1,0 +1,208 @@
+-- What `ecat loop` prints (this project's profile).
+use Rattle.std.specs.Prelude.{◌≡◌, ◌⊎◌, ◌≤◌, ◌<◌, ◌+◌, ◌%◌, ◌^◌, ℕ, List, [], ◌∷◌, ◌++◌, length, slice_get, true, if◌then◌else◌, Option, None, Some, Result, Ok, Err, codes}
+use Rattle.std.specs.Fmt.{decimal}
+use Rattle.std.specs.List.{flat_map}
+use Rattle.std.specs.Io.KnownBytes.{Appends}
+use Rattle.ec_table.specs.Contents.{Contents}
+use Rattle.ec_table.specs.Reading.{table_of}
+use Rattle.ec_table.specs.declared.rows.Direction.{Direction}
+use Rattle.ec_table.specs.declared.rows.Direction.TheVariants.{Out, In}
+use Rattle.ec_table.specs.declared.rows.VariableRow.{VariableRow}
+use Rattle.ec_link.specs.Faults.{compile_fault}
+use Rattle.ec_link.specs.declared.image.Variable.{Variable}
+use Rattle.ec_link.specs.Wires.{is_out}
+use Rattle.ec_link.specs.Plan.{PlanState, plan_of}
+use Rattle.ec_cycle.specs.Closing.{ReportState}
+use Rattle.ec_cycle.specs.Master.{MasterState, cycle_limit, new_master, readied, value_at, value_put}
+use Rattle.ec_cycle.specs.declared.error.CycleError.TheVariants.{NumbersSpent}
+use Rattle.ec_start.specs.declared.error.StartError.{StartError}
+use Rattle.ec_start.specs.declared.phase.Phase.TheVariants.{Ready, Failed}
+use Rattle.ec_start.specs.Running.{StartState, begun}
+use Rattle.ec_rise.specs.SwitchedOn.{AreSlavesOf}
+use Rattle.ec_wire.specs.Wires.{Ports, WireState, silent}
+use Rattle.ec_wire.specs.BringingUp.{IsBroughtUp}
+use Rattle.ec_slave.specs.State.{SlaveState}
+use Rattle.ec_wire.specs.Running.{IsRun}
+use Rattle.ec_wire.specs.declared.error.RunError.{RunError}
+use Rattle.ec_wire.specs.declared.error.RunError.TheVariants.{Refused, Wire}
+use Rattle.ec_text.specs.PlanText.{lines_from, newline}
+use Rattle.ec_script.specs.Texts.{report_text}
+use Rattle.ec_console.specs.declared.refusal.Refusal.{Refusal}
+use Rattle.ec_console.specs.declared.refusal.Refusal.TheVariants.{Memory, Start, Run, Socket, Output}
+use Rattle.ec_console.specs.Given.{GivesText, IsInputRefusal, IsTableRefusal}
+use Rattle.ec_console.specs.Printing.{AppendsPart, IsTold}
+
+-- ---- lines
+
+abbrev pub ready_line : List ℕ
+ready_line = codes "ready" ++ newline
+
+-- the slaves are up, and these are the reports of the cycles that ended
+abbrev pub cycles_text : Contents → List ReportState → List ℕ
+cycles_text t reports = ready_line ++ flat_map (report_text t.version (plan_of t).parts) reports
+
+-- the name of an input variable, and its value
+abbrev pub input_by : Direction → ℕ → List ℕ → List ℕ
+input_by Out value name = []
+input_by In value name = name ++ codes " " ++ decimal value ++ newline
+
+abbrev pub input_line : (ℕ → ℕ) → ℕ → VariableRow → List ℕ
+input_line value n row = input_by row.direction (value n) row.name
+
+abbrev pub inputs_text : (ℕ → ℕ) → Contents → List ℕ
+inputs_text value t = lines_from (input_line value) 0 t.variables
+
+-- the n-th variable as a master has it
+abbrev pub shown : MasterState → ℕ → ℕ
+shown m n = value_at m (slice_get m.plan.variables n)
+
+-- ---- cycles
+
+-- an output variable becomes a number, as far as it has bits
+abbrev pub output_put : ℕ → List ℕ → Variable → List ℕ
+output_put number image v = if is_out v.direction then value_put image (number % 2 ^ v.bits) (Some v) else image
+
+-- and so does each of these
+abbrev pub outputs_put : ℕ → List ℕ → List Variable → List ℕ
+outputs_put number image [] = image
+outputs_put number image (v ∷ vs) = outputs_put number (output_put number image v) vs
+
+abbrev pub with_outputs : MasterState → ℕ → MasterState
+with_outputs m number = record m { outputs = outputs_put number m.outputs m.plan.variables }
+
+-- Cycle after cycle over a wire, the first of this number: each output variable is sent as the cycle's number, and each cycle
+-- gives its report.
+abbrev pub AreRun : MasterState → WireState → ℕ → List ReportState → MasterState → WireState → Type 0
+AreRun m w number [] last v = (last ≡ m) × (v ≡ w)
+AreRun m w number (r ∷ rs) last v =
+    (mid : MasterState) × (x : WireState) × IsRun (with_outputs m number) w x (Ok r) mid × AreRun mid x (number + 1) rs last v
+
+-- Slaves of a plan are brought up over a wire, by frames from number 0 on: the master that begins cycles then. All its
+-- variables are 0.
+pub record IsUp (p : PlanState) (before after : WireState) (m : MasterState) : Type 0 where
+  pub start : StartState
+  pub brought : IsBroughtUp (begun p.slaves 0) before start after
+  pub ready : start.phase ≡ Ready
+  pub master : m ≡ readied (new_master p) start.next
+
+-- the start-up of these slaves over that wire ended by an error
+pub record HasNotStarted (p : PlanState) (before after : WireState) (error : StartError) : Type 0 where
+  pub start : StartState
+  pub brought : IsBroughtUp (begun p.slaves 0) before start after
+  pub failed : start.phase ≡ Failed error
+
+-- the lines of so many cycles at most, 1, 2, .. of a master over a wire
+abbrev pub IsSoFar : ℕ → Contents → MasterState → (before after : WireState) → List ℕ → Type 0
+IsSoFar cycles t first before after text =
+    (reports : List ReportState) × (last : MasterState) × AreRun first before 1 reports last after × (length reports ≤ cycles) × (text ≡ cycles_text t reports)
+
+-- the lines of all cycles, and behind them each input variable with the value that the last one left
+abbrev pub IsWhole : ℕ → Contents → MasterState → (before after : WireState) → List ℕ → Type 0
+IsWhole cycles t first before after text =
+    (reports : List ReportState) × (last : MasterState) × AreRun first before 1 reports last after × (length reports ≡ cycles) × (text ≡ cycles_text t reports ++ inputs_text (shown last) t)
+
+-- ---- how it ends
+
+-- a cycle can begin, unless the numbers are spent
+pub record CanCycle (p : PlanState) (m : MasterState) : Type 0 where
+  pub up : m.is_ready ≡ true
+  pub none_open : m.cycle ≡ None
+  pub variables : m.plan.variables ≡ p.variables
+
+-- A master's run of a cycle over a wire gave no report: a fault of the wire ended it, or there is no number for it.
+abbrev pub IsRunEnd : MasterState → (before after : WireState) → RunError → Type 0
+IsRunEnd m before after Wire = (last : MasterState) × IsRun m before after (Err Wire) last
+IsRunEnd m before after (Refused error) = (error ≡ NumbersSpent) × (cycle_limit ≤ m.next) × (after ≡ before)
+
+-- what ends it before the slaves are up: no memory, and nothing was sent; or what their start-up over that wire ended by
+abbrev pub IsStartRefusal : PlanState → (before after : WireState) → Refusal → Type 0
+IsStartRefusal p before after Memory = after ≡ before
+IsStartRefusal p before after (Start error) = HasNotStarted p before after error
+IsStartRefusal p before after _ = ⊥
+
+-- and what keeps the line of a cycle back: no memory for its report, or there is none
+abbrev pub IsCycleRefusal : MasterState → (before after : WireState) → Refusal → Type 0
+IsCycleRefusal m before after Memory = (report : ReportState) × (last : MasterState) × IsRun m before after (Ok report) last
+IsCycleRefusal m before after (Run error) = IsRunEnd m before after error
+IsCycleRefusal m before after _ = ⊥
+
+-- the lines of fewer cycles than all are printed, and the next one is kept back
+pub record EndsEarly (cycles : ℕ) (t : Contents) (first : MasterState) (before after : WireState) (old new : Option (List ℕ)) (refusal : Refusal) : Type 0 where
+  pub reports : List ReportState
+  pub last : MasterState
+  pub between : WireState
+  pub run : AreRun first before 1 reports last between
+  pub few : length reports < cycles
+  pub next : IsCycleRefusal (with_outputs last (length reports + 1)) between after refusal
+  pub printed : Appends old new (cycles_text t reports)
+
+-- the lines of all cycles are printed, and there is no memory for those of the input variables
+pub record EndsUnshown (cycles : ℕ) (t : Contents) (first : MasterState) (before after : WireState) (old new : Option (List ℕ)) (refusal : Refusal) : Type 0 where
+  pub reports : List ReportState
+  pub last : MasterState
+  pub run : AreRun first before 1 reports last after
+  pub all : length reports ≡ cycles
+  pub memory : refusal ≡ Memory
+  pub printed : Appends old new (cycles_text t reports)
+
+-- a write is refused, and what is printed is a first part of these lines
+pub record EndsUnwritten (Lines : List ℕ → Type 0) (old new : Option (List ℕ)) (refusal : Refusal) : Type 0 where
+  pub output : refusal ≡ Output
+  pub text : List ℕ
+  pub lines : Lines text
+  pub part : AppendsPart old new text
+
+-- The cycles of a master whose slaves are up, by what the wire is and the writer holds before and after: all is printed; or
+-- the lines until then.
+abbrev pub RunsCycles : ℕ → Contents → MasterState → (before after : WireState) → (old new : Option (List ℕ)) → Result Unit Refusal → Type 0
+RunsCycles cycles t first before after old new (Ok done) = (text : List ℕ) × IsWhole cycles t first before after text × Appends old new text
+RunsCycles cycles t first before after old new (Err refusal) =
+    EndsEarly cycles t first before after old new refusal
+    ⊎ (EndsUnshown cycles t first before after old new refusal
+    ⊎ (EndsUnwritten (IsSoFar cycles t first before after) old new refusal
+    ⊎ EndsUnwritten (IsWhole cycles t first before after) old new refusal))
+
+-- The cycles of a table over a wire: its slaves are brought up and the cycles run; or they don't come up, and nothing is
+-- printed.
+abbrev pub Loops : ℕ → Contents → (before after : WireState) → (old new : Option (List ℕ)) → Result Unit Refusal → Type 0
+Loops cycles t before after old new ended =
+    ((first : MasterState) × (between : WireState) × IsUp (plan_of t) before between first × RunsCycles cycles t first between after old new ended)
+    ⊎ ((refusal : Refusal) × (ended ≡ Err refusal) × IsStartRefusal (plan_of t) before after refusal × (new ≡ old))
+
+-- ---- over sockets
+
+-- between which ports it runs
+abbrev pub ports_line : ℕ → ℕ → List ℕ
+ports_line master segment = codes "ecat: loop between 127.0.0.1:" ++ (decimal master ++ (codes " and 127.0.0.1:" ++ (decimal segment ++ 10 ∷ [])))
+
+-- Two sockets of this process, with the table's slaves at one of them, just switched on: the ports are told, and then the
+-- cycles run over them. Sockets tell no payload, so what they carried is any.
+pub record LoopsBetween (cycles : ℕ) (t : Contents) (old new quiet told : Option (List ℕ)) (ended : Result Unit Refusal) : Type 0 where
+  pub slaves : List SlaveState
+  pub are : AreSlavesOf t slaves
+  pub ports : Ports
+  pub tells : IsTold (ports_line ports.master ports.segment) quiet told
+  -- how many calls of its wire were faults before and after
+  pub before : ℕ
+  pub after : ℕ
+  pub runs : Loops cycles t (silent before) (silent after) old new ended
+
+-- it is refused, and nothing is printed or told
+abbrev pub IsNeverRun : (Refusal → Type 0) → (old new quiet told : Option (List ℕ)) → Result Unit Refusal → Type 0
+IsNeverRun Refuses old new quiet told ended = (refusal : Refusal) × (ended ≡ Err refusal) × Refuses refusal × (new ≡ old) × (told ≡ quiet)
+
+-- no memory for the slaves, or no sockets
+abbrev pub IsUnbound : Refusal → Type 0
+IsUnbound refusal = (refusal ≡ Memory) ⊎ (refusal ≡ Socket)
+
+-- cycles of the table that a text states; or it is refused, or there are no sockets
+abbrev pub LoopsText : ℕ → List ℕ → (old new quiet told : Option (List ℕ)) → Result Unit Refusal → Type 0
+LoopsText cycles text old new quiet told ended =
+    ((t : Contents) × (table_of text ≡ Ok t) × (compile_fault t ≡ None) × LoopsBetween cycles t old new quiet told ended)
+    ⊎ IsNeverRun (λ refusal. IsTableRefusal text refusal ⊎ IsUnbound refusal) old new quiet told ended
+
+-- the same of what the input gives; or the input is refused
+abbrev pub RunsLoop : ℕ → Option (List ℕ) → (old new quiet told : Option (List ℕ)) → Result Unit Refusal → Type 0
+RunsLoop cycles known old new quiet told ended =
+    ((text : List ℕ) × GivesText known text × LoopsText cycles text old new quiet told ended)
+    ⊎ IsNeverRun (IsInputRefusal known) old new quiet told ended

@@ -1,0 +1,6 @@
+//! `ecat loop`: cycles of a link table over two sockets of this process.
+#![tactic(auto)]
+
+mod looping;
+
+pub use crate::looping::{capture_loop, print_loop, run_loop};

@@ -1,0 +1,502 @@
+//! `ecat loop`: cycles of a link table over two sockets of this process.
+ghost use Rattle.std.specs.Prelude.{◌≡◌, ◌≤◌, ◌<◌, ◌++◌, ◌%◌, ◌^◌, ℕ, List, [], All, None, Some, Ok, Result, IfErr, IfOk, OnOk, length, slice_get};
+ghost use Rattle.std.specs.Io.KnownBytes.{Appends};
+ghost use Rattle.std.specs.String.{string_bytes};
+ghost use Rattle.ec_link.specs.Faults.{compile_fault};
+ghost use Rattle.ec_link.specs.Plan.{plan_of};
+ghost use Rattle.ec_start.specs.Planned.{HasFewAssigned};
+ghost use Rattle.ec_cycle.specs.Closing.{ReportState};
+ghost use Rattle.ec_cycle.specs.Master.{new_master};
+ghost use Rattle.ec_rise.specs.SwitchedOn.{AreSlavesOf};
+ghost use Rattle.ec_wire.specs.Running.{IsRun};
+ghost use Rattle.ec_script.specs.Texts.{report_text};
+ghost use Rattle.ec_tap.specs.Taps.{Tells};
+ghost use Rattle.ec_text.specs.PlanText.{lines_from};
+ghost use Rattle.ec_captured.specs.Capturing.{EndsCaptured, Finishes};
+ghost use Rattle.ec_console.specs.declared.refusal.Refusal.{Refusal as RefusalValue};
+ghost use Rattle.ec_console.specs.Explaining.{IsLeft};
+ghost use Rattle.ec_loop.specs.Looping.{AreRun, CanCycle, IsCycleRefusal, IsRunEnd, IsStartRefusal, IsUnbound, IsUp, Loops, LoopsText, RunsCycles, RunsLoop, cycles_text, input_line, inputs_text, output_put, ports_line, shown, with_outputs};
+ghost use Rattle.ec_console.specs.Printing.{IsTold};
+ghost use Rattle.ec_loop.specs.Stages.{IsCut, LoopsOnSockets, LoopsTable};
+
+use arrayvec::ArrayString;
+use ec_captured::{Capture, close_capture, open_capture};
+use ec_console::{Explanation, Refusal, print_text, push_number, read_text, tell_text};
+use ec_cycle::{Master, Report};
+use ec_link::{Plan, Variable, compile};
+use ec_ring::Ring;
+use ec_rise::slaves_of;
+use ec_script::write_report;
+use ec_start::Startup;
+use ec_table::{Direction, Table, VariableRow, read_table};
+use ec_tap::{CapturedWire, Side};
+use ec_wire::{App, LoopWire, RunError, Sockets, Wire, bring_up_wire, run_cycle};
+use std::alloc::{AllocError, Global};
+use std::fmt::Write as _;
+use std::fs::Files;
+use std::io::{Read, Write};
+use std::net::Net;
+use std::time::Clock;
+
+/// What is printed when the slaves are up.
+const READY: &str = "ready\n";
+
+/// As many bytes as the line of the ports may have.
+const LINE_SIZE: usize = 96;
+
+/// A number as far as so many bits hold it.
+fn cut_to(number: u64, bits: u8) -> u64
+    requires { bits ≤ 64 }
+    ensures { result ≡ number % 2 ^ bits }
+{
+    if bits < 64 {
+        number % (1 << bits)
+    } else {
+        number
+    }
+}
+
+/// Sets a variable to a number, as far as it has bits, if it is an output.
+fn set_output(master: &mut Master<'_>, variable: usize, place: Variable, number: u64)
+    requires there { slice_get master.old.plan.variables variable ≡ Some place }
+    requires few { place.bits ≤ 64 }
+    ensures { master.new ≡ record master.old { outputs = output_put number master.old.outputs place } }
+{
+    let value = cut_to(number, place.bits);
+    if master.can_set(variable, value) {
+        master.set(variable, value);
+    }
+}
+
+/// Sets each output variable to a number, as far as it has bits.
+fn set_outputs(master: &mut Master<'_>, plan: &Plan, number: u64)
+    requires { master.old.plan.variables ≡ plan.now.variables }
+    ensures { master.new ≡ with_outputs master.old number }
+{
+    master.is_sound();
+    for variable in 0..plan.variables().len() {
+        set_output(master, variable, plan.variables()[variable], number);
+    }
+}
+
+/// Brings the slaves of a plan up over a wire for a new master of it, which can begin cycles then.
+#[tactic(auto, unfolding(ec_start::specs::Running::begun))]
+fn bring_up_for<W: Wire>(
+    alloc: Global,
+    plan: &Plan,
+    master: &mut Master<'_>,
+    wire: &mut W,
+) -> Result<(), Refusal>
+    requires few { All HasFewAssigned plan.now.slaves }
+    requires new { master.old ≡ new_master plan.now }
+    ensures up { OnOk result (IsUp plan.now (W.state wire.old) (W.state wire.new) master.new) }
+    ensures refused { IfErr result (IsStartRefusal plan.now (W.state wire.old) (W.state wire.new)) }
+{
+    let mut startup = Startup::new(alloc, plan, 0)?;
+    bring_up_wire(&mut startup, wire);
+    startup.outcome().unwrap()?;
+    master.ready(&startup);
+    Ok(())
+}
+
+/// A master whose slaves were brought up over a wire.
+fn started<'p, W: Wire>(
+    alloc: Global,
+    table: &Table,
+    plan: &'p Plan,
+    wire: &mut W,
+) -> Result<Master<'p>, Refusal>
+    requires accepted { compile_fault table.now ≡ None }
+    requires plan { plan.now ≡ plan_of table.now }
+    ensures ready { IfOk result (CanCycle plan.now) }
+    ensures up { IfOk result (IsUp plan.now (W.state wire.old) (W.state wire.new)) }
+    ensures refused { IfErr result (IsStartRefusal plan.now (W.state wire.old) (W.state wire.new)) }
+{
+    let _version = table.version();
+    let mut master = Master::new(alloc, plan)?;
+    bring_up_for(alloc, plan, &mut master, wire)?;
+    Ok(master)
+}
+
+/// One cycle that sends a number.
+fn run_number<W: Wire>(
+    plan: &Plan,
+    master: &mut Master<'_>,
+    wire: &mut W,
+    number: u64,
+) -> Result<Report, RunError>
+    requires ready { CanCycle plan.now master.old }
+    ensures ready { OnOk result (CanCycle plan.now master.new) }
+    ensures run { IfOk result (λ r. IsRun (with_outputs master.old number) (W.state wire.old) (W.state wire.new) (Ok r) master.new) }
+    ensures ended { IfErr result (IsRunEnd (with_outputs master.old number) (W.state wire.old) (W.state wire.new)) }
+{
+    set_outputs(master, plan, number);
+    run_cycle(master, wire)
+}
+
+/// The line of the report on one cycle that sends a number.
+fn cycle_line<W: Wire>(
+    alloc: Global,
+    table: &Table,
+    plan: &Plan,
+    master: &mut Master<'_>,
+    wire: &mut W,
+    number: u64,
+) -> Result<String, Refusal>
+    requires ready { CanCycle plan.now master.old }
+    ensures line { IfOk result (λ text. (r : ReportState)
+        × IsRun (with_outputs master.old number) (W.state wire.old) (W.state wire.new) (Ok r) master.new
+        × (string_bytes text ≡ report_text table.now.version plan.now.parts r)) }
+    ensures ready { OnOk result (CanCycle plan.now master.new) }
+    ensures refused { IfErr result (IsCycleRefusal (with_outputs master.old number) (W.state wire.old) (W.state wire.new)) }
+{
+    let report = run_number(plan, master, wire, number)?;
+    let mut text = String::new(alloc);
+    write_report(alloc, &mut text, table.version(), plan.parts(), &report)?;
+    Ok(text)
+}
+
+/// Prints that the slaves are up, and runs so many cycles, each of whose reports is printed before the next begins.
+fn print_cycles<W: Wire, O: Write>(
+    alloc: Global,
+    table: &Table,
+    plan: &Plan,
+    master: &mut Master<'_>,
+    wire: &mut W,
+    cycles: u16,
+    output: &mut O,
+) -> Result<(), Refusal>
+    requires plan { plan.now ≡ plan_of table.now }
+    requires ready { CanCycle plan.now master.old }
+    ensures all { OnOk result ((reports : List ReportState)
+        × AreRun master.old (W.state wire.old) 1 reports master.new (W.state wire.new) × (length reports ≡ cycles)
+        × Appends (O.contents output.old) (O.contents output.new) (cycles_text table.now reports)) }
+    ensures part { IfErr result (IsCut cycles table.now master.old (W.state wire.old) (W.state wire.new)
+        (O.contents output.old) (O.contents output.new)) }
+{
+    print_text(READY.as_bytes(), output)?;
+    for cycle in 0..cycles {
+        let line = cycle_line(alloc, table, plan, master, wire, u64::from(cycle) + 1)?;
+        print_text(line.as_bytes(), output)?;
+    }
+    Ok(())
+}
+
+/// What a variable is now; 0 where the master has no such variable.
+fn value_of(master: &Master<'_>, place: usize) -> u64
+    ensures { result ≡ shown master.now place }
+{
+    if place < master.variables() {
+        master.get(place)
+    } else {
+        0
+    }
+}
+
+/// Adds the line of a variable, if it is an input.
+fn write_input(
+    text: &mut String,
+    master: &Master<'_>,
+    place: usize,
+    row: &VariableRow,
+) -> Result<(), AllocError>
+    ensures { OnOk result (string_bytes text.new
+        ≡ string_bytes text.old ++ input_line (shown master.now) place row.now) }
+{
+    match row.direction {
+        Direction::Out => Ok(()),
+        Direction::In => {
+            let (name, value) = (row.name.as_str(), value_of(master, place));
+            writeln!(text, "{name} {value}")
+        }
+    }
+}
+
+/// Adds the lines of the input variables.
+#[tactic(auto, using(crate::proofs::LoopLemmas::line_steps))]
+fn write_inputs(
+    text: &mut String,
+    master: &Master<'_>,
+    rows: &[VariableRow],
+) -> Result<(), AllocError>
+    ensures { OnOk result (string_bytes text.new
+        ≡ string_bytes text.old ++ lines_from (input_line (shown master.now)) 0 rows.now) }
+{
+    for (place, row) in rows.iter().enumerate() {
+        write_input(text, master, place, row)?;
+    }
+    Ok(())
+}
+
+/// The lines of the input variables.
+fn input_lines(alloc: Global, table: &Table, master: &Master<'_>) -> Result<String, AllocError>
+    ensures { IfOk result (λ text. string_bytes text ≡ inputs_text (shown master.now) table.now) }
+{
+    let mut text = String::new(alloc);
+    write_inputs(&mut text, master, table.variables())?;
+    Ok(text)
+}
+
+/// Runs so many cycles with a master whose slaves are up, and prints what `run_loop` does.
+fn run_started<W: Wire, O: Write>(
+    alloc: Global,
+    table: &Table,
+    plan: &Plan,
+    master: &mut Master<'_>,
+    wire: &mut W,
+    cycles: u16,
+    output: &mut O,
+) -> Result<(), Refusal>
+    requires plan { plan.now ≡ plan_of table.now }
+    requires ready { CanCycle plan.now master.old }
+    ensures { RunsCycles cycles table.now master.old (W.state wire.old) (W.state wire.new)
+        (O.contents output.old) (O.contents output.new) result }
+{
+    print_cycles(alloc, table, plan, master, wire, cycles, output)?;
+    let lines = input_lines(alloc, table, master)?;
+    print_text(lines.as_bytes(), output)
+}
+
+/// Brings the slaves on a wire up and runs so many cycles of a table's plan over it. In the n-th cycle each output
+/// variable is sent as n, as far as it has bits. It prints a line when the slaves are up, the report on each cycle before
+/// the next begins, and at the end the input variables.
+///
+/// # Errors
+///
+/// `Refusal::Memory` where memory ran out, the start-up's refusal where it failed, the run's where a cycle could not be
+/// run, and `Refusal::Output` where the output could not be written.
+pub fn run_loop<W: Wire, O: Write>(
+    alloc: Global,
+    table: &Table,
+    plan: &Plan,
+    wire: &mut W,
+    cycles: u16,
+    output: &mut O,
+) -> Result<(), Refusal>
+    requires accepted { compile_fault table.now ≡ None }
+    requires plan { plan.now ≡ plan_of table.now }
+    ensures { Loops cycles table.now (W.state wire.old) (W.state wire.new)
+        (O.contents output.old) (O.contents output.new) result }
+{
+    let mut master = started(alloc, table, plan, wire)?;
+    run_started(alloc, table, plan, &mut master, wire, cycles, output)
+}
+
+/// What a loop of a table runs between: its slaves, just switched on, and two sockets of this process.
+fn loop_ends<H: AllocGlobal + Net>(
+    rt: &H,
+    table: &Table,
+    plan: &Plan,
+) -> Result<(Ring, Sockets), Refusal>
+    requires accepted { compile_fault table.now ≡ None }
+    requires plan { plan.now ≡ plan_of table.now }
+    ensures slaves { IfOk result (λ ends. AreSlavesOf table.now ends.0) }
+    ensures refused { IfErr result IsUnbound }
+{
+    let slaves = slaves_of(rt.alloc(), table, plan)?;
+    let sockets = Sockets::bind(rt)?;
+    Ok((slaves, sockets))
+}
+
+/// The line that says between which ports a loop runs.
+fn between(ports: (u16, u16)) -> ArrayString<LINE_SIZE>
+    ensures { result.bytes ≡ ports_line ports.0 ports.1 }
+{
+    let mut line = ArrayString::new();
+    line.push_str("ecat: loop between 127.0.0.1:");
+    push_number(&mut line, u64::from(ports.0));
+    line.push_str(" and 127.0.0.1:");
+    push_number(&mut line, u64::from(ports.1));
+    line.push_str("\n");
+    line
+}
+
+/// Tells between which ports a loop runs. A fault in telling it changes nothing.
+fn tell_ports<F: Write>(ports: (u16, u16), faults: &mut F)
+    ensures { IsTold (ports_line ports.0 ports.1) (F.contents faults.old) (F.contents faults.new) }
+{
+    let line = between(ports);
+    tell_text(line.as_bytes(), faults);
+}
+
+/// Runs cycles of a table's plan over a wire that has carried nothing yet, and notes what it carries in a capture, if there
+/// is one.
+#[tactic(auto, using(crate::proofs::LoopLemmas::tapped_loops))]
+fn run_tapped<H: AllocGlobal + Files + Clock, W: Wire + Drop, O: Write>(
+    rt: &H,
+    table: &Table,
+    plan: &Plan,
+    wire: W,
+    cycles: u16,
+    capture: &mut Capture<H::File>,
+    output: &mut O,
+) -> Result<(), Refusal>
+    requires accepted { compile_fault table.now ≡ None }
+    requires plan { plan.now ≡ plan_of table.now }
+    requires sent { Tells (W.state wire).sent [] }
+    requires received { Tells (W.state wire).received [] }
+    ensures { (last : W) × Loops cycles table.now (W.state wire) (W.state last)
+        (O.contents output.old) (O.contents output.new) result }
+{
+    match capture.take() {
+        None => {
+            let mut wire = wire;
+            run_loop(rt.alloc(), table, plan, &mut wire, cycles, output)
+        }
+        Some(recording) => {
+            let mut tapped = CapturedWire::new(wire, recording, Side::Master, rt);
+            let ended = run_loop(rt.alloc(), table, plan, &mut tapped, cycles, output);
+            let (_, recording) = tapped.into_parts();
+            *capture = Some(recording);
+            ended
+        }
+    }
+}
+
+/// Runs cycles of a table's plan over two sockets.
+#[tactic(auto, using(crate::proofs::LoopLemmas::no_wire, crate::proofs::LoopLemmas::looped_between))]
+fn loop_plan<H: AllocGlobal + Net + Files + Clock, W: Write, F: Write>(
+    rt: &H,
+    table: &Table,
+    plan: &Plan,
+    cycles: u16,
+    capture: &mut Capture<H::File>,
+    output: &mut W,
+    faults: &mut F,
+    app: &mut dyn App,
+) -> Result<(), Refusal>
+    requires accepted { compile_fault table.now ≡ None }
+    requires plan { plan.now ≡ plan_of table.now }
+    ensures { LoopsOnSockets cycles table.now (W.contents output.old) (W.contents output.new)
+        (F.contents faults.old) (F.contents faults.new) result }
+{
+    let ends = loop_ends(rt, table, plan)?;
+    tell_ports(ends.1.ports(), faults);
+    let wire = LoopWire::new(ends.1, ends.0, app);
+    run_tapped(rt, table, plan, wire, cycles, capture, output)
+}
+
+/// Runs cycles of a table that was read, over two sockets.
+#[tactic(auto, using(crate::proofs::LoopLemmas::never_run, crate::proofs::LoopLemmas::on_table))]
+fn loop_table<H: AllocGlobal + Net + Files + Clock, W: Write, F: Write>(
+    rt: &H,
+    cycles: u16,
+    capture: &mut Capture<H::File>,
+    table: &Table,
+    output: &mut W,
+    faults: &mut F,
+    app: &mut dyn App,
+) -> Result<(), Refusal>
+    ensures { LoopsTable cycles table.now (W.contents output.old) (W.contents output.new)
+        (F.contents faults.old) (F.contents faults.new) result }
+{
+    let plan = compile(rt.alloc(), table)?;
+    loop_plan(rt, table, &plan, cycles, capture, output, faults, app)
+}
+
+/// Runs cycles of the table that a text states, over two sockets.
+fn loop_text<H: AllocGlobal + Net + Files + Clock, W: Write, F: Write>(
+    rt: &H,
+    cycles: u16,
+    capture: &mut Capture<H::File>,
+    text: &str,
+    output: &mut W,
+    faults: &mut F,
+    app: &mut dyn App,
+) -> Result<(), Refusal>
+    ensures { LoopsText cycles text.now (W.contents output.old) (W.contents output.new)
+        (F.contents faults.old) (F.contents faults.new) result }
+{
+    let table = read_table(rt.alloc(), text)?;
+    loop_table(rt, cycles, capture, &table, output, faults, app)
+}
+
+/// The same of the table that the input states. A refusal is explained, where that is wanted.
+fn loop_input<H: AllocGlobal + Net + Files + Clock, R: Read, W: Write, F: Write>(
+    rt: &H,
+    cycles: u16,
+    capture: &mut Capture<H::File>,
+    input: &mut R,
+    output: &mut W,
+    faults: &mut F,
+    app: &mut dyn App,
+    behind: &mut Explanation,
+) -> Result<(), Refusal>
+    ensures runs { RunsLoop cycles (R.remaining input.old) (W.contents output.old) (W.contents output.new)
+        (F.contents faults.old) (F.contents faults.new) result }
+    ensures explains { IsLeft behind.old behind.new }
+{
+    let text = read_text(rt.alloc(), input)?;
+    let ended = loop_text(rt, cycles, capture, text.as_str(), output, faults, app);
+    if let Err(refusal) = &ended {
+        behind.explain(rt.alloc(), text.as_str(), refusal);
+    }
+    ended
+}
+
+/// Runs so many cycles of the table that the input states, master and slaves on two sockets of this process, the slaves'
+/// applications being `app`. It tells the ports of the sockets on `faults`. In the n-th cycle each output variable is sent
+/// as n, as far as it has bits. It prints a line when the slaves are up, the report on each cycle before the next begins,
+/// and at the end the input variables. A refusal of the table, of its start-up or of a cycle is explained, where that is
+/// wanted.
+pub fn print_loop<H: AllocGlobal + Net + Files + Clock, R: Read, W: Write, F: Write>(
+    rt: &H,
+    cycles: u16,
+    input: &mut R,
+    output: &mut W,
+    faults: &mut F,
+    app: &mut dyn App,
+    behind: &mut Explanation,
+) -> Result<(), Refusal>
+    ensures runs { RunsLoop cycles (R.remaining input.old) (W.contents output.old) (W.contents output.new)
+        (F.contents faults.old) (F.contents faults.new) result }
+    ensures explains { IsLeft behind.old behind.new }
+{
+    loop_input(rt, cycles, &mut None, input, output, faults, app, behind)
+}
+
+/// The same with a capture that is open, which is then written to the end.
+fn loop_captured<H: AllocGlobal + Net + Files + Clock, R: Read, W: Write, F: Write>(
+    rt: &H,
+    cycles: u16,
+    capture: Capture<H::File>,
+    input: &mut R,
+    output: &mut W,
+    faults: &mut F,
+    app: &mut dyn App,
+    behind: &mut Explanation,
+) -> Result<(), Refusal>
+    ensures runs { (ended : Result Unit RefusalValue) × RunsLoop cycles (R.remaining input.old) (W.contents output.old)
+        (W.contents output.new) (F.contents faults.old) (F.contents faults.new) ended × Finishes ended result }
+    ensures explains { IsLeft behind.old behind.new }
+{
+    let mut capture = capture;
+    let ended = loop_input(rt, cycles, &mut capture, input, output, faults, app, behind);
+    close_capture(ended, capture)
+}
+
+/// The same with a capture: what the master sends and receives goes into a file, at the interface `loop`.
+///
+/// # Errors
+///
+/// Those of [`print_loop`]; `Refusal::Output` too where the file couldn't be opened, before anything is sent, or couldn't be
+/// written to the end.
+#[tactic(auto, using(ec_captured::proofs::CaptureLemmas::captured_refused, ec_captured::proofs::CaptureLemmas::captured_end))]
+pub fn capture_loop<H: AllocGlobal + Net + Files + Clock, R: Read, W: Write, F: Write>(
+    rt: &H,
+    cycles: u16,
+    file: &str,
+    input: &mut R,
+    output: &mut W,
+    faults: &mut F,
+    app: &mut dyn App,
+    behind: &mut Explanation,
+) -> Result<(), Refusal>
+    ensures runs { EndsCaptured (λ ended. RunsLoop cycles (R.remaining input.old) (W.contents output.old)
+        (W.contents output.new) (F.contents faults.old) (F.contents faults.new) ended)
+        ((output.new ≡ output.old) × (faults.new ≡ faults.old)) result }
+    ensures explains { IsLeft behind.old behind.new }
+{
+    let capture = open_capture(rt, file, "loop")?;
+    loop_captured(rt, cycles, capture, input, output, faults, app, behind)
+}

@@ -1,0 +1,144 @@
+-- Slaves of an input, and a segment that is served.
+use Rattle.std.proofs.Common.{◌≡◌, ◌∙◌, inl, inr, ℕ, List, Option, refl, sym, subst, Result, Ok, Err, IfOk}
+use Rattle.std.specs.Result.{IsErrAnd}
+use Rattle.std.specs.Io.KnownBytes.{Appends}
+use Rattle.ec_slave.specs.State.{SlaveState}
+use Rattle.ec_table.specs.Contents.{Contents}
+use Rattle.ec_table.specs.Reading.{table_of}
+use Rattle.ec_wire.specs.Wires.{IsOpened, SocketState, WireState, silent}
+use Rattle.ec_wire.specs.Segments.{HasServed, WasCutOff}
+use Rattle.ec_wire.proofs.Serving.{all_treated_by}
+use Rattle.ec_console.specs.declared.refusal.Refusal.{Refusal}
+use Rattle.ec_console.specs.declared.refusal.Refusal.TheVariants as refusal
+use Rattle.ec_console.specs.Given.{GivesText}
+use Rattle.ec_console.specs.Printing.{IsTold, Shows}
+use Rattle.ec_segment.specs.Serving.{GivesSlaves, HasSlaves, RefusesSegment, RunsCardSegment, RunsSegment, ServesSegment, StatesSlaves, any_inputs, listening_line, served_line}
+
+-- ---- slaves
+
+pub if_states : {E : Type 0} (r : Result (List SlaveState) E) (text : List ℕ) (t : Contents) → table_of text ≡ Ok t → IfOk r (HasSlaves t) → IfOk r (StatesSlaves text)
+if_states (Ok slaves) text t read h = (t, read, h)
+if_states (Err e) text t read h = tt
+
+pub if_gives : {E : Type 0} (r : Result (List SlaveState) E) (known : Option (List ℕ)) (text : List ℕ) → GivesText known text → IfOk r (StatesSlaves text) → IfOk r (GivesSlaves known)
+if_gives (Ok slaves) known text gives h = (text, gives, h)
+if_gives (Err e) known text gives h = tt
+
+-- ---- what is printed
+
+-- all payloads came
+pub all_served : (r : Result Unit Refusal) (frames answered refused : ℕ) (shows : List ℕ → List ℕ → Type 0) (first last : List SlaveState) (before after : WireState) (old new : Option (List ℕ))
+    → HasServed shows first last before after frames answered refused → Shows (served_line answered refused) old new r
+    → ServesSegment frames shows first last before after old new r
+all_served (Ok done) frames answered refused shows first last before after old new h printed = (answered, refused, h, printed)
+all_served (Err e) frames answered refused shows first last before after old new h printed =
+    subst (λ (x : Refusal). ServesSegment frames shows first last before after old new (Err x)) (sym printed.0) (answered, refused, inl h, printed.1)
+
+-- a fault of the wire, and the counts are printed
+pub some_served : (r : Result Unit Refusal) (frames answered refused : ℕ) (shows : List ℕ → List ℕ → Type 0) (first last : List SlaveState) (before after : WireState) (old new : Option (List ℕ))
+    → WasCutOff shows first last before after frames answered refused → Appends old new (served_line answered refused) → r ≡ Err refusal.Socket
+    → ServesSegment frames shows first last before after old new r
+some_served r frames answered refused shows first last before after old new h printed is =
+    subst (ServesSegment frames shows first last before after old new) (sym is) (answered, refused, h, printed)
+
+-- or they can't be
+pub served_unprinted : (r s : Result Unit Refusal) (x : Refusal) (frames answered refused : ℕ) (shows : List ℕ → List ℕ → Type 0) (first last : List SlaveState) (before after : WireState) (old new : Option (List ℕ))
+    → WasCutOff shows first last before after frames answered refused → IsErrAnd r (λ e. e ≡ x) → s ≡ Err x → Shows (served_line answered refused) old new s
+    → ServesSegment frames shows first last before after old new r
+served_unprinted (Ok done) s x frames answered refused shows first last before after old new h is err printed = absurd is
+served_unprinted (Err e) s x frames answered refused shows first last before after old new h is err printed =
+    let told = subst (Shows (served_line answered refused) old new) err printed in
+    subst (λ (y : Refusal). ServesSegment frames shows first last before after old new (Err y)) (sym (is ∙ told.0)) (answered, refused, inr h, told.1)
+
+-- ---- whatever the application makes
+
+served-any : (shows : List ℕ → List ℕ → Type 0) (first last : List SlaveState) (before after : WireState) (frames answered refused : ℕ) → HasServed shows first last before after frames answered refused
+    → HasServed any_inputs first last before after frames answered refused
+served-any shows first last before after frames answered refused h = record {
+  got = h.got;
+  sent = h.sent;
+  carried = h.carried;
+  treated = all_treated_by shows any_inputs first last h.got h.sent (λ o i made. tt) h.treated;
+  all = h.all;
+  answers = h.answers;
+  others = h.others;
+}
+
+cut-any : (shows : List ℕ → List ℕ → Type 0) (first last : List SlaveState) (before after : WireState) (frames answered refused : ℕ) → WasCutOff shows first last before after frames answered refused
+    → WasCutOff any_inputs first last before after frames answered refused
+cut-any shows first last before after frames answered refused h = record {
+  got = h.got;
+  sent = h.sent;
+  lost = h.lost;
+  carried = h.carried;
+  treated = all_treated_by shows any_inputs first last h.got _ (λ o i made. tt) h.treated;
+  one_lost = h.one_lost;
+  few = h.few;
+  answers = h.answers;
+  others = h.others;
+  fault = h.fault;
+}
+
+serves-any : (r : Result Unit Refusal) (frames : ℕ) (shows : List ℕ → List ℕ → Type 0) (first last : List SlaveState) (before after : WireState) (old new : Option (List ℕ))
+    → ServesSegment frames shows first last before after old new r → ServesSegment frames any_inputs first last before after old new r
+serves-any (Ok done) frames shows first last before after old new h = (h.0, h.1, served-any shows first last before after frames h.0 h.1 h.2, h.3)
+serves-any (Err refusal.Socket) frames shows first last before after old new h = (h.0, h.1, cut-any shows first last before after frames h.0 h.1 h.2, h.3)
+serves-any (Err refusal.Output) frames shows first last before after old new (a, b, inl h, part) = (a, b, inl (served-any shows first last before after frames a b h), part)
+serves-any (Err refusal.Output) frames shows first last before after old new (a, b, inr h, part) = (a, b, inr (cut-any shows first last before after frames a b h), part)
+serves-any (Err refusal.Memory) frames shows first last before after old new h = absurd h
+serves-any (Err (refusal.Frame e)) frames shows first last before after old new h = absurd h
+serves-any (Err (refusal.Table e)) frames shows first last before after old new h = absurd h
+serves-any (Err (refusal.Link e)) frames shows first last before after old new h = absurd h
+serves-any (Err (refusal.Start e)) frames shows first last before after old new h = absurd h
+serves-any (Err (refusal.Run e)) frames shows first last before after old new h = absurd h
+serves-any (Err (refusal.Script e)) frames shows first last before after old new h = absurd h
+serves-any (Err refusal.BadHex) frames shows first last before after old new h = absurd h
+serves-any (Err refusal.Input) frames shows first last before after old new h = absurd h
+serves-any (Err (refusal.Unmet n)) frames shows first last before after old new h = absurd h
+
+-- ---- the whole
+
+pub segment_refused : (r : Result Unit Refusal) (x : Refusal) (frames port : ℕ) (known old quiet : Option (List ℕ)) → IsErrAnd r (λ e. e ≡ x) → RefusesSegment known x
+    → RunsSegment frames port known old old quiet quiet r
+segment_refused (Ok done) x frames port known old quiet is h = absurd is
+segment_refused (Err e) x frames port known old quiet is h = inr (e, refl, subst (RefusesSegment known) (sym is) h, refl, refl)
+
+pub segment_served : (r : Result Unit Refusal) (frames port listens : ℕ) (opened closed : SocketState) (known old new quiet told : Option (List ℕ)) (shows : List ℕ → List ℕ → Type 0) (first last : List SlaveState)
+    → GivesSlaves known first → IsOpened port opened → listens ≡ opened.port → IsTold (listening_line listens) quiet told
+    → ServesSegment frames shows first last (silent opened.failed) (silent closed.failed) old new r → RunsSegment frames port known old new quiet told r
+segment_served r frames port listens opened closed known old new quiet told shows first last slaves socket same line serves = inl (record {
+  opened = opened;
+  closed = closed;
+  first = first;
+  last = last;
+  slaves = slaves;
+  socket = socket;
+  tells = subst (λ (n : ℕ). IsTold (listening_line n) quiet told) same line;
+  serves = serves-any r frames shows first last (silent opened.failed) (silent closed.failed) old new serves;
+})
+
+-- the same on a card
+pub card_refused : (r : Result Unit Refusal) (x : Refusal) (frames : ℕ) (known old : Option (List ℕ)) → IsErrAnd r (λ e. e ≡ x) → RefusesSegment known x
+    → RunsCardSegment frames known old old r
+card_refused (Ok done) x frames known old is h = absurd is
+card_refused (Err e) x frames known old is h = inr (e, refl, subst (RefusesSegment known) (sym is) h, refl)
+
+pub card_served : (r : Result Unit Refusal) (frames : ℕ) (opened closed : WireState) (known old new : Option (List ℕ)) (shows : List ℕ → List ℕ → Type 0) (first last : List SlaveState)
+    → GivesSlaves known first → opened ≡ silent 0 → ServesSegment frames shows first last opened closed old new r → RunsCardSegment frames known old new r
+card_served r frames opened closed known old new shows first last slaves fresh serves = inl (record {
+  closed = closed;
+  first = first;
+  last = last;
+  slaves = slaves;
+  serves = subst (λ (w : WireState). ServesSegment frames any_inputs first last w closed old new r) fresh (serves-any r frames shows first last opened closed old new serves);
+})
+
+-- payloads answered on a wire where they are noted are answered on the wire
+pub tapped_serves : {W : Type 0} (state : W → WireState) (frames : ℕ) (shows : List ℕ → List ℕ → Type 0) (slaves served : List SlaveState) (first began after : WireState) (last : W)
+    (old new : Option (List ℕ)) (r : Result Unit Refusal) → began ≡ first → state last ≡ after → ServesSegment frames shows slaves served began after old new r
+    → (x : W) × ServesSegment frames shows slaves served first (state x) old new r
+tapped_serves state frames shows slaves served first began after last old new r same is serves = (
+  last,
+  subst (λ (w : WireState). ServesSegment frames shows slaves served first w old new r) (sym is)
+      (subst (λ (w : WireState). ServesSegment frames shows slaves served w after old new r) same serves),
+)

@@ -1,0 +1,2 @@
+-- To be believed by reading: what `ecat segment` prints and tells.
+pub mod Serving

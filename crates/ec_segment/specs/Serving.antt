@@ -1,0 +1,99 @@
+-- What `ecat segment` prints and tells (this project's profile).
+use Rattle.std.specs.Prelude.{◌≡◌, ◌⊎◌, ℕ, List, ◌∷◌, [], ◌++◌, Option, None, Result, Ok, Err, codes}
+use Rattle.std.specs.Fmt.{decimal}
+use Rattle.std.specs.Io.KnownBytes.{Appends}
+use Rattle.ec_slave.specs.State.{SlaveState}
+use Rattle.ec_table.specs.Contents.{Contents}
+use Rattle.ec_table.specs.Reading.{table_of}
+use Rattle.ec_link.specs.Faults.{compile_fault}
+use Rattle.ec_rise.specs.SwitchedOn.{AreSlavesOf}
+use Rattle.ec_wire.specs.Wires.{IsOpened, SocketState, WireState, silent}
+use Rattle.ec_wire.specs.Segments.{HasServed, WasCutOff}
+use Rattle.ec_console.specs.declared.refusal.Refusal.{Refusal}
+use Rattle.ec_console.specs.declared.refusal.Refusal.TheVariants.{Output, Socket}
+use Rattle.ec_console.specs.Given.{GivesText, RefusesTable}
+use Rattle.ec_console.specs.Printing.{AppendsPart, IsTold}
+
+-- how many payloads were answered, and how many not
+abbrev pub served_line : ℕ → ℕ → List ℕ
+served_line answered refused = codes "served " ++ (decimal answered ++ (codes " refused " ++ (decimal refused ++ 10 ∷ [])))
+
+-- where a segment listens
+abbrev pub listening_line : ℕ → List ℕ
+listening_line port = codes "ecat: listening on 127.0.0.1:" ++ decimal port ++ 10 ∷ []
+
+-- ---- slaves
+
+-- the slaves of a table that has a plan, just switched on
+abbrev pub HasSlaves : Contents → List SlaveState → Type 0
+HasSlaves t slaves = (compile_fault t ≡ None) × AreSlavesOf t slaves
+
+-- those of the table that a text states
+abbrev pub StatesSlaves : List ℕ → List SlaveState → Type 0
+StatesSlaves text slaves = (t : Contents) × (table_of text ≡ Ok t) × HasSlaves t slaves
+
+-- and of that which the input gives
+abbrev pub GivesSlaves : Option (List ℕ) → List SlaveState → Type 0
+GivesSlaves known slaves = (text : List ℕ) × GivesText known text × StatesSlaves text slaves
+
+-- ---- on a wire
+
+-- Slaves that answered on a wire so many payloads and refused so many, by what the slaves and the wire are before and after:
+-- as many came as there were to come, or a call of the wire was a fault before.
+abbrev pub HasAnswered : (shows : List ℕ → List ℕ → Type 0) → (first last : List SlaveState) → (before after : WireState) → (frames answered refused : ℕ) → Type 0
+HasAnswered shows first last before after frames answered refused =
+    HasServed shows first last before after frames answered refused ⊎ WasCutOff shows first last before after frames answered refused
+
+-- The counts are printed at every end: all payloads came; or a call of the wire was a fault; or a write is refused, and a
+-- first part of the line is printed.
+abbrev pub ServesSegment : ℕ → (shows : List ℕ → List ℕ → Type 0) → (first last : List SlaveState) → (before after : WireState) → (old new : Option (List ℕ)) → Result Unit Refusal → Type 0
+ServesSegment frames shows first last before after old new (Ok done) =
+    (answered : ℕ) × (refused : ℕ) × HasServed shows first last before after frames answered refused × Appends old new (served_line answered refused)
+ServesSegment frames shows first last before after old new (Err Socket) =
+    (answered : ℕ) × (refused : ℕ) × WasCutOff shows first last before after frames answered refused × Appends old new (served_line answered refused)
+ServesSegment frames shows first last before after old new (Err Output) =
+    (answered : ℕ) × (refused : ℕ) × HasAnswered shows first last before after frames answered refused × AppendsPart old new (served_line answered refused)
+ServesSegment frames shows first last before after old new (Err _) = ⊥
+
+-- ---- on a socket
+
+-- an application of which nothing is said
+abbrev pub any_inputs : List ℕ → List ℕ → Type 0
+any_inputs outputs inputs = Unit {0}
+
+-- A socket on this port, and at it the slaves of the table that the input states, just switched on: it is told that they
+-- listen there, and then they are served. A socket tells no payload, so what it carried is any.
+pub record ListensOn (frames port : ℕ) (known old new quiet told : Option (List ℕ)) (ended : Result Unit Refusal) : Type 0 where
+  pub opened : SocketState
+  pub closed : SocketState
+  pub first : List SlaveState
+  pub last : List SlaveState
+  pub slaves : GivesSlaves known first
+  pub socket : IsOpened port opened
+  pub tells : IsTold (listening_line opened.port) quiet told
+  pub serves : ServesSegment frames any_inputs first last (silent opened.failed) (silent closed.failed) old new ended
+
+-- a fault of the input or its table, or there is no such socket
+abbrev pub RefusesSegment : Option (List ℕ) → Refusal → Type 0
+RefusesSegment known refusal = RefusesTable known refusal ⊎ (refusal ≡ Socket)
+
+-- how it ends, by what the input gives, and what the output and the fault stream hold before and after
+abbrev pub RunsSegment : (frames port : ℕ) → (known old new quiet told : Option (List ℕ)) → Result Unit Refusal → Type 0
+RunsSegment frames port known old new quiet told ended =
+    ListensOn frames port known old new quiet told ended
+    ⊎ ((refusal : Refusal) × (ended ≡ Err refusal) × RefusesSegment known refusal × (new ≡ old) × (told ≡ quiet))
+
+-- ---- on a card
+
+-- A card's socket, and at it the slaves of the table that the input states, just switched on, which are served.
+pub record AnswersOnCard (frames : ℕ) (known old new : Option (List ℕ)) (ended : Result Unit Refusal) : Type 0 where
+  pub closed : WireState
+  pub first : List SlaveState
+  pub last : List SlaveState
+  pub slaves : GivesSlaves known first
+  pub serves : ServesSegment frames any_inputs first last (silent 0) closed old new ended
+
+-- or a fault of the input or its table, or the descriptor is no socket's
+abbrev pub RunsCardSegment : (frames : ℕ) → (known old new : Option (List ℕ)) → Result Unit Refusal → Type 0
+RunsCardSegment frames known old new ended =
+    AnswersOnCard frames known old new ended ⊎ ((refusal : Refusal) × (ended ≡ Err refusal) × RefusesSegment known refusal × (new ≡ old))

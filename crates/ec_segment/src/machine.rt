@@ -1,0 +1,53 @@
+//! The machine that a link table on the input states.
+ghost use Rattle.std.specs.Prelude.{IfErr, IfOk};
+ghost use Rattle.ec_console.specs.Explaining.{IsLeft};
+ghost use Rattle.ec_console.specs.Given.{IsTableRefusal, RefusesTable};
+ghost use Rattle.ec_segment.specs.Serving.{GivesSlaves, HasSlaves, StatesSlaves};
+ghost use Rattle.ec_console.specs.Given.{IsLinkRefusal};
+
+use ec_console::{Explanation, Refusal, read_text};
+use ec_link::compile;
+use ec_ring::Ring;
+use ec_rise::slaves_of;
+use ec_table::{Table, read_table};
+use std::alloc::Global;
+use std::io::Read;
+
+/// The slaves of a table that was read, as they are switched on.
+fn slaves_of_table(alloc: Global, table: &Table) -> Result<Ring, Refusal>
+    ensures slaves { IfOk result (HasSlaves table.now) }
+    ensures refused { IfErr result (IsLinkRefusal table.now) }
+{
+    let plan = compile(alloc, table)?;
+    Ok(slaves_of(alloc, table, &plan)?)
+}
+
+/// The slaves of the table that the text states, as they are switched on.
+#[tactic(auto, using(crate::proofs::SegmentLemmas::if_states))]
+fn slaves_of_text(alloc: Global, text: &str) -> Result<Ring, Refusal>
+    ensures slaves { IfOk result (StatesSlaves text.now) }
+    ensures refused { IfErr result (IsTableRefusal text.now) }
+{
+    let table = read_table(alloc, text)?;
+    slaves_of_table(alloc, &table)
+}
+
+/// The slaves of the table that the input states, as they are switched on. A refusal of the table is
+/// explained, where that is wanted.
+#[tactic(auto, using(crate::proofs::SegmentLemmas::if_gives))]
+pub(crate) fn slaves_of_input<R: Read>(
+    alloc: Global,
+    input: &mut R,
+    behind: &mut Explanation,
+) -> Result<Ring, Refusal>
+    ensures slaves { IfOk result (GivesSlaves (R.remaining input.old)) }
+    ensures refused { IfErr result (RefusesTable (R.remaining input.old)) }
+    ensures explains { IsLeft behind.old behind.new }
+{
+    let text = read_text(alloc, input)?;
+    let made = slaves_of_text(alloc, text.as_str());
+    if let Err(refusal) = &made {
+        behind.explain(alloc, text.as_str(), refusal);
+    }
+    made
+}

@@ -1,0 +1,349 @@
+//! `ecat segment`: the slaves of a link table, on a socket or a card.
+ghost use Rattle.std.specs.Prelude.{◌≡◌, [], Result};
+ghost use Rattle.ec_console.specs.Explaining.{IsLeft};
+ghost use Rattle.ec_console.specs.Printing.{IsTold, Shows};
+ghost use Rattle.ec_tap.specs.Taps.{Tells};
+ghost use Rattle.ec_captured.specs.Capturing.{EndsCaptured, Finishes};
+ghost use Rattle.ec_console.specs.declared.refusal.Refusal.{Refusal as RefusalValue};
+ghost use Rattle.ec_segment.specs.Serving.{RunsCardSegment, RunsSegment, ServesSegment, listening_line, served_line};
+
+use crate::machine::slaves_of_input;
+use arrayvec::ArrayString;
+use ec_captured::{Capture, close_capture, open_capture};
+use ec_card::{CardWire, Patience, Sender};
+use ec_console::{Explanation, Refusal, print_text, push_number, tell_text};
+use ec_ring::Ring;
+use ec_tap::{CapturedWire, Side};
+use ec_wire::{App, Served, UdpWire, Wire, serve_counted};
+use std::fs::Files;
+use std::io::{Read, Write};
+use std::net::Net;
+use std::time::{Clock, Duration};
+
+/// As many bytes as one of these lines may have.
+const LINE_SIZE: usize = 80;
+
+/// The line that says where a segment listens.
+fn listening(port: u16) -> ArrayString<LINE_SIZE>
+    ensures { result.bytes ≡ listening_line port }
+{
+    let mut line = ArrayString::new();
+    line.push_str("ecat: listening on 127.0.0.1:");
+    push_number(&mut line, u64::from(port));
+    line.push_str("\n");
+    line
+}
+
+/// The line that says how many payloads were answered, and how many not.
+fn served(counts: Served) -> ArrayString<LINE_SIZE>
+    ensures { result.bytes ≡ served_line counts.answered counts.refused }
+{
+    let mut line = ArrayString::new();
+    line.push_str("served ");
+    push_number(&mut line, u64::from(counts.answered));
+    line.push_str(" refused ");
+    push_number(&mut line, u64::from(counts.refused));
+    line.push_str("\n");
+    line
+}
+
+/// Tells where a segment listens. A fault in telling it changes nothing.
+fn tell_listening<F: Write>(port: u16, faults: &mut F)
+    ensures { IsTold (listening_line port) (F.contents faults.old) (F.contents faults.new) }
+{
+    let line = listening(port);
+    tell_text(line.as_bytes(), faults);
+}
+
+/// Prints how many payloads were answered, and how many not.
+#[tactic(auto, using(ec_console::proofs::PrintLemmas::shown))]
+fn print_served<W: Write>(counts: Served, output: &mut W) -> Result<(), Refusal>
+    ensures { Shows (served_line counts.answered counts.refused) (W.contents output.old) (W.contents output.new) result }
+{
+    let line = served(counts);
+    print_text(line.as_bytes(), output)
+}
+
+/// Answers payloads on a wire, so many in all, as slaves whose applications are `app`. At its end, also where a call of the
+/// wire was a fault, it prints how many payloads were frames, which were answered, and how many were not.
+///
+/// # Errors
+///
+/// `Refusal::Socket` where a call of the wire was a fault, and `Refusal::Output` where the counts could not be printed.
+#[tactic(auto, using(crate::proofs::SegmentLemmas::all_served, crate::proofs::SegmentLemmas::some_served, crate::proofs::SegmentLemmas::served_unprinted))]
+pub fn print_served_segment<W: Wire, O: Write>(
+    slaves: &mut Ring,
+    app: &mut dyn App,
+    wire: &mut W,
+    frames: u32,
+    output: &mut O,
+) -> Result<(), Refusal>
+    ensures { ServesSegment frames (shows app.old) slaves.old slaves.new (W.state wire.old) (W.state wire.new)
+        (O.contents output.old) (O.contents output.new) result }
+{
+    match serve_counted(slaves, app, wire, frames) {
+        Ok(counts) => print_served(counts, output),
+        Err(counts) => {
+            print_served(counts, output)?;
+            Err(Refusal::Socket)
+        }
+    }
+}
+
+/// The same on a wire that has carried nothing yet, whose payloads are noted in a capture, if there is one.
+#[tactic(auto, using(crate::proofs::SegmentLemmas::tapped_serves))]
+fn serve_tapped<H: AllocGlobal + Files + Clock, W: Wire + Drop, O: Write>(
+    rt: &H,
+    slaves: &mut Ring,
+    app: &mut dyn App,
+    wire: W,
+    frames: u32,
+    capture: &mut Capture<H::File>,
+    output: &mut O,
+) -> Result<(), Refusal>
+    requires sent { Tells (W.state wire).sent [] }
+    requires received { Tells (W.state wire).received [] }
+    ensures { (last : W) × ServesSegment frames (shows app.old) slaves.old slaves.new (W.state wire) (W.state last)
+        (O.contents output.old) (O.contents output.new) result }
+{
+    match capture.take() {
+        None => {
+            let mut wire = wire;
+            print_served_segment(slaves, app, &mut wire, frames, output)
+        }
+        Some(recording) => {
+            let mut tapped = CapturedWire::new(wire, recording, Side::Segment, rt);
+            let ended = print_served_segment(slaves, app, &mut tapped, frames, output);
+            let (_, recording) = tapped.into_parts();
+            *capture = Some(recording);
+            ended
+        }
+    }
+}
+
+/// Answers payloads on a port, as [`print_segment`] does, and notes them in a capture, if there is one.
+#[tactic(auto, using(crate::proofs::SegmentLemmas::segment_refused, crate::proofs::SegmentLemmas::segment_served))]
+fn serve_port<H: AllocGlobal + Net + Files + Clock, R: Read, W: Write, F: Write>(
+    rt: &H,
+    frames: u32,
+    port: u16,
+    idle: u32,
+    capture: &mut Capture<H::File>,
+    input: &mut R,
+    output: &mut W,
+    faults: &mut F,
+    app: &mut dyn App,
+    behind: &mut Explanation,
+) -> Result<(), Refusal>
+    ensures runs { RunsSegment frames port (R.remaining input.old) (W.contents output.old) (W.contents output.new)
+        (F.contents faults.old) (F.contents faults.new) result }
+    ensures explains { IsLeft behind.old behind.new }
+{
+    let mut slaves = slaves_of_input(rt.alloc(), input, behind)?;
+    let wire = UdpWire::bind_idle(rt, port, idle)?;
+    tell_listening(wire.port(), faults);
+    serve_tapped(rt, &mut slaves, app, wire, frames, capture, output)
+}
+
+/// Answers payloads on a port of 127.0.0.1, so many in all, as the slaves of the table that the input states, whose
+/// applications are `app`. Once it listens it says so on `faults`; at every end from then on it prints how many payloads were
+/// frames, which were answered, and how many were not. Where no payload comes for `idle` seconds it ends as by a fault of
+/// the socket; with 0 it waits on. A refusal of the table is explained, where that is wanted.
+///
+/// # Errors
+///
+/// The refusal of the input or of its table, `Refusal::Socket` where there is no such socket, and what
+/// [`print_served_segment`] ends by.
+pub fn print_segment<H: AllocGlobal + Net + Files + Clock, R: Read, W: Write, F: Write>(
+    rt: &H,
+    frames: u32,
+    port: u16,
+    idle: u32,
+    input: &mut R,
+    output: &mut W,
+    faults: &mut F,
+    app: &mut dyn App,
+    behind: &mut Explanation,
+) -> Result<(), Refusal>
+    ensures runs { RunsSegment frames port (R.remaining input.old) (W.contents output.old) (W.contents output.new)
+        (F.contents faults.old) (F.contents faults.new) result }
+    ensures explains { IsLeft behind.old behind.new }
+{
+    serve_port(
+        rt, frames, port, idle, &mut None, input, output, faults, app, behind,
+    )
+}
+
+/// The same with a capture that is open, which is then written to the end.
+fn port_captured<H: AllocGlobal + Net + Files + Clock, R: Read, W: Write, F: Write>(
+    rt: &H,
+    frames: u32,
+    port: u16,
+    idle: u32,
+    capture: Capture<H::File>,
+    input: &mut R,
+    output: &mut W,
+    faults: &mut F,
+    app: &mut dyn App,
+    behind: &mut Explanation,
+) -> Result<(), Refusal>
+    ensures runs { (ended : Result Unit RefusalValue) × RunsSegment frames port (R.remaining input.old) (W.contents output.old)
+        (W.contents output.new) (F.contents faults.old) (F.contents faults.new) ended × Finishes ended result }
+    ensures explains { IsLeft behind.old behind.new }
+{
+    let mut capture = capture;
+    let ended = serve_port(
+        rt,
+        frames,
+        port,
+        idle,
+        &mut capture,
+        input,
+        output,
+        faults,
+        app,
+        behind,
+    );
+    close_capture(ended, capture)
+}
+
+/// The same with a capture: what the segment receives and sends goes into a file, at the interface `segment`.
+///
+/// # Errors
+///
+/// Those of [`print_segment`]; `Refusal::Output` too where the file couldn't be opened, before anything is received, or
+/// couldn't be written to the end.
+#[tactic(auto, using(ec_captured::proofs::CaptureLemmas::captured_refused, ec_captured::proofs::CaptureLemmas::captured_end))]
+pub fn capture_segment<H: AllocGlobal + Net + Files + Clock, R: Read, W: Write, F: Write>(
+    rt: &H,
+    frames: u32,
+    port: u16,
+    idle: u32,
+    file: &str,
+    input: &mut R,
+    output: &mut W,
+    faults: &mut F,
+    app: &mut dyn App,
+    behind: &mut Explanation,
+) -> Result<(), Refusal>
+    ensures runs { EndsCaptured (λ ended. RunsSegment frames port (R.remaining input.old) (W.contents output.old)
+        (W.contents output.new) (F.contents faults.old) (F.contents faults.new) ended)
+        ((output.new ≡ output.old) × (faults.new ≡ faults.old)) result }
+    ensures explains { IsLeft behind.old behind.new }
+{
+    let capture = open_capture(rt, file, "segment")?;
+    port_captured(
+        rt, frames, port, idle, capture, input, output, faults, app, behind,
+    )
+}
+
+/// How long a segment on a card waits for a payload; with 0 seconds it waits on.
+fn patience_of(seconds: u32) -> Patience {
+    if seconds == 0 {
+        Patience::Endless
+    } else {
+        Patience::For(Duration::from_secs(u64::from(seconds)))
+    }
+}
+
+/// Answers payloads on a card, as [`print_card_segment`] does, and notes them in a capture, if there is one.
+#[tactic(auto, using(crate::proofs::SegmentLemmas::card_refused, crate::proofs::SegmentLemmas::card_served))]
+fn serve_card<H: AllocGlobal + Files + Clock, R: Read, W: Write>(
+    rt: &H,
+    frames: u32,
+    descriptor: u16,
+    idle: u32,
+    capture: &mut Capture<H::File>,
+    input: &mut R,
+    output: &mut W,
+    app: &mut dyn App,
+    behind: &mut Explanation,
+) -> Result<(), Refusal>
+    ensures runs { RunsCardSegment frames (R.remaining input.old) (W.contents output.old) (W.contents output.new) result }
+    ensures explains { IsLeft behind.old behind.new }
+{
+    let mut slaves = slaves_of_input(rt.alloc(), input, behind)?;
+    let wire = CardWire::of_descriptor(i32::from(descriptor), Sender::Segment, patience_of(idle))?;
+    serve_tapped(rt, &mut slaves, app, wire, frames, capture, output)
+}
+
+/// Answers Ethernet frames on the card whose raw socket has a descriptor, so many in all, as the slaves of the table that the
+/// input states, whose applications are `app`, with bit 1 of the source set. At every end it prints how many payloads were
+/// frames, which were answered, and how many were not. Where no payload comes for `idle` seconds it ends as by a fault of the
+/// socket; with 0 it waits on. A refusal of the table is explained, where that is wanted.
+///
+/// # Errors
+///
+/// The refusal of the input or of its table, `Refusal::Socket` where the descriptor isn't that of a socket, and what
+/// [`print_served_segment`] ends by.
+pub fn print_card_segment<H: AllocGlobal + Files + Clock, R: Read, W: Write>(
+    rt: &H,
+    frames: u32,
+    descriptor: u16,
+    idle: u32,
+    input: &mut R,
+    output: &mut W,
+    app: &mut dyn App,
+    behind: &mut Explanation,
+) -> Result<(), Refusal>
+    ensures runs { RunsCardSegment frames (R.remaining input.old) (W.contents output.old) (W.contents output.new) result }
+    ensures explains { IsLeft behind.old behind.new }
+{
+    serve_card(
+        rt, frames, descriptor, idle, &mut None, input, output, app, behind,
+    )
+}
+
+/// The same with a capture that is open, which is then written to the end.
+fn card_captured<H: AllocGlobal + Files + Clock, R: Read, W: Write>(
+    rt: &H,
+    frames: u32,
+    descriptor: u16,
+    idle: u32,
+    capture: Capture<H::File>,
+    input: &mut R,
+    output: &mut W,
+    app: &mut dyn App,
+    behind: &mut Explanation,
+) -> Result<(), Refusal>
+    ensures runs { (ended : Result Unit RefusalValue) × RunsCardSegment frames (R.remaining input.old) (W.contents output.old)
+        (W.contents output.new) ended × Finishes ended result }
+    ensures explains { IsLeft behind.old behind.new }
+{
+    let mut capture = capture;
+    let ended = serve_card(
+        rt,
+        frames,
+        descriptor,
+        idle,
+        &mut capture,
+        input,
+        output,
+        app,
+        behind,
+    );
+    close_capture(ended, capture)
+}
+
+/// The same with a capture, as of [`capture_segment`].
+#[tactic(auto, using(ec_captured::proofs::CaptureLemmas::captured_refused, ec_captured::proofs::CaptureLemmas::captured_end))]
+pub fn capture_card_segment<H: AllocGlobal + Files + Clock, R: Read, W: Write>(
+    rt: &H,
+    frames: u32,
+    descriptor: u16,
+    idle: u32,
+    file: &str,
+    input: &mut R,
+    output: &mut W,
+    app: &mut dyn App,
+    behind: &mut Explanation,
+) -> Result<(), Refusal>
+    ensures runs { EndsCaptured (λ ended. RunsCardSegment frames (R.remaining input.old) (W.contents output.old)
+        (W.contents output.new) ended) (output.new ≡ output.old) result }
+    ensures explains { IsLeft behind.old behind.new }
+{
+    let capture = open_capture(rt, file, "segment")?;
+    card_captured(
+        rt, frames, descriptor, idle, capture, input, output, app, behind,
+    )
+}

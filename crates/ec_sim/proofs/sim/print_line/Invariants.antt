@@ -1,0 +1,5 @@
+use Rattle.ec_sim.proofs.SimLemmas.{IsDone}
+use Rattle.ec_sim.proofs.sim.print_line.Given as goal
+
+abbrev pub invariant-loop : goal.invariant-loop
+invariant-loop g l = IsDone l.table l.initial.world l.line l.counter l.world l.unmet (g.W.Write.contents l.initial.output) (g.W.Write.contents l.output)

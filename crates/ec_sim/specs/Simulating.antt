@@ -1,0 +1,146 @@
+-- What `ecat sim` answers (this project's profile).
+use Rattle.std.specs.Prelude.{◌≡◌, ◌⊎◌, ℕ, ◌+◌, ◌-◌, ◌^◌, ◌<◌, ◌==◌, min, List, [], ◌∷◌, ◌++◌, take, if◌then◌else◌, Option, None, Result, Ok, Err}
+use Rattle.std.specs.Io.KnownBytes.{Appends}
+use Rattle.ec_regs.specs.declared.slave_type.Identity.{Identity}
+use Rattle.ec_table.specs.Contents.{Contents}
+use Rattle.ec_table.specs.Reading.{table_of}
+use Rattle.ec_link.specs.Faults.{compile_fault}
+use Rattle.ec_link.specs.Plan.{plan_of}
+use Rattle.ec_rise.specs.SwitchedOn.{AreIdentities}
+use Rattle.ec_world.specs.Whole.{new_world}
+use Rattle.ec_world.specs.World.{WorldState}
+use Rattle.ec_script.specs.declared.error.ScriptError.{ScriptError}
+use Rattle.ec_script.specs.declared.line.Line.{Line}
+use Rattle.ec_script.specs.declared.said.Said.{Said}
+use Rattle.ec_script.specs.Events.{RunsLine}
+use Rattle.ec_script.specs.Halves.{Splits}
+use Rattle.ec_script.specs.Scripts.{Fails as ScriptFails, repeated, script_of}
+use Rattle.ec_script.specs.Texts.{said_text}
+use Rattle.ec_script.specs.Work.{Does, is_done, is_unmet}
+use Rattle.ec_console.specs.declared.refusal.Refusal.{Refusal}
+use Rattle.ec_console.specs.declared.refusal.Refusal.TheVariants.{Memory, Output, Script, Unmet}
+use Rattle.ec_console.specs.Given.{GivesText, IsInputRefusal, IsTableRefusal}
+use Rattle.ec_console.specs.Printing.{AppendsPart}
+
+-- ---- lines
+
+-- 1 where what is expected isn't so
+abbrev pub unmet_of : Said → ℕ
+unmet_of said = if is_unmet said then 1 else 0
+
+-- a line is done once: it leaves the world as `World::run` of its events does (`RunsLine`), and its text is that of the world then
+pub record SaysLine (t : Contents) (w : WorldState) (line : Line) (new : WorldState) (printed : List ℕ) (unmet : ℕ) : Type 0 where
+  pub said : Said
+  pub does : Does line.act w new said
+  pub run : RunsLine line.act w new (is_done said)
+  pub text : printed ≡ said_text t line.number new said
+  pub count : unmet ≡ unmet_of said
+
+-- What lines print that are done once each, and how often what they expect isn't so. Each is done in the world that the one
+-- before left.
+abbrev pub Says : Contents → WorldState → List Line → WorldState → List ℕ → ℕ → Type 0
+Says t w [] new printed unmet = (new ≡ w) × (printed ≡ []) × (unmet ≡ 0)
+Says t w (line ∷ lines) new printed unmet = (mid : WorldState) × (text : List ℕ) × (more : List ℕ) × (one : ℕ) × (rest : ℕ)
+    × SaysLine t w line mid text one × Says t mid lines new more rest × (printed ≡ text ++ more) × (unmet ≡ one + rest)
+
+-- these lines are printed
+pub record PrintsAll (t : Contents) (w : WorldState) (lines : List Line) (last : WorldState) (unmet : ℕ) (old new : Option (List ℕ)) : Type 0 where
+  pub printed : List ℕ
+  pub says : Says t w lines last printed unmet
+  pub appends : Appends old new printed
+
+-- a first part is printed of what some first of these lines say
+pub record PrintsPart (t : Contents) (w : WorldState) (lines : List Line) (old new : Option (List ℕ)) : Type 0 where
+  pub count : ℕ
+  pub last : WorldState
+  pub printed : List ℕ
+  pub unmet : ℕ
+  pub says : Says t w (take count lines) last printed unmet
+  pub appends : AppendsPart old new printed
+
+-- the lines of a script are printed, each as often as it is done
+abbrev pub PrintsLines : Contents → WorldState → List Line → ℕ → Option (List ℕ) → Option (List ℕ) → Type 0
+PrintsLines t w lines unmet old new = (last : WorldState) × PrintsAll t w (repeated lines) last unmet old new
+
+abbrev pub PrintsSome : Contents → WorldState → List Line → Option (List ℕ) → Option (List ℕ) → Type 0
+PrintsSome t w lines old new = PrintsPart t w (repeated lines) old new
+
+-- as far as 64 bits count
+abbrev pub counted : ℕ → ℕ
+counted unmet = min unmet (2 ^ 64 - 1)
+
+-- the end of a run, by that count
+abbrev pub ended_by : ℕ → Result Unit Refusal
+ended_by unmet = if unmet == 0 then Ok tt else Err (Unmet unmet)
+
+-- what is expected isn't so, so many times
+abbrev pub EndsUnmet : Refusal → (ℕ → Type 0) → Type 0
+EndsUnmet refusal P = (unmet : ℕ) × (0 < unmet) × (refusal ≡ Unmet (counted unmet)) × P unmet
+
+-- what can end a script that runs
+abbrev pub IsLate : Refusal → Type 0
+IsLate Memory = Unit {0}
+IsLate Output = Unit {0}
+IsLate _ = ⊥
+
+-- ---- the whole
+
+-- a text is a table that has a plan, and a script
+pub record IsSimulation (text : List ℕ) (t : Contents) (lines : List Line) : Type 0 where
+  pub table : List ℕ
+  pub script : List ℕ
+  pub split : Splits text table script
+  pub stated : table_of table ≡ Ok t
+  pub accepted : compile_fault t ≡ None
+  pub read : script_of t script ≡ Ok lines
+
+-- its slaves are switched on
+pub record BeginsAs (t : Contents) (w : WorldState) : Type 0 where
+  pub identities : List Identity
+  pub shown : AreIdentities t identities
+  pub is : w ≡ new_world (plan_of t) identities
+
+-- the lines run over slaves of the table that are switched on, and what they say is printed, where what they expect is so; or
+-- it isn't, so many times; or a script that runs is cut short, and what it said until then is printed; or memory is refused
+-- before the first line
+abbrev pub RunsLines : Contents → List Line → Option (List ℕ) → Option (List ℕ) → Result Unit Refusal → Type 0
+RunsLines t lines old new (Ok done) = (w : WorldState) × BeginsAs t w × PrintsLines t w lines 0 old new
+RunsLines t lines old new (Err refusal) =
+    ((refusal ≡ Memory) × (new ≡ old))
+    ⊎ ((IsLate refusal × (w : WorldState) × BeginsAs t w × PrintsSome t w lines old new)
+    ⊎ EndsUnmet refusal (λ unmet. (w : WorldState) × BeginsAs t w × PrintsLines t w lines unmet old new))
+
+-- the first fault of the table, or of its plan, or the first bad line of the script, in this order
+abbrev pub IsScriptRefusal : List ℕ → List ℕ → ScriptError → Type 0
+IsScriptRefusal table script error = (t : Contents) × (table_of table ≡ Ok t) × (compile_fault t ≡ None) × ScriptFails error (script_of t script)
+
+abbrev pub IsHalfRefusal : List ℕ → List ℕ → Refusal → Type 0
+IsHalfRefusal table script (Script error) = IsScriptRefusal table script error
+IsHalfRefusal table script refusal = IsTableRefusal table refusal
+
+abbrev pub IsSimRefusal : List ℕ → Refusal → Type 0
+IsSimRefusal text refusal = (table : List ℕ) × (script : List ℕ) × Splits text table script × IsHalfRefusal table script refusal
+
+-- the run of a text's script is printed line by line
+pub record Simulates (text : List ℕ) (Printed : Contents → WorldState → List Line → Type 0) : Type 0 where
+  pub t : Contents
+  pub lines : List Line
+  pub world : WorldState
+  pub simulation : IsSimulation text t lines
+  pub begins : BeginsAs t world
+  pub printed : Printed t world lines
+
+-- how it ends, by what the writer holds before and after: all is printed, and what is expected is so; or it isn't, so many
+-- times; or nothing is printed, since the text is refused; or a script that runs is cut short, and what it said until then is
+-- printed
+abbrev pub RunsText : List ℕ → Option (List ℕ) → Option (List ℕ) → Result Unit Refusal → Type 0
+RunsText text old new (Ok done) = Simulates text (λ t w lines. PrintsLines t w lines 0 old new)
+RunsText text old new (Err refusal) =
+    (IsSimRefusal text refusal × (new ≡ old))
+    ⊎ ((IsLate refusal × Simulates text (λ t w lines. PrintsSome t w lines old new))
+    ⊎ EndsUnmet refusal (λ unmet. Simulates text (λ t w lines. PrintsLines t w lines unmet old new)))
+
+-- the same of what the input gives; or the input is refused
+abbrev pub RunsSim : Option (List ℕ) → Option (List ℕ) → Option (List ℕ) → Result Unit Refusal → Type 0
+RunsSim known old new ended =
+    ((text : List ℕ) × GivesText known text × RunsText text old new ended) ⊎ ((refusal : Refusal) × (ended ≡ Err refusal) × IsInputRefusal known refusal × (new ≡ old))

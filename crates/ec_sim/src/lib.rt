@@ -1,0 +1,6 @@
+//! `ecat sim`: what a script does to a simulated segment of a link table.
+#![tactic(auto)]
+
+mod sim;
+
+pub use crate::sim::{end_of, print_line, print_sim};

@@ -1,0 +1,243 @@
+//! `ecat sim`: a link table and a script on the input, and what the script does to a simulated segment of the table.
+ghost use Rattle.std.specs.Prelude.{◌≡◌, ◌∷◌, [], ℕ, IfErr, IfOk, None, OnErr, if◌then◌else◌, replicate};
+ghost use Rattle.ec_link.specs.Faults.{compile_fault};
+ghost use Rattle.ec_link.specs.Plan.{plan_of};
+ghost use Rattle.ec_console.specs.Explaining.{IsLeft};
+ghost use Rattle.ec_sim.specs.Simulating.{IsLate, PrintsAll, PrintsLines, PrintsPart, PrintsSome, RunsLines, RunsSim, RunsText, counted, ended_by};
+ghost use Rattle.ec_sim.specs.Stages.{RunsHalves, RunsScript};
+
+use ec_captured::{Recording, finish_recording, open_segment};
+use ec_console::{Explanation, Refusal, print_text, read_text};
+use ec_link::{Plan, compile};
+use ec_rise::identities_of;
+use ec_script::{Line, read_script, said_text, split_script, watch_act};
+use ec_table::{Table, read_table};
+use ec_watch::Watch;
+use ec_world::{Unwatched, Watcher, World};
+use std::alloc::Global;
+use std::fs::Files;
+use std::io::{Read, Write};
+
+/// Does a line once, prints what there is to say, and answers whether what it expects isn't so.
+fn print_once<S: Watcher, W: Write>(
+    alloc: Global,
+    table: &Table,
+    world: &mut World<'_>,
+    watcher: &mut S,
+    line: &Line,
+    output: &mut W,
+) -> Result<bool, Refusal>
+    requires { world.old.plan ≡ plan_of table.now }
+    ensures all { IfOk result (λ unmet. PrintsAll table.now world.old (line.now ∷ []) world.new
+        (if unmet then 1 else 0) (W.contents output.old) (W.contents output.new)) }
+    ensures part { OnErr result (PrintsPart table.now world.old (line.now ∷ [])
+        (W.contents output.old) (W.contents output.new)) }
+    ensures late { IfErr result IsLate }
+    ensures plan { world.new.plan ≡ world.old.plan }
+{
+    let said = watch_act(world, watcher, line.act);
+    let text = said_text(alloc, world, table, line.number, said)?;
+    print_text(text.as_bytes(), output)?;
+    Ok(said.is_unmet())
+}
+
+/// Does a line as often as it is to be done, prints each time what there is to say before it is done again, and answers how
+/// often what it expects isn't so.
+pub fn print_line<S: Watcher, W: Write>(
+    alloc: Global,
+    table: &Table,
+    world: &mut World<'_>,
+    watcher: &mut S,
+    line: &Line,
+    output: &mut W,
+) -> Result<u64, Refusal>
+    requires { world.old.plan ≡ plan_of table.now }
+    ensures all { IfOk result (λ count. (unmet : ℕ) × (count ≡ counted unmet)
+        × PrintsAll table.now world.old (replicate line.now.times line.now) world.new unmet
+        (W.contents output.old) (W.contents output.new)) }
+    ensures part { OnErr result (PrintsPart table.now world.old
+        (replicate line.now.times line.now) (W.contents output.old) (W.contents output.new)) }
+    ensures late { IfErr result IsLate }
+    ensures plan { world.new.plan ≡ world.old.plan }
+{
+    let mut unmet: u64 = 0;
+    for _ in 0..line.times {
+        if print_once(alloc, table, world, watcher, line, output)? {
+            unmet = unmet.saturating_add(1);
+        }
+    }
+    Ok(unmet)
+}
+
+/// Runs the lines of a script over a world of a table, each as often as it is to be done, prints of each what there is to say
+/// before the next one runs, and answers how often what they expect isn't so.
+fn print_lines<S: Watcher, W: Write>(
+    alloc: Global,
+    table: &Table,
+    world: &mut World<'_>,
+    watcher: &mut S,
+    lines: &[Line],
+    output: &mut W,
+) -> Result<u64, Refusal>
+    requires { world.old.plan ≡ plan_of table.now }
+    ensures all { IfOk result (λ count. (unmet : ℕ) × (count ≡ counted unmet)
+        × PrintsLines table.now world.old lines.now unmet
+        (W.contents output.old) (W.contents output.new)) }
+    ensures part { OnErr result (PrintsSome table.now world.old lines.now
+        (W.contents output.old) (W.contents output.new)) }
+    ensures late { IfErr result IsLate }
+{
+    let mut unmet: u64 = 0;
+    for line in lines {
+        let count = print_line(alloc, table, world, watcher, line, output)?;
+        unmet = unmet.saturating_add(count);
+    }
+    Ok(unmet)
+}
+
+/// The same; the frames of the world go into a capture that is open, which is then written to the end.
+fn print_captured<F: Write + Drop, W: Write>(
+    alloc: Global,
+    table: &Table,
+    world: &mut World<'_>,
+    recording: Recording<F>,
+    lines: &[Line],
+    output: &mut W,
+) -> Result<u64, Refusal>
+    requires { world.old.plan ≡ plan_of table.now }
+    ensures all { IfOk result (λ count. (unmet : ℕ) × (count ≡ counted unmet)
+        × PrintsLines table.now world.old lines.now unmet
+        (W.contents output.old) (W.contents output.new)) }
+    ensures part { OnErr result (PrintsSome table.now world.old lines.now
+        (W.contents output.old) (W.contents output.new)) }
+    ensures late { IfErr result IsLate }
+{
+    let mut watch = Watch::new(recording);
+    let ended = print_lines(alloc, table, world, &mut watch, lines, output);
+    finish_recording(ended, watch.into_capture())
+}
+
+/// The same; the frames of the world go into a capture, if a file is named.
+#[tactic(auto, using(crate::proofs::SimLemmas::none_some, crate::proofs::SimLemmas::unopened_late))]
+fn print_watched<H: AllocGlobal + Files, W: Write>(
+    rt: &H,
+    table: &Table,
+    world: &mut World<'_>,
+    lines: &[Line],
+    file: Option<&str>,
+    output: &mut W,
+) -> Result<u64, Refusal>
+    requires { world.old.plan ≡ plan_of table.now }
+    ensures all { IfOk result (λ count. (unmet : ℕ) × (count ≡ counted unmet)
+        × PrintsLines table.now world.old lines.now unmet
+        (W.contents output.old) (W.contents output.new)) }
+    ensures part { OnErr result (PrintsSome table.now world.old lines.now
+        (W.contents output.old) (W.contents output.new)) }
+    ensures late { IfErr result IsLate }
+{
+    let Some(file) = file else {
+        return print_lines(rt.alloc(), table, world, &mut Unwatched, lines, output);
+    };
+    let recording = open_segment(rt, file, table)?;
+    print_captured(rt.alloc(), table, world, recording, lines, output)
+}
+
+/// How a run ends in which so many times what was expected wasn't so.
+pub fn end_of(unmet: u64) -> Result<(), Refusal>
+    ensures { result ≡ ended_by unmet }
+{
+    if unmet == 0 {
+        Ok(())
+    } else {
+        Err(Refusal::Unmet(unmet))
+    }
+}
+
+/// Runs the lines of a script over a new segment of a table, and prints what they say.
+fn run_lines<H: AllocGlobal + Files, W: Write>(
+    rt: &H,
+    file: Option<&str>,
+    table: &Table,
+    plan: &Plan,
+    lines: &[Line],
+    output: &mut W,
+) -> Result<(), Refusal>
+    requires accepted { compile_fault table.now ≡ None }
+    requires plan { plan.now ≡ plan_of table.now }
+    ensures { RunsLines table.now lines.now (W.contents output.old) (W.contents output.new) result }
+{
+    let identities = identities_of(rt.alloc(), table)?;
+    let mut world = World::new(rt.alloc(), table, plan, identities.as_slice())?;
+    let unmet = print_watched(rt, table, &mut world, lines, file, output)?;
+    end_of(unmet)
+}
+
+/// Reads a script and runs it over a new segment of a table, and prints what it says.
+fn run_script<H: AllocGlobal + Files, W: Write>(
+    rt: &H,
+    file: Option<&str>,
+    table: &Table,
+    plan: &Plan,
+    script: &str,
+    output: &mut W,
+) -> Result<(), Refusal>
+    requires accepted { compile_fault table.now ≡ None }
+    requires plan { plan.now ≡ plan_of table.now }
+    ensures { RunsScript table.now script.now (W.contents output.old) (W.contents output.new)
+        result }
+{
+    let lines = read_script(rt.alloc(), table, script)?;
+    run_lines(rt, file, table, plan, lines.as_slice(), output)
+}
+
+/// The same of a table that was read, which may have no plan.
+fn run_halves<H: AllocGlobal + Files, W: Write>(
+    rt: &H,
+    file: Option<&str>,
+    table: &Table,
+    script: &str,
+    output: &mut W,
+) -> Result<(), Refusal>
+    ensures { RunsHalves table.now script.now (W.contents output.old) (W.contents output.new)
+        result }
+{
+    let plan = compile(rt.alloc(), table)?;
+    run_script(rt, file, table, &plan, script, output)
+}
+
+/// Runs the script of a text over a segment of its table, and prints what it says.
+fn run_text<H: AllocGlobal + Files, W: Write>(
+    rt: &H,
+    file: Option<&str>,
+    text: &str,
+    output: &mut W,
+) -> Result<(), Refusal>
+    ensures { RunsText text.now (W.contents output.old) (W.contents output.new) result }
+{
+    let (head, script) = split_script(text);
+    let table = read_table(rt.alloc(), head)?;
+    run_halves(rt, file, &table, script, output)
+}
+
+/// Runs the script that the input gives behind a link table and a line `%%`. Its slaves begin at power-on, with the
+/// identities that the table says. What a line says is printed before the next line runs. The frames that pass go into a
+/// capture, if a file is named, with an interface `master` and one for each slave. A refusal of the text is explained, where
+/// that is wanted.
+pub fn print_sim<H: AllocGlobal + Files, R: Read, W: Write>(
+    rt: &H,
+    file: Option<&str>,
+    input: &mut R,
+    output: &mut W,
+    behind: &mut Explanation,
+) -> Result<(), Refusal>
+    ensures runs { RunsSim (R.remaining input.old) (W.contents output.old) (W.contents output.new)
+        result }
+    ensures explains { IsLeft behind.old behind.new }
+{
+    let text = read_text(rt.alloc(), input)?;
+    let ended = run_text(rt, file, text.as_str(), output);
+    if let Err(refusal) = &ended {
+        behind.explain_script(rt.alloc(), text.as_str(), refusal);
+    }
+    ended
+}

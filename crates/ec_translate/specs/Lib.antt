@@ -1,0 +1,2 @@
+-- To be believed by reading: what `ecat decode` and `ecat encode` print.
+pub mod Translating
