@@ -8,37 +8,35 @@ use Rattle.ec_frame.specs.Fields.{with_adp}
 use Rattle.ec_frame.specs.Kept.{IsDatagram-with_adp}
 use Rattle.ec_slave.specs.State.{Met, SlaveState, station_of}
 use Rattle.ec_slave.specs.Roles.{adp_after}
-use Rattle.ec_slave.specs.Meeting.{datagram_met, meets, meets_by, meets_physically, slave_met}
-use Rattle.ec_slave.specs.Keeping.{adp_after-bound, meets-keeps}
+use Rattle.ec_slave.specs.Meeting.{datagram_met, meets, slave_met}
+use Rattle.ec_slave.proofs.Meetings.{datagrams_stay, goes_on}
 use Rattle.ec_slave.proofs.Bystanders.{heading_stays, other_position_passes, other_station_passes}
 use Rattle.ec_ring.specs.Rings.{RingPassed, passes_ring}
 use Rattle.ec_ring.specs.Addressing.{IsByPosition, IsByStation, PositionMeansOne, StationMeansOne, StationPassesOthers}
 
 -- ---- the ADP that leaves a slave
 
-adp_physically : (s : SlaveState) (d : Datagram) → adp_of (meets_physically s d).datagram ≡ adp_after d.command (adp_of d)
-adp_physically s d = let few = adp_after-bound d.command (adp_of d) (omega arith) in omega arith
-
-adp_met : (c : Command) (s : SlaveState) (d : Datagram) → d.command ≡ c → meets_by c s d ≡ meets_physically s d → adp_of (datagram_met s d) ≡ adp_after c (adp_of d)
-unfolding meets
-adp_met c s d e p =
-    ap (λ (k : Command). adp_of (meets_by k s d).datagram) e ∙ (ap (λ (m : Met). adp_of m.datagram) p ∙ (adp_physically s d ∙ ap (λ (k : Command). adp_after k (adp_of d)) e))
+adp_met : (c : Command) (n : ℕ) (s : SlaveState) (d : Datagram) → d.command ≡ c → adp_after c (adp_of d) ≡ n → n < 65536 → adp_of (datagram_met s d) ≡ n
+adp_met c n s d e q l =
+    let a = (goes_on s d).address in
+    let k = ap (λ (x : Command). adp_after x (adp_of d)) e ∙ q in
+    omega (arith, a, k, l)
 
 position_adp : (s : SlaveState) (d : Datagram) → IsByPosition d.command → adp_of (datagram_met s d) ≡ (adp_of d + 1) % 65536
-position_adp s d (inl e) = adp_met Aprd s d e refl
-position_adp s d (inr (inl e)) = adp_met Apwr s d e refl
-position_adp s d (inr (inr e)) = adp_met Aprw s d e refl
+position_adp s d (inl e) = adp_met Aprd ((adp_of d + 1) % 65536) s d e refl (omega arith)
+position_adp s d (inr (inl e)) = adp_met Apwr ((adp_of d + 1) % 65536) s d e refl (omega arith)
+position_adp s d (inr (inr e)) = adp_met Aprw ((adp_of d + 1) % 65536) s d e refl (omega arith)
 
 station_adp : (s : SlaveState) (d : Datagram) → IsByStation d.command → adp_of (datagram_met s d) ≡ adp_of d
-station_adp s d (inl e) = adp_met Fprd s d e refl
-station_adp s d (inr (inl e)) = adp_met Fpwr s d e refl
-station_adp s d (inr (inr e)) = adp_met Fprw s d e refl
+station_adp s d (inl e) = adp_met Fprd (adp_of d) s d e refl (omega arith)
+station_adp s d (inr (inl e)) = adp_met Fpwr (adp_of d) s d e refl (omega arith)
+station_adp s d (inr (inr e)) = adp_met Fprw (adp_of d) s d e refl (omega arith)
 
 command_met : (s : SlaveState) (d : Datagram) → IsDatagram d → d.command ≡ (datagram_met s d).command
 command_met s d good = sym (heading_stays s d good).command
 
 good_met : (s : SlaveState) (d : Datagram) → IsDatagram d → IsDatagram (datagram_met s d)
-good_met s d good = (meets-keeps s d good).0
+good_met s d good = (datagrams_stay s d good).0
 
 -- ---- one datagram past the first slave
 

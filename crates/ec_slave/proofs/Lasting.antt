@@ -79,24 +79,24 @@ met-sound lower reads writes w n m h = by (writes && is_configured w n)
 
 -- ---- all of a slave
 
-abbrev AreSound : List Manager → Type 0
+abbrev pub AreSound : List Manager → Type 0
 AreSound ms = (n : ℕ) → IsManager (manager_at ms n)
 
 rest-sound : (m : Manager) (ms : List Manager) → AreSound (m ∷ ms) → AreSound ms
 rest-sound m ms h n = h (suc n)
 
-all-met-sound : (lower ms : List Manager) (reads writes : Bool) (w : Window) (n : ℕ) → AreSound ms → AreSound (physical_managers lower reads writes w n ms)
+pub all-met-sound : (lower ms : List Manager) (reads writes : Bool) (w : Window) (n : ℕ) → AreSound ms → AreSound (physical_managers lower reads writes w n ms)
 all-met-sound lower [] reads writes w n h k = h k
 all-met-sound lower (m ∷ ms) reads writes w n h zero = met-sound lower reads writes w n m (h zero)
 all-met-sound lower (m ∷ ms) reads writes w n h (suc k) = all-met-sound (lower ++ m ∷ []) ms reads writes w (n + 1) (rest-sound m ms h) k
 
-all-exchanged-sound : (lower ms : List Manager) (reading writing : Bool) (fs : List FmmuSettings) (p : Place) (bytes : List ℕ) → AreSound ms → AreSound (logical_managers lower reading writing fs p bytes ms)
+pub all-exchanged-sound : (lower ms : List Manager) (reading writing : Bool) (fs : List FmmuSettings) (p : Place) (bytes : List ℕ) → AreSound ms → AreSound (logical_managers lower reading writing fs p bytes ms)
 all-exchanged-sound lower [] reading writing fs p bytes h k = h k
 all-exchanged-sound lower (m ∷ ms) reading writing fs p bytes h zero =
     after-sound reading writing (touched_by_reading fs p) (touched_by_writing fs p) (is_ungoverned lower) (logical_value lower fs p bytes) m (λ a k. length-overlay (zeros k) _ ∙ length-replicate {A = ℕ} k 0) (h zero)
 all-exchanged-sound lower (m ∷ ms) reading writing fs p bytes h (suc k) = all-exchanged-sound (lower ++ m ∷ []) ms reading writing fs p bytes (rest-sound m ms h) k
 
-length-physical_managers : (lower : List Manager) (reads writes : Bool) (w : Window) (n : ℕ) (ms : List Manager) → length (physical_managers lower reads writes w n ms) ≡ length ms
+pub length-physical_managers : (lower : List Manager) (reads writes : Bool) (w : Window) (n : ℕ) (ms : List Manager) → length (physical_managers lower reads writes w n ms) ≡ length ms
 length-physical_managers lower reads writes w n [] = refl
 length-physical_managers lower reads writes w n (m ∷ ms) = ap suc (length-physical_managers (lower ++ m ∷ []) reads writes w (n + 1) ms)
 

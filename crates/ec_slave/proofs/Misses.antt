@@ -1,5 +1,5 @@
 -- A logical datagram whose bits no FMMU maps leaves the slave as it was, and goes on as it came.
-use Rattle.std.proofs.Common.{ℕ, ◌+◌, ◌*◌, ◌%◌, ◌<◌, ◌≡◌, ◌&&◌, Bool, false, None, refl, ◌∙◌, ap, arith, is_some, List, [], ◌∷◌, ◌++◌, length, sym, option_map, option_and_then, unwrap_or, mod-eq_of_lt}
+use Rattle.std.proofs.Common.{ℕ, ◌+◌, ◌*◌, ◌%◌, ◌<◌, ◌≡◌, ◌&&◌, Bool, false, None, refl, ◌∙◌, ap, arith, is_some, List, [], ◌∷◌, ◌++◌, sym, option_map, option_and_then, unwrap_or, mod-eq_of_lt}
 use Rattle.std.specs.Int.{from_bool}
 use Rattle.std.proofs.lemmas.Bool.{and_left, and_right}
 use Rattle.ec_bits.specs.Bits.{bit, overlay}
@@ -7,16 +7,13 @@ use Rattle.ec_bits.proofs.BitLaws.{overlay_own}
 use Rattle.ec_bits.proofs.AnyLaws.{any_below_none, if_none, if_false}
 use Rattle.ec_regs.specs.declared.fmmu.FmmuSettings.{FmmuSettings}
 use Rattle.ec_regs.specs.Memory.{ram_end}
-use Rattle.ec_frame.specs.Datagram.{Datagram}
 use Rattle.ec_sync.specs.Manager.{Manager, may_read, may_write}
 use Rattle.ec_fmmu.specs.Applied.{Place, leads_into, touched_by_reading, touched_by_writing}
 use Rattle.ec_slave.specs.State.{SlaveState, fmmus, with_memory}
 use Rattle.ec_slave.specs.Managers.{is_ungoverned, manager_after}
 use Rattle.ec_slave.specs.Logical.{place_of, read_bit, readable_bit, written_bit, plain_bit, brought, logical_value, logical_managers, only_if, some_read, some_written, logical_after, meets_logically}
-use Rattle.ec_slave.specs.LogicalLaws.{Misses}
-use Rattle.ec_slave.specs.Roles.{is_reading, is_writing}
-use Rattle.ec_slave.specs.Mapped.{mapped_met, weight}
-use Rattle.ec_slave.specs.declared.role.Role.{Role}
+use Rattle.ec_slave.specs.LogicalLaws.{Misses, MissesLaw}
+use Rattle.ec_slave.specs.Mapped.{weight}
 
 no_read_bit : (s : SlaveState) (p : Place) (i : ℕ) → Misses s p → i < p.bits → read_bit s.memory s.managers (fmmus s) p i ≡ None
 no_read_bit s p i h l = ap (option_and_then (readable_bit s.memory s.managers (fmmus s) p)) (h.reads i l)
@@ -49,8 +46,7 @@ managers_kept s lower (m ∷ ms) reading writing p bytes h =
     ap (λ x. x ∷ logical_managers (lower ++ m ∷ []) reading writing (fmmus s) p bytes ms) (manager_kept s reading writing p (is_ungoverned lower) (logical_value lower (fmmus s) p bytes) m h)
     ∙ ap (λ xs. m ∷ xs) (managers_kept s (lower ++ m ∷ []) ms reading writing p bytes h)
 
-pub misses : (reading writing : Bool) (weight : ℕ) (s : SlaveState) (d : Datagram) → Misses s (place_of d) → d.counter < 65536
-    → meets_logically reading writing weight s d ≡ record { slave = s; datagram = d }
+pub misses : MissesLaw
 unfolding meets_logically
 misses reading writing weight s d h c =
     let p = place_of d in

@@ -107,13 +107,13 @@ entered-running Op Op ms a b = refl
 -- ---- the message
 
 -- what the message part leaves
-record Kept (s t : SlaveState) : Type 0 where
-  al : t.al ≡ s.al
-  memory : t.memory ≡ s.memory
-  settings : (n : ℕ) → (manager_at t.managers n).settings ≡ (manager_at s.managers n).settings
-  buffers : (n : ℕ) → (manager_at t.managers n).buffer ≡ (manager_at s.managers n).buffer
-  kind : t.kind ≡ s.kind
-  identity : t.identity ≡ s.identity
+pub record Kept (s t : SlaveState) : Type 0 where
+  pub al : t.al ≡ s.al
+  pub memory : t.memory ≡ s.memory
+  pub settings : (n : ℕ) → (manager_at t.managers n).settings ≡ (manager_at s.managers n).settings
+  pub buffers : (n : ℕ) → (manager_at t.managers n).buffer ≡ (manager_at s.managers n).buffer
+  pub kind : t.kind ≡ s.kind
+  pub identity : t.identity ≡ s.identity
 
 replied-kept : (s : SlaveState) (o : Option Message) → Kept s (reply_given (with_manager s 0 (message_taken (manager_at s.managers 0))) o)
 replied-kept s None = record {
@@ -142,7 +142,7 @@ either-kept : (b : Bool) (s t : SlaveState) → Kept s t → Kept s (if b then t
 either-kept true s t k = k
 either-kept false s t k = record { al = refl; memory = refl; settings = λ n. refl; buffers = λ n. refl; kind = refl; identity = refl }
 
-message-kept : (s : SlaveState) → Kept s (message_served s)
+pub message-kept : (s : SlaveState) → Kept s (message_served s)
 unfolding message_served
 message-kept s = either-kept (is_served s) s _ (replied-kept s (request_in s))
 

@@ -22,6 +22,8 @@ pub mod LogicalLaws
 pub mod FirmwareLaws
 pub mod Steps
 pub mod Showing
+-- what the crates above may know
+pub mod Interface
 -- Private: the words of private code; no public contract rests on them.
 pub mod Held
 pub mod Mapped

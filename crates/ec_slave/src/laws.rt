@@ -9,6 +9,9 @@ ghost use Rattle.ec_slave.specs.AgainstAll.{LogicalAgainstAll, PhysicalAgainstAl
 ghost use Rattle.ec_slave.specs.Showing.{ReadsShowTheRun, SlavesShowWholeValues};
 ghost use Rattle.ec_slave.specs.Steps.{AccessesAreSteps, ManagersGoByRuns};
 ghost use Rattle.ec_slave.specs.LogicalLaws.{BroadcastLaw, ExchangeLaw, MappedLaw, MissesLaw};
+ghost use Rattle.ec_slave.specs.Interface.{SlavesAreSwitchedOn, SwitchedOnWhole, StepsHaveThreeParts, StepsSettle, RequestsAreDecided, ChecksAreOfManagers, ReadsAreFinished, MessagesKeep, MessagesRest, RequestsAreAnswered};
+ghost use Rattle.ec_slave.specs.Interface.{FaultsAreInOp, ApplicationsGoByBytes, DatagramsKeepTheInside, ValuesStayWhole, DatagramsGoOn, DatagramsStay, WritesMeet, ReadsMeet, LogicalCommandsMeet, OutputsArePublished};
+ghost use Rattle.ec_slave.specs.Interface.{RegistersAreWritten, RegistersAreRead, ManagersAside, RegistersAreOpen, SlavesShowThemselves, RetoldByPlace, RetoldWhole, RamIsGoverned, ManagersAreAccessed, WholeValuesAreTheData, AccessesLeave};
 ghost use Rattle.ec_slave.specs.FirmwareLaws.{AssignmentsStay, FirstReplyIsOne, PowerOnAssigns, RestsQuietly, ServesKeepAssignments, ServesKeepBuffers, ServesKeepSettings, StatesAreEntered};
 
 /// A datagram for another station address passes, and changes nothing.
@@ -177,4 +180,100 @@ pub fn serves_keep_assignments()
 pub fn assignments_are_proper()
     ensures power_on { PowerOnAssigns }
     ensures stay { AssignmentsStay }
+{}
+
+/// What a slave is that was just switched on; the values of its managers are as long as their settings say.
+#[tactic(auto, using(crate::proofs::SwitchedOn::switched_on, crate::proofs::SwitchedOn::on_whole))]
+pub fn slaves_are_switched_on()
+    ensures known { SlavesAreSwitchedOn }
+    ensures whole { SwitchedOnWhole }
+{}
+
+/// A firmware step has three parts, one after the other; after it no request waits and the SII isn't busy.
+#[tactic(auto, using(crate::proofs::FirmwareSteps::three_parts, crate::proofs::FirmwareSteps::settles))]
+pub fn steps_settle()
+    ensures parts { StepsHaveThreeParts }
+    ensures settles { StepsSettle }
+{}
+
+/// A request that waits is decided, with checks that look at the managers and the assignments.
+#[tactic(auto, using(crate::proofs::FirmwareSteps::decided, crate::proofs::FirmwareSteps::checks))]
+pub fn requests_are_decided()
+    ensures decided { RequestsAreDecided }
+    ensures checks { ChecksAreOfManagers }
+{}
+
+/// A read of the SII changes the port alone.
+#[tactic(auto, using(crate::proofs::FirmwareSteps::finished))]
+pub fn reads_are_finished()
+    ensures { ReadsAreFinished }
+{}
+
+/// A message changes the mailboxes, the assignments and the counter of the replies alone, and nothing where none is taken; a
+/// request is answered.
+pub fn messages_are_answered()
+    ensures keep { MessagesKeep }
+    ensures rest { MessagesRest }
+    ensures answered { RequestsAreAnswered }
+{}
+
+/// What a fault does; and the application goes byte after byte.
+pub fn faults_are_in_op()
+    ensures faults { FaultsAreInOp }
+    ensures applications { ApplicationsGoByBytes }
+{}
+
+/// No datagram changes what a slave is, its state, its assignments, or how much there is of memory and managers.
+#[tactic(auto, using(crate::proofs::Inside::inside_kept))]
+pub fn datagrams_keep_the_inside()
+    ensures { DatagramsKeepTheInside }
+{}
+
+/// Whatever happens to a slave, the values of its managers stay as long as their settings say.
+pub fn values_stay_whole()
+    ensures { ValuesStayWhole }
+{}
+
+/// What a datagram that writes, or reads, at a slave does to both, which commands go through the FMMUs, and with which command
+/// and ADP it goes on.
+pub fn datagrams_meet()
+    ensures on { DatagramsGoOn }
+    ensures stay { DatagramsStay }
+    ensures writes { WritesMeet }
+    ensures reads { ReadsMeet }
+    ensures logical { LogicalCommandsMeet }
+{}
+
+/// What a write of registers leaves, that a read of them changes nothing, and which of them may be read and written.
+pub fn registers_are_written()
+    ensures written { RegistersAreWritten }
+    ensures read { RegistersAreRead }
+    ensures aside { ManagersAside }
+    ensures open { RegistersAreOpen }
+{}
+
+/// What the registers of the AL status and of the SII read.
+pub fn slaves_show_themselves()
+    ensures { SlavesShowThemselves }
+{}
+
+/// Who governs a byte of the RAM says whether it is read and written, and what it shows; what an access does to one manager,
+/// and to the slave.
+pub fn ram_is_governed()
+    ensures governed { RamIsGoverned }
+    ensures managers { ManagersAreAccessed }
+    ensures whole { WholeValuesAreTheData }
+    ensures leaves { AccessesLeave }
+{}
+
+/// What a list is that is told anew, at some places or at all.
+pub fn lists_are_retold()
+    ensures by_place { RetoldByPlace }
+    ensures whole { RetoldWhole }
+{}
+
+/// A slave that publishes new outputs has them in manager 2, and all other managers as they were.
+#[tactic(auto, using(crate::proofs::Kept::outputs_published))]
+pub fn outputs_are_published()
+    ensures { OutputsArePublished }
 {}

@@ -1,0 +1,14 @@
+use Rattle.ec_slave.proofs.RegisterAccess.{registers_written, registers_read, managers_aside, registers_open}
+use Rattle.ec_slave.proofs.laws.registers_are_written.Goals as goal
+
+pub returns-clause-written : goal.returns-clause-written
+returns-clause-written c = registers_written
+
+pub returns-clause-read : goal.returns-clause-read
+returns-clause-read c = registers_read
+
+pub returns-clause-aside : goal.returns-clause-aside
+returns-clause-aside c = managers_aside
+
+pub returns-clause-open : goal.returns-clause-open
+returns-clause-open c = registers_open

@@ -1,0 +1,345 @@
+-- What the crates above may know of a slave besides what its words say: laws for each thing that happens to it. Nothing above
+-- opens a definition of this crate; what is not said here can change without them.
+use Rattle.std.specs.Prelude.{ℕ, zero, suc, ◌+◌, ◌-◌, ◌*◌, ◌%◌, ◌<◌, ◌≤◌, ◌≡◌, ◌≢◌, ◌⊎◌, List, [], ◌∷◌, length, slice_index, slice_set, unwrap_or, Bool, true, false, if◌then◌else◌, Option, Some, None}
+use Rattle.std.specs.Int.{from_bool, to_le_bytes, w32}
+use Rattle.ec_bits.specs.Bits.{within}
+use Rattle.ec_regs.specs.declared.slave_type.Identity.{Identity}
+use Rattle.ec_regs.specs.Types.{SlaveKind}
+use Rattle.ec_regs.specs.Memory.{al_control, al_status, sii_control, sii_data, sync_managers, manager_place, ram_start, ram_end, is_stored, takes_writes}
+use Rattle.ec_regs.specs.Objects.{bits_assigned}
+use Rattle.ec_frame.specs.declared.command.Command.TheVariants.{Nop, Lrd, Lwr, Lrw}
+use Rattle.ec_frame.specs.Datagram.{Datagram, adp_of, ado_of}
+use Rattle.ec_frame.specs.Walk.{KeepsLength}
+use Rattle.ec_sync.specs.Governing.{governor}
+use Rattle.ec_sync.specs.Manager.{Manager, no_manager, empty_manager, padded, ring_read, ring_written}
+use Rattle.ec_sync.specs.Sound.{IsManager}
+use Rattle.ec_al.specs.declared.state.State.TheVariants.{Init}
+use Rattle.ec_al.specs.Al as al
+use Rattle.ec_sii.specs.Port as port
+use Rattle.ec_coe.specs.declared.message.Message.{Message}
+use Rattle.ec_coe.specs.Messages.{message_bytes, message_length}
+use Rattle.ec_coe.specs.Objects.{all_assigned, assigned}
+use Rattle.ec_slave.specs.State.{SlaveState, manager_at, station_of, power_on}
+use Rattle.ec_slave.specs.Roles.{role_of, adp_after, is_reading, is_writing, is_joining}
+use Rattle.ec_slave.specs.Managers.{reads_under, writes_under, is_ungoverned, is_read_by, is_written_by}
+use Rattle.ec_slave.specs.Physical.{Window, touches, byte_at, ram_byte, may_read_byte, may_write_byte, byte_read, retold, memory_written, is_configured, settings_written, physical_value, physical_manager, physical_managers, physical_after, some_byte_read, some_byte_written}
+use Rattle.ec_slave.specs.Logical.{meets_logically}
+use Rattle.ec_slave.specs.Exchange.{with_outputs, with_published}
+use Rattle.ec_slave.specs.Meeting.{window_of, meets, slave_met, datagram_met}
+use Rattle.ec_slave.specs.Application.{input_put, inputs_put, output_got, output_taken, outputs_taken}
+use Rattle.ec_slave.specs.Checking.{checks_of, control_word, mailbox_check, process_check, outputs_mode, inputs_mode}
+use Rattle.ec_slave.specs.Serving.{with_al, request_decided, read_finished, is_served, request_in, answer_to, message_served, served}
+use Rattle.ec_slave.specs.Faulting.{faulted, locked_empty}
+
+-- ---- the power comes on
+
+-- a slave that was just switched on
+pub record IsSwitchedOn (kind : SlaveKind) (identity : Identity) (s : SlaveState) : Type 0 where
+  pub kind_is : s.kind ≡ kind
+  pub identity_is : s.identity ≡ identity
+  pub room : length s.memory ≡ ram_end
+  pub memory : (a : ℕ) → slice_index s.memory a ≡ 0
+  pub managers : s.managers ≡ no_manager ∷ no_manager ∷ no_manager ∷ no_manager ∷ []
+  pub al : s.al ≡ al.power_on
+  pub sii : s.sii ≡ port.idle_port (record { identity = identity; mailbox = kind.mailbox })
+  pub outs : s.outs ≡ all_assigned kind.outputs
+  pub ins : s.ins ≡ all_assigned kind.inputs
+
+abbrev pub SlavesAreSwitchedOn : Type 0
+SlavesAreSwitchedOn = (kind : SlaveKind) (identity : Identity) → IsSwitchedOn kind identity (power_on kind identity)
+
+-- ---- a firmware step
+
+-- what a step settles: no request waits, and the SII isn't busy
+pub record Settles (s t : SlaveState) : Type 0 where
+  pub al : t.al ≡ al.stepped s.al (control_word s) (checks_of s)
+  pub no_request : t.al.requested ≡ false
+  pub sii : t.sii ≡ port.stepped s.sii
+  pub idle : t.sii.busy ≡ false
+  pub image : t.sii.image ≡ s.sii.image
+
+abbrev pub StepsSettle : Type 0
+StepsSettle = (s : SlaveState) → Settles s (served s)
+
+-- It has three parts, one after the other: the request, the read of the SII, one message.
+abbrev pub StepsHaveThreeParts : Type 0
+StepsHaveThreeParts = (s : SlaveState) → served s ≡ message_served (read_finished (request_decided s))
+
+-- A request that waits is decided, by the control word as it now stands; without one nothing changes.
+pub record IsDecided (s t : SlaveState) : Type 0 where
+  pub rests : s.al.requested ≡ false → t ≡ s
+  pub decides : s.al.requested ≡ true → t ≡ with_al s (al.decided s.al (control_word s) (checks_of s))
+
+abbrev pub RequestsAreDecided : Type 0
+RequestsAreDecided = (s : SlaveState) → IsDecided s (request_decided s)
+
+-- what the checks look at: managers 0 and 1, and managers 2 and 3 beside the PDOs that are assigned
+pub record AreChecks (s : SlaveState) : Type 0 where
+  pub mailbox : (checks_of s).mailbox ≡ mailbox_check s.managers s.kind.mailbox
+  pub outputs : (checks_of s).outputs ≡ process_check (manager_at s.managers 2) (bits_assigned s.kind.outputs (assigned s.outs)) s.kind.out_start outputs_mode
+  pub inputs : (checks_of s).inputs ≡ process_check (manager_at s.managers 3) (bits_assigned s.kind.inputs (assigned s.ins)) s.kind.in_start inputs_mode
+
+abbrev pub ChecksAreOfManagers : Type 0
+ChecksAreOfManagers = (s : SlaveState) → AreChecks s
+
+-- The read of the SII changes the port alone, which is idle then; without a read nothing changes.
+pub record IsRead (s t : SlaveState) : Type 0 where
+  pub is : t ≡ record s { sii = port.stepped s.sii }
+  pub idle : t.sii.busy ≡ false
+  pub rests : s.sii.busy ≡ false → t ≡ s
+
+abbrev pub ReadsAreFinished : Type 0
+ReadsAreFinished = (s : SlaveState) → IsRead s (read_finished s)
+
+-- A message changes the two mailboxes, the assignments and the counter of the replies, and nothing else.
+pub record KeepsBesideMessages (s t : SlaveState) : Type 0 where
+  pub kind : t.kind ≡ s.kind
+  pub identity : t.identity ≡ s.identity
+  pub memory : t.memory ≡ s.memory
+  pub al : t.al ≡ s.al
+  pub sii : t.sii ≡ s.sii
+  pub count : length t.managers ≡ length s.managers
+  pub settings : (n : ℕ) → (manager_at t.managers n).settings ≡ (manager_at s.managers n).settings
+  pub locked : (n : ℕ) → (manager_at t.managers n).locked ≡ (manager_at s.managers n).locked
+  pub others : (n : ℕ) → 2 ≤ n → manager_at t.managers n ≡ manager_at s.managers n
+  pub out_slots : length t.outs.slots ≡ length s.outs.slots
+  pub in_slots : length t.ins.slots ≡ length s.ins.slots
+
+abbrev pub MessagesKeep : Type 0
+MessagesKeep = (s : SlaveState) → KeepsBesideMessages s (message_served s)
+
+-- No message is taken where none is, in INIT, and by a type without a mailbox.
+pub record RestsWithoutMessages (s t : SlaveState) : Type 0 where
+  pub waits : is_served s ≡ false → t ≡ s
+  pub empty : (manager_at s.managers 0).mail ≡ None → t ≡ s
+  pub in_init : s.al.state ≡ Init → t ≡ s
+  pub no_mailbox : s.kind.mailbox ≡ None → t ≡ s
+
+abbrev pub MessagesRest : Type 0
+MessagesRest = (s : SlaveState) → RestsWithoutMessages s (message_served s)
+
+-- A request is answered: it is taken out of manager 0, its answer lies in manager 1, and the assignments are the answer's.
+pub record IsAnswered (s : SlaveState) (r : Message) (t : SlaveState) : Type 0 where
+  pub no_message : (manager_at t.managers 0).mail ≡ None
+  pub reply : (manager_at t.managers 1).mail ≡ Some (padded (manager_at s.managers 1) (message_bytes (answer_to s r).reply))
+  pub outs : t.outs ≡ (answer_to s r).dictionary.outs
+  pub ins : t.ins ≡ (answer_to s r).dictionary.ins
+
+abbrev pub RequestsAreAnswered : Type 0
+RequestsAreAnswered =
+    (s : SlaveState) (r : Message) → 1 < length s.managers → is_served s ≡ true → request_in s ≡ Some r → message_length ≤ (manager_at s.managers 1).settings.length
+    → IsAnswered s r (message_served s)
+
+-- ---- a fault, and the application
+
+-- In OP a fault takes the state back and empties and locks the outputs; elsewhere there is none.
+pub record IsAfterFault (s t : SlaveState) : Type 0 where
+  pub in_op : al.is_operational s.al.state ≡ true → t ≡ record s { al = al.faulted s.al; managers = slice_set s.managers 2 (locked_empty (manager_at s.managers 2)) }
+  pub elsewhere : al.is_operational s.al.state ≡ false → t ≡ s
+
+abbrev pub FaultsAreInOp : Type 0
+FaultsAreInOp = (s : SlaveState) → IsAfterFault s (faulted s)
+
+-- Inputs are written, and outputs read, byte after byte.
+pub record GoByBytes (s : SlaveState) (inputs : List ℕ) : Type 0 where
+  pub none_put : inputs_put s inputs zero ≡ s
+  pub more_put : (n : ℕ) → inputs_put s inputs (suc n) ≡ unwrap_or (input_put (inputs_put s inputs n) n (slice_index inputs n)) (inputs_put s inputs n)
+  pub none_taken : outputs_taken s zero ≡ s
+  pub more_taken : (n : ℕ) → outputs_taken s (suc n) ≡ output_taken (outputs_taken s n) (output_got (outputs_taken s n) n)
+
+abbrev pub ApplicationsGoByBytes : Type 0
+ApplicationsGoByBytes = (s : SlaveState) (inputs : List ℕ) → GoByBytes s inputs
+
+-- ---- any datagram
+
+-- what no datagram changes: what a slave is, its state, its assignments, and how much there is of memory and managers
+pub record KeepsInside (s t : SlaveState) : Type 0 where
+  pub kind : t.kind ≡ s.kind
+  pub identity : t.identity ≡ s.identity
+  pub room : length t.memory ≡ length s.memory
+  pub count : length t.managers ≡ length s.managers
+  pub locked : (n : ℕ) → (manager_at t.managers n).locked ≡ (manager_at s.managers n).locked
+  pub state : t.al.state ≡ s.al.state
+  pub image : t.sii.image ≡ s.sii.image
+  pub outs : t.outs ≡ s.outs
+  pub ins : t.ins ≡ s.ins
+
+abbrev pub DatagramsKeepTheInside : Type 0
+DatagramsKeepTheInside = (s : SlaveState) (d : Datagram) → KeepsInside s (slave_met s d)
+
+-- the values of all managers are as long as their settings say
+abbrev pub AreWhole : SlaveState → Type 0
+AreWhole s = (n : ℕ) → IsManager (manager_at s.managers n)
+
+-- They are when the power comes on, and they stay so, whatever happens.
+pub record StayWhole (s : SlaveState) : Type 0 where
+  pub met : (d : Datagram) → AreWhole (slave_met s d)
+  pub served : AreWhole (served s)
+  pub faulted : AreWhole (faulted s)
+  pub put : (i x : ℕ) (t : SlaveState) → input_put s i x ≡ Some t → AreWhole t
+  pub taken : (i : ℕ) → AreWhole (output_taken s (output_got s i))
+
+abbrev pub SwitchedOnWhole : Type 0
+SwitchedOnWhole = (kind : SlaveKind) (identity : Identity) → AreWhole (power_on kind identity)
+
+abbrev pub ValuesStayWhole : Type 0
+ValuesStayWhole = (s : SlaveState) → AreWhole s → StayWhole s
+
+-- ---- a datagram, by its command
+
+-- whatever a datagram does, it goes on with its command, and with the ADP that its command leaves
+pub record GoesOn (before after : Datagram) : Type 0 where
+  pub command : after.command ≡ before.command
+  pub address : after.address ≡ adp_after before.command (adp_of before) + 65536 * ado_of before
+
+abbrev pub DatagramsGoOn : Type 0
+DatagramsGoOn = (s : SlaveState) (d : Datagram) → GoesOn d (datagram_met s d)
+
+-- a datagram stays one, of the same length
+abbrev pub DatagramsStay : Type 0
+DatagramsStay = KeepsLength datagram_met
+
+-- the datagram writes at the slave and reads nothing, by its command and the address that it has
+pub record OnlyWrites (s : SlaveState) (d : Datagram) : Type 0 where
+  pub writes : is_writing (role_of d.command (adp_of d) (station_of s)) ≡ true
+  pub reads : is_reading (role_of d.command (adp_of d) (station_of s)) ≡ false
+
+pub record IsWrite (s : SlaveState) (d : Datagram) : Type 0 where
+  pub slave : slave_met s d ≡ physical_after s false true (window_of d)
+  pub bytes : (datagram_met s d).data_bytes ≡ d.data_bytes
+  pub counter : (datagram_met s d).counter ≡ (d.counter + from_bool (some_byte_written s.managers s.sii.busy (window_of d))) % 65536
+
+abbrev pub WritesMeet : Type 0
+WritesMeet = (s : SlaveState) (d : Datagram) → OnlyWrites s d → IsWrite s d
+
+-- it reads there and writes nothing, and isn't a broadcast
+pub record OnlyReads (s : SlaveState) (d : Datagram) : Type 0 where
+  pub reads : is_reading (role_of d.command (adp_of d) (station_of s)) ≡ true
+  pub writes : is_writing (role_of d.command (adp_of d) (station_of s)) ≡ false
+  pub joins : is_joining (role_of d.command (adp_of d) (station_of s)) ≡ false
+
+pub record IsReadOut (s : SlaveState) (d : Datagram) : Type 0 where
+  pub slave : slave_met s d ≡ physical_after s true false (window_of d)
+  pub bytes : (datagram_met s d).data_bytes ≡ retold d.data_bytes (byte_read s false (window_of d))
+  pub counter : (datagram_met s d).counter ≡ (d.counter + from_bool (some_byte_read s.managers (window_of d))) % 65536
+
+abbrev pub ReadsMeet : Type 0
+ReadsMeet = (s : SlaveState) (d : Datagram) → OnlyReads s d → IsReadOut s d
+
+-- A NOP, and an LRW at a slave that doesn't know it, do nothing; the other logical commands go through the FMMUs.
+pub record IsLogical (s : SlaveState) (d : Datagram) : Type 0 where
+  pub nop : d.command ≡ Nop → meets s d ≡ record { slave = s; datagram = d }
+  pub lrd : d.command ≡ Lrd → meets s d ≡ meets_logically true false 1 s d
+  pub lwr : d.command ≡ Lwr → meets s d ≡ meets_logically false true 1 s d
+  pub lrw : d.command ≡ Lrw → s.kind.lrw ≡ true → meets s d ≡ meets_logically true true 2 s d
+  pub no_lrw : d.command ≡ Lrw → s.kind.lrw ≡ false → meets s d ≡ record { slave = s; datagram = d }
+
+abbrev pub LogicalCommandsMeet : Type 0
+LogicalCommandsMeet = (s : SlaveState) (d : Datagram) → IsLogical s d
+
+-- a list that is retold: each number that is told anew, and all others as they were
+pub record IsRetold (xs : List ℕ) (f : ℕ → Option ℕ) : Type 0 where
+  pub long : length (retold xs f) ≡ length xs
+  pub each : (k : ℕ) → k < length xs → slice_index (retold xs f) k ≡ unwrap_or (f k) (slice_index xs k)
+
+abbrev pub RetoldByPlace : Type 0
+RetoldByPlace = (xs : List ℕ) (f : ℕ → Option ℕ) → IsRetold xs f
+
+-- told anew at each place, it is what was told
+abbrev pub RetoldWhole : Type 0
+RetoldWhole = (xs ys : List ℕ) (f : ℕ → Option ℕ) → length xs ≡ length ys → ((k : ℕ) → k < length ys → f k ≡ Some (slice_index ys k)) → retold xs f ≡ ys
+
+-- a slave that publishes new outputs has them in manager 2, and all other managers as they were
+pub record PublishesOutputs (s : SlaveState) (v : List ℕ) : Type 0 where
+  pub own : 2 < length s.managers → manager_at (with_outputs s v).managers 2 ≡ with_published (manager_at s.managers 2) v
+  pub others : (n : ℕ) → n ≢ 2 → manager_at (with_outputs s v).managers n ≡ manager_at s.managers n
+
+abbrev pub OutputsArePublished : Type 0
+OutputsArePublished = (s : SlaveState) (v : List ℕ) → PublishesOutputs s v
+
+-- ---- registers
+
+-- manager n after a write of registers: new settings empty it, and leave its lock
+abbrev pub set_by : Window → ℕ → Manager → Manager
+set_by w n m = if is_configured w n then empty_manager (settings_written w n m) m.locked else m
+
+-- what a write of registers leaves
+pub record Wrote (w : Window) (s t : SlaveState) : Type 0 where
+  pub kind : t.kind ≡ s.kind
+  pub room : length t.memory ≡ length s.memory
+  pub untouched : (a : ℕ) → a < length s.memory → touches w a ≡ false → slice_index t.memory a ≡ slice_index s.memory a
+  pub taken : (a : ℕ) → a < length s.memory → a < ram_start → touches w a ≡ true → is_stored a ≡ true → within sync_managers 32 a ≡ false → slice_index t.memory a ≡ slice_index w.bytes (a - w.from)
+  pub count : length t.managers ≡ length s.managers
+  pub managers : (n : ℕ) → n < length s.managers → manager_at t.managers n ≡ set_by w n (manager_at s.managers n)
+  pub al : t.al ≡ (if touches w al_control then al.requesting s.al else s.al)
+  pub sii : t.sii ≡ port.written s.sii w.from w.bytes
+  pub outs : t.outs ≡ s.outs
+  pub ins : t.ins ≡ s.ins
+
+abbrev pub RegistersAreWritten : Type 0
+RegistersAreWritten = (s : SlaveState) (w : Window) → w.from + length w.bytes ≤ ram_start → Wrote w s (physical_after s false true w)
+
+-- a read of registers changes nothing
+abbrev pub RegistersAreRead : Type 0
+RegistersAreRead = (s : SlaveState) (w : Window) → w.from + length w.bytes ≤ ram_start → physical_after s true false w ≡ s
+
+-- a write that touches no byte of a manager's eight sets nothing of it
+abbrev pub ManagersAside : Type 0
+ManagersAside = (w : Window) (n : ℕ) → (w.from + length w.bytes ≤ manager_place n) ⊎ (manager_place n + 8 ≤ w.from) → is_configured w n ≡ false
+
+-- every register may be read, and written as its row in the table of registers says
+pub record AreOpen (ms : List Manager) (touched : ℕ → Bool) (a : ℕ) : Type 0 where
+  pub reads : may_read_byte ms touched a ≡ true
+  pub writes : (busy : Bool) → may_write_byte ms busy touched a ≡ takes_writes busy a
+
+abbrev pub RegistersAreOpen : Type 0
+RegistersAreOpen = (ms : List Manager) (touched : ℕ → Bool) (a : ℕ) → a < ram_start → AreOpen ms touched a
+
+-- what the registers of the AL status and of the SII read
+pub record ShowsItself (s : SlaveState) : Type 0 where
+  pub status : byte_at s al_status ≡ al.status_word s.al
+  pub status_high : byte_at s (al_status + 1) ≡ 0
+  pub sii_low : byte_at s sii_control ≡ 0
+  pub sii_high : byte_at s port.command_place ≡ from_bool s.sii.busy + 32 * from_bool s.sii.error + 128 * from_bool s.sii.busy
+  pub sii_found : (k : ℕ) → k < 4 → byte_at s (sii_data + k) ≡ slice_index (to_le_bytes w32 s.sii.found) k
+
+abbrev pub SlavesShowThemselves : Type 0
+SlavesShowThemselves = (s : SlaveState) → ShowsItself s
+
+-- ---- the RAM, and the managers that govern it
+
+-- a byte of the RAM may be read, and written, where its governor lets it, and reads what it shows
+pub record IsRam (s : SlaveState) (a : ℕ) : Type 0 where
+  pub reads : (touched : ℕ → Bool) → may_read_byte s.managers touched a ≡ reads_under s.managers touched a (governor s.managers a)
+  pub writes : (busy : Bool) (touched : ℕ → Bool) → may_write_byte s.managers busy touched a ≡ writes_under s.managers touched a (governor s.managers a)
+  pub shows : byte_at s a ≡ ram_byte s.memory s.managers a (governor s.managers a)
+
+abbrev pub RamIsGoverned : Type 0
+RamIsGoverned = (s : SlaveState) (a : ℕ) → ram_start ≤ a → a < ram_end → IsRam s a
+
+-- one manager under a read, or under a write that sets nothing of it: read or written where the access gets at it and is let
+pub record IsAccessed (lower : List Manager) (w : Window) (n : ℕ) (m : Manager) : Type 0 where
+  pub read : physical_manager lower true false w n m ≡ (if is_read_by (touches w) (is_ungoverned lower) m then ring_read m else m)
+  pub written : is_configured w n ≡ false
+      → physical_manager lower false true w n m ≡ (if is_written_by (touches w) (is_ungoverned lower) m then ring_written m (physical_value lower w m.settings.start m.settings.length) else m)
+
+abbrev pub ManagersAreAccessed : Type 0
+ManagersAreAccessed = (lower : List Manager) (w : Window) (n : ℕ) (m : Manager) → IsAccessed lower w n m
+
+-- a write over exactly the bytes of a manager that no lower one reaches into brings it its data
+abbrev pub WholeValuesAreTheData : Type 0
+WholeValuesAreTheData = (w : Window) → physical_value [] w w.from (length w.bytes) ≡ w.bytes
+
+-- a read changes managers alone; a write the memory, the managers, the AL request and the SII port
+pub record AccessLeaves (s : SlaveState) (w : Window) : Type 0 where
+  pub read : physical_after s true false w ≡ record s { managers = physical_managers [] true false w 0 s.managers }
+  pub written : physical_after s false true w
+      ≡ record s {
+        memory = memory_written s.managers w s.memory;
+        managers = physical_managers [] false true w 0 s.managers;
+        al = if touches w al_control then al.requesting s.al else s.al;
+        sii = port.written s.sii w.from w.bytes;
+      }
+
+abbrev pub AccessesLeave : Type 0
+AccessesLeave = (s : SlaveState) (w : Window) → AccessLeaves s w
