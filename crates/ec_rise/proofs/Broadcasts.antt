@@ -13,8 +13,8 @@ use Rattle.ec_frame.specs.Datagram.{Datagram, adp_of, ado_of}
 use Rattle.ec_al.specs.Al.{Al, requesting}
 use Rattle.ec_slave.specs.Roles.{role_of, adp_after, is_reading, is_writing}
 use Rattle.ec_slave.specs.State.{SlaveState, manager_at, station_of}
-use Rattle.ec_slave.specs.Physical.{Window, touches, physical_met, physical_after, is_configured}
-use Rattle.ec_slave.specs.Meeting.{window_of, meets, meets_by, slave_met, datagram_met}
+use Rattle.ec_slave.specs.Physical.{Window, touches, physical_after, is_configured}
+use Rattle.ec_slave.specs.Meeting.{window_of, slave_met, datagram_met}
 use Rattle.ec_slave.specs.Checking.{control_word}
 use Rattle.ec_start.specs.declared.action.Action.{Action}
 use Rattle.ec_start.specs.declared.action.Action.TheVariants.{AskInit, ClearFmmus, ClearManagers, ClearStations}
@@ -23,8 +23,12 @@ use Rattle.ec_rise.specs.Stages.{Stage, Called, Down, after}
 use Rattle.ec_rise.specs.Standing.{HoldsZeros, IsInInit, AreClear, IsDownAt, Stands}
 use Rattle.ec_rise.specs.Frames.{IsWriting, Arrives, IsOther, MayRepeat, Met}
 use Rattle.ec_rise.proofs.Resets.{get_or-zeros}
-use Rattle.ec_rise.proofs.Writes.{Wrote, wrote, set_by, unconfigured, slave-wrote}
+use Rattle.ec_slave.specs.Interface.{Wrote, set_by}
+use Rattle.ec_slave.proofs.RegisterAccess.{registers_written as wrote, managers_aside as unconfigured}
+use Rattle.ec_rise.proofs.Writes.{slave-wrote}
 use Rattle.ec_rise.proofs.Owns.{window-sent}
+use Rattle.ec_slave.specs.Interface.{OnlyWrites}
+use Rattle.ec_slave.proofs.Meetings.{writes_meet, goes_on}
 
 -- ---- a broadcast write
 
@@ -34,28 +38,26 @@ reads-none s d c = ap (λ (x : Command). is_reading (role_of x (adp_of d) (stati
 writes-all : (s : SlaveState) (d : Datagram) → d.command ≡ Bwr → is_writing (role_of d.command (adp_of d) (station_of s)) ≡ true
 writes-all s d c = ap (λ (x : Command). is_writing (role_of x (adp_of d) (station_of s))) c
 
+pub broadcast-writes : (s : SlaveState) (d : Datagram) → d.command ≡ Bwr → OnlyWrites s d
+broadcast-writes s d c = record { writes = writes-all s d c; reads = reads-none s d c }
+
 pub broadcast-write : (s : SlaveState) (d : Datagram) → d.command ≡ Bwr → slave_met s d ≡ physical_after s false true (window_of d)
-unfolding meets physical_met
-broadcast-write s d c =
-    ap (λ (x : Command). (meets_by x s d).slave) c
-    ∙ (ap (λ (b : Bool). physical_after s b (is_writing (role_of d.command (adp_of d) (station_of s))) (window_of d)) (reads-none s d c)
-    ∙ ap (λ (b : Bool). physical_after s false b (window_of d)) (writes-all s d c))
+broadcast-write s d c = (writes_meet s d (broadcast-writes s d c)).slave
 
 -- the datagram goes on as it came, with its ADP grown
 writing-on : (s : SlaveState) (e d : Datagram) (j : ℕ) → d.command ≡ Bwr → IsWriting e d (j % 65536) → IsWriting e (datagram_met s d) ((j + 1) % 65536)
-unfolding meets physical_met
 writing-on s e d j c h =
+    let o = goes_on s d in
     let same : ado_of d ≡ d.address / 65536 = refl in
     let low : ((adp_of d + 1) % 65536 + 65536 * ado_of d) % 65536 ≡ (j + 1) % 65536 = let a = h.adp_is in omega (arith, a) in
     let high : ((adp_of d + 1) % 65536 + 65536 * ado_of d) / 65536 ≡ ado_of d = omega arith in
     let address : (datagram_met s d).address ≡ (adp_of d + 1) % 65536 + 65536 * ado_of d
-    = ap (λ (x : Command). (meets_by x s d).datagram.address) c ∙ ap (λ (x : Command). adp_after x (adp_of d) + 65536 * ado_of d) c in
+    = o.address ∙ ap (λ (x : Command). adp_after x (adp_of d) + 65536 * ado_of d) c in
     record {
-      command = ap (λ (x : Command). (meets_by x s d).datagram.command) c ∙ h.command;
+      command = o.command ∙ h.command;
       ado = ap (λ (x : ℕ). x / 65536) address ∙ (high ∙ h.ado);
       adp_is = ap (λ (x : ℕ). x % 65536) address ∙ low;
-      bytes = ap (λ (x : Command). (meets_by x s d).datagram.data_bytes) c
-          ∙ (if_false _ _ _ (reads-none s d c) ∙ h.bytes);
+      bytes = (writes_meet s d (broadcast-writes s d c)).bytes ∙ h.bytes;
     }
 
 pub window-is : (e d : Datagram) (adp : ℕ) (w : Window) → IsWriting e d adp → window_of e ≡ w → window_of d ≡ w

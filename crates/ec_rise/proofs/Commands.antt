@@ -30,8 +30,7 @@ use Rattle.ec_rise.specs.Stages.{IsStepUp}
 use Rattle.ec_rise.specs.Standing.{IsAsked}
 use Rattle.ec_rise.specs.Undisturbed.{IsSpelled}
 use Rattle.ec_rise.proofs.Counts.{register-goes}
-use Rattle.ec_rise.proofs.Settles.{served-al, served-sii}
-use Rattle.ec_rise.proofs.Serves.{decided-is}
+use Rattle.ec_slave.proofs.FirmwareSteps.{settles}
 
 -- ---- they count
 
@@ -97,7 +96,7 @@ granted s from to up h p =
     ∙ (ap (λ (k : ℕ). al.answered s.al (answer s.al.state (requested_by k) (checks_of s))) h.control_is
     ∙ (ap (λ (t : State). al.answered s.al (answer t (requested_by (state_number to)) (checks_of s))) h.state
     ∙ ap (λ r. al.answered s.al r) (answer-granted from to (checks_of s) up p))) in
-    let q : (served s).al ≡ al.answered s.al (Ok to) = served-al s ∙ (ap (λ (t : SlaveState). t.al) (decided-is s h.request) ∙ d) in
+    let q : (served s).al ≡ al.answered s.al (Ok to) = (settles s).al ∙ (if_true _ _ _ h.request ∙ d) in
     record { state_is = ap (λ (x : Al). x.state) q; no_error = ap (λ (x : Al). x.error) q }
 
 -- ---- a word of the SII that was asked for is found
@@ -131,5 +130,5 @@ spelled-word t s (suc (suc which)) h = h.revision
 pub word-found : (t : Device) (s r : SlaveState) (which : ℕ) → which < 3 → s.sii.busy ≡ false → IsSpelled t s → r.sii ≡ written s.sii 0x0502 (read_command (word_place which))
     → HasFound (word_of t which) (served r).sii
 word-found t s r which l e h q =
-    subst (λ (p : Sii). HasFound (word_of t which) p) (sym (served-sii r ∙ ap port.stepped q))
+    subst (λ (p : Sii). HasFound (word_of t which) p) (sym ((settles r).sii ∙ ap port.stepped q))
     (subst (λ (n : ℕ). HasFound n (port.stepped (written s.sii 0x0502 (read_command (word_place which))))) (spelled-word t s which h) (finds s.sii which l e))

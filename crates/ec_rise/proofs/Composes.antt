@@ -6,7 +6,7 @@ use Rattle.ec_regs.specs.Types.{SlaveKind}
 use Rattle.ec_frame.specs.Datagram.{Datagram, IsDatagram}
 use Rattle.ec_slave.specs.State.{SlaveState}
 use Rattle.ec_slave.specs.Meeting.{slave_met, datagram_met}
-use Rattle.ec_slave.specs.Keeping.{meets-keeps}
+use Rattle.ec_slave.proofs.Meetings.{datagrams_stay as meets-keeps}
 use Rattle.ec_start.specs.declared.action.Action.{Action}
 use Rattle.ec_start.specs.declared.action.Action.TheVariants.{CountSlaves}
 use Rattle.ec_start.specs.Scripts.{script}

@@ -1,20 +1,16 @@
 -- Whatever happens to a slave, it stays a device of its type.
-use Rattle.std.proofs.Common.{ℕ, ◌<◌, ◌≤◌, ◌≡◌, Bool, true, false, Option, Some, None, refl, sym, ◌∙◌, ap, subst, arith, if◌then◌else◌, List, length, set, unwrap_or}
+use Rattle.std.proofs.lemmas.Bool.{cases_Bool}
+use Rattle.std.proofs.Common.{inl, inr, ℕ, ◌<◌, ◌≤◌, ◌≡◌, Bool, true, false, Option, Some, None, refl, sym, ◌∙◌, ap, subst, arith, if◌then◌else◌, List, length, set, unwrap_or}
 use Rattle.ec_regs.specs.Types.{SlaveKind}
 use Rattle.ec_regs.specs.declared.slave_type.Identity.{Identity}
-use Rattle.ec_frame.specs.declared.command.Command.{Command}
-use Rattle.ec_frame.specs.declared.command.Command.TheVariants.{Nop, Aprd, Apwr, Aprw, Fprd, Fpwr, Fprw, Brd, Bwr, Brw, Lrd, Lwr, Lrw, Armw, Frmw}
-use Rattle.ec_frame.specs.Datagram.{Datagram, adp_of, ado_of}
-use Rattle.ec_sii.specs.Port.{written}
+use Rattle.ec_frame.specs.Datagram.{Datagram}
+use Rattle.ec_sii.specs.Port.{Sii}
 use Rattle.ec_sii.specs.declared.image.Image.{Image}
 use Rattle.ec_al.specs.Al as al
 use Rattle.ec_sync.specs.Manager.{Manager, app_put}
 use Rattle.ec_sync.specs.Buffer.{Got}
-use Rattle.ec_slave.specs.Roles.{role_of, is_writing}
-use Rattle.ec_slave.specs.State.{SlaveState, Met as Meeting, station_of, power_on, manager_at}
-use Rattle.ec_slave.specs.Physical.{physical_met, physical_after}
-use Rattle.ec_slave.specs.Logical.{meets_logically}
-use Rattle.ec_slave.specs.Meeting.{meets, meets_by, meets_physically, slave_met}
+use Rattle.ec_slave.specs.State.{SlaveState, power_on, manager_at}
+use Rattle.ec_slave.specs.Meeting.{slave_met}
 use Rattle.std.specs.Prelude.{option_map}
 use Rattle.ec_rise.specs.Standing.{IsOfKind}
 use Rattle.ec_slave.specs.Application.{is_running, with_manager, input_put, output_got, output_taken}
@@ -22,7 +18,11 @@ use Rattle.ec_slave.specs.Serving.{served}
 use Rattle.ec_slave.specs.Faulting.{faulted}
 use Rattle.ec_link.specs.declared.settings.Settings.{Settings}
 use Rattle.ec_rise.specs.Undisturbed.{IsDevice, plan_at, slave_of}
-use Rattle.ec_rise.proofs.Settles.{either-image, written-image, served-image, served-identity}
+use Rattle.ec_slave.proofs.FirmwareSteps.{settles}
+use Rattle.ec_slave.proofs.Inside.{inside_kept}
+use Rattle.ec_slave.proofs.Meetings.{faults}
+use Rattle.ec_slave.proofs.Serves.{settings_kept}
+use Rattle.ec_slave.proofs.SwitchedOn.{switched_on}
 use Rattle.ec_rise.specs.Starting.{Starting, slave_at}
 use Rattle.ec_rise.specs.Runs.{with_begun, AreStartable, Happens, Sends, Passes, Loses, Returns, Strays, Closes, Serves, Puts, Gets, Faults, Resets, Runs, Stops, Steps, Begins}
 use Rattle.ec_rise.specs.ComesUp.{IsTrue, AreTrue, AgainLaw}
@@ -47,46 +47,13 @@ true-on kind s t e h = record {
 
 -- ---- any datagram
 
-physical-same : (s : SlaveState) (d : Datagram) → Same s (meets_physically s d).slave
-unfolding physical_met physical_after
-physical-same s d = record {
-  identity = refl;
-  image = either-image (is_writing (role_of d.command (adp_of d) (station_of s))) (written s.sii (ado_of d) d.data_bytes) s.sii s.sii.image (written-image s.sii (ado_of d) d.data_bytes) refl;
-}
-
-logical-same : (reads writes : Bool) (weight : ℕ) (s : SlaveState) (d : Datagram) → Same s (meets_logically reads writes weight s d).slave
-unfolding meets_logically
-logical-same reads writes weight s d = record { identity = refl; image = refl }
-
-either-same : (s : SlaveState) (b : Bool) (x y : Meeting) → Same s x.slave → Same s y.slave → Same s (if b then x else y).slave
-either-same s true x y h k = h
-either-same s false x y h k = k
-
-by-same : (c : Command) (s : SlaveState) (d : Datagram) → Same s (meets_by c s d).slave
-by-same Nop s d = same-refl s
-by-same Aprd s d = physical-same s d
-by-same Apwr s d = physical-same s d
-by-same Aprw s d = physical-same s d
-by-same Fprd s d = physical-same s d
-by-same Fpwr s d = physical-same s d
-by-same Fprw s d = physical-same s d
-by-same Brd s d = physical-same s d
-by-same Bwr s d = physical-same s d
-by-same Brw s d = physical-same s d
-by-same Lrd s d = logical-same true false 1 s d
-by-same Lwr s d = logical-same false true 1 s d
-by-same Lrw s d = either-same s s.kind.lrw (meets_logically true true 2 s d) (record { slave = s; datagram = d }) (logical-same true true 2 s d) (same-refl s)
-by-same Armw s d = physical-same s d
-by-same Frmw s d = physical-same s d
-
 pub met-same : (s : SlaveState) (d : Datagram) → Same s (slave_met s d)
-unfolding meets
-met-same s d = by-same d.command s d
+met-same s d = let k = inside_kept s d in record { identity = k.identity; image = k.image }
 
 -- ---- the other events
 
 pub served-same : (s : SlaveState) → Same s (served s)
-served-same s = record { identity = served-identity s; image = served-image s }
+served-same s = record { identity = (settings_kept s).identity; image = (settles s).image }
 
 put-by : (s : SlaveState) (b : Bool) (o : Option Manager) → Same s (unwrap_or (if b then option_map (with_manager s 3) o else None) s)
 put-by s true None = same-refl s
@@ -100,17 +67,24 @@ pub got-by : (s : SlaveState) (o : Option Got) → Same s (output_taken s o)
 got-by s None = same-refl s
 got-by s (Some got) = record { identity = refl; image = refl }
 
-either-slave : (s : SlaveState) (b : Bool) (x y : SlaveState) → Same s x → Same s y → Same s (if b then x else y)
-either-slave s true x y h k = h
-either-slave s false x y h k = k
-
 pub fault-same : (s : SlaveState) → Same s (faulted s)
-unfolding faulted
-fault-same s = either-slave s (al.is_operational s.al.state) _ s (record { identity = refl; image = refl }) (same-refl s)
+fault-same s = elim (cases_Bool (al.is_operational s.al.state)) [
+  | inl e ↦ subst (Same s) (sym ((faults s).in_op e)) (record { identity = refl; image = refl })
+  | inr e ↦ subst (Same s) (sym ((faults s).elsewhere e)) (same-refl s)
+]
+
+-- an identity of the type's device
+pub on-true : (kind type : SlaveKind) (identity : Identity) → identity.vendor ≡ kind.device.vendor → identity.product ≡ kind.device.product → identity.revision ≡ kind.device.revision → IsTrue kind (power_on type identity)
+on-true kind type identity vendor product revision =
+    let on = switched_on type identity in record {
+      image = ap (λ (p : Sii). p.image.identity) on.sii ∙ sym on.identity_is;
+      vendor = ap (λ (i : Identity). i.vendor) on.identity_is ∙ vendor;
+      product = ap (λ (i : Identity). i.product) on.identity_is ∙ product;
+      revision = ap (λ (i : Identity). i.revision) on.identity_is ∙ revision;
+    }
 
 pub reset-true : (kind : SlaveKind) (s : SlaveState) → IsTrue kind s → IsTrue kind (power_on s.kind s.identity)
-unfolding power_on
-reset-true kind s h = record { image = refl; vendor = h.vendor; product = h.product; revision = h.revision }
+reset-true kind s h = on-true kind s.kind s.identity h.vendor h.product h.revision
 
 -- ---- worlds
 

@@ -9,8 +9,10 @@ use Rattle.ec_al.specs.declared.state.State.{State}
 use Rattle.ec_al.specs.declared.state.State.TheVariants.{Init, PreOp, SafeOp, Op}
 use Rattle.ec_al.specs.Al.{Al}
 use Rattle.ec_al.specs.Al as al
-use Rattle.ec_slave.specs.State.{SlaveState, manager_at, power_on}
+use Rattle.ec_slave.specs.State.{SlaveState, manager_at}
 use Rattle.ec_slave.specs.Application.{is_running, with_manager, input_put, output_got, output_taken}
+use Rattle.ec_slave.proofs.Meetings.{faults}
+use Rattle.ec_slave.proofs.SwitchedOn.{switched_on}
 use Rattle.ec_slave.specs.Faulting.{faulted, locked_empty}
 use Rattle.ec_rise.specs.Stages.{Rise, Stays, Climbs, Config, Stage, Before, Called, Down, Up, Talk}
 use Rattle.ec_rise.specs.Standing.{unviewed, HoldsZeros, IsOfKind, Rises, IsSilent, Talks, IsUpAt, Reached, IsGone, IsFaulted, IsTop, HadFault, Stands}
@@ -58,8 +60,7 @@ abbrev with_fault : SlaveState → SlaveState
 with_fault s = record s { al = al.faulted s.al; managers = set s.managers 2 (locked_empty (manager_at s.managers 2)) }
 
 faulted-is : (s : SlaveState) → s.al.state ≡ Op → faulted s ≡ with_fault s
-unfolding faulted
-faulted-is s e = if_true _ _ _ (ap al.is_operational e)
+faulted-is s e = (faults s).in_op (ap al.is_operational e)
 
 al-is : (a : Al) → a.state ≡ Op → al.faulted a ≡ record { state = SafeOp; error = true; code = 1; requested = a.requested }
 al-is a e = if_true _ _ _ (ap al.is_operational e)
@@ -138,11 +139,10 @@ fault-reached i (Down f m) s e l h = absurd (other-state Init Op (sym h.init.sta
 fault-reached i (Up c) s e l h = inr (refl, inr (fault-up i c c.rise s refl e l h.rises h))
 
 gone-state : (st : Stage) (s : SlaveState) → IsGone st s → s.al.state ≡ Init
-unfolding power_on
 gone-state Before s h = absurd h
 gone-state Called s h = absurd h
 gone-state (Down f m) s h = absurd h
-gone-state (Up c) s h = ap (λ (t : SlaveState). t.al.state) h
+gone-state (Up c) s h = ap (λ (t : SlaveState). t.al.state) h ∙ ap (λ (a : Al). a.state) (switched_on s.kind s.identity).al
 
 fault-state : (i : ℕ) (st : Stage) (s : SlaveState) → HadFault i st s → s.al.state ≡ SafeOp
 fault-state i Before s h = absurd h

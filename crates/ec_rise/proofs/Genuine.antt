@@ -7,7 +7,7 @@ use Rattle.ec_frame.specs.Datagram.{Datagram}
 use Rattle.ec_al.specs.Al as al
 use Rattle.ec_al.specs.declared.state.State.{State}
 use Rattle.ec_al.specs.declared.state.State.TheVariants.{Init, PreOp, SafeOp, Op}
-use Rattle.ec_bits.proofs.AnyLaws.{if_false}
+use Rattle.ec_slave.proofs.Meetings.{faults, by_bytes}
 use Rattle.ec_slave.specs.State.{SlaveState, power_on}
 use Rattle.ec_slave.specs.Meeting.{slave_met, passes}
 use Rattle.ec_slave.specs.Application.{input_put, inputs_put, output_got, output_taken, outputs_taken}
@@ -20,15 +20,14 @@ use Rattle.ec_rise.specs.Standing.{IsOfKind, Stands}
 use Rattle.ec_rise.specs.Undisturbed.{plan_at, slave_of}
 use Rattle.ec_rise.specs.Devices.{IsGenuine, SwitchedOnLaw, DevicesLaw, RingLaw}
 use Rattle.ec_rise.proofs.Composes.{set_one}
-use Rattle.ec_rise.proofs.Devices.{Same, true-on, met-same, served-same, put-same, got-by, fault-same, reset-true, device-of}
+use Rattle.ec_rise.proofs.Devices.{Same, true-on, met-same, served-same, put-same, got-by, fault-same, on-true, reset-true, device-of}
 use Rattle.ec_rise.proofs.Events.{fault-stands, put-stands, got-stands}
 use Rattle.ec_rise.proofs.Keeps.{slave-law}
 use Rattle.ec_rise.proofs.Messages.{stands-served}
 use Rattle.ec_rise.proofs.Resets.{power_on_is}
 
 pub switched_on : SwitchedOnLaw
-unfolding power_on
-switched_on kind identity h = record { slave = power_on_is kind identity; own = record { image = refl; vendor = h.vendor; product = h.product; revision = h.revision } }
+switched_on kind identity h = record { slave = power_on_is kind identity; own = on-true kind kind identity h.vendor h.product h.revision }
 
 -- nothing is known of it but its kind
 stands : (kind : SlaveKind) (s : SlaveState) → IsOfKind kind s → Stands kind 0 Before false s
@@ -48,24 +47,21 @@ put : (kind : SlaveKind) (s : SlaveState) (place byte : ℕ) → IsGenuine kind 
 put kind s place byte h = on kind s (unwrap_or (input_put s place byte) s) h (put-stands kind 0 Before false s place byte (stands kind s h.slave)).slave (put-same s place byte)
 
 put-all : (kind : SlaveKind) (s : SlaveState) (inputs : List ℕ) (count : ℕ) → IsGenuine kind s → IsGenuine kind (inputs_put s inputs count)
-unfolding inputs_put
-put-all kind s inputs zero h = h
-put-all kind s inputs (suc n) h = put kind (inputs_put s inputs n) n (slice_index inputs n) (put-all kind s inputs n h)
+put-all kind s inputs zero h = subst (IsGenuine kind) (sym (by_bytes s inputs).none_put) h
+put-all kind s inputs (suc n) h = subst (IsGenuine kind) (sym ((by_bytes s inputs).more_put n)) (put kind (inputs_put s inputs n) n (slice_index inputs n) (put-all kind s inputs n h))
 
 got : (kind : SlaveKind) (s : SlaveState) (place : ℕ) → IsGenuine kind s → IsGenuine kind (output_taken s (output_got s place))
 got kind s place h = on kind s (output_taken s (output_got s place)) h (got-stands kind 0 Before false s place (stands kind s h.slave)).slave (got-by s (output_got s place))
 
 got-all : (kind : SlaveKind) (s : SlaveState) (count : ℕ) → IsGenuine kind s → IsGenuine kind (outputs_taken s count)
-unfolding outputs_taken
-got-all kind s zero h = h
-got-all kind s (suc n) h = got kind (outputs_taken s n) n (got-all kind s n h)
+got-all kind s zero h = subst (IsGenuine kind) (sym (by_bytes s []).none_taken) h
+got-all kind s (suc n) h = subst (IsGenuine kind) (sym ((by_bytes s []).more_taken n)) (got kind (outputs_taken s n) n (got-all kind s n h))
 
 fault-kind : (kind : SlaveKind) (s : SlaveState) → IsOfKind kind s → IsOfKind kind (faulted s)
-unfolding faulted
 fault-kind kind s h = by s.al.state refl
   where
     none : al.is_operational s.al.state ≡ false → IsOfKind kind (faulted s)
-    none e = subst (IsOfKind kind) (sym (if_false _ _ _ e)) h
+    none e = subst (IsOfKind kind) (sym ((faults s).elsewhere e)) h
 
     by : (a : State) → s.al.state ≡ a → IsOfKind kind (faulted s)
     by Init e = none (ap al.is_operational e)

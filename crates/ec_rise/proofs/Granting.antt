@@ -11,7 +11,8 @@ use Rattle.ec_al.specs.declared.state.State.TheVariants.{PreOp, SafeOp}
 use Rattle.ec_sync.specs.Manager.{Manager}
 use Rattle.ec_slave.specs.State.{SlaveState, manager_at}
 use Rattle.ec_regs.specs.Objects.{bits_assigned}
-use Rattle.ec_slave.specs.Checking.{is_manager, mailbox_check, process_check, checks_of}
+use Rattle.ec_slave.proofs.FirmwareSteps.{checks}
+use Rattle.ec_slave.specs.Checking.{is_manager, mailbox_check, process_check}
 use Rattle.ec_link.specs.declared.settings.Settings.{Settings}
 use Rattle.ec_start.specs.Plans.{settings_at}
 use Rattle.ec_rise.specs.Stages.{prepared, asked_all}
@@ -49,15 +50,14 @@ mailboxes-right s (Some b) ms h e u =
     (manager-right (manager_at s.managers 1) (settings_at ms 1) b.send_start b.send_size 2 (e 1 (omega arith)) (u 1 (omega arith)) a.send_set a.send_start a.send_length (control-read (settings_at ms 1) a.send_mailbox a.send_read))
 
 pub preop-granted : (p : Settings) → IsStartable p → Grants p.kind (boxed (settings_at p.managers 0) (settings_at p.managers 1)) PreOp
-unfolding checks_of
 preop-granted p h s k =
     let e0 : settings_at p.managers 0 ≡ h.m0 = ap (λ (ms : List ManagerSettings). settings_at ms 0) h.managers in
     let e1 : settings_at p.managers 1 ≡ h.m1 = ap (λ (ms : List ManagerSettings). settings_at ms 1) h.managers in
     let boxes : (x : Mailbox) → p.kind.mailbox ≡ Some x → AreMailboxes x (settings_at p.managers 0 ∷ settings_at p.managers 1 ∷ no_settings ∷ no_settings ∷ [])
     = λ x e. subst (λ (m : ManagerSettings). AreMailboxes x (settings_at p.managers 0 ∷ m ∷ no_settings ∷ no_settings ∷ [])) (sym e1)
     (subst (λ (m : ManagerSettings). AreMailboxes x (m ∷ h.m1 ∷ no_settings ∷ no_settings ∷ [])) (sym e0) (h.mailbox x e)) in
-    ap (λ (t : SlaveKind). mailbox_check s.managers t.mailbox) k.slave.kind_is
-    ∙ mailboxes-right s p.kind.mailbox (settings_at p.managers 0 ∷ settings_at p.managers 1 ∷ no_settings ∷ no_settings ∷ []) boxes k.settings k.unlocked
+    (checks s).mailbox ∙ (ap (λ (t : SlaveKind). mailbox_check s.managers t.mailbox) k.slave.kind_is
+    ∙ mailboxes-right s p.kind.mailbox (settings_at p.managers 0 ∷ settings_at p.managers 1 ∷ no_settings ∷ no_settings ∷ []) boxes k.settings k.unlocked)
 
 -- ---- the process data
 
@@ -74,7 +74,6 @@ process-right x m bits start control e u h = elim (cases_Bool (bits == 0)) [
 ]
 
 pub safeop-granted : (p : Settings) → IsStartable p → IsComplete p → Grants p.kind (mapped_to (asked_all (prepared p) p p.kind.mailbox) p) SafeOp
-unfolding checks_of
 safeop-granted p h v s k =
     let a : IsAssigned (asked_all (prepared p) p p.kind.mailbox) s = record { outs = k.outs; ins = k.ins } in
     let held = assignment-held p p.kind.mailbox s refl h k.slave a in
@@ -83,12 +82,12 @@ safeop-granted p h v s k =
     = ap (λ (t : SlaveKind). bits_assigned t.outputs (take s.outs.count s.outs.slots)) kind ∙ ap (bits_assigned p.kind.outputs) held.0 in
     let in_bits : bits_assigned s.kind.inputs (take s.ins.count s.ins.slots) ≡ bits_assigned p.kind.inputs p.inputs
     = ap (λ (t : SlaveKind). bits_assigned t.inputs (take s.ins.count s.ins.slots)) kind ∙ ap (bits_assigned p.kind.inputs) held.1 in (
-      ap (λ (n : ℕ). process_check (manager_at s.managers 2) n s.kind.out_start 4) out_bits
+      (checks s).outputs ∙ (ap (λ (n : ℕ). process_check (manager_at s.managers 2) n s.kind.out_start 4) out_bits
           ∙ (ap (λ (t : SlaveKind). process_check (manager_at s.managers 2) (bits_assigned p.kind.outputs p.outputs) t.out_start 4) kind
-          ∙ process-right (manager_at s.managers 2) (settings_at p.managers 2) (bits_assigned p.kind.outputs p.outputs) p.kind.out_start 4 (k.settings 2 (omega arith)) (k.unlocked 2 (omega arith)) v.out_carried),
-      ap (λ (n : ℕ). process_check (manager_at s.managers 3) n s.kind.in_start 0) in_bits
+          ∙ process-right (manager_at s.managers 2) (settings_at p.managers 2) (bits_assigned p.kind.outputs p.outputs) p.kind.out_start 4 (k.settings 2 (omega arith)) (k.unlocked 2 (omega arith)) v.out_carried)),
+      (checks s).inputs ∙ (ap (λ (n : ℕ). process_check (manager_at s.managers 3) n s.kind.in_start 0) in_bits
           ∙ (ap (λ (t : SlaveKind). process_check (manager_at s.managers 3) (bits_assigned p.kind.inputs p.inputs) t.in_start 0) kind
-          ∙ process-right (manager_at s.managers 3) (settings_at p.managers 3) (bits_assigned p.kind.inputs p.inputs) p.kind.in_start 0 (k.settings 3 (omega arith)) (k.unlocked 3 (omega arith)) v.in_carried),
+          ∙ process-right (manager_at s.managers 3) (settings_at p.managers 3) (bits_assigned p.kind.inputs p.inputs) p.kind.in_start 0 (k.settings 3 (omega arith)) (k.unlocked 3 (omega arith)) v.in_carried)),
     )
 
 pub is-lively : (p : Settings) → IsStartable p → IsComplete p → IsLively p

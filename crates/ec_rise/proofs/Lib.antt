@@ -25,7 +25,6 @@ pub mod Decodes
 pub mod Sendable
 pub mod StartableLaws
 pub mod Counts
-pub mod Settles
 pub mod Commands
 pub mod Shown
 pub mod Requests

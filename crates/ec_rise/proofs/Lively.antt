@@ -1,5 +1,7 @@
 -- The premises can be met: a segment of one slave with a mailbox and PDOs in both directions comes up.
-use Rattle.std.proofs.Common.{ℕ, zero, suc, ◌+◌, ◌<◌, refl, arith, [], ◌∷◌, length, All}
+use Rattle.ec_sii.specs.Port.{Sii, idle_port}
+use Rattle.ec_slave.proofs.SwitchedOn.{switched_on}
+use Rattle.std.proofs.Common.{ℕ, zero, suc, ◌+◌, ◌<◌, ◌≡◌, refl, ap, arith, [], ◌∷◌, length, All}
 use Rattle.ec_regs.specs.Managers.{is_set}
 use Rattle.ec_slave.specs.State.{power_on}
 use Rattle.ec_start.specs.Planned.{IsStartable}
@@ -8,7 +10,7 @@ use Rattle.ec_regs.specs.declared.slave_type.Entry.{Entry}
 use Rattle.ec_regs.specs.Types.{device_identity}
 use Rattle.ec_start.specs.Scripts.{script}
 use Rattle.ec_start.specs.Running.{begun}
-use Rattle.ec_rise.specs.Undisturbed.{IsDevice, AreDevices, ArePlans, Rising, plan_at, slave_of, turns}
+use Rattle.ec_rise.specs.Undisturbed.{IsSpelled, IsDevice, AreDevices, ArePlans, Rising, plan_at, slave_of, turns}
 use Rattle.ec_rise.specs.BringUp.{rising}
 use Rattle.ec_rise.proofs.Applying.{turns-to}
 use Rattle.ec_rise.specs.Turned.{IsBroughtUp}
@@ -86,8 +88,10 @@ plans = record {
     by-complete (suc i) l = absurd (omega (arith, l))
 
 device : IsDevice mix.kind (power_on mix.kind (device_identity mix.kind.device 0))
-unfolding power_on
-device = record { slave = power_on_is mix.kind (device_identity mix.kind.device 0); spelled = record { vendor = refl; product = refl; revision = refl } }
+device = record { slave = power_on_is mix.kind (device_identity mix.kind.device 0); spelled = by_port (switched_on mix.kind (device_identity mix.kind.device 0)).sii }
+  where
+    by_port : (power_on mix.kind (device_identity mix.kind.device 0)).sii ≡ idle_port (record { identity = device_identity mix.kind.device 0; mailbox = mix.kind.mailbox }) → IsSpelled mix.kind.device (power_on mix.kind (device_identity mix.kind.device 0))
+    by_port e = record { vendor = ap (λ (p : Sii). p.image.identity.vendor) e; product = ap (λ (p : Sii). p.image.identity.product) e; revision = ap (λ (p : Sii). p.image.identity.revision) e }
 
 devices : AreDevices (mix ∷ []) (power_on mix.kind (device_identity mix.kind.device 0) ∷ [])
 devices = record { count = refl; few = omega arith; each = by-each }

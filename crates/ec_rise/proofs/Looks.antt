@@ -13,14 +13,12 @@ use Rattle.ec_slave.specs.State.{SlaveState, Met as Meeting, with_answer}
 use Rattle.ec_slave.specs.Physical.{byte_at, retold}
 use Rattle.ec_slave.specs.Meeting.{meets, slave_met, datagram_met}
 use Rattle.ec_slave.proofs.Broadcast.{broadcast_read}
-use Rattle.ec_slave.specs.Keeping.{length-retold}
-use Rattle.ec_slave.proofs.Told.{get-retold0}
 use Rattle.ec_start.specs.declared.action.Action.TheVariants.{CountSlaves, AwaitInit}
 use Rattle.ec_start.specs.Actions.{datagram_of}
 use Rattle.ec_rise.specs.Stages.{Stage, Called, Down}
 use Rattle.ec_rise.specs.Standing.{IsInInit, Reached, Stands}
 use Rattle.ec_rise.specs.Frames.{IsBroadcast, ShowsInit, Arrives, MayEnd, Met}
-use Rattle.ec_rise.proofs.Polls.{status-at}
+use Rattle.ec_slave.proofs.RegisterAccess.{shows_itself, retold_by_place}
 
 -- the datagram after it
 abbrev pub looked : SlaveState → Datagram → Datagram
@@ -36,14 +34,14 @@ pub look-on : (s : SlaveState) (d : Datagram) (number : ℕ) → IsBroadcast (da
 look-on s d number h =
     let q : datagram_met s d ≡ looked s d = ap (λ (m : Meeting). m.datagram) (look s d number h) in
     let e : ((adp_of d + 1) % 65536 + 65536 * ado_of d) / 65536 ≡ ado_of d = omega arith in
-    subst (λ (x : Datagram). IsBroadcast (datagram_of AwaitInit number) x) (sym q) (record { command = h.command; ado = e ∙ h.ado; data_length = length-retold 0 d.data_bytes _ ∙ h.data_length })
+    subst (λ (x : Datagram). IsBroadcast (datagram_of AwaitInit number) x) (sym q) (record { command = h.command; ado = e ∙ h.ado; data_length = (retold_by_place d.data_bytes _).long ∙ h.data_length })
 
 -- a byte grows, and it gets each slave's bits
 pub look-byte : (s : SlaveState) (d : Datagram) (number k : ℕ) → IsBroadcast (datagram_of AwaitInit number) d → k < 2 → slice_index (datagram_met s d).data_bytes k ≡ bit_or (slice_index d.data_bytes k) (byte_at s (0x0130 + k))
 look-byte s d number k h l =
     let n = h.data_length in
     ap (λ (m : Meeting). slice_index m.datagram.data_bytes k) (look s d number h)
-    ∙ (get-retold0 d.data_bytes (λ k. Some (bit_or (slice_index d.data_bytes k) (byte_at s (ado_of d + k)))) k (omega (arith, n, l))
+    ∙ ((retold_by_place d.data_bytes (λ k. Some (bit_or (slice_index d.data_bytes k) (byte_at s (ado_of d + k))))).each k (omega (arith, n, l))
     ∙ ap (λ (x : ℕ). bit_or (slice_index d.data_bytes k) (byte_at s (x + k))) (ado-sent d number h))
 
 -- ---- how many slaves there are
@@ -78,7 +76,7 @@ later-await-init s d number j h k = (shows-more s d number h k).0
 
 init-shown : (i : ℕ) (s : SlaveState) → byte_at s 0x0130 ≤ 1 → Reached i Called s → IsInInit s
 init-shown i s l (inl h) =
-    let k = low-state s.al.state s.al.error (subst (λ (x : ℕ). x ≤ 1) (status-at s) l) in
+    let k = low-state s.al.state s.al.error (subst (λ (x : ℕ). x ≤ 1) (shows_itself s).status l) in
     record { state = k.0; no_error = k.1; asked = λ _. h.1 }
 init-shown i s l (inr h) = h
 

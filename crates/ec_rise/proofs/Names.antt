@@ -12,8 +12,8 @@ use Rattle.ec_frame.specs.Datagram.{Datagram, IsDatagram, adp_of, ado_of}
 use Rattle.ec_frame.specs.Fields.{with_adp}
 use Rattle.ec_slave.specs.Roles.{role_of, adp_after, is_reading, is_writing}
 use Rattle.ec_slave.specs.State.{SlaveState, Met as Meeting, manager_at, station_of}
-use Rattle.ec_slave.specs.Physical.{Window, physical_met, physical_after}
-use Rattle.ec_slave.specs.Meeting.{window_of, meets, meets_by, slave_met, datagram_met}
+use Rattle.ec_slave.specs.Physical.{Window, physical_after}
+use Rattle.ec_slave.specs.Meeting.{window_of, meets, slave_met, datagram_met}
 use Rattle.ec_slave.proofs.Bystanders.{other_position_passes}
 use Rattle.ec_start.specs.Plans.{settings_at, fmmu_at}
 use Rattle.ec_start.specs.declared.action.Action.TheVariants.{NameSlave}
@@ -23,9 +23,13 @@ use Rattle.ec_rise.specs.Standing.{HoldsZeros, AreClear, IsDownAt, IsUpAt, Stand
 use Rattle.ec_rise.specs.Frames.{IsWriting, Arrives, Met}
 use Rattle.ec_rise.proofs.Passing.{others-stay, other-met}
 use Rattle.ec_rise.proofs.Resets.{get_or-zeros}
-use Rattle.ec_rise.proofs.Writes.{Wrote, wrote, unconfigured, slave-wrote}
+use Rattle.ec_slave.specs.Interface.{Wrote}
+use Rattle.ec_slave.proofs.RegisterAccess.{registers_written as wrote, managers_aside as unconfigured}
+use Rattle.ec_rise.proofs.Writes.{slave-wrote}
 use Rattle.ec_rise.proofs.Owns.{window-sent}
 use Rattle.ec_rise.proofs.Broadcasts.{down-of, init-wrote}
+use Rattle.ec_slave.specs.Interface.{OnlyWrites}
+use Rattle.ec_slave.proofs.Meetings.{writes_meet, goes_on}
 
 -- ---- the meeting
 
@@ -35,25 +39,25 @@ reads-none s d c e = ap (λ (x : Command). is_reading (role_of x (adp_of d) (sta
 writes-all : (s : SlaveState) (d : Datagram) → d.command ≡ Apwr → adp_of d ≡ 0 → is_writing (role_of d.command (adp_of d) (station_of s)) ≡ true
 writes-all s d c e = ap (λ (x : Command). is_writing (role_of x (adp_of d) (station_of s))) c ∙ ap is_writing (if_true _ _ _ (eq-eqb _ _ e))
 
+-- the slave at this position is told to write
+pub position-writes : (s : SlaveState) (d : Datagram) → d.command ≡ Apwr → adp_of d ≡ 0 → OnlyWrites s d
+position-writes s d c e = record { writes = writes-all s d c e; reads = reads-none s d c e }
+
 position-write : (s : SlaveState) (d : Datagram) → d.command ≡ Apwr → adp_of d ≡ 0 → slave_met s d ≡ physical_after s false true (window_of d)
-unfolding meets physical_met
-position-write s d c e =
-    ap (λ (x : Command). (meets_by x s d).slave) c
-    ∙ (ap (λ (b : Bool). physical_after s b (is_writing (role_of d.command (adp_of d) (station_of s))) (window_of d)) (reads-none s d c e)
-    ∙ ap (λ (b : Bool). physical_after s false b (window_of d)) (writes-all s d c e))
+position-write s d c e = (writes_meet s d (position-writes s d c e)).slave
 
 position-on : (s : SlaveState) (e d : Datagram) (adp : ℕ) → d.command ≡ Apwr → adp_of d ≡ 0 → IsWriting e d adp → IsWriting e (datagram_met s d) ((adp + 1) % 65536)
-unfolding meets physical_met
 position-on s e d adp c z h =
+    let o = goes_on s d in
     let low : ((adp_of d + 1) % 65536 + 65536 * ado_of d) % 65536 ≡ (adp + 1) % 65536 = let a = h.adp_is in omega (arith, a) in
     let high : ((adp_of d + 1) % 65536 + 65536 * ado_of d) / 65536 ≡ ado_of d = omega arith in
     let address : (datagram_met s d).address ≡ (adp_of d + 1) % 65536 + 65536 * ado_of d
-    = ap (λ (x : Command). (meets_by x s d).datagram.address) c ∙ ap (λ (x : Command). adp_after x (adp_of d) + 65536 * ado_of d) c in
+    = o.address ∙ ap (λ (x : Command). adp_after x (adp_of d) + 65536 * ado_of d) c in
     record {
-      command = ap (λ (x : Command). (meets_by x s d).datagram.command) c ∙ h.command;
+      command = o.command ∙ h.command;
       ado = ap (λ (x : ℕ). x / 65536) address ∙ (high ∙ h.ado);
       adp_is = ap (λ (x : ℕ). x % 65536) address ∙ low;
-      bytes = ap (λ (x : Command). (meets_by x s d).datagram.data_bytes) c ∙ (if_false _ _ _ (reads-none s d c z) ∙ h.bytes);
+      bytes = (writes_meet s d (position-writes s d c z)).bytes ∙ h.bytes;
     }
 
 -- ---- at its position

@@ -26,10 +26,10 @@ use Rattle.ec_rise.specs.Standing.{IsOfKind, IsIn, Rises, Claims, IsSent, IsSile
 use Rattle.ec_rise.specs.Frames.{Arrives, Untouched}
 use Rattle.ec_rise.specs.Undisturbed.{IsSpelled}
 use Rattle.ec_rise.proofs.Owns.{own-write, window-sent}
-use Rattle.ec_rise.proofs.Writes.{wrote}
+use Rattle.ec_slave.proofs.RegisterAccess.{registers_written as wrote}
 use Rattle.ec_rise.proofs.Sends.{sending, delivered}
 use Rattle.ec_rise.proofs.Messages.{stands-served}
-use Rattle.ec_rise.proofs.Settles.{served-asks, served-idle}
+use Rattle.ec_slave.proofs.FirmwareSteps.{settles}
 use Rattle.ec_rise.proofs.Commands.{Passes, IsThere, granted, word_of, HasFound, word-found}
 use Rattle.ec_rise.proofs.Shown.{HasReply}
 use Rattle.ec_rise.proofs.Requests.{Answers, replied}
@@ -151,7 +151,7 @@ pub next-init : (kind : SlaveKind) (i : ℕ) (t : SlaveState) → Stands kind i 
 next-init kind i t h = by (reached-of kind i Called (served t) (stands-served kind i Called false t h))
   where
     by : Reached i Called (served t) → IsThere Init (served t)
-    by (inl r) = absurd (both_ways (served t).al.requested (served-asks t) r.0)
+    by (inl r) = absurd (both_ways (served t).al.requested (settles t).no_request r.0)
     by (inr r) = record { state_is = r.state; no_error = r.no_error }
 
 -- ---- the datagram of its own action, as it comes to the slave
@@ -267,8 +267,8 @@ next-sure kind i st number d s t a ClearFmmus l m p = λ h r k. tt
 next-sure kind i st number d s t a ClearManagers l m p = λ h r k. tt
 next-sure kind i st number d s t a ClearStations l m p = λ h r k. tt
 next-sure kind i st number d s t a (NameSlave x) l m p = λ h r k. tt
-next-sure kind i st number d s t a (AskWord x zero) l m p = λ h r k. served-idle t
-next-sure kind i st number d s t a (AskWord x (suc which)) l m p = λ h r k. served-idle t
+next-sure kind i st number d s t a (AskWord x zero) l m p = λ h r k. (settles t).idle
+next-sure kind i st number d s t a (AskWord x (suc which)) l m p = λ h r k. (settles t).idle
 next-sure kind i st number d s t a (AwaitWord x which) l m p =
     λ h r k e. subst (λ (y : ℕ). Shows kind i st number d s t (AskWord y which) (AwaitWord y which)) (sym e) (word-shows kind i which st number d s t l m)
     (subst (λ (y : Action). Prior kind i st y s) p h) (subst (λ (y : Action). Arrives y number i d) p r) (subst (λ (y : Action). Stands kind i (after i st y) false t) p k) e

@@ -14,8 +14,8 @@ use Rattle.ec_al.specs.Al.{Al, requesting}
 use Rattle.ec_sii.specs.Port.{Sii, written}
 use Rattle.ec_slave.specs.Roles.{role_of, adp_after, is_reading, is_writing}
 use Rattle.ec_slave.specs.State.{SlaveState, Met as Meeting, manager_at, station_of, power_on}
-use Rattle.ec_slave.specs.Physical.{Window, touches, physical_met, physical_after}
-use Rattle.ec_slave.specs.Meeting.{window_of, meets, meets_by, slave_met, datagram_met}
+use Rattle.ec_slave.specs.Physical.{Window, touches, physical_after}
+use Rattle.ec_slave.specs.Meeting.{window_of, meets, slave_met, datagram_met}
 use Rattle.ec_slave.proofs.Bystanders.{other_station_passes}
 use Rattle.ec_slave.specs.Checking.{control_word}
 use Rattle.ec_start.specs.declared.action.Action.{Action}
@@ -23,10 +23,14 @@ use Rattle.ec_start.specs.declared.action.Action.TheVariants.{AskState}
 use Rattle.ec_start.specs.Actions.{station, at, sent}
 use Rattle.ec_rise.specs.Stages.{Rise, Stays, Climbs, Config, Stage, Up, Talk, told, climbing, after, CanTell, CanClimb}
 use Rattle.ec_rise.specs.Standing.{HoldsZeros, IsOfKind, IsConfigured, Rises, IsSilent, Talks, IsUpAt, IsTop, Stands}
+use Rattle.ec_slave.specs.Interface.{OnlyWrites}
+use Rattle.ec_slave.proofs.Meetings.{writes_meet, goes_on}
 use Rattle.ec_rise.specs.Frames.{Untouched, ReadsOn, Arrives, IsOther, MayRepeat, Met}
 use Rattle.ec_rise.proofs.Alike.{claims-alike}
 use Rattle.ec_rise.proofs.Passing.{IsOne, one-ask-state, station-zero}
-use Rattle.ec_rise.proofs.Writes.{Wrote, wrote, unconfigured, slave-wrote}
+use Rattle.ec_slave.specs.Interface.{Wrote}
+use Rattle.ec_slave.proofs.RegisterAccess.{registers_written as wrote, managers_aside as unconfigured}
+use Rattle.ec_rise.proofs.Writes.{slave-wrote}
 
 -- ---- the meeting
 
@@ -36,12 +40,12 @@ reads-none s d c e = ap (λ (x : Command). is_reading (role_of x (adp_of d) (sta
 writes-all : (s : SlaveState) (d : Datagram) → d.command ≡ Fpwr → adp_of d ≡ station_of s → is_writing (role_of d.command (adp_of d) (station_of s)) ≡ true
 writes-all s d c e = ap (λ (x : Command). is_writing (role_of x (adp_of d) (station_of s))) c ∙ ap is_writing (if_true _ _ _ (eq-eqb _ _ e))
 
+-- the slave that is meant is told to write
+pub own-writes : (s : SlaveState) (d : Datagram) → d.command ≡ Fpwr → adp_of d ≡ station_of s → OnlyWrites s d
+own-writes s d c e = record { writes = writes-all s d c e; reads = reads-none s d c e }
+
 pub own-write : (s : SlaveState) (d : Datagram) → d.command ≡ Fpwr → adp_of d ≡ station_of s → slave_met s d ≡ physical_after s false true (window_of d)
-unfolding meets physical_met
-own-write s d c e =
-    ap (λ (x : Command). (meets_by x s d).slave) c
-    ∙ (ap (λ (b : Bool). physical_after s b (is_writing (role_of d.command (adp_of d) (station_of s))) (window_of d)) (reads-none s d c e)
-    ∙ ap (λ (b : Bool). physical_after s false b (window_of d)) (writes-all s d c e))
+own-write s d c e = (writes_meet s d (own-writes s d c e)).slave
 
 -- a slave that is gone isn't met
 gone-passes : (i : ℕ) (s : SlaveState) (d : Datagram) → i < 64 → IsDatagram d → d.command ≡ Fpwr → adp_of d ≡ station i → s ≡ power_on s.kind s.identity
@@ -50,13 +54,10 @@ gone-passes i s d l good c e g = other_station_passes s d good (inr (inl c)) (λ
 
 -- the heading stays
 reads-on : (s : SlaveState) (d e : Datagram) → ReadsOn e d → d.command ≡ Fpwr → ReadsOn e (datagram_met s d)
-unfolding meets
 reads-on s d e g c =
     let same : adp_of d + 65536 * ado_of d ≡ d.address = omega arith in
-    record {
-      command = ap (λ (x : Command). (meets_by x s d).datagram.command) c ∙ g.command;
-      address = ap (λ (x : Command). (meets_by x s d).datagram.address) c ∙ (ap (λ (x : Command). adp_after x (adp_of d) + 65536 * ado_of d) c ∙ (same ∙ g.address));
-    }
+    let o = goes_on s d in
+    record { command = o.command ∙ g.command; address = o.address ∙ (ap (λ (x : Command). adp_after x (adp_of d) + 65536 * ado_of d) c ∙ (same ∙ g.address)) }
 
 pub window-sent : (c : Command) (adp ado : ℕ) (bytes : List ℕ) (number : ℕ) → window_of (sent c adp ado bytes number) ≡ record { from = ado; bytes = bytes }
 window-sent c adp ado bytes number = let e : (adp % 65536 + 65536 * ado) / 65536 ≡ ado = omega arith in ap (λ (x : ℕ). record { from = x; bytes = bytes }) e

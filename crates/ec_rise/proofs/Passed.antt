@@ -1,29 +1,26 @@
 -- A frame of a start-up past all slaves: where each stands, and what comes back.
 use Rattle.std.proofs.Common.{ℕ, zero, suc, ◌+◌, ◌-◌, ◌*◌, ◌/◌, ◌%◌, ◌<◌, ◌≤◌, ◌≡◌, ◌≢◌, Bool, true, false, refl, ◌∙◌, ap, subst, inl, inr, arith, List, [], ◌∷◌, length, slice_index}
 use Rattle.std.specs.Prelude.{bit_or}
-use Rattle.std.specs.Int.{from_bool, to_le_bytes, w16}
+use Rattle.std.specs.Int.{from_bool}
 use Rattle.std.proofs.lemmas.Bool.{cases_eq, or_left}
 use Rattle.ec_bits.specs.Bits.{zeros}
 use Rattle.ec_regs.specs.declared.slave_type.Device.{Device}
 use Rattle.ec_regs.specs.Types.{SlaveKind}
 use Rattle.ec_regs.specs.Memory.{ram_start, is_stored}
-use Rattle.ec_frame.specs.declared.command.Command.{Command}
 use Rattle.ec_frame.specs.declared.command.Command.TheVariants.{Apwr, Bwr}
 use Rattle.ec_frame.specs.Datagram.{Datagram, IsDatagram, adp_of, ado_of}
 use Rattle.ec_frame.specs.Fields.{with_adp}
 use Rattle.ec_al.specs.declared.state.State.{State}
-use Rattle.ec_al.specs.declared.state.State.TheVariants.{Init, PreOp, SafeOp, Op}
+use Rattle.ec_al.specs.declared.state.State.TheVariants.{Init}
 use Rattle.ec_al.specs.States.{state_number}
-use Rattle.ec_sii.specs.Port.{written}
 use Rattle.ec_sii.specs.declared.image.Image.{Image}
-use Rattle.ec_slave.specs.Roles.{role_of, is_writing}
-use Rattle.ec_slave.specs.State.{SlaveState, Met as Meeting, station_of}
-use Rattle.ec_slave.specs.Physical.{Window, byte_at, register_byte, physical_met, physical_after}
-use Rattle.ec_slave.specs.Meeting.{window_of, meets, meets_by, meets_physically, slave_met, datagram_met}
-use Rattle.ec_slave.specs.Keeping.{meets-keeps}
+use Rattle.ec_slave.specs.State.{SlaveState, Met as Meeting}
+use Rattle.ec_slave.specs.Physical.{Window, byte_at}
+use Rattle.ec_slave.specs.Meeting.{window_of, meets, slave_met, datagram_met}
+use Rattle.ec_slave.proofs.Meetings.{datagrams_stay as meets-keeps}
 use Rattle.ec_slave.proofs.Bystanders.{other_position_passes}
 use Rattle.ec_start.specs.declared.action.Action.{Action}
-use Rattle.ec_start.specs.declared.action.Action.TheVariants.{CountSlaves, AskInit, AwaitInit, ClearFmmus, ClearManagers, ClearStations, NameSlave, AskWord, AwaitWord, SetManager, SetFmmu, AskState, AwaitState, SendRequest, AwaitReply}
+use Rattle.ec_start.specs.declared.action.Action.TheVariants.{CountSlaves, AskInit, AwaitInit, ClearFmmus, ClearManagers, ClearStations, NameSlave}
 use Rattle.ec_start.specs.Actions.{station, datagram_of}
 use Rattle.ec_rise.specs.Stages.{Stage, after}
 use Rattle.ec_rise.specs.Standing.{Stands}
@@ -32,13 +29,14 @@ use Rattle.ec_rise.specs.Undisturbed.{IsSpelled, all_passed, all_met}
 use Rattle.ec_slave.specs.Serving.{served}
 use Rattle.ec_rise.proofs.Passing.{IsOne, one-passes}
 use Rattle.ec_rise.proofs.PassLaws.{pass-law, later-law}
-use Rattle.ec_rise.proofs.Settles.{either-image, written-image, served-image}
+use Rattle.ec_slave.proofs.FirmwareSteps.{settles}
+use Rattle.ec_slave.proofs.Inside.{inside_kept}
+use Rattle.ec_slave.proofs.RegisterAccess.{shows_itself}
 use Rattle.ec_rise.proofs.Counts.{broadcast-counts, position-counts, register-writes}
 use Rattle.ec_rise.proofs.Looks.{look, look-byte}
 use Rattle.ec_rise.proofs.Broadcasts.{window-is, fmmus-cleared, managers-cleared, stations-cleared, init-asked}
 use Rattle.ec_rise.proofs.Names.{naming}
 use Rattle.ec_rise.proofs.Owns.{window-sent}
-use Rattle.ec_rise.proofs.Polls.{status-at}
 use Rattle.ec_rise.proofs.Commands.{IsThere}
 use Rattle.ec_rise.proofs.Next.{Prior, Prompted, Sure, next-sure}
 
@@ -49,47 +47,6 @@ Each P j (s ∷ ss) = P j s × Each P (j + 1) ss
 
 -- ---- the image of the SII stays
 
-command-of : (a : Action) (number i : ℕ) (d : Datagram) → Arrives a number i d → d.command ≡ (datagram_of a number).command
-command-of CountSlaves number i d h = h.command
-command-of AskInit number i d h = h.command
-command-of AwaitInit number i d h = h.command
-command-of ClearFmmus number i d h = h.command
-command-of ClearManagers number i d h = h.command
-command-of ClearStations number i d h = h.command
-command-of (NameSlave t) number i d h = h.command
-command-of (AskWord t which) number i d h = h.gone_by.command
-command-of (AwaitWord t which) number i d h = h.gone_by.command
-command-of (SetManager t n m) number i d h = h.gone_by.command
-command-of (SetFmmu t n f) number i d h = h.gone_by.command
-command-of (AskState t to) number i d h = h.gone_by.command
-command-of (AwaitState t to) number i d h = h.gone_by.command
-command-of (SendRequest t counter b r) number i d h = h.gone_by.command
-command-of (AwaitReply t b r) number i d h = h.gone_by.command
-
-physical : (s : SlaveState) (d : Datagram) (a : Action) (number : ℕ) → d.command ≡ (datagram_of a number).command → meets s d ≡ meets_physically s d
-unfolding meets
-physical s d CountSlaves number c = ap (λ (x : Command). meets_by x s d) c
-physical s d AskInit number c = ap (λ (x : Command). meets_by x s d) c
-physical s d AwaitInit number c = ap (λ (x : Command). meets_by x s d) c
-physical s d ClearFmmus number c = ap (λ (x : Command). meets_by x s d) c
-physical s d ClearManagers number c = ap (λ (x : Command). meets_by x s d) c
-physical s d ClearStations number c = ap (λ (x : Command). meets_by x s d) c
-physical s d (NameSlave t) number c = ap (λ (x : Command). meets_by x s d) c
-physical s d (AskWord t which) number c = ap (λ (x : Command). meets_by x s d) c
-physical s d (AwaitWord t which) number c = ap (λ (x : Command). meets_by x s d) c
-physical s d (SetManager t n m) number c = ap (λ (x : Command). meets_by x s d) c
-physical s d (SetFmmu t n f) number c = ap (λ (x : Command). meets_by x s d) c
-physical s d (AskState t to) number c = ap (λ (x : Command). meets_by x s d) c
-physical s d (AwaitState t to) number c = ap (λ (x : Command). meets_by x s d) c
-physical s d (SendRequest t counter b r) number c = ap (λ (x : Command). meets_by x s d) c
-physical s d (AwaitReply t b r) number c = ap (λ (x : Command). meets_by x s d) c
-
-met-image : (s : SlaveState) (d : Datagram) → meets s d ≡ meets_physically s d → (slave_met s d).sii.image ≡ s.sii.image
-unfolding physical_met physical_after
-met-image s d p =
-    ap (λ (m : Meeting). m.slave.sii.image) p
-    ∙ either-image (is_writing (role_of d.command (adp_of d) (station_of s))) (written s.sii (ado_of d) d.data_bytes) s.sii s.sii.image (written-image s.sii (ado_of d) d.data_bytes) refl
-
 spelled-on : (t : Device) (s r : SlaveState) → r.sii.image ≡ s.sii.image → IsSpelled t s → IsSpelled t r
 spelled-on t s r e h = record {
   vendor = ap (λ (i : Image). i.identity.vendor) e ∙ h.vendor;
@@ -98,7 +55,7 @@ spelled-on t s r e h = record {
 }
 
 pub spelled-served : (t : Device) (s : SlaveState) → IsSpelled t s → IsSpelled t (served s)
-spelled-served t s h = spelled-on t s (served s) (served-image s) h
+spelled-served t s h = spelled-on t s (served s) (settles s).image h
 
 -- ---- where each slave stands
 
@@ -130,7 +87,7 @@ pass-all kinds stages a b number j (s ∷ ss) d l good p r h =
     let here = one-step kinds stages a number j s d (omega (arith, l)) good r h.0 in (
       record {
         met = later-all kinds stages a number j (j + 1) ss (datagram_met s d) (slave_met s d) (omega arith) (omega (arith, l)) (meets-keeps s d good).0 here.1 h.1 here.0;
-        spelled = spelled-on (kinds j).device s (slave_met s d) (met-image s d (physical s d a number (command-of a number j d r))) h.0.spelled;
+        spelled = spelled-on (kinds j).device s (slave_met s d) (inside_kept s d).image h.0.spelled;
         sure = λ k. next-sure (kinds j) j (stages j) number d s (slave_met s d) a b (omega (arith, l)) refl p h.0 r k;
       },
       pass-all kinds stages a b number (j + 1) ss (datagram_met s d) (omega (arith, l)) (meets-keeps s d good).0 p here.1 h.1,
@@ -201,22 +158,8 @@ clear-stations-counts kinds stages number ss l good r h =
 
 -- ---- all show INIT
 
-high-by : (st : State) (e : Bool) → slice_index (to_le_bytes w16 (state_number st + 16 * from_bool e)) 1 ≡ 0
-high-by Init true = refl
-high-by Init false = refl
-high-by PreOp true = refl
-high-by PreOp false = refl
-high-by SafeOp true = refl
-high-by SafeOp false = refl
-high-by Op true = refl
-high-by Op false = refl
-
-status-high : (s : SlaveState) → byte_at s 0x0131 ≡ 0
-unfolding byte_at register_byte
-status-high s = high-by s.al.state s.al.error
-
 status-init : (s : SlaveState) → IsThere Init s → byte_at s 0x0130 ≡ 1
-status-init s h = status-at s ∙ (ap (λ (x : State). state_number x + 16 * from_bool s.al.error) h.state_is ∙ ap (λ (x : Bool). 1 + 16 * from_bool x) h.no_error)
+status-init s h = (shows_itself s).status ∙ (ap (λ (x : State). state_number x + 16 * from_bool s.al.error) h.state_is ∙ ap (λ (x : Bool). 1 + 16 * from_bool x) h.no_error)
 
 or-one : (x : ℕ) → x ≤ 1 → bit_or x 1 ≡ 1
 or-one zero l = refl
@@ -228,7 +171,7 @@ init-data : (s : SlaveState) (d : Datagram) (number : ℕ) → IsBroadcast (data
     → (slice_index (datagram_met s d).data_bytes 0 ≡ 1) × (slice_index (datagram_met s d).data_bytes 1 ≡ 0)
 init-data s d number h there low high = (
   look-byte s d number 0 h (omega arith) ∙ (ap (bit_or (slice_index d.data_bytes 0)) (status-init s there) ∙ or-one (slice_index d.data_bytes 0) low),
-  look-byte s d number 1 h (omega arith) ∙ (ap (λ (x : ℕ). bit_or x (byte_at s 0x0131)) high ∙ ap (bit_or 0) (status-high s)),
+  look-byte s d number 1 h (omega arith) ∙ (ap (λ (x : ℕ). bit_or x (byte_at s 0x0131)) high ∙ ap (bit_or 0) (shows_itself s).status_high),
 )
 
 init-all : (kinds : ℕ → SlaveKind) (stages : ℕ → Stage) (number j : ℕ) (ss : List SlaveState) (d : Datagram) → j + length ss ≤ 64 → IsDatagram d → Arrives AwaitInit number j d → Priors kinds stages AwaitInit j ss

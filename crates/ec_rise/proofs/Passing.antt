@@ -1,13 +1,12 @@
 -- A frame of a start-up at a slave that its second datagram is not for.
-use Rattle.std.proofs.Common.{ℕ, ◌+◌, ◌*◌, ◌%◌, ◌<◌, ◌≡◌, ◌≢◌, ◌⊎◌, Bool, refl, sym, ◌∙◌, ap, subst, inl, inr, arith, get_or}
+use Rattle.std.proofs.Common.{ℕ, ◌+◌, ◌*◌, ◌%◌, ◌<◌, ◌≡◌, ◌≢◌, ◌⊎◌, Bool, refl, sym, ◌∙◌, ap, subst, inl, inr, arith, slice_index}
 use Rattle.std.proofs.lemmas.Bool.{cases_eq, ne_eqb}
 use Rattle.ec_bits.proofs.AnyLaws.{if_false}
-use Rattle.ec_bits.specs.Bits.{zeros}
 use Rattle.ec_regs.specs.Types.{SlaveKind}
 use Rattle.ec_frame.specs.declared.command.Command.{Command}
 use Rattle.ec_frame.specs.declared.command.Command.TheVariants.{Fprd, Fpwr, Fprw}
 use Rattle.ec_frame.specs.Datagram.{Datagram, IsDatagram}
-use Rattle.ec_slave.specs.State.{SlaveState, Met as Meeting, station_of, power_on, memory_length}
+use Rattle.ec_slave.specs.State.{SlaveState, Met as Meeting, station_of, power_on}
 use Rattle.ec_slave.specs.Meeting.{meets, slave_met, datagram_met}
 use Rattle.ec_slave.proofs.Bystanders.{other_station_passes}
 use Rattle.ec_start.specs.declared.action.Action.{Action}
@@ -16,14 +15,15 @@ use Rattle.ec_start.specs.declared.action.Request.{Request}
 use Rattle.ec_start.specs.Actions.{station, at, datagram_of}
 use Rattle.ec_rise.specs.Stages.{Stage, Before, Called, Down, Up, if_mine, after, Fits, FitsMine, IsUp}
 use Rattle.ec_rise.specs.Standing.{Stands}
-use Rattle.ec_rise.proofs.Resets.{get_or-zeros}
+use Rattle.ec_slave.proofs.SwitchedOn.{switched_on}
 use Rattle.ec_rise.specs.Frames.{Untouched, ReadsOn, Arrives, IsOther, Met}
 
 -- ---- station addresses
 
 pub station-zero : (s : SlaveState) → s ≡ power_on s.kind s.identity → station_of s ≡ 0
-unfolding power_on
-station-zero s e = ap station_of e ∙ (ap (λ (x : ℕ). x + 256 * get_or (zeros memory_length) 0x0011 0) (get_or-zeros memory_length 0x0010) ∙ ap (λ (x : ℕ). 0 + 256 * x) (get_or-zeros memory_length 0x0011))
+station-zero s e =
+    let on = switched_on s.kind s.identity in
+    ap station_of e ∙ (ap (λ (x : ℕ). x + 256 * slice_index (power_on s.kind s.identity).memory 0x0011) (on.memory 0x0010) ∙ ap (λ (x : ℕ). 0 + 256 * x) (on.memory 0x0011))
 
 -- a slave that has its station address, or lost it
 station-up : (kind : SlaveKind) (i : ℕ) (st : Stage) (trouble : Bool) (s : SlaveState) → IsUp st → Stands kind i st trouble s → (station_of s ≡ station i) ⊎ (station_of s ≡ 0)

@@ -1,7 +1,7 @@
 -- A poll of registers at the slave that it is for.
-use Rattle.std.proofs.Common.{ℕ, ◌+◌, ◌*◌, ◌/◌, ◌%◌, ◌<◌, ◌≤◌, ◌≡◌, ◌≢◌, ◌⊎◌, Bool, true, false, Option, None, refl, sym, ◌∙◌, ap, subst, inl, inr, arith, if◌then◌else◌, List, length, slice_index}
-use Rattle.std.specs.Int.{bit_at, from_bool, to_le_bytes, w16}
-use Rattle.std.proofs.lemmas.Bool.{eq-eqb, both_ways, or_left, lt-ltb}
+use Rattle.std.proofs.Common.{ℕ, ◌+◌, ◌*◌, ◌%◌, ◌<◌, ◌≤◌, ◌≡◌, ◌≢◌, ◌⊎◌, Bool, true, false, Option, None, refl, sym, ◌∙◌, ap, subst, inl, inr, arith, List, length, slice_index}
+use Rattle.std.specs.Int.{bit_at, from_bool}
+use Rattle.std.proofs.lemmas.Bool.{eq-eqb, both_ways}
 use Rattle.ec_bits.specs.Bits.{zeros}
 use Rattle.ec_bits.proofs.AnyLaws.{if_true}
 use Rattle.ec_regs.specs.Types.{SlaveKind}
@@ -12,13 +12,14 @@ use Rattle.ec_frame.specs.Datagram.{Datagram, IsDatagram, adp_of, ado_of}
 use Rattle.ec_al.specs.declared.state.State.{State}
 use Rattle.ec_al.specs.declared.state.State.TheVariants.{Init, PreOp, SafeOp, Op}
 use Rattle.ec_al.specs.States.{state_number}
-use Rattle.ec_sii.specs.Port.{sii_byte}
 use Rattle.ec_slave.specs.Roles.{role_of, adp_after, is_reading, is_writing, is_joining}
 use Rattle.ec_slave.specs.State.{SlaveState, Met as Meeting, station_of, power_on}
-use Rattle.ec_slave.specs.Physical.{Window, touches, physical_met, physical_after, byte_at, register_byte, byte_read, retold, may_read_byte}
-use Rattle.ec_slave.specs.Meeting.{window_of, meets, meets_by, slave_met, datagram_met}
+use Rattle.ec_slave.specs.Physical.{Window, touches, physical_after, byte_at, byte_read, retold}
+use Rattle.ec_slave.specs.Meeting.{window_of, meets, slave_met, datagram_met}
 use Rattle.ec_slave.proofs.Bystanders.{other_station_passes}
-use Rattle.ec_slave.proofs.Broadcast.{registers-idle}
+use Rattle.ec_slave.specs.Interface.{OnlyReads}
+use Rattle.ec_slave.proofs.Meetings.{reads_meet, goes_on}
+use Rattle.ec_slave.proofs.RegisterAccess.{registers_open, registers_read, shows_itself}
 use Rattle.ec_slave.proofs.Bytes.{reads_by_byte}
 use Rattle.ec_start.specs.declared.action.Action.{Action}
 use Rattle.ec_start.specs.declared.action.Action.TheVariants.{AwaitState, AwaitWord}
@@ -38,37 +39,25 @@ writes-none s d c e = ap (λ (x : Command). is_writing (role_of x (adp_of d) (st
 joins-none : (s : SlaveState) (d : Datagram) → d.command ≡ Fprd → adp_of d ≡ station_of s → is_joining (role_of d.command (adp_of d) (station_of s)) ≡ false
 joins-none s d c e = ap (λ (x : Command). is_joining (role_of x (adp_of d) (station_of s))) c ∙ ap is_joining (if_true _ _ _ (eq-eqb _ _ e))
 
+-- the slave that is meant is told to read
+pub own-reads : (s : SlaveState) (d : Datagram) → d.command ≡ Fprd → adp_of d ≡ station_of s → OnlyReads s d
+own-reads s d c e = record { reads = reads s d c e; writes = writes-none s d c e; joins = joins-none s d c e }
+
 pub read-slave : (s : SlaveState) (d : Datagram) → d.command ≡ Fprd → adp_of d ≡ station_of s → slave_met s d ≡ physical_after s true false (window_of d)
-unfolding meets physical_met
-read-slave s d c e =
-    ap (λ (x : Command). (meets_by x s d).slave) c
-    ∙ (ap (λ (b : Bool). physical_after s b (is_writing (role_of d.command (adp_of d) (station_of s))) (window_of d)) (reads s d c e)
-    ∙ ap (λ (b : Bool). physical_after s true b (window_of d)) (writes-none s d c e))
+read-slave s d c e = (reads_meet s d (own-reads s d c e)).slave
 
 pub read-bytes : (s : SlaveState) (d : Datagram) → d.command ≡ Fprd → adp_of d ≡ station_of s → (datagram_met s d).data_bytes ≡ retold d.data_bytes (byte_read s false (window_of d))
-unfolding meets physical_met
-read-bytes s d c e =
-    ap (λ (x : Command). (meets_by x s d).datagram.data_bytes) c
-    ∙ (ap (λ (b : Bool). if b then retold d.data_bytes (byte_read s (is_joining (role_of d.command (adp_of d) (station_of s))) (window_of d)) else d.data_bytes) (reads s d c e)
-    ∙ ap (λ (b : Bool). retold d.data_bytes (byte_read s b (window_of d))) (joins-none s d c e))
+read-bytes s d c e = (reads_meet s d (own-reads s d c e)).bytes
 
 pub reads-on : (s : SlaveState) (d e : Datagram) → ReadsOn e d → d.command ≡ Fprd → ReadsOn e (datagram_met s d)
-unfolding meets
 reads-on s d e g c =
     let same : adp_of d + 65536 * ado_of d ≡ d.address = omega arith in
-    record {
-      command = ap (λ (x : Command). (meets_by x s d).datagram.command) c ∙ g.command;
-      address = ap (λ (x : Command). (meets_by x s d).datagram.address) c ∙ (ap (λ (x : Command). adp_after x (adp_of d) + 65536 * ado_of d) c ∙ (same ∙ g.address));
-    }
+    let o = goes_on s d in
+    record { command = o.command ∙ g.command; address = o.address ∙ (ap (λ (x : Command). adp_after x (adp_of d) + 65536 * ado_of d) c ∙ (same ∙ g.address)) }
 
 pub gone-passes : (i : ℕ) (s : SlaveState) (d : Datagram) → i < 64 → IsDatagram d → d.command ≡ Fprd → adp_of d ≡ station i → s ≡ power_on s.kind s.identity
     → meets s d ≡ record { slave = s; datagram = d }
 gone-passes i s d l good c e g = other_station_passes s d good (inl c) (λ q. let z = station-zero s g in let a : adp_of d ≡ station_of s = q in omega (arith, e, z, a))
-
--- every register reads
-pub registers-read : (s : SlaveState) (w : Window) (k : ℕ) → w.from + length w.bytes ≤ ram_start → k < length w.bytes → may_read_byte s.managers (touches w) (w.from + k) ≡ true
-unfolding may_read_byte
-registers-read s w k l i = or_left _ _ (lt-ltb (w.from + k) ram_start (omega arith))
 
 -- byte k of the data, of a datagram on registers
 pub read-byte : (s : SlaveState) (d : Datagram) (w : Window) (k : ℕ) → d.command ≡ Fprd → adp_of d ≡ station_of s → window_of d ≡ w → w.from + length w.bytes ≤ ram_start → k < length w.bytes
@@ -76,7 +65,7 @@ pub read-byte : (s : SlaveState) (d : Datagram) (w : Window) (k : ℕ) → d.com
 read-byte s d w k c e win l b =
     ap (λ (xs : List ℕ). slice_index xs k) (read-bytes s d c e)
     ∙ (ap (λ (v : Window). slice_index (retold v.bytes (byte_read s false v)) k) win
-    ∙ (reads_by_byte s false w k b).given (registers-read s w k l b))
+    ∙ (reads_by_byte s false w k b).given (registers_open s.managers (touches w) (w.from + k) (omega (arith, l, b))).reads)
 
 -- ---- a poll of registers: the slave stays, and what it shows is known
 
@@ -96,7 +85,7 @@ pass-poll kind i c trouble a number d s w one l cm win ado registers aft self up
     (by h.at cmd adp at_w, one.arrived (i + 1) (datagram_met s d) (record { to_come = λ k. absurd (omega arith); gone_by = reads-on s d one.e u.gone_by cmd }))
   where
     stays : d.command ≡ Fprd → adp_of d ≡ station_of s → window_of d ≡ w → slave_met s d ≡ s
-    stays cmd e q = read-slave s d cmd e ∙ (ap (λ (x : Window). physical_after s true false x) q ∙ registers-idle s w registers)
+    stays cmd e q = read-slave s d cmd e ∙ (ap (λ (x : Window). physical_after s true false x) q ∙ registers_read s w registers)
 
     by : Reached i (Up c) s ⊎ ((trouble ≡ true) × (IsGone (Up c) s ⊎ HadFault i (Up c) s)) → d.command ≡ Fprd → adp_of d ≡ station i → window_of d ≡ w → Met kind i (Up c) trouble a (datagram_met s d) (slave_met s d)
     by (inl r) cmd adp q =
@@ -123,20 +112,6 @@ pass-poll kind i c trouble a number d s w one l cm win ado registers aft self up
         }
 
 -- ---- the AL status
-
-status-by : (st : State) (e : Bool) → slice_index (to_le_bytes w16 (state_number st + 16 * from_bool e)) 0 ≡ state_number st + 16 * from_bool e
-status-by Init true = refl
-status-by Init false = refl
-status-by PreOp true = refl
-status-by PreOp false = refl
-status-by SafeOp true = refl
-status-by SafeOp false = refl
-status-by Op true = refl
-status-by Op false = refl
-
-pub status-at : (s : SlaveState) → byte_at s 0x0130 ≡ state_number s.al.state + 16 * from_bool s.al.error
-unfolding byte_at register_byte
-status-at s = status-by s.al.state s.al.error
 
 -- a status that ends a wait
 shows-state : (st to : State) (e : Bool) → bit_at (state_number st + 16 * from_bool e) 4 ≢ 1 → (state_number st + 16 * from_bool e) % 32 ≡ state_number to → (e ≡ false) × (state_number st ≡ state_number to)
@@ -191,7 +166,7 @@ rise-talks i c r s none h = subst (λ (o : Option Talk). Talks i (record c { ris
 await-up : (i : ℕ) (c : Config) (to : State) (s : SlaveState) (d : Datagram) → c.talk ≡ None → IsClimbing c.rise to
     → slice_index d.data_bytes 0 ≡ byte_at s 0x0130 → MayEnd (AwaitState i to) d → IsUpAt i c s → IsUpAt i (record c { rise = Stays to }) s
 await-up i c to s d none can e m u =
-    let b : slice_index d.data_bytes 0 ≡ state_number s.al.state + 16 * from_bool s.al.error = e ∙ status-at s in
+    let b : slice_index d.data_bytes 0 ≡ state_number s.al.state + 16 * from_bool s.al.error = e ∙ (shows_itself s).status in
     let k = shows-state s.al.state to s.al.error (subst (λ (x : ℕ). bit_at x 4 ≢ 1) b m.1) (subst (λ (x : ℕ). x % 32 ≡ state_number to) b m.2) in
     record {
       configured = rise-configured i c (Stays to) s u.configured;
@@ -244,17 +219,6 @@ busy-by true true n = absurd (n refl)
 busy-by true false n = absurd (n refl)
 busy-by false e n = refl
 
-pub control-at : (s : SlaveState) → byte_at s 0x0502 ≡ 0
-unfolding byte_at register_byte sii_byte
-control-at s = refl
-
-pub command-at : (s : SlaveState) → byte_at s 0x0503 ≡ from_bool s.sii.busy + 32 * from_bool s.sii.error + 128 * from_bool s.sii.busy
-unfolding byte_at register_byte sii_byte
-command-at s = high (from_bool s.sii.busy) (from_bool s.sii.error)
-  where
-    high : (x y : ℕ) → (256 * x + 8192 * y + 32768 * x) / 256 ≡ x + 32 * y + 128 * x
-    high x y = omega arith
-
 idle-configured : (i : ℕ) (c : Config) (s : SlaveState) → s.sii.busy ≡ false → IsConfigured i c s → IsConfigured i (record c { idle = true }) s
 idle-configured i c s e k = record { station_is = k.station_is; settings = k.settings; fmmus = k.fmmus; idle = λ _. e; no_messages = k.no_messages; outputs = k.outputs }
 
@@ -271,8 +235,8 @@ low-top (Climbs from to) low top = low
 word-up : (i : ℕ) (c : Config) (s : SlaveState) (which : ℕ) (d : Datagram) → c.talk ≡ None
     → slice_index d.data_bytes 0 ≡ byte_at s 0x0502 → slice_index d.data_bytes 1 ≡ byte_at s 0x0503 → MayEnd (AwaitWord i which) d → IsUpAt i c s → IsUpAt i (record c { idle = true }) s
 word-up i c s which d none e f m u =
-    let a : slice_index d.data_bytes 0 ≡ 0 = e ∙ control-at s in
-    let b = f ∙ command-at s in
+    let a : slice_index d.data_bytes 0 ≡ 0 = e ∙ (shows_itself s).sii_low in
+    let b = f ∙ (shows_itself s).sii_high in
     let n : bit_at (0 + 256 * (from_bool s.sii.busy + 32 * from_bool s.sii.error + 128 * from_bool s.sii.busy)) 15 ≢ 1
     = subst (λ (x : ℕ). bit_at (0 + 256 * x) 15 ≢ 1) b (subst (λ (x : ℕ). bit_at (x + 256 * slice_index d.data_bytes 1) 15 ≢ 1) a m.1) in
     record {

@@ -1,7 +1,7 @@
 -- A reply is read from a slave's mailbox.
-use Rattle.std.proofs.Common.{ℕ, zero, suc, ◌+◌, ◌-◌, ◌*◌, ◌/◌, ◌%◌, ◌<◌, ◌≤◌, ◌≡◌, ◌⊎◌, ◌&&◌, ◌||◌, not, Bool, true, false, Option, Some, None, refl, sym, ◌∙◌, ap, subst, inl, inr, arith, if◌then◌else◌, List, [], ◌∷◌, length, slice_index, is_some, is_none, unwrap_or, nat_lt}
+use Rattle.std.proofs.Common.{ℕ, zero, suc, ◌+◌, ◌-◌, ◌/◌, ◌%◌, ◌<◌, ◌≤◌, ◌≡◌, ◌⊎◌, ◌&&◌, not, Bool, true, false, Option, Some, None, refl, sym, ◌∙◌, ap, subst, inl, inr, arith, List, [], ◌∷◌, length, slice_index, is_some, is_none, unwrap_or}
 use Rattle.std.specs.Int.{from_bool}
-use Rattle.std.proofs.lemmas.Bool.{eq-eqb, cases_Bool, and_from, and_left, and_right, lt-ltb, le-ltb, eqb-true}
+use Rattle.std.proofs.lemmas.Bool.{eq-eqb, cases_Bool, and_from, and_left, and_right, lt-ltb, eqb-true}
 use Rattle.std.proofs.lemmas.List.{length-replicate}
 use Rattle.ec_bits.specs.Bits.{zeros, any_below}
 use Rattle.ec_bits.proofs.AnyLaws.{if_true, if_false, within_true, within_below, within_above, any_below_none, any_below_from}
@@ -12,14 +12,12 @@ use Rattle.ec_regs.specs.Memory.{ram_start, ram_end}
 use Rattle.ec_regs.specs.Managers.{is_set, is_mailbox, is_ring_written, is_ring_read, span}
 use Rattle.ec_sync.specs.Manager.{Manager, may_read, is_enabled, ring_read, shown}
 use Rattle.ec_sync.specs.Governing.{covers, governor, governs, in_first_buffer}
-use Rattle.ec_frame.specs.declared.command.Command.{Command}
 use Rattle.ec_frame.specs.declared.command.Command.TheVariants.{Fprd}
 use Rattle.ec_frame.specs.Datagram.{Datagram, IsDatagram, adp_of}
-use Rattle.ec_slave.specs.Roles.{role_of, is_writing}
 use Rattle.ec_slave.specs.State.{SlaveState, Met as Meeting, manager_at, station_of}
 use Rattle.ec_slave.specs.Managers.{reads_under, is_ungoverned, is_read_by}
-use Rattle.ec_slave.specs.Physical.{Window, touches, physical_after, physical_manager, physical_managers, may_read_byte, some_byte_read, some_byte_written, byte_read, byte_at, ram_byte, retold, physical_met}
-use Rattle.ec_slave.specs.Meeting.{window_of, meets, meets_by, slave_met, datagram_met}
+use Rattle.ec_slave.specs.Physical.{Window, touches, physical_after, physical_manager, physical_managers, may_read_byte, some_byte_read, byte_read, byte_at, ram_byte, retold}
+use Rattle.ec_slave.specs.Meeting.{window_of, slave_met, datagram_met}
 use Rattle.ec_coe.specs.Messages.{message_read}
 use Rattle.ec_regs.specs.Fmmus.{fmmu_bytes}
 use Rattle.ec_start.specs.Plans.{settings_at, fmmu_at}
@@ -34,9 +32,11 @@ use Rattle.ec_rise.specs.Standing.{IsOfKind, IsAssigned, Talks, IsUpAt, Rises, R
 use Rattle.ec_rise.specs.Frames.{Arrives, Met}
 use Rattle.ec_rise.proofs.Alike.{rises-alike}
 use Rattle.ec_rise.proofs.Owns.{window-sent}
-use Rattle.ec_rise.proofs.Polls.{read-slave, read-bytes, reads-on, gone-passes, reads, writes-none}
+use Rattle.ec_rise.proofs.Polls.{own-reads, read-slave, read-bytes, reads-on, gone-passes}
 use Rattle.ec_rise.proofs.Sets.{low-top}
-use Rattle.ec_rise.proofs.Sends.{retold-all, none-set, four-of, set-lies}
+use Rattle.ec_rise.proofs.Sends.{none-set, four-of, set-lies}
+use Rattle.ec_slave.proofs.Meetings.{reads_meet}
+use Rattle.ec_slave.proofs.RegisterAccess.{accesses_leave, managers_accessed, ram_governed, retold_whole}
 use Rattle.ec_rise.proofs.Ends.{SameFrame, answered-frame}
 
 abbrev pub asking : Mailbox → Window
@@ -47,13 +47,8 @@ asking-length b = length-replicate {A = ℕ} b.send_size 0
 
 -- ---- the counter of a read
 
-pub read-counter : (s : SlaveState) (d : Datagram) → d.command ≡ Fprd → adp_of d ≡ station_of s → (datagram_met s d).counter ≡ (d.counter + (from_bool (some_byte_read s.managers (window_of d)) + 2 * 0)) % 65536
-unfolding meets physical_met
-read-counter s d c e =
-    let r : ℕ = 0 in
-    ap (λ (x : Command). (meets_by x s d).datagram.counter) c
-    ∙ (ap (λ (b : Bool). (d.counter + (from_bool (b && some_byte_read s.managers (window_of d)) + (if b then 2 else 1) * from_bool (is_writing (role_of d.command (adp_of d) (station_of s)) && some_byte_written s.managers s.sii.busy (window_of d)))) % 65536) (reads s d c e)
-    ∙ ap (λ (b : Bool). (d.counter + (from_bool (some_byte_read s.managers (window_of d)) + 2 * from_bool (b && some_byte_written s.managers s.sii.busy (window_of d)))) % 65536) (writes-none s d c e))
+pub read-counter : (s : SlaveState) (d : Datagram) → d.command ≡ Fprd → adp_of d ≡ station_of s → (datagram_met s d).counter ≡ (d.counter + from_bool (some_byte_read s.managers (window_of d))) % 65536
+read-counter s d c e = (reads_meet s d (own-reads s d c e)).counter
 
 -- ---- who governs the reply
 
@@ -150,28 +145,22 @@ own-byte b s h =
 
 -- a byte of it may be read where the mailbox may
 pub readable : (b : Mailbox) (s : SlaveState) (k : ℕ) (r : Bool) → Boxes b s → k < b.send_size → may_read (manager_at s.managers 1) ≡ r → may_read_byte s.managers (touches (asking b)) (b.send_start + k) ≡ r
-unfolding may_read_byte
 readable b s k r h l e =
     let low = h.low in let high = h.high in let st = h.start in let ln = h.len in
     let g = governed b s (b.send_start + k) h (omega arith) (omega (arith, l)) in
-    let a : nat_lt (b.send_start + k) ram_start ≡ false = le-ltb _ _ (omega (arith, low)) in
-    let z : nat_lt (b.send_start + k) ram_end ≡ true = lt-ltb _ _ (omega (arith, high, l)) in
     let f : in_first_buffer (manager_at s.managers 1) (b.send_start + k) ≡ true = lt-ltb _ _ (omega (arith, st, ln, l)) in
-    ap (λ (x : Bool). x || (nat_lt (b.send_start + k) ram_end && reads_under s.managers (touches (asking b)) (b.send_start + k) (governor s.managers (b.send_start + k)))) a
-    ∙ (ap (λ (x : Bool). x && reads_under s.managers (touches (asking b)) (b.send_start + k) (governor s.managers (b.send_start + k))) z
+    (ram_governed s (b.send_start + k) (omega (arith, low)) (omega (arith, high, l))).reads (touches (asking b))
     ∙ (ap (λ (o : Option ℕ). reads_under s.managers (touches (asking b)) (b.send_start + k) o) g
     ∙ (ap (λ (x : Bool). x && (covers (touches (asking b)) (manager_at s.managers 1) && may_read (manager_at s.managers 1))) f
-    ∙ (ap (λ (x : Bool). x && may_read (manager_at s.managers 1)) (covered b s h) ∙ e))))
+    ∙ (ap (λ (x : Bool). x && may_read (manager_at s.managers 1)) (covered b s h) ∙ e)))
 
 -- ---- the managers after the read
 
 met-kept : (lower : List Manager) (w : Window) (n : ℕ) (m : Manager) → may_read m ≡ false → physical_manager lower true false w n m ≡ m
-unfolding physical_manager
-met-kept lower w n m e = if_false _ _ _ (and_left (may_read m) _ e)
+met-kept lower w n m e = (managers_accessed lower w n m).read ∙ if_false _ _ _ (and_left (may_read m) _ e)
 
 met-read : (lower : List Manager) (w : Window) (n : ℕ) (m : Manager) → is_read_by (touches w) (is_ungoverned lower) m ≡ true → physical_manager lower true false w n m ≡ ring_read m
-unfolding physical_manager
-met-read lower w n m e = if_true _ _ _ e
+met-read lower w n m e = (managers_accessed lower w n m).read ∙ if_true _ _ _ e
 
 list4 : (a b c d x y z v : Manager) → a ≡ x → b ≡ y → c ≡ z → d ≡ v → a ∷ b ∷ c ∷ d ∷ [] ≡ x ∷ y ∷ z ∷ v ∷ []
 list4 a b c d x y z v p q r s =
@@ -186,38 +175,32 @@ managers-after b s x h e =
 
 -- nothing to read
 pub unread : (b : Mailbox) (s : SlaveState) → Boxes b s → may_read (manager_at s.managers 1) ≡ false → physical_after s true false (asking b) ≡ s
-unfolding physical_after
-unread b s h e = ap (λ (ms : List Manager). record s { managers = ms }) (managers-after b s (manager_at s.managers 1) h (met-kept (manager_at s.managers 0 ∷ []) (asking b) 1 (manager_at s.managers 1) e) ∙ sym (four-of s.managers h.four))
+unread b s h e = (accesses_leave s (asking b)).read ∙ (ap (λ (ms : List Manager). record s { managers = ms }) (managers-after b s (manager_at s.managers 1) h (met-kept (manager_at s.managers 0 ∷ []) (asking b) 1 (manager_at s.managers 1) e) ∙ sym (four-of s.managers h.four)))
 
 -- the reply is read, and the mailbox empty
 abbrev pub emptied : SlaveState → SlaveState
 emptied s = record s { managers = manager_at s.managers 0 ∷ record (manager_at s.managers 1) { mail = None } ∷ manager_at s.managers 2 ∷ manager_at s.managers 3 ∷ [] }
 
 pub read-out : (b : Mailbox) (s : SlaveState) → Boxes b s → may_read (manager_at s.managers 1) ≡ true → physical_after s true false (asking b) ≡ emptied s
-unfolding physical_after
-read-out b s h e = ap (λ (ms : List Manager). record s { managers = ms }) (managers-after b s (record (manager_at s.managers 1) { mail = None }) h
+read-out b s h e = (accesses_leave s (asking b)).read ∙ ap (λ (ms : List Manager). record s { managers = ms }) (managers-after b s (record (manager_at s.managers 1) { mail = None }) h
     (met-read (manager_at s.managers 0 ∷ []) (asking b) 1 (manager_at s.managers 1) (and_from _ _ e (and_from _ _ (covered b s h) (own-byte b s h))) ∙ if_true _ _ _ h.box))
 
 -- ---- the data
 
 shown-at : (b : Mailbox) (s : SlaveState) (raw : List ℕ) (k : ℕ) → Boxes b s → (manager_at s.managers 1).mail ≡ Some raw → k < b.send_size → byte_at s (b.send_start + k) ≡ slice_index raw k
-unfolding byte_at
 shown-at b s raw k h e l =
-    let low = h.low in let st = h.start in
+    let low = h.low in let high = h.high in let st = h.start in
     let z : b.send_start + k - (manager_at s.managers 1).settings.start ≡ k = omega (arith, st) in
     let v : shown (manager_at s.managers 1) ≡ raw = if_true _ _ _ h.box ∙ ap (λ (o : Option (List ℕ)). unwrap_or o []) e in
-    let nl : nat_lt (b.send_start + k) ram_start ≡ false = le-ltb (b.send_start + k) ram_start (omega (arith, low)) in
-    if_false _ _ _ nl
+    (ram_governed s (b.send_start + k) (omega (arith, low)) (omega (arith, high, l))).shows
     ∙ (ap (λ (o : Option ℕ). ram_byte s.memory s.managers (b.send_start + k) o) (governed b s (b.send_start + k) h (omega arith) (omega (arith, l)))
     ∙ (ap (λ (x : List ℕ). slice_index x (b.send_start + k - (manager_at s.managers 1).settings.start)) v ∙ ap (λ (x : ℕ). slice_index raw x) z))
 
 pub raw-read : (b : Mailbox) (s : SlaveState) (raw : List ℕ) → Boxes b s → (manager_at s.managers 1).mail ≡ Some raw → length raw ≡ b.send_size → may_read (manager_at s.managers 1) ≡ true
     → retold (asking b).bytes (byte_read s false (asking b)) ≡ raw
 raw-read b s raw h e n r =
-    retold-all 0 (asking b).bytes raw (byte_read s false (asking b)) (asking-length b ∙ sym n)
-    (λ k l. let z : 0 + k ≡ k = omega arith in
-    ap (λ (x : ℕ). byte_read s false (asking b) x) z
-    ∙ (if_true _ _ _ (readable b s k true h (omega (arith, l, n)) r) ∙ ap (λ (x : ℕ). Some x) (shown-at b s raw k h e (omega (arith, l, n)))))
+    retold_whole (asking b).bytes raw (byte_read s false (asking b)) (asking-length b ∙ sym n)
+    (λ k l. if_true _ _ _ (readable b s k true h (omega (arith, l, n)) r) ∙ ap (λ (x : ℕ). Some x) (shown-at b s raw k h e (omega (arith, l, n))))
 
 -- ---- the slave
 
@@ -314,8 +297,8 @@ pass-await-reply kind i b r c trouble number d s l can good arrives h =
     read : Found i b r c s → Boxes b s → IsUpAt i c s → d.command ≡ Fprd → adp_of d ≡ station_of s → window_of d ≡ asking b → d.counter ≡ 0 → Met kind i (Up c) trouble (AwaitReply i b r) (datagram_met s d) (slave_met s d)
     read (Nothing empty) bx u cmd e w z =
         let same : slave_met s d ≡ s = read-slave s d cmd e ∙ (ap (λ (x : Window). physical_after s true false x) w ∙ unread b s bx empty) in
-        let sum : (datagram_met s d).counter ≡ 0 = read-counter s d cmd e ∙ (ap (λ (x : Window). (d.counter + (from_bool (some_byte_read s.managers x) + 2 * 0)) % 65536) w
-        ∙ (ap (λ (x : Bool). (d.counter + (from_bool x + 2 * 0)) % 65536) (some-read b s false bx empty) ∙ ap (λ (x : ℕ). (x + (from_bool false + 2 * 0)) % 65536) z)) in
+        let sum : (datagram_met s d).counter ≡ 0 = read-counter s d cmd e ∙ (ap (λ (x : Window). (d.counter + from_bool (some_byte_read s.managers x)) % 65536) w
+        ∙ (ap (λ (x : Bool). (d.counter + from_bool x) % 65536) (some-read b s false bx empty) ∙ ap (λ (x : ℕ). (x + from_bool false) % 65536) z)) in
         record {
           other = λ o. absurd (o refl);
           repeated = λ _. subst (λ (t : SlaveState). Stands kind i (Up c) trouble t) (sym same) h;
@@ -323,8 +306,8 @@ pass-await-reply kind i b r c trouble number d s l can good arrives h =
         }
     read (Letter raw mail whole full none done) bx u cmd e w z =
         let new : slave_met s d ≡ emptied s = read-slave s d cmd e ∙ (ap (λ (x : Window). physical_after s true false x) w ∙ read-out b s bx full) in
-        let sum : (datagram_met s d).counter ≡ 1 = read-counter s d cmd e ∙ (ap (λ (x : Window). (d.counter + (from_bool (some_byte_read s.managers x) + 2 * 0)) % 65536) w
-        ∙ (ap (λ (x : Bool). (d.counter + (from_bool x + 2 * 0)) % 65536) (some-read b s true bx full) ∙ ap (λ (x : ℕ). (x + (from_bool true + 2 * 0)) % 65536) z)) in
+        let sum : (datagram_met s d).counter ≡ 1 = read-counter s d cmd e ∙ (ap (λ (x : Window). (d.counter + from_bool (some_byte_read s.managers x)) % 65536) w
+        ∙ (ap (λ (x : Bool). (d.counter + from_bool x) % 65536) (some-read b s true bx full) ∙ ap (λ (x : ℕ). (x + from_bool true) % 65536) z)) in
         let bytes : (datagram_met s d).data_bytes ≡ raw = read-bytes s d cmd e ∙ (ap (λ (x : Window). retold x.bytes (byte_read s false x)) w ∙ raw-read b s raw bx mail whole full) in
         record {
           other = λ o. absurd (o refl);

@@ -1,5 +1,5 @@
 -- A request at its slave in PREOP: it counts 1, and after the firmware step the reply that is wanted lies in manager 1.
-use Rattle.std.proofs.Common.{ℕ, ◌+◌, ◌-◌, ◌*◌, ◌%◌, ◌^◌, ◌<◌, ◌≤◌, ◌≡◌, not, Bool, true, false, Option, Some, None, refl, sym, ◌∙◌, ap, subst, arith, List, ◌++◌, length, nat_lt, is_some, is_none, option_and_then}
+use Rattle.std.proofs.Common.{ℕ, ◌+◌, ◌-◌, ◌*◌, ◌%◌, ◌^◌, ◌<◌, ◌≤◌, ◌≡◌, not, Bool, true, false, Option, Some, None, refl, sym, ◌∙◌, ap, subst, arith, List, ◌++◌, length, is_some, is_none, option_and_then}
 use Rattle.std.proofs.lemmas.Bool.{eq-eqb, and_from, le-ltb, lt-ltb}
 use Rattle.std.proofs.Math.Nat.{mod-eq_of_lt}
 use Rattle.ec_bits.specs.Bits.{zeros}
@@ -7,7 +7,6 @@ use Rattle.ec_bits.proofs.AnyLaws.{if_true, if_false, within_true}
 use Rattle.ec_regs.specs.declared.manager.ManagerSettings.{ManagerSettings}
 use Rattle.ec_regs.specs.declared.slave_type.Mailbox.{Mailbox}
 use Rattle.ec_regs.specs.Types.{SlaveKind}
-use Rattle.ec_regs.specs.Memory.{ram_start, ram_end}
 use Rattle.ec_regs.specs.Managers.{is_set, is_mailbox, is_ring_written, is_ring_read, span}
 use Rattle.ec_frame.specs.declared.command.Command.TheVariants.{Fpwr}
 use Rattle.ec_al.specs.declared.state.State.{State}
@@ -16,7 +15,7 @@ use Rattle.ec_sync.specs.Manager.{Manager, may_write, is_enabled, message_in as 
 use Rattle.ec_sync.specs.Governing.{governor, covers, in_first_buffer}
 use Rattle.ec_slave.specs.State.{SlaveState, station_of, manager_at}
 use Rattle.ec_slave.specs.Managers.{writes_under}
-use Rattle.ec_slave.specs.Physical.{touches, may_write_byte}
+use Rattle.ec_slave.specs.Physical.{touches}
 use Rattle.ec_slave.specs.Meeting.{datagram_met}
 use Rattle.ec_coe.specs.declared.message.Message.{Message}
 use Rattle.ec_coe.specs.declared.value.Size.{Size}
@@ -30,7 +29,7 @@ use Rattle.ec_coe.specs.Replies.{reply_in, reply_by, response_in}
 use Rattle.ec_coe.specs.Answers.{answered as answer_of}
 use Rattle.ec_coe.specs.Objects.{Dictionary}
 use Rattle.ec_coe.proofs.ReadBack.{reads-as-message, length-message, command-read, service-read, index-read, subindex-read, value-read}
-use Rattle.ec_slave.specs.Serving.{dictionary_of, is_init, is_preop, has_mailbox, takes_reply, request_for, request_in, reply_counter, answer_to, replied as replied_to, reply_given, message_served, read_finished, request_decided, served}
+use Rattle.ec_slave.specs.Serving.{dictionary_of, is_init, is_preop, has_mailbox, takes_reply, request_for, request_in, reply_counter, answer_to, message_served, read_finished, request_decided, served}
 use Rattle.ec_start.specs.declared.action.Action.TheVariants.{SendRequest}
 use Rattle.ec_start.specs.declared.action.Request.{Request}
 use Rattle.ec_start.specs.declared.action.Transfer.{Transfer}
@@ -43,8 +42,9 @@ use Rattle.ec_start.specs.Planned.{AreMailboxes}
 use Rattle.ec_rise.specs.Standing.{IsOfKind, IsIn, IsUpAt, IsConfigured, IsSent, Claims}
 use Rattle.ec_rise.proofs.Owns.{window-sent}
 use Rattle.ec_rise.proofs.Sends.{sending, sending-length, set-lies, four-of}
-use Rattle.ec_rise.proofs.Serves.{waits-none, finished-same}
-use Rattle.ec_rise.proofs.Messages.{taken_out, message_of, mailbox_message-read, reply_raw, Replies, given-replies, raw-length}
+use Rattle.ec_slave.proofs.FirmwareSteps.{three_parts, decided as requests_decided, finished}
+use Rattle.ec_slave.proofs.RegisterAccess.{ram_governed}
+use Rattle.ec_rise.proofs.Messages.{message_of, mailbox_message-read, reply_raw, Replies, given-replies, raw-length}
 use Rattle.ec_rise.proofs.Counts.{own-write-counts}
 use Rattle.ec_rise.proofs.Shown.{HasReply}
 
@@ -53,7 +53,6 @@ use Rattle.ec_rise.proofs.Shown.{HasReply}
 pub request-goes : (s : SlaveState) (i counter : ℕ) (c : Config) (b : Mailbox) (r : Request) (number : ℕ) → station_of s ≡ station i → i < 64 → length s.managers ≡ 4
     → AreMailboxes b c.managers → IsUpAt i c s → (manager_at s.managers 0).mail ≡ None
     → (datagram_met s (datagram_of (SendRequest i counter b r) number)).counter ≡ 1
-unfolding may_write_byte
 request-goes s i counter c b r number e l four h u none =
     let m0 : Manager = manager_at s.managers 0 in
     let e0 = u.configured.settings 0 (omega arith) in
@@ -77,11 +76,9 @@ request-goes s i counter c b r number e l four h u none =
     let front : in_first_buffer (manager_at s.managers 0) (b.receive_start + 0) ≡ true = lt-ltb _ _ (omega (arith, start, len, some)) in
     let under : writes_under s.managers (touches (sending b counter r)) (b.receive_start + 0) (governor s.managers (b.receive_start + 0)) ≡ true
     = ap (λ (o : Option ℕ). writes_under s.managers (touches (sending b counter r)) (b.receive_start + 0) o) gov ∙ and_from _ _ front (and_from _ _ cov may) in
-    let above : nat_lt (b.receive_start + 0) ram_start ≡ false = le-ltb _ _ (omega (arith, low, start)) in
-    let below : nat_lt (b.receive_start + 0) ram_end ≡ true = lt-ltb _ _ (omega (arith, high, start, wide, len, some)) in
     own-write-counts s (datagram_of (SendRequest i counter b r) number) (sending b counter r) 0 refl (let a : (station i % 65536 + 65536 * b.receive_start) % 65536 ≡ station_of s = omega (arith, e, l) in a)
     (window-sent Fpwr (station i) b.receive_start (filled b.receive_size (request_bytes counter r)) number) (omega (arith, long, some))
-    (if_false _ _ _ above ∙ and_from _ _ below under)
+    ((ram_governed s (b.receive_start + 0) (omega (arith, low, start)) (omega (arith, high, start, wide, len, some))).writes s.sii.busy (touches (sending b counter r)) ∙ under)
 
 -- ---- the reply that is wanted
 
@@ -158,7 +155,6 @@ Answers kind outs ins r = (d : Dictionary) (m : Message) (counter : ℕ) → Kno
 pub replied : (kind : SlaveKind) (i : ℕ) (c : Config) (k : Talk) (box : Mailbox) (s : SlaveState) → IsOfKind kind s → kind.mailbox ≡ Some box → IsConfigured i c s
     → ((n : ℕ) → n < 4 → (manager_at s.managers n).locked ≡ false) → IsIn PreOp s → s.sii.busy ≡ false → IsSent k c s → Answers kind c.outs c.ins k.request
     → HasReply i k.request k.mailbox.send_size (served s)
-unfolding served message_served
 replied kind i c k box s slave boxed u unlocked preop idle h good =
     let m0 : Manager = manager_at s.managers 0 in
     let m1 : Manager = manager_at s.managers 1 in
@@ -177,11 +173,10 @@ replied kind i c k box s slave boxed u unlocked preop idle h good =
     let long : 16 ≤ (manager_at s.managers 1).settings.length = subst (λ (x : ℕ). 16 ≤ x) (sym size) h.mailboxes.send_some in
     let fit : request_in s ≡ Some (message_of k)
     = ap (λ (o : Option (List ℕ)). request_for m1 (option_and_then message_read o)) l ∙ (ap (request_for m1) (mailbox_message-read k) ∙ if_true _ _ _ (ap not (le-ltb m1.settings.length message_length long))) in
-    let step : message_served s ≡ replied_to (taken_out s) (message_of k) = if_true _ _ _ (and_from _ _ has (and_from _ _ takes (ap is_some l))) ∙ ap (reply_given (taken_out s)) fit in
-    let still : request_decided s ≡ s = waits-none s preop.no_request in
-    let quiet : read_finished (request_decided s) ≡ s = ap read_finished still ∙ finished-same s idle in
-    let all : served s ≡ replied_to (taken_out s) (message_of k) = ap message_served quiet ∙ step in
-    let rep : Replies s (message_of k) (replied_to (taken_out s) (message_of k)) = given-replies s (message_of k) raw (omega (arith, four)) l takes long in
+    let still : request_decided s ≡ s = (requests_decided s).rests preop.no_request in
+    let quiet : read_finished (request_decided s) ≡ s = ap read_finished still ∙ (finished s).rests idle in
+    let all : served s ≡ message_served s = three_parts s ∙ ap message_served quiet in
+    let rep : Replies s (message_of k) (message_served s) = given-replies s (message_of k) (omega (arith, four)) (and_from _ _ has (and_from _ _ takes (ap is_some l))) fit long in
     let flag : is_preop s.al.state ≡ true = ap is_preop preop.state_is in
     let wanted : IsWanted k.request (answer_to s (message_of k)).reply
     = subst (λ (x : Bool). IsWanted k.request (answer_of x (dictionary_of s) (message_of k) (reply_counter s.replies)).reply) (sym flag)
@@ -191,6 +186,6 @@ replied kind i c k box s slave boxed u unlocked preop idle h good =
     subst (λ (t : SlaveState). HasReply i k.request k.mailbox.send_size t) (sym all) (record {
       raw = reply_raw s (message_of k);
       long = raw-length m1 (message_bytes (answer_to s (message_of k)).reply) k.mailbox.send_size (length-message (answer_to s (message_of k)).reply) size h.mailboxes.send_some;
-      mail = rep.reply;
+      mail = rep.answer.reply;
       fits = wanted-back i k.request (answer_to s (message_of k)).reply (zeros (m1.settings.length - length (message_bytes (answer_to s (message_of k)).reply))) wanted;
     })

@@ -2,18 +2,17 @@
 use Rattle.std.proofs.Common.{ℕ, ◌≡◌, refl, sym, ◌∙◌, ap, subst, List, [], ◌∷◌, length}
 use Rattle.ec_frame.specs.declared.command.Command.{Command}
 use Rattle.ec_frame.specs.Datagram.{Datagram, IsDatagram}
-use Rattle.ec_slave.specs.State.{SlaveState}
-use Rattle.ec_slave.specs.Meeting.{Passed, meets, slave_met, datagram_met, passes}
-use Rattle.ec_slave.specs.Keeping.{meets-keeps}
+use Rattle.ec_slave.specs.State.{SlaveState, Met}
+use Rattle.ec_slave.proofs.Meetings.{datagrams_stay as meets-keeps, logical_meet}
+use Rattle.ec_slave.specs.Meeting.{Passed, slave_met, datagram_met, passes}
 use Rattle.ec_slave.proofs.Bystanders.{heading_stays}
 use Rattle.ec_start.specs.Actions.{datagram_of, numbered}
 use Rattle.ec_start.specs.Running.{action_of, Shape, shape, IsStartAnswer}
 use Rattle.ec_rise.specs.Undisturbed.{all_passed, all_met, RoundLaw}
 use Rattle.ec_ring.specs.Rings.{passes_ring}
 
-two-pass : (s : SlaveState) (number : ℕ) (d : Datagram) → passes s (numbered number 0 ∷ d ∷ []) ≡ record { slave = slave_met s d; datagrams = numbered number 0 ∷ datagram_met s d ∷ [] }
-unfolding meets
-two-pass s number d = refl
+pub two-pass : (s : SlaveState) (number : ℕ) (d : Datagram) → passes s (numbered number 0 ∷ d ∷ []) ≡ record { slave = slave_met s d; datagrams = numbered number 0 ∷ datagram_met s d ∷ [] }
+two-pass s number d = ap (λ (m : Met). record { slave = (passes m.slave (d ∷ [])).slave; datagrams = m.datagram ∷ (passes m.slave (d ∷ [])).datagrams }) ((logical_meet s (numbered number 0)).nop refl)
 
 frame-all : (ss : List SlaveState) (number : ℕ) (d : Datagram) → (passes_ring ss (numbered number 0 ∷ d ∷ [])).datagrams ≡ numbered number 0 ∷ all_passed ss d ∷ []
 frame-all [] number d = refl

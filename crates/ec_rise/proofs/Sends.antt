@@ -1,5 +1,5 @@
 -- A request is put into a slave's mailbox.
-use Rattle.std.proofs.Common.{ℕ, zero, suc, ◌+◌, ◌-◌, ◌*◌, ◌/◌, ◌%◌, ◌<◌, ◌≤◌, ◌≡◌, ◌==◌, ◌&&◌, ◌||◌, not, Bool, true, false, Option, Some, None, refl, sym, ◌∙◌, ap, subst, inl, inr, arith, List, [], ◌∷◌, length, slice_index, get_or, is_none, unwrap_or, nat_lt, nat_le, length-append}
+use Rattle.std.proofs.Common.{ℕ, zero, suc, ◌+◌, ◌-◌, ◌*◌, ◌/◌, ◌%◌, ◌<◌, ◌≤◌, ◌≡◌, ◌==◌, ◌&&◌, ◌||◌, not, Bool, true, false, Option, Some, None, refl, sym, ◌∙◌, ap, subst, inl, inr, arith, List, [], ◌∷◌, length, slice_index, is_none, nat_lt, nat_le, length-append}
 use Rattle.std.proofs.lemmas.Bool.{eq-eqb, cases_Bool, and_parts, and_from, and_left, and_right, eqb-true, leb-true}
 use Rattle.std.proofs.lemmas.List.{length-replicate}
 use Rattle.ec_bits.specs.Bits.{zeros, any_below}
@@ -17,10 +17,9 @@ use Rattle.ec_al.specs.Al.{Al}
 use Rattle.ec_slave.specs.State.{SlaveState, manager_at}
 use Rattle.ec_coe.specs.Objects.{Assignment, all_assigned}
 use Rattle.ec_slave.specs.Managers.{is_ungoverned, is_written_by}
-use Rattle.ec_slave.specs.Physical.{Window, touches, byte_from, retold_from, is_configured, physical_value, physical_manager, physical_managers, physical_after}
+use Rattle.ec_slave.specs.Physical.{Window, touches, is_configured, physical_value, physical_manager, physical_managers, physical_after}
 use Rattle.ec_slave.specs.Meeting.{slave_met, datagram_met}
 use Rattle.ec_slave.proofs.Bytes.{writes_by_byte}
-use Rattle.ec_slave.proofs.Windows.{from-inside}
 use Rattle.ec_coe.proofs.ReadBack.{length-message}
 use Rattle.ec_start.specs.Plans.{settings_at}
 use Rattle.ec_start.specs.declared.action.Action.TheVariants.{SendRequest}
@@ -32,25 +31,9 @@ use Rattle.ec_rise.specs.Standing.{HoldsZeros, IsOfKind, IsSilent, Talks, IsUpAt
 use Rattle.ec_rise.specs.Frames.{Arrives, Met}
 use Rattle.ec_rise.proofs.Alike.{claims-alike, rises-alike}
 use Rattle.ec_rise.proofs.Passing.{one-send}
-use Rattle.ec_rise.proofs.Writes.{unconfigured}
+use Rattle.ec_slave.proofs.RegisterAccess.{accesses_leave, managers_accessed, whole_values, managers_aside as unconfigured}
 use Rattle.ec_rise.proofs.Owns.{window-sent, pass-own}
 use Rattle.ec_rise.proofs.Sets.{aside-busy, low-top}
-
--- ---- values
-
-pub retold-all : (k : ℕ) (xs ys : List ℕ) (f : ℕ → Option ℕ) → length xs ≡ length ys → ((i : ℕ) → i < length ys → f (k + i) ≡ Some (get_or ys i 0)) → retold_from k xs f ≡ ys
-retold-all k [] [] f e h = refl
-retold-all k [] (y ∷ ys) f e h = absurd (omega (arith, e))
-retold-all k (x ∷ xs) [] f e h = absurd (omega (arith, e))
-retold-all k (x ∷ xs) (y ∷ ys) f e h =
-    let z : k + 0 ≡ k = omega arith in
-    let a : f k ≡ Some y = sym (ap f z) ∙ h 0 (omega arith) in
-    ap (λ (o : Option ℕ). unwrap_or o x ∷ retold_from (k + 1) xs f) a
-    ∙ ap (λ (zs : List ℕ). y ∷ zs) (retold-all (k + 1) xs ys f (omega (arith, e)) (λ i l. let q : k + 1 + i ≡ k + suc i = omega arith in ap f q ∙ h (suc i) (omega (arith, l))))
-
--- the whole value of a manager that no lower one reaches into
-pub whole-value : (w : Window) → physical_value [] w w.from (length w.bytes) ≡ w.bytes
-whole-value w = retold-all 0 (zeros (length w.bytes)) w.bytes _ (length-replicate {A = ℕ} (length w.bytes) 0) (λ i l. let z : 0 + i ≡ i = omega arith in ap (λ (k : ℕ). byte_from w (w.from + k)) z ∙ from-inside w i l)
 
 -- ---- one manager
 
@@ -69,12 +52,10 @@ none-set m e = ap is_set e
 
 -- a manager that may not be written stays
 pub met-stays : (lower : List Manager) (w : Window) (n : ℕ) (m : Manager) → is_configured w n ≡ false → may_write m ≡ false → physical_manager lower false true w n m ≡ m
-unfolding physical_manager
-met-stays lower w n m u e = if_false _ _ _ u ∙ if_false _ _ _ (and_left (may_write m) _ e)
+met-stays lower w n m u e = (managers_accessed lower w n m).written u ∙ if_false _ _ _ (and_left (may_write m) _ e)
 
 met-written : (lower : List Manager) (w : Window) (n : ℕ) (m : Manager) → is_configured w n ≡ false → is_written_by (touches w) (is_ungoverned lower) m ≡ true → physical_manager lower false true w n m ≡ ring_written m (physical_value lower w m.settings.start m.settings.length)
-unfolding physical_manager
-met-written lower w n m u e = if_false _ _ _ u ∙ if_true _ _ _ e
+met-written lower w n m u e = (managers_accessed lower w n m).written u ∙ if_true _ _ _ e
 
 -- ---- four managers
 
@@ -134,7 +115,7 @@ sent-managers i counter c b r s four h u none =
     let own : any_below m0.settings.length (λ k. touches (sending b counter r) (m0.settings.start + k) && is_ungoverned [] (m0.settings.start + k)) ≡ true
     = any_below_from m0.settings.length (λ k. touches (sending b counter r) (m0.settings.start + k) && is_ungoverned [] (m0.settings.start + k)) 0 (omega (arith, len, some)) (and_from _ _ touched refl) in
     let value : physical_value [] (sending b counter r) m0.settings.start m0.settings.length ≡ (sending b counter r).bytes
-    = ap (λ (x : ℕ). physical_value [] (sending b counter r) x m0.settings.length) start ∙ (ap (λ (x : ℕ). physical_value [] (sending b counter r) b.receive_start x) (len ∙ sym long) ∙ whole-value (sending b counter r)) in
+    = ap (λ (x : ℕ). physical_value [] (sending b counter r) x m0.settings.length) start ∙ (ap (λ (x : ℕ). physical_value [] (sending b counter r) b.receive_start x) (len ∙ sym long) ∙ whole_values (sending b counter r)) in
     let first : physical_manager [] false true (sending b counter r) 0 m0 ≡ record m0 { mail = Some (sending b counter r).bytes }
     = met-written [] (sending b counter r) 0 m0 (free 0 (omega arith)) (and_from _ _ may (and_from _ _ cov own)) ∙ (ap (ring_written m0) value ∙ if_true _ _ _ box) in
     let no1 : may_write m1 ≡ false = and_right (is_enabled m1) _ (and_left _ _ (written-not-read m1.settings (ap is_ring_read e1 ∙ h.send_read))) in
@@ -192,14 +173,13 @@ mailbox_message-mail ms x (suc (suc (suc (suc n)))) a l = absurd (omega (arith, 
 
 pub delivered : (i counter : ℕ) (c : Config) (b : Mailbox) (r : Request) (s : SlaveState) → length s.managers ≡ 4 → AreMailboxes b c.managers → IsUpAt i c s → (manager_at s.managers 0).mail ≡ None
     → Delivered b counter r s (physical_after s false true (sending b counter r))
-unfolding physical_after
 delivered i counter c b r s four h u none =
     let w : Window = sending b counter r in
     let x : List ℕ = (sending b counter r).bytes in
     let e = sent-managers i counter c b r s four h u none in
     let ram = (set-lies (settings_at c.managers 0) h.receive_set).0 in
     let rs = h.receive_start in
-    record {
+    subst (Delivered b counter r s) (sym (accesses_leave s (sending b counter r)).written) (record {
       kind = refl;
       room = (writes_by_byte s.managers (sending b counter r) s.memory).0;
       memory = λ a l k. ((writes_by_byte s.managers (sending b counter r) s.memory).1 a k).untouched (within_below b.receive_start (length (sending b counter r).bytes) a (omega (arith, ram, rs, l)));
@@ -213,7 +193,7 @@ delivered i counter c b r s four h u none =
       busy = aside-busy (sending b counter r) s.sii (omega (arith, ram, rs));
       outs = refl;
       ins = refl;
-    }
+    })
 
 delivered-slave : (kind : SlaveKind) (b : Mailbox) (counter : ℕ) (r : Request) (s t : SlaveState) → Delivered b counter r s t → IsOfKind kind s → IsOfKind kind t
 delivered-slave kind b counter r s t a h = record {

@@ -1,8 +1,8 @@
 -- A firmware step of a slave that stands at a stage: the AL request, and the SII read.
-use Rattle.std.proofs.Common.{ℕ, zero, suc, ◌<◌, ◌≡◌, ◌⊎◌, ◌&&◌, not, Bool, true, false, refl, sym, ◌∙◌, ap, subst, inl, inr, arith, List, [], ◌∷◌, length, map, set, nat_le, if◌then◌else◌, length-set, get_or-set_same, get_or-set_other, Result, Ok, Err}
+use Rattle.std.proofs.Common.{ℕ, zero, suc, ◌<◌, ◌≡◌, ◌⊎◌, ◌&&◌, not, Bool, true, false, refl, sym, ◌∙◌, ap, subst, inl, inr, arith, List, [], ◌∷◌, length, map, set, if◌then◌else◌, length-set, get_or-set_same, get_or-set_other, slice_index, Result, Ok, Err}
 use Rattle.std.proofs.lemmas.Bool.{both_ways, cases_Bool, and_left, and_right, cases_eq}
 use Rattle.std.proofs.lemmas.List.{length-map}
-use Rattle.ec_bits.proofs.AnyLaws.{if_true, if_false}
+use Rattle.ec_bits.proofs.AnyLaws.{if_false}
 use Rattle.ec_regs.specs.Types.{SlaveKind}
 use Rattle.ec_sync.specs.Manager.{Manager, no_manager, zeros_published}
 use Rattle.ec_al.specs.declared.state.State.{State}
@@ -14,11 +14,12 @@ use Rattle.ec_al.specs.States.{state_number, code_number}
 use Rattle.ec_al.specs.Transitions.{answer, requested_by, acknowledges}
 use Rattle.ec_al.specs.Al.{Al, decided, answered}
 use Rattle.ec_al.specs.Al as al
-use Rattle.ec_slave.specs.State.{SlaveState, manager_at, power_on}
+use Rattle.ec_slave.specs.State.{SlaveState, manager_at}
 use Rattle.ec_slave.specs.Checking.{control_word, checks_of}
 use Rattle.ec_slave.specs.Serving.{unlocked_empty, managers_entered, with_al, request_decided, read_finished}
 use Rattle.ec_sii.specs.Port.{Sii}
-use Rattle.ec_sii.specs.Port as port
+use Rattle.ec_slave.proofs.FirmwareSteps.{decided as requests_decided, finished}
+use Rattle.ec_slave.proofs.SwitchedOn.{switched_on}
 use Rattle.ec_rise.specs.Stages.{Rise, Stays, Climbs, Config, Stage, Before, Called, Down, Up, IsStepUp}
 use Rattle.ec_rise.specs.Standing.{unviewed, IsOfKind, IsInInit, Rises, IsUpAt, IsDownAt, Reached, IsGone, HadFault, Stands}
 use Rattle.ec_rise.proofs.Alike.{SameFront, front-refl, SameFronts, fronts-refl, Alike, slave-alike, stands-alike, down-rest, up-rest}
@@ -232,13 +233,11 @@ no_fall-same Op = tt
 deciding : SlaveState → Al
 deciding s = al.decided s.al (control_word s) (checks_of s)
 
-pub decided-is : (s : SlaveState) → s.al.requested ≡ true → request_decided s ≡ with_al s (al.decided s.al (control_word s) (checks_of s))
-unfolding request_decided
-decided-is s e = if_true _ _ _ e
+waits-none : (s : SlaveState) → s.al.requested ≡ false → request_decided s ≡ s
+waits-none s e = (requests_decided s).rests e
 
-pub waits-none : (s : SlaveState) → s.al.requested ≡ false → request_decided s ≡ s
-unfolding request_decided
-waits-none s e = if_false _ _ _ e
+decided-is : (s : SlaveState) → s.al.requested ≡ true → request_decided s ≡ with_al s (al.decided s.al (control_word s) (checks_of s))
+decided-is s e = (requests_decided s).decides e
 
 -- asked for INIT
 pub init-decided : (s : SlaveState) → s.al.requested ≡ true → control_word s ≡ 0x0011 → request_decided s ≡ with_al s al.power_on
@@ -311,11 +310,10 @@ reached-decided i (Down f m) s l h = kept (kept-init s h.init)
 reached-decided i (Up c) s l h = up-decided i c c.rise s refl l h.rises h
 
 gone-waits : (st : Stage) (s : SlaveState) → IsGone st s → s.al.requested ≡ false
-unfolding power_on
 gone-waits Before s h = absurd h
 gone-waits Called s h = absurd h
 gone-waits (Down f m) s h = absurd h
-gone-waits (Up c) s h = ap (λ (t : SlaveState). t.al.requested) h
+gone-waits (Up c) s h = ap (λ (t : SlaveState). t.al.requested) h ∙ ap (λ (a : Al). a.requested) (switched_on s.kind s.identity).al
 
 fault-waits : (i : ℕ) (st : Stage) (s : SlaveState) → HadFault i st s → s.al.requested ≡ false
 fault-waits i Before s h = absurd h
@@ -335,51 +333,24 @@ stands-decided kind i st trouble s h = record {
 
 -- ---- the SII read finished
 
-abbrev pub busy_of : Sii → Bool
-busy_of p = p.busy
-
-pub either-idle : (b : Bool) (x y : Sii) → busy_of x ≡ false → busy_of y ≡ false → busy_of (if b then x else y) ≡ false
-either-idle true x y e f = e
-either-idle false x y e f = f
-
-pub sii-idle : (p : Sii) → (port.stepped p).busy ≡ false
-unfolding port.stepped
-sii-idle p = elim (cases_Bool p.busy) [
-  | inl e ↦ ap busy_of (if_true p.busy _ p e) ∙ either-idle (nat_le p.address port.last_address) _ _ refl refl
-  | inr e ↦ ap busy_of (if_false p.busy _ p e) ∙ e
-]
-
-pub sii-same : (p : Sii) → p.busy ≡ false → port.stepped p ≡ p
-unfolding port.stepped
-sii-same p e = if_false p.busy _ p e
-
 finished-alike : (s : SlaveState) → Alike s (read_finished s)
-unfolding read_finished
-finished-alike s = record {
-  kind = refl;
-  room = refl;
-  memory = λ x l. refl;
-  managers = fronts-refl s.managers;
-  idle = λ e. sii-idle s.sii;
-  outs = refl;
-  ins = refl;
-}
-
-pub finished-al : (s : SlaveState) → (read_finished s).al ≡ s.al
-unfolding read_finished
-finished-al s = refl
-
-pub finished-same : (s : SlaveState) → s.sii.busy ≡ false → read_finished s ≡ s
-unfolding read_finished
-finished-same s e = ap (λ (p : Sii). record s { sii = p }) (sii-same s.sii e)
+finished-alike s =
+    let f = finished s in record {
+      kind = ap (λ (t : SlaveState). t.kind) f.is;
+      room = ap (λ (t : SlaveState). length t.memory) f.is;
+      memory = λ x l. ap (λ (t : SlaveState). slice_index t.memory x) f.is;
+      managers = subst (λ (t : SlaveState). SameFronts s.managers t.managers) (sym f.is) (fronts-refl s.managers);
+      idle = λ e. f.idle;
+      outs = ap (λ (t : SlaveState). t.outs) f.is;
+      ins = ap (λ (t : SlaveState). t.ins) f.is;
+    }
 
 gone-idle : (st : Stage) (s : SlaveState) → IsGone st s → s.sii.busy ≡ false
-unfolding power_on
 gone-idle Before s h = absurd h
 gone-idle Called s h = absurd h
 gone-idle (Down f m) s h = absurd h
-gone-idle (Up c) s h = ap (λ (t : SlaveState). t.sii.busy) h
+gone-idle (Up c) s h = ap (λ (t : SlaveState). t.sii.busy) h ∙ ap (λ (p : Sii). p.busy) (switched_on s.kind s.identity).sii
 
 pub stands-finished : (kind : SlaveKind) (i : ℕ) (st : Stage) (trouble : Bool) (s : SlaveState) → Stands kind i st trouble s → Stands kind i st trouble (read_finished s)
 stands-finished kind i st trouble s h =
-    stands-alike kind i st trouble s (read_finished s) (finished-alike s) (finished-al s) (λ g. finished-same s (gone-idle st s g)) h
+    stands-alike kind i st trouble s (read_finished s) (finished-alike s) (ap (λ (t : SlaveState). t.al) (finished s).is) (λ g. (finished s).rests (gone-idle st s g)) h

@@ -26,7 +26,9 @@ use Rattle.ec_rise.specs.Standing.{HoldsZeros, IsConfigured, IsSilent, Talks, Is
 use Rattle.ec_rise.specs.Frames.{Arrives, Met}
 use Rattle.ec_rise.proofs.Alike.{claims-alike, rises-alike, word_of}
 use Rattle.ec_rise.proofs.Passing.{one-ask-word, one-set-manager, one-set-fmmu}
-use Rattle.ec_rise.proofs.Writes.{Wrote, wrote, set_by, set-locked, unconfigured, slave-wrote}
+use Rattle.ec_slave.specs.Interface.{Wrote, set_by}
+use Rattle.ec_slave.proofs.RegisterAccess.{registers_written as wrote, managers_aside as unconfigured}
+use Rattle.ec_rise.proofs.Writes.{set-locked, slave-wrote}
 use Rattle.ec_rise.proofs.Owns.{window-sent, pass-own}
 
 -- ---- what stays where neither the station address nor the AL control word is written

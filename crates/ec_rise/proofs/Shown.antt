@@ -14,10 +14,9 @@ use Rattle.ec_frame.specs.Datagram.{Datagram, adp_of}
 use Rattle.ec_al.specs.declared.state.State.{State}
 use Rattle.ec_al.specs.declared.state.State.TheVariants.{Init, PreOp, SafeOp, Op}
 use Rattle.ec_al.specs.States.{state_number}
-use Rattle.ec_sii.specs.Port.{sii_byte}
 use Rattle.ec_sync.specs.Manager.{may_read}
 use Rattle.ec_slave.specs.State.{SlaveState, station_of, manager_at}
-use Rattle.ec_slave.specs.Physical.{Window, byte_at, register_byte, byte_read, retold, some_byte_read}
+use Rattle.ec_slave.specs.Physical.{Window, byte_at, byte_read, retold, some_byte_read}
 use Rattle.ec_slave.specs.Meeting.{window_of, datagram_met}
 use Rattle.ec_coe.specs.Messages.{message_read}
 use Rattle.ec_start.specs.declared.action.Action.TheVariants.{AwaitWord, AwaitState, AwaitReply}
@@ -25,8 +24,9 @@ use Rattle.ec_start.specs.declared.action.Request.{Request}
 use Rattle.ec_start.specs.Actions.{station, sent, datagram_of}
 use Rattle.ec_start.specs.declared.verdict.Verdict.TheVariants.{Next, Shows}
 use Rattle.ec_start.specs.Verdicts.{with_word, is_device, word_at, long_at, word_verdict, state_verdict, message_verdict, verdict}
+use Rattle.ec_slave.proofs.RegisterAccess.{shows_itself}
 use Rattle.ec_rise.proofs.Owns.{window-sent}
-use Rattle.ec_rise.proofs.Polls.{status-at, read-byte, read-bytes, control-at, command-at}
+use Rattle.ec_rise.proofs.Polls.{read-byte, read-bytes}
 use Rattle.ec_rise.proofs.Receives.{Boxes, asking, read-counter, some-read, raw-read}
 use Rattle.ec_rise.proofs.Counts.{register-shows}
 use Rattle.ec_rise.proofs.Commands.{IsThere, HasFound, word_of}
@@ -62,7 +62,7 @@ pub await-state-ends : (n step : ℕ) (seen : Device) (types : ℕ → Device) (
 await-state-ends n step seen types s i state number e l h =
     let d = datagram_met s (datagram_of (AwaitState i state) number) in
     let b : slice_index (datagram_met s (datagram_of (AwaitState i state) number)).data_bytes 0 ≡ state_number state
-    = back s i 0x0130 6 number 0 e l (omega arith) (omega arith) ∙ (status-at s ∙ (ap (λ (x : State). state_number x + 16 * from_bool s.al.error) h.state_is ∙ (ap (λ (x : Bool). state_number state + 16 * from_bool x) h.no_error ∙ more (state_number state)))) in
+    = back s i 0x0130 6 number 0 e l (omega arith) (omega arith) ∙ ((shows_itself s).status ∙ (ap (λ (x : State). state_number x + 16 * from_bool s.al.error) h.state_is ∙ (ap (λ (x : Bool). state_number state + 16 * from_bool x) h.no_error ∙ more (state_number state)))) in
     if_true _ _ _ (eq-eqb _ 1 (register-shows s i 0x0130 (zeros 6) number 0 e l (omega arith) (omega arith)))
     ∙ state-ends i state (datagram_met s (datagram_of (AwaitState i state) number)).data_bytes b
   where
@@ -70,15 +70,6 @@ await-state-ends n step seen types s i state number e l h =
     more n = omega arith
 
 -- ---- a word
-
--- the four bytes of what was found
-found-byte : (s : SlaveState) (j : ℕ) → j < 4 → byte_at s (0x0508 + j) ≡ slice_index (to_le_bytes w32 s.sii.found) j
-unfolding byte_at register_byte sii_byte
-found-byte s zero l = refl
-found-byte s (suc zero) l = refl
-found-byte s (suc (suc zero)) l = refl
-found-byte s (suc (suc (suc zero))) l = refl
-found-byte s (suc (suc (suc (suc j)))) l = absurd (omega (arith, l))
 
 spells : (n : ℕ) → n < 2 ^ 32 → slice_index (to_le_bytes w32 n) 0 + 256 * slice_index (to_le_bytes w32 n) 1 + 65536 * slice_index (to_le_bytes w32 n) 2 + 16777216 * slice_index (to_le_bytes w32 n) 3 ≡ n
 spells n l = let e = from_le_bytes-to_le_bytes_4 n l in omega (arith, e)
@@ -115,14 +106,14 @@ pub await-word-ends : (n step : ℕ) (seen : Device) (types : ℕ → Device) (s
     → verdict n step seen types (AwaitWord i which) (datagram_met s (datagram_of (AwaitWord i which) number)) ≡ Shows (word_of (types i) which)
 await-word-ends n step seen types s i which number e l w big told h =
     let bytes : List ℕ = (datagram_met s (datagram_of (AwaitWord i which) number)).data_bytes in
-    let low : slice_index (datagram_met s (datagram_of (AwaitWord i which) number)).data_bytes 0 ≡ 0 = back s i 0x0502 10 number 0 e l (omega arith) (omega arith) ∙ control-at s in
+    let low : slice_index (datagram_met s (datagram_of (AwaitWord i which) number)).data_bytes 0 ≡ 0 = back s i 0x0502 10 number 0 e l (omega arith) (omega arith) ∙ (shows_itself s).sii_low in
     let high : slice_index (datagram_met s (datagram_of (AwaitWord i which) number)).data_bytes 1 ≡ 0
-    = back s i 0x0502 10 number 1 e l (omega arith) (omega arith) ∙ (command-at s ∙ (ap (λ (x : Bool). from_bool x + 32 * from_bool s.sii.error + 128 * from_bool x) h.idle ∙ ap (λ (x : Bool). 0 + 32 * from_bool x + 128 * 0) h.no_error)) in
+    = back s i 0x0502 10 number 1 e l (omega arith) (omega arith) ∙ ((shows_itself s).sii_high ∙ (ap (λ (x : Bool). from_bool x + 32 * from_bool s.sii.error + 128 * from_bool x) h.idle ∙ ap (λ (x : Bool). 0 + 32 * from_bool x + 128 * 0) h.no_error)) in
     if_true _ _ _ (eq-eqb _ 1 (register-shows s i 0x0502 (zeros 10) number 0 e l (omega arith) (omega arith)))
     ∙ word-ends (types i) seen i which (datagram_met s (datagram_of (AwaitWord i which) number)).data_bytes w told
     (omega (arith, low, high))
     (long-spells (datagram_met s (datagram_of (AwaitWord i which) number)).data_bytes (word_of (types i) which) big
-    (λ j b. back s i 0x0502 10 number (6 + j) e l (omega arith) (omega (arith, b)) ∙ (moved j ∙ (found-byte s j b ∙ ap (λ (x : ℕ). slice_index (to_le_bytes w32 x) j) h.found_is))))
+    (λ j b. back s i 0x0502 10 number (6 + j) e l (omega arith) (omega (arith, b)) ∙ (moved j ∙ ((shows_itself s).sii_found j b ∙ ap (λ (x : ℕ). slice_index (to_le_bytes w32 x) j) h.found_is))))
   where
     moved : (j : ℕ) → byte_at s (0x0502 + (6 + j)) ≡ byte_at s (0x0508 + j)
     moved j = let q : 0x0502 + (6 + j) ≡ 0x0508 + j = omega arith in ap (byte_at s) q
@@ -145,8 +136,8 @@ await-reply-ends n step seen types s i b r number e l bx h =
     let w : window_of (datagram_of (AwaitReply i b r) number) ≡ asking b = window-sent Fprd (station i) b.send_start (zeros b.send_size) number in
     let full : may_read (manager_at s.managers 1) ≡ true = and_from _ _ bx.enabled (and_from _ _ bx.read (if_true _ _ _ bx.box ∙ ap is_some h.mail)) in
     let sum : (datagram_met s (datagram_of (AwaitReply i b r) number)).counter ≡ 1
-    = read-counter s (datagram_of (AwaitReply i b r) number) refl adp ∙ (ap (λ (x : Window). (0 + (from_bool (some_byte_read s.managers x) + 2 * 0)) % 65536) w
-    ∙ ap (λ (x : Bool). (0 + (from_bool x + 2 * 0)) % 65536) (some-read b s true bx full)) in
+    = read-counter s (datagram_of (AwaitReply i b r) number) refl adp ∙ (ap (λ (x : Window). (0 + from_bool (some_byte_read s.managers x)) % 65536) w
+    ∙ ap (λ (x : Bool). (0 + from_bool x) % 65536) (some-read b s true bx full)) in
     let bytes : (datagram_met s (datagram_of (AwaitReply i b r) number)).data_bytes ≡ h.raw
     = read-bytes s (datagram_of (AwaitReply i b r) number) refl adp ∙ (ap (λ (x : Window). retold x.bytes (byte_read s false x)) w ∙ raw-read b s h.raw bx h.mail h.long full) in
     if_false _ _ _ (ap (λ (x : ℕ). x == 0) sum)

@@ -6,7 +6,7 @@ use Rattle.ec_bits.proofs.AnyLaws.{if_true, if_false}
 use Rattle.ec_regs.specs.Types.{SlaveKind}
 use Rattle.ec_frame.specs.Datagram.{Datagram, IsDatagram}
 use Rattle.ec_slave.specs.State.{SlaveState, power_on}
-use Rattle.ec_slave.specs.Meeting.{meets, slave_met, datagram_met, passes as passes_all}
+use Rattle.ec_slave.specs.Meeting.{slave_met, datagram_met, passes as passes_all}
 use Rattle.ec_slave.specs.Serving.{served}
 use Rattle.ec_link.specs.declared.settings.Settings.{Settings}
 use Rattle.ec_start.specs.declared.action.Action.{Action}
@@ -24,6 +24,7 @@ use Rattle.ec_rise.specs.Stages.{Config, Talk, Stage, Before, Up, end_of}
 use Rattle.ec_rise.specs.Instants.{Leads, AreAhead, IsBetween, Instant, Between, UnderWay, Adrift, Over, IsReady, Starts, LaterLaw, TakeLaw, SlaveLaw}
 use Rattle.ec_rise.specs.Standing.{IsOfKind, IsConfigured, IsSilent, IsUpAt, IsFaultedAt, Talks, Stands}
 use Rattle.ec_rise.specs.Frames.{Arrives}
+use Rattle.ec_rise.proofs.Rounds.{two-pass}
 use Rattle.ec_rise.proofs.Resets.{power_on_is, reset_stands}
 use Rattle.ec_rise.proofs.Events.{fault-stands, put-stands, got-stands}
 use Rattle.ec_rise.proofs.Messages.{stands-served}
@@ -374,5 +375,4 @@ start-up ps planned w v new r ready i l =
 -- ---- a frame's two datagrams at a slave: the first is a NOP, so the second alone counts
 
 pub frame-passes : (s : SlaveState) (number : ℕ) (d : Datagram) → passes_all s (numbered number 0 ∷ d ∷ []) ≡ record { slave = slave_met s d; datagrams = numbered number 0 ∷ datagram_met s d ∷ [] }
-unfolding meets
-frame-passes s number d = refl
+frame-passes s number d = two-pass s number d

@@ -7,7 +7,8 @@ use Rattle.ec_frame.specs.Frame.{Payload, IsFrame, with_datagrams}
 use Rattle.ec_frame.proofs.Verdict.{one_payload}
 use Rattle.ec_slave.specs.State.{SlaveState, with_answer}
 use Rattle.ec_slave.specs.Physical.{byte_at, retold}
-use Rattle.ec_slave.specs.Keeping.{length-retold}
+use Rattle.ec_slave.proofs.Meetings.{logical_meet}
+use Rattle.ec_slave.proofs.RegisterAccess.{retold_by_place}
 use Rattle.ec_slave.specs.Meeting.{meets, passes, Passed, IsPassed}
 use Rattle.ec_slave.proofs.Broadcast.{broadcast_read}
 use Rattle.ec_link.specs.Plan.{PlanState, part_at}
@@ -25,8 +26,7 @@ use Rattle.ec_world.proofs.Knowing.{knows, left_shows}
 use Rattle.ec_world.proofs.Saying.{joins}
 
 nop_meets : (s : SlaveState) (number k : ℕ) → meets s (name_datagram number k) ≡ record { slave = s; datagram = name_datagram number k }
-unfolding meets
-nop_meets s number k = refl
+nop_meets s number k = (logical_meet s (name_datagram number k)).nop refl
 
 -- the AL status word after the slave
 pub record StatusMet (s : SlaveState) (number n : ℕ) (al : List ℕ) : Type 0 where
@@ -45,7 +45,7 @@ status_meets s number n al two few =
     let wraps : (n + 1) % 65536 ≡ n + 1 = mod-eq_of_lt (omega arith) in
     record {
       al2 = al2;
-      word = length-retold 0 al _ ∙ two;
+      word = (retold_by_place al _).long ∙ two;
       joined = λ w e. joins s al w (ado_of d) ado e;
       is = met ∙ ap (λ x. record { slave = s; datagram = x }) (answer d al2 ado adp wraps);
     }

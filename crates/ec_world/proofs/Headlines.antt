@@ -16,6 +16,8 @@ use Rattle.ec_sync.specs.Buffer.{Buffer}
 use Rattle.ec_sync.specs.Manager.{Manager, no_manager}
 use Rattle.ec_frame.specs.Frame.{Payload}
 use Rattle.ec_frame.proofs.Verdict.{one_payload}
+use Rattle.ec_al.specs.Al.{Al}
+use Rattle.ec_slave.proofs.SwitchedOn.{switched_on}
 use Rattle.ec_slave.specs.State.{SlaveState, manager_at, with_memory, power_on}
 use Rattle.ec_slave.specs.Exchange.{with_outputs, with_published}
 use Rattle.ec_slave.specs.Application.{outputs_shown}
@@ -288,8 +290,7 @@ passed_on old p k f new sound s at h =
 -- ---- health and state
 
 on_state : (k : SlaveKind) (j : Identity) → (power_on k j).al.state ≡ Init
-unfolding power_on
-on_state k j = refl
+on_state k j = ap (λ (a : Al). a.state) (switched_on k j).al
 
 op_health : (i : ℕ) (x : Settings) (s : SlaveState) (q : PlainSlave) (h : Health) → IsAs i x s q h → s.al.state ≡ Op → h ≡ Working
 op_health i x s q Working a e = refl

@@ -1,5 +1,5 @@
 -- What the frames of a cycle hear of the slaves' AL status, over a world's run; and the AL word of a report.
-use Rattle.std.proofs.Common.{ℕ, zero, suc, ◌+◌, ◌*◌, ◌^◌, ◌<◌, ◌≤◌, ◌≡◌, ◌⊎◌, ◌==◌, ◌&&◌, not, Bool, true, false, Option, Some, None, refl, sym, ◌∙◌, ap, subst, inl, inr, arith, List, [], ◌∷◌, ◌++◌, length, map, get_or, set, is_some, if◌then◌else◌, option_map, unwrap_or, nat_lt, slice_get, slice_index, bit_or}
+use Rattle.std.proofs.Common.{ℕ, zero, suc, ◌+◌, ◌*◌, ◌^◌, ◌<◌, ◌≡◌, ◌⊎◌, ◌==◌, ◌&&◌, not, Bool, true, false, Option, Some, None, refl, sym, ◌∙◌, ap, subst, inl, inr, arith, List, [], ◌∷◌, ◌++◌, length, map, get_or, set, is_some, option_map, nat_lt, slice_get, slice_index, bit_or}
 use Rattle.std.specs.List.{fold}
 use Rattle.std.proofs.lemmas.Bool.{cases_lt, and_parts, eqb-true}
 use Rattle.std.proofs.lemmas.List.{append_assoc, length_push, length-map, get_or-map}
@@ -7,13 +7,9 @@ use Rattle.std.proofs.lemmas.List.Sums.{fold-append}
 use Rattle.std.proofs.Math.Seq.{get_or-append_seam}
 use Rattle.std.proofs.Math.ListN.{get_or-append}
 use Rattle.ec_regs.specs.declared.slave_type.Identity.{Identity}
-use Rattle.ec_al.specs.Al.{status_word}
-use Rattle.ec_frame.specs.Datagram.{Datagram}
-use Rattle.ec_frame.specs.Frame.{Payload, IsFrame, with_datagrams}
+use Rattle.ec_frame.specs.Frame.{Payload, IsFrame}
 use Rattle.ec_frame.specs.Building.{bare_payload}
 use Rattle.ec_frame.proofs.Verdict.{one_payload}
-use Rattle.ec_slave.specs.State.{SlaveState}
-use Rattle.ec_slave.specs.Meeting.{passes as passes_all}
 use Rattle.ec_table.specs.Contents.{Contents}
 use Rattle.ec_link.specs.declared.plan.Predicted.{Predicted}
 use Rattle.ec_link.specs.Meaning.{Meaning, meaning}
@@ -23,21 +19,18 @@ use Rattle.ec_link.proofs.Soundness.{plan_sound}
 use Rattle.ec_start.specs.Running.{last_number}
 use Rattle.ec_cycle.specs.Closing.{KeptPart, nones, kept_of, bytes_at, joined, word_of_kept, report_of}
 use Rattle.ec_cycle.specs.Frames.{sent_datagrams}
-use Rattle.ec_cycle.specs.Master.{MasterState, OpenCycle, with_kept, IsAnswer, IsTaken}
+use Rattle.ec_cycle.specs.Master.{MasterState, OpenCycle, IsAnswer, IsTaken}
 use Rattle.ec_world.specs.declared.event.Event.{Event}
 use Rattle.ec_world.specs.declared.event.Event.TheVariants.{StartNext, Set, Begin, Pass, Lose, Return, Close, Serve, AppPut, AppGet, Fault, Reset as ResetSlave}
-use Rattle.ec_world.specs.declared.progress.Progress.{Progress}
-use Rattle.ec_world.specs.Plain.{Plain, PlainFrame, Cycle, step, run, frame_at, progress_of, all_progress, may_pass, may_return}
-use Rattle.ec_world.specs.World.{WorldState, Flight, slave_of, flight_at, flight_progress, flights_progress, flights_from, awaits, is_up, resumed, can_start, ByStart, StartReturns, Returns, GivesUp, Closes, Passes, Begins, IsStep}
-use Rattle.ec_world.specs.FrameShows.{FrameShows}
+use Rattle.ec_world.specs.Plain.{Plain, Cycle, run, frame_at, may_return}
+use Rattle.ec_world.specs.World.{WorldState, Flight, slave_of, flight_at, flight_progress, flights_progress, flights_from, awaits, is_up, can_start, ByStart, StartReturns, Returns, GivesUp, Closes, Passes, Begins, IsStep}
 use Rattle.ec_world.specs.Shows.{Shows, CyclesShow}
-use Rattle.ec_world.specs.Laws.{IsRun, BringsWord}
+use Rattle.ec_world.specs.Laws.{IsRun}
 use Rattle.ec_world.specs.Whole.{IsNew, plain_of}
-use Rattle.ec_world.specs.Headline.{IsBegun, HasPassed, progress_at}
+use Rattle.ec_world.specs.Headline.{IsBegun, HasPassed}
 use Rattle.ec_world.specs.AlWords.{said_by, IsHeard, AreHeard, PartSays, IsNotBack, IsBack, WordShows, WordLaw, OpWordLaw}
 use Rattle.ec_world.proofs.FramePass.{FrameBrings, frame_word}
-use Rattle.ec_world.proofs.FrameSteps.{pass_can}
-use Rattle.ec_world.proofs.ReturnStep.{answer_tells, return_can}
+use Rattle.ec_world.proofs.ReturnStep.{answer_tells}
 use Rattle.ec_world.proofs.Stepping.{next-there}
 use Rattle.ec_world.proofs.InSlots.{flight_pairs}
 use Rattle.ec_world.proofs.Histories.{AreBelow, filled_has, set_has, set_at, none_there, begun_below}

@@ -1,5 +1,5 @@
 -- What a slave that shows a plain slave does with a cyclic frame, and what it shows then.
-use Rattle.std.proofs.Common.{ℕ, zero, suc, ◌+◌, ◌-◌, ◌*◌, ◌<◌, ◌≡◌, ◌≢◌, ◌==◌, ◌||◌, Bool, true, false, Some, None, refl, sym, ◌∙◌, ap, subst, inl, inr, arith, if◌then◌else◌, List, [], ◌∷◌, length, nat_lt, replicate, slice_index}
+use Rattle.std.proofs.Common.{ℕ, ◌+◌, ◌-◌, ◌*◌, ◌<◌, ◌≡◌, ◌≢◌, ◌==◌, ◌||◌, Bool, true, false, Some, None, refl, sym, ◌∙◌, ap, subst, inl, inr, arith, if◌then◌else◌, List, [], ◌∷◌, length, nat_lt, slice_index}
 use Rattle.std.specs.Int.{bit_at}
 use Rattle.std.proofs.Math.Seq.{map-set_same}
 use Rattle.std.proofs.lemmas.List.{length-replicate, length-map}
@@ -14,11 +14,12 @@ use Rattle.ec_sync.specs.Manager.{Manager, no_manager, may_read, may_write}
 use Rattle.ec_sync.specs.Buffer.{publishing}
 use Rattle.ec_fmmu.specs.Applied.{Place, inside_place}
 use Rattle.ec_fmmu.specs.Sets.{target, source, readers, writers}
-use Rattle.ec_slave.specs.State.{SlaveState, manager_at, fmmus_of, power_on, memory_length}
+use Rattle.ec_slave.specs.State.{SlaveState, manager_at, fmmus_of, power_on}
 use Rattle.ec_slave.specs.Exchange.{IsMapped, takes, gives, with_outputs, with_published}
 use Rattle.ec_fmmu.specs.Areas.{Area}
 use Rattle.ec_slave.specs.LogicalLaws.{Misses}
-use Rattle.ec_slave.proofs.Kept.{outputs-own, outputs-other}
+use Rattle.ec_slave.proofs.Kept.{outputs_published}
+use Rattle.ec_slave.proofs.SwitchedOn.{switched_on}
 use Rattle.ec_link.specs.declared.settings.Share.{Share}
 use Rattle.ec_link.specs.Shares.{Gave, has_outs, has_ins, nothing_given}
 use Rattle.ec_link.specs.Meaning.{Meaning, share_of, slave_at, no_slave as no_slave_plan, area_of, area_at, place_of_part, meaning, IsLaid}
@@ -92,11 +93,6 @@ full_of h q Reset w e l = absurd (go (has_outs h) (has_ins h) (lt-ltb 0 h.ins l)
 
 -- ---- slaves that map nothing here
 
-read_zero : (n i : ℕ) → slice_index (replicate n 0) i ≡ 0
-read_zero zero i = refl
-read_zero (suc n) zero = refl
-read_zero (suc n) (suc i) = read_zero n i
-
 four_idle : (f0 f1 f2 f3 : FmmuSettings) → f0.reads ≡ false → f1.reads ≡ false → f2.reads ≡ false → f3.reads ≡ false → readers (f0 ∷ f1 ∷ f2 ∷ f3 ∷ []) ≡ []
 four_idle f0 f1 f2 f3 e0 e1 e2 e3 = rw (e0, e1, e2, e3) refl
 
@@ -113,8 +109,7 @@ blank_misses memory z =
     (four_idle (at 0) (at 1) (at 2) (at 3) (off 0).0 (off 1).0 (off 2).0 (off 3).0, four_mute (at 0) (at 1) (at 2) (at 3) (off 0).1 (off 1).1 (off 2).1 (off 3).1)
 
 memory_on : (s : SlaveState) → s ≡ power_on s.kind s.identity → (i : ℕ) → slice_index s.memory i ≡ 0
-unfolding power_on
-memory_on s e i = ap (λ (x : SlaveState). slice_index x.memory i) e ∙ read_zero memory_length i
+memory_on s e i = ap (λ (x : SlaveState). slice_index x.memory i) e ∙ (switched_on s.kind s.identity).memory i
 
 pub reset_misses : (p : Settings) (s : SlaveState) (at : Place) → IsReset p s → Misses s at
 reset_misses p s at h =
@@ -247,15 +242,15 @@ module _ (plan : PlanState) (t : ℕ) (f : PlainFrame) (q : PlainSlave) (s : Sla
 
   mail_kept : (v : List ℕ) (n : ℕ) → 2 < length s.managers → (manager_at (with_outputs s v).managers n).mail ≡ (manager_at s.managers n).mail
   mail_kept v n l = elim (cases_eq n 2) [
-    | inl e ↦ subst (λ (k : ℕ). (manager_at (with_outputs s v).managers k).mail ≡ (manager_at s.managers k).mail) (sym e) (ap (λ (x : Manager). x.mail) (outputs-own s v l))
-    | inr ne ↦ ap (λ (x : Manager). x.mail) (outputs-other s v n ne)
+    | inl e ↦ subst (λ (k : ℕ). (manager_at (with_outputs s v).managers k).mail ≡ (manager_at s.managers k).mail) (sym e) (ap (λ (x : Manager). x.mail) ((outputs_published s v).own l))
+    | inr ne ↦ ap (λ (x : Manager). x.mail) ((outputs_published s v).others n ne)
   ]
 
   working_left : (v : List ℕ) → length v ≡ bytes_of_bits pl.share.outs → IsWorking t pl s q → IsWorking t pl (with_outputs s v) (record q { outputs = publishing q.outputs v })
   working_left v e w =
       let l = two w.holds in
-      let own = outputs-own s v l in
-      let fourth = outputs-other s v 3 (omega arith) in
+      let own = (outputs_published s v).own l in
+      let fourth = (outputs_published s v).others 3 (omega arith) in
       record {
         holds = record {
           kind = w.holds.kind;

@@ -1,6 +1,5 @@
 pub mod Resting
 pub mod Plans
-pub mod Lengths
 pub mod RisingSteps
 pub mod Readies
 pub mod Acting

@@ -13,6 +13,8 @@ use Rattle.ec_slave.specs.Exchange.{outputs_from, inputs_into}
 use Rattle.ec_fmmu.specs.Areas.{Area, Spans}
 use Rattle.ec_bits.specs.Bits.{bit}
 use Rattle.ec_slave.specs.Meeting.{meets, passes, Passed}
+use Rattle.std.proofs.lemmas.Bool.{cases_Bool}
+use Rattle.ec_slave.proofs.Meetings.{logical_meet}
 use Rattle.ec_slave.proofs.Misses.{misses}
 use Rattle.ec_link.specs.Shares.{Gave, nothing_given, lwr_count, lrd_count, lrw_count, sum_of}
 use Rattle.ec_link.specs.Meaning.{Meaning, share_of, IsLaid}
@@ -71,25 +73,22 @@ small f gs h few = let e = sum_of-le f h gs in omega arith
 
 lrw_meets : (s : SlaveState) (number address : ℕ) (bytes : List ℕ) (n : ℕ) → s.kind.lrw ≡ true
     → meets s (process_datagram Lrw number address bytes n) ≡ meets_logically true true 2 s (process_datagram Lrw number address bytes n)
-unfolding meets
-lrw_meets s number address bytes n h = if_true _ _ _ h
+lrw_meets s number address bytes n h = (logical_meet s (process_datagram Lrw number address bytes n)).lrw refl h
 
 lrw_misses : (s : SlaveState) (number address : ℕ) (bytes : List ℕ) (n : ℕ) → Misses s (record { from = 8 * address; bits = 8 * length bytes }) → n < 65536
     → meets s (process_datagram Lrw number address bytes n) ≡ record { slave = s; datagram = process_datagram Lrw number address bytes n }
-unfolding meets
-lrw_misses s number address bytes n h l = go s.kind.lrw
-  where
-    go : (b : Bool) → (if b then meets_logically true true 2 s (process_datagram Lrw number address bytes n) else record { slave = s; datagram = process_datagram Lrw number address bytes n }) ≡ record { slave = s; datagram = process_datagram Lrw number address bytes n }
-    go true = misses true true 2 s (process_datagram Lrw number address bytes n) h l
-    go false = refl
+lrw_misses s number address bytes n h l =
+    let m = logical_meet s (process_datagram Lrw number address bytes n) in
+    elim (cases_Bool s.kind.lrw) [
+      | inl e ↦ m.lrw refl e ∙ misses true true 2 s (process_datagram Lrw number address bytes n) h l
+      | inr e ↦ m.no_lrw refl e
+    ]
 
 lwr_meets : (s : SlaveState) (number address : ℕ) (bytes : List ℕ) (n : ℕ) → meets s (process_datagram Lwr number address bytes n) ≡ meets_logically false true 1 s (process_datagram Lwr number address bytes n)
-unfolding meets
-lwr_meets s number address bytes n = refl
+lwr_meets s number address bytes n = (logical_meet s (process_datagram Lwr number address bytes n)).lwr refl
 
 lrd_meets : (s : SlaveState) (number address : ℕ) (bytes : List ℕ) (n : ℕ) → meets s (process_datagram Lrd number address bytes n) ≡ meets_logically true false 1 s (process_datagram Lrd number address bytes n)
-unfolding meets
-lrd_meets s number address bytes n = refl
+lrd_meets s number address bytes n = (logical_meet s (process_datagram Lrd number address bytes n)).lrd refl
 
 -- the first datagram of a frame, and then the others
 pub passes_first : (s s1 : SlaveState) (x x1 : Datagram) (ds : List Datagram) → meets s x ≡ record { slave = s1; datagram = x1 }

@@ -12,6 +12,8 @@ use Rattle.ec_regs.specs.Types.{SlaveKind}
 use Rattle.ec_sync.specs.Buffer.{Buffer, emptied_buffer}
 use Rattle.ec_sync.specs.Manager.{Manager, no_manager, buffer_length}
 use Rattle.ec_al.specs.declared.state.State.TheVariants.{Init}
+use Rattle.ec_al.specs.Al.{Al as AlMachine}
+use Rattle.ec_slave.proofs.SwitchedOn.{switched_on}
 use Rattle.ec_slave.specs.State.{SlaveState, manager_at, power_on}
 use Rattle.ec_link.specs.declared.settings.Settings.{Settings}
 use Rattle.ec_link.specs.Meaning.{slave_at as settings_of}
@@ -36,7 +38,7 @@ use Rattle.ec_world.specs.Plain.{PlainSlave, Health, Working, Faulted, Reset, no
 use Rattle.ec_world.specs.World.{WorldState, Flight, no_slave, slave_of, flights_progress, is_up, phase_ready, phase_awaits}
 use Rattle.ec_world.specs.SlaveShows.{Holds, IsQuiet, HoldsData, IsAs, SlaveShows}
 use Rattle.ec_world.specs.Shows.{CyclesShow, said}
-use Rattle.ec_world.specs.Fitting.{AllFit}
+use Rattle.ec_slave.specs.Interface.{AreWhole}
 use Rattle.ec_world.specs.Rising.{SlotsHold, seen_of, Rising}
 use Rattle.ec_world.specs.Whole.{health_of, plain_slave_of, plain_of, ShowsZeros, IsReadyWorld}
 use Rattle.ec_world.proofs.Settings.{get_or-mapped, some_bits, no_bits, set_for_ins, unset}
@@ -67,10 +69,9 @@ shows-zeros : (b : Buffer) (n : ℕ) → unviewed b ≡ emptied_buffer n → Sho
 shows-zeros b n h = h ∙ ap (λ (k : ℕ). emptied_buffer k) (sym (ap (λ (x : Buffer). length x.published) h ∙ length-replicate {A = ℕ} n 0))
 
 on-zeros : (kind : SlaveKind) (identity : Identity) → ShowsZeros (plain_slave_of (power_on kind identity)).outputs
-unfolding power_on
-on-zeros kind identity = shows-zeros (manager_at (power_on kind identity).managers 2).buffer (buffer_length no_settings) refl
+on-zeros kind identity = subst (λ (ms : List Manager). ShowsZeros (manager_at ms 2).buffer) (sym (switched_on kind identity).managers) (shows-zeros no_manager.buffer (buffer_length no_settings) refl)
 
-module _ (i : ℕ) (p : Settings) (s : SlaveState) (listed : AreListed p) (good : IsStartable p) (slave : IsOfKind p.kind s) (fit : AllFit s) where
+module _ (i : ℕ) (p : Settings) (s : SlaveState) (listed : AreListed p) (good : IsStartable p) (slave : IsOfKind p.kind s) (fit : AreWhole s) where
   four-managers : length p.managers ≡ 4
   four-managers = ap length listed.managers
 
@@ -120,8 +121,7 @@ module _ (i : ℕ) (p : Settings) (s : SlaveState) (listed : AreListed p) (good 
       }
 
   state_on : s ≡ power_on s.kind s.identity → s.al.state ≡ Init
-  unfolding power_on
-  state_on e = ap (λ (x : SlaveState). x.al.state) e
+  state_on e = ap (λ (x : SlaveState). x.al.state) e ∙ ap (λ (a : AlMachine). a.state) (switched_on s.kind s.identity).al
 
   shown-as : (h : Health) → health_of s.al.state ≡ h → IsAs i p s (plain_slave_of s) h → SlaveShows i p s (plain_slave_of s)
   shown-as h e q = subst (λ (x : Health). IsAs i p s (plain_slave_of s) x) (sym e) q

@@ -37,10 +37,11 @@ use Rattle.ec_world.specs.declared.event.Event.{Event}
 use Rattle.ec_world.specs.declared.event.Event.TheVariants.{StartNext, Set, Begin, Pass, Lose, Return, Close, Serve, AppPut, AppGet, Fault, Reset as ResetSlave}
 use Rattle.ec_world.specs.Plain.{filled, may_pass, may_return}
 use Rattle.ec_world.specs.World.{WorldState, Flight, no_slave, slave_of, flight_at, flight_progress, flights_progress, is_up, awaits, phase_awaits, phase_ready, is_slave, can_happen, resumed, ready_with, ByStart, Sends, Passes, Returns, StartReturns, GivesUp, Closes, Happens, with_slave}
-use Rattle.ec_world.specs.Fitting.{AllFit}
+use Rattle.ec_slave.specs.Interface.{AreWhole}
 use Rattle.ec_world.specs.Whole.{flags_after}
 use Rattle.ec_world.specs.Rising.{IsInSlot, SlotsHold, seen_of, Rising}
-use Rattle.ec_world.proofs.Lengths.{met-fit, on-fits, fault-fits, put-fits, get-fits, serve-fits}
+use Rattle.ec_slave.proofs.StayWhole.{stay_whole}
+use Rattle.ec_slave.proofs.SwitchedOn.{on_whole}
 use Rattle.ec_world.proofs.InSlots.{get_or-set_default}
 
 none_some : {X : Type 0} (x : X) → None ≡ Some x → ⊥
@@ -122,7 +123,7 @@ module _ (flags : List Bool) (w : WorldState) (r : Rising flags w) where
   here k e = let l = ltb-true k (length w.slaves) e in omega (arith, l, r.starts.slaves.slaves)
 
   -- one slave becomes t, and its flag b
-  changed : (k : ℕ) (t : SlaveState) (b : Bool) (g : Option ℕ) → AllFit t → Starts (ends_of w.plan.slaves) (with_slave_at (seen_of w flags r.slot) k t b)
+  changed : (k : ℕ) (t : SlaveState) (b : Bool) (g : Option ℕ) → AreWhole t → Starts (ends_of w.plan.slaves) (with_slave_at (seen_of w flags r.slot) k t b)
       → Rising (set flags k b) (record (with_slave w k t) { got = g })
   changed k t b g fit starts = record {
     same_plan = r.same_plan;
@@ -130,36 +131,36 @@ module _ (flags : List Bool) (w : WorldState) (r : Rising flags w) where
     starts = starts;
     slots = r.slots;
     some_slots = r.some_slots;
-    fit = all-set AllFit w.slaves k t r.fit fit;
+    fit = all-set AreWhole w.slaves k t r.fit fit;
     master_plan = r.master_plan;
     no_cycle = r.no_cycle;
     master_ready = r.master_ready;
     no_report = r.no_report;
   }
 
-  unflagged : (k : ℕ) (t : SlaveState) (g : Option ℕ) → AllFit t → Starts (ends_of w.plan.slaves) (with_slave_at (seen_of w flags r.slot) k t (trouble_at flags k))
+  unflagged : (k : ℕ) (t : SlaveState) (g : Option ℕ) → AreWhole t → Starts (ends_of w.plan.slaves) (with_slave_at (seen_of w flags r.slot) k t (trouble_at flags k))
       → Rising flags (record (with_slave w k t) { got = g })
   unflagged k t g fit starts = subst (λ (fs : List Bool). Rising fs (record (with_slave w k t) { got = g })) (same-flag flags k) (changed k t (trouble_at flags k) g fit starts)
 
   serve-rises : (k : ℕ) → is_slave w k ≡ true → Rising flags (with_slave w k (served (slave_of w k)))
-  serve-rises k e = unflagged k (served (slave_of w k)) w.got (serve-fits (slave_of w k) (r.fit k))
+  serve-rises k e = unflagged k (served (slave_of w k)) w.got (stay_whole (slave_of w k) (r.fit k)).served
       (happens-starts (ends_of w.plan.slaves) (seen_of w flags r.slot) _ (Serves k (here k e) refl) r.starts)
 
   put-rises : (k i x : ℕ) (t : SlaveState) → is_slave w k ≡ true → input_put (slave_of w k) i x ≡ Some t → Rising flags (with_slave w k t)
-  put-rises k i x t e put = unflagged k t w.got (put-fits (slave_of w k) i x t (r.fit k) put)
+  put-rises k i x t e put = unflagged k t w.got ((stay_whole (slave_of w k) (r.fit k)).put i x t put)
       (subst (λ (s : SlaveState). Starts (ends_of w.plan.slaves) (with_slave_at (seen_of w flags r.slot) k s (trouble_at flags k))) (ap (λ (o : Option SlaveState). unwrap_or o (slave_of w k)) put)
       (happens-starts (ends_of w.plan.slaves) (seen_of w flags r.slot) _ (PutsOne k i x (here k e) refl) r.starts))
 
   fault-rises : (k : ℕ) → is_slave w k ≡ true → (slave_of w k).al.state ≡ Op → Rising (set flags k true) (with_slave w k (faulted (slave_of w k)))
-  fault-rises k e op = changed k (faulted (slave_of w k)) true w.got (fault-fits (slave_of w k) (r.fit k))
+  fault-rises k e op = changed k (faulted (slave_of w k)) true w.got (stay_whole (slave_of w k) (r.fit k)).faulted
       (happens-starts (ends_of w.plan.slaves) (seen_of w flags r.slot) _ (Faults k (here k e) op refl) r.starts)
 
   reset-rises : (k : ℕ) → is_slave w k ≡ true → Rising (set flags k true) (with_slave w k (power_on (slave_of w k).kind (slave_of w k).identity))
-  reset-rises k e = changed k (power_on (slave_of w k).kind (slave_of w k).identity) true w.got (on-fits (slave_of w k).kind (slave_of w k).identity)
+  reset-rises k e = changed k (power_on (slave_of w k).kind (slave_of w k).identity) true w.got (on_whole (slave_of w k).kind (slave_of w k).identity)
       (happens-starts (ends_of w.plan.slaves) (seen_of w flags r.slot) _ (Resets k (here k e) refl) r.starts)
 
   get-rises : (k i : ℕ) (g : Got) → is_slave w k ≡ true → output_got (slave_of w k) i ≡ Some g → Rising flags (record (with_slave w k (output_taken (slave_of w k) (Some g))) { got = Some g.byte })
-  get-rises k i g e got = unflagged k (output_taken (slave_of w k) (Some g)) (Some g.byte) (get-fits (slave_of w k) i g (r.fit k) got)
+  get-rises k i g e got = unflagged k (output_taken (slave_of w k) (Some g)) (Some g.byte) (subst (λ (o : Option Got). AreWhole (output_taken (slave_of w k) o)) got ((stay_whole (slave_of w k) (r.fit k)).taken i))
       (subst (λ (o : Option Got). Starts (ends_of w.plan.slaves) (with_slave_at (seen_of w flags r.slot) k (output_taken (slave_of w k) o) (trouble_at flags k))) got
       (happens-starts (ends_of w.plan.slaves) (seen_of w flags r.slot) _ (GetsOne k i (here k e) refl) r.starts))
 
@@ -238,7 +239,7 @@ module _ (flags : List Bool) (w : WorldState) (r : Rising flags w) where
           carried = own;
         };
         some_slots = set-some 0 (Some gone);
-        fit = all-set AllFit w.slaves c.passed (slave_met (slave_of w c.passed) c.datagram) r.fit (met-fit (slave_of w c.passed) c.datagram (r.fit c.passed));
+        fit = all-set AreWhole w.slaves c.passed (slave_met (slave_of w c.passed) c.datagram) r.fit ((stay_whole (slave_of w c.passed) (r.fit c.passed)).met c.datagram);
         master_plan = r.master_plan;
         no_cycle = r.no_cycle;
         master_ready = r.master_ready;

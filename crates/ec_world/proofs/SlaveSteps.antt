@@ -10,6 +10,11 @@ use Rattle.ec_sync.specs.Buffer.{emptied_buffer}
 use Rattle.ec_sync.specs.Manager.{Manager, no_manager, empty_manager, buffer_length}
 use Rattle.ec_al.specs.declared.state.State.TheVariants.{Init}
 use Rattle.ec_al.specs.Al as al
+use Rattle.ec_regs.specs.declared.slave_type.Identity.{Identity}
+use Rattle.ec_regs.specs.Types.{SlaveKind}
+use Rattle.ec_sii.specs.Port.{Sii}
+use Rattle.ec_slave.proofs.SwitchedOn.{switched_on}
+use Rattle.ec_slave.proofs.Meetings.{faults}
 use Rattle.ec_slave.specs.State.{SlaveState, manager_at, power_on}
 use Rattle.ec_link.specs.declared.settings.Settings.{Settings}
 use Rattle.ec_link.specs.Meaning.{slave_at}
@@ -91,8 +96,7 @@ here_of w p t b s e = elim (cases_lt t (length w.plan.slaves)) [
 -- ---- a firmware step
 
 managers_on : (s : SlaveState) → s ≡ power_on s.kind s.identity → (n : ℕ) → (manager_at s.managers n).mail ≡ None
-unfolding power_on
-managers_on s e n = ap (λ (x : SlaveState). (manager_at x.managers n).mail) e ∙ go n
+managers_on s e n = ap (λ (x : SlaveState). (manager_at x.managers n).mail) e ∙ (ap (λ (ms : List Manager). (manager_at ms n).mail) (switched_on s.kind s.identity).managers ∙ go n)
   where
     go : (n : ℕ) → (manager_at (no_manager ∷ no_manager ∷ no_manager ∷ no_manager ∷ []) n).mail ≡ None
     go zero = refl
@@ -102,8 +106,12 @@ managers_on s e n = ap (λ (x : SlaveState). (manager_at x.managers n).mail) e �
     go (suc (suc (suc (suc n)))) = refl
 
 quiet_on : (s : SlaveState) → s ≡ power_on s.kind s.identity → IsQuiet s
-unfolding power_on
-quiet_on s e = record { no_request = ap (λ (x : SlaveState). x.al.requested) e; no_read = ap (λ (x : SlaveState). x.sii.busy) e; no_message = managers_on s e }
+quiet_on s e =
+    let on = switched_on s.kind s.identity in record {
+      no_request = ap (λ (x : SlaveState). x.al.requested) e ∙ ap (λ (a : al.Al). a.requested) on.al;
+      no_read = ap (λ (x : SlaveState). x.sii.busy) e ∙ ap (λ (p : Sii). p.busy) on.sii;
+      no_message = managers_on s e;
+    }
 
 pub quiet : (i : ℕ) (p : Settings) (s : SlaveState) (q : PlainSlave) (x : Health) → IsAs i p s q x → IsQuiet s
 quiet i p s q Working h = h.quiet
@@ -120,8 +128,12 @@ serve_shows w p t s l =
 -- ---- a reset
 
 reset_is : (p : Settings) (s : SlaveState) → s.kind ≡ p.kind → IsReset p (power_on s.kind s.identity)
-unfolding power_on
-reset_is p s e = record { kind = e; as_on = refl }
+reset_is p s e =
+    let on = switched_on s.kind s.identity in
+    record {
+      kind = on.kind_is ∙ e;
+      as_on = sym (ap (λ (k : SlaveKind). power_on k (power_on s.kind s.identity).identity) on.kind_is ∙ ap (λ (i : Identity). power_on s.kind i) on.identity_is);
+    }
 
 kind_of : (i : ℕ) (p : Settings) (s : SlaveState) (q : PlainSlave) (x : Health) → IsAs i p s q x → s.kind ≡ p.kind
 kind_of i p s q Working h = h.holds.kind
@@ -142,8 +154,7 @@ abbrev fallen : SlaveState → SlaveState
 fallen s = record s { al = al.faulted s.al; managers = set s.managers 2 (empty_manager (manager_at s.managers 2).settings true) }
 
 fault_made : (s : SlaveState) → al.is_operational s.al.state ≡ true → faulted s ≡ fallen s
-unfolding faulted
-fault_made s e = if_true _ _ _ e
+fault_made s e = (faults s).in_op e
 
 pub out_length : (p : Settings) → AreListed p → buffer_length (output_manager p) ≡ bytes_of_bits p.share.outs
 out_length p a = elim (cases_lt 0 p.share.outs) [
@@ -195,8 +206,7 @@ module _ (i : ℕ) (p : Settings) (s : SlaveState) (q : PlainSlave) (fits : AreL
       }
 
   pub state_on : s ≡ power_on s.kind s.identity → s.al.state ≡ Init
-  unfolding power_on
-  state_on e = ap (λ (x : SlaveState). x.al.state) e
+  state_on e = ap (λ (x : SlaveState). x.al.state) e ∙ ap (λ (a : al.Al). a.state) (switched_on s.kind s.identity).al
 
   pub fault_let : (x : Health) → IsAs i p s q x → al.is_operational s.al.state ≡ is_working x
   fault_let Working h = ap al.is_operational h.state

@@ -4,6 +4,8 @@ use Rattle.std.proofs.lemmas.Bool.{cases_Bool, and_from, lt-ltb, eq-eqb}
 use Rattle.ec_regs.specs.declared.slave_type.Identity.{Identity}
 use Rattle.ec_al.specs.declared.state.State.TheVariants.{SafeOp, Op}
 use Rattle.ec_al.specs.Al as al
+use Rattle.ec_bits.proofs.AnyLaws.{if_true}
+use Rattle.ec_slave.proofs.Meetings.{faults}
 use Rattle.ec_slave.specs.State.{SlaveState}
 use Rattle.ec_slave.specs.Faulting.{faulted}
 use Rattle.ec_table.specs.Contents.{Contents}
@@ -97,8 +99,9 @@ early_law t ids w r k l v made run_on = spoiled t ids w b [] c v made (unit_of_p
 -- ---- a slave that falls short
 
 fallen : (s : SlaveState) → s.al.state ≡ Op → (faulted s).al.state ≡ SafeOp
-unfolding faulted
-fallen s e = rw e refl
+fallen s e =
+    let on : al.is_operational s.al.state ≡ true = ap al.is_operational e in
+    ap (λ (t : SlaveState). t.al.state) ((faults s).in_op on) ∙ ap (λ (a : al.Al). a.state) (if_true (al.is_operational s.al.state) _ s.al on)
 
 pub short_law : ShortLaw
 short_law t ids w r s l some v made run_on = record {

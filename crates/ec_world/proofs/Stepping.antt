@@ -9,6 +9,7 @@ use Rattle.ec_al.specs.Al as al
 use Rattle.ec_al.specs.declared.state.State.{State}
 use Rattle.ec_al.specs.declared.state.State.TheVariants.{Init, PreOp, SafeOp, Op}
 use Rattle.ec_sync.specs.Buffer.{Got}
+use Rattle.ec_slave.proofs.Meetings.{faults}
 use Rattle.ec_slave.specs.State.{SlaveState}
 use Rattle.ec_slave.specs.Application.{input_put, output_got, output_taken}
 use Rattle.ec_slave.specs.Faulting.{faulted}
@@ -102,13 +103,12 @@ no-get-step w s i old t l there byte after = go (output_got (slave_of w s) i) re
 
 pub fault-step : (w : WorldState) (s : ℕ) (made : Bool) (old t : SlaveState) → s < length w.slaves → slice_get w.slaves s ≡ Some old
     → (IsTrue made ↔ (old.al.state ≡ Op)) → t ≡ faulted old → IsStep w (Fault s) (with_slave w s t) made
-unfolding faulted
 fault-step w s made old t l there taken after =
     let e = lent w s old there in
     let same : made ≡ al.is_operational (slave_of w s).al.state = subst (λ (y : SlaveState). made ≡ al.is_operational y.al.state) e (by made old.al.state taken) in record {
       can = same ∙ sym (there-is s (length w.slaves) (al.is_operational (slave_of w s).al.state) l);
       happens = λ m. ap (λ (y : SlaveState). with_slave w s y) (subst (λ (y : SlaveState). t ≡ faulted y) e after);
-      refused = λ m. same-slave w s t (subst (λ (y : SlaveState). t ≡ faulted y) e after ∙ stays (slave_of w s) (sym same ∙ m));
+      refused = λ m. same-slave w s t (subst (λ (y : SlaveState). t ≡ faulted y) e after ∙ (faults (slave_of w s)).elsewhere (sym same ∙ m));
     }
   where
     by : (b : Bool) (st : State) → (IsTrue b ↔ (st ≡ Op)) → b ≡ al.is_operational st
@@ -120,9 +120,6 @@ fault-step w s made old t l there taken after =
     by false Init h = refl
     by false PreOp h = refl
     by false SafeOp h = refl
-
-    stays : (y : SlaveState) → al.is_operational y.al.state ≡ false → faulted y ≡ y
-    stays y q = rw q
 
 -- ---- a frame passes its next slave
 

@@ -21,10 +21,10 @@ use Rattle.ec_rise.proofs.Theorem.{begun-starts}
 use Rattle.ec_world.specs.declared.event.Event.{Event}
 use Rattle.ec_world.specs.World.{WorldState, Flight, no_slave, is_up, IsStep}
 use Rattle.ec_world.specs.Laws.{IsRun}
-use Rattle.ec_world.specs.Fitting.{AllFit}
+use Rattle.ec_slave.specs.Interface.{AreWhole}
 use Rattle.ec_world.specs.Whole.{flags_after, plain_of, IsReadyWorld, slot_count, new_world, HasStarted, Told, NotYet, Started, WholeLaw, CompiledLaw}
 use Rattle.ec_world.specs.Rising.{seen_of, Rising}
-use Rattle.ec_world.proofs.Lengths.{on-fits}
+use Rattle.ec_slave.proofs.SwitchedOn.{on_whole}
 use Rattle.ec_world.proofs.RisingSteps.{event-rises, event-plan}
 use Rattle.ec_world.proofs.Readies.{ready-world}
 use Rattle.ec_world.proofs.Runs.{runs_show}
@@ -45,10 +45,10 @@ on-slave (p ∷ ps) [] k e l = absurd (omega (arith, e))
 on-slave (p ∷ ps) (i ∷ is) zero e l = power_on_is p.kind i
 on-slave (p ∷ ps) (i ∷ is) (suc k) e l = on-slave ps is k (omega (arith, e)) (omega (arith, l))
 
-on-fit : (ps : List Settings) (is : List Identity) (k : ℕ) → AllFit (get_or (switched_on ps is) k no_slave)
-on-fit [] is k = on-fits plain_kind (device_identity plain_kind.device 0)
-on-fit (p ∷ ps) [] k = on-fits plain_kind (device_identity plain_kind.device 0)
-on-fit (p ∷ ps) (i ∷ is) zero = on-fits p.kind i
+on-fit : (ps : List Settings) (is : List Identity) (k : ℕ) → AreWhole (get_or (switched_on ps is) k no_slave)
+on-fit [] is k = on_whole plain_kind (device_identity plain_kind.device 0)
+on-fit (p ∷ ps) [] k = on_whole plain_kind (device_identity plain_kind.device 0)
+on-fit (p ∷ ps) (i ∷ is) zero = on_whole p.kind i
 on-fit (p ∷ ps) (i ∷ is) (suc k) = on-fit ps is k
 
 none-yet : (n k : ℕ) → (let o : Option Flight = None in get_or (replicate n o) k o) ≡ None

@@ -36,5 +36,4 @@ pub mod Slots
 -- the frames of an open cycle, and who is handed a payload that comes back
 pub mod Held
 -- what holds of a world that starts up
-pub mod Fitting
 pub mod Rising

@@ -5,7 +5,7 @@ use Rattle.ec_rise.specs.Instants.{Starts}
 use Rattle.ec_rise.specs.Slots.{IsCarried}
 use Rattle.ec_rise.specs.Runs.{ends_of}
 use Rattle.ec_world.specs.World.{WorldState, Flight, is_up, slave_of}
-use Rattle.ec_world.specs.Fitting.{AllFit}
+use Rattle.ec_slave.specs.Interface.{AreWhole}
 
 -- one frame in the lowest slot, or none in any
 pub record IsInSlot (slots : List (Option Flight)) (c : Carried) : Type 0 where
@@ -31,7 +31,7 @@ pub record Rising (flags : List Bool) (w : WorldState) : Type 0 where
   pub starts : Starts (ends_of w.plan.slaves) (seen_of w flags slot)
   pub slots : SlotsHold w.slots slot
   pub some_slots : 0 < length w.slots
-  pub fit : (i : ℕ) → AllFit (slave_of w i)
+  pub fit : (i : ℕ) → AreWhole (slave_of w i)
   pub master_plan : w.master.plan ≡ w.plan
   pub no_cycle : w.master.cycle ≡ None
   pub master_ready : w.master.is_ready ≡ is_up w.start
