@@ -1,0 +1,2 @@
+pub mod TakeLemmas
+mod TextLemmas

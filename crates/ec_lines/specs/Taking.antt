@@ -1,0 +1,85 @@
+-- The lines that an input gives, and the text before a line `%%` (choices of this project).
+use Rattle.std.specs.Prelude.{◌≡◌, ◌≢◌, ◌⊎◌, ℕ, ◌+◌, ◌-◌, ◌^◌, ◌<◌, ◌==◌, ◌&&◌, ◌||◌, nat_le, All, List, [], ◌∷◌, ◌++◌, length, take, slice_index, Bool, true, false, if◌then◌else◌, Option, string_bytes}
+use Rattle.std.specs.Io.KnownBytes.{Consumes, IsAtEnd}
+use Rattle.std.specs.Str.{IsUtf8, bytes_eq, is_utf8}
+use Rattle.std.specs.Str.Lines.{strip_carriage_return}
+use Rattle.ec_lines.specs.declared.error.LinesError.{LinesError}
+use Rattle.ec_lines.specs.declared.error.LinesError.TheVariants.{Memory, Unread, TooLong, NoText}
+use Rattle.ec_lines.specs.declared.lines.Taken.{Taken}
+use Rattle.ec_lines.specs.declared.lines.Taken.TheVariants as taken
+
+-- ---- lines
+
+-- A line is taken from an input, with its end, which is a newline; or what is left behind the last newline, which may be nothing.
+pub record TakesLine (old new : Option (List ℕ)) (line : List ℕ) : Type 0 where
+  pub front : List ℕ
+  pub unended : All (λ b. b ≢ 10) front
+  pub taken : Consumes old new line
+  pub ends : (line ≡ front ++ (10 ∷ [])) ⊎ ((line ≡ front) × IsAtEnd new)
+
+-- without its end, which is a newline, and the carriage return before it
+abbrev pub without_end : List ℕ → List ℕ
+without_end line = if slice_index line (length line - 1) == 10 then strip_carriage_return (take (length line - 1) line) else line
+
+-- 2^20 bytes at most, which are text
+abbrev pub is_text : List ℕ → Bool
+is_text bytes = nat_le (length bytes) (2 ^ 20) && is_utf8 bytes
+
+abbrev pub is_text_line : List ℕ → Bool
+is_text_line line = is_text (without_end line)
+
+-- as what a line is taken; where it is nothing, the input has ended
+abbrev pub IsTaken : List ℕ → Taken → Type 0
+IsTaken line taken.End = line ≡ []
+IsTaken line (taken.Text text) = (0 < length line) × (is_text_line line ≡ true) × (string_bytes text ≡ without_end line)
+IsTaken line taken.NoText = (0 < length line) × (is_text_line line ≡ false)
+
+-- lines one after another, each of a byte at least
+abbrev pub TakesLines : Option (List ℕ) → Option (List ℕ) → List (List ℕ) → Type 0
+TakesLines old new [] = new ≡ old
+TakesLines old new (line ∷ lines) = (mid : Option (List ℕ)) × TakesLine old mid line × (0 < length line) × TakesLines mid new lines
+
+-- ---- a text and a line behind it
+
+-- the line behind a text
+abbrev pub is_divider : List ℕ → Bool
+is_divider line = bytes_eq line (37 ∷ 37 ∷ 10 ∷ []) || (bytes_eq line (37 ∷ 37 ∷ 13 ∷ 10 ∷ []) || bytes_eq line (37 ∷ 37 ∷ []))
+
+-- lines in one text
+abbrev pub joined : List (List ℕ) → List ℕ
+joined [] = []
+joined (line ∷ lines) = line ++ joined lines
+
+-- lines are taken, none of which ends a text, and these are their bytes
+pub record TakesUndivided (old new : Option (List ℕ)) (text : List ℕ) : Type 0 where
+  pub lines : List (List ℕ)
+  pub taken : TakesLines old new lines
+  pub none : All (λ line. is_divider line ≡ false) lines
+  pub whole : text ≡ joined lines
+
+-- the lines before the first such line, or all that are left; and that line
+pub record TakesText (old new : Option (List ℕ)) (text : List ℕ) : Type 0 where
+  pub mid : Option (List ℕ)
+  pub taken : TakesUndivided old mid text
+  pub last : List ℕ
+  pub end : TakesLine mid new last
+  pub stops : (last ≡ []) ⊎ (is_divider last ≡ true)
+
+-- ---- refusals
+
+-- some bytes are taken, and the others are left
+abbrev pub TakesPart : Option (List ℕ) → Option (List ℕ) → Type 0
+TakesPart old new = (part : List ℕ) × Consumes old new part
+
+-- what a line is refused by
+abbrev pub IsReadFault : LinesError → Type 0
+IsReadFault Memory = Unit {0}
+IsReadFault Unread = Unit {0}
+IsReadFault _ = ⊥
+
+-- what a text is refused by: its first lines have too many bytes, or all of it is no text
+abbrev pub RefusesText : Option (List ℕ) → Option (List ℕ) → LinesError → Type 0
+RefusesText old new Memory = TakesPart old new
+RefusesText old new Unread = TakesPart old new
+RefusesText old new TooLong = (text : List ℕ) × TakesUndivided old new text × (2 ^ 20 < length text)
+RefusesText old new NoText = (text : List ℕ) × TakesText old new text × (IsUtf8 text → ⊥)

@@ -1,0 +1,43 @@
+//! Why an input gives no line, or no text.
+
+use std::alloc::{AllocError, AllocFailed};
+use thiserror::Error;
+
+/// Why an input gives no line, or no text before a line `%%`.
+#[derive(Clone, Copy, Debug, PartialEq, Eq, Drop, Error)]
+pub enum LinesError {
+    /// Memory ran out; what the input gives may be good or bad.
+    #[error("out of memory")]
+    Memory,
+    /// A read was refused, and not for an interruption.
+    #[error("the input can't be read")]
+    Unread,
+    /// The text has more than `MAX_BYTES` bytes.
+    #[error("the text is too long")]
+    TooLong,
+    /// The bytes are no text in UTF-8.
+    #[error("the bytes are no text")]
+    NoText,
+}
+
+impl From<AllocError> for LinesError {
+    ghost use Rattle.std.specs.Prelude.{◌≡◌};
+    ghost use Rattle.ec_lines.specs.declared.error.LinesError.TheVariants.{Memory};
+
+    ghost from_gives = { λ _ error. error ≡ Memory };
+
+    fn from(_error: AllocError) -> LinesError {
+        LinesError::Memory
+    }
+}
+
+impl<T: Drop> From<AllocFailed<T>> for LinesError {
+    ghost use Rattle.std.specs.Prelude.{◌≡◌};
+    ghost use Rattle.ec_lines.specs.declared.error.LinesError.TheVariants.{Memory};
+
+    ghost from_gives = { λ _ error. error ≡ Memory };
+
+    fn from(_error: AllocFailed<T>) -> LinesError {
+        LinesError::Memory
+    }
+}

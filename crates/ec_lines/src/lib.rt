@@ -1,0 +1,8 @@
+//! Lines that an input gives, each taken as it comes, and the text in front of a line `%%`.
+#![tactic(auto)]
+
+mod error;
+mod lines;
+
+pub use crate::error::LinesError;
+pub use crate::lines::{MAX_BYTES, Taken, take_line, take_text};

@@ -1,0 +1,176 @@
+//! Lines, each up to its end, and the text before a line `%%`.
+ghost use Rattle.std.specs.Prelude.{◌≡◌, ◌≤◌, ◌^◌, ◌++◌, List, ℕ, IfErr, IfOk, OnErr, OnOk, length, string_bytes};
+ghost use Rattle.std.specs.Str.{IsUtf8};
+ghost use Rattle.ec_lines.specs.Kept.{IsAddFault, RefusesLines, TakesKept, is_last, kept_more};
+ghost use Rattle.ec_lines.specs.Taking.{IsReadFault, IsTaken, RefusesText, TakesPart, TakesLine, TakesText, is_divider, without_end};
+
+use crate::LinesError;
+use std::alloc::{AllocError, Global};
+use std::io::{ErrorKind, Read};
+
+/// The most bytes of a text, and of a line without its end.
+pub const MAX_BYTES: usize = 1 << 20;
+
+/// As many bytes of a line with its end as tell whether it is too long.
+const MAX_KEPT: usize = MAX_BYTES + 3;
+
+/// What is taken of an input as its next line.
+#[derive(Debug, PartialEq, Eq, Drop)]
+pub enum Taken {
+    /// The input has ended.
+    End,
+    /// A line of text, without its end.
+    Text(String),
+    /// A line that has more than `MAX_BYTES` bytes, or is no text in UTF-8.
+    NoText,
+}
+
+/// Keeps a byte of a line, of which so many are kept at most.
+fn keep(line: &mut Vec<u8>, most: usize, byte: u8) -> Result<(), AllocError>
+    ensures { OnOk result (line.new.items ≡ kept_more most line.old.items byte) }
+{
+    if line.len() < most {
+        line.push(byte)?;
+    }
+    Ok(())
+}
+
+/// Takes bytes of an input up to the end of a line, or all that are left, and answers the first of them, at most so many. An
+/// interrupted read is made again.
+fn take_bytes<R: Read>(alloc: Global, input: &mut R, most: usize) -> Result<Vec<u8>, LinesError>
+    ensures taken { IfOk result (λ kept.
+        TakesKept (R.remaining input.old) (R.remaining input.new) most kept.items) }
+    ensures refused { IfErr result IsReadFault }
+    ensures left { OnErr result (TakesPart (R.remaining input.old) (R.remaining input.new)) }
+{
+    let mut line = Vec::new(alloc);
+    let mut byte = [0];
+    for _ in 0..u64::MAX {
+        match input.read(&mut byte) {
+            Ok(0) => return Ok(line),
+            Ok(_) => {
+                keep(&mut line, most, byte[0])?;
+                if byte[0] == b'\n' {
+                    return Ok(line);
+                }
+            }
+            Err(error) if error.kind() == ErrorKind::Interrupted => {}
+            Err(_) => return Err(LinesError::Unread),
+        }
+    }
+    Err(LinesError::Unread)
+}
+
+/// A line without its end.
+fn without_end(line: &[u8]) -> &[u8]
+    ensures { result.now ≡ without_end line.now }
+{
+    match line.strip_suffix(b"\n".as_slice()) {
+        Some(line) => line.strip_suffix(b"\r".as_slice()).unwrap_or(line),
+        None => line,
+    }
+}
+
+/// What bytes are as a line, with its end.
+fn taken_of(alloc: Global, line: &[u8]) -> Result<Taken, AllocError>
+    ensures { IfOk result (IsTaken line.now) }
+{
+    if line.is_empty() {
+        return Ok(Taken::End);
+    }
+    let line = without_end(line);
+    if line.len() > MAX_BYTES {
+        return Ok(Taken::NoText);
+    }
+    match str::from_utf8(line) {
+        Ok(text) => Ok(Taken::Text(String::from_str(alloc, text)?)),
+        Err(_) => Ok(Taken::NoText),
+    }
+}
+
+/// Takes the next line of an input: all bytes up to a newline, or to the end of the input. Nothing behind them is taken. An
+/// interrupted read is made again. A line that is too long or no text is taken as a whole too.
+///
+/// # Errors
+///
+/// `LinesError::Unread` where a read is refused, and `Memory`; some bytes of the line may be taken by then.
+pub fn take_line<R: Read>(alloc: Global, input: &mut R) -> Result<Taken, LinesError>
+    ensures taken { IfOk result (λ taken. (line : List ℕ)
+        × TakesLine (R.remaining input.old) (R.remaining input.new) line × IsTaken line taken) }
+    ensures refused { IfErr result IsReadFault }
+    ensures left { OnErr result (TakesPart (R.remaining input.old) (R.remaining input.new)) }
+{
+    let line = take_bytes(alloc, input, MAX_KEPT)?;
+    Ok(taken_of(alloc, &line)?)
+}
+
+/// Whether a line, with its end, is the one behind a text.
+fn is_divider(line: &[u8]) -> bool
+    ensures { result ≡ is_divider line.now }
+{
+    line == b"%%\n".as_slice() || line == b"%%\r\n".as_slice() || line == b"%%".as_slice()
+}
+
+/// Whether a line, with its end, is the last one that is taken of a text.
+fn is_last(line: &[u8]) -> bool
+    ensures { result ≡ is_last line.now }
+{
+    line.is_empty() || is_divider(line)
+}
+
+/// Adds a line to a text, if that has room for it.
+fn add_line(text: &mut Vec<u8>, line: &[u8]) -> Result<(), LinesError>
+    ensures added { OnOk result (text.new.items ≡ text.old.items ++ line.now) }
+    ensures short { OnOk result (length text.new.items ≤ 2 ^ 20) }
+    ensures refused { IfErr result (IsAddFault text.old.items line.now) }
+{
+    text.extend_from_slice(line)?;
+    if text.len() > MAX_BYTES {
+        return Err(LinesError::TooLong);
+    }
+    Ok(())
+}
+
+/// Takes the lines before a line `%%`, and that line; or all that are left.
+fn take_lines<R: Read>(alloc: Global, input: &mut R) -> Result<Vec<u8>, LinesError>
+    ensures taken { IfOk result (λ text.
+        TakesText (R.remaining input.old) (R.remaining input.new) text.items) }
+    ensures short { IfOk result (λ text. length text.items ≤ 2 ^ 20) }
+    ensures refused { IfErr result (RefusesLines (R.remaining input.old) (R.remaining input.new)) }
+{
+    let mut text = Vec::new(alloc);
+    for _ in 0..u64::MAX {
+        let line = take_bytes(alloc, input, MAX_KEPT)?;
+        if is_last(&line) {
+            return Ok(text);
+        }
+        add_line(&mut text, &line)?;
+    }
+    Err(LinesError::Unread)
+}
+
+/// The text that bytes are.
+fn text_of(bytes: Vec<u8>) -> Result<String, LinesError>
+    ensures same { IfOk result (λ text. string_bytes text ≡ bytes.items) }
+    ensures refused { IfErr result (λ error. (error ≡ LinesError.NoText)
+        × (IsUtf8 bytes.items → ⊥)) }
+{
+    String::from_utf8(bytes).map_err(|_| LinesError::NoText)
+}
+
+/// Takes the text before a line `%%`, and that line, which may end in `\r\n` or be the last one without an end; or all that is
+/// left, where there is no such line. Nothing behind it is taken. An interrupted read is made again.
+///
+/// # Errors
+///
+/// `LinesError::TooLong` where the text has more than 2^20 bytes, as soon as they are taken; `NoText` where it isn't UTF-8;
+/// `Unread` where a read is refused, and `Memory`.
+pub fn take_text<R: Read>(alloc: Global, input: &mut R) -> Result<String, LinesError>
+    ensures taken { IfOk result (λ text.
+        TakesText (R.remaining input.old) (R.remaining input.new) (string_bytes text)) }
+    ensures short { IfOk result (λ text. length (string_bytes text) ≤ 2 ^ 20) }
+    ensures refused { IfErr result (RefusesText (R.remaining input.old) (R.remaining input.new)) }
+{
+    let bytes = take_lines(alloc, input)?;
+    text_of(bytes)
+}
