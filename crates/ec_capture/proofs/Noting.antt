@@ -1,6 +1,6 @@
 -- Packets noted one after the other.
-use Rattle.std.proofs.Common.{ℕ, ◌≡◌, ◌∙◌, refl, sym, ap, subst, List, [], ◌∷◌, ◌++◌, append_assoc, map, Bool, true, false, Option, None, Some}
-use Rattle.std.proofs.lemmas.List.{append-nil, map-append}
+use Rattle.std.proofs.Common.{ℕ, ◌≡◌, ◌∙◌, refl, sym, ap, subst, List, [], ◌∷◌, ◌++◌, append_assoc, map, Bool, true, false}
+use Rattle.std.proofs.lemmas.List.{map-append}
 use Rattle.std.specs.Io.KnownBytes.{Appends}
 use Rattle.ec_capture.specs.Blocks.{Block, block_bytes, blocks_bytes}
 use Rattle.ec_capture.specs.Captures.{Seen, packet_block}

@@ -1,5 +1,5 @@
 -- A capture that is being written.
-use Rattle.std.specs.Prelude.{ℕ, ◌≡◌, ◌<◌, List, map, Bool, true, false, Option}
+use Rattle.std.specs.Prelude.{ℕ, ◌≡◌, List, map, Bool, true, false, Option}
 use Rattle.std.specs.Io.KnownBytes.{Appends}
 use Rattle.ec_capture.specs.Blocks.{blocks_bytes}
 use Rattle.ec_capture.specs.Captures.{Seen, packet_block}

@@ -1,5 +1,5 @@
 //! A capture that is being written.
-ghost use Rattle.std.specs.Prelude.{◌≡◌, ◌<◌, ◌≤◌, ◌∷◌, [], All, IfOk, IsOk, false, length, map, option_map, true};
+ghost use Rattle.std.specs.Prelude.{◌≡◌, ◌<◌, ◌∷◌, [], All, IfOk, IsOk, false, length, map, option_map, true};
 ghost use Rattle.std.specs.Io.KnownBytes.{Appends, Keeps};
 ghost use Rattle.ec_capture.specs.Captures.{IsComment, IsText, file_of, interface_block, packet_block, seen_as};
 ghost use Rattle.ec_capture.specs.Blocks.{block_bytes, blocks_bytes};

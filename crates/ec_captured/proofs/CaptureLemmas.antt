@@ -1,5 +1,5 @@
 -- The names of interfaces, and how a command ends that has a capture.
-use Rattle.std.proofs.Common.{◌≡◌, ◌⊎◌, inl, inr, ℕ, List, [], ◌∷◌, ◌++◌, All, map, refl, sym, subst, Result, Ok, Err, IfErr, IfOk, OnErr, IsErrAnd}
+use Rattle.std.proofs.Common.{◌≡◌, inl, inr, ℕ, List, [], ◌∷◌, ◌++◌, All, map, refl, sym, subst, Result, Ok, Err, IfErr, IfOk, OnErr, IsErrAnd}
 use Rattle.std.proofs.lemmas.List.{map-append}
 use Rattle.std.proofs.lemmas.List.Elements.{All-append, All-cons, All-nil}
 use Rattle.ec_capture.specs.Captures.{IsText}
