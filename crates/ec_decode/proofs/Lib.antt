@@ -1,4 +1,5 @@
 pub mod Adding
+pub mod Cutting
 pub mod Encoding
 pub mod Holdings
 pub mod Lines
@@ -8,5 +9,7 @@ pub mod Places
 pub mod ReadingFrames
 pub mod ReadingLines
 pub mod ReadingWords
+pub mod Skipping
+pub mod Staying
 pub mod Verbs
 pub mod Walking

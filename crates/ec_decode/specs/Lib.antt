@@ -5,6 +5,8 @@ pub mod Words
 pub mod Lines
 pub mod Reading
 pub mod Answers
+-- indented lines, which say something for people: the text without them, and how remarks stand within a text
+pub mod Indented
 -- Laws: other words for the same, proved.
 pub mod Laws
 -- Private: these serve private code alone, and no public clause cites them.

@@ -1,5 +1,5 @@
 //! The text of a frame.
-ghost use Rattle.std.specs.Prelude.{◌≡◌, ◌++◌, List, OnOk, length, string_bytes};
+ghost use Rattle.std.specs.Prelude.{◌≡◌, ◌++◌, OnOk, length, string_bytes};
 ghost use Rattle.ec_frame.specs.Frame.{IsFrame, Payload};
 ghost use Rattle.ec_decode.specs.FrameText.{frame_text, heading_line, reserved_bit_words, rest_words};
 ghost use Rattle.ec_decode.specs.FrameText.{spaced};

@@ -1,0 +1,5 @@
+-- To be believed: which datagrams are process datagrams of a plan, and what their bits are.
+pub mod Processes
+pub mod Carrying
+-- Private: these serve private code and its proofs alone.
+pub mod Placing

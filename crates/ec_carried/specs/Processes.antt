@@ -1,0 +1,45 @@
+-- Which datagrams carry the process data of a part, and with which working counter they are predicted to come back (ETG.1000.4,
+-- "Logical addressing"; that a part goes by one LRW, or by an LWR and an LRD over the same bytes, is a choice of this project).
+use Rattle.std.specs.Prelude.{ℕ, ◌==◌, ◌&&◌, ◌||◌, not, Bool, true, false, Option, Some, None, position, option_map}
+use Rattle.ec_frame.specs.declared.command.Command.{Command}
+use Rattle.ec_frame.specs.declared.command.Command.TheVariants.{Lrd, Lwr, Lrw}
+use Rattle.ec_link.specs.declared.plan.PartPlan.{PartPlan}
+use Rattle.ec_link.specs.declared.plan.Predicted.{Predicted}
+use Rattle.ec_link.specs.declared.plan.Predicted.TheVariants as counters
+use Rattle.ec_link.specs.Plan.{PlanState}
+use Rattle.ec_carried.specs.declared.process.Process.{Process}
+use Rattle.ec_carried.specs.declared.process.Way.{Way}
+use Rattle.ec_carried.specs.declared.process.Way.TheVariants.{Both, Write, Read}
+
+abbrev pub way_of : Command → Option Way
+way_of Lrw = Some Both
+way_of Lwr = Some Write
+way_of Lrd = Some Read
+way_of _ = None
+
+-- the parts that go by an LWR and an LRD
+abbrev pub is_split : Way → Bool
+is_split Both = false
+is_split Write = true
+is_split Read = true
+
+-- a datagram over all bytes of the part and no others, of a command by which the part goes
+abbrev pub is_of : (split : Bool) (address size : ℕ) → PartPlan → Bool
+is_of split address size part = ((part.address == address) && (part.bytes == size)) && ((part.split && split) || not (part.split || split))
+
+abbrev pub process_by : PlanState → (address size : ℕ) → Way → Option Process
+process_by p address size way = option_map (λ k. record { part = k; way = way }) (position (is_of (is_split way) address size) p.parts)
+
+-- the part that a datagram of a command, an address and so many bytes of data is of, if it is of one
+abbrev pub process_of : PlanState → Option Way → (address size : ℕ) → Option Process
+process_of p None address size = None
+process_of p (Some way) address size = process_by p address size way
+
+-- of the predicted counters that of a datagram; a part that isn't split has an LRW alone
+abbrev pub counter_of : Way → Predicted → Option ℕ
+counter_of Both (counters.Lrw n) = Some n
+counter_of Both (counters.Split w r) = None
+counter_of Write (counters.Lrw n) = None
+counter_of Write (counters.Split w r) = Some w
+counter_of Read (counters.Lrw n) = None
+counter_of Read (counters.Split w r) = Some r

@@ -1,0 +1,105 @@
+//! The process datagrams of a plan.
+ghost use Rattle.std.specs.Prelude.{◌≡◌, ◌<◌, IfSome, length, position};
+ghost use Rattle.ec_link.specs.Plan.{part_at};
+ghost use Rattle.ec_link.specs.Shares.{predicted};
+ghost use Rattle.ec_carried.specs.Processes.{counter_of, is_of, is_split, process_by, process_of, way_of};
+
+use ec_frame::Command;
+use ec_link::{PartPlan, Plan, Predicted};
+
+/// How a datagram moves process data.
+#[derive(Clone, Copy, Debug, PartialEq, Eq)]
+pub enum Way {
+    /// By an LRW: outputs to the slaves, and inputs from them.
+    Both,
+    /// By an LWR: outputs to the slaves.
+    Write,
+    /// By an LRD: inputs from the slaves.
+    Read,
+}
+
+/// A process datagram of a plan.
+#[derive(Clone, Copy, Debug, PartialEq, Eq)]
+pub struct Process {
+    /// The part that it is of.
+    pub part: usize,
+    /// How it moves the part's data.
+    pub way: Way,
+}
+
+impl Way {
+    /// That of a logical command.
+    pub fn of(command: Command) -> Option<Way>
+        ensures { result ≡ way_of command }
+    {
+        match command {
+            Command::Lrw => Some(Way::Both),
+            Command::Lwr => Some(Way::Write),
+            Command::Lrd => Some(Way::Read),
+            _ => None,
+        }
+    }
+
+    /// Whether parts that are split go by it.
+    pub fn is_split(self) -> bool
+        ensures { result ≡ is_split self }
+    {
+        match self {
+            Way::Both => false,
+            Way::Write | Way::Read => true,
+        }
+    }
+}
+
+/// Whether a datagram over these bytes carries the data of a part.
+fn is_of(part: &PartPlan, split: bool, address: u32, size: usize) -> bool
+    ensures { result ≡ is_of split address size part.now }
+{
+    part.address == address
+        && part.bytes == size
+        && ((part.split && split) || !(part.split || split))
+}
+
+/// The place of the part that a datagram over these bytes carries the data of.
+fn find_part(plan: &Plan, split: bool, address: u32, size: usize) -> Option<usize>
+    ensures value { result ≡ position (is_of split address size) plan.now.parts }
+    ensures there { IfSome result (λ part. part < length plan.now.parts) }
+{
+    plan.parts()
+        .iter()
+        .position(|part| is_of(part, split, address, size))
+}
+
+/// The part of a plan that a datagram of a way is of.
+fn find_by(plan: &Plan, address: u32, size: usize, way: Way) -> Option<Process>
+    ensures value { result ≡ process_by plan.now address size way }
+    ensures there { IfSome result (λ process. process.part < length plan.now.parts) }
+    ensures whole { IfSome result (λ process. size ≡ (part_at plan.now.parts process.part).bytes) }
+{
+    let part = find_part(plan, way.is_split(), address, size)?;
+    Some(Process { part, way })
+}
+
+/// The part of a plan that a datagram with a command, a logical address and so many bytes of data is of,
+/// and how it moves the part's data; none where it is no process datagram of the plan.
+pub fn find_process(plan: &Plan, command: Command, address: u32, size: usize) -> Option<Process>
+    ensures value { result ≡ process_of plan.now (way_of command) address size }
+    ensures there { IfSome result (λ process. process.part < length plan.now.parts) }
+    ensures whole { IfSome result (λ process. size ≡ (part_at plan.now.parts process.part).bytes) }
+{
+    find_by(plan, address, size, Way::of(command)?)
+}
+
+/// The working counter with which a process datagram comes back where each slave of its part works; none
+/// where the part doesn't go by such a datagram.
+pub fn predicted_counter(plan: &Plan, process: Process) -> Option<usize>
+    requires { process.part < length plan.now.parts }
+    ensures { result ≡ counter_of process.way (predicted plan.now process.part) }
+{
+    match (process.way, plan.predicted(process.part)) {
+        (Way::Both, Predicted::Lrw(count)) => Some(count),
+        (Way::Write, Predicted::Split { write, read: _ }) => Some(write),
+        (Way::Read, Predicted::Split { write: _, read }) => Some(read),
+        _ => None,
+    }
+}

@@ -1,0 +1,54 @@
+//! The datagrams that bytes spell.
+ghost use Rattle.std.specs.Prelude.{◌≡◌, ◌+◌, ◌<◌, IfSome, drop};
+ghost use Rattle.ec_frame.specs.Decoded.{after_data, decoded};
+ghost use Rattle.ec_remark.specs.Seeing.{Shows};
+
+use byteorder::{ByteOrder, LittleEndian};
+use ec_frame::Command;
+use ec_frame::field::{HEADER_LEN, OVERHEAD};
+
+/// In a datagram: the address, and the word whose low eleven bits are the length of the data.
+const ADDRESS: usize = 2;
+
+const FLAGS: usize = 6;
+
+const LENGTHS: u16 = 2048;
+
+/// What remarks on a datagram are made of.
+#[derive(Clone, Copy, Debug)]
+pub struct Seen<'a> {
+    /// What the slaves are asked to do.
+    pub command: Command,
+    /// The four address bytes: ADP the low half and ADO the high half, or a logical address.
+    pub address: u32,
+    /// The data.
+    pub content: &'a [u8],
+    /// The working counter.
+    pub counter: u16,
+}
+
+/// The datagram that begins some bytes, and what follows it; none where it isn't whole or has no command.
+pub fn first_seen(bytes: &[u8]) -> Option<(Seen<'_>, &[u8])>
+    ensures shows { IfSome result (λ found. Shows found.0 (decoded bytes.now)) }
+    ensures rest { IfSome result (λ found. found.1.now ≡ drop 2 (after_data bytes.now)) }
+{
+    if bytes.len() < OVERHEAD {
+        return None;
+    }
+    let command = Command::from_number(bytes[0])?;
+    let address = LittleEndian::read_u32(&bytes[ADDRESS..]);
+    let size = usize::from(LittleEndian::read_u16(&bytes[FLAGS..]) % LENGTHS);
+    let (_, behind) = bytes.split_at(HEADER_LEN);
+    if behind.len() < size + 2 {
+        return None;
+    }
+    let (content, tail) = behind.split_at(size);
+    let (counter, rest) = tail.split_at(2);
+    let seen = Seen {
+        command,
+        address,
+        content,
+        counter: LittleEndian::read_u16(counter),
+    };
+    Some((seen, rest))
+}
