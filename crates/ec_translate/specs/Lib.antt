@@ -1,2 +1,3 @@
--- To be believed by reading: what `ecat decode` and `ecat encode` print.
+-- To be believed by reading: what `ecat decode` and `ecat encode` print, and `ecat decode` with remarks.
 pub mod Translating
+pub mod Remarking

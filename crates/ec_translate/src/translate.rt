@@ -1,5 +1,5 @@
 //! The two commands: the whole input is read, and then its answer is printed.
-ghost use Rattle.std.specs.Prelude.{◌≡◌, IfErr, IfOk, string_bytes};
+ghost use Rattle.std.specs.Prelude.{IfErr, IfOk, string_bytes};
 ghost use Rattle.ec_translate.specs.Translating.{IsEncoded, IsOutOfForm, RunsDecode, RunsEncode};
 
 use ec_console::{Refusal, print_text, read_text};

@@ -1,7 +1,8 @@
 //! `ecat decode` and `ecat encode`, over readers and writers of memory.
 use ec_console::Refusal;
 use ec_script::ScriptError;
-use ec_translate::{print_decode, print_encode};
+use ec_translate::{print_decode, print_encode, print_payloads};
+use std::fs::Files;
 use std::io;
 use std::io::Write;
 use std::process::Abort;
@@ -149,4 +150,71 @@ fn a_full_output_is_told(rt: HostRuntime) {
     let mut output = Narrow { left: 10 };
     let ended = print_encode(rt.alloc(), &mut CYCLE_TEXT.as_bytes(), &mut output);
     assert_eq!(rt; (ended, output.left), (Err(Refusal::Output), 0));
+}
+
+/// The text of the cycle with remarks.
+const CYCLE_REMARKED: &str = "\
+frame 2
+0 NOP index 05 at 0000:0000 counter 0 data 05000000000000000000
+1 BRD index 05 at 0003:0130 counter 3 data 0800
+    0130 AL status = 0008: OP
+";
+
+/// How `decode` ends by the table in a file and with or without remarks, and what it prints.
+fn remarked<H: AllocGlobal + Files>(
+    rt: &H,
+    table: Option<&str>,
+    explained: bool,
+    input: &[u8],
+) -> (Result<(), Refusal>, Vec<u8>) {
+    let mut input = input;
+    let mut printed: Vec<u8> = Vec::new(rt.alloc());
+    let ended = print_payloads(rt, table, explained, &mut input, &mut printed);
+    (ended, printed)
+}
+
+#[test]
+fn remarks_stand_behind_the_lines(rt: HostRuntime) -> Result<(), Fail> {
+    let input = format!(in rt.alloc(); "{CYCLE}\n07\n")?;
+    let (ended, printed) = remarked(&rt, None, true, input.as_bytes());
+    let expected = format!(in rt.alloc();
+        "{CYCLE_REMARKED}{SHORT_TEXT}    it ends before its header, or before what the header says\n"
+    )?;
+    assert_eq!(rt; ended, Ok(()));
+    assert_eq!(rt; printed.as_slice(), expected.as_bytes());
+    let (ended, plain) = remarked(&rt, None, false, input.as_bytes());
+    assert_eq!(rt; ended, Ok(()));
+    assert_eq!(rt;
+        plain.as_slice(),
+        decode(&rt, input.as_bytes()).1.as_slice()
+    );
+    // what is printed goes back, since indented lines are skipped
+    let (ended, again) = encode(&rt, CYCLE_REMARKED.as_bytes());
+    assert_eq!(rt; ended, Ok(()));
+    assert_eq!(rt;
+        again.as_slice(),
+        format!(in rt.alloc(); "{CYCLE}\n")?.as_bytes()
+    );
+    Ok(())
+}
+
+#[test]
+fn a_line_that_is_no_hex_ends_remarks_too(rt: HostRuntime) -> Result<(), Fail> {
+    let input = format!(in rt.alloc(); "{CYCLE}\n0x07\n{CYCLE}\n")?;
+    let (ended, printed) = remarked(&rt, None, true, input.as_bytes());
+    assert_eq!(rt; ended, Err(Refusal::BadHex));
+    assert_eq!(rt; printed.as_slice(), CYCLE_REMARKED.as_bytes());
+    Ok(())
+}
+
+#[test]
+fn a_table_that_is_none_is_told(rt: HostRuntime) {
+    for explained in [false, true] {
+        let (ended, printed) = remarked(&rt, Some("no such file"), explained, CYCLE.as_bytes());
+        assert_eq!(rt; ended, Err(Refusal::Input));
+        assert!(rt; printed.is_empty());
+        // an empty text is no table
+        let (ended, printed) = remarked(&rt, Some("/dev/null"), explained, CYCLE.as_bytes());
+        assert!(rt; ended.is_err() && printed.is_empty());
+    }
 }

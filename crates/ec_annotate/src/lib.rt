@@ -1,0 +1,8 @@
+//! Payloads in hex as text with remarks for people: what each datagram says, and by a link table which
+//! variables it carries.
+#![tactic(auto)]
+
+mod annotate;
+mod remarks;
+
+pub use crate::annotate::{Links, annotate_text};

@@ -1,0 +1,61 @@
+-- What `ecat decode` prints with remarks for people (this project's profile). Nothing is known of what a file gives.
+use Rattle.std.specs.Prelude.{◌≡◌, ◌⊎◌, ℕ, List, Bool, true, false, Option, Some, None, Result, Ok, Err}
+use Rattle.std.specs.Io.KnownBytes.{Appends}
+use Rattle.std.specs.Str.Lines.{lines}
+use Rattle.ec_table.specs.Contents.{Contents}
+use Rattle.ec_annotate.specs.Annotating.{Annotates}
+use Rattle.ec_console.specs.declared.refusal.Refusal.{Refusal}
+use Rattle.ec_console.specs.declared.refusal.Refusal.TheVariants.{Memory, BadHex, Input, Output}
+use Rattle.ec_console.specs.Given.{GivesText, IsInputRefusal, IsLinkRefusal, IsTableRefusal}
+use Rattle.ec_console.specs.Printing.{AppendsPart}
+use Rattle.ec_translate.specs.Translating.{RunsDecode}
+
+-- what is printed of the lines that the input gives, with remarks, up to the first that isn't hex; and whether there is none
+pub record Remarks (given : Option (List ℕ)) (printed : List ℕ) (whole : Bool) : Type 0 where
+  pub text : List ℕ
+  pub gives : GivesText given text
+  pub annotates : Annotates (lines text) printed whole
+
+-- As `RunsDecode`, of which it prints the lines with remarks between them: without the indented lines it is what that prints.
+abbrev pub RunsRemarked : (given old new : Option (List ℕ)) → Result Unit Refusal → Type 0
+RunsRemarked given old new (Ok done) = (printed : List ℕ) × Remarks given printed true × Appends old new printed
+RunsRemarked given old new (Err BadHex) = (printed : List ℕ) × Remarks given printed false × Appends old new printed
+RunsRemarked given old new (Err Output) = (printed : List ℕ) × (whole : Bool) × Remarks given printed whole × AppendsPart old new printed
+RunsRemarked given old new (Err refusal) = IsInputRefusal given refusal × (new ≡ old)
+
+-- ---- by a link table
+
+-- or a refusal comes before the input is read
+abbrev pub OrRefused : (Refusal → Type 0) → (given old new : Option (List ℕ)) → Result Unit Refusal → Type 0
+OrRefused Refuses given old new ended =
+    RunsRemarked given old new ended ⊎ ((refusal : Refusal) × (ended ≡ Err refusal) × Refuses refusal × (new ≡ old))
+
+-- by a table that was read, which may have no plan
+abbrev pub RunsByTable : Contents → (given old new : Option (List ℕ)) → Result Unit Refusal → Type 0
+RunsByTable t = OrRefused (IsLinkRefusal t)
+
+-- by the text of a table
+abbrev pub RunsByText : List ℕ → (given old new : Option (List ℕ)) → Result Unit Refusal → Type 0
+RunsByText text = OrRefused (IsTableRefusal text)
+
+-- a file that can't be read as text
+abbrev pub IsUnread : Refusal → Type 0
+IsUnread refusal = (refusal ≡ Input) ⊎ (refusal ≡ Memory)
+
+-- the file of a table can't be read, or what it gives is refused
+abbrev pub IsFileRefusal : Refusal → Type 0
+IsFileRefusal refusal = IsUnread refusal ⊎ ((text : List ℕ) × IsTableRefusal text refusal)
+
+abbrev pub RunsByFile : (given old new : Option (List ℕ)) → Result Unit Refusal → Type 0
+RunsByFile = OrRefused IsFileRefusal
+
+-- by the file of a table, if one is named
+abbrev pub RunsWith : (file : Option (List ℕ)) → (given old new : Option (List ℕ)) → Result Unit Refusal → Type 0
+RunsWith None = RunsRemarked
+RunsWith (Some file) = RunsByFile
+
+-- `ecat decode`, with remarks where they are asked for
+abbrev pub RunsDecodeWith : (table : Option (List ℕ)) → (explained : Bool) → (given old new : Option (List ℕ)) → Result Unit Refusal → Type 0
+RunsDecodeWith None false = RunsDecode
+RunsDecodeWith None true = RunsRemarked
+RunsDecodeWith (Some file) explained = RunsByFile
