@@ -3,11 +3,11 @@ ghost use Rattle.std.specs.Prelude.{All, IfOk};
 ghost use Rattle.ec_outline.specs.Remarks.{StandsIn};
 ghost use Rattle.ec_explain.specs.Texts.{IsUnmarked};
 
-use crate::linking::tell_link_fault;
-use crate::reading::tell_fault;
-use crate::script::tell_bad_line;
-use crate::starting::{tell_cycle_error, tell_start_error, tell_wire_fault};
 use ec_cycle::CycleError;
+use ec_explain_plan::tell_link_fault;
+use ec_explain_script::{tell_bad_line, tell_unmet};
+use ec_explain_start::{tell_cycle_error, tell_start_error, tell_wire_fault};
+use ec_explain_table::tell_fault;
 use ec_link::LinkFault;
 use ec_outline::{Remarks, Telling};
 use ec_start::StartError;
@@ -34,6 +34,8 @@ pub enum Cause {
         /// The line, counted from 1 there.
         line: usize,
     },
+    /// So many times what a line expected wasn't so: 45.
+    Unmet(u64),
 }
 
 /// A text without the mark that some editors write before it.
@@ -78,6 +80,7 @@ pub fn remarks_on<'a>(alloc: Global, text: &'a str, cause: Cause) -> Result<Rema
             let from = from.saturating_sub(text.len().saturating_sub(rest.len()));
             tell_bad_line(&mut telling, rest, from, line)?;
         }
+        Cause::Unmet(count) => tell_unmet(&mut telling, count)?,
     }
     telling.into_remarks(rest)
 }

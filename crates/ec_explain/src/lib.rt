@@ -2,13 +2,6 @@
 //! the text, and what to do.
 #![tactic(auto)]
 
-mod areas;
 mod cause;
-mod linking;
-mod reading;
-mod rule;
-mod script;
-mod starting;
-mod steps;
 
 pub use crate::cause::{Cause, explanation, remarks_on};

@@ -1,5 +1,5 @@
 -- Where something stands in a text, as people count.
-use Rattle.std.specs.Prelude.{◌≡◌, ◌≤◌, ◌<◌, ◌+◌, ◌-◌, ◌==◌, ◌||◌, ℕ, Bool, not, nat_lt, nat_le, List, [], ◌∷◌, ◌++◌, length, take, drop, reverse, take_while, count_by, if◌then◌else◌, slice_get, Option, Some, None}
+use Rattle.std.specs.Prelude.{◌≡◌, ◌≤◌, ◌+◌, ◌-◌, ◌==◌, ◌||◌, ℕ, Bool, not, nat_lt, nat_le, List, [], ◌∷◌, take, reverse, take_while, count_by, if◌then◌else◌, slice_get, Some}
 use Rattle.ec_outline.specs.declared.spot.Spot.{Spot}
 
 -- a line feed ends a line

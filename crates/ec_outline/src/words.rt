@@ -27,6 +27,11 @@ pub fn nearest<'n>(
     Ok(found)
 }
 
+/// Whether a word is among names.
+pub fn is_among(word: &str, names: &[&str]) -> bool {
+    names.iter().any(|name| *name == word)
+}
+
 /// A question for the name that may have been meant, with a blank before it; nothing where no name is near.
 pub fn meant(alloc: Global, word: &str, names: &[&str]) -> Result<String, AllocError> {
     match nearest(alloc, word, names)? {

@@ -217,6 +217,100 @@ fn lines_of_a_script(rt: HostRuntime) -> Result<(), Fail> {
     Ok(())
 }
 
+/// Lines of a script behind the machine's table that stand for nothing, the column of what is at fault, and what is told.
+static BAD_LINES: [(&str, usize, &[&str]); 30] = [
+    (
+        "set lamp 1",
+        5,
+        &[
+            "no variable has the name `lamp`; did you mean `lamps`?",
+            "| set lamp 1\n",
+        ],
+    ),
+    ("in lamp 1", 4, &["no variable has the name `lamp`"]),
+    ("expect lamp 1", 8, &["no variable has the name `lamp`"]),
+    ("set lamps x", 11, &["`x` is no value", "`-` and decimal"]),
+    ("set lamps 0xg", 11, &["`0xg` is no value"]),
+    ("set lamps +1", 11, &["`+1` is no value"]),
+    ("set lamps --1", 11, &["`--1` is no value"]),
+    ("set lamps 18446744073709551616", 11, &["is no value"]),
+    ("set lamps", 1, &["isn't written as `set NAME VALUE`"]),
+    ("set lamps 1 2", 1, &["isn't written as `set NAME VALUE`"]),
+    ("pass x", 6, &["`x` is no number"]),
+    ("pass -1", 6, &["`-1` is no number"]),
+    ("pass", 1, &["isn't written as `pass K`"]),
+    ("ready now", 1, &["isn't written as `ready`"]),
+    (
+        "redy",
+        1,
+        &["no line of a script begins with `redy`; did you mean `ready`?"],
+    ),
+    ("repaet 2 cycle", 1, &["did you mean `repeat`?"]),
+    ("serve nobody", 7, &["no slave has the name `nobody`"]),
+    ("put 0 0 256", 9, &["`256` is no byte: it is 0 to 255"]),
+    ("get 0", 1, &["isn't written as `get S I`"]),
+    ("repeat", 1, &["isn't written as `repeat N LINE`"]),
+    (
+        "repeat 0 cycle",
+        8,
+        &["`0` is no number of times: it is 1 to 1000000"],
+    ),
+    ("repeat 1000001 cycle", 8, &["1 to 1000000"]),
+    ("repeat 2 repeat 2 cycle", 10, &["isn't repeated"]),
+    (
+        "repeat 2 set lamp 1",
+        14,
+        &["no variable has the name `lamp`"],
+    ),
+    ("repeat 2 cycel", 10, &["did you mean `cycle`?"]),
+    (
+        "expect state 0 OPP",
+        16,
+        &["`OPP` is no AL state: it is INIT, PREOP, SAFEOP or OP"],
+    ),
+    (
+        "expect state 0 OP 1",
+        19,
+        &["`1` is no AL status code: it has four hex digits"],
+    ),
+    ("expect taken x", 14, &["`x` is no number"]),
+    (
+        "set  lamps 1",
+        5,
+        &["a word is missing here, or a blank is one too many"],
+    ),
+    ("set lamps y # not z", 11, &["`y` is no value"]),
+];
+
+#[test]
+fn words_of_a_line(rt: HostRuntime) -> Result<(), Fail> {
+    for (line, column, wanted) in BAD_LINES {
+        let text = format!(in rt.alloc(); "{MACHINE}%%\n\n{line}\n")?;
+        let from = text.len().saturating_sub(line.len()).saturating_sub(2);
+        let cause = Cause::Script { from, line: 2 };
+        assert_told(&rt, text.as_str(), cause, wanted)?;
+        let place = format!(in rt.alloc(); "line 72, column {column}: ")?;
+        assert_told(&rt, text.as_str(), cause, &[place.as_str(), "To do: "])?;
+    }
+    Ok(())
+}
+
+#[test]
+fn unmet_lines(rt: HostRuntime) -> Result<(), Fail> {
+    assert_told(
+        &rt,
+        MACHINE,
+        Cause::Unmet(1),
+        &["what a line expects wasn't so", "To do: "],
+    )?;
+    assert_told(
+        &rt,
+        MACHINE,
+        Cause::Unmet(3),
+        &["3 times what a line expects wasn't so"],
+    )
+}
+
 #[test]
 fn other_texts(rt: HostRuntime) -> Result<(), Fail> {
     let cause = Cause::Start(StartError::Counter { step: 17 });

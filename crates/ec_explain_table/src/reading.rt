@@ -1,6 +1,6 @@
 //! Why a text is no link table: refusals 11 to 15.
-use crate::rule::{Rule, is_among, keys_of, lacking, misfit, needs_of, rule_of, taken_by, word_of};
-use ec_outline::{Part, Span, Step, Telling, listing, meant, printable};
+use crate::rule::{Rule, keys_of, lacking, misfit, needs_of, rule_of, taken_by, word_of};
+use ec_outline::{Part, Span, Step, Telling, is_among, listing, meant, printable};
 use ec_table::{Fault, Place, Section};
 use std::alloc::{AllocError, Global};
 use toml::{Table, Value};

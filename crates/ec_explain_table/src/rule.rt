@@ -1,5 +1,5 @@
 //! The keys of a link table, what each takes, and in words how a value doesn't fit it.
-use ec_outline::{Step, listing, meant, printable};
+use ec_outline::{Step, is_among, listing, meant, printable};
 use ec_regs::{FIRST_INPUT_INDEX, FIRST_OUTPUT_INDEX, MAX_ENTRIES, MAX_PDOS, PDO_INDICES};
 use ec_table::Section;
 use std::alloc::{AllocError, Global};
@@ -430,11 +430,6 @@ pub fn misfit(
             None => kind_stands(alloc, value, "true or false"),
         },
     }
-}
-
-/// Whether a word is among names.
-pub fn is_among(word: &str, names: &[&str]) -> bool {
-    names.iter().any(|name| *name == word)
 }
 
 /// The keys that a table lacks, in words; empty where it has all.

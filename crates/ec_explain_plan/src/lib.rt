@@ -1,0 +1,7 @@
+//! Why a link table has no plan, for people: which links, slaves and areas are at fault, and what to do.
+#![tactic(auto)]
+
+mod areas;
+mod linking;
+
+pub use crate::linking::tell_link_fault;

@@ -1,0 +1,144 @@
+//! Why a word can't stand for what a line needs in its place.
+use crate::form::Kind;
+use ec_outline::{is_among, meant, printable};
+use ec_table::Table;
+use std::alloc::{AllocError, Global};
+
+/// The names of the AL states.
+static STATES: [&str; 4] = ["INIT", "PREOP", "SAFEOP", "OP"];
+
+/// Whether a word is decimal digits that 64 bits hold.
+fn is_number(word: &str) -> bool {
+    !word.starts_with('+') && word.parse::<u64>().is_ok()
+}
+
+/// Whether a word is hex digits that 64 bits hold.
+fn is_hex(word: &str) -> bool {
+    !word.starts_with('+') && u64::from_str_radix(word, 16).is_ok()
+}
+
+/// Whether a word is a number from the least to the most.
+fn is_within(word: &str, least: u64, most: u64) -> bool {
+    match word.parse::<u64>() {
+        Ok(number) => !word.starts_with('+') && least <= number && number <= most,
+        Err(_) => false,
+    }
+}
+
+/// Whether a word writes a value.
+fn is_value(word: &str) -> bool {
+    match (word.strip_prefix('-'), word.strip_prefix("0x")) {
+        (Some(digits), _) => is_number(digits),
+        (None, Some(digits)) => is_hex(digits),
+        (None, None) => is_number(word),
+    }
+}
+
+/// The names of a table's variables.
+fn variables_of<'t>(alloc: Global, table: &'t Table) -> Result<Vec<&'t str>, AllocError> {
+    let mut names: Vec<&'t str> = Vec::new(alloc);
+    for row in table.variables() {
+        names.push(row.name.as_str())?;
+    }
+    Ok(names)
+}
+
+/// The names of its slaves.
+fn slaves_of<'t>(alloc: Global, table: &'t Table) -> Result<Vec<&'t str>, AllocError> {
+    let mut names: Vec<&'t str> = Vec::new(alloc);
+    for row in table.slaves() {
+        names.push(row.name.as_str())?;
+    }
+    Ok(names)
+}
+
+/// That nothing has a name, and which one is near.
+fn unknown(alloc: Global, thing: &str, word: &str, names: &[&str]) -> Result<String, AllocError> {
+    let shown = printable(alloc, word)?;
+    let near = meant(alloc, word, names)?;
+    let (shown, near) = (shown.as_str(), near.as_str());
+    format!(in alloc; "no {thing} has the name `{shown}`{near}")
+}
+
+/// That a word isn't what it is to be.
+fn other(alloc: Global, word: &str, what: &str) -> Result<String, AllocError> {
+    let shown = printable(alloc, word)?;
+    let shown = shown.as_str();
+    format!(in alloc; "`{shown}` is no {what}")
+}
+
+/// What is wrong with the name of a variable of a table, if something is.
+fn no_variable(alloc: Global, table: &Table, word: &str) -> Result<Option<String>, AllocError> {
+    let names = variables_of(alloc, table)?;
+    if is_among(word, names.as_slice()) {
+        return Ok(None);
+    }
+    Ok(Some(unknown(alloc, "variable", word, names.as_slice())?))
+}
+
+/// What is wrong with the number or the name of a slave of a table, if something is.
+fn no_slave(alloc: Global, table: &Table, word: &str) -> Result<Option<String>, AllocError> {
+    if word.bytes().all(|byte| byte.is_ascii_digit()) {
+        return Ok(None);
+    }
+    let names = slaves_of(alloc, table)?;
+    if is_among(word, names.as_slice()) {
+        return Ok(None);
+    }
+    Ok(Some(unknown(alloc, "slave", word, names.as_slice())?))
+}
+
+/// Whether a word that names nothing fits, and what it is to be.
+fn fits(kind: Kind, word: &str) -> (bool, &'static str) {
+    match kind {
+        Kind::Variable | Kind::Slave => (true, ""),
+        Kind::Value => (
+            is_value(word),
+            "value: it is decimal, `0x` and hex digits, or `-` and decimal",
+        ),
+        Kind::Number => (is_number(word), "number: it is written in decimal digits"),
+        Kind::Byte => (is_within(word, 0, 255), "byte: it is 0 to 255, in decimal"),
+        Kind::Times => (
+            is_within(word, 1, 1_000_000),
+            "number of times: it is 1 to 1000000, in decimal",
+        ),
+        Kind::State => (
+            is_among(word, &STATES),
+            "AL state: it is INIT, PREOP, SAFEOP or OP",
+        ),
+        Kind::Code => (
+            word.len() == 4 && is_hex(word),
+            "AL status code: it has four hex digits",
+        ),
+    }
+}
+
+/// What is wrong with a word that is to be of a kind, if something is; its names are the table's, where there is one.
+pub fn misfit(
+    alloc: Global,
+    table: Option<&Table>,
+    kind: Kind,
+    word: &str,
+) -> Result<Option<String>, AllocError> {
+    match (kind, table) {
+        (Kind::Variable, Some(table)) => no_variable(alloc, table, word),
+        (Kind::Slave, Some(table)) => no_slave(alloc, table, word),
+        _ => {
+            let (is_right, what) = fits(kind, word);
+            if is_right {
+                return Ok(None);
+            }
+            Ok(Some(other(alloc, word, what)?))
+        }
+    }
+}
+
+/// What to do about a word that is not of a kind.
+pub fn remedy(kind: Kind) -> &'static str {
+    match kind {
+        Kind::Variable => "correct the name, or add a variable of that name to the table",
+        Kind::Slave =>
+            "correct the name, add a slave of that name to the table, or write its number",
+        _ => "correct it; `ecat sim --help` lists the lines that a script has",
+    }
+}
