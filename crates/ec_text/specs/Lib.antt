@@ -1,2 +1,3 @@
--- To be believed by reading: the fixed form of a plan.
+-- To be believed by reading: the fixed form of a plan, and the header of its table's variables.
 pub mod PlanText
+pub mod HeaderText
