@@ -1,4 +1,4 @@
-//! A wire over the system's UDP sockets, on 127.0.0.1.
+//! A wire over the system's UDP sockets.
 ghost use Rattle.std.specs.Prelude.{◌≡◌, ◌≤◌, length, IfOk, IfSome};
 ghost use Rattle.ec_wire.specs.Wires.{IsOpened, silent};
 
@@ -8,7 +8,7 @@ use ec_frame::field::MAX_FRAME_LEN;
 use std::io;
 use std::io::ErrorKind;
 use std::marker::Model;
-use std::net::{Ipv4Addr, Net, SocketAddr, UdpSocket};
+use std::net::{Ipv4Addr, Net, SocketAddr, SocketAddrV4, UdpSocket};
 use std::time::Duration;
 
 /// A receive waits so long, in milliseconds.
@@ -29,7 +29,7 @@ enum Peer {
     Last(Option<SocketAddr>),
 }
 
-/// A UDP socket on 127.0.0.1 and its peer there. It doesn't tell what it carried.
+/// A UDP socket and its peer, on 127.0.0.1 unless the peer is elsewhere. It doesn't tell what it carried.
 #[derive(Drop)]
 pub struct UdpWire {
     socket: UdpSocket,
@@ -52,10 +52,10 @@ fn here(port: u16) -> SocketAddr {
     SocketAddr::from((Ipv4Addr::LOCALHOST, port))
 }
 
-/// A socket on a port, whose receives wait half a second, and its port.
-fn open<R: Net>(rt: &R, port: u16) -> io::Result<(UdpSocket, u16)> {
-    let socket = UdpSocket::bind(rt, here(port))?;
-    socket.set_read_timeout(Some(Duration::from_millis(PATIENCE)))?;
+/// A socket at an address, whose receives wait so many milliseconds, and its port.
+fn open<R: Net>(rt: &R, at: SocketAddr, patience: u64) -> io::Result<(UdpSocket, u16)> {
+    let socket = UdpSocket::bind(rt, at)?;
+    socket.set_read_timeout(Some(Duration::from_millis(patience)))?;
     let port = socket.local_addr()?.port();
     Ok((socket, port))
 }
@@ -74,7 +74,7 @@ impl UdpWire {
     fn new<R: Net>(rt: &R, port: u16, waits: u64) -> Result<UdpWire, SocketFault>
         ensures { IfOk result (IsOpened port) }
     {
-        let Ok((socket, found)) = open(rt, port) else {
+        let Ok((socket, found)) = open(rt, here(port), PATIENCE) else {
             return Err(SocketFault);
         };
         if port != 0 && found != port {
@@ -89,18 +89,25 @@ impl UdpWire {
         })
     }
 
-    /// The same wire to the one peer on a port, from which alone it receives.
-    pub(crate) fn connected_to(self, port: u16) -> Result<UdpWire, SocketFault>
+    /// The same wire to one peer, from which alone it receives.
+    fn connected_with(self, peer: SocketAddr) -> Result<UdpWire, SocketFault>
         ensures { IfOk result (λ w. w ≡ self) }
     {
         let mut wire = self;
-        match wire.socket.connect(here(port)) {
+        match wire.socket.connect(peer) {
             Ok(()) => {
                 wire.peer = Peer::Connected;
                 Ok(wire)
             }
             Err(_) => Err(SocketFault),
         }
+    }
+
+    /// The same wire to the one peer on a port, from which alone it receives.
+    pub(crate) fn connected_to(self, port: u16) -> Result<UdpWire, SocketFault>
+        ensures { IfOk result (λ w. w ≡ self) }
+    {
+        self.connected_with(here(port))
     }
 
     /// A segment's wire on a port, where 0 lets the system pick one. It sends to whoever sent the last payload that it
@@ -143,6 +150,33 @@ impl UdpWire {
         ensures { IfOk result (λ w. w.failed ≡ 0) }
     {
         UdpWire::bind_impatient(rt)?.connected_to(port)
+    }
+
+    /// A master's wire to the segment at an address, from which alone it receives. A receive that got nothing in so many
+    /// milliseconds is a fault.
+    ///
+    /// # Errors
+    ///
+    /// `SocketFault` where there is no such socket, or the patience is 0.
+    pub fn connect_patient<R: Net>(
+        rt: &R,
+        peer: SocketAddrV4,
+        patience: u16,
+    ) -> Result<UdpWire, SocketFault>
+        ensures { IfOk result (λ w. w.failed ≡ 0) }
+    {
+        let anywhere = SocketAddr::from((Ipv4Addr::UNSPECIFIED, 0));
+        let Ok((socket, port)) = open(rt, anywhere, u64::from(patience)) else {
+            return Err(SocketFault);
+        };
+        let wire = UdpWire {
+            socket,
+            port,
+            peer: Peer::Last(None),
+            waits: 1,
+            failures: 0,
+        };
+        wire.connected_with(SocketAddr::V4(peer))
     }
 
     /// The port of the socket.
