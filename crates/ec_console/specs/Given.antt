@@ -4,6 +4,8 @@ use Rattle.std.specs.IoError.{error_kind}
 use Rattle.std.specs.Str.{IsUtf8}
 use Rattle.std.specs.declared.io.Error.{Error}
 use Rattle.std.specs.declared.io.ErrorKind.TheVariants.{Interrupted}
+use Rattle.ec_lines.specs.declared.error.LinesError.{LinesError}
+use Rattle.ec_lines.specs.declared.error.LinesError.TheVariants as lines
 use Rattle.ec_table.specs.Contents.{Contents}
 use Rattle.ec_table.specs.InOrder.{Fails as TableFails}
 use Rattle.ec_table.specs.Reading.{table_of}
@@ -52,3 +54,10 @@ IsTableRefusal text _ = ⊥
 -- by what a command is refused that reads a link table: a fault of the input, or of the table that it states
 abbrev pub RefusesTable : Option (List ℕ) → Refusal → Type 0
 RefusesTable known refusal = IsInputRefusal known refusal ⊎ ((text : List ℕ) × GivesText known text × IsTableRefusal text refusal)
+
+-- what a line, or the text before a line `%%`, is refused by
+abbrev pub lines_refusal : LinesError → Refusal
+lines_refusal lines.Memory = Memory
+lines_refusal lines.Unread = Input
+lines_refusal lines.TooLong = Input
+lines_refusal lines.NoText = Input

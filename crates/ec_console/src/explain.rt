@@ -37,6 +37,7 @@ fn cause_of(refusal: &Refusal, from: usize) -> Option<Cause> {
         Refusal::Run(RunError::Refused(error)) => Some(Cause::Cycle(error)),
         Refusal::Run(RunError::Wire) => Some(Cause::Wire),
         Refusal::Script(ScriptError::BadScript(line)) => Some(Cause::Script { from, line }),
+        Refusal::Unmet(count) => Some(Cause::Unmet(count)),
         _ => None,
     }
 }
@@ -65,6 +66,27 @@ fn script_text(alloc: Global, text: &str, refusal: &Refusal) -> Result<String, A
             Ok(told)
         }
         None => Ok(String::new(alloc)),
+    }
+}
+
+/// What a fault of the input, the output or a socket means, and what to do; nothing of other refusals, which have a text at
+/// fault.
+fn stream_text(refusal: &Refusal) -> Option<&'static str> {
+    match refusal {
+        Refusal::Output => Some(
+            "What was to be printed, or the file of the capture, couldn't be written; what was written before stays.\n\
+            To do: see whether whoever reads standard output is still there, and whether the disk is full.\n",
+        ),
+        Refusal::Input => Some(
+            "The input couldn't be read, isn't text in UTF-8, or is longer than 1048576 bytes.\n\
+            To do: see where standard input comes from, and save the text as UTF-8.\n",
+        ),
+        Refusal::Socket => Some(
+            "There is no socket as it is asked for: its port is in use or its address isn't this system's, its \
+            descriptor is no open socket, or no payload came in time.\n\
+            To do: take another port, open the card as `tools/with_card` does, or start the other side in time.\n",
+        ),
+        _ => None,
     }
 }
 
@@ -99,6 +121,15 @@ impl Explanation {
     {
         if self.is_wanted {
             self.keep(table_text(alloc, table, refusal));
+        }
+    }
+
+    /// Explains a fault of the input, the output or a socket, if that is wanted and nothing is explained yet.
+    pub fn explain_stream(&mut self, alloc: Global, refusal: &Refusal)
+        ensures { IsLeft self.old self.new }
+    {
+        if let (true, Some(text)) = (self.is_wanted && self.text.is_empty(), stream_text(refusal)) {
+            self.keep(String::from_str(alloc, text));
         }
     }
 

@@ -6,6 +6,7 @@ ghost use Rattle.ec_start.specs.Errors.{error_values};
 use crate::digits::{push_number, push_value};
 use arrayvec::ArrayString;
 use ec_frame::FrameError;
+use ec_lines::LinesError;
 use ec_link::LinkError;
 use ec_script::ScriptError;
 use ec_start::StartError;
@@ -312,6 +313,20 @@ impl From<RunError> for Refusal {
 
     fn from(error: RunError) -> Refusal {
         Self::Run(error)
+    }
+}
+
+impl From<LinesError> for Refusal {
+    ghost use Rattle.std.specs.Prelude.{◌≡◌};
+    ghost use Rattle.ec_console.specs.Given.{lines_refusal};
+
+    ghost from_gives = { λ error refusal. refusal ≡ lines_refusal error };
+
+    fn from(error: LinesError) -> Refusal {
+        match error {
+            LinesError::Memory => Refusal::Memory,
+            LinesError::Unread | LinesError::TooLong | LinesError::NoText => Refusal::Input,
+        }
     }
 }
 

@@ -1,5 +1,5 @@
 //! `ecat loop`: cycles of a link table over two sockets of this process.
-ghost use Rattle.std.specs.Prelude.{◌≡◌, ◌≤◌, ◌<◌, ◌++◌, ◌%◌, ◌^◌, ℕ, List, [], All, None, Some, Ok, Result, IfErr, IfOk, OnOk, length, slice_get};
+ghost use Rattle.std.specs.Prelude.{◌≡◌, ◌≤◌, ◌<◌, ◌++◌, ◌%◌, ◌^◌, List, [], All, None, Some, Ok, Result, IfErr, IfOk, OnOk, length, slice_get};
 ghost use Rattle.std.specs.Io.KnownBytes.{Appends};
 ghost use Rattle.std.specs.String.{string_bytes};
 ghost use Rattle.ec_link.specs.Faults.{compile_fault};

@@ -111,7 +111,7 @@ const RUNS: [(&str, &str); 7] = [
 ];
 
 /// The same with a first slave that takes no part in LRW.
-const SPLIT_RUNS: [(&str, &str); 3] = [
+const SPLIT_RUNS: [(&str, &str); 4] = [
     (
         "ready;cycle",
         "ready;report taken missing 0 counters 2/2 al 0008;",
@@ -124,10 +124,18 @@ const SPLIT_RUNS: [(&str, &str); 3] = [
         "ready;begin;lose 0;close",
         "ready;report untaken missing 1 counters - al 0000;",
     ),
+    // what is expected of a slave whose outputs and inputs come in datagrams of their own
+    (
+        "ready;set a 5;cycle;expect taken;expect taken 0;expect untaken;expect a 5;in c 9;cycle;expect c 9;\
+         reset 0;cycle;expect untaken;expect taken 0;expect a 5;expect c 9",
+        "ready;report taken missing 0 counters 2/2 al 0008;unmet 6;\
+         report taken missing 0 counters 2/2 al 0008;\
+         report untaken missing 0 counters 1/2 al 0009;unmet 14;unmet 15;",
+    ),
 ];
 
 /// The same with the second slave in a sync unit of its own.
-const TWO_UNITS_RUNS: [(&str, &str); 3] = [
+const TWO_UNITS_RUNS: [(&str, &str); 4] = [
     (
         "ready;cycle",
         "ready;report 0 taken 1 taken missing 0 counters 5 1 al 0008;",
@@ -139,6 +147,14 @@ const TWO_UNITS_RUNS: [(&str, &str); 3] = [
     (
         "ready;begin;close",
         "ready;report 0 untaken 1 untaken missing 2 counters - - al 0000;",
+    ),
+    // all units, and one by one: a unit that isn't taken keeps its inputs
+    (
+        "ready;set a 5;in c 9;cycle;expect taken;expect taken 1;expect c 9;begin;lose 1;pass 0;pass 0;pass 0;\
+         return 0;close;expect taken;expect untaken;expect taken 0;expect untaken 1;expect taken 1;expect untaken 0;\
+         expect c 9;expect c 8",
+        "ready;report 0 taken 1 taken missing 0 counters 5 1 al 0008;\
+         report 0 taken 1 untaken missing 1 counters 5 - al 0008;unmet 15;unmet 16;unmet 19;unmet 20;unmet 22;",
     ),
 ];
 

@@ -19,7 +19,7 @@ use Rattle.ec_console.specs.declared.refusal.Refusal.TheVariants.{Memory, Unmet}
 use Rattle.ec_console.specs.Printing.{AppendsPart}
 use Rattle.ec_sim.specs.Stages.{IsBadScript, RunsHalves}
 use Rattle.ec_console.specs.Given.{IsLinkRefusal}
-use Rattle.ec_sim.specs.Simulating.{BeginsAs, IsHalfRefusal, IsLate, IsSimRefusal, IsSimulation, PrintsAll, PrintsLines, PrintsPart, PrintsSome, RunsLines, RunsText, Says, SaysLine, Simulates, counted, ended_by, unmet_of}
+use Rattle.ec_sim.specs.Simulating.{BeginsAs, IsHalfRefusal, IsLate, IsSimRefusal, IsSimulation, PrintsAll, PrintsLines, PrintsPart, PrintsSome, RunsLines, RunsText, Says, SaysLine, counted, ended_by, unmet_of}
 use Rattle.ec_captured.specs.Capturing.{IsUnopened}
 use Rattle.ec_console.proofs.PrintLemmas.{appends_more, appends_nothing, whole_part}
 

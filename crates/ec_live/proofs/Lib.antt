@@ -1,0 +1,2 @@
+mod LiveLemmas
+mod Runs

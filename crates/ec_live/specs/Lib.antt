@@ -1,0 +1,6 @@
+-- To be believed by reading: what `ecat sim --live` answers.
+pub mod Living
+-- Laws: what the definitions say together.
+pub mod Laws
+-- Private: these serve private code and its proofs alone.
+pub mod Stages

@@ -1,0 +1,31 @@
+-- What private code answers once a table was read; none of it is needed to read what is printed.
+use Rattle.std.specs.Prelude.{◌≡◌, ◌⊎◌, ℕ, List, Option, None, Result, Ok, Err, string_bytes}
+use Rattle.ec_table.specs.Contents.{Contents}
+use Rattle.ec_link.specs.Faults.{compile_fault}
+use Rattle.ec_console.specs.declared.refusal.Refusal.{Refusal}
+use Rattle.ec_console.specs.Given.{IsLinkRefusal, IsTableRefusal}
+use Rattle.ec_table.specs.Reading.{table_of}
+use Rattle.ec_lines.specs.declared.lines.Taken.{Taken}
+use Rattle.ec_lines.specs.declared.lines.Taken.TheVariants as taken
+use Rattle.ec_script.specs.declared.read.Reading.{Reading}
+use Rattle.ec_script.specs.declared.read.Reading.TheVariants as reading
+use Rattle.ec_script.specs.Scripts.{reading_of}
+use Rattle.ec_live.specs.Living.{RunsLiveTable}
+
+-- lines that come run over slaves of a table that was read; or it has a fault
+abbrev pub RunsLiveRead : Contents → (given old new : Option (List ℕ)) → Result Unit Refusal → Type 0
+RunsLiveRead t given old new ended =
+    ((compile_fault t ≡ None) × RunsLiveTable t given old new ended)
+    ⊎ ((refusal : Refusal) × (ended ≡ Err refusal) × IsLinkRefusal t refusal × (new ≡ old))
+
+-- the same of the table that a text states
+abbrev pub RunsLiveText : List ℕ → (given old new : Option (List ℕ)) → Result Unit Refusal → Type 0
+RunsLiveText text given old new ended =
+    ((t : Contents) × (table_of text ≡ Ok t) × (compile_fault t ≡ None) × RunsLiveTable t given old new ended)
+    ⊎ ((refusal : Refusal) × (ended ≡ Err refusal) × IsTableRefusal text refusal × (new ≡ old))
+
+-- what is taken as line n is
+abbrev pub taken_reading : Contents → ℕ → Taken → Reading
+taken_reading t n taken.End = reading.Empty
+taken_reading t n (taken.Text text) = reading_of t n (string_bytes text)
+taken_reading t n taken.NoText = reading.Bad
