@@ -1,12 +1,18 @@
 -- What is shown of a plan.
-use Rattle.std.proofs.Common.{◌≡◌, List, ℕ, Bool, true, false, sym, subst}
+use Rattle.std.proofs.Common.{◌≡◌, List, ℕ, sym, subst}
 use Rattle.ec_table.specs.Contents.{Contents}
 use Rattle.ec_link.specs.Plan.{plan_of}
+use Rattle.ec_text.specs.HeaderText.{header_text}
 use Rattle.ec_text.specs.PlanText.{plan_text}
+use Rattle.ec_app.specs.declared.plan.Form.{Form}
+use Rattle.ec_app.specs.declared.plan.Form.TheVariants.{Fixed, Explained, Header}
 use Rattle.ec_app.specs.Planning.{IsShown}
 
-pub shown_plain : (explained : Bool) (table : Contents) (answer : List ℕ) → explained ≡ false → answer ≡ plan_text table.version (plan_of table) → IsShown explained table answer
-shown_plain explained table answer is same = subst (λ e. IsShown e table answer) (sym is) same
+pub shown_fixed : (form : Form) (table : Contents) (answer : List ℕ) → form ≡ Fixed → answer ≡ plan_text table.version (plan_of table) → IsShown form table answer
+shown_fixed form table answer is same = subst (λ f. IsShown f table answer) (sym is) same
 
-pub shown_explained : (explained : Bool) (table : Contents) (answer : List ℕ) → explained ≡ true → IsShown explained table answer
-shown_explained explained table answer is = subst (λ e. IsShown e table answer) (sym is) tt
+pub shown_explained : (form : Form) (table : Contents) (answer : List ℕ) → form ≡ Explained → IsShown form table answer
+shown_explained form table answer is = subst (λ f. IsShown f table answer) (sym is) tt
+
+pub shown_header : (form : Form) (table : Contents) (answer : List ℕ) → form ≡ Header → answer ≡ header_text table.variables → IsShown form table answer
+shown_header form table answer is same = subst (λ f. IsShown f table answer) (sym is) same

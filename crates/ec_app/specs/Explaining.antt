@@ -5,10 +5,10 @@ use Rattle.ec_args.specs.Requests.{Command, PassOf, PlanOf, DecodeOf, EncodeOf, 
 -- whether a command is to explain a refusal
 abbrev pub is_explained : Command → Bool
 is_explained (PassOf slaves text) = false
-is_explained (PlanOf explained) = explained
-is_explained DecodeOf = false
+is_explained (PlanOf header explained) = explained
+is_explained (DecodeOf table explained) = false
 is_explained EncodeOf = false
-is_explained (SimOf capture explained) = explained
+is_explained (SimOf live capture explained) = explained
 is_explained (LoopOf cycles capture explained) = explained
 is_explained (SegmentOf frames port descriptor idle capture explained) = explained
 

@@ -4,25 +4,35 @@ use Rattle.ec_table.specs.Contents.{Contents}
 use Rattle.ec_table.specs.Reading.{table_of}
 use Rattle.ec_link.specs.Faults.{compile_fault}
 use Rattle.ec_link.specs.Plan.{plan_of}
+use Rattle.ec_text.specs.HeaderText.{header_text}
 use Rattle.ec_text.specs.PlanText.{plan_text}
 use Rattle.ec_console.specs.declared.refusal.Refusal.{Refusal}
 use Rattle.ec_console.specs.Given.{GivesText, RefusesTable}
 use Rattle.ec_console.specs.Printing.{Prints}
+use Rattle.ec_app.specs.declared.plan.Form.{Form}
+use Rattle.ec_app.specs.declared.plan.Form.TheVariants.{Fixed, Explained, Header}
 
--- the plan in its fixed form; of a plan that is explained, the text is free
-abbrev pub IsShown : Bool → Contents → List ℕ → Type 0
-IsShown false table answer = answer ≡ plan_text table.version (plan_of table)
-IsShown true table answer = Unit {0}
+-- the form that is asked for, by whether it is to be a header and whether it is to be explained
+abbrev pub form_of : (header explained : Bool) → Form
+form_of true explained = Header
+form_of false true = Explained
+form_of false false = Fixed
+
+-- the plan in a form; of a plan that is explained, the text is free
+abbrev pub IsShown : Form → Contents → List ℕ → Type 0
+IsShown Fixed table answer = answer ≡ plan_text table.version (plan_of table)
+IsShown Explained table answer = Unit {0}
+IsShown Header table answer = answer ≡ header_text table.variables
 
 -- the text states a table without a fault, and this shows its plan
-abbrev pub IsPlanAnswer : Bool → List ℕ → List ℕ → Type 0
-IsPlanAnswer explained text answer =
-    (table : Contents) × (table_of text ≡ Ok table) × (compile_fault table ≡ None) × IsShown explained table answer
+abbrev pub IsPlanAnswer : Form → List ℕ → List ℕ → Type 0
+IsPlanAnswer form text answer =
+    (table : Contents) × (table_of text ≡ Ok table) × (compile_fault table ≡ None) × IsShown form table answer
 
 -- what `ecat plan` prints, by what the input gives
-abbrev pub AnswersPlan : Bool → Option (List ℕ) → List ℕ → Type 0
-AnswersPlan explained known printed = (text : List ℕ) × GivesText known text × IsPlanAnswer explained text printed
+abbrev pub AnswersPlan : Form → Option (List ℕ) → List ℕ → Type 0
+AnswersPlan form known printed = (text : List ℕ) × GivesText known text × IsPlanAnswer form text printed
 
 -- how it ends, by what the writer holds before and after
-abbrev pub RunsPlan : Bool → Option (List ℕ) → Option (List ℕ) → Option (List ℕ) → Result Unit Refusal → Type 0
-RunsPlan explained known = Prints (AnswersPlan explained known) (RefusesTable known)
+abbrev pub RunsPlan : Form → Option (List ℕ) → Option (List ℕ) → Option (List ℕ) → Result Unit Refusal → Type 0
+RunsPlan form known = Prints (AnswersPlan form known) (RefusesTable known)

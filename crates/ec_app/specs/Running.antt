@@ -1,5 +1,5 @@
 -- How a run of `ecat` ends, whatever it was asked for (this project's profile).
-use Rattle.std.specs.Prelude.{◌≡◌, ◌≢◌, ◌⊎◌, ℕ, true, false, List, [], ◌∷◌, ◌++◌, map, Option, None, Some, Result, Ok, Err, codes}
+use Rattle.std.specs.Prelude.{◌≡◌, ◌≢◌, ◌⊎◌, ℕ, Bool, true, false, List, [], ◌∷◌, ◌++◌, map, Option, None, Some, Result, Ok, Err, codes}
 use Rattle.std.specs.IoError.{error_kind}
 use Rattle.std.specs.Vec.Iter.{into_iter_items}
 use Rattle.std.specs.declared.alloc.Global.{Global}
@@ -17,12 +17,14 @@ use Rattle.ec_console.specs.declared.refusal.Refusal.TheVariants.{Memory}
 use Rattle.ec_app.specs.Explaining.{MayTell, is_explained}
 use Rattle.ec_loop.specs.Looping.{RunsLoop}
 use Rattle.ec_app.specs.Passing.{RunsPass}
-use Rattle.ec_app.specs.Planning.{RunsPlan}
+use Rattle.ec_app.specs.Planning.{RunsPlan, form_of}
 use Rattle.ec_console.specs.Printing.{IsTold, Shows}
 use Rattle.ec_console.specs.Refusals.{line_of, status_of}
 use Rattle.ec_captured.specs.Capturing.{EndsWith}
+use Rattle.ec_live.specs.Living.{RunsLive}
 use Rattle.ec_segment.specs.Serving.{RunsCardSegment, RunsSegment}
-use Rattle.ec_translate.specs.Translating.{RunsDecode, RunsEncode}
+use Rattle.ec_translate.specs.Remarking.{RunsDecodeWith}
+use Rattle.ec_translate.specs.Translating.{RunsEncode}
 use Rattle.ec_sim.specs.Simulating.{RunsSim}
 
 -- what a stream holds before and after, where it is known
@@ -48,13 +50,18 @@ abbrev pub RunsSegmentAt : (descriptor : Option ℕ) → (frames port : ℕ) →
 RunsSegmentAt descriptor frames port file given output told ended =
     EndsWith file (RunsSegmentOn descriptor frames port given output told) (IsStill output told) ended
 
+-- `ecat sim`, whose lines are run as a script, or as they come
+abbrev pub RunsLines : (live : Bool) → (given : Option (List ℕ)) → (output : Stream) → Result Unit Refusal → Type 0
+RunsLines false given output ended = RunsSim given output.old output.new ended
+RunsLines true given output ended = RunsLive given output.old output.new ended
+
 -- what a command does with the output, and what is told of it while it runs, by what the input gives, where that is known
 abbrev pub Runs : Command → (given : Option (List ℕ)) → (output told : Stream) → Result Unit Refusal → Type 0
 Runs (PassOf slaves text) given output told ended = RunsPass slaves text output.old output.new ended × IsQuiet told
-Runs (PlanOf explained) given output told ended = RunsPlan explained given output.old output.new ended × IsQuiet told
-Runs DecodeOf given output told ended = RunsDecode given output.old output.new ended × IsQuiet told
+Runs (PlanOf header explained) given output told ended = RunsPlan (form_of header explained) given output.old output.new ended × IsQuiet told
+Runs (DecodeOf table explained) given output told ended = RunsDecodeWith table explained given output.old output.new ended × IsQuiet told
 Runs EncodeOf given output told ended = RunsEncode given output.old output.new ended × IsQuiet told
-Runs (SimOf capture explained) given output told ended = RunsSim given output.old output.new ended × IsQuiet told
+Runs (SimOf live capture explained) given output told ended = RunsLines live given output ended × IsQuiet told
 Runs (LoopOf cycles capture explained) given output told ended =
     EndsWith capture (λ ended. RunsLoop cycles given output.old output.new told.old told.new ended) (IsStill output told) ended
 Runs (SegmentOf frames port descriptor idle capture explained) given output told ended =
@@ -64,10 +71,10 @@ Runs (SegmentOf frames port descriptor idle capture explained) given output told
 -- none
 abbrev pub LeavesAlone : {R A : Type 0} → Command → (input_old input_new : R) → (app_old app_new : A) → Type 0
 LeavesAlone (PassOf slaves text) input_old input_new app_old app_new = (input_new ≡ input_old) × (app_new ≡ app_old)
-LeavesAlone (PlanOf explained) input_old input_new app_old app_new = app_new ≡ app_old
-LeavesAlone DecodeOf input_old input_new app_old app_new = app_new ≡ app_old
+LeavesAlone (PlanOf header explained) input_old input_new app_old app_new = app_new ≡ app_old
+LeavesAlone (DecodeOf table explained) input_old input_new app_old app_new = app_new ≡ app_old
 LeavesAlone EncodeOf input_old input_new app_old app_new = app_new ≡ app_old
-LeavesAlone (SimOf capture explained) input_old input_new app_old app_new = app_new ≡ app_old
+LeavesAlone (SimOf live capture explained) input_old input_new app_old app_new = app_new ≡ app_old
 LeavesAlone (LoopOf cycles capture explained) input_old input_new app_old app_new = Unit {0}
 LeavesAlone (SegmentOf frames port descriptor idle capture explained) input_old input_new app_old app_new = Unit {0}
 
@@ -98,10 +105,10 @@ EndsAlone (Err told) input_old input_new app_old app_new = (input_new ≡ input_
 -- what a command leaves of the input: all of it, where it reads none
 abbrev pub LeavesInput : {R : Type 0} → Command → (old new : R) → Type 0
 LeavesInput (PassOf slaves text) old new = new ≡ old
-LeavesInput (PlanOf explained) old new = Unit {0}
-LeavesInput DecodeOf old new = Unit {0}
+LeavesInput (PlanOf header explained) old new = Unit {0}
+LeavesInput (DecodeOf table explained) old new = Unit {0}
 LeavesInput EncodeOf old new = Unit {0}
-LeavesInput (SimOf capture explained) old new = Unit {0}
+LeavesInput (SimOf live capture explained) old new = Unit {0}
 LeavesInput (LoopOf cycles capture explained) old new = Unit {0}
 LeavesInput (SegmentOf frames port descriptor idle capture explained) old new = Unit {0}
 

@@ -8,14 +8,16 @@ ghost use Rattle.ec_app.specs.Explaining.{is_explained};
 ghost use Rattle.ec_app.specs.Running.{Ends, EndsAlone, LeavesAlone, Runs, RunsSegmentAt, Tells, TellsWith};
 
 use crate::pass::print_pass;
-use crate::plan::print_plan;
+use crate::plan::{Form, print_plan};
 use ec_args::{Notice, Request, read_args};
 use ec_console::{Explanation, Refusal, print_text, tell_and_end, tell_explained, tell_text};
+use ec_live::print_live;
 use ec_loop::{capture_loop, print_loop};
 use ec_segment::{capture_card_segment, capture_segment, print_card_segment, print_segment};
 use ec_sim::print_sim;
-use ec_translate::{print_decode, print_encode};
+use ec_translate::{print_encode, print_payloads};
 use ec_wire::App;
+use std::alloc::Global;
 use std::convert::AsStr;
 use std::fs::Files;
 use std::io::{Read, Write};
@@ -84,10 +86,29 @@ fn run_request<H: AllocGlobal + Net + Files + Clock, R: Read, W: Write, F: Write
 {
     match request {
         Request::Pass { slaves, frame } => print_pass(rt.alloc(), slaves.into(), frame, output),
-        Request::Plan { explained } => print_plan(rt.alloc(), explained, input, output, behind),
-        Request::Decode => print_decode(rt.alloc(), input, output),
+        Request::Plan { header, explained } => {
+            print_plan(
+                rt.alloc(),
+                Form::of(header, explained),
+                input,
+                output,
+                behind,
+            )
+        }
+        Request::Decode { table, explained } => {
+            print_payloads(rt, table, explained, input, output)
+        }
         Request::Encode => print_encode(rt.alloc(), input, output),
-        Request::Sim { capture, .. } => print_sim(rt, capture, input, output, behind),
+        Request::Sim {
+            live: false,
+            capture,
+            ..
+        } => print_sim(rt, capture, input, output, behind),
+        Request::Sim {
+            live: true,
+            capture,
+            ..
+        } => print_live(rt, capture, input, output, behind),
         Request::Loop {
             cycles,
             capture: None,
@@ -123,8 +144,8 @@ fn is_explained(request: &Request<'_>) -> bool
     ensures { result ≡ is_explained (command_of request.now) }
 {
     match *request {
-        Request::Pass { .. } | Request::Decode | Request::Encode => false,
-        Request::Plan { explained }
+        Request::Pass { .. } | Request::Decode { .. } | Request::Encode => false,
+        Request::Plan { explained, .. }
         | Request::Sim { explained, .. }
         | Request::Loop { explained, .. }
         | Request::Segment { explained, .. } => explained,
@@ -153,6 +174,15 @@ fn explained_status<F: Write>(ended: Result<(), Refusal>, more: &[u8], faults: &
     }
 }
 
+/// Explains a fault of the input, the output or a socket, if a run ended by one.
+fn explain_fault(alloc: Global, ended: &Result<(), Refusal>, behind: &mut Explanation)
+    ensures { IsLeft behind.old behind.new }
+{
+    if let Err(refusal) = ended {
+        behind.explain_stream(alloc, refusal);
+    }
+}
+
 /// Ends a run whose arguments were read: runs the command, or tells what there is to tell in its
 /// place, and answers the exit status.
 fn end_run<H: AllocGlobal + Net + Files + Clock, R: Read, W: Write, F: Write>(
@@ -174,6 +204,7 @@ fn end_run<H: AllocGlobal + Net + Files + Clock, R: Read, W: Write, F: Write>(
         Ok(request) => {
             let mut behind = Explanation::new(rt.alloc(), is_explained(&request));
             let ended = run_request(rt, request, input, output, faults, app, &mut behind);
+            explain_fault(rt.alloc(), &ended, &mut behind);
             explained_status(ended, behind.as_bytes(), faults)
         }
         Err(Notice::Memory) => exit_status(Err(Refusal::Memory), faults),

@@ -2,6 +2,7 @@
 
 mod explains;
 mod helps;
+mod lives;
 mod loops;
 mod plans;
 mod programs;
@@ -388,17 +389,17 @@ fn tells_a_fault_of_the_args(rt: HostRuntime) {
         (
             &["ecat", "plan", "a.toml"],
             "error: unexpected argument 'a.toml'",
-            "ecat plan [--explain] < TABLE",
+            "ecat plan [--header] [--explain] < TABLE",
         ),
         (
             &["ecat", "sim", "a.toml"],
             "error: unexpected argument 'a.toml'",
-            "ecat sim [--capture <FILE>] [--explain] < TABLE_AND_SCRIPT",
+            "ecat sim [--live] [--capture <FILE>] [--explain] < TABLE_AND_SCRIPT",
         ),
         (
             &["ecat", "decode", "07"],
             "error: unexpected argument '07'",
-            "ecat decode < PAYLOADS",
+            "ecat decode [--table <FILE>] [--explain] < PAYLOADS",
         ),
         (
             &["ecat", "segment"],

@@ -1,5 +1,5 @@
 -- What `clap` makes of the arguments of `ecat plan`, spelled out.
-use Rattle.std.proofs.Common.{◌≡◌, Bool, true, false, [], ◌∷◌, Some, None, codes, refl}
+use Rattle.std.proofs.Common.{◌≡◌, Bool, true, false, List, [], ◌∷◌, Some, None, codes, refl}
 use Rattle.clap.specs.Faults.{fault_of}
 use Rattle.clap.specs.Walk.{Row, Text}
 use Rattle.clap.specs.Simple.{subcommand_of}
@@ -8,16 +8,23 @@ use Rattle.clap.specs.declared.parser.matches.ValueSource.TheVariants.{CommandLi
 use Rattle.clap.proofs.OnLiterals.{clap_on_literals}
 use Rattle.ec_args.specs.CommandLine.{ecat}
 
--- what `clap` finds for the flag
-abbrev pub explain_row : Bool → Row
-explain_row true = record { id = codes "explain"; values = codes "true" ∷ []; count = None; source = Some CommandLine; reading = AsWritten }
-explain_row false = record { id = codes "explain"; values = codes "false" ∷ []; count = None; source = Some DefaultValue; reading = AsWritten }
+-- what `clap` finds for a flag that is given, and for one that isn't
+abbrev pub given_row : Text → Row
+given_row name = record { id = name; values = codes "true" ∷ []; count = None; source = Some CommandLine; reading = AsWritten }
 
-pub plan-met : (name : Text) → subcommand_of ecat (name ∷ codes "plan" ∷ []) ≡ Some (codes "plan", explain_row false ∷ [])
+abbrev pub absent_row : Text → Row
+absent_row name = record { id = name; values = codes "false" ∷ []; count = None; source = Some DefaultValue; reading = AsWritten }
+
+-- what it finds for the arguments, those that are given first
+abbrev pub plan_rows : Bool → List Row
+plan_rows true = given_row (codes "explain") ∷ absent_row (codes "header") ∷ []
+plan_rows false = absent_row (codes "header") ∷ absent_row (codes "explain") ∷ []
+
+pub plan-met : (name : Text) → subcommand_of ecat (name ∷ codes "plan" ∷ []) ≡ Some (codes "plan", plan_rows false)
 unfolding clap_on_literals
 plan-met name = refl
 
-pub explain-met : (name : Text) → subcommand_of ecat (name ∷ codes "plan" ∷ codes "--explain" ∷ []) ≡ Some (codes "plan", explain_row true ∷ [])
+pub explain-met : (name : Text) → subcommand_of ecat (name ∷ codes "plan" ∷ codes "--explain" ∷ []) ≡ Some (codes "plan", plan_rows true)
 unfolding clap_on_literals
 explain-met name = refl
 

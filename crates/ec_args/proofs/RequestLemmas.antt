@@ -24,7 +24,7 @@ use Rattle.ec_args.specs.declared.request.Request.{Request}
 use Rattle.ec_args.specs.CommandLine.{ecat}
 use Rattle.ec_args.specs.Requests.{Asks, ArePassArguments, ArePlanArguments, Command, Finds, FindsAny, FindsFlag, FindsNumber, FindsText, IsFault, IsNotice, MeetsAs, MeetsCommand, PassIsRead, PlanIsRead, PassOf, PlanOf, DecodeOf, EncodeOf, SimOf, LoopOf, SegmentOf, command_of, is_answer, word_of}
 use Rattle.ec_args.specs.Stages.{IsAskedAs, IsNeverAsked}
-use Rattle.ec_args.proofs.PlanArguments.{explain-met, explain-no_fault, explain_row, plan-met, plan-no_fault}
+use Rattle.ec_args.proofs.PlanArguments.{explain-met, explain-no_fault, plan-met, plan-no_fault, plan_rows}
 use Rattle.ec_args.proofs.PassArguments.{ecat-is_simple, ecat-simple, frame_row, no-fault, number_argument, slaves_row, subcommand-pass, value_argument}
 
 -- what `parse` gives at an unsigned type of so many bits
@@ -74,37 +74,37 @@ other_word a b differ same = let bad : true ≡ false = sym ((bytes_eq-Decides a
 -- so a word is that of one command
 pub is_pass : (command : Command) → word_of command ≡ codes "pass" → (n : ℕ) × (f : Text) × (command ≡ PassOf n f)
 is_pass (PassOf n f) called = (n, f, refl)
-is_pass (PlanOf e) called = absurd (other_word (codes "plan") (codes "pass") refl called)
-is_pass DecodeOf called = absurd (other_word (codes "decode") (codes "pass") refl called)
+is_pass (PlanOf h e) called = absurd (other_word (codes "plan") (codes "pass") refl called)
+is_pass (DecodeOf t e) called = absurd (other_word (codes "decode") (codes "pass") refl called)
 is_pass EncodeOf called = absurd (other_word (codes "encode") (codes "pass") refl called)
-is_pass (SimOf c e) called = absurd (other_word (codes "sim") (codes "pass") refl called)
+is_pass (SimOf l c e) called = absurd (other_word (codes "sim") (codes "pass") refl called)
 is_pass (LoopOf n c e) called = absurd (other_word (codes "loop") (codes "pass") refl called)
 is_pass (SegmentOf n p d i c e) called = absurd (other_word (codes "segment") (codes "pass") refl called)
 
-pub is_plan : (command : Command) → word_of command ≡ codes "plan" → (e : Bool) × (command ≡ PlanOf e)
+pub is_plan : (command : Command) → word_of command ≡ codes "plan" → (h : Bool) × (e : Bool) × (command ≡ PlanOf h e)
 is_plan (PassOf n f) called = absurd (other_word (codes "pass") (codes "plan") refl called)
-is_plan (PlanOf e) called = (e, refl)
-is_plan DecodeOf called = absurd (other_word (codes "decode") (codes "plan") refl called)
+is_plan (PlanOf h e) called = (h, e, refl)
+is_plan (DecodeOf t e) called = absurd (other_word (codes "decode") (codes "plan") refl called)
 is_plan EncodeOf called = absurd (other_word (codes "encode") (codes "plan") refl called)
-is_plan (SimOf c e) called = absurd (other_word (codes "sim") (codes "plan") refl called)
+is_plan (SimOf l c e) called = absurd (other_word (codes "sim") (codes "plan") refl called)
 is_plan (LoopOf n c e) called = absurd (other_word (codes "loop") (codes "plan") refl called)
 is_plan (SegmentOf n p d i c e) called = absurd (other_word (codes "segment") (codes "plan") refl called)
 
 pub is_loop : (command : Command) → word_of command ≡ codes "loop" → (n : ℕ) × (c : Option Text) × (e : Bool) × (command ≡ LoopOf n c e)
 is_loop (PassOf n f) called = absurd (other_word (codes "pass") (codes "loop") refl called)
-is_loop (PlanOf e) called = absurd (other_word (codes "plan") (codes "loop") refl called)
-is_loop DecodeOf called = absurd (other_word (codes "decode") (codes "loop") refl called)
+is_loop (PlanOf h e) called = absurd (other_word (codes "plan") (codes "loop") refl called)
+is_loop (DecodeOf t e) called = absurd (other_word (codes "decode") (codes "loop") refl called)
 is_loop EncodeOf called = absurd (other_word (codes "encode") (codes "loop") refl called)
-is_loop (SimOf c e) called = absurd (other_word (codes "sim") (codes "loop") refl called)
+is_loop (SimOf l c e) called = absurd (other_word (codes "sim") (codes "loop") refl called)
 is_loop (LoopOf n c e) called = (n, c, e, refl)
 is_loop (SegmentOf n p d i c e) called = absurd (other_word (codes "segment") (codes "loop") refl called)
 
 pub is_segment : (command : Command) → word_of command ≡ codes "segment" → (n : ℕ) × (p : ℕ) × (d : Option ℕ) × (i : ℕ) × (c : Option Text) × (e : Bool) × (command ≡ SegmentOf n p d i c e)
 is_segment (PassOf n f) called = absurd (other_word (codes "pass") (codes "segment") refl called)
-is_segment (PlanOf e) called = absurd (other_word (codes "plan") (codes "segment") refl called)
-is_segment DecodeOf called = absurd (other_word (codes "decode") (codes "segment") refl called)
+is_segment (PlanOf h e) called = absurd (other_word (codes "plan") (codes "segment") refl called)
+is_segment (DecodeOf t e) called = absurd (other_word (codes "decode") (codes "segment") refl called)
 is_segment EncodeOf called = absurd (other_word (codes "encode") (codes "segment") refl called)
-is_segment (SimOf c e) called = absurd (other_word (codes "sim") (codes "segment") refl called)
+is_segment (SimOf l c e) called = absurd (other_word (codes "sim") (codes "segment") refl called)
 is_segment (LoopOf n c e) called = absurd (other_word (codes "loop") (codes "segment") refl called)
 is_segment (SegmentOf n p d i c e) called = (n, p, d, i, c, e, refl)
 
@@ -132,10 +132,10 @@ not_asked (Some request) name word rows called never = tt
 pub no_such_word : (name : Text) (rows : List Row) → (name ≡ codes "pass" → ⊥) → (name ≡ codes "plan" → ⊥) → (name ≡ codes "decode" → ⊥) → (name ≡ codes "encode" → ⊥)
     → (name ≡ codes "sim" → ⊥) → (name ≡ codes "loop" → ⊥) → (name ≡ codes "segment" → ⊥) → MeetsCommand (Some (name, rows)) → ⊥
 no_such_word name rows pass plan decode encode sim loop segment (PassOf n f, met) = pass (ap name_in met.named)
-no_such_word name rows pass plan decode encode sim loop segment (PlanOf e, met) = plan (ap name_in met.named)
-no_such_word name rows pass plan decode encode sim loop segment (DecodeOf, met) = decode (ap name_in met.named)
+no_such_word name rows pass plan decode encode sim loop segment (PlanOf h e, met) = plan (ap name_in met.named)
+no_such_word name rows pass plan decode encode sim loop segment (DecodeOf t e, met) = decode (ap name_in met.named)
 no_such_word name rows pass plan decode encode sim loop segment (EncodeOf, met) = encode (ap name_in met.named)
-no_such_word name rows pass plan decode encode sim loop segment (SimOf c e, met) = sim (ap name_in met.named)
+no_such_word name rows pass plan decode encode sim loop segment (SimOf l c e, met) = sim (ap name_in met.named)
 no_such_word name rows pass plan decode encode sim loop segment (LoopOf n c e, met) = loop (ap name_in met.named)
 no_such_word name rows pass plan decode encode sim loop segment (SegmentOf n p d i c e, met) = segment (ap name_in met.named)
 
@@ -302,9 +302,9 @@ pass_is_read args slaves frame (Err notice) w (kind, fault, told) =
 
 -- ---- `ecat plan`
 
-pub subcommand_of-plan : (args : List Text) (explained : Bool) → ArePlanArguments args explained → subcommand_of ecat args ≡ Some (codes "plan", explain_row explained ∷ [])
-subcommand_of-plan args true w = subst (λ (given : List Text). subcommand_of ecat given ≡ Some (codes "plan", explain_row true ∷ [])) (sym w.spelled) (explain-met w.name)
-subcommand_of-plan args false w = subst (λ (given : List Text). subcommand_of ecat given ≡ Some (codes "plan", explain_row false ∷ [])) (sym w.spelled) (plan-met w.name)
+pub subcommand_of-plan : (args : List Text) (explained : Bool) → ArePlanArguments args explained → subcommand_of ecat args ≡ Some (codes "plan", plan_rows explained)
+subcommand_of-plan args true w = subst (λ (given : List Text). subcommand_of ecat given ≡ Some (codes "plan", plan_rows true)) (sym w.spelled) (explain-met w.name)
+subcommand_of-plan args false w = subst (λ (given : List Text). subcommand_of ecat given ≡ Some (codes "plan", plan_rows false)) (sym w.spelled) (plan-met w.name)
 
 pub no_fault-plan : (args : List Text) (explained : Bool) → ArePlanArguments args explained → fault_of ecat args ≡ []
 no_fault-plan args true w = subst (λ (given : List Text). fault_of ecat given ≡ []) (sym w.spelled) (explain-no_fault w.name)
@@ -314,29 +314,46 @@ no_fault-plan args false w = subst (λ (given : List Text). fault_of ecat given 
 other_flag : {P : Type 0} → Some (codes "true") ≡ Some (codes "false") → P
 other_flag is = let bad : 116 ≡ 102 = ap (λ (t : Text). slice_index t 0) (same_text (codes "true") (codes "false") is) in absurd (omega (arith, bad))
 
-finds-plan : (explained : Bool) → Finds (explain_row explained ∷ []) (PlanOf explained)
-finds-plan true = record { given = λ found. refl; absent = λ found. other_flag found }
-finds-plan false = record { given = λ found. other_flag (sym found); absent = λ found. refl }
+finds_no_header : (explained : Bool) → FindsFlag (plan_rows explained) (codes "header") false
+finds_no_header true = record { given = λ found. other_flag (sym found); absent = λ found. refl }
+finds_no_header false = record { given = λ found. other_flag (sym found); absent = λ found. refl }
 
-pub meets-plan : (args : List Text) (explained : Bool) → ArePlanArguments args explained → MeetsAs (subcommand_of ecat args) (PlanOf explained)
+finds_explain : (explained : Bool) → FindsFlag (plan_rows explained) (codes "explain") explained
+finds_explain true = record { given = λ found. refl; absent = λ found. other_flag found }
+finds_explain false = record { given = λ found. other_flag (sym found); absent = λ found. refl }
+
+finds-plan : (explained : Bool) → Finds (plan_rows explained) (PlanOf false explained)
+finds-plan explained = record { for_header = finds_no_header explained; for_explain = finds_explain explained }
+
+pub meets-plan : (args : List Text) (explained : Bool) → ArePlanArguments args explained → MeetsAs (subcommand_of ecat args) (PlanOf false explained)
 meets-plan args explained w = record {
-  rows = explain_row explained ∷ [];
+  rows = plan_rows explained;
   named = subcommand_of-plan args explained w;
   found = finds-plan explained;
 }
 
-same_flag : (explained e : Bool) → FindsFlag (explain_row explained ∷ []) (codes "explain") e → e ≡ explained
+no_header : (explained h : Bool) → FindsFlag (plan_rows explained) (codes "header") h → h ≡ false
+no_header true h flag = flag.absent refl
+no_header false h flag = flag.absent refl
+
+same_flag : (explained e : Bool) → FindsFlag (plan_rows explained) (codes "explain") e → e ≡ explained
 same_flag true e flag = flag.given refl
 same_flag false e flag = flag.absent refl
 
-pub only-plan : (args : List Text) (explained : Bool) → ArePlanArguments args explained → (command : Command) → MeetsAs (subcommand_of ecat args) command → command ≡ PlanOf explained
+same_plan : (explained h e : Bool) → Finds (plan_rows explained) (PlanOf h e) → PlanOf h e ≡ PlanOf false explained
+same_plan explained h e found =
+    let header = no_header explained h found.for_header in
+    let flag = same_flag explained e found.for_explain in
+    (λ i. PlanOf (header i) (flag i))
+
+pub only-plan : (args : List Text) (explained : Bool) → ArePlanArguments args explained → (command : Command) → MeetsAs (subcommand_of ecat args) command → command ≡ PlanOf false explained
 only-plan args explained w command met =
     let is = sym met.named ∙ subcommand_of-plan args explained w in
     let it = is_plan command (ap name_in is) in
     let found = subst (λ (l : List Row). Finds l command) (ap rows_in is) met.found in
-    it.1 ∙ ap PlanOf (same_flag explained it.0 (subst (Finds (explain_row explained ∷ [])) it.1 found))
+    it.2 ∙ same_plan explained it.0 it.1 (subst (Finds (plan_rows explained)) it.2 found)
 
 pub plan_is_read : PlanIsRead
 plan_is_read args explained (Ok request) w (none, asks) = only-plan args explained w (command_of request) asks
 plan_is_read args explained (Err notice) w (kind, fault, told) =
-    memory_notice kind notice (no_other_fault args kind (no_fault-plan args explained w) (PlanOf explained, meets-plan args explained w) fault) told
+    memory_notice kind notice (no_other_fault args kind (no_fault-plan args explained w) (PlanOf false explained, meets-plan args explained w) fault) told

@@ -39,9 +39,25 @@ frame_rule = record (new_rule (codes "frame")) { required = true; action = Some 
 abbrev pub explain_rule : Rule
 explain_rule = flag_rule (codes "explain")
 
+-- whether a plan is shown as a header of C
+abbrev pub header_rule : Rule
+header_rule = flag_rule (codes "header")
+
+-- whether lines are run as they come
+abbrev pub live_rule : Rule
+live_rule = flag_rule (codes "live")
+
+-- `--NAME TEXT`, any text
+abbrev pub text_rule : Text → Rule
+text_rule name = record (new_rule name) { long = Some name; action = Some Set; value_names = 1 }
+
 -- the file of a capture
 abbrev pub capture_rule : Rule
-capture_rule = record (new_rule (codes "capture")) { long = Some (codes "capture"); action = Some Set; value_names = 1 }
+capture_rule = text_rule (codes "capture")
+
+-- the file of a link table
+abbrev pub table_rule : Rule
+table_rule = text_rule (codes "table")
 
 -- how many cycles are run
 abbrev pub cycles_rule : Rule
@@ -69,16 +85,20 @@ abbrev pub pass_shape : Shape
 pass_shape = (with_rule (with_rule (new_app (codes "pass")) slaves_rule) frame_rule).top
 
 abbrev pub plan_shape : Shape
-plan_shape = (with_rule (new_app (codes "plan")) explain_rule).top
+plan_shape = (with_rule (with_rule (new_app (codes "plan")) header_rule) explain_rule).top
 
 abbrev pub decode_shape : Shape
-decode_shape = (new_app (codes "decode")).top
+decode_shape = (with_rule (with_rule (new_app (codes "decode")) table_rule) explain_rule).top
 
 abbrev pub encode_shape : Shape
 encode_shape = (new_app (codes "encode")).top
 
+-- how a script is run
+abbrev pub running : App
+running = with_rule (with_rule (new_app (codes "sim")) live_rule) capture_rule
+
 abbrev pub sim_shape : Shape
-sim_shape = (with_rule (with_rule (new_app (codes "sim")) capture_rule) explain_rule).top
+sim_shape = (with_rule running explain_rule).top
 
 -- how many cycles are run, and what is noted of them
 abbrev pub turning : App

@@ -3,7 +3,6 @@ use Rattle.std.specs.Prelude.{◌≡◌, ◌≢◌, ◌⊎◌, ℕ, ◌<◌, ◌
 use Rattle.std.specs.declared.alloc.AllocError.{AllocError}
 use Rattle.std.specs.declared.alloc.Global.{Global}
 use Rattle.std.specs.declared.string.String.{String}
-use Rattle.std.specs.Fmt.{decimal}
 use Rattle.std.specs.Str.Parse.{IsNumeral, digits_value, without_leading_plus}
 use Rattle.clap.specs.Walk.{Row, Text, first_of, one_of}
 use Rattle.clap.specs.Simple.{subcommand_of}
@@ -21,14 +20,15 @@ use Rattle.ec_args.specs.declared.request.Request.TheVariants.{Pass, Plan, Decod
 pub data Command : Type 0 where
   -- `ecat pass`: the number of slaves, and the text of a frame
   PassOf : ℕ → Text → Command
-  -- `ecat plan`: whether the plan is to be explained, and so a refusal
-  PlanOf : Bool → Command
-  -- `ecat decode` and `ecat encode`
-  DecodeOf : Command
+  -- `ecat plan`: whether it is to be shown as a header of C, and whether it is to be explained, and so a refusal
+  PlanOf : Bool → Bool → Command
+  -- `ecat decode`: the file of a link table, if one is named, and whether the frames are to be explained
+  DecodeOf : Option Text → Bool → Command
+  -- `ecat encode`
   EncodeOf : Command
-  -- `ecat sim`: the file of a capture, if one is named, and whether a refusal is to be explained, as the last two of each from
-  -- here on
-  SimOf : Option Text → Bool → Command
+  -- `ecat sim`: whether lines are run as they come, the file of a capture, if one is named, and whether a refusal is to be
+  -- explained, as the last two of each from here on
+  SimOf : Bool → Option Text → Bool → Command
   -- `ecat loop`: the number of cycles
   LoopOf : ℕ → Option Text → Bool → Command
   -- `ecat segment`: the number of payloads, the port, the descriptor that is given in its place, if one is, and how many seconds
@@ -38,10 +38,10 @@ pub data Command : Type 0 where
 -- the word that asks for it
 abbrev pub word_of : Command → Text
 word_of (PassOf slaves frame) = codes "pass"
-word_of (PlanOf explained) = codes "plan"
-word_of DecodeOf = codes "decode"
+word_of (PlanOf header explained) = codes "plan"
+word_of (DecodeOf table explained) = codes "decode"
 word_of EncodeOf = codes "encode"
-word_of (SimOf capture explained) = codes "sim"
+word_of (SimOf live capture explained) = codes "sim"
 word_of (LoopOf cycles capture explained) = codes "loop"
 word_of (SegmentOf frames port descriptor idle capture explained) = codes "segment"
 
@@ -73,7 +73,16 @@ pub record FindsPass (rows : List Row) (slaves : ℕ) (frame : Text) : Type 0 wh
   pub for_slaves : FindsNumber rows (codes "slaves") slaves (2 ^ 8)
   pub for_frame : FindsText rows (codes "frame") (Some frame)
 
-pub record FindsSim (rows : List Row) (capture : Option Text) (explained : Bool) : Type 0 where
+pub record FindsPlan (rows : List Row) (header : Bool) (explained : Bool) : Type 0 where
+  pub for_header : FindsFlag rows (codes "header") header
+  pub for_explain : FindsFlag rows (codes "explain") explained
+
+pub record FindsDecode (rows : List Row) (table : Option Text) (explained : Bool) : Type 0 where
+  pub for_table : FindsText rows (codes "table") table
+  pub for_explain : FindsFlag rows (codes "explain") explained
+
+pub record FindsSim (rows : List Row) (live : Bool) (capture : Option Text) (explained : Bool) : Type 0 where
+  pub for_live : FindsFlag rows (codes "live") live
   pub for_capture : FindsText rows (codes "capture") capture
   pub for_explain : FindsFlag rows (codes "explain") explained
 
@@ -93,10 +102,10 @@ pub record FindsSegment (rows : List Row) (frames port : ℕ) (descriptor : Opti
 -- for the arguments of a command
 abbrev pub Finds : List Row → Command → Type 0
 Finds rows (PassOf slaves frame) = FindsPass rows slaves frame
-Finds rows (PlanOf explained) = FindsFlag rows (codes "explain") explained
-Finds rows DecodeOf = Unit {0}
+Finds rows (PlanOf header explained) = FindsPlan rows header explained
+Finds rows (DecodeOf table explained) = FindsDecode rows table explained
 Finds rows EncodeOf = Unit {0}
-Finds rows (SimOf capture explained) = FindsSim rows capture explained
+Finds rows (SimOf live capture explained) = FindsSim rows live capture explained
 Finds rows (LoopOf cycles capture explained) = FindsLoop rows cycles capture explained
 Finds rows (SegmentOf frames port descriptor idle capture explained) = FindsSegment rows frames port descriptor idle capture explained
 
@@ -113,10 +122,10 @@ MeetsCommand met = (command : Command) × MeetsAs met command
 -- the command that is asked for
 abbrev pub command_of : Request → Command
 command_of (Pass slaves frame) = PassOf slaves frame.now
-command_of (Plan explained) = PlanOf explained
-command_of Decode = DecodeOf
+command_of (Plan header explained) = PlanOf header explained
+command_of (Decode table explained) = DecodeOf (option_map (λ file. file.now) table) explained
 command_of Encode = EncodeOf
-command_of (Sim capture explained) = SimOf (option_map (λ file. file.now) capture) explained
+command_of (Sim live capture explained) = SimOf live (option_map (λ file. file.now) capture) explained
 command_of (Loop cycles capture explained) = LoopOf cycles (option_map (λ file. file.now) capture) explained
 command_of (Segment frames port descriptor idle capture explained) =
     SegmentOf frames port descriptor idle (option_map (λ file. file.now) capture) explained
@@ -179,4 +188,4 @@ pub record ArePlanArguments (args : List Text) (explained : Bool) : Type 0 where
 abbrev pub PlanIsRead : Type 0
 PlanIsRead = (args : List Text) (explained : Bool) (read : Result Request Notice)
     → ArePlanArguments args explained → Reads args read
-    → MatchResult read (λ request. command_of request ≡ PlanOf explained) (λ notice. notice ≡ Memory)
+    → MatchResult read (λ request. command_of request ≡ PlanOf false explained) (λ notice. notice ≡ Memory)

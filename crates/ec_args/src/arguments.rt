@@ -2,7 +2,7 @@
 //! minutes to check.
 ghost use Rattle.std.specs.Prelude.{◌≡◌, false};
 ghost use Rattle.clap.specs.Walk.{rule_of};
-ghost use Rattle.ec_args.specs.CommandLine.{capture_rule, cycles_rule, descriptor_rule, explain_rule, frame_rule, frames_rule, idle_rule, port_rule, slaves_rule};
+ghost use Rattle.ec_args.specs.CommandLine.{capture_rule, cycles_rule, descriptor_rule, explain_rule, frame_rule, frames_rule, header_rule, idle_rule, live_rule, port_rule, slaves_rule, table_rule};
 
 use clap::{Arg, ArgAction};
 use std::alloc::Global;
@@ -42,6 +42,39 @@ pub(crate) fn explain_plan_argument<'a>(alloc: Global) -> Arg<'a>
         .long("explain")
         .action(ArgAction::SetTrue)
         .help("Show the plan as tables of bits, and tell of a refusal what is wrong, for people")
+}
+
+/// `--header`.
+pub(crate) fn header_argument<'a>(alloc: Global) -> Arg<'a>
+    ensures rule { rule_of result ≡ header_rule }
+    ensures local { result.global ≡ false }
+{
+    Arg::new(alloc, "header")
+        .long("header")
+        .action(ArgAction::SetTrue)
+        .help("Print the table's variables as a header of C in the place of the plan")
+}
+
+/// `--live`.
+pub(crate) fn live_argument<'a>(alloc: Global) -> Arg<'a>
+    ensures rule { rule_of result ≡ live_rule }
+    ensures local { result.global ≡ false }
+{
+    Arg::new(alloc, "live")
+        .long("live")
+        .action(ArgAction::SetTrue)
+        .help("Run each line as it comes, and write out what it prints before the next one")
+}
+
+/// `--explain` of the command that shows frames as text.
+pub(crate) fn explain_frames_argument<'a>(alloc: Global) -> Arg<'a>
+    ensures rule { rule_of result ≡ explain_rule }
+    ensures local { result.global ≡ false }
+{
+    Arg::new(alloc, "explain")
+        .long("explain")
+        .action(ArgAction::SetTrue)
+        .help("Tell below each datagram what it says by the names of the standard")
 }
 
 /// `--explain` of the commands that show neither.
@@ -134,4 +167,16 @@ pub(crate) fn capture_argument<'a>(alloc: Global) -> Arg<'a>
         .action(ArgAction::Set)
         .value_name("FILE")
         .help("Write the frames that pass into a pcapng file, which Wireshark opens")
+}
+
+/// `--table FILE`, the link table that frames are told by.
+pub(crate) fn table_argument<'a>(alloc: Global) -> Arg<'a>
+    ensures rule { rule_of result ≡ table_rule }
+    ensures local { result.global ≡ false }
+{
+    Arg::new(alloc, "table")
+        .long("table")
+        .action(ArgAction::Set)
+        .value_name("FILE")
+        .help("Tell of process data which variables of this link table they carry")
 }

@@ -3,12 +3,12 @@
 ghost use Rattle.std.specs.Prelude.{◌≡◌, false, IfOk};
 ghost use Rattle.clap.specs.Simple.{app_of, shape_of};
 ghost use Rattle.clap.specs.declared.builder.command.Command.TheViews.{out-Command as fields_of};
-ghost use Rattle.ec_args.specs.CommandLine.{cycling, decode_shape, ecat, encode_shape, listening, loop_shape, pass_shape, plan_shape, planning, segment_shape, sim_shape, telling, turning, waiting};
+ghost use Rattle.ec_args.specs.CommandLine.{cycling, decode_shape, ecat, encode_shape, listening, loop_shape, pass_shape, plan_shape, planning, running, segment_shape, sim_shape, telling, turning, waiting};
 
 use crate::arguments::{
     capture_argument, cycles_argument, descriptor_argument, explain_argument,
-    explain_plan_argument, frame_argument, frames_argument, idle_argument, port_argument,
-    slaves_argument,
+    explain_frames_argument, explain_plan_argument, frame_argument, frames_argument,
+    header_argument, idle_argument, live_argument, port_argument, slaves_argument, table_argument,
 };
 use crate::helps::{
     DECODE_LINES, ENCODE_LINES, EXIT_STATUSES, LOOP_LINES, PASS_REFUSALS, PLAN_LINES,
@@ -29,29 +29,30 @@ fn pass_command<'a>(alloc: Global) -> Result<Command<'a>, AllocError>
         .arg(frame_argument(alloc))
 }
 
-/// `ecat plan [--explain]`.
+/// `ecat plan [--header] [--explain]`.
 fn plan_command<'a>(alloc: Global) -> Result<Command<'a>, AllocError>
     ensures shape { IfOk result (λ command. shape_of command ≡ plan_shape) }
     ensures local { IfOk result (λ command. (fields_of command).has_globals ≡ false) }
 {
     Command::new(alloc, "plan")
-        .override_usage("ecat plan [--explain] < TABLE")
+        .override_usage("ecat plan [--header] [--explain] < TABLE")
         .about("Reads a link table from standard input and prints its plan")
         .after_help(PLAN_LINES)
+        .arg(header_argument(alloc))?
         .arg(explain_plan_argument(alloc))
 }
 
-/// `ecat decode`.
+/// `ecat decode [--table FILE] [--explain]`.
 fn decode_command<'a>(alloc: Global) -> Result<Command<'a>, AllocError>
     ensures shape { IfOk result (λ command. shape_of command ≡ decode_shape) }
     ensures local { IfOk result (λ command. (fields_of command).has_globals ≡ false) }
 {
-    Ok(
-        Command::new(alloc, "decode")
-            .override_usage("ecat decode < PAYLOADS")
-            .about("Reads payloads in hex from standard input, one a line, and prints them as text")
-            .after_help(DECODE_LINES),
-    )
+    Command::new(alloc, "decode")
+        .override_usage("ecat decode [--table <FILE>] [--explain] < PAYLOADS")
+        .about("Reads payloads in hex from standard input, one a line, and prints them as text")
+        .after_help(DECODE_LINES)
+        .arg(table_argument(alloc))?
+        .arg(explain_frames_argument(alloc))
 }
 
 /// `ecat encode`.
@@ -67,17 +68,25 @@ fn encode_command<'a>(alloc: Global) -> Result<Command<'a>, AllocError>
     )
 }
 
-/// `ecat sim [--capture FILE] [--explain]`.
+/// `ecat sim` with the arguments that say how a script is run.
+fn running_command<'a>(alloc: Global) -> Result<Command<'a>, AllocError>
+    ensures shape { IfOk result (λ command. shape_of command ≡ running.top) }
+    ensures local { IfOk result (λ command. (fields_of command).has_globals ≡ false) }
+{
+    Command::new(alloc, "sim")
+        .override_usage("ecat sim [--live] [--capture <FILE>] [--explain] < TABLE_AND_SCRIPT")
+        .about("Reads a link table and a script from standard input and prints what comes of it")
+        .after_help(SIM_LINES)
+        .arg(live_argument(alloc))?
+        .arg(capture_argument(alloc))
+}
+
+/// `ecat sim [--live] [--capture FILE] [--explain]`.
 fn sim_command<'a>(alloc: Global) -> Result<Command<'a>, AllocError>
     ensures shape { IfOk result (λ command. shape_of command ≡ sim_shape) }
     ensures local { IfOk result (λ command. (fields_of command).has_globals ≡ false) }
 {
-    Command::new(alloc, "sim")
-        .override_usage("ecat sim [--capture <FILE>] [--explain] < TABLE_AND_SCRIPT")
-        .about("Reads a link table and a script from standard input and prints what comes of it")
-        .after_help(SIM_LINES)
-        .arg(capture_argument(alloc))?
-        .arg(explain_argument(alloc))
+    running_command(alloc)?.arg(explain_argument(alloc))
 }
 
 /// `ecat loop` with the arguments that say what is run and noted.

@@ -49,6 +49,10 @@ Lines, in this order for each slave, and then for each part:
                              of its LRW; W/R are those of an LWR and an LRD, where a slave of the
                              part takes no part in LRW. A table of version 2 adds ` unit U`
 
+With `--header` it is a header of C in their place, for programs that use the library: of each
+variable NAME, in file order, ECAT_NUMBER_NAME is its number, ECAT_BITS_NAME how many bits it has,
+and ECAT_OUTPUT_NAME 1 for an output and 0 for an input. ECAT_VARIABLES is how many there are.
+
 Exit status:
   0  the plan is on standard output
   2  the arguments ask for no command: put them right as standard error says
@@ -113,17 +117,23 @@ Lines for each payload, in this order:
                   fault: the payload is no frame, by what `ecat pass --help` lists, and what is
                   wrong begins at byte AT
 
+With `--explain` indented lines stand below a datagram: what it says by the names of the standard,
+registers, AL states and status codes, sync managers, FMMUs, and messages of a mailbox. With `--table`
+those of process data tell which variables of that table they carry, with which values, and the
+working counter that is expected. `ecat encode` skips indented lines.
+
 Exit status:
   0  every payload was told, also one that is refused
   2  the arguments ask for no command: put them right as standard error says
-  3  refused, and standard error says `ecat: NUMBER NAME`:
+  3  refused, and standard error says `ecat: NUMBER NAME VALUES`:
      40 BadHex      a line isn't pairs of hex digits: leave out blanks and 0x; what stands before
                     it is told
+     11 to 25, 44   the table in FILE is refused; `ecat plan --help` says what to do
       1 Memory      memory ran out, and the input may be good or bad: free some and try again
   4  input or output is at fault, told in the same form:
      41 Output      a text couldn't be written, or a part of it is: see where standard output goes
-     42 Input       standard input couldn't be read, is no text in UTF-8, or has over 1048576
-                    bytes: see where it comes from";
+     42 Input       standard input, or FILE, couldn't be read, is no text in UTF-8, or has over
+                    1048576 bytes: see where it comes from";
 
 /// What stands below the description of `ecat encode`.
 pub(crate) const ENCODE_LINES: &str = "\
@@ -205,6 +215,10 @@ What a line prints, before the next one runs:
   NAME VALUE      of `show`, for each input variable
   unmet LINE      what this line expects isn't so; the script goes on
 Other lines print nothing. What an act prints that is repeated, it prints each time.
+
+With `--live` each line is run as it comes, and what it prints is written out before the next one is
+read: another program can be the plant, or the control program, through a pipe. A line that can't be
+read then prints `bad LINE` in place of 39, and changes nothing.
 
 Exit status:
   0  the script was run to its end, also where lines printed `no` or `failed`

@@ -22,18 +22,25 @@ pub enum Request<'a> {
         slaves: u8,
         frame: &'a str,
     },
-    /// Show the plan of the link table on the input, explained for people if it says so, and so is a
-    /// refusal then.
+    /// Show the plan of the link table on the input, or a header of C of its variables, explained for
+    /// people if it says so, and so is a refusal then.
     Plan {
+        header: bool,
         explained: bool,
     },
-    /// Show as text the payloads that the lines of the input spell in hex.
-    Decode,
+    /// Show as text the payloads that the lines of the input spell in hex, explained by the names of the
+    /// standard if it says so, and by the link table in a file, if one is named.
+    Decode {
+        table: Option<&'a str>,
+        explained: bool,
+    },
     /// Show in hex the frames that the text on the input states.
     Encode,
-    /// Run the script behind the link table on the input. The frames that pass go into a capture, if a
-    /// file is named, and a refusal is explained if it says so, as with the others.
+    /// Run the script behind the link table on the input, or its lines as they come. The frames that
+    /// pass go into a capture, if a file is named, and a refusal is explained if it says so, as with
+    /// the others.
     Sim {
+        live: bool,
         capture: Option<&'a str>,
         explained: bool,
     },
@@ -83,6 +90,17 @@ fn read_plan<'a>(given: &ArgMatches<'a>) -> Request<'a>
     ensures { IsAskedAs (codes "plan") (rows_of (found_of given.now)) result }
 {
     Request::Plan {
+        header: given.get_flag("header"),
+        explained: given.get_flag("explain"),
+    }
+}
+
+/// What those of `decode` ask for.
+fn read_decode<'a>(given: &ArgMatches<'a>) -> Request<'a>
+    ensures { IsAskedAs (codes "decode") (rows_of (found_of given.now)) result }
+{
+    Request::Decode {
+        table: given.get_str("table"),
         explained: given.get_flag("explain"),
     }
 }
@@ -92,6 +110,7 @@ fn read_sim<'a>(given: &ArgMatches<'a>) -> Request<'a>
     ensures { IsAskedAs (codes "sim") (rows_of (found_of given.now)) result }
 {
     Request::Sim {
+        live: given.get_flag("live"),
         capture: given.get_str("capture"),
         explained: given.get_flag("explain"),
     }
@@ -133,7 +152,7 @@ fn read_command<'a>(name: &str, given: &ArgMatches<'a>) -> Option<Request<'a>>
     match name {
         "pass" => read_pass(given),
         "plan" => Some(read_plan(given)),
-        "decode" => Some(Request::Decode),
+        "decode" => Some(read_decode(given)),
         "encode" => Some(Request::Encode),
         "sim" => Some(read_sim(given)),
         "loop" => read_loop(given),

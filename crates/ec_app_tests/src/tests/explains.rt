@@ -1,6 +1,7 @@
 //! Refusals that are explained: behind the line that is told as ever there is more.
 use crate::tests::tables::THREE_SLAVES;
 use crate::tests::{Narrow, run_args, run_in_memory};
+use ec_app::UdpWire;
 use std::fs::Files;
 use std::net::Net;
 use std::process::Abort;
@@ -79,6 +80,54 @@ fn a_script_is_explained(rt: HostRuntime) -> Result<(), Fail> {
     let text = format!(in rt.alloc(); "{THREE_SLAVES}ready\n")?;
     let wanted = ["`%%`", "| ready\n"];
     expect_explanation(&rt, &sim, text.as_bytes(), "11 Toml", &wanted)
+}
+
+/// A fault of the input is explained too, and of the output where a command has printed something.
+#[test]
+fn faults_are_explained(rt: HostRuntime) -> Result<(), Fail> {
+    for args in COMMANDS {
+        let ended = run_in_memory(&rt, args, b"# \xff\n");
+        assert_eq!(rt; ended.status, 4, "{args:?}");
+        let told = String::from_utf8(ended.told).map_err(|_| "no text")?;
+        let told = told.as_str();
+        assert!(rt; told.starts_with("ecat: 42 Input\n"), "{told}");
+        assert!(rt;
+            told.find("UTF-8").is_some() && told.find("To do: ").is_some(),
+            "{told}"
+        );
+    }
+    let mut input = THREE_SLAVES.as_bytes();
+    let mut faults: Vec<u8> = Vec::new(rt.alloc());
+    let mut output = Narrow { left: 0 };
+    let args = ["ecat", "plan", "--explain"];
+    let status = run_args(&rt, &args, &mut input, &mut output, &mut faults);
+    assert_eq!(rt; status, 4);
+    assert!(rt; faults.starts_with(b"ecat: 41 Output\nWhat was to be printed"));
+    Ok(())
+}
+
+/// So is a port that another socket has.
+#[test]
+fn sockets_are_explained(rt: HostRuntime) -> Result<(), Fail> {
+    let held = UdpWire::bind(&rt, 0)?;
+    let port = format!(in rt.alloc(); "{}", held.port())?;
+    let args = [
+        "ecat",
+        "segment",
+        "--explain",
+        "--frames",
+        "0",
+        "--port",
+        port.as_str(),
+    ];
+    let ended = run_in_memory(&rt, &args, THREE_SLAVES.as_bytes());
+    assert_eq!(rt; ended.status, 4);
+    assert!(rt;
+        ended
+            .told
+            .starts_with(b"ecat: 43 Socket\nThere is no socket as it is asked for")
+    );
+    Ok(())
 }
 
 #[test]

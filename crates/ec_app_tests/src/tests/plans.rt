@@ -102,6 +102,49 @@ fn prints_split_counters(rt: HostRuntime) -> Result<(), Fail> {
     Ok(())
 }
 
+/// The variables of the table of three slaves as a header of C.
+const THREE_SLAVES_HEADER: &str = "\
+#ifndef ECAT_VARIABLES
+#define ECAT_NUMBER_a 0
+#define ECAT_BITS_a 4
+#define ECAT_OUTPUT_a 1
+#define ECAT_NUMBER_b 1
+#define ECAT_BITS_b 12
+#define ECAT_OUTPUT_b 1
+#define ECAT_NUMBER_c 2
+#define ECAT_BITS_c 4
+#define ECAT_OUTPUT_c 0
+#define ECAT_NUMBER_d 3
+#define ECAT_BITS_d 16
+#define ECAT_OUTPUT_d 0
+#define ECAT_VARIABLES 4
+#endif
+";
+
+/// A header of C is printed in the plan's place, explained or not, and of a table that has a plan alone.
+#[test]
+fn prints_headers(rt: HostRuntime) -> Result<(), Fail> {
+    let header = ["ecat", "plan", "--header"];
+    expect_printed(&rt, &header, THREE_SLAVES, THREE_SLAVES_HEADER);
+    let explained = ["ecat", "plan", "--header", "--explain"];
+    expect_printed(&rt, &explained, THREE_SLAVES, THREE_SLAVES_HEADER);
+    let none = "#ifndef ECAT_VARIABLES\n#define ECAT_VARIABLES 0\n#endif\n";
+    expect_printed(&rt, &header, "", none);
+    let text = changed(
+        rt.alloc(),
+        THREE_SLAVES,
+        "index = 0x6010\nsub = 1",
+        "index = 0x6010\nsub = 2",
+    )?;
+    expect_explanation(
+        &rt,
+        &explained,
+        text.as_bytes(),
+        "17 NoEntry 3",
+        &["no input 0x6010:2"],
+    )
+}
+
 /// The legend and what stands below it, in lines of at most 100 bytes.
 fn expect_explained<H: AllocGlobal + Net + Files + Clock + Abort>(
     rt: &H,

@@ -4,4 +4,11 @@ use Rattle.ec_args.proofs.RequestLemmas.{finds_flag}
 use Rattle.ec_args.proofs.request.read_plan.Goals as goal
 
 pub returns : goal.returns
-returns c = (refl, finds_flag (found_of c.args.given.now) (codes "explain") c.get_flag.result c.get_flag.ensures.value c.get_flag.ensures.other)
+returns c =
+    let found = found_of c.args.given.now in (
+      refl,
+      record {
+        for_header = finds_flag found (codes "header") c.get_flag.result c.get_flag.ensures.value c.get_flag.ensures.other;
+        for_explain = finds_flag found (codes "explain") c.get_flag-2.result c.get_flag-2.ensures.value c.get_flag-2.ensures.other;
+      },
+    )

@@ -8,7 +8,8 @@ returns c =
     let found = found_of c.args.given.now in (
       refl,
       record {
+        for_live = finds_flag found (codes "live") c.get_flag.result c.get_flag.ensures.value c.get_flag.ensures.other;
         for_capture = finds_text found (codes "capture") _ c.get_str.ensures;
-        for_explain = finds_flag found (codes "explain") c.get_flag.result c.get_flag.ensures.value c.get_flag.ensures.other;
+        for_explain = finds_flag found (codes "explain") c.get_flag-2.result c.get_flag-2.ensures.value c.get_flag-2.ensures.other;
       },
     )

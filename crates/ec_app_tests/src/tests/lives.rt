@@ -1,0 +1,108 @@
+//! `ecat sim --live`, over memory.
+
+use crate::tests::tables::{THREE_SLAVES, VALVES_AND_SWITCHES};
+use crate::tests::{Run, expect_run};
+use std::fs::Files;
+use std::net::Net;
+use std::process::Abort;
+use std::test::Fail;
+use std::time::Clock;
+
+const LIVE: [&str; 3] = ["ecat", "sim", "--live"];
+
+/// Lines over the table of three slaves, what they print, the status of the run and what is told; `;` stands for the end of a
+/// line.
+const RUNS: [(&str, &str, u8, &str); 6] = [
+    ("", "", 0, ""),
+    (
+        "ready;set a 10;set b 291;put 1 0 5;put 2 0 239;put 2 1 190;cycle;show;",
+        "ready;report taken missing 0 counters 6 al 0008;c 5;d 48879;",
+        0,
+        "",
+    ),
+    (
+        "ready;stop;set e 1;;cycle;",
+        "ready;bad 2;bad 3;report taken missing 0 counters 6 al 0008;",
+        0,
+        "",
+    ),
+    (
+        "begin;expect ready;start;close;expect failed 32;",
+        "no 1;unmet 2;failed 32;",
+        5,
+        "ecat: 45 Unmet 1\n",
+    ),
+    ("%%;begin;", "bad 1;no 2;", 0, ""),
+    (
+        "repeat 3 expect taken",
+        "unmet 1;unmet 1;unmet 1;",
+        5,
+        "ecat: 45 Unmet 3\n",
+    ),
+];
+
+/// Runs lines as they come behind a table, and compares how the run ends.
+fn expect_live<H: AllocGlobal + Net + Files + Clock + Abort>(
+    rt: &H,
+    args: &[&str],
+    table: &str,
+    lines: &str,
+    ended: (&str, u8, &str),
+) -> Result<(), Fail> {
+    let (printed, status, told) = ended;
+    let lines = lines.replace(rt.alloc(), ";", "\n")?;
+    let input = format!(in rt.alloc(); "{table}\n%%\n{lines}")?;
+    let printed = printed.replace(rt.alloc(), ";", "\n")?;
+    let run = Run {
+        args,
+        input: input.as_bytes(),
+        status,
+        printed: printed.as_str(),
+        told,
+    };
+    expect_run(rt, run);
+    Ok(())
+}
+
+#[test]
+fn runs_lines_as_they_come(rt: HostRuntime) -> Result<(), Fail> {
+    for (lines, printed, status, told) in RUNS {
+        expect_live(&rt, &LIVE, THREE_SLAVES, lines, (printed, status, told))?;
+    }
+    Ok(())
+}
+
+/// A table that is refused ends the run before a line is read.
+#[test]
+fn refuses_the_table_first(rt: HostRuntime) -> Result<(), Fail> {
+    expect_live(
+        &rt,
+        &LIVE,
+        "types = 1",
+        "begin;",
+        ("", 3, "ecat: 12 BadKey 0 0\n"),
+    )?;
+    expect_live(&rt, &LIVE, "a b", "begin;", ("", 3, "ecat: 11 Toml\n"))
+}
+
+/// A capture is written beside what is printed; a file that can't be opened ends the run before a line is read.
+#[test]
+fn captures_live_lines(rt: HostRuntime) -> Result<(), Fail> {
+    let args = ["ecat", "sim", "--live", "--capture", "live.pcapng"];
+    let printed = "ready;report taken missing 0 counters 3 al 0008;";
+    expect_live(
+        &rt,
+        &args,
+        VALVES_AND_SWITCHES,
+        "ready;cycle",
+        (printed, 0, ""),
+    )?;
+    let args = ["ecat", "sim", "--live", "--capture", "nowhere/live.pcapng"];
+    expect_live(
+        &rt,
+        &args,
+        VALVES_AND_SWITCHES,
+        "ready;cycle",
+        ("", 4, "ecat: 41 Output\n"),
+    )
+}
