@@ -1,3 +1,4 @@
+//! The AL state machine of a slave.
 ghost use Rattle.std.specs.Prelude.{◌≡◌, ◌↔◌, IsTrue};
 ghost use Rattle.ec_al.specs.Al.{power_on, requesting, stepped, faulted, status_word, IsSound};
 ghost use Rattle.ec_al.specs.declared.state.State.TheVariants.{Op};

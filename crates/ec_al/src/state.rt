@@ -1,3 +1,4 @@
+//! The AL states.
 ghost use Rattle.std.specs.Prelude.{◌≡◌};
 ghost use Rattle.ec_al.specs.States.{state_number};
 

@@ -1,3 +1,4 @@
+//! The AL status codes.
 ghost use Rattle.std.specs.Prelude.{◌≡◌};
 ghost use Rattle.ec_al.specs.States.{code_number};
 

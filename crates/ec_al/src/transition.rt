@@ -1,3 +1,4 @@
+//! What an AL control word asks for.
 ghost use Rattle.std.specs.Prelude.{◌≡◌};
 ghost use Rattle.ec_al.specs.Transitions.{requested_by, answer};
 

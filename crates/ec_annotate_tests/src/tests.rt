@@ -1,7 +1,7 @@
 use ec_annotate::{Links, annotate_text};
 use ec_decode::{decode_text, encode_text};
-use ec_link::{compile};
-use ec_table::{read_table};
+use ec_link::compile;
+use ec_table::read_table;
 use std::process::Abort;
 use std::test::Fail;
 

@@ -1,3 +1,4 @@
+//! What the arguments of a command line ask for.
 ghost use Rattle.std.specs.Prelude.{◌≡◌, ◌⊎◌, [], Some, codes, map, IfOk, IfErr, IfSome, IfNone, OnOk};
 ghost use Rattle.clap.specs.Faults.{fault_of};
 ghost use Rattle.clap.specs.Matches.{found_of};

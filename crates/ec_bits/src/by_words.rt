@@ -1,3 +1,4 @@
+//! Copies of bits by words of 64.
 ghost use Rattle.std.specs.Prelude.{◌≡◌, ◌<◌, ◌≤◌, ◌+◌, ◌-◌, ◌*◌, ◌^◌, ℕ, length, nat_lt, slice_index, if◌then◌else◌};
 ghost use Rattle.std.specs.Int.{bit_at, from_bool};
 ghost use Rattle.ec_bits.specs.Bits.{bit, with_number, copied};

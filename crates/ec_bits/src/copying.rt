@@ -1,3 +1,4 @@
+//! Copies of bits, a byte a turn.
 ghost use Rattle.std.specs.Prelude.{◌≡◌, ◌<◌, ◌≤◌, ◌+◌, ◌-◌, ◌*◌, ◌%◌, ◌^◌, ◌==◌, ℕ, length, if◌then◌else◌};
 ghost use Rattle.std.specs.Int.{bit_at, from_bool};
 ghost use Rattle.ec_bits.specs.Bits.{bit, copied, within, bytes_touched};

@@ -1,3 +1,4 @@
+//! Numbers in bits, least significant first.
 ghost use Rattle.std.specs.Prelude.{◌≡◌, ◌<◌, ◌≤◌, ◌+◌, ◌*◌, ◌^◌, length};
 ghost use Rattle.ec_bits.specs.Bits.{bits_number, with_number};
 

@@ -1,3 +1,5 @@
+//! Packets of a capture, and the limits of its blocks.
+
 /// The most bytes of a payload: those of an Ethernet frame behind its header.
 pub const MAX_PAYLOAD: usize = 1500;
 

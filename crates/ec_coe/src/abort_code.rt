@@ -1,3 +1,4 @@
+//! The abort codes of an SDO transfer.
 ghost use Rattle.std.specs.Prelude.{◌≡◌};
 ghost use Rattle.ec_coe.specs.Transfers.{abort_number};
 

@@ -1,3 +1,4 @@
+//! The refusals of all commands: their numbers, names, values and lines.
 ghost use Rattle.std.specs.Prelude.{◌≡◌, ◌+◌, ◌≤◌, ◌++◌};
 ghost use Rattle.arrayvec.specs.ArrayString.{array_string_len};
 ghost use Rattle.ec_console.specs.Refusals.{link_values, listed, place_values, values_text};

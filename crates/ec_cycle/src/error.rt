@@ -1,3 +1,4 @@
+//! Refusals of a master.
 ghost use Rattle.std.specs.Prelude.{◌≡◌};
 ghost use Rattle.ec_cycle.specs.Refusals.{refusal_number, refusal_name};
 

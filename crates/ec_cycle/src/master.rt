@@ -1,3 +1,4 @@
+//! The master of the cyclic frames: its image, its open cycle and its report.
 ghost use Rattle.std.specs.Prelude.{◌&&◌, nat_lt, set, if◌then◌else◌, ◌≡◌, ◌≤◌, ◌<◌, ◌+◌, ◌*◌, ◌^◌, ◌↔◌, ℕ, [], Option, Some, None, length, replicate, slice_get, get_or, true, false, is_some, IfOk, IsErr, IfErr, OnOk, OnErr};
 ghost use Rattle.ec_bits.specs.Bits.{zeros, bytes_of_bits};
 ghost use Rattle.ec_frame.specs.Building.{bare_payload};

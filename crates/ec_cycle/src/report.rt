@@ -1,3 +1,4 @@
+//! Reports of closed cycles.
 ghost use Rattle.std.specs.Prelude.{◌≡◌, ◌≤◌, ◌+◌, ◌<◌, ℕ, Bool, false, Option, length, map, option_map, get_or};
 ghost use Rattle.std.specs.List.{list_all};
 ghost use Rattle.ec_cycle.specs.Closing.{KeptPart, ReportState, nones, or_words};

@@ -1,3 +1,4 @@
+//! Why a text of frames was not read.
 ghost use Rattle.std.specs.Prelude.{◌≡◌};
 ghost use Rattle.ec_decode.specs.Reading.{error_name, error_number, error_line};
 

@@ -1,3 +1,4 @@
+//! Which bits an FMMU maps.
 ghost use Rattle.std.specs.Prelude.{ℕ, true, ◌≡◌, ◌<◌, ◌≤◌, ◌+◌, ◌*◌, ◌^◌, IfSome, OnSome};
 ghost use Rattle.std.specs.Bool.{OnTrue};
 ghost use Rattle.ec_bits.specs.Bits.{within as within_of};

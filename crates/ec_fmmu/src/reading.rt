@@ -1,3 +1,4 @@
+//! Reading through FMMUs, run by run.
 ghost use Rattle.std.specs.Prelude.{◌≡◌, ◌<◌, ◌+◌, ◌*◌, ◌^◌, ◌≤◌, length, ℕ, Option, Bool, is_some, get_or, option_and_then};
 ghost use Rattle.ec_bits.specs.Bits.{overlay, any_below};
 ghost use Rattle.ec_regs.specs.Memory.{ram_start, ram_end};

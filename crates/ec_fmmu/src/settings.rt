@@ -1,3 +1,4 @@
+//! Settings of an FMMU for a run of bits.
 ghost use Rattle.std.specs.Prelude.{◌≡◌, ◌<◌, ◌≤◌, ◌+◌, ◌*◌, ◌%◌, ◌^◌};
 ghost use Rattle.ec_fmmu.specs.Runs.{run_settings};
 

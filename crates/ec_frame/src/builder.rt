@@ -1,3 +1,4 @@
+//! Building frames, datagram by datagram.
 ghost use Rattle.std.specs.Prelude.{◌≡◌, ◌≤◌, ◌<◌, ◌+◌, ◌∷◌, ◌++◌, ◌^◌, [], ℕ, List, length, slice_index};
 ghost use Rattle.std.specs.Prelude.{OnOk, OnErr};
 ghost use Rattle.byteorder.specs.Endian.{little_bytes};

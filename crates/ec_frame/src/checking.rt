@@ -1,3 +1,4 @@
+//! Whether a payload is a frame.
 ghost use Rattle.std.specs.Prelude.{◌≡◌, ◌<◌, ◌≤◌, length, IfOk, IfErr};
 ghost use Rattle.ec_frame.specs.declared.error.FrameError.{FrameError};
 ghost use Rattle.ec_frame.specs.Frame.{Payload, IsFrame};

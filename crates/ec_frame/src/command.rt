@@ -1,3 +1,4 @@
+//! The commands of datagrams.
 ghost use Rattle.std.specs.Prelude.{◌≡◌, ◌<◌, IfSome, IfNone};
 ghost use Rattle.ec_frame.specs.declared.command.Command.{Command};
 ghost use Rattle.ec_frame.specs.Commands.{number_of};

@@ -1,3 +1,4 @@
+//! A walk over the places of a frame's datagrams.
 ghost use Rattle.std.specs.Prelude.{◌≡◌, ◌+◌, ◌≤◌, ◌∷◌, List, length, slice_range, IfSome};
 ghost use Rattle.ec_frame.specs.Datagram.{Datagram, IsSpelling, is_followed, spelling};
 ghost use Rattle.ec_frame.specs.Cursor.{IsAhead, StepsTo};

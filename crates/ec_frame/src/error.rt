@@ -1,3 +1,4 @@
+//! Why a payload is no frame.
 ghost use Rattle.std.specs.Prelude.{◌≡◌};
 ghost use Rattle.ec_frame.specs.Refusals.{refusal_number};
 

@@ -1,3 +1,4 @@
+//! Why a table has no plan.
 ghost use Rattle.std.specs.Prelude.{◌≡◌};
 ghost use Rattle.ec_link.specs.Faults.{fault_number, fault_name, fault_value, error_number, error_name, error_value};
 

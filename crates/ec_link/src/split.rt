@@ -1,3 +1,4 @@
+//! Input variables whose links lie in several sync units.
 ghost use Rattle.std.specs.Prelude.{◌≡◌, ◌<◌, ℕ, IfOk, length, map, get_or};
 ghost use Rattle.ec_table.specs.Sound.{IsLink};
 ghost use Rattle.ec_link.specs.Faults.{first_at, unit_of_link, split_variable, variable_fault};

@@ -1,3 +1,4 @@
+//! Which registers a datagram may read and write.
 ghost use Rattle.std.specs.Prelude.{◌≡◌, ◌==◌, ◌||◌, nat_lt};
 ghost use Rattle.ec_regs.specs.Memory.{is_stored as is_stored_at, takes_writes as takes_writes_at};
 

@@ -1,3 +1,4 @@
+//! The record of an FMMU.
 ghost use Rattle.std.specs.Prelude.{◌≡◌, slice_index};
 ghost use Rattle.ec_regs.specs.Fmmus.{no_fmmu, fmmu_of, fmmu_bytes};
 

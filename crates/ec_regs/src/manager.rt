@@ -1,3 +1,4 @@
+//! The record of a sync manager.
 ghost use Rattle.std.specs.Prelude.{◌≡◌, slice_index};
 ghost use Rattle.ec_regs.specs.Managers.{no_settings, area_settings, settings_of, manager_bytes, is_mailbox, is_buffered, is_ring_written, is_ring_read, span, is_set};
 

@@ -1,3 +1,4 @@
+//! Types of slaves: device, mailbox, PDOs and entries.
 ghost use Rattle.std.specs.Prelude.{◌≡◌, ◌≤◌, ◌↔◌, length, All, AllPairs, ◌≢◌, IsTrue, IfSome, IfOk};
 ghost use Rattle.ec_regs.specs.Types.{IsEntry, IsPdo, ArePdos, IsMailbox, IsWithinLimits, device_identity, device_of, pdo_bits, pdos_bits, plain_kind, first_output_index, first_input_index};
 

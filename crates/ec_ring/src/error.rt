@@ -1,3 +1,4 @@
+//! What a ring refuses.
 ghost use Rattle.std.specs.Prelude.{◌≡◌};
 
 use thiserror::Error;

@@ -1,3 +1,4 @@
+//! Slaves in a row, and a frame past all of them.
 ghost use Rattle.std.specs.Prelude.{◌≡◌, ◌==◌, ◌<◌, ◌↔◌, ℕ, List, length, slice_get, Some};
 ghost use Rattle.std.specs.Prelude.{IsErr, OnErr};
 ghost use Rattle.std.specs.Borrow.{sem};

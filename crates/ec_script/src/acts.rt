@@ -1,3 +1,4 @@
+//! What the words of a line stand for.
 ghost use Rattle.std.specs.Prelude.{◌≡◌, map, length, ◌<◌, IfSome};
 ghost use Rattle.std.specs.Char.{is_ascii_digit};
 ghost use Rattle.std.specs.List.{list_all};

@@ -1,3 +1,4 @@
+//! Why no script was read.
 ghost use Rattle.std.specs.Prelude.{◌≡◌};
 ghost use Rattle.ec_script.specs.Scripts.{error_name, error_number, error_line};
 

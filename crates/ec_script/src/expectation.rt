@@ -1,3 +1,4 @@
+//! What `expect` looks at.
 use ec_al::State;
 
 /// What a line expects of the world that it finds.

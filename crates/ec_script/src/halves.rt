@@ -1,3 +1,4 @@
+//! A table and a script in one text.
 ghost use Rattle.std.specs.Prelude.{◌≡◌, ◌<◌, length, drop, IfSome};
 ghost use Rattle.ec_script.specs.Halves.{Begins, Splits, divider_at, divider_in};
 

@@ -1,3 +1,4 @@
+//! Lines of scripts.
 use crate::expectation::Expectation;
 use ec_world::Event;
 

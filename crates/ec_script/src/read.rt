@@ -1,3 +1,4 @@
+//! Reading a script.
 ghost use Rattle.std.specs.Prelude.{◌≡◌, IfOk, map};
 ghost use Rattle.ec_script.specs.Scripts.{Gives, line_of_words, line_on, reading_of, repeated_line, script_of};
 

@@ -1,3 +1,4 @@
+//! Reports as text.
 ghost use Rattle.std.specs.Prelude.{◌≡◌, ◌++◌, OnOk, None, false, string_bytes};
 ghost use Rattle.ec_text.specs.PlanText.{lines_from};
 ghost use Rattle.ec_script.specs.Texts.{counter_at, kept_text, report_text, taken_text, unit_at, units_text, word_text};

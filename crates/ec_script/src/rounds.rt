@@ -1,3 +1,4 @@
+//! Frames that go round: whole cycles and start-ups.
 ghost use Rattle.std.specs.Prelude.{◌≡◌, [], replicate, if◌then◌else◌};
 ghost use Rattle.ec_world.specs.NewWorld.{servings};
 ghost use Rattle.ec_world.specs.World.{flight_at};

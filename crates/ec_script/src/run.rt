@@ -1,3 +1,4 @@
+//! Running a line over a world.
 ghost use Rattle.std.specs.Prelude.{◌≡◌, ◌++◌, codes, string_bytes};
 ghost use Rattle.std.specs.Result.{IfOk};
 ghost use Rattle.ec_link.specs.Plan.{plan_of};

@@ -1,3 +1,4 @@
+//! What is printed of a line.
 ghost use Rattle.std.specs.Prelude.{◌≡◌, ◌++◌, IfOk, OnOk, slice_get, string_bytes};
 ghost use Rattle.ec_cycle.specs.Master.{value_at};
 ghost use Rattle.ec_text.specs.PlanText.{lines_from};

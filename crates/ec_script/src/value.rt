@@ -1,3 +1,4 @@
+//! Values of variables as words of a line write them.
 ghost use Rattle.std.specs.Prelude.{◌≡◌, ◌≤◌};
 ghost use Rattle.ec_script.specs.Words.{hex_of, negative_of, plain_of, value_of};
 

@@ -1,3 +1,4 @@
+//! Lines, words and numbers of a script.
 ghost use Rattle.std.specs.Prelude.{◌≡◌, map, IfOk};
 ghost use Rattle.std.specs.Str.Lines.{lines};
 ghost use Rattle.ec_script.specs.Words.{byte_of, code_of, number_of, times_of, uncommented, without_end_blanks, words_of};

@@ -1,3 +1,4 @@
+//! The words of a slave's SII.
 ghost use Rattle.std.specs.Prelude.{◌≡◌};
 ghost use Rattle.ec_sii.specs.Image.{word_at, identity_words, mailbox_words, low_word, high_word};
 

@@ -175,8 +175,19 @@ impl Slave {
     }
 
     /// Finishes the read of the SII that is under way, if one is.
-    #[tactic(auto, unfolding(crate::specs::Serving::read_finished))]
+    #[tactic(auto, unfolding(crate::specs::Serving::read_finished, ec_sii::specs::Port::stepped))]
     fn finish_read(&mut self)
+        ensures { self.new ≡ read_finished self.old }
+    {
+        if self.port.is_busy() {
+            self.read_words();
+        }
+    }
+
+    /// The same, where one is. It stands apart so that a step in which none is is short.
+    #[tactic(auto, unfolding(crate::specs::Serving::read_finished))]
+    #[inline(never)]
+    fn read_words(&mut self)
         ensures { self.new ≡ read_finished self.old }
     {
         self.port.step();

@@ -1,3 +1,4 @@
+//! What a slave does with a datagram, by its command and address.
 ghost use Rattle.std.specs.Prelude.{◌≡◌, ◌+◌, ◌%◌, if◌then◌else◌};
 ghost use Rattle.ec_slave.specs.Encounters.{encounter_of};
 ghost use Rattle.ec_slave.specs.declared.role.Encounter.TheVariants.{Physical};

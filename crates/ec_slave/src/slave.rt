@@ -1,3 +1,4 @@
+//! A slave: its memory, sync managers, AL state, SII and objects.
 ghost use Rattle.std.specs.Prelude.{◌≡◌, ◌+◌, ◌*◌, ◌<◌, ◌≤◌, ◌^◌, ℕ, length, slice_index, IfOk, IfSome, if◌then◌else◌, [], ◌∷◌, Option, Some, None, nat_lt};
 ghost use Rattle.ec_regs.specs.Memory.{al_status, ram_start, ram_end};
 ghost use Rattle.ec_sync.specs.Manager.{no_manager};

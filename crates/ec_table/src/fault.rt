@@ -1,3 +1,4 @@
+//! Why a text states no table, and where.
 ghost use Rattle.std.specs.Prelude.{◌≡◌};
 ghost use Rattle.ec_table.specs.Faults.{section_number, fault_number, fault_name, fault_place, error_number, error_name, error_place};
 

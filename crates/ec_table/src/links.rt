@@ -1,3 +1,4 @@
+//! The links that elements state.
 ghost use Rattle.std.specs.Prelude.{◌≡◌, [], unwrap_or};
 ghost use Rattle.toml.specs.View.{view, table_view, items_view};
 ghost use Rattle.ec_table.specs.InOrder.{Gives, rows_after};

@@ -1,3 +1,4 @@
+//! Names, each of which stands once.
 ghost use Rattle.std.specs.Prelude.{◌≡◌, [], ◌∷◌, ◌++◌, false, IfOk};
 ghost use Rattle.ec_table.specs.Names.{is_named, place_named};
 

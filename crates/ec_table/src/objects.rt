@@ -1,3 +1,4 @@
+//! Objects by index and subindex.
 ghost use Rattle.std.specs.Prelude.{◌≡◌, ◌==◌, ◌++◌, find, IfOk, OnOk};
 ghost use Rattle.std.specs.Option.{option_copied};
 ghost use Rattle.ec_regs.specs.declared.slave_type.Pdo.{Pdo};

@@ -1,3 +1,4 @@
+//! The PDOs that a type states.
 ghost use Rattle.std.specs.Prelude.{◌≡◌, ◌==◌, [], IfOk};
 ghost use Rattle.std.specs.List.{list_any};
 ghost use Rattle.toml.specs.View.{view, table_view, items_view};

@@ -1,3 +1,4 @@
+//! Reading a table from its text.
 ghost use Rattle.toml.specs.View.{items_view, table_view};
 ghost use Rattle.ec_table.specs.InOrder.{Gives};
 ghost use Rattle.ec_table.specs.Reading.{table_of_document, table_of_sections, table_of};

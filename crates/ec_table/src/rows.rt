@@ -1,3 +1,4 @@
+//! The rows of a table.
 ghost use Rattle.std.specs.Prelude.{◌≡◌, IfOk, string_bytes};
 ghost use Rattle.ec_table.specs.Contents.{pdos_toward, assigned_toward};
 

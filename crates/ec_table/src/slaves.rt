@@ -1,3 +1,4 @@
+//! The slaves that elements state.
 ghost use Rattle.std.specs.Prelude.{◌≡◌, ◌||◌, [], IfOk, OnOk, false, unwrap_or};
 ghost use Rattle.toml.specs.View.{view, table_view, items_view};
 ghost use Rattle.ec_table.specs.Pdos.{has_twice, indices_of};

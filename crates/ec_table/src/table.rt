@@ -1,3 +1,4 @@
+//! Tables, and what the layers above ask of them.
 ghost use Rattle.std.specs.Prelude.{◌≡◌, ◌<◌, ◌≤◌, length, All, Some, IfOk};
 ghost use Rattle.ec_regs.specs.Types.{IsEntry};
 ghost use Rattle.ec_regs.specs.Objects.{bits_of};

@@ -1,3 +1,4 @@
+//! The variables that elements state.
 ghost use Rattle.std.specs.Prelude.{◌≡◌, [], false, IfOk, OnOk};
 ghost use Rattle.toml.specs.View.{view, table_view, items_view};
 ghost use Rattle.ec_table.specs.InOrder.{Gives, one_more, rows_after};

@@ -1,3 +1,4 @@
+//! A wire that notes what passes over it.
 ghost use Rattle.std.specs.Prelude.{◌≡◌, ℕ, [], ◌∷◌};
 ghost use Rattle.ec_capture.specs.Recordings.{Notes};
 ghost use Rattle.ec_tap.specs.Taps.{has_passed, seen_of};

@@ -1,3 +1,4 @@
+//! What a world's events show of each hop of the frames.
 ghost use Rattle.std.specs.Prelude.{◌≡◌, false, length, option_map, true};
 ghost use Rattle.ec_capture.specs.Recordings.{Notes};
 ghost use Rattle.ec_world.specs.World.{flight_at};

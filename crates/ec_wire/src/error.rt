@@ -1,3 +1,4 @@
+//! Why a call over a wire took nothing.
 ghost use Rattle.std.specs.Prelude.{◌≡◌, codes};
 ghost use Rattle.ec_wire.specs.Errors.{run_number, run_name};
 

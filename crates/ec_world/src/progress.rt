@@ -1,3 +1,4 @@
+//! How far a frame is on its way.
 ghost use Rattle.std.specs.Prelude.{◌≡◌};
 ghost use Rattle.ec_world.specs.Plain.{is_older};
 ghost use Rattle.ec_world.specs.Slots.{way_behind};

@@ -1,3 +1,4 @@
+//! Room for one frame on its way.
 ghost use Rattle.std.specs.Prelude.{◌≡◌, ◌≤◌, ◌<◌, length, Some, None, is_none, option_map};
 ghost use Rattle.ec_frame.specs.Frame.{Payload, IsFrame};
 ghost use Rattle.ec_world.specs.World.{flight_progress, Flight};

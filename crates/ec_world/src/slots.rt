@@ -1,3 +1,4 @@
+//! All frames that are on their way.
 ghost use Rattle.std.specs.Prelude.{◌≡◌, ◌≤◌, ◌<◌, ◌∷◌, [], length, replicate, get_or, set, position, nat_lt, Some, None, is_none, option_map, IfOk};
 ghost use Rattle.std.specs.List.{list_all, count_by, fold};
 ghost use Rattle.ec_frame.specs.Frame.{Payload, IsFrame};

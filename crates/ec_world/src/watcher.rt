@@ -1,3 +1,4 @@
+//! Who makes the events of a world, and may keep what it sees.
 ghost use Rattle.std.specs.Prelude.{◌≡◌, true, false};
 ghost use Rattle.ec_world.specs.World.{WorldState, IsStep};
 

@@ -1,3 +1,4 @@
+//! A world: a start-up, a master, slaves and the frames between them.
 ghost use Rattle.std.specs.Prelude.{ℕ, ◌≡◌, ◌<◌, All, List, length, slice_get, Option, Some, None, IfOk, option_map, true, false};
 ghost use Rattle.ec_regs.specs.declared.slave_type.Identity.{Identity};
 ghost use Rattle.ec_slave.specs.Application.{outputs_shown};
