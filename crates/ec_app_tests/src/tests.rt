@@ -406,6 +406,11 @@ fn tells_a_fault_of_the_args(rt: HostRuntime) {
             missing,
             "--frames <N> [--port <P> | --descriptor <N>] [--idle <SECONDS>] [--capture <FILE>] [--explain] < TABLE",
         ),
+        (
+            &["ecat", "master", "127.0.0.1:34980"],
+            "error: unexpected argument '127.0.0.1:34980'",
+            "ecat master [--to <ADDRESS:PORT> | --descriptor <N>] [--patience <MS>] [--capture <FILE>] [--explain] < TABLE_AND_LINES",
+        ),
     ] {
         expect_usage(&rt, args, 2, begins, line);
     }

@@ -22,7 +22,7 @@ use Rattle.ec_args.specs.declared.request.Notice.{Notice}
 use Rattle.ec_args.specs.declared.request.Notice.TheVariants.{Memory, Help, Usage}
 use Rattle.ec_args.specs.declared.request.Request.{Request}
 use Rattle.ec_args.specs.CommandLine.{ecat}
-use Rattle.ec_args.specs.Requests.{Asks, ArePassArguments, ArePlanArguments, Command, Finds, FindsAny, FindsFlag, FindsNumber, FindsText, IsFault, IsNotice, MeetsAs, MeetsCommand, PassIsRead, PlanIsRead, PassOf, PlanOf, DecodeOf, EncodeOf, SimOf, LoopOf, SegmentOf, command_of, is_answer, word_of}
+use Rattle.ec_args.specs.Requests.{Asks, ArePassArguments, ArePlanArguments, Command, Finds, FindsAny, FindsFlag, FindsNumber, FindsText, IsFault, IsNotice, MeetsAs, MeetsCommand, PassIsRead, PlanIsRead, PassOf, PlanOf, DecodeOf, EncodeOf, SimOf, LoopOf, SegmentOf, MasterOf, command_of, is_answer, word_of}
 use Rattle.ec_args.specs.Stages.{IsAskedAs, IsNeverAsked}
 use Rattle.ec_args.proofs.PlanArguments.{explain-met, explain-no_fault, plan-met, plan-no_fault, plan_rows}
 use Rattle.ec_args.proofs.PassArguments.{ecat-is_simple, ecat-simple, frame_row, no-fault, number_argument, slaves_row, subcommand-pass, value_argument}
@@ -80,6 +80,7 @@ is_pass EncodeOf called = absurd (other_word (codes "encode") (codes "pass") ref
 is_pass (SimOf l c e) called = absurd (other_word (codes "sim") (codes "pass") refl called)
 is_pass (LoopOf n c e) called = absurd (other_word (codes "loop") (codes "pass") refl called)
 is_pass (SegmentOf n p d i c e) called = absurd (other_word (codes "segment") (codes "pass") refl called)
+is_pass (MasterOf t d p c e) called = absurd (other_word (codes "master") (codes "pass") refl called)
 
 pub is_plan : (command : Command) → word_of command ≡ codes "plan" → (h : Bool) × (e : Bool) × (command ≡ PlanOf h e)
 is_plan (PassOf n f) called = absurd (other_word (codes "pass") (codes "plan") refl called)
@@ -89,6 +90,7 @@ is_plan EncodeOf called = absurd (other_word (codes "encode") (codes "plan") ref
 is_plan (SimOf l c e) called = absurd (other_word (codes "sim") (codes "plan") refl called)
 is_plan (LoopOf n c e) called = absurd (other_word (codes "loop") (codes "plan") refl called)
 is_plan (SegmentOf n p d i c e) called = absurd (other_word (codes "segment") (codes "plan") refl called)
+is_plan (MasterOf t d p c e) called = absurd (other_word (codes "master") (codes "plan") refl called)
 
 pub is_loop : (command : Command) → word_of command ≡ codes "loop" → (n : ℕ) × (c : Option Text) × (e : Bool) × (command ≡ LoopOf n c e)
 is_loop (PassOf n f) called = absurd (other_word (codes "pass") (codes "loop") refl called)
@@ -98,6 +100,7 @@ is_loop EncodeOf called = absurd (other_word (codes "encode") (codes "loop") ref
 is_loop (SimOf l c e) called = absurd (other_word (codes "sim") (codes "loop") refl called)
 is_loop (LoopOf n c e) called = (n, c, e, refl)
 is_loop (SegmentOf n p d i c e) called = absurd (other_word (codes "segment") (codes "loop") refl called)
+is_loop (MasterOf t d p c e) called = absurd (other_word (codes "master") (codes "loop") refl called)
 
 pub is_segment : (command : Command) → word_of command ≡ codes "segment" → (n : ℕ) × (p : ℕ) × (d : Option ℕ) × (i : ℕ) × (c : Option Text) × (e : Bool) × (command ≡ SegmentOf n p d i c e)
 is_segment (PassOf n f) called = absurd (other_word (codes "pass") (codes "segment") refl called)
@@ -107,6 +110,17 @@ is_segment EncodeOf called = absurd (other_word (codes "encode") (codes "segment
 is_segment (SimOf l c e) called = absurd (other_word (codes "sim") (codes "segment") refl called)
 is_segment (LoopOf n c e) called = absurd (other_word (codes "loop") (codes "segment") refl called)
 is_segment (SegmentOf n p d i c e) called = (n, p, d, i, c, e, refl)
+is_segment (MasterOf t d p c e) called = absurd (other_word (codes "master") (codes "segment") refl called)
+
+pub is_master : (command : Command) → word_of command ≡ codes "master" → (t : Text) × (d : Option ℕ) × (p : ℕ) × (c : Option Text) × (e : Bool) × (command ≡ MasterOf t d p c e)
+is_master (PassOf n f) called = absurd (other_word (codes "pass") (codes "master") refl called)
+is_master (PlanOf h e) called = absurd (other_word (codes "plan") (codes "master") refl called)
+is_master (DecodeOf t e) called = absurd (other_word (codes "decode") (codes "master") refl called)
+is_master EncodeOf called = absurd (other_word (codes "encode") (codes "master") refl called)
+is_master (SimOf l c e) called = absurd (other_word (codes "sim") (codes "master") refl called)
+is_master (LoopOf n c e) called = absurd (other_word (codes "loop") (codes "master") refl called)
+is_master (SegmentOf n p d i c e) called = absurd (other_word (codes "segment") (codes "master") refl called)
+is_master (MasterOf t d p c e) called = (t, d, p, c, e, refl)
 
 -- what is found for the arguments of a command of this name is what `clap` met
 pub asked_one : (name word : Text) (rows : List Row) (request : Request) → name ≡ word → IsAskedAs word rows request → Asks (Some (name, rows)) request
@@ -130,14 +144,15 @@ not_asked (Some request) name word rows called never = tt
 
 -- and a word that is none of theirs is no command
 pub no_such_word : (name : Text) (rows : List Row) → (name ≡ codes "pass" → ⊥) → (name ≡ codes "plan" → ⊥) → (name ≡ codes "decode" → ⊥) → (name ≡ codes "encode" → ⊥)
-    → (name ≡ codes "sim" → ⊥) → (name ≡ codes "loop" → ⊥) → (name ≡ codes "segment" → ⊥) → MeetsCommand (Some (name, rows)) → ⊥
-no_such_word name rows pass plan decode encode sim loop segment (PassOf n f, met) = pass (ap name_in met.named)
-no_such_word name rows pass plan decode encode sim loop segment (PlanOf h e, met) = plan (ap name_in met.named)
-no_such_word name rows pass plan decode encode sim loop segment (DecodeOf t e, met) = decode (ap name_in met.named)
-no_such_word name rows pass plan decode encode sim loop segment (EncodeOf, met) = encode (ap name_in met.named)
-no_such_word name rows pass plan decode encode sim loop segment (SimOf l c e, met) = sim (ap name_in met.named)
-no_such_word name rows pass plan decode encode sim loop segment (LoopOf n c e, met) = loop (ap name_in met.named)
-no_such_word name rows pass plan decode encode sim loop segment (SegmentOf n p d i c e, met) = segment (ap name_in met.named)
+    → (name ≡ codes "sim" → ⊥) → (name ≡ codes "loop" → ⊥) → (name ≡ codes "segment" → ⊥) → (name ≡ codes "master" → ⊥) → MeetsCommand (Some (name, rows)) → ⊥
+no_such_word name rows pass plan decode encode sim loop segment master (PassOf n f, met) = pass (ap name_in met.named)
+no_such_word name rows pass plan decode encode sim loop segment master (PlanOf h e, met) = plan (ap name_in met.named)
+no_such_word name rows pass plan decode encode sim loop segment master (DecodeOf t e, met) = decode (ap name_in met.named)
+no_such_word name rows pass plan decode encode sim loop segment master (EncodeOf, met) = encode (ap name_in met.named)
+no_such_word name rows pass plan decode encode sim loop segment master (SimOf l c e, met) = sim (ap name_in met.named)
+no_such_word name rows pass plan decode encode sim loop segment master (LoopOf n c e, met) = loop (ap name_in met.named)
+no_such_word name rows pass plan decode encode sim loop segment master (SegmentOf n p d i c e, met) = segment (ap name_in met.named)
+no_such_word name rows pass plan decode encode sim loop segment master (MasterOf t d p c e, met) = master (ap name_in met.named)
 
 -- a number that `get_one` read, one that it may leave out, a text that `get_str` read, and a flag
 pub finds_number : (found : Found) (id : Text) (bits : ℕ) (r : Option ℕ) (n : ℕ) → (one_text found id ≡ None → r ≡ None)
@@ -213,6 +228,17 @@ pub no_idle : (found : Found) (r : Option ℕ) → ((t : List ℕ) → one_text 
 no_idle found r value is command called h =
     let it = is_segment command called in
     finds_no_number found (codes "idle") 32 r it.3 value is (subst (Finds (rows_of found)) it.6 h).for_idle
+
+pub no_to : (found : Found) → first_value found (codes "to") ≡ None → IsNeverAsked (codes "master") (rows_of found)
+no_to found none command called h =
+    let it = is_master command called in
+    no_text found (codes "to") it.0 none (subst (Finds (rows_of found)) it.5 h).for_to
+
+pub no_patience : (found : Found) (r : Option ℕ) → ((t : List ℕ) → one_text found (codes "patience") ≡ Some t → ReadsOne (NumberGives 16) t r) → r ≡ None
+    → IsNeverAsked (codes "master") (rows_of found)
+no_patience found r value is command called h =
+    let it = is_master command called in
+    finds_no_number found (codes "patience") 16 r it.2 value is (subst (Finds (rows_of found)) it.5 h).for_patience
 
 -- what `clap` makes of the arguments of `pass`
 pub no_fault-pass : (args : List Text) (slaves : ℕ) (frame : Text) → ArePassArguments args slaves frame → fault_of ecat args ≡ []

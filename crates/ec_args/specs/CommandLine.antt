@@ -79,6 +79,14 @@ descriptor_rule = number_rule (codes "descriptor") 0 1023
 abbrev pub idle_rule : Rule
 idle_rule = or_else (codes "60") (number_rule (codes "idle") 0 86400)
 
+-- the address and the port of a segment; without it, where `ecat segment` answers on the same machine
+abbrev pub to_rule : Rule
+to_rule = or_else (codes "127.0.0.1:34980") (text_rule (codes "to"))
+
+-- how many milliseconds are waited for an answer, a minute at most; without it, half a second
+abbrev pub patience_rule : Rule
+patience_rule = or_else (codes "500") (number_rule (codes "patience") 1 60000)
+
 -- ---- the commands
 
 abbrev pub pass_shape : Shape
@@ -117,6 +125,16 @@ waiting = with_rule (with_rule listening descriptor_rule) idle_rule
 abbrev pub segment_shape : Shape
 segment_shape = (with_rule (with_rule waiting capture_rule) explain_rule).top
 
+-- which segment a master speaks with, how long it waits for its answers, and what is noted of them
+abbrev pub reaching : App
+reaching = with_rule (with_rule (new_app (codes "master")) to_rule) descriptor_rule
+
+abbrev pub asking : App
+asking = with_rule (with_rule reaching patience_rule) capture_rule
+
+abbrev pub master_shape : Shape
+master_shape = (with_rule asking explain_rule).top
+
 -- `ecat` and its commands, of which one is wanted; it also has a version. First those that simulate nothing but a pass,
 abbrev pub planning : App
 planning =
@@ -132,6 +150,6 @@ telling = with_subcommand (with_subcommand planning decode_shape) encode_shape
 abbrev pub cycling : App
 cycling = with_subcommand (with_subcommand telling sim_shape) loop_shape
 
--- and the one that answers a master elsewhere
+-- and those that are one end of a wire: a segment, which answers a master elsewhere, and a master
 abbrev pub ecat : App
-ecat = with_subcommand cycling segment_shape
+ecat = with_subcommand (with_subcommand cycling segment_shape) master_shape

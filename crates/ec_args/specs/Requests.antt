@@ -14,7 +14,7 @@ use Rattle.ec_args.specs.CommandLine.{ecat}
 use Rattle.ec_args.specs.declared.request.Notice.{Notice}
 use Rattle.ec_args.specs.declared.request.Notice.TheVariants.{Memory, Help, Usage}
 use Rattle.ec_args.specs.declared.request.Request.{Request}
-use Rattle.ec_args.specs.declared.request.Request.TheVariants.{Pass, Plan, Decode, Encode, Sim, Loop, Segment}
+use Rattle.ec_args.specs.declared.request.Request.TheVariants.{Pass, Plan, Decode, Encode, Sim, Loop, Segment, Master}
 
 -- a command, and what it is given
 pub data Command : Type 0 where
@@ -34,6 +34,9 @@ pub data Command : Type 0 where
   -- `ecat segment`: the number of payloads, the port, the descriptor that is given in its place, if one is, and how many seconds
   -- it waits for a payload
   SegmentOf : ℕ → ℕ → Option ℕ → ℕ → Option Text → Bool → Command
+  -- `ecat master`: the text of a segment's address and port, the descriptor that is given in its place, if one is, and how many
+  -- milliseconds it waits for an answer
+  MasterOf : Text → Option ℕ → ℕ → Option Text → Bool → Command
 
 -- the word that asks for it
 abbrev pub word_of : Command → Text
@@ -44,6 +47,7 @@ word_of EncodeOf = codes "encode"
 word_of (SimOf live capture explained) = codes "sim"
 word_of (LoopOf cycles capture explained) = codes "loop"
 word_of (SegmentOf frames port descriptor idle capture explained) = codes "segment"
+word_of (MasterOf to descriptor patience capture explained) = codes "master"
 
 -- ---- what `clap` finds for its arguments
 
@@ -99,6 +103,13 @@ pub record FindsSegment (rows : List Row) (frames port : ℕ) (descriptor : Opti
   pub for_capture : FindsText rows (codes "capture") capture
   pub for_explain : FindsFlag rows (codes "explain") explained
 
+pub record FindsMaster (rows : List Row) (to : Text) (descriptor : Option ℕ) (patience : ℕ) (capture : Option Text) (explained : Bool) : Type 0 where
+  pub for_to : FindsText rows (codes "to") (Some to)
+  pub for_descriptor : FindsAny rows (codes "descriptor") descriptor (2 ^ 16)
+  pub for_patience : FindsNumber rows (codes "patience") patience (2 ^ 16)
+  pub for_capture : FindsText rows (codes "capture") capture
+  pub for_explain : FindsFlag rows (codes "explain") explained
+
 -- for the arguments of a command
 abbrev pub Finds : List Row → Command → Type 0
 Finds rows (PassOf slaves frame) = FindsPass rows slaves frame
@@ -108,6 +119,7 @@ Finds rows EncodeOf = Unit {0}
 Finds rows (SimOf live capture explained) = FindsSim rows live capture explained
 Finds rows (LoopOf cycles capture explained) = FindsLoop rows cycles capture explained
 Finds rows (SegmentOf frames port descriptor idle capture explained) = FindsSegment rows frames port descriptor idle capture explained
+Finds rows (MasterOf to descriptor patience capture explained) = FindsMaster rows to descriptor patience capture explained
 
 -- `clap` met this command, and found what it is given
 pub record MeetsAs (met : Option (Text × List Row)) (command : Command) : Type 0 where
@@ -129,6 +141,8 @@ command_of (Sim live capture explained) = SimOf live (option_map (λ file. file.
 command_of (Loop cycles capture explained) = LoopOf cycles (option_map (λ file. file.now) capture) explained
 command_of (Segment frames port descriptor idle capture explained) =
     SegmentOf frames port descriptor idle (option_map (λ file. file.now) capture) explained
+command_of (Master to descriptor patience capture explained) =
+    MasterOf to.now descriptor patience (option_map (λ file. file.now) capture) explained
 
 abbrev pub Asks : Option (Text × List Row) → Request → Type 0
 Asks met request = MeetsAs met (command_of request)

@@ -2,7 +2,7 @@
 //! minutes to check.
 ghost use Rattle.std.specs.Prelude.{◌≡◌, false};
 ghost use Rattle.clap.specs.Walk.{rule_of};
-ghost use Rattle.ec_args.specs.CommandLine.{capture_rule, cycles_rule, descriptor_rule, explain_rule, frame_rule, frames_rule, header_rule, idle_rule, live_rule, port_rule, slaves_rule, table_rule};
+ghost use Rattle.ec_args.specs.CommandLine.{capture_rule, cycles_rule, descriptor_rule, explain_rule, frame_rule, frames_rule, header_rule, idle_rule, live_rule, patience_rule, port_rule, slaves_rule, table_rule, to_rule};
 
 use clap::{Arg, ArgAction};
 use std::alloc::Global;
@@ -155,6 +155,33 @@ pub(crate) fn idle_argument<'a>(alloc: Global) -> Arg<'a>
         .value_parser(clap::value_parser!(u32).range(0..=86400))
         .default_value("60")
         .help("How many seconds it waits for a payload, 0 to 86400; 0 is without an end")
+}
+
+/// `--to ADDRESS:PORT`, where a master's segment is.
+pub(crate) fn to_argument<'a>(alloc: Global) -> Arg<'a>
+    ensures rule { rule_of result ≡ to_rule }
+    ensures local { result.global ≡ false }
+{
+    Arg::new(alloc, "to")
+        .long("to")
+        .action(ArgAction::Set)
+        .value_name("ADDRESS:PORT")
+        .default_value("127.0.0.1:34980")
+        .help("The IPv4 address and the UDP port of the segment")
+}
+
+/// `--patience MS`, how long a master waits for an answer.
+pub(crate) fn patience_argument<'a>(alloc: Global) -> Arg<'a>
+    ensures rule { rule_of result ≡ patience_rule }
+    ensures local { result.global ≡ false }
+{
+    Arg::new(alloc, "patience")
+        .long("patience")
+        .action(ArgAction::Set)
+        .value_name("MS")
+        .value_parser(clap::value_parser!(u16).range(1..=60000))
+        .default_value("500")
+        .help("How many milliseconds it waits for an answer, 1 to 60000")
 }
 
 /// `--capture FILE`, where the frames that pass are noted.

@@ -3,15 +3,16 @@
 ghost use Rattle.std.specs.Prelude.{◌≡◌, false, IfOk};
 ghost use Rattle.clap.specs.Simple.{app_of, shape_of};
 ghost use Rattle.clap.specs.declared.builder.command.Command.TheViews.{out-Command as fields_of};
-ghost use Rattle.ec_args.specs.CommandLine.{cycling, decode_shape, ecat, encode_shape, listening, loop_shape, pass_shape, plan_shape, planning, running, segment_shape, sim_shape, telling, turning, waiting};
+ghost use Rattle.ec_args.specs.CommandLine.{asking, cycling, decode_shape, ecat, encode_shape, listening, loop_shape, master_shape, pass_shape, plan_shape, planning, reaching, running, segment_shape, sim_shape, telling, turning, waiting};
 
 use crate::arguments::{
     capture_argument, cycles_argument, descriptor_argument, explain_argument,
     explain_frames_argument, explain_plan_argument, frame_argument, frames_argument,
-    header_argument, idle_argument, live_argument, port_argument, slaves_argument, table_argument,
+    header_argument, idle_argument, live_argument, patience_argument, port_argument,
+    slaves_argument, table_argument, to_argument,
 };
 use crate::helps::{
-    DECODE_LINES, ENCODE_LINES, EXIT_STATUSES, LOOP_LINES, PASS_REFUSALS, PLAN_LINES,
+    DECODE_LINES, ENCODE_LINES, EXIT_STATUSES, LOOP_LINES, MASTER_LINES, PASS_REFUSALS, PLAN_LINES,
     SEGMENT_LINES, SIM_LINES,
 };
 use clap::Command;
@@ -147,6 +148,39 @@ fn segment_command<'a>(alloc: Global) -> Result<Command<'a>, AllocError>
         .arg(explain_argument(alloc))
 }
 
+/// `ecat master` with the arguments that say which segment it speaks with.
+fn reaching_command<'a>(alloc: Global) -> Result<Command<'a>, AllocError>
+    ensures shape { IfOk result (λ command. shape_of command ≡ reaching.top) }
+    ensures local { IfOk result (λ command. (fields_of command).has_globals ≡ false) }
+{
+    Command::new(alloc, "master")
+        .override_usage(
+            "ecat master [--to <ADDRESS:PORT> | --descriptor <N>] [--patience <MS>] [--capture <FILE>] [--explain] < TABLE_AND_LINES",
+        )
+        .about("Runs lines of standard input with a link table's master over UDP, or a card")
+        .after_help(MASTER_LINES)
+        .arg(to_argument(alloc))?
+        .arg(descriptor_argument(alloc))
+}
+
+/// The same with those that say how long it waits for an answer, and what is noted.
+fn asking_command<'a>(alloc: Global) -> Result<Command<'a>, AllocError>
+    ensures shape { IfOk result (λ command. shape_of command ≡ asking.top) }
+    ensures local { IfOk result (λ command. (fields_of command).has_globals ≡ false) }
+{
+    reaching_command(alloc)?
+        .arg(patience_argument(alloc))?
+        .arg(capture_argument(alloc))
+}
+
+/// `ecat master [--to ADDRESS:PORT | --descriptor N] [--patience MS] [--capture FILE] [--explain]`.
+fn master_command<'a>(alloc: Global) -> Result<Command<'a>, AllocError>
+    ensures shape { IfOk result (λ command. shape_of command ≡ master_shape) }
+    ensures local { IfOk result (λ command. (fields_of command).has_globals ≡ false) }
+{
+    asking_command(alloc)?.arg(explain_argument(alloc))
+}
+
 /// `ecat` with the commands that simulate nothing but a pass.
 fn planning_commands<'a>(alloc: Global) -> Result<Command<'a>, AllocError>
     ensures { IfOk result (λ command. app_of command ≡ planning) }
@@ -182,5 +216,7 @@ fn cycling_commands<'a>(alloc: Global) -> Result<Command<'a>, AllocError>
 pub fn command<'a>(alloc: Global) -> Result<Command<'a>, AllocError>
     ensures { IfOk result (λ command. app_of command ≡ ecat) }
 {
-    cycling_commands(alloc)?.subcommand(segment_command(alloc)?)
+    cycling_commands(alloc)?
+        .subcommand(segment_command(alloc)?)?
+        .subcommand(master_command(alloc)?)
 }

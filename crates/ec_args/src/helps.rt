@@ -7,7 +7,7 @@ Exit status:
   2  the arguments ask for no command; standard error says why
   3  refused: standard error has a line `ecat: NUMBER NAME VALUES`
   4  a fault of input or output, told in the same form
-  5  what a script of `ecat sim` expects wasn't so, told in the same form
+  5  what a line of `ecat sim` or `ecat master` expects wasn't so, told in the same form
 
 `ecat COMMAND --help` lists what a command refuses, and what to do.";
 
@@ -312,3 +312,64 @@ Exit status:
      43 Socket          the port is in use, the descriptor is no socket of a card, or no payload
                         came for SECONDS: take another port, open the card, start the master in
                         time, or give a longer `--idle`";
+
+/// What stands below the arguments of `ecat master`.
+pub(crate) const MASTER_LINES: &str = "\
+TABLE_AND_LINES is a link table up to a line `%%`, and behind it lines that are run one by one as
+they come. What a line prints is written out before the next one is read, so a control program can
+drive the master through a pipe; the run ends where the input does. Words, numbers, NAME, VALUE and
+comments are those of `ecat sim --help`, and empty lines are skipped.
+
+Frames go to ADDRESS:PORT, and nothing comes in from elsewhere. With `--descriptor` they are
+Ethernet frames of type 0x88A4 on the raw socket of a network card, which is open already, as
+`tools/with_card` leaves one.
+
+Lines:
+  ready           a start-up runs over the wire from its beginning, until it has ended
+  set NAME VALUE  an output variable becomes a value; the next cycle sends it
+  cycle           a cycle runs over the wire
+  show            the input variables are printed
+  report          the last report is printed again
+  expect NAME VALUE
+                  an input variable of the image is VALUE
+  expect taken, expect untaken
+                  in the last report all sync units are that; with a number behind it, that unit
+  expect ready, expect failed
+                  how the last start-up ended; behind `failed` may stand a number
+  repeat N LINE   LINE is done N times, 1 to 1000000; it is none of `repeat`
+
+What a line prints; lines count from 1 behind `%%`:
+  ready           the start-up has ended well
+  failed NUMBER   it has ended otherwise, by 9, 26 to 32, 36 or 38: `ecat loop --help` says what
+                  each stands for
+  report ...      of `cycle` and `report`, as `ecat sim --help` says
+  fault 37 Wire   of `cycle`: a socket was faulty, or an answer didn't come for MS. Inputs and the
+                  last report stay as they were, and a new `cycle` or `ready` may go well
+  NAME VALUE      of `show`, for each input variable
+  unmet LINE      what this line expects isn't so
+  no LINE         what this line says can't be done, and nothing was: a `cycle` while the last
+                  start-up hasn't ended well, or with no frame number left; a `set` of what is no
+                  output variable, or can't hold the value; a `report` before the first one
+  bad LINE        the line is none of these, and nothing was done. `expect` of an output variable or
+                  of a slave's state is none of them: no frame of a cycle tells what slaves publish
+                  of their outputs, or the state of one slave
+Other lines print nothing. What an act prints that is repeated, it prints each time.
+
+Exit status:
+  0  all lines were run, also where they printed `no`, `bad`, `failed` or `fault`
+  2  the arguments ask for no command: put them right as standard error says
+  3  refused, and standard error says `ecat: NUMBER NAME VALUES`:
+     11 to 25, 44       the table is refused; `ecat plan --help` says what to do. It is 11 too
+                        where the line `%%` is missing or isn't just that: then the lines are read
+                        as a part of the table
+      1 Memory          memory ran out, and the input may be good or bad: free some and try again
+  4  input, output or a socket is at fault, told in the same form:
+     41 Output          what a line says, or the capture, couldn't be written: see where standard
+                        output goes, and the file
+     42 Input           standard input couldn't be read, or the table is no text in UTF-8, or has
+                        over 1048576 bytes: see where it comes from
+     43 Socket          ADDRESS:PORT is no IPv4 address with a port, there is no socket for it, or
+                        the descriptor is no socket of a card: put the address right, or open the
+                        card
+  5  all lines were run, and standard error says `ecat: NUMBER NAME VALUE`:
+     45 Unmet COUNT     so many times `unmet` was printed: see its lines";

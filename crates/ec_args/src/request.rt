@@ -62,6 +62,16 @@ pub enum Request<'a> {
         capture: Option<&'a str>,
         explained: bool,
     },
+    /// Run the lines behind the link table on the input, as they come, with a master over a socket that is
+    /// connected with the segment at `to`, an IPv4 address with a port, or over the card whose socket has
+    /// this descriptor. It waits `patience` milliseconds for an answer.
+    Master {
+        to: &'a str,
+        descriptor: Option<u16>,
+        patience: u16,
+        capture: Option<&'a str>,
+        explained: bool,
+    },
 }
 
 /// What stands in place of a request.
@@ -144,6 +154,20 @@ fn read_segment<'a>(given: &ArgMatches<'a>) -> Option<Request<'a>>
     })
 }
 
+/// What those of `master` ask for.
+fn read_master<'a>(given: &ArgMatches<'a>) -> Option<Request<'a>>
+    ensures some { IfSome result (IsAskedAs (codes "master") (rows_of (found_of given.now))) }
+    ensures none { IfNone result (IsNeverAsked (codes "master") (rows_of (found_of given.now))) }
+{
+    Some(Request::Master {
+        to: given.get_str("to")?,
+        descriptor: given.get_one::<u16>("descriptor"),
+        patience: given.get_one::<u16>("patience")?,
+        capture: given.get_str("capture"),
+        explained: given.get_flag("explain"),
+    })
+}
+
 /// What the arguments of the command `name` ask for.
 #[tactic(auto, using(crate::proofs::RequestLemmas::asked, crate::proofs::RequestLemmas::asked_one, crate::proofs::RequestLemmas::not_asked))]
 fn read_command<'a>(name: &str, given: &ArgMatches<'a>) -> Option<Request<'a>>
@@ -158,6 +182,7 @@ fn read_command<'a>(name: &str, given: &ArgMatches<'a>) -> Option<Request<'a>>
         "sim" => Some(read_sim(given)),
         "loop" => read_loop(given),
         "segment" => read_segment(given),
+        "master" => read_master(given),
         _ => None,
     }
 }

@@ -101,6 +101,14 @@ const OF_SEGMENT: [Refusal; 4] = [
     Refusal::Socket,
 ];
 
+const OF_MASTER: [Refusal; 5] = [
+    Refusal::Memory,
+    Refusal::Unmet(1),
+    Refusal::Output,
+    Refusal::Input,
+    Refusal::Socket,
+];
+
 const OF_DECODE: [Refusal; 4] = [
     Refusal::Memory,
     Refusal::BadHex,
@@ -138,7 +146,8 @@ fn helps_list_the_refusals(rt: HostRuntime) -> Result<(), Fail> {
     expect_listed(&rt, "encode", &OF_ENCODE)?;
     expect_listed(&rt, "sim", &OF_SIM)?;
     expect_listed(&rt, "loop", &OF_LOOP)?;
-    expect_listed(&rt, "segment", &OF_SEGMENT)
+    expect_listed(&rt, "segment", &OF_SEGMENT)?;
+    expect_listed(&rt, "master", &OF_MASTER)
 }
 
 #[test]
@@ -154,6 +163,14 @@ fn helps_say_the_limits(rt: HostRuntime) {
         (
             "segment",
             "In its place, the descriptor of a network card's open raw socket, 0 to 1023",
+        ),
+        (
+            "master",
+            "The IPv4 address and the UDP port of the segment [default: 127.0.0.1:34980]",
+        ),
+        (
+            "master",
+            "How many milliseconds it waits for an answer, 1 to 60000 [default: 500]",
         ),
     ] {
         expect_usage(&rt, &["ecat", command, "--help"], 0, "", limit);
@@ -172,6 +189,18 @@ fn the_limits_are_kept(rt: HostRuntime) {
         (
             ["ecat", "segment", "--idle", "86401"],
             "86401 is not in 0..=86400",
+        ),
+        (
+            ["ecat", "master", "--patience", "0"],
+            "0 is not in 1..=60000",
+        ),
+        (
+            ["ecat", "master", "--patience", "60001"],
+            "60001 is not in 1..=60000",
+        ),
+        (
+            ["ecat", "master", "--descriptor", "1024"],
+            "1024 is not in 0..=1023",
         ),
     ] {
         expect_usage(&rt, &args, 2, "error: invalid value", limits);
