@@ -15,6 +15,7 @@ pub mod Plans
 pub mod ReadingBack
 pub mod Readying
 pub mod Running
+pub mod Seeing
 pub mod SlotsSent
 pub mod Turning
 pub mod Values

@@ -20,6 +20,8 @@ pub mod Work
 pub mod Texts
 -- the events of a line, and that its work is a run of them
 pub mod Events
+-- what a watcher keeps of the events of a line
+pub mod Seeing
 -- what `ready` does where nothing disturbs it, and then `cycle`
 pub mod Promised
 -- how a line is written, and that it is read back

@@ -5,6 +5,7 @@ ghost use Rattle.ec_bits.specs.Bits.{bytes_of_bits};
 ghost use Rattle.ec_link.specs.Meaning.{slave_at};
 ghost use Rattle.ec_link.specs.Usable.{IsUsable};
 ghost use Rattle.ec_script.specs.Inputs.{bytes_from, is_input_of, is_of, is_short, is_to, puts, puts_from, slave_byte, slave_puts, with_links};
+ghost use Rattle.ec_script.specs.Seeing.{Sees};
 ghost use Rattle.ec_script.specs.Work.{MakesAll, RunsInput};
 
 use crate::rounds::make;
@@ -89,8 +90,10 @@ fn change_bits(links: &[Link], variable: Variable, value: u64, slave: usize, byt
 }
 
 /// The application of a slave writes bytes of its inputs, one after another.
+#[tactic(auto, using(crate::proofs::Seeing::sees_none, crate::proofs::Seeing::sees_then))]
 fn put_bytes<S: Watcher>(world: &mut World<'_>, watcher: &mut S, slave: usize, bytes: &[u8]) -> Said
-    ensures { MakesAll (puts slave 0 bytes.now) world.old world.new result }
+    ensures made { MakesAll (puts slave 0 bytes.now) world.old world.new result }
+    ensures seen { Sees S.saw watcher.old world.old world.new watcher.new }
 {
     let mut said = Said::Nothing;
     for (place, byte) in bytes.iter().enumerate() {
@@ -120,6 +123,7 @@ fn input_count(plan: &Plan, slave: usize) -> usize
 }
 
 /// The application of a slave writes all its input bytes with the bits of a variable changed, if it has any.
+#[tactic(auto, using(crate::proofs::Seeing::sees_none, crate::proofs::Seeing::sees_then))]
 fn put_slave<S: Watcher>(
     world: &mut World<'_>,
     watcher: &mut S,
@@ -129,7 +133,8 @@ fn put_slave<S: Watcher>(
 ) -> Said
     requires there { slave < length world.old.plan.slaves }
     requires few { variable.bits ≤ 64 }
-    ensures { MakesAll (slave_puts world.old variable value slave) world.old world.new result }
+    ensures made { MakesAll (slave_puts world.old variable value slave) world.old world.new result }
+    ensures seen { Sees S.saw watcher.old world.old world.new watcher.new }
 {
     let plan = world.plan();
     let links = plan.in_links();
@@ -145,6 +150,7 @@ fn put_slave<S: Watcher>(
 }
 
 /// The same of each slave in its turn.
+#[tactic(auto, using(crate::proofs::Seeing::sees_none, crate::proofs::Seeing::sees_then))]
 fn put_slaves<S: Watcher>(
     world: &mut World<'_>,
     watcher: &mut S,
@@ -152,8 +158,9 @@ fn put_slaves<S: Watcher>(
     value: u64,
 ) -> Said
     requires { variable.bits ≤ 64 }
-    ensures { MakesAll (puts_from world.old variable value 0 (length world.old.plan.slaves))
+    ensures made { MakesAll (puts_from world.old variable value 0 (length world.old.plan.slaves))
         world.old world.new result }
+    ensures seen { Sees S.saw watcher.old world.old world.new watcher.new }
 {
     let slaves = world.plan().slaves();
     for slave in 0..slaves.len() {
@@ -182,13 +189,15 @@ fn is_input_of(plan: &Plan, variable: usize, value: u64) -> bool
 
 /// A variable of the inputs becomes a value, as the plant has it: each slave with bits of it writes all its input bytes, these
 /// bits changed and all others as it published them last.
+#[tactic(auto, using(crate::proofs::Seeing::sees_none, crate::proofs::Seeing::sees_then))]
 pub fn put_input<S: Watcher>(
     world: &mut World<'_>,
     watcher: &mut S,
     variable: usize,
     value: u64,
 ) -> Said
-    ensures { RunsInput variable value world.old world.new result }
+    ensures made { RunsInput variable value world.old world.new result }
+    ensures seen { Sees S.saw watcher.old world.old world.new watcher.new }
 {
     let plan = world.plan();
     if !is_input_of(plan, variable, value) {

@@ -2,6 +2,7 @@
 ghost use Rattle.std.specs.Prelude.{◌≡◌, [], replicate, if◌then◌else◌};
 ghost use Rattle.ec_world.specs.NewWorld.{servings};
 ghost use Rattle.ec_world.specs.World.{flight_at};
+ghost use Rattle.ec_script.specs.Seeing.{Sees};
 ghost use Rattle.ec_script.specs.Work.{Makes, MakesAll, Starts, RunsTurn, RunsCycle, last_turn};
 ghost use Rattle.ec_script.specs.Rounds.{greatest, has_number, round_events, rounds_found};
 
@@ -9,8 +10,10 @@ use crate::said::Said;
 use ec_world::{Event, Watcher, World};
 
 /// Makes an event, if it can be made, and answers what there is to say of it.
+#[tactic(auto, using(crate::proofs::Seeing::sees_none, crate::proofs::Seeing::sees_made, crate::proofs::Seeing::sees_then))]
 pub fn make<S: Watcher>(world: &mut World<'_>, watcher: &mut S, event: Event) -> Said
-    ensures { Makes event world.old world.new result }
+    ensures made { Makes event world.old world.new result }
+    ensures seen { Sees S.saw watcher.old world.old world.new watcher.new }
 {
     let starting = world.outcome().is_none();
     if !watcher.step(world, event) {
@@ -48,13 +51,15 @@ fn holds(world: &World<'_>, slot: usize, number: u64) -> bool
 }
 
 /// The frame in a slot passes so many slaves, up to one that it can't pass.
+#[tactic(auto, using(crate::proofs::Seeing::sees_none, crate::proofs::Seeing::sees_made, crate::proofs::Seeing::sees_then))]
 fn pass_slaves<S: Watcher>(
     world: &mut World<'_>,
     watcher: &mut S,
     slot: usize,
     slaves: usize,
 ) -> Said
-    ensures { MakesAll (replicate slaves (Event.Pass slot)) world.old world.new result }
+    ensures made { MakesAll (replicate slaves (Event.Pass slot)) world.old world.new result }
+    ensures seen { Sees S.saw watcher.old world.old world.new watcher.new }
 {
     let mut said = Said::Nothing;
     for _ in 0..slaves {
@@ -67,8 +72,10 @@ fn pass_slaves<S: Watcher>(
 }
 
 /// So many slaves make a firmware step, each in its turn.
+#[tactic(auto, using(crate::proofs::Seeing::sees_none, crate::proofs::Seeing::sees_made, crate::proofs::Seeing::sees_then))]
 fn serve_slaves<S: Watcher>(world: &mut World<'_>, watcher: &mut S, slaves: usize) -> Said
-    ensures { MakesAll (servings 0 slaves) world.old world.new result }
+    ensures made { MakesAll (servings 0 slaves) world.old world.new result }
+    ensures seen { Sees S.saw watcher.old world.old world.new watcher.new }
 {
     let mut said = Said::Nothing;
     for slave in 0..slaves {
@@ -81,13 +88,15 @@ fn serve_slaves<S: Watcher>(world: &mut World<'_>, watcher: &mut S, slaves: usiz
 }
 
 /// The same, if they are to.
+#[tactic(auto, using(crate::proofs::Seeing::sees_none, crate::proofs::Seeing::sees_made, crate::proofs::Seeing::sees_then))]
 fn serve_if<S: Watcher>(
     world: &mut World<'_>,
     watcher: &mut S,
     slaves: usize,
     serving: bool,
 ) -> Said
-    ensures { MakesAll (if serving then servings 0 slaves else []) world.old world.new result }
+    ensures made { MakesAll (if serving then servings 0 slaves else []) world.old world.new result }
+    ensures seen { Sees S.saw watcher.old world.old world.new watcher.new }
 {
     if serving {
         serve_slaves(world, watcher, slaves)
@@ -97,6 +106,7 @@ fn serve_if<S: Watcher>(
 }
 
 /// The frame in a slot passes so many slaves, which make a firmware step if `serving` says so, and comes back.
+#[tactic(auto, using(crate::proofs::Seeing::sees_none, crate::proofs::Seeing::sees_made, crate::proofs::Seeing::sees_then))]
 fn go_round<S: Watcher>(
     world: &mut World<'_>,
     watcher: &mut S,
@@ -104,7 +114,8 @@ fn go_round<S: Watcher>(
     slaves: usize,
     serving: bool,
 ) -> Said
-    ensures { MakesAll (round_events slaves serving slot) world.old world.new result }
+    ensures made { MakesAll (round_events slaves serving slot) world.old world.new result }
+    ensures seen { Sees S.saw watcher.old world.old world.new watcher.new }
 {
     let passed = pass_slaves(world, watcher, slot, slaves);
     if !passed.is_done() {
@@ -118,8 +129,10 @@ fn go_round<S: Watcher>(
 }
 
 /// The newest frames go round, one after another in the order of their slots.
+#[tactic(auto, using(crate::proofs::Seeing::sees_none, crate::proofs::Seeing::sees_made, crate::proofs::Seeing::sees_then))]
 fn go_rounds<S: Watcher>(world: &mut World<'_>, watcher: &mut S, serving: bool) -> Said
-    ensures { MakesAll (rounds_found serving world.old) world.old world.new result }
+    ensures made { MakesAll (rounds_found serving world.old) world.old world.new result }
+    ensures seen { Sees S.saw watcher.old world.old world.new watcher.new }
 {
     let slaves = world.slaves();
     let number = newest(world);
@@ -136,8 +149,10 @@ fn go_rounds<S: Watcher>(world: &mut World<'_>, watcher: &mut S, serving: bool) 
 }
 
 /// One frame of a start-up is sent and goes round.
+#[tactic(auto, using(crate::proofs::Seeing::sees_none, crate::proofs::Seeing::sees_made, crate::proofs::Seeing::sees_then))]
 fn take_turn<S: Watcher>(world: &mut World<'_>, watcher: &mut S) -> Said
-    ensures { RunsTurn world.old world.new result }
+    ensures made { RunsTurn world.old world.new result }
+    ensures seen { Sees S.saw watcher.old world.old world.new watcher.new }
 {
     let sent = make(world, watcher, Event::StartNext);
     if !sent.is_done() {
@@ -147,8 +162,10 @@ fn take_turn<S: Watcher>(world: &mut World<'_>, watcher: &mut S) -> Said
 }
 
 /// Frames of a start-up are sent and go round, until it has ended.
+#[tactic(auto, using(crate::proofs::Seeing::sees_none, crate::proofs::Seeing::sees_made, crate::proofs::Seeing::sees_then))]
 pub fn start_up<S: Watcher>(world: &mut World<'_>, watcher: &mut S) -> Said
-    ensures { Starts last_turn world.old world.new result }
+    ensures made { Starts last_turn world.old world.new result }
+    ensures seen { Sees S.saw watcher.old world.old world.new watcher.new }
 {
     for _ in 0..u64::MAX {
         let said = take_turn(world, watcher);
@@ -163,8 +180,10 @@ pub fn start_up<S: Watcher>(world: &mut World<'_>, watcher: &mut S) -> Said
 }
 
 /// A cycle begins, its frames go round, and it is closed.
+#[tactic(auto, using(crate::proofs::Seeing::sees_none, crate::proofs::Seeing::sees_made, crate::proofs::Seeing::sees_then))]
 pub fn run_cycle<S: Watcher>(world: &mut World<'_>, watcher: &mut S) -> Said
-    ensures { RunsCycle world.old world.new result }
+    ensures made { RunsCycle world.old world.new result }
+    ensures seen { Sees S.saw watcher.old world.old world.new watcher.new }
 {
     let begun = make(world, watcher, Event::Begin);
     if !begun.is_done() {

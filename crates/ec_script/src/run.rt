@@ -10,6 +10,7 @@ ghost use Rattle.ec_script.specs.Work.{Does, is_done, said_if};
 ghost use Rattle.ec_script.specs.Expecting.{is_met};
 ghost use Rattle.ec_script.specs.Events.{RunsLine};
 ghost use Rattle.ec_script.specs.Promised.{IsReadied};
+ghost use Rattle.ec_script.specs.Seeing.{Sees};
 ghost use Rattle.ec_script.specs.Texts.{said_text};
 
 use crate::expectation::Expectation;
@@ -34,11 +35,12 @@ fn expect(world: &World<'_>, expected: Expectation) -> Said
 }
 
 /// Does what a line asks for, as [`do_act`] does; its events are made by a watcher, which may keep what it sees of them.
-#[tactic(auto, using(crate::proofs::Plans::act_keeps, crate::proofs::Running::lines_run))]
+#[tactic(auto, using(crate::proofs::Plans::act_keeps, crate::proofs::Running::lines_run, crate::proofs::Seeing::sees_none))]
 pub fn watch_act<S: Watcher>(world: &mut World<'_>, watcher: &mut S, act: Act) -> Said
     ensures does { Does act world.old world.new result }
     ensures run { RunsLine act world.old world.new (is_done result) }
     ensures plan { world.new.plan ≡ world.old.plan }
+    ensures seen { Sees S.saw watcher.old world.old world.new watcher.new }
 {
     match act {
         Act::One(event) => make(world, watcher, event),
