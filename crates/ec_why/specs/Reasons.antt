@@ -1,0 +1,31 @@
+-- The form of a line that says why an event can't be made, and where one stands (a choice of this project); its words are tested.
+use Rattle.std.specs.Prelude.{◌≡◌, ◌≢◌, ℕ, Bool, true, false, All, List, [], ◌∷◌, ◌++◌, codes}
+use Rattle.ec_script.specs.declared.said.Said.{Said}
+use Rattle.ec_script.specs.declared.said.Said.TheVariants.{No}
+use Rattle.ec_why.specs.declared.wanted.Reasons.{Reasons}
+use Rattle.ec_why.specs.declared.wanted.Reasons.TheVariants.{Told, Untold}
+
+-- two blanks, words, and the line's end, of which there is no other
+pub record IsReason (text : List ℕ) : Type 0 where
+  pub words : List ℕ
+  pub some : words ≢ []
+  pub on_one_line : All (λ b. b ≢ 10) words
+  pub is : text ≡ codes "  " ++ (words ++ (10 ∷ []))
+
+-- they are told where an explanation is wanted
+abbrev pub reasons_of : Bool → Reasons
+reasons_of true = Told
+reasons_of false = Untold
+
+-- the lines behind which one stands
+abbrev pub is_reasoned : Reasons → Said → Bool
+is_reasoned Told No = true
+is_reasoned _ _ = false
+
+abbrev pub ReasonIf : Bool → List ℕ → Type 0
+ReasonIf true why = IsReason why
+ReasonIf false why = why ≡ []
+
+-- why a line says `no`, where reasons are told; behind any other line there is nothing
+abbrev pub IsWhy : Reasons → Said → List ℕ → Type 0
+IsWhy reasons said why = ReasonIf (is_reasoned reasons said) why

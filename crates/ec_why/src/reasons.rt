@@ -1,0 +1,122 @@
+//! Why a line ended at an event that can't be made, as the line that is printed of it.
+ghost use Rattle.std.specs.Prelude.{◌≡◌, ◌≢◌, [], All, IfOk, is_some, string_bytes};
+ghost use Rattle.ec_world.specs.Watching.{sent_of};
+ghost use Rattle.ec_why.specs.Reasons.{IsReason};
+
+use crate::events::{event_words, frame_words};
+use crate::places::{Firmware, greatest, never_fits, not_written};
+use ec_link::{Link, Variable};
+use ec_script::Act;
+use ec_table::{Direction, Table};
+use ec_world::{Event, World};
+use std::alloc::{AllocError, Global};
+
+/// What is said where nothing better is known.
+const PLAIN: &str = "an event of the line can't be made";
+
+/// Whether a cycle is open.
+pub fn has_cycle(world: &World<'_>) -> bool
+    ensures { result ≡ is_some (sent_of world.now 0) }
+{
+    world.sent(0).is_some()
+}
+
+/// Whether a link's bits of the image are among those of a variable.
+fn is_of(variable: Variable, link: &Link) -> bool {
+    link.image >= variable.from && link.image - variable.from < usize::from(variable.bits)
+}
+
+/// A slave that has bits of a variable of the inputs, which holds a value, and isn't in SAFEOP or OP.
+fn still_slave(world: &World<'_>, variable: usize, value: u64) -> Option<usize> {
+    let variable = *world.plan().variables().get(variable)?;
+    if variable.direction == Direction::Out || value > greatest(variable.bits) {
+        return None;
+    }
+    let links = world.plan().in_links();
+    links
+        .iter()
+        .filter(|link| is_of(variable, link))
+        .map(|link| link.slave)
+        .find(|slave| !Firmware::of(world, *slave).is_running())
+}
+
+/// Why the plant can't have a value in a variable of the inputs.
+fn input_words(
+    alloc: Global,
+    table: &Table,
+    world: &World<'_>,
+    variable: usize,
+    value: u64,
+) -> Result<String, AllocError> {
+    match still_slave(world, variable, value) {
+        Some(slave) => event_words(alloc, table, world, Event::AppPut(slave, 0, 0)),
+        None => not_written(alloc, table, variable, Direction::In),
+    }
+}
+
+/// Why a whole cycle ended early, by whether one was open before: it wasn't begun, or a frame of it is held up.
+fn cycle_words(
+    alloc: Global,
+    table: &Table,
+    world: &World<'_>,
+    had_cycle: bool,
+) -> Result<String, AllocError> {
+    if had_cycle || !has_cycle(world) {
+        event_words(alloc, table, world, Event::Begin)
+    } else {
+        frame_words(alloc, world)
+    }
+}
+
+/// Why an act ended at an event that can't be made, in the world that it left.
+fn act_words(
+    alloc: Global,
+    table: &Table,
+    world: &World<'_>,
+    act: Act,
+    had_cycle: bool,
+) -> Result<String, AllocError> {
+    match act {
+        Act::One(event) => event_words(alloc, table, world, event),
+        Act::Input(variable, value) => input_words(alloc, table, world, variable, value),
+        Act::Never(variable) => never_fits(alloc, table, variable),
+        Act::Ready => event_words(alloc, table, world, Event::StartNext),
+        Act::Cycle => cycle_words(alloc, table, world, had_cycle),
+        Act::Expect(_) | Act::Show => String::from_str(alloc, PLAIN),
+    }
+}
+
+/// Words, of which there are some, and which are on one line.
+fn on_one_line(words: &str) -> &str
+    ensures some { result.now ≢ [] }
+    ensures one_line { All (λ b. b ≢ 10) result.now }
+{
+    if words.is_empty() || words.as_bytes().contains(&b'\n') {
+        PLAIN
+    } else {
+        words
+    }
+}
+
+/// Why an act ended at an event that can't be made, as a line with two blanks before it. The world is the one that the act left,
+/// and that event changed nothing of it; `had_cycle` is [`has_cycle`] of the world before the act. Of an act that didn't end so
+/// the words say nothing.
+///
+/// # Errors
+///
+/// `AllocError` where there is no memory for the text.
+pub fn reason_text(
+    alloc: Global,
+    table: &Table,
+    world: &World<'_>,
+    act: Act,
+    had_cycle: bool,
+) -> Result<String, AllocError>
+    ensures { IfOk result (λ text. IsReason (string_bytes text)) }
+{
+    let words = act_words(alloc, table, world, act, had_cycle)?;
+    let mut text = String::from_str(alloc, "  ")?;
+    text.push_str(on_one_line(words.as_str()))?;
+    text.push_str("\n")?;
+    Ok(text)
+}

@@ -1,0 +1,220 @@
+//! The words behind each `no` of a script, by the world in which an event can't be made.
+ghost use Rattle.std.specs.Prelude.{◌≡◌, length};
+ghost use Rattle.ec_link.specs.Faults.{compile_fault};
+ghost use Rattle.ec_link.specs.Plan.{plan_of};
+
+use ec_link::{Plan, compile};
+use ec_regs::Identity;
+use ec_rise::identities_of;
+use ec_script::{Line, do_act, read_script};
+use ec_table::{Table, read_table};
+use ec_why::{has_cycle, reason_text};
+use ec_world::World;
+use std::alloc::{AllocError, Global};
+use std::fmt::Write as _;
+use std::process::Abort;
+use std::test::Fail;
+
+/// Three slaves: 4 outputs; 4 inputs; 12 outputs and 16 inputs.
+const TABLE: &str = r#"type = [
+  { name = "do4", vendor = 0xABCD, product = 1, revision = 1, out_start = 0x1100, in_start = 0, rxpdo = [ { index = 0x1600, entries = [[0x7000, 1, 4]] } ] },
+  { name = "di4", vendor = 0xABCD, product = 2, revision = 1, out_start = 0, in_start = 0x1100, txpdo = [ { index = 0x1A00, entries = [[0x6000, 1, 4]] } ] },
+  { name = "mix", vendor = 0xABCD, product = 3, revision = 1, mailbox = [0x1000, 128, 0x1080, 128], out_start = 0x1100, in_start = 0x1400, rxpdo = [ { index = 0x1600, entries = [[0x7010, 1, 12]] } ], txpdo = [ { index = 0x1A00, entries = [[0x6010, 1, 16]] } ] },
+]
+slave = [ { name = "valves", type = "do4" }, { name = "keys", type = "di4" }, { name = "drive", type = "mix" } ]
+variable = [ { name = "a", dir = "out", bits = 4 }, { name = "b", dir = "out", bits = 12 }, { name = "c", dir = "in", bits = 4 }, { name = "d", dir = "in", bits = 16 }, { name = "flag", dir = "out", bits = 1 }, { name = "wide", dir = "out", bits = 64 } ]
+link = [ { var = "a", slave = "valves", index = 0x7000, sub = 1 }, { var = "b", slave = "drive", index = 0x7010, sub = 1 }, { var = "c", slave = "keys", index = 0x6000, sub = 1 }, { var = "d", slave = "drive", index = 0x6010, sub = 1 } ]
+"#;
+
+/// Scripts on this table, and for each `no` the number of its line and why; `;` stands for the end of a line.
+const RUNS: [(&str, &str); 16] = [
+    ("ready;cycle;begin;close", ""),
+    (
+        "begin;cycle;ready;begin;begin;cycle;start;ready",
+        "1  the start-up isn't ready: `ready` brings the slaves up;\
+         2  the start-up isn't ready: `ready` brings the slaves up;\
+         5  a cycle is open: `close` ends it;\
+         6  a cycle is open: `close` ends it;\
+         7  the start-up is ready: the slaves are in OP, or were;\
+         8  the start-up is ready: the slaves are in OP, or were;",
+    ),
+    (
+        "start;start;lose 0;start;close;close",
+        "2  a frame is on its way: the start-up sends one at a time;\
+         4  the answer to the frame that was sent last is awaited: `close` gives the start-up up;\
+         6  no cycle is open, and no frame of the start-up is awaited;",
+    ),
+    (
+        "pass 0;lose 63;return 64;pass 100",
+        "1  slot 0 is empty: no frame is on its way there;\
+         2  slot 63 is empty: no frame is on its way there;\
+         3  there is no slot 64: frames are on their way in slots 0 to 63;\
+         4  there is no slot 100: frames are on their way in slots 0 to 63;",
+    ),
+    (
+        "ready;begin;return 0;pass 0;return 0;pass 0;pass 0;pass 0",
+        "3  the frame in slot 0 has passed 0 of 3 slaves;\
+         5  the frame in slot 0 has passed 1 of 3 slaves;\
+         8  the frame in slot 0 has passed every slave: `return 0` brings it back;",
+    ),
+    // a frame of an earlier cycle in the way, of a frame alone and of a whole cycle
+    (
+        "ready;begin;close;begin;pass 1;close;cycle",
+        "5  the older frame in slot 0 is in its way: frames don't overtake;\
+         7  the older frame in slot 0 is in its way: frames don't overtake;",
+    ),
+    (
+        "serve 3;reset 4;fault 5;fault drive",
+        "1  there is no slave 3: the table has slaves 0 to 2;\
+         2  there is no slave 4: the table has slaves 0 to 2;\
+         3  there is no slave 5: the table has slaves 0 to 2;\
+         4  `drive` is in INIT: an application fails in OP;",
+    ),
+    (
+        "ready;fault drive;fault drive",
+        "3  `drive` is in SAFEOP: an application fails in OP;",
+    ),
+    (
+        "set a 16;set a -9;set c 1;set flag 2;set b 4096;set wide -9223372036854775809",
+        "1  `a` has 4 bits, and its greatest value is 15;\
+         2  `a` has 4 bits, and its greatest value is 15;\
+         3  `c` comes from slaves: `in c VALUE` writes it there;\
+         4  `flag` has 1 bit, and its greatest value is 1;\
+         5  `b` has 12 bits, and its greatest value is 4095;\
+         6  `wide` has 64 bits, and its greatest value is 18446744073709551615;",
+    ),
+    (
+        "in c 1;in a 1;in d 65536;in c 16;in c -9",
+        "1  `keys` is in INIT: its application has inputs in SAFEOP and OP;\
+         2  `a` goes to slaves: `set a VALUE` sets it;\
+         3  `d` has 16 bits, and its greatest value is 65535;\
+         4  `c` has 4 bits, and its greatest value is 15;\
+         5  `c` has 4 bits, and its greatest value is 15;",
+    ),
+    (
+        "ready;reset drive;in d 1;in c 1",
+        "3  `drive` is in INIT: its application has inputs in SAFEOP and OP;",
+    ),
+    (
+        "put keys 0 1;get valves 0;ready;put valves 0 1;get keys 0;put keys 1 1;get drive 2",
+        "1  `keys` is in INIT: its application has inputs in SAFEOP and OP;\
+         2  `valves` is in INIT: its application has outputs in SAFEOP and OP;\
+         4  `valves` has no inputs;\
+         5  `keys` has no outputs;\
+         6  `keys` has no byte 1 of inputs: the last is byte 0;\
+         7  `drive` has no byte 2 of outputs: the last is byte 1;",
+    ),
+    (
+        "ready;put drive 1 5;get drive 1;put drive 0 5;put drive 1 5;get drive 0;get drive 1",
+        "2  byte 1 is out of turn: the inputs of `drive` go from byte 0 on, one after another;\
+         3  byte 1 is out of turn: the outputs of `drive` go from byte 0 on, one after another;",
+    ),
+    (
+        "put 3 0 1;get 9 0",
+        "1  there is no slave 3: the table has slaves 0 to 2;2  there is no slave 9: the table has slaves 0 to 2;",
+    ),
+    (
+        "repeat 2 begin;repeat 2 expect ready;show",
+        "1  the start-up isn't ready: `ready` brings the slaves up;1  the start-up isn't ready: `ready` brings the slaves up;",
+    ),
+    (
+        "start;close;ready;start;lose 0;ready",
+        "3  a frame is on its way: the start-up sends one at a time;4  a frame is on its way: the start-up sends one at a time;",
+    ),
+];
+
+/// Tables without a slave and with one.
+const EMPTY: &str = "";
+
+const ALONE: &str =
+    r#"type = [ { name = "t", vendor = 1, product = 1, revision = 1, out_start = 0x1100, in_start = 0, rxpdo = [ { index = 0x1600, entries = [[0x7000, 1, 4]] } ] } ]
+slave = [ { name = "s", type = "t" } ]
+"#;
+
+/// Adds why a line says `no`, as often as it is done and does.
+fn tell_line(
+    alloc: Global,
+    world: &mut World<'_>,
+    table: &Table,
+    line: &Line,
+    told: &mut String,
+) -> Result<(), AllocError> {
+    for _ in 0..line.times {
+        let had_cycle = has_cycle(world);
+        if !do_act(world, line.act).is_done() {
+            let reason = reason_text(alloc, table, world, line.act, had_cycle)?;
+            let number = line.number;
+            write!(told, "{number}{reason}")?;
+        }
+    }
+    Ok(())
+}
+
+/// Why lines say `no`, one after another, over a new world of a table, in which its slaves have these identities.
+fn told_anew(
+    alloc: Global,
+    table: &Table,
+    plan: &Plan,
+    identities: &[Identity],
+    lines: &[Line],
+) -> Result<String, AllocError>
+    requires accepted { compile_fault table.now ≡ None }
+    requires plan { plan.now ≡ plan_of table.now }
+    requires one_each { length identities.now ≡ length table.now.slaves }
+{
+    let mut world = World::new(alloc, table, plan, identities)?;
+    let mut told = String::new(alloc);
+    for line in lines {
+        tell_line(alloc, &mut world, table, line, &mut told)?;
+    }
+    Ok(told)
+}
+
+/// Why the lines of a script say `no`, over a new world of a table.
+fn told(alloc: Global, table: &Table, plan: &Plan, script: &str) -> Result<String, Fail>
+    requires accepted { compile_fault table.now ≡ None }
+    requires plan { plan.now ≡ plan_of table.now }
+{
+    let lines = read_script(alloc, table, script)?;
+    let identities = identities_of(alloc, table)?;
+    Ok(told_anew(alloc, table, plan, identities.as_slice(), lines.as_slice())?)
+}
+
+/// Scripts over a table, each with why its lines say `no`.
+fn expect_reasons<H: AllocGlobal + Abort>(
+    rt: &H,
+    table: &str,
+    runs: &[(&str, &str)],
+) -> Result<(), Fail> {
+    let table = read_table(rt.alloc(), table)?;
+    let plan = compile(rt.alloc(), &table)?;
+    for (script, reasons) in runs {
+        let script = script.replace(rt.alloc(), ";", "\n")?;
+        let reasons = reasons.replace(rt.alloc(), ";", "\n")?;
+        let told = told(rt.alloc(), &table, &plan, script.as_str())?;
+        assert_eq!(rt; told.as_str(), reasons.as_str());
+    }
+    Ok(())
+}
+
+#[test]
+fn tells_why(rt: HostRuntime) -> Result<(), Fail> {
+    expect_reasons(&rt, TABLE, &RUNS)
+}
+
+/// Few slaves are counted in words.
+#[test]
+fn tells_of_few_slaves(rt: HostRuntime) -> Result<(), Fail> {
+    let none = [("serve 0", "1  there is no slave 0: the table has none;")];
+    expect_reasons(&rt, EMPTY, &none)?;
+    let bare = [(
+        "ready;cycle;begin;begin;cycle",
+        "4  a cycle is open: `close` ends it;5  a cycle is open: `close` ends it;",
+    )];
+    expect_reasons(&rt, EMPTY, &bare)?;
+    let one = [(
+        "serve 1",
+        "1  there is no slave 1: the table has one, slave 0;",
+    )];
+    expect_reasons(&rt, ALONE, &one)
+}
