@@ -5,6 +5,7 @@ mod terminals;
 
 use ec_console::{Explanation, Refusal};
 use ec_sim::print_sim;
+use ec_why::Reasons;
 use std::fs::Files;
 use std::process::Abort;
 use std::test::Fail;
@@ -21,7 +22,14 @@ fn run<H: AllocGlobal + Files>(
     let text = format!(in rt.alloc(); "{table}{script}")?;
     let mut printed: Vec<u8> = Vec::new(rt.alloc());
     let mut behind = Explanation::new(rt.alloc(), false);
-    let ended = print_sim(rt, None, &mut text.as_bytes(), &mut printed, &mut behind);
+    let ended = print_sim(
+        rt,
+        Reasons::Untold,
+        None,
+        &mut text.as_bytes(),
+        &mut printed,
+        &mut behind,
+    );
     Ok((ended, printed))
 }
 

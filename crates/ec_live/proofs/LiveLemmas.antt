@@ -6,6 +6,7 @@ use Rattle.ec_table.specs.Contents.{Contents}
 use Rattle.ec_world.specs.World.{WorldState}
 use Rattle.ec_script.specs.declared.read.Reading.{Reading}
 use Rattle.ec_script.specs.declared.read.Reading.TheVariants as reading
+use Rattle.ec_why.specs.declared.wanted.Reasons.{Reasons}
 use Rattle.ec_captured.specs.Capturing.{IsUnopened}
 use Rattle.ec_console.specs.declared.refusal.Refusal.{Refusal}
 use Rattle.ec_console.specs.declared.refusal.Refusal.TheVariants.{Unmet}
@@ -36,15 +37,15 @@ some_taken line taken.NoText h other = h.0
 
 -- ---- lines that are said
 
-lives_push : (t : Contents) (w now new : WorldState) (k n : ℕ) (lines : List (List ℕ)) (line : List ℕ) (p q : List ℕ) (a b : ℕ) → n ≡ k + length lines → LiveSays t w k lines now p a
-    → SaysReading t now n (live_reading t n line) new q b → LiveSays t w k (lines ++ (line ∷ [])) new (p ++ q) (a + b)
-lives_push t w now new k n [] line p q a b is h says =
+lives_push : (reasons : Reasons) (t : Contents) (w now new : WorldState) (k n : ℕ) (lines : List (List ℕ)) (line : List ℕ) (p q : List ℕ) (a b : ℕ) → n ≡ k + length lines → LiveSays reasons t w k lines now p a
+    → SaysReading reasons t now n (live_reading t n line) new q b → LiveSays reasons t w k (lines ++ (line ∷ [])) new (p ++ q) (a + b)
+lives_push reasons t w now new k n [] line p q a b is h says =
     let number : n ≡ k = omega arith in
-    let here : SaysReading t w k (live_reading t k line) new q b =
-    subst (λ (i : ℕ). SaysReading t w i (live_reading t i line) new q b) number
-    (subst (λ (v : WorldState). SaysReading t v n (live_reading t n line) new q b) h.0 says) in
+    let here : SaysReading reasons t w k (live_reading t k line) new q b =
+    subst (λ (i : ℕ). SaysReading reasons t w i (live_reading t i line) new q b) number
+    (subst (λ (v : WorldState). SaysReading reasons t v n (live_reading t n line) new q b) h.0 says) in
     (new, q, [], b, 0, here, (refl, refl, refl), ap (λ (r : List ℕ). r ++ q) h.1 ∙ sym (append-nil q), let z : a ≡ 0 = h.2 in omega arith)
-lives_push t w now new k n (l ∷ ls) line p q a b is (first, text, more, one, rest, said, lives, printed, unmet) says =
+lives_push reasons t w now new k n (l ∷ ls) line p q a b is (first, text, more, one, rest, said, lives, printed, unmet) says =
     let number : n ≡ k + 1 + length ls = omega arith in (
       first,
       text,
@@ -52,73 +53,73 @@ lives_push t w now new k n (l ∷ ls) line p q a b is (first, text, more, one, r
       one,
       rest + b,
       said,
-      lives_push t first now new (k + 1) n ls line more q rest b number lives says,
+      lives_push reasons t first now new (k + 1) n ls line more q rest b number lives says,
       ap (λ (r : List ℕ). r ++ q) printed ∙ append_assoc text more q,
       omega arith,
     )
 
-pub none_lived : (t : Contents) (w : WorldState) (given old : Option (List ℕ)) → LivesOn t w given given 0 w 0 old old
-none_lived t w given old = record { lines = []; long = refl; printed = []; taken = refl; says = (refl, refl, refl); appends = appends_nothing old }
+pub none_lived : (reasons : Reasons) (t : Contents) (w : WorldState) (given old : Option (List ℕ)) → LivesOn reasons t w given given 0 w 0 old old
+none_lived reasons t w given old = record { lines = []; long = refl; printed = []; taken = refl; says = (refl, refl, refl); appends = appends_nothing old }
 
-pub lived_more : (t : Contents) (w now new : WorldState) (given left after : Option (List ℕ)) (n : ℕ) (line text : List ℕ) (a b : ℕ) (old half whole : Option (List ℕ)) → LivesOn t w given left n now a old half
-    → TakesLine left after line → 0 < length line → SaysReading t now (n + 1) (live_reading t (n + 1) line) new text b → Appends half whole text → LivesOn t w given after (n + 1) new (a + b) old whole
-lived_more t w now new given left after n line text a b old half whole h next some says appends = record {
+pub lived_more : (reasons : Reasons) (t : Contents) (w now new : WorldState) (given left after : Option (List ℕ)) (n : ℕ) (line text : List ℕ) (a b : ℕ) (old half whole : Option (List ℕ)) → LivesOn reasons t w given left n now a old half
+    → TakesLine left after line → 0 < length line → SaysReading reasons t now (n + 1) (live_reading t (n + 1) line) new text b → Appends half whole text → LivesOn reasons t w given after (n + 1) new (a + b) old whole
+lived_more reasons t w now new given left after n line text a b old half whole h next some says appends = record {
   lines = h.lines ++ (line ∷ []);
   long = let l : length h.lines ≡ n = h.long in length-append h.lines (line ∷ []) ∙ omega arith;
   printed = h.printed ++ text;
   taken = takes_push given left after h.lines line h.taken next some;
-  says = lives_push t w now new 1 (n + 1) h.lines line h.printed text a b (let l : length h.lines ≡ n = h.long in omega arith) h.says says;
+  says = lives_push reasons t w now new 1 (n + 1) h.lines line h.printed text a b (let l : length h.lines ≡ n = h.long in omega arith) h.says says;
   appends = appends_more old half whole h.printed text h.appends appends;
 }
 
 -- ---- the run
 
 -- so far, with the count that the code has
-pub record AreLived (t : Contents) (w : WorldState) (given left : Option (List ℕ)) (place : ℕ) (now : WorldState) (count : ℕ) (old new : Option (List ℕ)) : Type 0 where
+pub record AreLived (reasons : Reasons) (t : Contents) (w : WorldState) (given left : Option (List ℕ)) (place : ℕ) (now : WorldState) (count : ℕ) (old new : Option (List ℕ)) : Type 0 where
   pub unmet : ℕ
   pub counts : count ≡ counted unmet
-  pub so_far : LivesOn t w given left place now unmet old new
+  pub so_far : LivesOn reasons t w given left place now unmet old new
   pub plan : now.plan ≡ w.plan
 
-pub none_run_live : (t : Contents) (w : WorldState) (given old : Option (List ℕ)) → AreLived t w given given 0 w 0 old old
-none_run_live t w given old = record { unmet = 0; counts = refl; so_far = none_lived t w given old; plan = refl }
+pub none_run_live : (reasons : Reasons) (t : Contents) (w : WorldState) (given old : Option (List ℕ)) → AreLived reasons t w given given 0 w 0 old old
+none_run_live reasons t w given old = record { unmet = 0; counts = refl; so_far = none_lived reasons t w given old; plan = refl }
 
 sum_of : (a b c d : ℕ) → c ≡ counted a → d ≡ counted b → min (c + d) (2 ^ 64 - 1) ≡ counted (a + b)
 sum_of a b c d h g = omega arith
 
-pub lived_on : (t : Contents) (w now new : WorldState) (given left after : Option (List ℕ)) (place : ℕ) (line : List ℕ) (count more total : ℕ) (old half whole : Option (List ℕ)) → AreLived t w given left place now count old half
+pub lived_on : (reasons : Reasons) (t : Contents) (w now new : WorldState) (given left after : Option (List ℕ)) (place : ℕ) (line : List ℕ) (count more total : ℕ) (old half whole : Option (List ℕ)) → AreLived reasons t w given left place now count old half
     → TakesLine left after line → 0 < length line
-    → (unmet : ℕ) × (more ≡ counted unmet) × (text : List ℕ) × SaysReading t now (place + 1) (live_reading t (place + 1) line) new text unmet × Appends half whole text
-    → new.plan ≡ now.plan → total ≡ min (count + more) (2 ^ 64 - 1) → AreLived t w given after (place + 1) new total old whole
-lived_on t w now new given left after place line count more total old half whole h next some (unmet, counts, text, says, appends) plan is = record {
+    → (unmet : ℕ) × (more ≡ counted unmet) × (text : List ℕ) × SaysReading reasons t now (place + 1) (live_reading t (place + 1) line) new text unmet × Appends half whole text
+    → new.plan ≡ now.plan → total ≡ min (count + more) (2 ^ 64 - 1) → AreLived reasons t w given after (place + 1) new total old whole
+lived_on reasons t w now new given left after place line count more total old half whole h next some (unmet, counts, text, says, appends) plan is = record {
   unmet = h.unmet + unmet;
   counts = is ∙ sum_of h.unmet unmet count more h.counts counts;
-  so_far = lived_more t w now new given left after place line text h.unmet unmet old half whole h.so_far next some says appends;
+  so_far = lived_more reasons t w now new given left after place line text h.unmet unmet old half whole h.so_far next some says appends;
   plan = plan ∙ h.plan;
 }
 
-pub lived_next : (t : Contents) (w now new : WorldState) (given left after : Option (List ℕ)) (place : ℕ) (x : Taken) (r : Reading) (count more total : ℕ) (old half whole : Option (List ℕ))
-    → AreLived t w given left place now count old half → (line : List ℕ) × TakesLine left after line × IsTaken line x → (x ≡ taken.End → ⊥) → r ≡ taken_reading t (place + 1) x
-    → (unmet : ℕ) × (more ≡ counted unmet) × (text : List ℕ) × SaysReading t now (place + 1) r new text unmet × Appends half whole text
-    → new.plan ≡ now.plan → total ≡ min (count + more) (2 ^ 64 - 1) → AreLived t w given after (place + 1) new total old whole
-lived_next t w now new given left after place x r count more total old half whole h (line, takes, is) other read (unmet, counts, text, says, appends) plan sum =
+pub lived_next : (reasons : Reasons) (t : Contents) (w now new : WorldState) (given left after : Option (List ℕ)) (place : ℕ) (x : Taken) (r : Reading) (count more total : ℕ) (old half whole : Option (List ℕ))
+    → AreLived reasons t w given left place now count old half → (line : List ℕ) × TakesLine left after line × IsTaken line x → (x ≡ taken.End → ⊥) → r ≡ taken_reading t (place + 1) x
+    → (unmet : ℕ) × (more ≡ counted unmet) × (text : List ℕ) × SaysReading reasons t now (place + 1) r new text unmet × Appends half whole text
+    → new.plan ≡ now.plan → total ≡ min (count + more) (2 ^ 64 - 1) → AreLived reasons t w given after (place + 1) new total old whole
+lived_next reasons t w now new given left after place x r count more total old half whole h (line, takes, is) other read (unmet, counts, text, says, appends) plan sum =
     let some = some_taken line x is other in
     let reading_is : r ≡ live_reading t (place + 1) line = read ∙ taken_is t (place + 1) line x is some in
-    lived_on t w now new given left after place line count more total old half whole h takes some
-    (unmet, counts, text, subst (λ (s : Reading). SaysReading t now (place + 1) s new text unmet) reading_is says, appends) plan sum
+    lived_on reasons t w now new given left after place line count more total old half whole h takes some
+    (unmet, counts, text, subst (λ (s : Reading). SaysReading reasons t now (place + 1) s new text unmet) reading_is says, appends) plan sum
 
-pub lived_out : (t : Contents) (w now : WorldState) (given left gone : Option (List ℕ)) (place count : ℕ) (line : List ℕ) (old new : Option (List ℕ)) → AreLived t w given left place now count old new
-    → TakesLine left gone line → line ≡ [] → (unmet : ℕ) × (count ≡ counted unmet) × LivesOut t w given unmet old new
-lived_out t w now given left gone place count line old new h end none =
+pub lived_out : (reasons : Reasons) (t : Contents) (w now : WorldState) (given left gone : Option (List ℕ)) (place count : ℕ) (line : List ℕ) (old new : Option (List ℕ)) → AreLived reasons t w given left place now count old new
+    → TakesLine left gone line → line ≡ [] → (unmet : ℕ) × (count ≡ counted unmet) × LivesOut reasons t w given unmet old new
+lived_out reasons t w now given left gone place count line old new h end none =
     (h.unmet, h.counts, record { left = left; gone = gone; count = place; last = now; so_far = h.so_far; end = subst (TakesLine left gone) none end })
 
-pub lived_part : (t : Contents) (w now : WorldState) (given left : Option (List ℕ)) (place count : ℕ) (r : Reading) (old half new : Option (List ℕ)) → AreLived t w given left place now count old half
-    → SaysPart t now (place + 1) r half new → LivesPart t w given old new
-lived_part t w now given left place count r old half new h part =
+pub lived_part : (reasons : Reasons) (t : Contents) (w now : WorldState) (given left : Option (List ℕ)) (place count : ℕ) (r : Reading) (old half new : Option (List ℕ)) → AreLived reasons t w given left place now count old half
+    → SaysPart reasons t now (place + 1) r half new → LivesPart reasons t w given old new
+lived_part reasons t w now given left place count r old half new h part =
     record { left = left; count = place; now = now; unmet = h.unmet; half = half; so_far = h.so_far; reading = r; next = part }
 
-pub lived_stop : (t : Contents) (w now : WorldState) (given left : Option (List ℕ)) (place count : ℕ) (old new : Option (List ℕ)) → AreLived t w given left place now count old new → LivesPart t w given old new
-lived_stop t w now given left place count old new h = lived_part t w now given left place count reading.Empty old new new h refl
+pub lived_stop : (reasons : Reasons) (t : Contents) (w now : WorldState) (given left : Option (List ℕ)) (place count : ℕ) (old new : Option (List ℕ)) → AreLived reasons t w given left place now count old new → LivesPart reasons t w given old new
+lived_stop reasons t w now given left place count old new h = lived_part reasons t w now given left place count reading.Empty old new new h refl
 
 -- all lines that there were, by what they expected
 counted_none : (count unmet : ℕ) → count ≡ counted unmet → count ≡ 0 → unmet ≡ 0
@@ -130,39 +131,39 @@ counted_some count unmet is some = let more : 0 < count = grind (arith, nat_test
 zero_of : (count : ℕ) → (count == 0) ≡ true → count ≡ 0
 zero_of count is = grind (arith, nat_tests)
 
-ran : (b : Bool) (given old new : Option (List ℕ)) (t : Contents) (w : WorldState) (count unmet : ℕ) → (count == 0) ≡ b → BeginsAs t w → count ≡ counted unmet → LivesOut t w given unmet old new
-    → RunsLiveTable t given old new (if b then Ok tt else Err (Unmet count))
-ran true given old new t w count unmet is begins counts all =
+ran : (b : Bool) (given old new : Option (List ℕ)) (reasons : Reasons) (t : Contents) (w : WorldState) (count unmet : ℕ) → (count == 0) ≡ b → BeginsAs t w → count ≡ counted unmet → LivesOut reasons t w given unmet old new
+    → RunsLiveTable reasons t given old new (if b then Ok tt else Err (Unmet count))
+ran true given old new reasons t w count unmet is begins counts all =
     let none : unmet ≡ 0 = counted_none count unmet counts (zero_of count is) in
-    (w, begins, subst (λ (n : ℕ). LivesOut t w given n old new) none all)
-ran false given old new t w count unmet is begins counts all = inr (inr (unmet, counted_some count unmet counts is, ap Unmet counts, (w, begins, all)))
+    (w, begins, subst (λ (n : ℕ). LivesOut reasons t w given n old new) none all)
+ran false given old new reasons t w count unmet is begins counts all = inr (inr (unmet, counted_some count unmet counts is, ap Unmet counts, (w, begins, all)))
 
-pub lives_ran : (r : Result Unit Refusal) (given old new : Option (List ℕ)) (t : Contents) (w : WorldState) (count : ℕ) → r ≡ ended_by count → BeginsAs t w
-    → (unmet : ℕ) × (count ≡ counted unmet) × LivesOut t w given unmet old new → RunsLiveTable t given old new r
-lives_ran r given old new t w count is begins (unmet, counts, all) =
-    subst (RunsLiveTable t given old new) (sym is) (ran (count == 0) given old new t w count unmet refl begins counts all)
+pub lives_ran : (r : Result Unit Refusal) (given old new : Option (List ℕ)) (reasons : Reasons) (t : Contents) (w : WorldState) (count : ℕ) → r ≡ ended_by count → BeginsAs t w
+    → (unmet : ℕ) × (count ≡ counted unmet) × LivesOut reasons t w given unmet old new → RunsLiveTable reasons t given old new r
+lives_ran r given old new reasons t w count is begins (unmet, counts, all) =
+    subst (RunsLiveTable reasons t given old new) (sym is) (ran (count == 0) given old new reasons t w count unmet refl begins counts all)
 
 -- a text that can't be taken
-pub untaken : (r : Result Unit Refusal) (given mid known : Option (List ℕ)) (error : LinesError) → IsErrAnd r (λ refusal. refusal ≡ lines_refusal error) → RefusesText given mid error
-    → RunsLive given known known r
-untaken (Ok done) given mid known error is h = absurd is
-untaken (Err refusal) given mid known error is h = inr (refusal, refl, refl, inr (mid, error, h, is))
+pub untaken : (reasons : Reasons) (r : Result Unit Refusal) (given mid known : Option (List ℕ)) (error : LinesError) → IsErrAnd r (λ refusal. refusal ≡ lines_refusal error) → RefusesText given mid error
+    → RunsLive reasons given known known r
+untaken reasons (Ok done) given mid known error is h = absurd is
+untaken reasons (Err refusal) given mid known error is h = inr (refusal, refl, refl, inr (mid, error, h, is))
 
 -- ---- a capture
 
-pub none_part : (t : Contents) (w : WorldState) (given old : Option (List ℕ)) → LivesPart t w given old old
-none_part t w given old =
-    record { left = given; count = 0; now = w; unmet = 0; half = old; so_far = none_lived t w given old; reading = reading.Empty; next = refl }
+pub none_part : (reasons : Reasons) (t : Contents) (w : WorldState) (given old : Option (List ℕ)) → LivesPart reasons t w given old old
+none_part reasons t w given old =
+    record { left = given; count = 0; now = w; unmet = 0; half = old; so_far = none_lived reasons t w given old; reading = reading.Empty; next = refl }
 
 -- all that is printed is a first part of it
-pub out_part : (t : Contents) (w : WorldState) (given : Option (List ℕ)) (unmet : ℕ) (old new : Option (List ℕ)) → LivesOut t w given unmet old new → LivesPart t w given old new
-out_part t w given unmet old new h =
+pub out_part : (reasons : Reasons) (t : Contents) (w : WorldState) (given : Option (List ℕ)) (unmet : ℕ) (old new : Option (List ℕ)) → LivesOut reasons t w given unmet old new → LivesPart reasons t w given old new
+out_part reasons t w given unmet old new h =
     record { left = h.left; count = h.count; now = h.last; unmet = unmet; half = new; so_far = h.so_far; reading = reading.Empty; next = refl }
 
-pub counted_out_part : (r : Result ℕ Refusal) (t : Contents) (w : WorldState) (given : Option (List ℕ)) (old new : Option (List ℕ))
-    → IfOk r (λ count. (unmet : ℕ) × (count ≡ counted unmet) × LivesOut t w given unmet old new) → IfOk r (λ count. LivesPart t w given old new)
-counted_out_part (Ok count) t w given old new (unmet, is, all) = out_part t w given unmet old new all
-counted_out_part (Err e) t w given old new all = tt
+pub counted_out_part : (r : Result ℕ Refusal) (reasons : Reasons) (t : Contents) (w : WorldState) (given : Option (List ℕ)) (old new : Option (List ℕ))
+    → IfOk r (λ count. (unmet : ℕ) × (count ≡ counted unmet) × LivesOut reasons t w given unmet old new) → IfOk r (λ count. LivesPart reasons t w given old new)
+counted_out_part (Ok count) reasons t w given old new (unmet, is, all) = out_part reasons t w given unmet old new all
+counted_out_part (Err e) reasons t w given old new all = tt
 
 -- a capture that can't be opened cuts the lines short
 pub unopened_late : (x : Refusal) → IsUnopened x → IsLiveLate x

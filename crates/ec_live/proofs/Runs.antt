@@ -8,32 +8,33 @@ use Rattle.ec_script.specs.declared.read.Reading.TheVariants as reading
 use Rattle.ec_script.specs.Events.{DoesAll}
 use Rattle.ec_script.specs.Scripts.{repeated}
 use Rattle.ec_script.proofs.Running.{scripts_run}
+use Rattle.ec_why.specs.declared.wanted.Reasons.{Reasons}
 use Rattle.ec_sim.specs.Simulating.{Says}
 use Rattle.ec_live.specs.Living.{SaysReading, live_reading}
 use Rattle.ec_live.specs.Laws.{LivesAreScripts, LivesRun, live_lines, with_line}
 
-says_done : (t : Contents) (w : WorldState) (lines : List Line) (new : WorldState) (printed : List ℕ) (unmet : ℕ) → Says t w lines new printed unmet → DoesAll lines w new
-says_done t w [] new printed unmet h = h.0
-says_done t w (line ∷ lines) new printed unmet (mid, text, more, one, rest, said, says, is, count) = (mid, said.said, said.does, says_done t mid lines new more rest says)
+says_done : (reasons : Reasons) (t : Contents) (w : WorldState) (lines : List Line) (new : WorldState) (printed : List ℕ) (unmet : ℕ) → Says reasons t w lines new printed unmet → DoesAll lines w new
+says_done reasons t w [] new printed unmet h = h.0
+says_done reasons t w (line ∷ lines) new printed unmet (mid, text, more, one, rest, said, says, is, count) = (mid, said.said, said.does, says_done reasons t mid lines new more rest says)
 
 does_append : (xs ys : List Line) (a b c : WorldState) → DoesAll xs a b → DoesAll ys b c → DoesAll (xs ++ ys) a c
 does_append [] ys a b c first rest = subst (λ (w : WorldState). DoesAll ys w c) first rest
 does_append (x ∷ xs) ys a b c (mid, word, does, more) rest = (mid, word, does, does_append xs ys mid b c more rest)
 
 -- a line and what follows it
-line_done : (t : Contents) (w mid new : WorldState) (n : ℕ) (r : Reading) (text : List ℕ) (one : ℕ) (lines : List Line) → SaysReading t w n r mid text one → DoesAll (repeated lines) mid new
+line_done : (reasons : Reasons) (t : Contents) (w mid new : WorldState) (n : ℕ) (r : Reading) (text : List ℕ) (one : ℕ) (lines : List Line) → SaysReading reasons t w n r mid text one → DoesAll (repeated lines) mid new
     → DoesAll (repeated (with_line r lines)) w new
 unfolding repeated
-line_done t w mid new n reading.Empty text one lines said rest = subst (λ (v : WorldState). DoesAll (repeated lines) v new) said.0 rest
-line_done t w mid new n reading.Bad text one lines said rest = subst (λ (v : WorldState). DoesAll (repeated lines) v new) said.0 rest
-line_done t w mid new n (reading.Line line) text one lines said rest =
-    does_append (replicate line.times line) (repeated lines) w mid new (says_done t w (replicate line.times line) mid text one said) rest
+line_done reasons t w mid new n reading.Empty text one lines said rest = subst (λ (v : WorldState). DoesAll (repeated lines) v new) said.0 rest
+line_done reasons t w mid new n reading.Bad text one lines said rest = subst (λ (v : WorldState). DoesAll (repeated lines) v new) said.0 rest
+line_done reasons t w mid new n (reading.Line line) text one lines said rest =
+    does_append (replicate line.times line) (repeated lines) w mid new (says_done reasons t w (replicate line.times line) mid text one said) rest
 
 pub lives_are_scripts : LivesAreScripts
 unfolding repeated
-lives_are_scripts t w n [] new printed unmet h = h.0
-lives_are_scripts t w n (line ∷ lines) new printed unmet (mid, text, more, one, rest, said, lives, is, count) =
-    line_done t w mid new n (live_reading t n line) text one (live_lines t (n + 1) lines) said (lives_are_scripts t mid (n + 1) lines new more rest lives)
+lives_are_scripts reasons t w n [] new printed unmet h = h.0
+lives_are_scripts reasons t w n (line ∷ lines) new printed unmet (mid, text, more, one, rest, said, lives, is, count) =
+    line_done reasons t w mid new n (live_reading t n line) text one (live_lines t (n + 1) lines) said (lives_are_scripts reasons t mid (n + 1) lines new more rest lives)
 
 pub lives_run : LivesRun
-lives_run t w n lines new printed unmet h = scripts_run (live_lines t n lines) w new (lives_are_scripts t w n lines new printed unmet h)
+lives_run reasons t w n lines new printed unmet h = scripts_run (live_lines t n lines) w new (lives_are_scripts reasons t w n lines new printed unmet h)

@@ -9,6 +9,7 @@ use Rattle.ec_script.specs.declared.read.Reading.{Reading}
 use Rattle.ec_script.specs.declared.read.Reading.TheVariants as reading
 use Rattle.ec_script.specs.Events.{DoesAll}
 use Rattle.ec_script.specs.Scripts.{repeated}
+use Rattle.ec_why.specs.declared.wanted.Reasons.{Reasons}
 use Rattle.ec_live.specs.Living.{LiveSays, live_reading}
 
 -- a line before others, if it stands for something
@@ -22,12 +23,13 @@ abbrev pub live_lines : Contents → ℕ → List (List ℕ) → List Line
 live_lines t n [] = []
 live_lines t n (line ∷ lines) = with_line (live_reading t n line) (live_lines t (n + 1) lines)
 
--- The world behind lines is the one that a script of them leaves, without those that stand for nothing.
+-- The world behind lines is the one that a script of them leaves, without those that stand for nothing, whether reasons are told
+-- or not.
 abbrev pub LivesAreScripts : Type 0
-LivesAreScripts = (t : Contents) (w : WorldState) (n : ℕ) (lines : List (List ℕ)) (new : WorldState) (printed : List ℕ) (unmet : ℕ) → LiveSays t w n lines new printed unmet
+LivesAreScripts = (reasons : Reasons) (t : Contents) (w : WorldState) (n : ℕ) (lines : List (List ℕ)) (new : WorldState) (printed : List ℕ) (unmet : ℕ) → LiveSays reasons t w n lines new printed unmet
     → DoesAll (repeated (live_lines t n lines)) w new
 
 -- And a run of events leads to it.
 abbrev pub LivesRun : Type 0
-LivesRun = (t : Contents) (w : WorldState) (n : ℕ) (lines : List (List ℕ)) (new : WorldState) (printed : List ℕ) (unmet : ℕ) → LiveSays t w n lines new printed unmet
+LivesRun = (reasons : Reasons) (t : Contents) (w : WorldState) (n : ℕ) (lines : List (List ℕ)) (new : WorldState) (printed : List ℕ) (unmet : ℕ) → LiveSays reasons t w n lines new printed unmet
     → (events : List Event) × IsRun w events new (length events)

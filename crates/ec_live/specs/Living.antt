@@ -12,6 +12,7 @@ use Rattle.ec_world.specs.World.{WorldState}
 use Rattle.ec_script.specs.declared.read.Reading.{Reading}
 use Rattle.ec_script.specs.declared.read.Reading.TheVariants as reading
 use Rattle.ec_script.specs.Scripts.{reading_of}
+use Rattle.ec_why.specs.declared.wanted.Reasons.{Reasons}
 use Rattle.ec_console.specs.declared.refusal.Refusal.{Refusal}
 use Rattle.ec_console.specs.declared.refusal.Refusal.TheVariants.{Memory, Output, Input}
 use Rattle.ec_console.specs.Given.{IsTableRefusal, lines_refusal}
@@ -25,53 +26,53 @@ abbrev pub live_reading : Contents → ℕ → List ℕ → Reading
 live_reading t n line = if is_text_line line then reading_of t n (without_end line) else reading.Bad
 
 -- what is said of line n
-abbrev pub SaysReading : Contents → WorldState → ℕ → Reading → WorldState → List ℕ → ℕ → Type 0
-SaysReading t w n reading.Empty new printed unmet = (new ≡ w) × (printed ≡ []) × (unmet ≡ 0)
-SaysReading t w n reading.Bad new printed unmet = (new ≡ w) × (printed ≡ codes "bad " ++ decimal n ++ newline) × (unmet ≡ 0)
-SaysReading t w n (reading.Line line) new printed unmet = Says t w (replicate line.times line) new printed unmet
+abbrev pub SaysReading : Reasons → Contents → WorldState → ℕ → Reading → WorldState → List ℕ → ℕ → Type 0
+SaysReading reasons t w n reading.Empty new printed unmet = (new ≡ w) × (printed ≡ []) × (unmet ≡ 0)
+SaysReading reasons t w n reading.Bad new printed unmet = (new ≡ w) × (printed ≡ codes "bad " ++ decimal n ++ newline) × (unmet ≡ 0)
+SaysReading reasons t w n (reading.Line line) new printed unmet = Says reasons t w (replicate line.times line) new printed unmet
 
 -- lines, each in the world that the one before left; the first has number n
-abbrev pub LiveSays : Contents → WorldState → ℕ → List (List ℕ) → WorldState → List ℕ → ℕ → Type 0
-LiveSays t w n [] new printed unmet = (new ≡ w) × (printed ≡ []) × (unmet ≡ 0)
-LiveSays t w n (line ∷ lines) new printed unmet = (mid : WorldState) × (text : List ℕ) × (more : List ℕ) × (one : ℕ) × (rest : ℕ)
-    × SaysReading t w n (live_reading t n line) mid text one × LiveSays t mid (n + 1) lines new more rest × (printed ≡ text ++ more) × (unmet ≡ one + rest)
+abbrev pub LiveSays : Reasons → Contents → WorldState → ℕ → List (List ℕ) → WorldState → List ℕ → ℕ → Type 0
+LiveSays reasons t w n [] new printed unmet = (new ≡ w) × (printed ≡ []) × (unmet ≡ 0)
+LiveSays reasons t w n (line ∷ lines) new printed unmet = (mid : WorldState) × (text : List ℕ) × (more : List ℕ) × (one : ℕ) × (rest : ℕ)
+    × SaysReading reasons t w n (live_reading t n line) mid text one × LiveSays reasons t mid (n + 1) lines new more rest × (printed ≡ text ++ more) × (unmet ≡ one + rest)
 
 -- ---- a run
 
 -- so far: lines were taken from the input, and what they say is printed
-pub record LivesOn (t : Contents) (w : WorldState) (given left : Option (List ℕ)) (count : ℕ) (now : WorldState) (unmet : ℕ) (old new : Option (List ℕ)) : Type 0 where
+pub record LivesOn (reasons : Reasons) (t : Contents) (w : WorldState) (given left : Option (List ℕ)) (count : ℕ) (now : WorldState) (unmet : ℕ) (old new : Option (List ℕ)) : Type 0 where
   pub lines : List (List ℕ)
   pub long : length lines ≡ count
   pub printed : List ℕ
   pub taken : TakesLines given left lines
-  pub says : LiveSays t w 1 lines now printed unmet
+  pub says : LiveSays reasons t w 1 lines now printed unmet
   pub appends : Appends old new printed
 
 -- all lines that there are
-pub record LivesOut (t : Contents) (w : WorldState) (given : Option (List ℕ)) (unmet : ℕ) (old new : Option (List ℕ)) : Type 0 where
+pub record LivesOut (reasons : Reasons) (t : Contents) (w : WorldState) (given : Option (List ℕ)) (unmet : ℕ) (old new : Option (List ℕ)) : Type 0 where
   pub left : Option (List ℕ)
   pub gone : Option (List ℕ)
   pub count : ℕ
   pub last : WorldState
-  pub so_far : LivesOn t w given left count last unmet old new
+  pub so_far : LivesOn reasons t w given left count last unmet old new
   pub end : TakesLine left gone []
 
 -- a first part is printed of what a line says
-abbrev pub SaysPart : Contents → WorldState → ℕ → Reading → (old new : Option (List ℕ)) → Type 0
-SaysPart t w n reading.Empty old new = new ≡ old
-SaysPart t w n reading.Bad old new = AppendsPart old new (codes "bad " ++ decimal n ++ newline)
-SaysPart t w n (reading.Line line) old new = PrintsPart t w (replicate line.times line) old new
+abbrev pub SaysPart : Reasons → Contents → WorldState → ℕ → Reading → (old new : Option (List ℕ)) → Type 0
+SaysPart reasons t w n reading.Empty old new = new ≡ old
+SaysPart reasons t w n reading.Bad old new = AppendsPart old new (codes "bad " ++ decimal n ++ newline)
+SaysPart reasons t w n (reading.Line line) old new = PrintsPart reasons t w (replicate line.times line) old new
 
 -- what some first lines say is printed, and maybe a first part of what the next one says
-pub record LivesPart (t : Contents) (w : WorldState) (given old new : Option (List ℕ)) : Type 0 where
+pub record LivesPart (reasons : Reasons) (t : Contents) (w : WorldState) (given old new : Option (List ℕ)) : Type 0 where
   pub left : Option (List ℕ)
   pub count : ℕ
   pub now : WorldState
   pub unmet : ℕ
   pub half : Option (List ℕ)
-  pub so_far : LivesOn t w given left count now unmet old half
+  pub so_far : LivesOn reasons t w given left count now unmet old half
   pub reading : Reading
-  pub next : SaysPart t now (count + 1) reading half new
+  pub next : SaysPart reasons t now (count + 1) reading half new
 
 -- what can end a run of lines that come
 abbrev pub IsLiveLate : Refusal → Type 0
@@ -81,17 +82,17 @@ IsLiveLate Input = Unit {0}
 IsLiveLate _ = ⊥
 
 -- the lines run over slaves of the table that are switched on
-abbrev pub RunsLiveTable : Contents → (given old new : Option (List ℕ)) → Result Unit Refusal → Type 0
-RunsLiveTable t given old new (Ok done) = (w : WorldState) × BeginsAs t w × LivesOut t w given 0 old new
-RunsLiveTable t given old new (Err refusal) =
+abbrev pub RunsLiveTable : Reasons → Contents → (given old new : Option (List ℕ)) → Result Unit Refusal → Type 0
+RunsLiveTable reasons t given old new (Ok done) = (w : WorldState) × BeginsAs t w × LivesOut reasons t w given 0 old new
+RunsLiveTable reasons t given old new (Err refusal) =
     ((refusal ≡ Memory) × (new ≡ old))
-    ⊎ ((IsLiveLate refusal × (w : WorldState) × BeginsAs t w × LivesPart t w given old new)
-    ⊎ EndsUnmet refusal (λ unmet. (w : WorldState) × BeginsAs t w × LivesOut t w given unmet old new))
+    ⊎ ((IsLiveLate refusal × (w : WorldState) × BeginsAs t w × LivesPart reasons t w given old new)
+    ⊎ EndsUnmet refusal (λ unmet. (w : WorldState) × BeginsAs t w × LivesOut reasons t w given unmet old new))
 
 -- the input begins with a table that is accepted; or with one that is refused, or can't be taken, and nothing is printed
-abbrev pub RunsLive : (given old new : Option (List ℕ)) → Result Unit Refusal → Type 0
-RunsLive given old new ended =
-    ((mid : Option (List ℕ)) × (table : List ℕ) × TakesText given mid table × (t : Contents) × (table_of table ≡ Ok t) × (compile_fault t ≡ None) × RunsLiveTable t mid old new ended)
+abbrev pub RunsLive : Reasons → (given old new : Option (List ℕ)) → Result Unit Refusal → Type 0
+RunsLive reasons given old new ended =
+    ((mid : Option (List ℕ)) × (table : List ℕ) × TakesText given mid table × (t : Contents) × (table_of table ≡ Ok t) × (compile_fault t ≡ None) × RunsLiveTable reasons t mid old new ended)
     ⊎ ((refusal : Refusal) × (ended ≡ Err refusal) × (new ≡ old)
     × (((mid : Option (List ℕ)) × (table : List ℕ) × TakesText given mid table × IsTableRefusal table refusal)
     ⊎ ((mid : Option (List ℕ)) × (error : LinesError) × RefusesText given mid error × (refusal ≡ lines_refusal error))))

@@ -10,18 +10,19 @@ use Rattle.ec_lines.specs.declared.lines.Taken.TheVariants as taken
 use Rattle.ec_script.specs.declared.read.Reading.{Reading}
 use Rattle.ec_script.specs.declared.read.Reading.TheVariants as reading
 use Rattle.ec_script.specs.Scripts.{reading_of}
+use Rattle.ec_why.specs.declared.wanted.Reasons.{Reasons}
 use Rattle.ec_live.specs.Living.{RunsLiveTable}
 
 -- lines that come run over slaves of a table that was read; or it has a fault
-abbrev pub RunsLiveRead : Contents → (given old new : Option (List ℕ)) → Result Unit Refusal → Type 0
-RunsLiveRead t given old new ended =
-    ((compile_fault t ≡ None) × RunsLiveTable t given old new ended)
+abbrev pub RunsLiveRead : Reasons → Contents → (given old new : Option (List ℕ)) → Result Unit Refusal → Type 0
+RunsLiveRead reasons t given old new ended =
+    ((compile_fault t ≡ None) × RunsLiveTable reasons t given old new ended)
     ⊎ ((refusal : Refusal) × (ended ≡ Err refusal) × IsLinkRefusal t refusal × (new ≡ old))
 
 -- the same of the table that a text states
-abbrev pub RunsLiveText : List ℕ → (given old new : Option (List ℕ)) → Result Unit Refusal → Type 0
-RunsLiveText text given old new ended =
-    ((t : Contents) × (table_of text ≡ Ok t) × (compile_fault t ≡ None) × RunsLiveTable t given old new ended)
+abbrev pub RunsLiveText : Reasons → List ℕ → (given old new : Option (List ℕ)) → Result Unit Refusal → Type 0
+RunsLiveText reasons text given old new ended =
+    ((t : Contents) × (table_of text ≡ Ok t) × (compile_fault t ≡ None) × RunsLiveTable reasons t given old new ended)
     ⊎ ((refusal : Refusal) × (ended ≡ Err refusal) × IsTableRefusal text refusal × (new ≡ old))
 
 -- what is taken as line n is

@@ -21,6 +21,7 @@ use ec_script::{Reading, read_line};
 use ec_sim::{end_of, print_line};
 use ec_table::{Table, read_table};
 use ec_watch::Watch;
+use ec_why::Reasons;
 use ec_world::{Unwatched, Watcher, World};
 use std::alloc::{AllocError, Global};
 use std::fs::Files;
@@ -58,6 +59,7 @@ fn print_bad<W: Write>(alloc: Global, number: usize, output: &mut W) -> Result<(
 fn print_reading<S: Watcher, W: Write>(
     alloc: Global,
     table: &Table,
+    reasons: Reasons,
     world: &mut World<'_>,
     watcher: &mut S,
     number: usize,
@@ -66,16 +68,16 @@ fn print_reading<S: Watcher, W: Write>(
 ) -> Result<u64, Refusal>
     requires { world.old.plan ≡ plan_of table.now }
     ensures all { IfOk result (λ count. (unmet : ℕ) × (count ≡ counted unmet) × (printed : List ℕ)
-        × SaysReading table.now world.old number reading world.new printed unmet
+        × SaysReading reasons table.now world.old number reading world.new printed unmet
         × Appends (W.contents output.old) (W.contents output.new) printed) }
-    ensures part { OnErr result (SaysPart table.now world.old number reading
+    ensures part { OnErr result (SaysPart reasons table.now world.old number reading
         (W.contents output.old) (W.contents output.new)) }
     ensures late { IfErr result IsLate }
     ensures plan { world.new.plan ≡ world.old.plan }
 {
     match reading {
         Reading::Empty => Ok(0),
-        Reading::Line(line) => print_line(alloc, table, world, watcher, &line, output),
+        Reading::Line(line) => print_line(alloc, table, reasons, world, watcher, &line, output),
         Reading::Bad => {
             print_bad(alloc, number, output)?;
             Ok(0)
@@ -88,6 +90,7 @@ fn print_reading<S: Watcher, W: Write>(
 fn print_live_lines<S: Watcher, R: Read, W: Write>(
     alloc: Global,
     table: &Table,
+    reasons: Reasons,
     world: &mut World<'_>,
     watcher: &mut S,
     input: &mut R,
@@ -95,9 +98,9 @@ fn print_live_lines<S: Watcher, R: Read, W: Write>(
 ) -> Result<u64, Refusal>
     requires { world.old.plan ≡ plan_of table.now }
     ensures all { IfOk result (λ count. (unmet : ℕ) × (count ≡ counted unmet)
-        × LivesOut table.now world.old (R.remaining input.old) unmet
+        × LivesOut reasons table.now world.old (R.remaining input.old) unmet
         (W.contents output.old) (W.contents output.new)) }
-    ensures part { OnErr result (LivesPart table.now world.old (R.remaining input.old)
+    ensures part { OnErr result (LivesPart reasons table.now world.old (R.remaining input.old)
         (W.contents output.old) (W.contents output.new)) }
     ensures late { IfErr result IsLiveLate }
 {
@@ -109,7 +112,9 @@ fn print_live_lines<S: Watcher, R: Read, W: Write>(
         }
         let number = place + 1;
         let reading = reading_of(alloc, table, number, &taken)?;
-        let count = print_reading(alloc, table, world, watcher, number, reading, output)?;
+        let count = print_reading(
+            alloc, table, reasons, world, watcher, number, reading, output,
+        )?;
         unmet = unmet.saturating_add(count);
     }
     Err(Refusal::Input)
@@ -119,6 +124,7 @@ fn print_live_lines<S: Watcher, R: Read, W: Write>(
 fn print_live_captured<F: Write + Drop, R: Read, W: Write>(
     alloc: Global,
     table: &Table,
+    reasons: Reasons,
     world: &mut World<'_>,
     recording: Recording<F>,
     input: &mut R,
@@ -126,14 +132,14 @@ fn print_live_captured<F: Write + Drop, R: Read, W: Write>(
 ) -> Result<u64, Refusal>
     requires { world.old.plan ≡ plan_of table.now }
     ensures all { IfOk result (λ count. (unmet : ℕ) × (count ≡ counted unmet)
-        × LivesOut table.now world.old (R.remaining input.old) unmet
+        × LivesOut reasons table.now world.old (R.remaining input.old) unmet
         (W.contents output.old) (W.contents output.new)) }
-    ensures part { OnErr result (LivesPart table.now world.old (R.remaining input.old)
+    ensures part { OnErr result (LivesPart reasons table.now world.old (R.remaining input.old)
         (W.contents output.old) (W.contents output.new)) }
     ensures late { IfErr result IsLiveLate }
 {
     let mut watch = Watch::new(recording);
-    let ended = print_live_lines(alloc, table, world, &mut watch, input, output);
+    let ended = print_live_lines(alloc, table, reasons, world, &mut watch, input, output);
     finish_recording(ended, watch.into_capture())
 }
 
@@ -142,6 +148,7 @@ fn print_live_captured<F: Write + Drop, R: Read, W: Write>(
 fn print_live_watched<H: AllocGlobal + Files, R: Read, W: Write>(
     rt: &H,
     table: &Table,
+    reasons: Reasons,
     world: &mut World<'_>,
     file: Option<&str>,
     input: &mut R,
@@ -149,17 +156,25 @@ fn print_live_watched<H: AllocGlobal + Files, R: Read, W: Write>(
 ) -> Result<u64, Refusal>
     requires { world.old.plan ≡ plan_of table.now }
     ensures all { IfOk result (λ count. (unmet : ℕ) × (count ≡ counted unmet)
-        × LivesOut table.now world.old (R.remaining input.old) unmet
+        × LivesOut reasons table.now world.old (R.remaining input.old) unmet
         (W.contents output.old) (W.contents output.new)) }
-    ensures part { OnErr result (LivesPart table.now world.old (R.remaining input.old)
+    ensures part { OnErr result (LivesPart reasons table.now world.old (R.remaining input.old)
         (W.contents output.old) (W.contents output.new)) }
     ensures late { IfErr result IsLiveLate }
 {
     let Some(file) = file else {
-        return print_live_lines(rt.alloc(), table, world, &mut Unwatched, input, output);
+        return print_live_lines(
+            rt.alloc(),
+            table,
+            reasons,
+            world,
+            &mut Unwatched,
+            input,
+            output,
+        );
     };
     let recording = open_segment(rt, file, table)?;
-    print_live_captured(rt.alloc(), table, world, recording, input, output)
+    print_live_captured(rt.alloc(), table, reasons, world, recording, input, output)
 }
 
 /// Runs the lines that an input gives over a new segment of a table.
@@ -167,18 +182,19 @@ fn run_live_plan<H: AllocGlobal + Files, R: Read, W: Write>(
     rt: &H,
     file: Option<&str>,
     table: &Table,
+    reasons: Reasons,
     plan: &Plan,
     input: &mut R,
     output: &mut W,
 ) -> Result<(), Refusal>
     requires accepted { compile_fault table.now ≡ None }
     requires plan { plan.now ≡ plan_of table.now }
-    ensures { RunsLiveTable table.now (R.remaining input.old) (W.contents output.old)
+    ensures { RunsLiveTable reasons table.now (R.remaining input.old) (W.contents output.old)
         (W.contents output.new) result }
 {
     let identities = identities_of(rt.alloc(), table)?;
     let mut world = World::new(rt.alloc(), table, plan, identities.as_slice())?;
-    let unmet = print_live_watched(rt, table, &mut world, file, input, output)?;
+    let unmet = print_live_watched(rt, table, reasons, &mut world, file, input, output)?;
     end_of(unmet)
 }
 
@@ -187,14 +203,15 @@ fn run_live_table<H: AllocGlobal + Files, R: Read, W: Write>(
     rt: &H,
     file: Option<&str>,
     table: &Table,
+    reasons: Reasons,
     input: &mut R,
     output: &mut W,
 ) -> Result<(), Refusal>
-    ensures { RunsLiveRead table.now (R.remaining input.old) (W.contents output.old)
+    ensures { RunsLiveRead reasons table.now (R.remaining input.old) (W.contents output.old)
         (W.contents output.new) result }
 {
     let plan = compile(rt.alloc(), table)?;
-    run_live_plan(rt, file, table, &plan, input, output)
+    run_live_plan(rt, file, table, reasons, &plan, input, output)
 }
 
 /// The same of the table that a text states.
@@ -202,20 +219,21 @@ fn run_live_text<H: AllocGlobal + Files, R: Read, W: Write>(
     rt: &H,
     file: Option<&str>,
     text: &str,
+    reasons: Reasons,
     input: &mut R,
     output: &mut W,
 ) -> Result<(), Refusal>
-    ensures { RunsLiveText text.now (R.remaining input.old) (W.contents output.old)
+    ensures { RunsLiveText reasons text.now (R.remaining input.old) (W.contents output.old)
         (W.contents output.new) result }
 {
     let table = read_table(rt.alloc(), text)?;
-    run_live_table(rt, file, &table, input, output)
+    run_live_table(rt, file, &table, reasons, input, output)
 }
 
 /// Runs the lines that the input gives behind a link table and a line `%%`, each as it comes: what a line says is printed
-/// before the next one is read. A line that can't be read prints `bad` and its number, and nothing else happens. The slaves
-/// begin at power-on, with the identities that the table says. The frames that pass go into a capture, if a file is named. A
-/// refusal of the table is explained, where that is wanted.
+/// before the next one is read, and why it says `no`, where reasons are told. A line that can't be read prints `bad` and its
+/// number, and nothing else happens. The slaves begin at power-on, with the identities that the table says. The frames that pass
+/// go into a capture, if a file is named. A refusal of the table is explained, where that is wanted.
 ///
 /// # Errors
 ///
@@ -223,17 +241,18 @@ fn run_live_text<H: AllocGlobal + Files, R: Read, W: Write>(
 /// where a read, a write or memory was refused, after what was printed until then.
 pub fn print_live<H: AllocGlobal + Files, R: Read, W: Write>(
     rt: &H,
+    reasons: Reasons,
     file: Option<&str>,
     input: &mut R,
     output: &mut W,
     behind: &mut Explanation,
 ) -> Result<(), Refusal>
-    ensures runs { RunsLive (R.remaining input.old) (W.contents output.old) (W.contents output.new)
+    ensures runs { RunsLive reasons (R.remaining input.old) (W.contents output.old) (W.contents output.new)
         result }
     ensures explains { IsLeft behind.old behind.new }
 {
     let text = take_text(rt.alloc(), input)?;
-    let ended = run_live_text(rt, file, text.as_str(), input, output);
+    let ended = run_live_text(rt, file, text.as_str(), reasons, input, output);
     if let Err(refusal) = &ended {
         behind.explain(rt.alloc(), text.as_str(), refusal);
     }

@@ -4,6 +4,7 @@ mod tables;
 use self::tables::THREE_SLAVES;
 use ec_console::{Explanation, Refusal};
 use ec_live::print_live;
+use ec_why::Reasons;
 use std::cell::Cell;
 use std::fs::Files;
 use std::io;
@@ -69,7 +70,14 @@ fn expect_live<H: AllocGlobal + Files + Abort>(
     let mut input = input;
     let mut output: Vec<u8> = Vec::new(rt.alloc());
     let mut behind = Explanation::new(rt.alloc(), false);
-    match print_live(rt, None, &mut input, &mut output, &mut behind) {
+    match print_live(
+        rt,
+        Reasons::Untold,
+        None,
+        &mut input,
+        &mut output,
+        &mut behind,
+    ) {
         Ok(()) => assert_eq!(rt; (0, ""), (status, told)),
         Err(refusal) => assert_eq!(rt; (refusal.status(), refusal.line().as_str()), (status, told)),
     }
@@ -211,7 +219,14 @@ fn answers_before_it_asks(rt: HostRuntime) {
         handed_on: &handed_on,
     };
     let mut behind = Explanation::new(rt.alloc(), false);
-    let ended = print_live(&rt, None, &mut input, &mut output, &mut behind);
+    let ended = print_live(
+        &rt,
+        Reasons::Untold,
+        None,
+        &mut input,
+        &mut output,
+        &mut behind,
+    );
     assert_eq!(rt; ended, Ok(()));
     assert_eq!(rt;
         output.bytes.as_slice(),
@@ -298,7 +313,14 @@ fn answers_ten_thousand_lines(rt: HostRuntime) {
         answered: &answered,
     };
     let mut behind = Explanation::new(rt.alloc(), false);
-    let ended = print_live(&rt, None, &mut input, &mut output, &mut behind);
+    let ended = print_live(
+        &rt,
+        Reasons::Untold,
+        None,
+        &mut input,
+        &mut output,
+        &mut behind,
+    );
     assert_eq!(rt; ended, Err(Refusal::Unmet(10_000)));
     assert_eq!(rt; answered.get(), 10_000);
     assert_eq!(rt; output.last.as_slice(), b"unmet 10000\n".as_slice());
@@ -332,7 +354,14 @@ fn ends_where_nobody_reads(rt: HostRuntime) {
     };
     let mut output = Narrow { left: 12 };
     let mut behind = Explanation::new(rt.alloc(), false);
-    let ended = print_live(&rt, None, &mut input, &mut output, &mut behind);
+    let ended = print_live(
+        &rt,
+        Reasons::Untold,
+        None,
+        &mut input,
+        &mut output,
+        &mut behind,
+    );
     assert_eq!(rt; ended, Err(Refusal::Output));
     assert_eq!(rt; (output.left, input.left), (0, 97));
 }

@@ -1,1 +1,3 @@
+mod Noting
+mod Reasoned
 mod SimLemmas

@@ -12,50 +12,63 @@ use Rattle.ec_script.specs.declared.line.Line.{Line}
 use Rattle.ec_script.specs.declared.said.Said.{Said}
 use Rattle.ec_script.specs.Halves.{Splits}
 use Rattle.ec_script.specs.Scripts.{repeated}
+use Rattle.ec_script.specs.Texts.{said_text}
 use Rattle.ec_script.specs.Work.{is_unmet}
+use Rattle.ec_why.specs.declared.wanted.Reasons.{Reasons}
+use Rattle.ec_why.specs.Reasons.{IsReason, ReasonIf, is_reasoned}
 use Rattle.ec_console.specs.declared.refusal.Refusal.{Refusal}
 use Rattle.ec_console.specs.declared.refusal.Refusal.TheVariants as refusal
 use Rattle.ec_console.specs.declared.refusal.Refusal.TheVariants.{Memory, Unmet}
 use Rattle.ec_console.specs.Printing.{AppendsPart}
-use Rattle.ec_sim.specs.Stages.{IsBadScript, RunsHalves}
+use Rattle.ec_sim.specs.Stages.{IsBadScript, IsLineText, RunsHalves}
 use Rattle.ec_console.specs.Given.{IsLinkRefusal}
 use Rattle.ec_sim.specs.Simulating.{BeginsAs, IsHalfRefusal, IsLate, IsSimRefusal, IsSimulation, PrintsAll, PrintsLines, PrintsPart, PrintsSome, RunsLines, RunsText, Says, SaysLine, counted, ended_by, unmet_of}
 use Rattle.ec_captured.specs.Capturing.{IsUnopened}
 use Rattle.ec_console.proofs.PrintLemmas.{appends_more, appends_nothing, whole_part}
 
+-- ---- a line and why it says `no`
+
+pub line_alone : (reasons : Reasons) (t : Contents) (n : ℕ) (w : WorldState) (said : Said) (text : List ℕ) → is_reasoned reasons said ≡ false → text ≡ said_text t n w said → IsLineText reasons t n w said text
+line_alone reasons t n w said text none is = ([], subst (λ (b : Bool). ReasonIf b []) (sym none) refl, is ∙ sym (append-nil (said_text t n w said)))
+
+pub line_reasoned : (reasons : Reasons) (t : Contents) (n : ℕ) (w : WorldState) (said : Said) (before why text : List ℕ) → is_reasoned reasons said ≡ true → before ≡ said_text t n w said → IsReason why
+    → text ≡ before ++ why → IsLineText reasons t n w said text
+line_reasoned reasons t n w said before why text told first reason is =
+    (why, subst (λ (b : Bool). ReasonIf b why) (sym told) reason, is ∙ ap (λ (r : List ℕ). r ++ why) first)
+
 -- ---- lines one after another
 
-pub says_one : (t : Contents) (w new : WorldState) (line : Line) (text : List ℕ) (unmet : ℕ) → SaysLine t w line new text unmet → Says t w (line ∷ []) new text unmet
-says_one t w new line text unmet h = (new, text, [], unmet, 0, h, (refl, refl, refl), sym (append-nil text), omega arith)
+pub says_one : (reasons : Reasons) (t : Contents) (w new : WorldState) (line : Line) (text : List ℕ) (unmet : ℕ) → SaysLine reasons t w line new text unmet → Says reasons t w (line ∷ []) new text unmet
+says_one reasons t w new line text unmet h = (new, text, [], unmet, 0, h, (refl, refl, refl), sym (append-nil text), omega arith)
 
-pub says_join : (t : Contents) (w mid new : WorldState) (xs ys : List Line) (p q : List ℕ) (a b : ℕ) → Says t w xs mid p a → Says t mid ys new q b
-    → Says t w (xs ++ ys) new (p ++ q) (a + b)
-says_join t w mid new [] ys p q a b h g =
-    let base : Says t w ys new q b = subst (λ (v : WorldState). Says t v ys new q b) h.0 g in
+pub says_join : (reasons : Reasons) (t : Contents) (w mid new : WorldState) (xs ys : List Line) (p q : List ℕ) (a b : ℕ) → Says reasons t w xs mid p a → Says reasons t mid ys new q b
+    → Says reasons t w (xs ++ ys) new (p ++ q) (a + b)
+says_join reasons t w mid new [] ys p q a b h g =
+    let base : Says reasons t w ys new q b = subst (λ (v : WorldState). Says reasons t v ys new q b) h.0 g in
     let text : q ≡ p ++ q = sym (ap (λ (r : List ℕ). r ++ q) h.1) in
     let none : a ≡ 0 = h.2 in
     let count : b ≡ a + b = omega arith in
-    subst (λ (n : ℕ). Says t w ys new (p ++ q) n) count (subst (λ (r : List ℕ). Says t w ys new r b) text base)
-says_join t w mid new (x ∷ xs) ys p q a b (first, text, more, one, rest, line, says, printed, unmet) g = (
+    subst (λ (n : ℕ). Says reasons t w ys new (p ++ q) n) count (subst (λ (r : List ℕ). Says reasons t w ys new r b) text base)
+says_join reasons t w mid new (x ∷ xs) ys p q a b (first, text, more, one, rest, line, says, printed, unmet) g = (
   first,
   text,
   more ++ q,
   one,
   rest + b,
   line,
-  says_join t first mid new xs ys more q rest b says g,
+  says_join reasons t first mid new xs ys more q rest b says g,
   ap (λ (r : List ℕ). r ++ q) printed ∙ append_assoc text more q,
   omega arith,
 )
 
-pub prints_none : (t : Contents) (w : WorldState) (old : Option (List ℕ)) → PrintsAll t w [] w 0 old old
-prints_none t w old = record { printed = []; says = (refl, refl, refl); appends = appends_nothing old }
+pub prints_none : (reasons : Reasons) (t : Contents) (w : WorldState) (old : Option (List ℕ)) → PrintsAll reasons t w [] w 0 old old
+prints_none reasons t w old = record { printed = []; says = (refl, refl, refl); appends = appends_nothing old }
 
-pub prints_join : (t : Contents) (w mid new : WorldState) (xs ys : List Line) (a b : ℕ) (old half whole : Option (List ℕ)) → PrintsAll t w xs mid a old half
-    → PrintsAll t mid ys new b half whole → PrintsAll t w (xs ++ ys) new (a + b) old whole
-prints_join t w mid new xs ys a b old half whole h g = record {
+pub prints_join : (reasons : Reasons) (t : Contents) (w mid new : WorldState) (xs ys : List Line) (a b : ℕ) (old half whole : Option (List ℕ)) → PrintsAll reasons t w xs mid a old half
+    → PrintsAll reasons t mid ys new b half whole → PrintsAll reasons t w (xs ++ ys) new (a + b) old whole
+prints_join reasons t w mid new xs ys a b old half whole h g = record {
   printed = h.printed ++ g.printed;
-  says = says_join t w mid new xs ys h.printed g.printed a b h.says g.says;
+  says = says_join reasons t w mid new xs ys h.printed g.printed a b h.says g.says;
   appends = appends_more old half whole h.printed g.printed h.appends g.appends;
 }
 
@@ -75,24 +88,24 @@ some_take [] ys (suc n) = (0, refl)
 some_take (x ∷ xs) ys zero = (0, refl)
 some_take (x ∷ xs) ys (suc n) = let r = some_take xs ys n in (suc r.0, ap (λ rest. x ∷ rest) r.1)
 
-pub part_none : (t : Contents) (w : WorldState) (lines : List Line) (old : Option (List ℕ)) → PrintsPart t w lines old old
-part_none t w lines old = record { count = 0; last = w; printed = []; unmet = 0; says = (refl, refl, refl); appends = (0, appends_nothing old) }
+pub part_none : (reasons : Reasons) (t : Contents) (w : WorldState) (lines : List Line) (old : Option (List ℕ)) → PrintsPart reasons t w lines old old
+part_none reasons t w lines old = record { count = 0; last = w; printed = []; unmet = 0; says = (refl, refl, refl); appends = (0, appends_nothing old) }
 
 -- of some first lines it is one of all
-pub part_more : (t : Contents) (w : WorldState) (xs ys : List Line) (old new : Option (List ℕ)) → PrintsPart t w xs old new → PrintsPart t w (xs ++ ys) old new
-part_more t w xs ys old new h =
+pub part_more : (reasons : Reasons) (t : Contents) (w : WorldState) (xs ys : List Line) (old new : Option (List ℕ)) → PrintsPart reasons t w xs old new → PrintsPart reasons t w (xs ++ ys) old new
+part_more reasons t w xs ys old new h =
     let r = some_take xs ys h.count in
-    record { count = r.0; last = h.last; printed = h.printed; unmet = h.unmet; says = subst (λ (ls : List Line). Says t w ls h.last h.printed h.unmet) (sym r.1) h.says; appends = h.appends }
+    record { count = r.0; last = h.last; printed = h.printed; unmet = h.unmet; says = subst (λ (ls : List Line). Says reasons t w ls h.last h.printed h.unmet) (sym r.1) h.says; appends = h.appends }
 
 -- behind lines that are printed whole
-pub part_behind : (t : Contents) (w mid : WorldState) (xs ys : List Line) (a : ℕ) (old half new : Option (List ℕ)) → PrintsAll t w xs mid a old half → PrintsPart t mid ys half new
-    → PrintsPart t w (xs ++ ys) old new
-part_behind t w mid xs ys a old half new h g = record {
+pub part_behind : (reasons : Reasons) (t : Contents) (w mid : WorldState) (xs ys : List Line) (a : ℕ) (old half new : Option (List ℕ)) → PrintsAll reasons t w xs mid a old half → PrintsPart reasons t mid ys half new
+    → PrintsPart reasons t w (xs ++ ys) old new
+part_behind reasons t w mid xs ys a old half new h g = record {
   count = length xs + g.count;
   last = g.last;
   printed = h.printed ++ g.printed;
   unmet = a + g.unmet;
-  says = subst (λ (ls : List Line). Says t w ls g.last (h.printed ++ g.printed) (a + g.unmet)) (sym (take-lines xs ys g.count)) (says_join t w mid g.last xs (take g.count ys) h.printed g.printed a g.unmet h.says g.says);
+  says = subst (λ (ls : List Line). Says reasons t w ls g.last (h.printed ++ g.printed) (a + g.unmet)) (sym (take-lines xs ys g.count)) (says_join reasons t w mid g.last xs (take g.count ys) h.printed g.printed a g.unmet h.says g.says);
   appends = (
     length h.printed + g.appends.0,
     subst (Appends old new) (sym (take-part h.printed g.printed g.appends.0)) (appends_more old half new h.printed (take g.appends.0 g.printed) h.appends g.appends.1),
@@ -100,17 +113,17 @@ part_behind t w mid xs ys a old half new h g = record {
 }
 
 -- a line whose text is cut
-pub part_one : (t : Contents) (w mid : WorldState) (line : Line) (text : List ℕ) (unmet : ℕ) (old new : Option (List ℕ)) → SaysLine t w line mid text unmet → AppendsPart old new text
-    → PrintsPart t w (line ∷ []) old new
-part_one t w mid line text unmet old new h part =
-    record { count = 1; last = mid; printed = text; unmet = unmet; says = says_one t w mid line text unmet h; appends = part }
+pub part_one : (reasons : Reasons) (t : Contents) (w mid : WorldState) (line : Line) (text : List ℕ) (unmet : ℕ) (old new : Option (List ℕ)) → SaysLine reasons t w line mid text unmet → AppendsPart old new text
+    → PrintsPart reasons t w (line ∷ []) old new
+part_one reasons t w mid line text unmet old new h part =
+    record { count = 1; last = mid; printed = text; unmet = unmet; says = says_one reasons t w mid line text unmet h; appends = part }
 
 -- a line that is printed whole
-pub one_all : (t : Contents) (w mid : WorldState) (line : Line) (text : List ℕ) (unmet : Bool) (said : Said) (old new : Option (List ℕ)) → SaysLine t w line mid text (unmet_of said) → unmet ≡ is_unmet said
-    → Appends old new text → PrintsAll t w (line ∷ []) mid (if unmet then 1 else 0) old new
-one_all t w mid line text unmet said old new h is appends =
-    subst (λ (b : Bool). PrintsAll t w (line ∷ []) mid (if b then 1 else 0) old new) (sym is)
-    (record { printed = text; says = says_one t w mid line text (unmet_of said) h; appends = appends })
+pub one_all : (reasons : Reasons) (t : Contents) (w mid : WorldState) (line : Line) (text : List ℕ) (unmet : Bool) (said : Said) (old new : Option (List ℕ)) → SaysLine reasons t w line mid text (unmet_of said) → unmet ≡ is_unmet said
+    → Appends old new text → PrintsAll reasons t w (line ∷ []) mid (if unmet then 1 else 0) old new
+one_all reasons t w mid line text unmet said old new h is appends =
+    subst (λ (b : Bool). PrintsAll reasons t w (line ∷ []) mid (if b then 1 else 0) old new) (sym is)
+    (record { printed = text; says = says_one reasons t w mid line text (unmet_of said) h; appends = appends })
 
 -- ---- a line as often as it is done
 
@@ -123,22 +136,22 @@ where_false false x m n is e = e
 where_false true x m n is e = absurd (let f : true ≡ false = is in cc)
 
 -- so many times it was done, and each time printed
-pub record IsDone (t : Contents) (w : WorldState) (line : Line) (times : ℕ) (now : WorldState) (count : ℕ) (old new : Option (List ℕ)) : Type 0 where
+pub record IsDone (reasons : Reasons) (t : Contents) (w : WorldState) (line : Line) (times : ℕ) (now : WorldState) (count : ℕ) (old new : Option (List ℕ)) : Type 0 where
   pub unmet : ℕ
   pub counts : count ≡ counted unmet
-  pub printed : PrintsAll t w (replicate times line) now unmet old new
+  pub printed : PrintsAll reasons t w (replicate times line) now unmet old new
   pub plan : now.plan ≡ w.plan
 
-pub none_done : (t : Contents) (w : WorldState) (line : Line) (old : Option (List ℕ)) → IsDone t w line 0 w 0 old old
-none_done t w line old = record { unmet = 0; counts = refl; printed = prints_none t w old; plan = refl }
+pub none_done : (reasons : Reasons) (t : Contents) (w : WorldState) (line : Line) (old : Option (List ℕ)) → IsDone reasons t w line 0 w 0 old old
+none_done reasons t w line old = record { unmet = 0; counts = refl; printed = prints_none reasons t w old; plan = refl }
 
-pub done_more : (t : Contents) (w : WorldState) (line : Line) (i : ℕ) (now new : WorldState) (count total : ℕ) (b : Bool) (old half whole : Option (List ℕ)) → IsDone t w line i now count old half
-    → PrintsAll t now (line ∷ []) new (if b then 1 else 0) half whole → new.plan ≡ now.plan → total ≡ (if b then min (count + 1) (2 ^ 64 - 1) else count) → IsDone t w line (i + 1) new total old whole
-done_more t w line i now new count total b old half whole h one plan is = record {
+pub done_more : (reasons : Reasons) (t : Contents) (w : WorldState) (line : Line) (i : ℕ) (now new : WorldState) (count total : ℕ) (b : Bool) (old half whole : Option (List ℕ)) → IsDone reasons t w line i now count old half
+    → PrintsAll reasons t now (line ∷ []) new (if b then 1 else 0) half whole → new.plan ≡ now.plan → total ≡ (if b then min (count + 1) (2 ^ 64 - 1) else count) → IsDone reasons t w line (i + 1) new total old whole
+done_more reasons t w line i now new count total b old half whole h one plan is = record {
   unmet = h.unmet + (if b then 1 else 0);
   counts = is ∙ more b;
-  printed = subst (λ (ls : List Line). PrintsAll t w ls new (h.unmet + (if b then 1 else 0)) old whole) (replicate-append-replicate i 1 line)
-      (prints_join t w now new (replicate i line) (line ∷ []) h.unmet (if b then 1 else 0) old half whole h.printed one);
+  printed = subst (λ (ls : List Line). PrintsAll reasons t w ls new (h.unmet + (if b then 1 else 0)) old whole) (replicate-append-replicate i 1 line)
+      (prints_join reasons t w now new (replicate i line) (line ∷ []) h.unmet (if b then 1 else 0) old half whole h.printed one);
   plan = plan ∙ h.plan;
 }
   where
@@ -146,21 +159,21 @@ done_more t w line i now new count total b old half whole h one plan is = record
     more true = let e : count ≡ counted h.unmet = h.counts in omega arith
     more false = let e : count ≡ counted h.unmet = h.counts in let z : h.unmet + 0 ≡ h.unmet = omega arith in omega arith
 
-pub done_part : (t : Contents) (w : WorldState) (line : Line) (i n : ℕ) (now : WorldState) (count : ℕ) (old half whole : Option (List ℕ)) → IsDone t w line i now count old half → i < n
-    → PrintsPart t now (line ∷ []) half whole → PrintsPart t w (replicate n line) old whole
-done_part t w line i n now count old half whole h lt part =
+pub done_part : (reasons : Reasons) (t : Contents) (w : WorldState) (line : Line) (i n : ℕ) (now : WorldState) (count : ℕ) (old half whole : Option (List ℕ)) → IsDone reasons t w line i now count old half → i < n
+    → PrintsPart reasons t now (line ∷ []) half whole → PrintsPart reasons t w (replicate n line) old whole
+done_part reasons t w line i n now count old half whole h lt part =
     let rest : 1 + (n - (i + 1)) ≡ n - i = omega arith in
     let all : i + (n - i) ≡ n = omega arith in
-    let ahead : PrintsPart t now (replicate (n - i) line) half whole =
-    subst (λ (k : ℕ). PrintsPart t now (replicate k line) half whole) rest
-    (subst (λ (ls : List Line). PrintsPart t now ls half whole) (replicate-append-replicate 1 (n - (i + 1)) line) (part_more t now (line ∷ []) (replicate (n - (i + 1)) line) half whole part)) in
-    subst (λ (k : ℕ). PrintsPart t w (replicate k line) old whole) all
-    (subst (λ (ls : List Line). PrintsPart t w ls old whole) (replicate-append-replicate i (n - i) line)
-    (part_behind t w now (replicate i line) (replicate (n - i) line) h.unmet old half whole h.printed ahead))
+    let ahead : PrintsPart reasons t now (replicate (n - i) line) half whole =
+    subst (λ (k : ℕ). PrintsPart reasons t now (replicate k line) half whole) rest
+    (subst (λ (ls : List Line). PrintsPart reasons t now ls half whole) (replicate-append-replicate 1 (n - (i + 1)) line) (part_more reasons t now (line ∷ []) (replicate (n - (i + 1)) line) half whole part)) in
+    subst (λ (k : ℕ). PrintsPart reasons t w (replicate k line) old whole) all
+    (subst (λ (ls : List Line). PrintsPart reasons t w ls old whole) (replicate-append-replicate i (n - i) line)
+    (part_behind reasons t w now (replicate i line) (replicate (n - i) line) h.unmet old half whole h.printed ahead))
 
-pub done_all : (t : Contents) (w : WorldState) (line : Line) (n i : ℕ) (now : WorldState) (count : ℕ) (old new : Option (List ℕ)) → IsDone t w line i now count old new → i ≡ n
-    → (unmet : ℕ) × (count ≡ counted unmet) × PrintsAll t w (replicate n line) now unmet old new
-done_all t w line n i now count old new h is = (h.unmet, h.counts, subst (λ (k : ℕ). PrintsAll t w (replicate k line) now h.unmet old new) is h.printed)
+pub done_all : (reasons : Reasons) (t : Contents) (w : WorldState) (line : Line) (n i : ℕ) (now : WorldState) (count : ℕ) (old new : Option (List ℕ)) → IsDone reasons t w line i now count old new → i ≡ n
+    → (unmet : ℕ) × (count ≡ counted unmet) × PrintsAll reasons t w (replicate n line) now unmet old new
+done_all reasons t w line n i now count old new h is = (h.unmet, h.counts, subst (λ (k : ℕ). PrintsAll reasons t w (replicate k line) now h.unmet old new) is h.printed)
 
 -- ---- the lines of a script
 
@@ -185,54 +198,54 @@ repeated_split : (lines : List Line) (i : ℕ) → repeated lines ≡ repeated (
 repeated_split lines i = ap repeated (sym (take-append-drop i lines)) ∙ repeated-append (take i lines) (drop i lines)
 
 -- the first i lines are printed
-pub record AreSaid (t : Contents) (w : WorldState) (lines : List Line) (i : ℕ) (now : WorldState) (count : ℕ) (old new : Option (List ℕ)) : Type 0 where
+pub record AreSaid (reasons : Reasons) (t : Contents) (w : WorldState) (lines : List Line) (i : ℕ) (now : WorldState) (count : ℕ) (old new : Option (List ℕ)) : Type 0 where
   pub unmet : ℕ
   pub counts : count ≡ counted unmet
-  pub printed : PrintsAll t w (repeated (take i lines)) now unmet old new
+  pub printed : PrintsAll reasons t w (repeated (take i lines)) now unmet old new
   pub plan : now.plan ≡ w.plan
 
-pub none_said : (t : Contents) (w : WorldState) (lines : List Line) (old : Option (List ℕ)) → AreSaid t w lines 0 w 0 old old
-none_said t w lines old = record {
+pub none_said : (reasons : Reasons) (t : Contents) (w : WorldState) (lines : List Line) (old : Option (List ℕ)) → AreSaid reasons t w lines 0 w 0 old old
+none_said reasons t w lines old = record {
   unmet = 0;
   counts = refl;
-  printed = subst (λ (ls : List Line). PrintsAll t w ls w 0 old old) (sym repeated_none) (prints_none t w old);
+  printed = subst (λ (ls : List Line). PrintsAll reasons t w ls w 0 old old) (sym repeated_none) (prints_none reasons t w old);
   plan = refl;
 }
 
 sum_counted : (a b c d : ℕ) → c ≡ counted a → d ≡ counted b → min (c + d) (2 ^ 64 - 1) ≡ counted (a + b)
 sum_counted a b c d h g = omega arith
 
-pub said_more : (t : Contents) (w : WorldState) (lines : List Line) (i : ℕ) (d : Line) (now new : WorldState) (count more total : ℕ) (old half whole : Option (List ℕ)) → AreSaid t w lines i now count old half
-    → i < length lines → (unmet : ℕ) × (more ≡ counted unmet) × PrintsAll t now (replicate (get_or lines i d).times (get_or lines i d)) new unmet half whole → new.plan ≡ now.plan
-    → total ≡ min (count + more) (2 ^ 64 - 1) → AreSaid t w lines (i + 1) new total old whole
-said_more t w lines i d now new count more total old half whole h lt (unmet, counts, printed) plan is = record {
+pub said_more : (reasons : Reasons) (t : Contents) (w : WorldState) (lines : List Line) (i : ℕ) (d : Line) (now new : WorldState) (count more total : ℕ) (old half whole : Option (List ℕ)) → AreSaid reasons t w lines i now count old half
+    → i < length lines → (unmet : ℕ) × (more ≡ counted unmet) × PrintsAll reasons t now (replicate (get_or lines i d).times (get_or lines i d)) new unmet half whole → new.plan ≡ now.plan
+    → total ≡ min (count + more) (2 ^ 64 - 1) → AreSaid reasons t w lines (i + 1) new total old whole
+said_more reasons t w lines i d now new count more total old half whole h lt (unmet, counts, printed) plan is = record {
   unmet = h.unmet + unmet;
   counts = is ∙ sum_counted h.unmet unmet count more h.counts counts;
-  printed = subst (λ (ls : List Line). PrintsAll t w ls new (h.unmet + unmet) old whole) (sym (repeated_at lines i d lt))
-      (prints_join t w now new (repeated (take i lines)) (replicate (get_or lines i d).times (get_or lines i d)) h.unmet unmet old half whole h.printed printed);
+  printed = subst (λ (ls : List Line). PrintsAll reasons t w ls new (h.unmet + unmet) old whole) (sym (repeated_at lines i d lt))
+      (prints_join reasons t w now new (repeated (take i lines)) (replicate (get_or lines i d).times (get_or lines i d)) h.unmet unmet old half whole h.printed printed);
   plan = plan ∙ h.plan;
 }
 
-pub said_part : (t : Contents) (w : WorldState) (lines : List Line) (i : ℕ) (d : Line) (now : WorldState) (count : ℕ) (old half whole : Option (List ℕ)) → AreSaid t w lines i now count old half → i < length lines
-    → PrintsPart t now (replicate (get_or lines i d).times (get_or lines i d)) half whole → PrintsSome t w lines old whole
-said_part t w lines i d now count old half whole h lt part =
-    subst (λ (ls : List Line). PrintsPart t w ls old whole) (sym (repeated_split lines (i + 1)))
-    (part_more t w (repeated (take (i + 1) lines)) (repeated (drop (i + 1) lines)) old whole
-    (subst (λ (ls : List Line). PrintsPart t w ls old whole) (sym (repeated_at lines i d lt))
-    (part_behind t w now (repeated (take i lines)) (replicate (get_or lines i d).times (get_or lines i d)) h.unmet old half whole h.printed part)))
+pub said_part : (reasons : Reasons) (t : Contents) (w : WorldState) (lines : List Line) (i : ℕ) (d : Line) (now : WorldState) (count : ℕ) (old half whole : Option (List ℕ)) → AreSaid reasons t w lines i now count old half → i < length lines
+    → PrintsPart reasons t now (replicate (get_or lines i d).times (get_or lines i d)) half whole → PrintsSome reasons t w lines old whole
+said_part reasons t w lines i d now count old half whole h lt part =
+    subst (λ (ls : List Line). PrintsPart reasons t w ls old whole) (sym (repeated_split lines (i + 1)))
+    (part_more reasons t w (repeated (take (i + 1) lines)) (repeated (drop (i + 1) lines)) old whole
+    (subst (λ (ls : List Line). PrintsPart reasons t w ls old whole) (sym (repeated_at lines i d lt))
+    (part_behind reasons t w now (repeated (take i lines)) (replicate (get_or lines i d).times (get_or lines i d)) h.unmet old half whole h.printed part)))
 
-pub all_said : (t : Contents) (w : WorldState) (lines : List Line) (i : ℕ) (now : WorldState) (count : ℕ) (old new : Option (List ℕ)) → AreSaid t w lines i now count old new → length lines ≤ i
-    → (unmet : ℕ) × (count ≡ counted unmet) × PrintsLines t w lines unmet old new
-all_said t w lines i now count old new h le =
+pub all_said : (reasons : Reasons) (t : Contents) (w : WorldState) (lines : List Line) (i : ℕ) (now : WorldState) (count : ℕ) (old new : Option (List ℕ)) → AreSaid reasons t w lines i now count old new → length lines ≤ i
+    → (unmet : ℕ) × (count ≡ counted unmet) × PrintsLines reasons t w lines unmet old new
+all_said reasons t w lines i now count old new h le =
     let whole : take i lines ≡ lines = sym (append-nil (take i lines)) ∙ (ap (λ (ls : List Line). take i lines ++ ls) (sym (drop_all i lines le)) ∙ take-append-drop i lines) in
-    (h.unmet, h.counts, (now, subst (λ (ls : List Line). PrintsAll t w (repeated ls) now h.unmet old new) whole h.printed))
+    (h.unmet, h.counts, (now, subst (λ (ls : List Line). PrintsAll reasons t w (repeated ls) now h.unmet old new) whole h.printed))
 
 -- ---- how a run ends
 
 -- a text that is refused, also where a call passes the refusal on
-pub sim_refused : (r : Result Unit Refusal) (text : List ℕ) (known : Option (List ℕ)) (refusal : Refusal) → IsErrAnd r (λ e. e ≡ refusal) → IsSimRefusal text refusal → RunsText text known known r
-sim_refused (Ok done) text known refusal is h = absurd is
-sim_refused (Err e) text known refusal is h = inl (subst (IsSimRefusal text) (sym is) h, refl)
+pub sim_refused : (r : Result Unit Refusal) (text : List ℕ) (known : Option (List ℕ)) (refusal : Refusal) (reasons : Reasons) → IsErrAnd r (λ e. e ≡ refusal) → IsSimRefusal text refusal → RunsText reasons text known known r
+sim_refused (Ok done) text known refusal reasons is h = absurd is
+sim_refused (Err e) text known refusal reasons is h = inl (subst (IsSimRefusal text) (sym is) h, refl)
 
 -- lines that run to their end, by what was expected
 counted_none : (count unmet : ℕ) → count ≡ counted unmet → count ≡ 0 → unmet ≡ 0
@@ -241,40 +254,40 @@ counted_none count unmet is none = omega arith
 counted_some : (count unmet : ℕ) → count ≡ counted unmet → (count == 0) ≡ false → 0 < unmet
 counted_some count unmet is some = let more : 0 < count = grind (arith, nat_tests) in omega arith
 
-ran : (b : Bool) (old new : Option (List ℕ)) (t : Contents) (w : WorldState) (lines : List Line) (count unmet : ℕ) → (count == 0) ≡ b → BeginsAs t w → count ≡ counted unmet → PrintsLines t w lines unmet old new
-    → RunsLines t lines old new (if b then Ok tt else Err (Unmet count))
-ran true old new t w lines count unmet is begins counts all =
+ran : (b : Bool) (old new : Option (List ℕ)) (reasons : Reasons) (t : Contents) (w : WorldState) (lines : List Line) (count unmet : ℕ) → (count == 0) ≡ b → BeginsAs t w → count ≡ counted unmet → PrintsLines reasons t w lines unmet old new
+    → RunsLines reasons t lines old new (if b then Ok tt else Err (Unmet count))
+ran true old new reasons t w lines count unmet is begins counts all =
     let none : unmet ≡ 0 = counted_none count unmet counts (grind (arith, nat_tests)) in
-    (w, begins, subst (λ (n : ℕ). PrintsLines t w lines n old new) none all)
-ran false old new t w lines count unmet is begins counts all = inr (inr (unmet, counted_some count unmet counts is, ap Unmet counts, (w, begins, all)))
+    (w, begins, subst (λ (n : ℕ). PrintsLines reasons t w lines n old new) none all)
+ran false old new reasons t w lines count unmet is begins counts all = inr (inr (unmet, counted_some count unmet counts is, ap Unmet counts, (w, begins, all)))
 
-pub lines_ran : (r : Result Unit Refusal) (old new : Option (List ℕ)) (t : Contents) (w : WorldState) (lines : List Line) (count : ℕ) → r ≡ ended_by count → BeginsAs t w
-    → (unmet : ℕ) × (count ≡ counted unmet) × PrintsLines t w lines unmet old new → RunsLines t lines old new r
-lines_ran r old new t w lines count is begins (unmet, counts, all) =
-    subst (RunsLines t lines old new) (sym is) (ran (count == 0) old new t w lines count unmet refl begins counts all)
+pub lines_ran : (r : Result Unit Refusal) (old new : Option (List ℕ)) (reasons : Reasons) (t : Contents) (w : WorldState) (lines : List Line) (count : ℕ) → r ≡ ended_by count → BeginsAs t w
+    → (unmet : ℕ) × (count ≡ counted unmet) × PrintsLines reasons t w lines unmet old new → RunsLines reasons t lines old new r
+lines_ran r old new reasons t w lines count is begins (unmet, counts, all) =
+    subst (RunsLines reasons t lines old new) (sym is) (ran (count == 0) old new reasons t w lines count unmet refl begins counts all)
 
 -- and lines that are cut short
-pub lines_cut : {T : Type 0} (r : Result Unit Refusal) (printed : Result T Refusal) (e : Refusal) (old new : Option (List ℕ)) (t : Contents) (w : WorldState) (lines : List Line) → BeginsAs t w
-    → printed ≡ Err e → OnErr printed (PrintsSome t w lines old new) → IfErr printed IsLate → IsErrAnd r (λ x. x ≡ e) → RunsLines t lines old new r
-lines_cut (Ok done) printed e old new t w lines begins is some late same = absurd same
-lines_cut {T} (Err x) printed e old new t w lines begins is some late same =
-    let part : PrintsSome t w lines old new = subst (λ (p : Result T Refusal). OnErr p (PrintsSome t w lines old new)) is some in
+pub lines_cut : {T : Type 0} (r : Result Unit Refusal) (printed : Result T Refusal) (e : Refusal) (old new : Option (List ℕ)) (reasons : Reasons) (t : Contents) (w : WorldState) (lines : List Line) → BeginsAs t w
+    → printed ≡ Err e → OnErr printed (PrintsSome reasons t w lines old new) → IfErr printed IsLate → IsErrAnd r (λ x. x ≡ e) → RunsLines reasons t lines old new r
+lines_cut (Ok done) printed e old new reasons t w lines begins is some late same = absurd same
+lines_cut {T} (Err x) printed e old new reasons t w lines begins is some late same =
+    let part : PrintsSome reasons t w lines old new = subst (λ (p : Result T Refusal). OnErr p (PrintsSome reasons t w lines old new)) is some in
     let is_late : IsLate e = subst (λ (p : Result T Refusal). IfErr p IsLate) is late in
     inr (inl (subst IsLate (sym same) is_late, w, begins, part))
 
 -- no memory for their world
-pub none_run : (r : Result Unit Refusal) (known : Option (List ℕ)) (t : Contents) (lines : List Line) → IsErrAnd r (λ e. e ≡ Memory) → RunsLines t lines known known r
-none_run (Ok done) known t lines is = absurd is
-none_run (Err e) known t lines is = inl (is, refl)
+pub none_run : (r : Result Unit Refusal) (known : Option (List ℕ)) (reasons : Reasons) (t : Contents) (lines : List Line) → IsErrAnd r (λ e. e ≡ Memory) → RunsLines reasons t lines known known r
+none_run (Ok done) known reasons t lines is = absurd is
+none_run (Err e) known reasons t lines is = inl (is, refl)
 
 -- and what that makes of their text
-pub simulated : (r : Result Unit Refusal) (text : List ℕ) (old new : Option (List ℕ)) (t : Contents) (lines : List Line) → IsSimulation text t lines
-    → RunsLines t lines old new r → RunsText text old new r
-simulated (Ok done) text old new t lines is (w, begins, all) = record { t = t; lines = lines; world = w; simulation = is; begins = begins; printed = all }
-simulated (Err e) text old new t lines is (inl (memory, same)) = inl (subst (IsSimRefusal text) (sym memory) (is.table, is.script, is.split, tt), same)
-simulated (Err e) text old new t lines is (inr (inl (late, w, begins, some))) =
+pub simulated : (r : Result Unit Refusal) (text : List ℕ) (old new : Option (List ℕ)) (reasons : Reasons) (t : Contents) (lines : List Line) → IsSimulation text t lines
+    → RunsLines reasons t lines old new r → RunsText reasons text old new r
+simulated (Ok done) text old new reasons t lines is (w, begins, all) = record { t = t; lines = lines; world = w; simulation = is; begins = begins; printed = all }
+simulated (Err e) text old new reasons t lines is (inl (memory, same)) = inl (subst (IsSimRefusal text) (sym memory) (is.table, is.script, is.split, tt), same)
+simulated (Err e) text old new reasons t lines is (inr (inl (late, w, begins, some))) =
     inr (inl (late, record { t = t; lines = lines; world = w; simulation = is; begins = begins; printed = some }))
-simulated (Err e) text old new t lines is (inr (inr (unmet, some, is_unmet, (w, begins, all)))) =
+simulated (Err e) text old new reasons t lines is (inr (inr (unmet, some, is_unmet, (w, begins, all)))) =
     inr (inr (unmet, some, is_unmet, record { t = t; lines = lines; world = w; simulation = is; begins = begins; printed = all }))
 
 -- a script that is bad is the fault of its text
@@ -307,17 +320,17 @@ half_of_table table script t refusal.Output stated is = absurd is
 half_of_table table script t refusal.Input stated is = absurd is
 half_of_table table script t (refusal.Unmet n) stated is = absurd is
 
-halves_refused : (r : Result Unit Refusal) (text : List ℕ) (old new : Option (List ℕ)) (x : Refusal) → r ≡ Err x → new ≡ old → IsSimRefusal text x → RunsText text old new r
-halves_refused r text old new x ended same is = subst (RunsText text old new) (sym ended) (inl (is, same))
+halves_refused : (r : Result Unit Refusal) (text : List ℕ) (old new : Option (List ℕ)) (x : Refusal) (reasons : Reasons) → r ≡ Err x → new ≡ old → IsSimRefusal text x → RunsText reasons text old new r
+halves_refused r text old new x reasons ended same is = subst (RunsText reasons text old new) (sym ended) (inl (is, same))
 
-pub halves_run : (r : Result Unit Refusal) (text table script : List ℕ) (t : Contents) (old new : Option (List ℕ)) → Splits text table script → table_of table ≡ Ok t
-    → RunsHalves t script old new r → RunsText text old new r
-halves_run r text table script t old new split stated (inl (accepted, inl (lines, read, runs))) =
-    simulated r text old new t lines (record { table = table; script = script; split = split; stated = stated; accepted = accepted; read = read }) runs
-halves_run r text table script t old new split stated (inl (accepted, inr (x, ended, is, same))) =
-    halves_refused r text old new x ended same (table, script, split, half_of_script table script t x stated accepted is)
-halves_run r text table script t old new split stated (inr (x, ended, is, same)) =
-    halves_refused r text old new x ended same (table, script, split, half_of_table table script t x stated is)
+pub halves_run : (r : Result Unit Refusal) (text table script : List ℕ) (reasons : Reasons) (t : Contents) (old new : Option (List ℕ)) → Splits text table script → table_of table ≡ Ok t
+    → RunsHalves reasons t script old new r → RunsText reasons text old new r
+halves_run r text table script reasons t old new split stated (inl (accepted, inl (lines, read, runs))) =
+    simulated r text old new reasons t lines (record { table = table; script = script; split = split; stated = stated; accepted = accepted; read = read }) runs
+halves_run r text table script reasons t old new split stated (inl (accepted, inr (x, ended, is, same))) =
+    halves_refused r text old new x reasons ended same (table, script, split, half_of_script table script t x stated accepted is)
+halves_run r text table script reasons t old new split stated (inr (x, ended, is, same)) =
+    halves_refused r text old new x reasons ended same (table, script, split, half_of_table table script t x stated is)
 
 pub on_err : {P : Type 0} (r : Result Unit Refusal) → P → OnErr r P
 on_err (Ok done) p = tt
@@ -326,27 +339,27 @@ on_err (Err e) p = p
 -- ---- a capture
 
 -- before its file is open nothing is printed
-pub none_some : (t : Contents) (w : WorldState) (lines : List Line) (old : Option (List ℕ)) → PrintsSome t w lines old old
-none_some t w lines old = part_none t w (repeated lines) old
+pub none_some : (reasons : Reasons) (t : Contents) (w : WorldState) (lines : List Line) (old : Option (List ℕ)) → PrintsSome reasons t w lines old old
+none_some reasons t w lines old = part_none reasons t w (repeated lines) old
 
 -- all that is printed is a first part of it
-pub all_part : (t : Contents) (w last : WorldState) (lines : List Line) (unmet : ℕ) (old new : Option (List ℕ)) → PrintsAll t w lines last unmet old new → PrintsPart t w lines old new
-all_part t w last lines unmet old new h = record {
+pub all_part : (reasons : Reasons) (t : Contents) (w last : WorldState) (lines : List Line) (unmet : ℕ) (old new : Option (List ℕ)) → PrintsAll reasons t w lines last unmet old new → PrintsPart reasons t w lines old new
+all_part reasons t w last lines unmet old new h = record {
   count = length lines;
   last = last;
   printed = h.printed;
   unmet = unmet;
-  says = subst (λ (ls : List Line). Says t w ls last h.printed unmet) (sym (take_all (length lines) lines (omega arith))) h.says;
+  says = subst (λ (ls : List Line). Says reasons t w ls last h.printed unmet) (sym (take_all (length lines) lines (omega arith))) h.says;
   appends = whole_part old new h.printed h.appends;
 }
 
-pub lines_some : (t : Contents) (w : WorldState) (lines : List Line) (unmet : ℕ) (old new : Option (List ℕ)) → PrintsLines t w lines unmet old new → PrintsSome t w lines old new
-lines_some t w lines unmet old new h = all_part t w h.0 (repeated lines) unmet old new h.1
+pub lines_some : (reasons : Reasons) (t : Contents) (w : WorldState) (lines : List Line) (unmet : ℕ) (old new : Option (List ℕ)) → PrintsLines reasons t w lines unmet old new → PrintsSome reasons t w lines old new
+lines_some reasons t w lines unmet old new h = all_part reasons t w h.0 (repeated lines) unmet old new h.1
 
-pub counted_some_lines : (r : Result ℕ Refusal) (t : Contents) (w : WorldState) (lines : List Line) (old new : Option (List ℕ))
-    → IfOk r (λ count. (unmet : ℕ) × (count ≡ counted unmet) × PrintsLines t w lines unmet old new) → IfOk r (λ count. PrintsSome t w lines old new)
-counted_some_lines (Ok count) t w lines old new (unmet, is, all) = lines_some t w lines unmet old new all
-counted_some_lines (Err e) t w lines old new all = tt
+pub counted_some_lines : (r : Result ℕ Refusal) (reasons : Reasons) (t : Contents) (w : WorldState) (lines : List Line) (old new : Option (List ℕ))
+    → IfOk r (λ count. (unmet : ℕ) × (count ≡ counted unmet) × PrintsLines reasons t w lines unmet old new) → IfOk r (λ count. PrintsSome reasons t w lines old new)
+counted_some_lines (Ok count) reasons t w lines old new (unmet, is, all) = lines_some reasons t w lines unmet old new all
+counted_some_lines (Err e) reasons t w lines old new all = tt
 
 -- a capture that can't be opened cuts a script short
 pub unopened_late : (x : Refusal) → IsUnopened x → IsLate x

@@ -17,6 +17,8 @@ use Rattle.ec_script.specs.Halves.{Splits}
 use Rattle.ec_script.specs.Scripts.{Fails as ScriptFails, repeated, script_of}
 use Rattle.ec_script.specs.Texts.{said_text}
 use Rattle.ec_script.specs.Work.{Does, is_done, is_unmet}
+use Rattle.ec_why.specs.declared.wanted.Reasons.{Reasons}
+use Rattle.ec_why.specs.Reasons.{IsWhy}
 use Rattle.ec_console.specs.declared.refusal.Refusal.{Refusal}
 use Rattle.ec_console.specs.declared.refusal.Refusal.TheVariants.{Memory, Output, Script, Unmet}
 use Rattle.ec_console.specs.Given.{GivesText, IsInputRefusal, IsTableRefusal}
@@ -28,42 +30,45 @@ use Rattle.ec_console.specs.Printing.{AppendsPart}
 abbrev pub unmet_of : Said → ℕ
 unmet_of said = if is_unmet said then 1 else 0
 
--- a line is done once: it leaves the world as `World::run` of its events does (`RunsLine`), and its text is that of the world then
-pub record SaysLine (t : Contents) (w : WorldState) (line : Line) (new : WorldState) (printed : List ℕ) (unmet : ℕ) : Type 0 where
+-- a line is done once: it leaves the world as `World::run` of its events does (`RunsLine`), whether reasons are told or not, and
+-- its text is that of the world then; why it says `no` stands behind it, where that is told
+pub record SaysLine (reasons : Reasons) (t : Contents) (w : WorldState) (line : Line) (new : WorldState) (printed : List ℕ) (unmet : ℕ) : Type 0 where
   pub said : Said
   pub does : Does line.act w new said
   pub run : RunsLine line.act w new (is_done said)
-  pub text : printed ≡ said_text t line.number new said
+  pub why : List ℕ
+  pub reason : IsWhy reasons said why
+  pub text : printed ≡ said_text t line.number new said ++ why
   pub count : unmet ≡ unmet_of said
 
 -- What lines print that are done once each, and how often what they expect isn't so. Each is done in the world that the one
 -- before left.
-abbrev pub Says : Contents → WorldState → List Line → WorldState → List ℕ → ℕ → Type 0
-Says t w [] new printed unmet = (new ≡ w) × (printed ≡ []) × (unmet ≡ 0)
-Says t w (line ∷ lines) new printed unmet = (mid : WorldState) × (text : List ℕ) × (more : List ℕ) × (one : ℕ) × (rest : ℕ)
-    × SaysLine t w line mid text one × Says t mid lines new more rest × (printed ≡ text ++ more) × (unmet ≡ one + rest)
+abbrev pub Says : Reasons → Contents → WorldState → List Line → WorldState → List ℕ → ℕ → Type 0
+Says reasons t w [] new printed unmet = (new ≡ w) × (printed ≡ []) × (unmet ≡ 0)
+Says reasons t w (line ∷ lines) new printed unmet = (mid : WorldState) × (text : List ℕ) × (more : List ℕ) × (one : ℕ) × (rest : ℕ)
+    × SaysLine reasons t w line mid text one × Says reasons t mid lines new more rest × (printed ≡ text ++ more) × (unmet ≡ one + rest)
 
 -- these lines are printed
-pub record PrintsAll (t : Contents) (w : WorldState) (lines : List Line) (last : WorldState) (unmet : ℕ) (old new : Option (List ℕ)) : Type 0 where
+pub record PrintsAll (reasons : Reasons) (t : Contents) (w : WorldState) (lines : List Line) (last : WorldState) (unmet : ℕ) (old new : Option (List ℕ)) : Type 0 where
   pub printed : List ℕ
-  pub says : Says t w lines last printed unmet
+  pub says : Says reasons t w lines last printed unmet
   pub appends : Appends old new printed
 
 -- a first part is printed of what some first of these lines say
-pub record PrintsPart (t : Contents) (w : WorldState) (lines : List Line) (old new : Option (List ℕ)) : Type 0 where
+pub record PrintsPart (reasons : Reasons) (t : Contents) (w : WorldState) (lines : List Line) (old new : Option (List ℕ)) : Type 0 where
   pub count : ℕ
   pub last : WorldState
   pub printed : List ℕ
   pub unmet : ℕ
-  pub says : Says t w (take count lines) last printed unmet
+  pub says : Says reasons t w (take count lines) last printed unmet
   pub appends : AppendsPart old new printed
 
 -- the lines of a script are printed, each as often as it is done
-abbrev pub PrintsLines : Contents → WorldState → List Line → ℕ → Option (List ℕ) → Option (List ℕ) → Type 0
-PrintsLines t w lines unmet old new = (last : WorldState) × PrintsAll t w (repeated lines) last unmet old new
+abbrev pub PrintsLines : Reasons → Contents → WorldState → List Line → ℕ → Option (List ℕ) → Option (List ℕ) → Type 0
+PrintsLines reasons t w lines unmet old new = (last : WorldState) × PrintsAll reasons t w (repeated lines) last unmet old new
 
-abbrev pub PrintsSome : Contents → WorldState → List Line → Option (List ℕ) → Option (List ℕ) → Type 0
-PrintsSome t w lines old new = PrintsPart t w (repeated lines) old new
+abbrev pub PrintsSome : Reasons → Contents → WorldState → List Line → Option (List ℕ) → Option (List ℕ) → Type 0
+PrintsSome reasons t w lines old new = PrintsPart reasons t w (repeated lines) old new
 
 -- as far as 64 bits count
 abbrev pub counted : ℕ → ℕ
@@ -103,12 +108,12 @@ pub record BeginsAs (t : Contents) (w : WorldState) : Type 0 where
 -- the lines run over slaves of the table that are switched on, and what they say is printed, where what they expect is so; or
 -- it isn't, so many times; or a script that runs is cut short, and what it said until then is printed; or memory is refused
 -- before the first line
-abbrev pub RunsLines : Contents → List Line → Option (List ℕ) → Option (List ℕ) → Result Unit Refusal → Type 0
-RunsLines t lines old new (Ok done) = (w : WorldState) × BeginsAs t w × PrintsLines t w lines 0 old new
-RunsLines t lines old new (Err refusal) =
+abbrev pub RunsLines : Reasons → Contents → List Line → Option (List ℕ) → Option (List ℕ) → Result Unit Refusal → Type 0
+RunsLines reasons t lines old new (Ok done) = (w : WorldState) × BeginsAs t w × PrintsLines reasons t w lines 0 old new
+RunsLines reasons t lines old new (Err refusal) =
     ((refusal ≡ Memory) × (new ≡ old))
-    ⊎ ((IsLate refusal × (w : WorldState) × BeginsAs t w × PrintsSome t w lines old new)
-    ⊎ EndsUnmet refusal (λ unmet. (w : WorldState) × BeginsAs t w × PrintsLines t w lines unmet old new))
+    ⊎ ((IsLate refusal × (w : WorldState) × BeginsAs t w × PrintsSome reasons t w lines old new)
+    ⊎ EndsUnmet refusal (λ unmet. (w : WorldState) × BeginsAs t w × PrintsLines reasons t w lines unmet old new))
 
 -- the first fault of the table, or of its plan, or the first bad line of the script, in this order
 abbrev pub IsScriptRefusal : List ℕ → List ℕ → ScriptError → Type 0
@@ -133,14 +138,14 @@ pub record Simulates (text : List ℕ) (Printed : Contents → WorldState → Li
 -- how it ends, by what the writer holds before and after: all is printed, and what is expected is so; or it isn't, so many
 -- times; or nothing is printed, since the text is refused; or a script that runs is cut short, and what it said until then is
 -- printed
-abbrev pub RunsText : List ℕ → Option (List ℕ) → Option (List ℕ) → Result Unit Refusal → Type 0
-RunsText text old new (Ok done) = Simulates text (λ t w lines. PrintsLines t w lines 0 old new)
-RunsText text old new (Err refusal) =
+abbrev pub RunsText : Reasons → List ℕ → Option (List ℕ) → Option (List ℕ) → Result Unit Refusal → Type 0
+RunsText reasons text old new (Ok done) = Simulates text (λ t w lines. PrintsLines reasons t w lines 0 old new)
+RunsText reasons text old new (Err refusal) =
     (IsSimRefusal text refusal × (new ≡ old))
-    ⊎ ((IsLate refusal × Simulates text (λ t w lines. PrintsSome t w lines old new))
-    ⊎ EndsUnmet refusal (λ unmet. Simulates text (λ t w lines. PrintsLines t w lines unmet old new)))
+    ⊎ ((IsLate refusal × Simulates text (λ t w lines. PrintsSome reasons t w lines old new))
+    ⊎ EndsUnmet refusal (λ unmet. Simulates text (λ t w lines. PrintsLines reasons t w lines unmet old new)))
 
 -- the same of what the input gives; or the input is refused
-abbrev pub RunsSim : Option (List ℕ) → Option (List ℕ) → Option (List ℕ) → Result Unit Refusal → Type 0
-RunsSim known old new ended =
-    ((text : List ℕ) × GivesText known text × RunsText text old new ended) ⊎ ((refusal : Refusal) × (ended ≡ Err refusal) × IsInputRefusal known refusal × (new ≡ old))
+abbrev pub RunsSim : Reasons → Option (List ℕ) → Option (List ℕ) → Option (List ℕ) → Result Unit Refusal → Type 0
+RunsSim reasons known old new ended =
+    ((text : List ℕ) × GivesText known text × RunsText reasons text old new ended) ⊎ ((refusal : Refusal) × (ended ≡ Err refusal) × IsInputRefusal known refusal × (new ≡ old))

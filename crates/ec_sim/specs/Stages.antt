@@ -1,5 +1,5 @@
 -- What private code answers once a table was read; none of it is needed to read what is printed.
-use Rattle.std.specs.Prelude.{◌≡◌, ◌⊎◌, ℕ, List, Option, None, Result, Ok, Err}
+use Rattle.std.specs.Prelude.{◌≡◌, ◌⊎◌, ℕ, List, ◌++◌, Option, None, Result, Ok, Err}
 use Rattle.ec_table.specs.Contents.{Contents}
 use Rattle.ec_link.specs.Faults.{compile_fault}
 use Rattle.ec_script.specs.declared.line.Line.{Line}
@@ -7,7 +7,16 @@ use Rattle.ec_script.specs.Scripts.{Fails as ScriptFails, script_of}
 use Rattle.ec_console.specs.declared.refusal.Refusal.{Refusal}
 use Rattle.ec_console.specs.declared.refusal.Refusal.TheVariants.{Memory, Script}
 use Rattle.ec_console.specs.Given.{IsLinkRefusal}
+use Rattle.ec_why.specs.declared.wanted.Reasons.{Reasons}
+use Rattle.ec_why.specs.Reasons.{IsWhy}
 use Rattle.ec_sim.specs.Simulating.{RunsLines}
+use Rattle.ec_script.specs.declared.said.Said.{Said}
+use Rattle.ec_script.specs.Texts.{said_text}
+use Rattle.ec_world.specs.World.{WorldState}
+
+-- the text of a line, with the reason behind it
+abbrev pub IsLineText : (reasons : Reasons) → Contents → ℕ → WorldState → Said → List ℕ → Type 0
+IsLineText reasons t n w said text = (why : List ℕ) × IsWhy reasons said why × (text ≡ said_text t n w said ++ why)
 
 -- the first bad line of a script
 abbrev pub IsBadScript : Contents → List ℕ → Refusal → Type 0
@@ -16,13 +25,13 @@ IsBadScript t script (Script error) = ScriptFails error (script_of t script)
 IsBadScript t script _ = ⊥
 
 -- a script is read and run over slaves of a table that has a plan; or it is refused
-abbrev pub RunsScript : Contents → List ℕ → Option (List ℕ) → Option (List ℕ) → Result Unit Refusal → Type 0
-RunsScript t script old new ended =
-    ((lines : List Line) × (script_of t script ≡ Ok lines) × RunsLines t lines old new ended)
+abbrev pub RunsScript : Reasons → Contents → List ℕ → Option (List ℕ) → Option (List ℕ) → Result Unit Refusal → Type 0
+RunsScript reasons t script old new ended =
+    ((lines : List Line) × (script_of t script ≡ Ok lines) × RunsLines reasons t lines old new ended)
     ⊎ ((refusal : Refusal) × (ended ≡ Err refusal) × IsBadScript t script refusal × (new ≡ old))
 
 -- the same of a table that was read; or it has a fault
-abbrev pub RunsHalves : Contents → List ℕ → Option (List ℕ) → Option (List ℕ) → Result Unit Refusal → Type 0
-RunsHalves t script old new ended =
-    ((compile_fault t ≡ None) × RunsScript t script old new ended)
+abbrev pub RunsHalves : Reasons → Contents → List ℕ → Option (List ℕ) → Option (List ℕ) → Result Unit Refusal → Type 0
+RunsHalves reasons t script old new ended =
+    ((compile_fault t ≡ None) × RunsScript reasons t script old new ended)
     ⊎ ((refusal : Refusal) × (ended ≡ Err refusal) × IsLinkRefusal t refusal × (new ≡ old))

@@ -1,6 +1,7 @@
 //! `ecat sim`: what a script does to a simulated segment of a link table.
 #![tactic(auto)]
 
+pub mod laws;
 mod sim;
 
-pub use crate::sim::{end_of, print_line, print_sim};
+pub use crate::sim::{end_of, print_line, print_noted, print_sim};

@@ -1,42 +1,73 @@
 //! `ecat sim`: a link table and a script on the input, and what the script does to a simulated segment of the table.
-ghost use Rattle.std.specs.Prelude.{◌≡◌, ◌∷◌, [], ℕ, IfErr, IfOk, None, OnErr, if◌then◌else◌, replicate};
+ghost use Rattle.std.specs.Prelude.{◌≡◌, ◌∷◌, [], ℕ, IfErr, IfOk, None, OnErr, string_bytes, if◌then◌else◌, replicate};
 ghost use Rattle.ec_link.specs.Faults.{compile_fault};
 ghost use Rattle.ec_link.specs.Plan.{plan_of};
 ghost use Rattle.ec_console.specs.Explaining.{IsLeft};
 ghost use Rattle.ec_sim.specs.Simulating.{IsLate, PrintsAll, PrintsLines, PrintsPart, PrintsSome, RunsLines, RunsSim, RunsText, counted, ended_by};
-ghost use Rattle.ec_sim.specs.Stages.{RunsHalves, RunsScript};
+ghost use Rattle.ec_script.specs.Seeing.{Sees};
+ghost use Rattle.ec_sim.specs.Capturing.{NotesRun};
+ghost use Rattle.ec_sim.specs.Stages.{IsLineText, RunsHalves, RunsScript};
 
 use ec_captured::{Recording, finish_recording, open_segment};
 use ec_console::{Explanation, Refusal, print_text, read_text};
 use ec_link::{Plan, compile};
 use ec_rise::identities_of;
-use ec_script::{Line, read_script, said_text, split_script, watch_act};
+use ec_script::{Line, Said, read_script, said_text, split_script, watch_act};
 use ec_table::{Table, read_table};
 use ec_watch::Watch;
+use ec_why::{Reasons, has_cycle, reason_text};
 use ec_world::{Unwatched, Watcher, World};
-use std::alloc::Global;
+use std::alloc::{AllocError, Global};
 use std::fs::Files;
 use std::io::{Read, Write};
+
+/// What is printed of a line: what there is to say of it in the world that it left, and behind that why it says `no`, where
+/// reasons are told.
+#[tactic(auto, using(crate::proofs::SimLemmas::line_alone, crate::proofs::SimLemmas::line_reasoned))]
+fn line_text(
+    alloc: Global,
+    table: &Table,
+    reasons: Reasons,
+    world: &World<'_>,
+    line: &Line,
+    said: Said,
+    had_cycle: bool,
+) -> Result<String, AllocError>
+    requires { world.now.plan ≡ plan_of table.now }
+    ensures { IfOk result (λ text.
+        IsLineText reasons table.now line.now.number world.now said (string_bytes text)) }
+{
+    let mut text = said_text(alloc, world, table, line.number, said)?;
+    if !reasons.stand_behind(said) {
+        return Ok(text);
+    }
+    let reason = reason_text(alloc, table, world, line.act, had_cycle)?;
+    text.push_str(reason.as_str())?;
+    Ok(text)
+}
 
 /// Does a line once, prints what there is to say, and answers whether what it expects isn't so.
 fn print_once<S: Watcher, W: Write>(
     alloc: Global,
     table: &Table,
+    reasons: Reasons,
     world: &mut World<'_>,
     watcher: &mut S,
     line: &Line,
     output: &mut W,
 ) -> Result<bool, Refusal>
     requires { world.old.plan ≡ plan_of table.now }
-    ensures all { IfOk result (λ unmet. PrintsAll table.now world.old (line.now ∷ []) world.new
+    ensures all { IfOk result (λ unmet. PrintsAll reasons table.now world.old (line.now ∷ []) world.new
         (if unmet then 1 else 0) (W.contents output.old) (W.contents output.new)) }
-    ensures part { OnErr result (PrintsPart table.now world.old (line.now ∷ [])
+    ensures part { OnErr result (PrintsPart reasons table.now world.old (line.now ∷ [])
         (W.contents output.old) (W.contents output.new)) }
     ensures late { IfErr result IsLate }
     ensures plan { world.new.plan ≡ world.old.plan }
+    ensures seen { Sees S.saw watcher.old world.old world.new watcher.new }
 {
+    let had_cycle = has_cycle(world);
     let said = watch_act(world, watcher, line.act);
-    let text = said_text(alloc, world, table, line.number, said)?;
+    let text = line_text(alloc, table, reasons, world, line, said, had_cycle)?;
     print_text(text.as_bytes(), output)?;
     Ok(said.is_unmet())
 }
@@ -46,6 +77,7 @@ fn print_once<S: Watcher, W: Write>(
 pub fn print_line<S: Watcher, W: Write>(
     alloc: Global,
     table: &Table,
+    reasons: Reasons,
     world: &mut World<'_>,
     watcher: &mut S,
     line: &Line,
@@ -53,16 +85,17 @@ pub fn print_line<S: Watcher, W: Write>(
 ) -> Result<u64, Refusal>
     requires { world.old.plan ≡ plan_of table.now }
     ensures all { IfOk result (λ count. (unmet : ℕ) × (count ≡ counted unmet)
-        × PrintsAll table.now world.old (replicate line.now.times line.now) world.new unmet
+        × PrintsAll reasons table.now world.old (replicate line.now.times line.now) world.new unmet
         (W.contents output.old) (W.contents output.new)) }
-    ensures part { OnErr result (PrintsPart table.now world.old
+    ensures part { OnErr result (PrintsPart reasons table.now world.old
         (replicate line.now.times line.now) (W.contents output.old) (W.contents output.new)) }
     ensures late { IfErr result IsLate }
     ensures plan { world.new.plan ≡ world.old.plan }
+    ensures seen { Sees S.saw watcher.old world.old world.new watcher.new }
 {
     let mut unmet: u64 = 0;
     for _ in 0..line.times {
-        if print_once(alloc, table, world, watcher, line, output)? {
+        if print_once(alloc, table, reasons, world, watcher, line, output)? {
             unmet = unmet.saturating_add(1);
         }
     }
@@ -74,6 +107,7 @@ pub fn print_line<S: Watcher, W: Write>(
 fn print_lines<S: Watcher, W: Write>(
     alloc: Global,
     table: &Table,
+    reasons: Reasons,
     world: &mut World<'_>,
     watcher: &mut S,
     lines: &[Line],
@@ -81,24 +115,53 @@ fn print_lines<S: Watcher, W: Write>(
 ) -> Result<u64, Refusal>
     requires { world.old.plan ≡ plan_of table.now }
     ensures all { IfOk result (λ count. (unmet : ℕ) × (count ≡ counted unmet)
-        × PrintsLines table.now world.old lines.now unmet
+        × PrintsLines reasons table.now world.old lines.now unmet
         (W.contents output.old) (W.contents output.new)) }
-    ensures part { OnErr result (PrintsSome table.now world.old lines.now
+    ensures part { OnErr result (PrintsSome reasons table.now world.old lines.now
         (W.contents output.old) (W.contents output.new)) }
     ensures late { IfErr result IsLate }
+    ensures seen { Sees S.saw watcher.old world.old world.new watcher.new }
 {
     let mut unmet: u64 = 0;
     for line in lines {
-        let count = print_line(alloc, table, world, watcher, line, output)?;
+        let count = print_line(alloc, table, reasons, world, watcher, line, output)?;
         unmet = unmet.saturating_add(count);
     }
     Ok(unmet)
+}
+
+/// The same; a capture notes exactly the frames of the run, event by event in order, each where it was.
+///
+/// # Errors
+///
+/// `Refusal::Memory` or `Refusal::Output`, which cut the run short: what was noted is that of the run until then.
+#[tactic(auto, using(crate::proofs::Noting::run_noted))]
+pub fn print_noted<F: Write + Drop, W: Write>(
+    alloc: Global,
+    table: &Table,
+    reasons: Reasons,
+    world: &mut World<'_>,
+    watch: &mut Watch<F>,
+    lines: &[Line],
+    output: &mut W,
+) -> Result<u64, Refusal>
+    requires { world.old.plan ≡ plan_of table.now }
+    ensures all { IfOk result (λ count. (unmet : ℕ) × (count ≡ counted unmet)
+        × PrintsLines reasons table.now world.old lines.now unmet
+        (W.contents output.old) (W.contents output.new)) }
+    ensures part { OnErr result (PrintsSome reasons table.now world.old lines.now
+        (W.contents output.old) (W.contents output.new)) }
+    ensures late { IfErr result IsLate }
+    ensures noted { NotesRun watch.old world.old world.new watch.new }
+{
+    print_lines(alloc, table, reasons, world, watch, lines, output)
 }
 
 /// The same; the frames of the world go into a capture that is open, which is then written to the end.
 fn print_captured<F: Write + Drop, W: Write>(
     alloc: Global,
     table: &Table,
+    reasons: Reasons,
     world: &mut World<'_>,
     recording: Recording<F>,
     lines: &[Line],
@@ -106,14 +169,14 @@ fn print_captured<F: Write + Drop, W: Write>(
 ) -> Result<u64, Refusal>
     requires { world.old.plan ≡ plan_of table.now }
     ensures all { IfOk result (λ count. (unmet : ℕ) × (count ≡ counted unmet)
-        × PrintsLines table.now world.old lines.now unmet
+        × PrintsLines reasons table.now world.old lines.now unmet
         (W.contents output.old) (W.contents output.new)) }
-    ensures part { OnErr result (PrintsSome table.now world.old lines.now
+    ensures part { OnErr result (PrintsSome reasons table.now world.old lines.now
         (W.contents output.old) (W.contents output.new)) }
     ensures late { IfErr result IsLate }
 {
     let mut watch = Watch::new(recording);
-    let ended = print_lines(alloc, table, world, &mut watch, lines, output);
+    let ended = print_noted(alloc, table, reasons, world, &mut watch, lines, output);
     finish_recording(ended, watch.into_capture())
 }
 
@@ -122,6 +185,7 @@ fn print_captured<F: Write + Drop, W: Write>(
 fn print_watched<H: AllocGlobal + Files, W: Write>(
     rt: &H,
     table: &Table,
+    reasons: Reasons,
     world: &mut World<'_>,
     lines: &[Line],
     file: Option<&str>,
@@ -129,17 +193,25 @@ fn print_watched<H: AllocGlobal + Files, W: Write>(
 ) -> Result<u64, Refusal>
     requires { world.old.plan ≡ plan_of table.now }
     ensures all { IfOk result (λ count. (unmet : ℕ) × (count ≡ counted unmet)
-        × PrintsLines table.now world.old lines.now unmet
+        × PrintsLines reasons table.now world.old lines.now unmet
         (W.contents output.old) (W.contents output.new)) }
-    ensures part { OnErr result (PrintsSome table.now world.old lines.now
+    ensures part { OnErr result (PrintsSome reasons table.now world.old lines.now
         (W.contents output.old) (W.contents output.new)) }
     ensures late { IfErr result IsLate }
 {
     let Some(file) = file else {
-        return print_lines(rt.alloc(), table, world, &mut Unwatched, lines, output);
+        return print_lines(
+            rt.alloc(),
+            table,
+            reasons,
+            world,
+            &mut Unwatched,
+            lines,
+            output,
+        );
     };
     let recording = open_segment(rt, file, table)?;
-    print_captured(rt.alloc(), table, world, recording, lines, output)
+    print_captured(rt.alloc(), table, reasons, world, recording, lines, output)
 }
 
 /// How a run ends in which so many times what was expected wasn't so.
@@ -158,17 +230,18 @@ fn run_lines<H: AllocGlobal + Files, W: Write>(
     rt: &H,
     file: Option<&str>,
     table: &Table,
+    reasons: Reasons,
     plan: &Plan,
     lines: &[Line],
     output: &mut W,
 ) -> Result<(), Refusal>
     requires accepted { compile_fault table.now ≡ None }
     requires plan { plan.now ≡ plan_of table.now }
-    ensures { RunsLines table.now lines.now (W.contents output.old) (W.contents output.new) result }
+    ensures { RunsLines reasons table.now lines.now (W.contents output.old) (W.contents output.new) result }
 {
     let identities = identities_of(rt.alloc(), table)?;
     let mut world = World::new(rt.alloc(), table, plan, identities.as_slice())?;
-    let unmet = print_watched(rt, table, &mut world, lines, file, output)?;
+    let unmet = print_watched(rt, table, reasons, &mut world, lines, file, output)?;
     end_of(unmet)
 }
 
@@ -177,17 +250,18 @@ fn run_script<H: AllocGlobal + Files, W: Write>(
     rt: &H,
     file: Option<&str>,
     table: &Table,
+    reasons: Reasons,
     plan: &Plan,
     script: &str,
     output: &mut W,
 ) -> Result<(), Refusal>
     requires accepted { compile_fault table.now ≡ None }
     requires plan { plan.now ≡ plan_of table.now }
-    ensures { RunsScript table.now script.now (W.contents output.old) (W.contents output.new)
+    ensures { RunsScript reasons table.now script.now (W.contents output.old) (W.contents output.new)
         result }
 {
     let lines = read_script(rt.alloc(), table, script)?;
-    run_lines(rt, file, table, plan, lines.as_slice(), output)
+    run_lines(rt, file, table, reasons, plan, lines.as_slice(), output)
 }
 
 /// The same of a table that was read, which may have no plan.
@@ -195,14 +269,15 @@ fn run_halves<H: AllocGlobal + Files, W: Write>(
     rt: &H,
     file: Option<&str>,
     table: &Table,
+    reasons: Reasons,
     script: &str,
     output: &mut W,
 ) -> Result<(), Refusal>
-    ensures { RunsHalves table.now script.now (W.contents output.old) (W.contents output.new)
+    ensures { RunsHalves reasons table.now script.now (W.contents output.old) (W.contents output.new)
         result }
 {
     let plan = compile(rt.alloc(), table)?;
-    run_script(rt, file, table, &plan, script, output)
+    run_script(rt, file, table, reasons, &plan, script, output)
 }
 
 /// Runs the script of a text over a segment of its table, and prints what it says.
@@ -210,32 +285,34 @@ fn run_text<H: AllocGlobal + Files, W: Write>(
     rt: &H,
     file: Option<&str>,
     text: &str,
+    reasons: Reasons,
     output: &mut W,
 ) -> Result<(), Refusal>
-    ensures { RunsText text.now (W.contents output.old) (W.contents output.new) result }
+    ensures { RunsText reasons text.now (W.contents output.old) (W.contents output.new) result }
 {
     let (head, script) = split_script(text);
     let table = read_table(rt.alloc(), head)?;
-    run_halves(rt, file, &table, script, output)
+    run_halves(rt, file, &table, reasons, script, output)
 }
 
 /// Runs the script that the input gives behind a link table and a line `%%`. Its slaves begin at power-on, with the
-/// identities that the table says. What a line says is printed before the next line runs. The frames that pass go into a
-/// capture, if a file is named, with an interface `master` and one for each slave. A refusal of the text is explained, where
-/// that is wanted.
+/// identities that the table says. What a line says is printed before the next line runs, and why it says `no`, where reasons
+/// are told. The frames that pass go into a capture, if a file is named, with an interface `master` and one for each slave. A
+/// refusal of the text is explained, where that is wanted.
 pub fn print_sim<H: AllocGlobal + Files, R: Read, W: Write>(
     rt: &H,
+    reasons: Reasons,
     file: Option<&str>,
     input: &mut R,
     output: &mut W,
     behind: &mut Explanation,
 ) -> Result<(), Refusal>
-    ensures runs { RunsSim (R.remaining input.old) (W.contents output.old) (W.contents output.new)
-        result }
+    ensures runs { RunsSim reasons (R.remaining input.old) (W.contents output.old)
+        (W.contents output.new) result }
     ensures explains { IsLeft behind.old behind.new }
 {
     let text = read_text(rt.alloc(), input)?;
-    let ended = run_text(rt, file, text.as_str(), output);
+    let ended = run_text(rt, file, text.as_str(), reasons, output);
     if let Err(refusal) = &ended {
         behind.explain_script(rt.alloc(), text.as_str(), refusal);
     }

@@ -7,14 +7,14 @@ use Rattle.ec_live.proofs.live.print_live_captured.Goals as goal
 
 pub returns-clause-all : goal.returns-clause-all
 returns-clause-all g c =
-    finished_ok (λ count. (unmet : ℕ) × (count ≡ counted unmet) × LivesOut c.args.table.now c.args.world.now (g.R.Read.remaining c.args.input.now) unmet (g.W.Write.contents c.args.output.now) (g.W.Write.contents c.print_live_lines-ended.new.output))
+    finished_ok (λ count. (unmet : ℕ) × (count ≡ counted unmet) × LivesOut c.args.reasons c.args.table.now c.args.world.now (g.R.Read.remaining c.args.input.now) unmet (g.W.Write.contents c.args.output.now) (g.W.Write.contents c.print_live_lines-ended.new.output))
     c.print_live_lines-ended.result c.finish_recording.result c.finish_recording.ensures c.print_live_lines-ended.ensures.all
 
 pub returns-clause-part : goal.returns-clause-part
 returns-clause-part g c =
-    finished_err (LivesPart c.args.table.now c.args.world.now (g.R.Read.remaining c.args.input.now) (g.W.Write.contents c.args.output.now) (g.W.Write.contents c.print_live_lines-ended.new.output))
+    finished_err (LivesPart c.args.reasons c.args.table.now c.args.world.now (g.R.Read.remaining c.args.input.now) (g.W.Write.contents c.args.output.now) (g.W.Write.contents c.print_live_lines-ended.new.output))
     c.print_live_lines-ended.result c.finish_recording.result c.finish_recording.ensures c.print_live_lines-ended.ensures.part
-    (counted_out_part c.print_live_lines-ended.result c.args.table.now c.args.world.now (g.R.Read.remaining c.args.input.now) (g.W.Write.contents c.args.output.now) (g.W.Write.contents c.print_live_lines-ended.new.output) c.print_live_lines-ended.ensures.all)
+    (counted_out_part c.print_live_lines-ended.result c.args.reasons c.args.table.now c.args.world.now (g.R.Read.remaining c.args.input.now) (g.W.Write.contents c.args.output.now) (g.W.Write.contents c.print_live_lines-ended.new.output) c.print_live_lines-ended.ensures.all)
 
 pub returns-clause-late : goal.returns-clause-late
 returns-clause-late g c = finished_late IsLiveLate c.print_live_lines-ended.result c.finish_recording.result c.finish_recording.ensures c.print_live_lines-ended.ensures.late tt

@@ -9,5 +9,5 @@ returns g c =
       shown = rw c.as_slice.ensures.value c.in_ok-identities.ensures;
       is = c.in_ok-world.ensures.is;
     } in
-    lives_ran c.end_of.result (g.R.Read.remaining c.args.input.now) (g.W.Write.contents c.args.output.now) (g.W.Write.contents c.print_live_watched.new.output) c.args.table.now c.in_ok-world.world c.in_ok-unmet.unmet
+    lives_ran c.end_of.result (g.R.Read.remaining c.args.input.now) (g.W.Write.contents c.args.output.now) (g.W.Write.contents c.print_live_watched.new.output) c.args.reasons c.args.table.now c.in_ok-world.world c.in_ok-unmet.unmet
     c.end_of.ensures begins c.in_ok-unmet.ensures.all

@@ -6,14 +6,14 @@ use Rattle.ec_sim.proofs.sim.print_captured.Goals as goal
 
 pub returns-clause-all : goal.returns-clause-all
 returns-clause-all g c =
-    finished_ok (λ count. (unmet : ℕ) × (count ≡ counted unmet) × PrintsLines c.args.table.now c.args.world.now c.args.lines.now unmet (g.W.Write.contents c.args.output.now) (g.W.Write.contents c.print_lines-ended.new.output))
-    c.print_lines-ended.result c.finish_recording.result c.finish_recording.ensures c.print_lines-ended.ensures.all
+    finished_ok (λ count. (unmet : ℕ) × (count ≡ counted unmet) × PrintsLines c.args.reasons c.args.table.now c.args.world.now c.args.lines.now unmet (g.W.Write.contents c.args.output.now) (g.W.Write.contents c.print_noted-ended.new.output))
+    c.print_noted-ended.result c.finish_recording.result c.finish_recording.ensures c.print_noted-ended.ensures.all
 
 pub returns-clause-part : goal.returns-clause-part
 returns-clause-part g c =
-    finished_err (PrintsSome c.args.table.now c.args.world.now c.args.lines.now (g.W.Write.contents c.args.output.now) (g.W.Write.contents c.print_lines-ended.new.output))
-    c.print_lines-ended.result c.finish_recording.result c.finish_recording.ensures c.print_lines-ended.ensures.part
-    (counted_some_lines c.print_lines-ended.result c.args.table.now c.args.world.now c.args.lines.now (g.W.Write.contents c.args.output.now) (g.W.Write.contents c.print_lines-ended.new.output) c.print_lines-ended.ensures.all)
+    finished_err (PrintsSome c.args.reasons c.args.table.now c.args.world.now c.args.lines.now (g.W.Write.contents c.args.output.now) (g.W.Write.contents c.print_noted-ended.new.output))
+    c.print_noted-ended.result c.finish_recording.result c.finish_recording.ensures c.print_noted-ended.ensures.part
+    (counted_some_lines c.print_noted-ended.result c.args.reasons c.args.table.now c.args.world.now c.args.lines.now (g.W.Write.contents c.args.output.now) (g.W.Write.contents c.print_noted-ended.new.output) c.print_noted-ended.ensures.all)
 
 pub returns-clause-late : goal.returns-clause-late
-returns-clause-late g c = finished_late IsLate c.print_lines-ended.result c.finish_recording.result c.finish_recording.ensures c.print_lines-ended.ensures.late tt
+returns-clause-late g c = finished_late IsLate c.print_noted-ended.result c.finish_recording.result c.finish_recording.ensures c.print_noted-ended.ensures.late tt

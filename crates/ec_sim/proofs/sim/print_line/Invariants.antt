@@ -1,5 +1,9 @@
+use Rattle.ec_script.specs.Seeing.{Sees}
 use Rattle.ec_sim.proofs.SimLemmas.{IsDone}
 use Rattle.ec_sim.proofs.sim.print_line.Given as goal
 
 abbrev pub invariant-loop : goal.invariant-loop
-invariant-loop g l = IsDone l.table l.initial.world l.line l.counter l.world l.unmet (g.W.Write.contents l.initial.output) (g.W.Write.contents l.output)
+invariant-loop g l = record {
+  said : IsDone l.reasons l.table l.initial.world l.line l.counter l.world l.unmet (g.W.Write.contents l.initial.output) (g.W.Write.contents l.output);
+  seen : Sees g.S.Watcher.saw l.initial.watcher l.initial.world l.world l.watcher;
+}
