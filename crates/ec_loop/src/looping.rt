@@ -182,8 +182,8 @@ fn print_cycles<W: Wire, O: Write>(
     Ok(())
 }
 
-/// What a variable is now; 0 where the master has no such variable.
-fn value_of(master: &Master<'_>, place: usize) -> u64
+/// What a variable of a master is now; 0 where it has no such variable.
+pub fn value_of(master: &Master<'_>, place: usize) -> u64
     ensures { result ≡ shown master.now place }
 {
     if place < master.variables() {
@@ -228,8 +228,12 @@ fn write_inputs(
     Ok(())
 }
 
-/// The lines of the input variables.
-fn input_lines(alloc: Global, table: &Table, master: &Master<'_>) -> Result<String, AllocError>
+/// The lines of the input variables of a master.
+///
+/// # Errors
+///
+/// `AllocError` where memory ran out.
+pub fn input_lines(alloc: Global, table: &Table, master: &Master<'_>) -> Result<String, AllocError>
     ensures { IfOk result (λ text. string_bytes text ≡ inputs_text (shown master.now) table.now) }
 {
     let mut text = String::new(alloc);

@@ -13,7 +13,7 @@ use ec_wire::{
     Echo, LoopWire, Served, SocketFault, Sockets, UdpWire, Wire, run_cycle, serve_segment,
 };
 use std::alloc::Global;
-use std::net::{Ipv4Addr, Net, SocketAddr, UdpSocket};
+use std::net::{Ipv4Addr, Net, SocketAddr, SocketAddrV4, UdpSocket};
 use std::test::Fail;
 
 /// A broadcast that reads two bytes.
@@ -213,6 +213,33 @@ fn waits_a_second(rt: HostRuntime) -> Result<(), Fail> {
     let mut wire = UdpWire::bind_idle(&rt, 0, 1)?;
     let mut buffer = [0; 16];
     assert_eq!(rt; (wire.recv(&mut buffer), wire.failures()), (0, 1));
+    Ok(())
+}
+
+// A master that is connected by an address waits as long as it is told to; it sends and receives as one on a port of its own
+// machine does, and a patience of nothing is no socket.
+#[test]
+fn masters_with_a_patience(rt: HostRuntime) -> Result<(), Fail> {
+    let segment = UdpWire::bind(&rt, 0)?;
+    let peer = SocketAddrV4::new(Ipv4Addr::LOCALHOST, segment.port());
+    let mut pair = Pair {
+        segment,
+        master: UdpWire::connect_patient(&rt, peer, 20)?,
+        stranger: UdpSocket::bind(&rt, here(0))?,
+        buffer: [0; 1600],
+    };
+    let rows = [
+        (Call::MasterReceives, (0, 1, 0)),
+        (Call::MasterSends(7), (0, 1, 0)),
+        (Call::SegmentReceives, (7, 1, 0)),
+        (Call::StrangerSends(5), (0, 1, 0)),
+        (Call::SegmentSends(3), (0, 1, 0)),
+        (Call::MasterReceives, (3, 1, 0)),
+    ];
+    for (call, seen) in rows {
+        assert_eq!(rt; make_call(&mut pair, call), seen, "{call:?}");
+    }
+    assert!(rt; UdpWire::connect_patient(&rt, peer, 0).is_err());
     Ok(())
 }
 

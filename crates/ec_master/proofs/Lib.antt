@@ -1,0 +1,4 @@
+mod Holding
+mod Mastering
+mod SayingLemmas
+mod Shown

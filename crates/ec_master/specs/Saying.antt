@@ -1,0 +1,98 @@
+-- What the lines of an input do with a master over a wire, one after another, and what they print (this project's profile).
+use Rattle.std.specs.Prelude.{◌≡◌, ℕ, ◌+◌, List, [], ◌∷◌, ◌++◌, replicate, take, if◌then◌else◌, Option, None, Some}
+use Rattle.std.specs.Io.KnownBytes.{Appends}
+use Rattle.ec_table.specs.Contents.{Contents}
+use Rattle.ec_wire.specs.Wires.{WireState}
+use Rattle.ec_lines.specs.Taking.{TakesLine, TakesLines, is_text_line, without_end}
+use Rattle.ec_console.specs.declared.refusal.Refusal.{Refusal}
+use Rattle.ec_console.specs.declared.refusal.Refusal.TheVariants.{Memory, Output, Input}
+use Rattle.ec_console.specs.Printing.{AppendsPart}
+use Rattle.ec_master.specs.declared.answer.Answer.{Answer}
+use Rattle.ec_master.specs.declared.order.Task.{Task}
+use Rattle.ec_master.specs.State.{ControlState}
+use Rattle.ec_master.specs.Controls.{Does}
+use Rattle.ec_master.specs.Orders.{bad_task, task_of}
+use Rattle.ec_master.specs.Texts.{answer_text, is_unmet}
+
+-- ---- lines
+
+-- what the bytes of line n ask for, which stand with their end; bytes that are no text, or too many, are a bad line
+abbrev pub task_on : Contents → ℕ → List ℕ → Option Task
+task_on t n line = if is_text_line line then task_of t n (without_end line) else Some (bad_task n)
+
+-- a task as often as it is done
+abbrev pub repeated : Option Task → List Task
+repeated None = []
+repeated (Some task) = replicate task.times task
+
+-- what is done of lines of which the first has number n
+unfoldable pub done_from : Contents → ℕ → List (List ℕ) → List Task
+done_from t n [] = []
+done_from t n (line ∷ lines) = repeated (task_on t n line) ++ done_from t (n + 1) lines
+
+-- lines are taken, and then nothing is left
+pub record TakesToEnd (input : Option (List ℕ)) (lines : List (List ℕ)) : Type 0 where
+  pub mid : Option (List ℕ)
+  pub left : Option (List ℕ)
+  pub taken : TakesLines input mid lines
+  pub end : TakesLine mid left []
+
+-- ---- tasks
+
+-- a master and its wire
+pub record Moment : Type 0 where
+  pub control : ControlState
+  pub wire : WireState
+
+-- 1 where what is expected isn't so
+abbrev pub unmet_of : Answer → ℕ
+unmet_of told = if is_unmet told then 1 else 0
+
+-- a task is done once; its text is that of the master then
+pub record SaysTask (t : Contents) (w : Moment) (task : Task) (new : Moment) (printed : List ℕ) (unmet : ℕ) : Type 0 where
+  pub told : Answer
+  pub does : Does task.order w.control w.wire new.control new.wire told
+  pub text : printed ≡ answer_text t task.number new.control told
+  pub count : unmet ≡ unmet_of told
+
+-- What tasks print that are done once each, and how often what they expect isn't so. Each is done where the one before left the
+-- master and the wire.
+abbrev pub Says : Contents → Moment → List Task → Moment → List ℕ → ℕ → Type 0
+Says t w [] new printed unmet = (new ≡ w) × (printed ≡ []) × (unmet ≡ 0)
+Says t w (task ∷ tasks) new printed unmet = (mid : Moment) × (text : List ℕ) × (more : List ℕ) × (one : ℕ) × (rest : ℕ)
+    × SaysTask t w task mid text one × Says t mid tasks new more rest × (printed ≡ text ++ more) × (unmet ≡ one + rest)
+
+-- these tasks are done and printed
+pub record PrintsAll (t : Contents) (w : Moment) (tasks : List Task) (last : Moment) (unmet : ℕ) (old new : Option (List ℕ)) : Type 0 where
+  pub printed : List ℕ
+  pub says : Says t w tasks last printed unmet
+  pub appends : Appends old new printed
+
+-- a first part is printed of what some first of these tasks say
+pub record PrintsPart (t : Contents) (w : Moment) (tasks : List Task) (old new : Option (List ℕ)) : Type 0 where
+  pub count : ℕ
+  pub last : Moment
+  pub printed : List ℕ
+  pub unmet : ℕ
+  pub says : Says t w (take count tasks) last printed unmet
+  pub appends : AppendsPart old new printed
+
+-- Lines are taken from an input up to its end, and done one after another as they come; each is printed before the next is taken.
+pub record ObeysAll (t : Contents) (w : Moment) (last : Moment) (unmet : ℕ) (input old new : Option (List ℕ)) : Type 0 where
+  pub lines : List (List ℕ)
+  pub taken : TakesToEnd input lines
+  pub printed : PrintsAll t w (done_from t 1 lines) last unmet old new
+
+-- The same until memory ran out, a read was refused or a write was.
+pub record ObeysSome (t : Contents) (w : Moment) (input old new : Option (List ℕ)) : Type 0 where
+  pub lines : List (List ℕ)
+  pub left : Option (List ℕ)
+  pub taken : TakesLines input left lines
+  pub printed : PrintsPart t w (done_from t 1 lines) old new
+
+-- what can end it so
+abbrev pub IsLate : Refusal → Type 0
+IsLate Memory = Unit {0}
+IsLate Output = Unit {0}
+IsLate Input = Unit {0}
+IsLate _ = ⊥

@@ -1,0 +1,26 @@
+-- What is printed of an order (this project's profile): reports, start-ups and values as a script prints them.
+use Rattle.std.specs.Prelude.{ℕ, List, [], ◌++◌, Bool, true, false, codes}
+use Rattle.std.specs.Fmt.{decimal}
+use Rattle.ec_table.specs.Contents.{Contents}
+use Rattle.ec_start.specs.Running.{outcome_of}
+use Rattle.ec_text.specs.PlanText.{newline}
+use Rattle.ec_script.specs.Texts.{outcome_text, report_if}
+use Rattle.ec_loop.specs.Looping.{inputs_text, shown}
+use Rattle.ec_master.specs.declared.answer.Answer.{Answer}
+use Rattle.ec_master.specs.declared.answer.Answer.TheVariants.{Nothing, No, Unmet, Bad, Ended, Report, Fault, Values}
+use Rattle.ec_master.specs.State.{ControlState}
+
+-- what is printed where line n has this to tell
+abbrev pub answer_text : Contents → ℕ → ControlState → Answer → List ℕ
+answer_text t n s Nothing = []
+answer_text t n s No = codes "no " ++ decimal n ++ newline
+answer_text t n s Unmet = codes "unmet " ++ decimal n ++ newline
+answer_text t n s Bad = codes "bad " ++ decimal n ++ newline
+answer_text t n s Ended = outcome_text (outcome_of s.start.phase)
+answer_text t n s Report = report_if t.version s.master.plan.parts s.report
+answer_text t n s Fault = codes "fault 37 Wire" ++ newline
+answer_text t n s Values = inputs_text (shown s.master) t
+
+abbrev pub is_unmet : Answer → Bool
+is_unmet Unmet = true
+is_unmet _ = false

@@ -1,0 +1,103 @@
+//! What is printed of an order.
+ghost use Rattle.std.specs.Prelude.{◌≡◌, ◌++◌, IfOk, OnOk, string_bytes};
+ghost use Rattle.ec_script.specs.Texts.{outcome_text, report_if};
+ghost use Rattle.ec_master.specs.Texts.{answer_text, is_unmet};
+
+use crate::control::Control;
+use ec_loop::input_lines;
+use ec_script::write_report;
+use ec_start::StartError;
+use ec_table::Table;
+use std::alloc::{AllocError, Global};
+use std::fmt::Write as _;
+
+/// What there is to tell of an order.
+#[derive(Clone, Copy, Debug, PartialEq, Eq, Drop)]
+pub enum Answer {
+    /// Nothing.
+    Nothing,
+    /// It can't be done, and nothing was.
+    No,
+    /// What was expected isn't so.
+    Unmet,
+    /// The line is no order.
+    Bad,
+    /// How the start-up ended.
+    Ended,
+    /// The last report.
+    Report,
+    /// A fault of the wire ended the cycle, and nothing of it was taken.
+    Fault,
+    /// The input variables.
+    Values,
+}
+
+impl Answer {
+    /// Whether what was expected isn't so.
+    pub fn is_unmet(self) -> bool
+        ensures { result ≡ is_unmet self }
+    {
+        matches!(self, Answer::Unmet)
+    }
+}
+
+/// Adds the line of how a start-up ended, if it has.
+fn write_outcome(
+    text: &mut String,
+    outcome: Option<Result<(), StartError>>,
+) -> Result<(), AllocError>
+    ensures { OnOk result (string_bytes text.new ≡ string_bytes text.old ++ outcome_text outcome) }
+{
+    match outcome {
+        None => Ok(()),
+        Some(Ok(())) => text.push_str("ready\n"),
+        Some(Err(error)) => {
+            let number = error.number();
+            writeln!(text, "failed {number}")
+        }
+    }
+}
+
+/// Adds the line of the last report, if there is one.
+fn write_last(
+    alloc: Global,
+    text: &mut String,
+    table: &Table,
+    control: &Control<'_>,
+) -> Result<(), AllocError>
+    ensures { OnOk result (string_bytes text.new
+        ≡ string_bytes text.old ++ report_if table.now.version control.now.master.plan.parts control.now.report) }
+{
+    match control.report() {
+        None => Ok(()),
+        Some(report) => write_report(alloc, text, table.version(), control.plan().parts(), report),
+    }
+}
+
+/// What is printed where the line of a number has this to tell.
+///
+/// # Errors
+///
+/// `AllocError` where memory ran out.
+pub fn answer_text(
+    alloc: Global,
+    table: &Table,
+    number: usize,
+    control: &Control<'_>,
+    answer: Answer,
+) -> Result<String, AllocError>
+    ensures { IfOk result (λ text. string_bytes text ≡ answer_text table.now number control.now answer) }
+{
+    let mut text = String::new(alloc);
+    match answer {
+        Answer::Nothing => {}
+        Answer::No => writeln!(text, "no {number}")?,
+        Answer::Unmet => writeln!(text, "unmet {number}")?,
+        Answer::Bad => writeln!(text, "bad {number}")?,
+        Answer::Ended => write_outcome(&mut text, control.outcome())?,
+        Answer::Report => write_last(alloc, &mut text, table, control)?,
+        Answer::Fault => text.push_str("fault 37 Wire\n")?,
+        Answer::Values => return input_lines(alloc, table, control.master()),
+    }
+    Ok(text)
+}

@@ -1,0 +1,246 @@
+//! `ecat master`: a link table on the input, and behind it lines that move its master over a socket or a card.
+ghost use Rattle.std.specs.Prelude.{◌≡◌, [], IfOk, None, Result};
+ghost use Rattle.ec_link.specs.Faults.{compile_fault};
+ghost use Rattle.ec_link.specs.Plan.{plan_of};
+ghost use Rattle.ec_tap.specs.Taps.{Tells};
+ghost use Rattle.ec_captured.specs.Capturing.{EndsCaptured, Finishes};
+ghost use Rattle.ec_console.specs.declared.refusal.Refusal.{Refusal as RefusalValue};
+ghost use Rattle.ec_console.specs.Explaining.{IsLeft};
+ghost use Rattle.ec_master.specs.Mastering.{RunsMaster, RunsOver, RunsText};
+ghost use Rattle.ec_master.specs.Stages.{RunsPlan, RunsTable};
+
+use crate::control::Control;
+use crate::saying::print_lines;
+use ec_captured::{Capture, close_capture, open_capture};
+use ec_card::{CardWire, Patience, Sender};
+use ec_console::{Explanation, Refusal};
+use ec_lines::take_text;
+use ec_link::{Plan, compile};
+use ec_sim::end_of;
+use ec_table::{Table, read_table};
+use ec_tap::{CapturedWire, Side};
+use ec_wire::{SocketFault, UdpWire, Wire};
+use std::alloc::Global;
+use std::fs::Files;
+use std::io::{Read, Write};
+use std::net::{Net, SocketAddrV4};
+use std::time::{Clock, Duration};
+
+/// Where a master's frames go, and how long it waits for an answer, in milliseconds.
+#[derive(Clone, Copy, Debug, PartialEq, Eq, Drop)]
+pub struct Way<'a> {
+    /// The address and the port of a segment, as `127.0.0.1:34980`.
+    pub to: &'a str,
+    /// The descriptor of a card's raw socket, in the place of the address.
+    pub descriptor: Option<u16>,
+    pub patience: u16,
+}
+
+/// Does the lines of an input with a new master of a table's plan over a wire, and prints what they tell.
+///
+/// # Errors
+///
+/// Those of [`print_lines`], and `Refusal::Unmet` where what lines expect isn't so.
+pub fn run_master<W: Wire, R: Read, O: Write>(
+    alloc: Global,
+    table: &Table,
+    plan: &Plan,
+    wire: &mut W,
+    input: &mut R,
+    output: &mut O,
+) -> Result<(), Refusal>
+    requires accepted { compile_fault table.now ≡ None }
+    requires plan { plan.now ≡ plan_of table.now }
+    ensures { RunsOver table.now (W.state wire.old) (W.state wire.new) (R.remaining input.old)
+        (O.contents output.old) (O.contents output.new) result }
+{
+    let mut control = Control::new(alloc, table, plan)?;
+    let unmet = print_lines(alloc, table, &mut control, wire, input, output)?;
+    end_of(unmet)
+}
+
+/// The same over a wire that has carried nothing yet, and notes what it carries in a capture, if there is one.
+fn run_tapped<H: AllocGlobal + Files + Clock, W: Wire + Drop, R: Read, O: Write>(
+    rt: &H,
+    table: &Table,
+    plan: &Plan,
+    wire: W,
+    capture: &mut Capture<H::File>,
+    input: &mut R,
+    output: &mut O,
+) -> Result<(), Refusal>
+    requires accepted { compile_fault table.now ≡ None }
+    requires plan { plan.now ≡ plan_of table.now }
+    requires sent { Tells (W.state wire).sent [] }
+    requires received { Tells (W.state wire).received [] }
+    ensures { (last : W) × RunsOver table.now (W.state wire) (W.state last) (R.remaining input.old)
+        (O.contents output.old) (O.contents output.new) result }
+{
+    match capture.take() {
+        None => {
+            let mut wire = wire;
+            run_master(rt.alloc(), table, plan, &mut wire, input, output)
+        }
+        Some(recording) => {
+            let mut tapped = CapturedWire::new(wire, recording, Side::Master, rt);
+            let ended = run_master(rt.alloc(), table, plan, &mut tapped, input, output);
+            let (_, recording) = tapped.into_parts();
+            *capture = Some(recording);
+            ended
+        }
+    }
+}
+
+/// A socket that is connected with the segment at an address.
+fn connect<R: Net>(rt: &R, way: Way<'_>) -> Result<UdpWire, SocketFault>
+    ensures { IfOk result (λ w. w.failed ≡ 0) }
+{
+    match way.to.parse::<SocketAddrV4>() {
+        Ok(peer) => UdpWire::connect_patient(rt, peer, way.patience),
+        Err(_) => Err(SocketFault),
+    }
+}
+
+/// How long a card waits for a frame.
+fn patience_of(way: Way<'_>) -> Patience {
+    Patience::For(Duration::from_millis(u64::from(way.patience)))
+}
+
+/// Does the lines of an input with a new master of a table's plan.
+fn run_plan<H: AllocGlobal + Net + Files + Clock, R: Read, O: Write>(
+    rt: &H,
+    table: &Table,
+    plan: &Plan,
+    way: Way<'_>,
+    capture: &mut Capture<H::File>,
+    input: &mut R,
+    output: &mut O,
+) -> Result<(), Refusal>
+    requires accepted { compile_fault table.now ≡ None }
+    requires plan { plan.now ≡ plan_of table.now }
+    ensures { RunsPlan table.now (R.remaining input.old) (O.contents output.old) (O.contents output.new) result }
+{
+    match way.descriptor {
+        None => {
+            let wire = connect(rt, way)?;
+            run_tapped(rt, table, plan, wire, capture, input, output)
+        }
+        Some(descriptor) => {
+            let own = Sender::Master;
+            let wire = CardWire::of_descriptor(i32::from(descriptor), own, patience_of(way))?;
+            run_tapped(rt, table, plan, wire, capture, input, output)
+        }
+    }
+}
+
+/// The same of a table that was read, which may have no plan.
+fn run_table<H: AllocGlobal + Net + Files + Clock, R: Read, O: Write>(
+    rt: &H,
+    table: &Table,
+    way: Way<'_>,
+    capture: &mut Capture<H::File>,
+    input: &mut R,
+    output: &mut O,
+) -> Result<(), Refusal>
+    ensures { RunsTable table.now (R.remaining input.old) (O.contents output.old) (O.contents output.new) result }
+{
+    let plan = compile(rt.alloc(), table)?;
+    run_plan(rt, table, &plan, way, capture, input, output)
+}
+
+/// The same of the table that a text states.
+fn run_text<H: AllocGlobal + Net + Files + Clock, R: Read, O: Write>(
+    rt: &H,
+    text: &str,
+    way: Way<'_>,
+    capture: &mut Capture<H::File>,
+    input: &mut R,
+    output: &mut O,
+) -> Result<(), Refusal>
+    ensures { RunsText text.now (R.remaining input.old) (O.contents output.old) (O.contents output.new) result }
+{
+    let table = read_table(rt.alloc(), text)?;
+    run_table(rt, &table, way, capture, input, output)
+}
+
+/// The same of the table that an input gives up to a line `%%`. A refusal of it is explained, where that is wanted.
+fn run_input<H: AllocGlobal + Net + Files + Clock, R: Read, O: Write>(
+    rt: &H,
+    way: Way<'_>,
+    capture: &mut Capture<H::File>,
+    input: &mut R,
+    output: &mut O,
+    behind: &mut Explanation,
+) -> Result<(), Refusal>
+    ensures runs { RunsMaster (R.remaining input.old) (O.contents output.old) (O.contents output.new) result }
+    ensures explains { IsLeft behind.old behind.new }
+{
+    let text = take_text(rt.alloc(), input)?;
+    let ended = run_text(rt, text.as_str(), way, capture, input, output);
+    if let Err(refusal) = &ended {
+        behind.explain(rt.alloc(), text.as_str(), refusal);
+    }
+    ended
+}
+
+/// Reads a link table from the input up to a line `%%`, and then line after line as they come; each moves the table's master
+/// over a socket or a card, and what it tells is printed before the next is read.
+///
+/// # Errors
+///
+/// The refusal of the table; `Refusal::Socket` where there is no such socket, also where `to` is no address with a port; what
+/// cuts the lines short, `Refusal::Memory`, `Refusal::Input` or `Refusal::Output`; and `Refusal::Unmet` where what lines expect
+/// isn't so.
+pub fn print_master<H: AllocGlobal + Net + Files + Clock, R: Read, O: Write>(
+    rt: &H,
+    way: Way<'_>,
+    input: &mut R,
+    output: &mut O,
+    behind: &mut Explanation,
+) -> Result<(), Refusal>
+    ensures runs { RunsMaster (R.remaining input.old) (O.contents output.old) (O.contents output.new) result }
+    ensures explains { IsLeft behind.old behind.new }
+{
+    run_input(rt, way, &mut None, input, output, behind)
+}
+
+/// The same with a capture that is open, which is then written to the end.
+fn run_captured<H: AllocGlobal + Net + Files + Clock, R: Read, O: Write>(
+    rt: &H,
+    way: Way<'_>,
+    capture: Capture<H::File>,
+    input: &mut R,
+    output: &mut O,
+    behind: &mut Explanation,
+) -> Result<(), Refusal>
+    ensures runs { (ended : Result Unit RefusalValue) × RunsMaster (R.remaining input.old) (O.contents output.old)
+        (O.contents output.new) ended × Finishes ended result }
+    ensures explains { IsLeft behind.old behind.new }
+{
+    let mut capture = capture;
+    let ended = run_input(rt, way, &mut capture, input, output, behind);
+    close_capture(ended, capture)
+}
+
+/// The same with a capture: what the master sends and receives goes into a file, at the interface `master`.
+///
+/// # Errors
+///
+/// Those of [`print_master`]; `Refusal::Output` too where the file couldn't be opened, before anything is read or sent, or
+/// couldn't be written to the end.
+#[tactic(auto, using(ec_captured::proofs::CaptureLemmas::captured_refused, ec_captured::proofs::CaptureLemmas::captured_end))]
+pub fn capture_master<H: AllocGlobal + Net + Files + Clock, R: Read, O: Write>(
+    rt: &H,
+    way: Way<'_>,
+    file: &str,
+    input: &mut R,
+    output: &mut O,
+    behind: &mut Explanation,
+) -> Result<(), Refusal>
+    ensures runs { EndsCaptured (λ ended. RunsMaster (R.remaining input.old) (O.contents output.old)
+        (O.contents output.new) ended) (output.new ≡ output.old) result }
+    ensures explains { IsLeft behind.old behind.new }
+{
+    let capture = open_capture(rt, file, "master")?;
+    run_captured(rt, way, capture, input, output, behind)
+}

@@ -1,0 +1,215 @@
+//! A master over a wire.
+ghost use Rattle.std.specs.Prelude.{◌≡◌, IfOk, MatchOption, None, OnErr, OnOk, Some};
+ghost use Rattle.ec_link.specs.Faults.{compile_fault};
+ghost use Rattle.ec_link.specs.Plan.{plan_of};
+ghost use Rattle.ec_start.specs.Running.{outcome_of};
+ghost use Rattle.ec_script.specs.Expecting.{is_ready};
+ghost use Rattle.ec_wire.specs.Wires.{WireState};
+ghost use Rattle.ec_master.specs.declared.order.Order.TheVariants.{Cycle, Set};
+ghost use Rattle.ec_master.specs.declared.answer.Answer.TheVariants as answer;
+ghost use Rattle.ec_master.specs.Controls.{Does, Starts, answer_if, is_up, last_report, master_behind, new_control, with_number_used};
+ghost use Rattle.ec_master.specs.Expecting.{is_met};
+
+use crate::answer::Answer;
+use crate::meeting::is_met;
+use crate::order::Order;
+use ec_cycle::{Master, Report};
+use ec_link::Plan;
+use ec_start::{StartError, Startup};
+use ec_table::Table;
+use ec_wire::{RunError, Wire, bring_up_wire, run_cycle};
+use std::alloc::{AllocError, Global};
+use std::marker::Model;
+
+/// The master of a plan over a wire: its last start-up, the master of its cycles, and the last report.
+#[derive(Drop)]
+pub struct Control<'p> {
+    plan: &'p Plan,
+    startup: Startup,
+    master: Master<'p>,
+    report: Option<Report>,
+}
+
+impl<'p> Model for Control<'p> {
+    ghost use Rattle.ec_master.specs.State.{ControlState};
+    ghost use Rattle.ec_master.specs.Held.{IsHeld};
+
+    ghost Value = { ControlState };
+
+    ghost view = { λ c. record { start = c.startup; master = c.master; report = c.report } };
+
+    ghost invariant = { λ c. IsHeld c.plan.now c.startup c.master };
+}
+
+/// Whether a start-up ended Ready.
+fn is_ready(startup: &Startup) -> bool
+    ensures { result ≡ is_ready (outcome_of startup.now.phase) }
+{
+    match startup.outcome() {
+        Some(Ok(())) => true,
+        _ => false,
+    }
+}
+
+/// What there is to tell where something is expected.
+fn answer_if(is_met: bool) -> Answer
+    ensures { result ≡ answer_if is_met }
+{
+    if is_met {
+        Answer::Nothing
+    } else {
+        Answer::Unmet
+    }
+}
+
+/// A start-up is over: where it ended Ready, the master can begin cycles.
+fn make_ready(startup: &Startup, master: &mut Master<'_>)
+    requires { startup.now.plan ≡ master.old.plan.slaves }
+    ensures { master.new ≡ master_behind startup.now master.old }
+{
+    if is_ready(startup) {
+        master.ready(startup);
+    }
+}
+
+impl<'p> Control<'p> {
+    /// A master of the plan of a table that has brought no slave up yet. All variables are 0.
+    ///
+    /// # Errors
+    ///
+    /// `AllocError` where there is no memory.
+    pub fn new(alloc: Global, table: &Table, plan: &'p Plan) -> Result<Control<'p>, AllocError>
+        requires accepted { compile_fault table.now ≡ None }
+        requires plan { plan.now ≡ plan_of table.now }
+        ensures { IfOk result (λ c. c ≡ new_control plan.now) }
+    {
+        let _version = table.version();
+        let startup = Startup::new(alloc, plan, 0)?;
+        Ok(Control {
+            plan,
+            startup,
+            master: Master::new(alloc, plan)?,
+            report: None,
+        })
+    }
+
+    /// Its plan.
+    pub fn plan(&self) -> &Plan
+        ensures { result.now ≡ self.now.master.plan }
+    {
+        self.plan
+    }
+
+    /// Its master.
+    pub fn master(&self) -> &Master<'p>
+        ensures { result.now ≡ self.now.master }
+    {
+        &self.master
+    }
+
+    /// The report on the last cycle that had one.
+    pub fn report(&self) -> Option<&Report>
+        ensures { MatchOption result (self.now.report ≡ None) (λ report. self.now.report ≡ Some report.now) }
+    {
+        self.report.as_ref()
+    }
+
+    /// How the last start-up ended, if there was one.
+    pub fn outcome(&self) -> Option<Result<(), StartError>>
+        ensures { result ≡ outcome_of self.now.start.phase }
+    {
+        self.startup.outcome()
+    }
+
+    /// Whether the last start-up ended Ready.
+    pub fn is_up(&self) -> bool
+        ensures { result ≡ is_up self.now }
+    {
+        is_ready(&self.startup)
+    }
+
+    /// A start-up over a wire, from the beginning.
+    fn start_up<W: Wire>(&mut self, alloc: Global, wire: &mut W) -> Result<(), AllocError>
+        ensures starts { OnOk result (Starts self.old (W.state wire.old) self.new (W.state wire.new)) }
+        ensures same { OnErr result (self.new ≡ self.old) }
+        ensures unused { OnErr result (wire.new ≡ wire.old) }
+    {
+        let number = self.startup.next_number().max(self.master.next_number());
+        let mut startup = Startup::new(alloc, self.plan, number)?;
+        bring_up_wire(&mut startup, wire);
+        make_ready(&startup, &mut self.master);
+        self.startup = startup;
+        Ok(())
+    }
+
+    /// A cycle over a wire, if one can be run.
+    fn cycle<W: Wire>(&mut self, wire: &mut W) -> Answer
+        ensures does { Does Cycle self.old (W.state wire.old) self.new (W.state wire.new) result }
+        ensures untaken { result ≡ answer.Fault → self.new ≡ with_number_used self.old }
+    {
+        if !self.is_up() {
+            return Answer::No;
+        }
+        match run_cycle(&mut self.master, wire) {
+            Ok(report) => {
+                self.report = Some(report);
+                Answer::Report
+            }
+            Err(RunError::Wire) => Answer::Fault,
+            Err(RunError::Refused(_)) => Answer::No,
+        }
+    }
+
+    /// A variable becomes a value, if it is an output that holds it.
+    fn set(&mut self, variable: usize, value: u64) -> Answer
+        ensures { (w : WireState) → Does (Set variable value) self.old w self.new w result }
+    {
+        if !self.master.can_set(variable, value) {
+            return Answer::No;
+        }
+        self.master.set(variable, value);
+        Answer::Nothing
+    }
+
+    /// What there is to tell of the last report.
+    fn last_report(&self) -> Answer
+        ensures { result ≡ last_report self.now.report }
+    {
+        match self.report {
+            None => Answer::No,
+            Some(_) => Answer::Report,
+        }
+    }
+
+    /// Does an order once over a wire, and answers what there is to tell of it. It takes memory for a start-up alone. After a
+    /// fault of the wire nothing has changed but the number of the next cycle.
+    ///
+    /// # Errors
+    ///
+    /// `AllocError` where a start-up found none; nothing is done then, and nothing sent.
+    pub fn obey<W: Wire>(
+        &mut self,
+        alloc: Global,
+        wire: &mut W,
+        order: Order,
+    ) -> Result<Answer, AllocError>
+        ensures does { IfOk result (Does order self.old (W.state wire.old) self.new (W.state wire.new)) }
+        ensures untaken { IfOk result (λ told. told ≡ answer.Fault → self.new ≡ with_number_used self.old) }
+        ensures same { OnErr result (self.new ≡ self.old) }
+        ensures unused { OnErr result (wire.new ≡ wire.old) }
+    {
+        match order {
+            Order::Bad => Ok(Answer::Bad),
+            Order::Ready => {
+                self.start_up(alloc, wire)?;
+                Ok(Answer::Ended)
+            }
+            Order::Cycle => Ok(self.cycle(wire)),
+            Order::Set(variable, value) => Ok(self.set(variable, value)),
+            Order::Never(_) => Ok(Answer::No),
+            Order::Expect(expected) => Ok(answer_if(is_met(self, expected))),
+            Order::Show => Ok(Answer::Values),
+            Order::Report => Ok(self.last_report()),
+        }
+    }
+}

@@ -1,0 +1,15 @@
+//! `ecat master`: the master of a link table over a wire, which lines move as they come.
+#![tactic(auto)]
+
+mod answer;
+mod command;
+mod control;
+mod meeting;
+mod order;
+mod saying;
+
+pub use crate::answer::{Answer, answer_text};
+pub use crate::command::{Way, capture_master, print_master, run_master};
+pub use crate::control::Control;
+pub use crate::order::{Order, Task, read_task};
+pub use crate::saying::{print_lines, print_task};

@@ -1,0 +1,73 @@
+//! Whether what a line expects of a master is so.
+ghost use Rattle.std.specs.Prelude.{◌≡◌};
+ghost use Rattle.ec_script.specs.Expecting.{all_units, is_failed, is_unit, of_report};
+ghost use Rattle.ec_master.specs.Expecting.{is_met};
+
+use crate::control::Control;
+use ec_cycle::Report;
+use ec_loop::value_of;
+use ec_script::Expectation;
+use ec_start::StartError;
+
+/// Whether every sync unit of a report was taken, or each was not.
+fn all_units(taken: bool, report: &Report) -> bool
+    ensures { result ≡ all_units taken report.now }
+{
+    report.units_taken().iter().all(|unit| *unit == taken)
+}
+
+/// Whether a sync unit of a report was taken, or was not.
+fn is_unit(number: u64, taken: bool, report: &Report) -> bool
+    ensures { result ≡ is_unit number taken report.now }
+{
+    report
+        .units()
+        .iter()
+        .zip(report.units_taken())
+        .any(|(unit, was)| u64::from(*unit) == number && *was == taken)
+}
+
+/// Whether every sync unit of the last report was taken, or each was not.
+fn are_units(control: &Control<'_>, taken: bool) -> bool
+    ensures { result ≡ of_report (all_units taken) control.now.report }
+{
+    match control.report() {
+        Some(report) => all_units(taken, report),
+        None => false,
+    }
+}
+
+/// Whether a sync unit of the last report was taken, or was not.
+fn has_unit(control: &Control<'_>, number: u64, taken: bool) -> bool
+    ensures { result ≡ of_report (is_unit number taken) control.now.report }
+{
+    match control.report() {
+        Some(report) => is_unit(number, taken, report),
+        None => false,
+    }
+}
+
+/// Whether a start-up has failed, by the refusal of a number if one is wanted.
+fn is_failed(number: Option<u64>, outcome: Option<Result<(), StartError>>) -> bool
+    ensures { result ≡ is_failed number outcome }
+{
+    match (outcome, number) {
+        (Some(Err(error)), Some(number)) => u64::from(error.number()) == number,
+        (Some(Err(_)), None) => true,
+        _ => false,
+    }
+}
+
+/// Whether what a line expects of a master is so.
+pub(crate) fn is_met(control: &Control<'_>, expected: Expectation) -> bool
+    ensures { result ≡ is_met expected control.now }
+{
+    match expected {
+        Expectation::Is(variable, value) => value_of(control.master(), variable) == value,
+        Expectation::Never(_) | Expectation::State(_, _, _) => false,
+        Expectation::Units(taken) => are_units(control, taken),
+        Expectation::Unit(number, taken) => has_unit(control, number, taken),
+        Expectation::Ready => control.is_up(),
+        Expectation::Failed(number) => is_failed(number, control.outcome()),
+    }
+}

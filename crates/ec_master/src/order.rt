@@ -1,0 +1,181 @@
+//! What a line asks of a master.
+ghost use Rattle.std.specs.Prelude.{◌≡◌, IfOk, slice_get};
+ghost use Rattle.ec_script.specs.declared.read.Reading.TheVariants.{Bad};
+ghost use Rattle.ec_script.specs.Scripts.{reading_of};
+ghost use Rattle.ec_master.specs.Held.{IsShown};
+ghost use Rattle.ec_master.specs.Orders.{is_input, is_seen, order_of, task_for, task_of, task_reported, times_reported, times_shown};
+
+use ec_script::{Act, Expectation, Line, Reading, read_line};
+use ec_table::{Direction, Table};
+use ec_world::Event;
+use std::alloc::{AllocError, Global};
+
+/// What a line asks of a master.
+#[derive(Clone, Copy, Debug, PartialEq, Eq, Drop)]
+pub enum Order {
+    /// Nothing that a master over a wire could do.
+    Bad,
+    /// A start-up, from the beginning.
+    Ready,
+    /// A cycle.
+    Cycle,
+    /// A variable of the outputs, by its place, becomes a value.
+    Set(usize, u64),
+    /// The variable at a place becomes a value that its bits don't hold: that is never done.
+    Never(usize),
+    /// Nothing is done: something is expected.
+    Expect(Expectation),
+    /// The values of the input variables.
+    Show,
+    /// The last report.
+    Report,
+}
+
+/// What a line asks for that isn't empty.
+#[derive(Clone, Copy, Debug, PartialEq, Eq, Drop)]
+pub struct Task {
+    /// The line's number, counted from 1 behind the line `%%`; empty lines count too.
+    pub number: usize,
+    /// How often it is done, one time after another; 1 without `repeat`.
+    pub times: u32,
+    pub order: Order,
+}
+
+/// Whether the variable at a place is an input.
+fn is_input(table: &Table, place: usize) -> bool
+    ensures { result ≡ is_input (slice_get table.now.variables place) }
+{
+    match table.variables().get(place) {
+        Some(row) => match row.direction {
+            Direction::Out => false,
+            Direction::In => true,
+        },
+        None => false,
+    }
+}
+
+/// Whether a master over a wire sees what is expected.
+fn is_seen(table: &Table, expected: Expectation) -> bool
+    ensures { result ≡ is_seen table.now.variables expected }
+{
+    match expected {
+        Expectation::Is(variable, _) | Expectation::Never(variable) => is_input(table, variable),
+        Expectation::State(_, _, _) => false,
+        Expectation::Units(_)
+        | Expectation::Unit(_, _)
+        | Expectation::Ready
+        | Expectation::Failed(_) => true,
+    }
+}
+
+/// What an act of a script is for a master.
+fn order_of(table: &Table, act: Act) -> Order
+    ensures { result ≡ order_of table.now.variables act }
+{
+    match act {
+        Act::One(Event::Set(variable, value)) => Order::Set(variable, value),
+        Act::Never(variable) => Order::Never(variable),
+        Act::Expect(expected) if is_seen(table, expected) => Order::Expect(expected),
+        Act::Ready => Order::Ready,
+        Act::Cycle => Order::Cycle,
+        Act::Show => Order::Show,
+        Act::One(_) | Act::Input(_, _) | Act::Expect(_) => Order::Bad,
+    }
+}
+
+/// How often a line that is read shows the inputs.
+fn times_shown(reading: Reading) -> Option<u32>
+    ensures { result ≡ times_shown reading }
+{
+    match reading {
+        Reading::Line(
+            Line {
+                number: _,
+                times,
+                act: Act::Show,
+            },
+        ) => Some(times),
+        _ => None,
+    }
+}
+
+/// A text with the first `report` in it as `show`, if it has one.
+fn with_show(alloc: Global, text: &str) -> Result<Option<String>, AllocError>
+    ensures { IfOk result (λ shown. IsShown text.now shown) }
+{
+    let Some((before, behind)) = text.split_once("report") else {
+        return Ok(None);
+    };
+    let mut shown = String::new(alloc);
+    shown.push_str(before)?;
+    shown.push_str("show")?;
+    shown.push_str(behind)?;
+    Ok(Some(shown))
+}
+
+/// How often a line that stands for nothing in a script asks for the last report.
+fn times_reported(
+    alloc: Global,
+    table: &Table,
+    number: usize,
+    text: &str,
+) -> Result<Option<u32>, AllocError>
+    requires { reading_of table.now number text.now ≡ Bad }
+    ensures { IfOk result (λ times. times ≡ times_reported table.now number text.now) }
+{
+    match with_show(alloc, text)? {
+        Some(shown) => Ok(times_shown(read_line(alloc, table, number, shown.as_str())?)),
+        None => Ok(None),
+    }
+}
+
+/// The task of a line of a number; what is no order isn't repeated.
+fn task_for(number: usize, times: u32, order: Order) -> Task
+    ensures { result ≡ task_for number times order }
+{
+    let times = match order {
+        Order::Bad => 1,
+        _ => times,
+    };
+    Task {
+        number,
+        times,
+        order,
+    }
+}
+
+/// The task of a line that stands for nothing in a script, by how often it asks for the last report.
+fn task_reported(number: usize, times: Option<u32>) -> Task
+    ensures { result ≡ task_reported number times }
+{
+    match times {
+        Some(times) => task_for(number, times, Order::Report),
+        None => task_for(number, 1, Order::Bad),
+    }
+}
+
+/// What the text of the line with a number asks for; its names are the table's. Nothing where it is empty without its comment.
+///
+/// # Errors
+///
+/// `AllocError` where memory ran out.
+pub fn read_task(
+    alloc: Global,
+    table: &Table,
+    number: usize,
+    text: &str,
+) -> Result<Option<Task>, AllocError>
+    ensures { IfOk result (λ task. task ≡ task_of table.now number text.now) }
+{
+    match read_line(alloc, table, number, text)? {
+        Reading::Empty => Ok(None),
+        Reading::Bad => {
+            let times = times_reported(alloc, table, number, text)?;
+            Ok(Some(task_reported(number, times)))
+        }
+        Reading::Line(line) => {
+            let order = order_of(table, line.act);
+            Ok(Some(task_for(number, line.times, order)))
+        }
+    }
+}

@@ -1,0 +1,140 @@
+//! The lines of an input, each done and printed as it comes.
+ghost use Rattle.std.specs.Prelude.{◌≡◌, ◌∷◌, [], ℕ, IfErr, IfOk, OnErr, Option, if◌then◌else◌, replicate};
+ghost use Rattle.ec_sim.specs.Simulating.{counted};
+ghost use Rattle.ec_master.specs.Held.{IsNext};
+ghost use Rattle.ec_master.specs.Saying.{IsLate, ObeysAll, ObeysSome, PrintsAll, PrintsPart, repeated};
+
+use crate::answer::answer_text;
+use crate::control::Control;
+use crate::order::{Order, Task, read_task};
+use ec_console::{Refusal, print_text};
+use ec_lines::{Taken, take_line};
+use ec_table::Table;
+use ec_wire::Wire;
+use std::alloc::Global;
+use std::io::{Read, Write};
+
+/// Does a task once, prints what there is to tell, and answers whether what it expects isn't so.
+fn print_once<W: Wire, O: Write>(
+    alloc: Global,
+    table: &Table,
+    control: &mut Control<'_>,
+    wire: &mut W,
+    task: Task,
+    output: &mut O,
+) -> Result<bool, Refusal>
+    ensures all { IfOk result (λ unmet. PrintsAll table.now (record { control = control.old; wire = W.state wire.old }) (task ∷ [])
+        (record { control = control.new; wire = W.state wire.new }) (if unmet then 1 else 0)
+        (O.contents output.old) (O.contents output.new)) }
+    ensures part { OnErr result (PrintsPart table.now (record { control = control.old; wire = W.state wire.old }) (task ∷ [])
+        (O.contents output.old) (O.contents output.new)) }
+    ensures late { IfErr result IsLate }
+{
+    let answer = control.obey(alloc, wire, task.order)?;
+    let text = answer_text(alloc, table, task.number, control, answer)?;
+    print_text(text.as_bytes(), output)?;
+    Ok(answer.is_unmet())
+}
+
+/// Does a task as often as it is to be done, prints each time what there is to tell before it is done again, and answers how
+/// often what it expects isn't so.
+pub fn print_task<W: Wire, O: Write>(
+    alloc: Global,
+    table: &Table,
+    control: &mut Control<'_>,
+    wire: &mut W,
+    task: Task,
+    output: &mut O,
+) -> Result<u64, Refusal>
+    ensures all { IfOk result (λ count. (unmet : ℕ) × (count ≡ counted unmet)
+        × PrintsAll table.now (record { control = control.old; wire = W.state wire.old }) (replicate task.times task)
+        (record { control = control.new; wire = W.state wire.new }) unmet (O.contents output.old) (O.contents output.new)) }
+    ensures part { OnErr result (PrintsPart table.now (record { control = control.old; wire = W.state wire.old })
+        (replicate task.times task) (O.contents output.old) (O.contents output.new)) }
+    ensures late { IfErr result IsLate }
+{
+    let mut unmet: u64 = 0;
+    for _ in 0..task.times {
+        if print_once(alloc, table, control, wire, task, output)? {
+            unmet = unmet.saturating_add(1);
+        }
+    }
+    Ok(unmet)
+}
+
+/// What the next line of an input asks for, which has a number; or none where the input has ended. An empty line asks for nothing.
+fn next_task<R: Read>(
+    alloc: Global,
+    table: &Table,
+    number: usize,
+    input: &mut R,
+) -> Result<Option<Option<Task>>, Refusal>
+    ensures next { IfOk result (IsNext table.now number (R.remaining input.old) (R.remaining input.new)) }
+    ensures late { IfErr result IsLate }
+{
+    match take_line(alloc, input)? {
+        Taken::End => Ok(None),
+        Taken::Text(line) => Ok(Some(read_task(alloc, table, number, line.as_str())?)),
+        Taken::NoText => Ok(Some(Some(Task {
+            number,
+            times: 1,
+            order: Order::Bad,
+        }))),
+    }
+}
+
+/// Does what a line asks for, if it asks for something.
+fn print_line<W: Wire, O: Write>(
+    alloc: Global,
+    table: &Table,
+    control: &mut Control<'_>,
+    wire: &mut W,
+    task: Option<Task>,
+    output: &mut O,
+) -> Result<u64, Refusal>
+    ensures all { IfOk result (λ count. (unmet : ℕ) × (count ≡ counted unmet)
+        × PrintsAll table.now (record { control = control.old; wire = W.state wire.old }) (repeated task)
+        (record { control = control.new; wire = W.state wire.new }) unmet (O.contents output.old) (O.contents output.new)) }
+    ensures part { OnErr result (PrintsPart table.now (record { control = control.old; wire = W.state wire.old })
+        (repeated task) (O.contents output.old) (O.contents output.new)) }
+    ensures late { IfErr result IsLate }
+{
+    match task {
+        Some(task) => print_task(alloc, table, control, wire, task, output),
+        None => Ok(0),
+    }
+}
+
+/// Takes line after line from an input up to its end, does what each asks for over a wire, and prints what there is to tell
+/// before the next line is taken. It answers how often what lines expect isn't so.
+///
+/// # Errors
+///
+/// `Refusal::Memory` where memory ran out, `Refusal::Input` where a line couldn't be read, and `Refusal::Output` where the
+/// output couldn't be written.
+pub fn print_lines<W: Wire, R: Read, O: Write>(
+    alloc: Global,
+    table: &Table,
+    control: &mut Control<'_>,
+    wire: &mut W,
+    input: &mut R,
+    output: &mut O,
+) -> Result<u64, Refusal>
+    ensures all { IfOk result (λ count. (unmet : ℕ) × (count ≡ counted unmet)
+        × ObeysAll table.now (record { control = control.old; wire = W.state wire.old })
+        (record { control = control.new; wire = W.state wire.new }) unmet (R.remaining input.old)
+        (O.contents output.old) (O.contents output.new)) }
+    ensures part { OnErr result (ObeysSome table.now (record { control = control.old; wire = W.state wire.old })
+        (R.remaining input.old) (O.contents output.old) (O.contents output.new)) }
+    ensures late { IfErr result IsLate }
+{
+    let mut unmet: u64 = 0;
+    for number in 1..usize::MAX {
+        let Some(task) = next_task(alloc, table, number, input)? else {
+            return Ok(unmet);
+        };
+        let count = print_line(alloc, table, control, wire, task, output)?;
+        unmet = unmet.saturating_add(count);
+    }
+    Err(Refusal::Input)
+}

@@ -1,0 +1,282 @@
+//! What lines print, and how often what they expect isn't so.
+ghost use Rattle.std.specs.Prelude.{◌≡◌, None};
+ghost use Rattle.ec_link.specs.Faults.{compile_fault};
+ghost use Rattle.ec_link.specs.Plan.{plan_of};
+
+use ec_console::Refusal;
+use ec_link::{Plan, compile};
+use ec_master::{Control, print_lines};
+use ec_rise::slaves_of;
+use ec_table::{Table, read_table};
+use ec_wire::MemoryWire;
+use std::alloc::Global;
+use std::process::Abort;
+use std::test::Fail;
+
+const THREE_SLAVES: &str = "\
+[[type]]
+name = \"do4\"
+vendor = 0xABCD
+product = 1
+revision = 1
+out_start = 0x1100
+in_start = 0
+rxpdo = [ { index = 0x1600, entries = [[0x7000, 1, 4]] } ]
+[[type]]
+name = \"di4\"
+vendor = 0xABCD
+product = 2
+revision = 1
+out_start = 0
+in_start = 0x1100
+txpdo = [ { index = 0x1A00, entries = [[0x6000, 1, 4]] } ]
+[[type]]
+name = \"mix\"
+vendor = 0xABCD
+product = 3
+revision = 1
+mailbox = [0x1000, 128, 0x1080, 128]
+out_start = 0x1100
+in_start = 0x1400
+rxpdo = [ { index = 0x1600, entries = [[0x7010, 1, 12]] } ]
+txpdo = [ { index = 0x1A00, entries = [[0x6010, 1, 16]] } ]
+[[slave]]
+name = \"s0\"
+type = \"do4\"
+[[slave]]
+name = \"s1\"
+type = \"di4\"
+[[slave]]
+name = \"s2\"
+type = \"mix\"
+[[variable]]
+name = \"a\"
+dir = \"out\"
+bits = 4
+[[variable]]
+name = \"b\"
+dir = \"out\"
+bits = 12
+[[variable]]
+name = \"c\"
+dir = \"in\"
+bits = 4
+[[variable]]
+name = \"d\"
+dir = \"in\"
+bits = 16
+[[link]]
+var = \"a\"
+slave = \"s0\"
+index = 0x7000
+sub = 1
+[[link]]
+var = \"b\"
+slave = \"s2\"
+index = 0x7010
+sub = 1
+[[link]]
+var = \"c\"
+slave = \"s1\"
+index = 0x6000
+sub = 1
+[[link]]
+var = \"d\"
+slave = \"s2\"
+index = 0x6010
+sub = 1";
+
+/// So many calls of a wire never fail.
+const NEVER: u64 = u64::MAX;
+
+/// How often what lines expect isn't so, or how they are cut short, and what they print.
+type Ended = (Result<u64, Refusal>, Vec<u8>);
+
+/// Runs lines over a wire to the slaves of a plan.
+fn run_plan(
+    alloc: Global,
+    table: &Table,
+    plan: &Plan,
+    lines: &[u8],
+    fails_at: u64,
+) -> Result<Ended, Fail>
+    requires accepted { compile_fault table.now ≡ None }
+    requires plan { plan.now ≡ plan_of table.now }
+{
+    let mut control = Control::new(alloc, table, plan)?;
+    let mut wire = MemoryWire::new(alloc, slaves_of(alloc, table, plan)?, 1000, fails_at)?;
+    let mut input = lines;
+    let mut output = Vec::new(alloc);
+    let ended = print_lines(
+        alloc,
+        table,
+        &mut control,
+        &mut wire,
+        &mut input,
+        &mut output,
+    );
+    Ok((ended, output))
+}
+
+/// The same of a table that was read.
+fn run_bytes(alloc: Global, table: &Table, lines: &[u8], fails_at: u64) -> Result<Ended, Fail> {
+    let plan = compile(alloc, table)?;
+    run_plan(alloc, table, &plan, lines, fails_at)
+}
+
+/// The same of the three slaves.
+fn run(alloc: Global, lines: &str, fails_at: u64) -> Result<Ended, Fail> {
+    let table = read_table(alloc, THREE_SLAVES)?;
+    run_bytes(alloc, &table, lines.as_bytes(), fails_at)
+}
+
+/// Lines, the call of the wire that fails, how often what they expect isn't so, and what they print.
+type Run<'a> = (&'a str, u64, u64, &'a str);
+
+/// Runs lines, and compares what they print.
+fn expect_run<H: AllocGlobal + Abort>(rt: &H, run_of: Run) -> Result<(), Fail> {
+    let (lines, fails_at, unmet, printed) = run_of;
+    let (ended, output) = run(rt.alloc(), lines, fails_at)?;
+    assert_eq!(rt;
+        (ended, output.as_slice()),
+        (Ok(unmet), printed.as_bytes()),
+        "{lines}"
+    );
+    Ok(())
+}
+
+// The start-up of the three slaves has 75 frames, each sent in one call of the wire and received in the next, and a cycle has
+// one: so the first cycle begins with call 150, and a start-up behind it with call 152.
+const RUNS: [Run; 18] = [
+    // What a cycle sends comes back as input in the next one.
+    (
+        "ready\nset b 0x123\ncycle\ncycle\nexpect d 0x123\nshow\n",
+        NEVER,
+        0,
+        "ready\nreport taken missing 0 counters 6 al 0008\nreport taken missing 0 counters 6 al 0008\nc 0\nd 291\n",
+    ),
+    // Before a start-up nothing is run, and there is no report; what is set is kept for later.
+    (
+        "cycle\nreport\nshow\nset b 2\nready\nrepeat 2 cycle\nshow",
+        NEVER,
+        0,
+        "no 1\nno 2\nc 0\nd 0\nready\nreport taken missing 0 counters 6 al 0008\nreport taken missing 0 counters 6 al 0008\nc 0\nd 2\n",
+    ),
+    // The last report again, as often as is asked, also with a comment.
+    (
+        "ready\ncycle\nreport\nrepeat 2 report # report\n",
+        NEVER,
+        0,
+        "ready\nreport taken missing 0 counters 6 al 0008\nreport taken missing 0 counters 6 al 0008\nreport taken missing 0 counters 6 al 0008\nreport taken missing 0 counters 6 al 0008\n",
+    ),
+    // Empty lines and comments are counted; no line behind a bad one is left out.
+    (
+        "\n# nothing\nbegin\r\nnonsense\nreport report\nready\n",
+        NEVER,
+        0,
+        "bad 3\nbad 4\nbad 5\nready\n",
+    ),
+    // What a script may ask of a segment can't be asked of a master.
+    (
+        "start\nclose\npass 0\nlose 0\nreturn 0\nserve s0\nfault 0\nreset 0\nput 0 0 1\nget 0 0\nin c 1\nrepeat 3 begin\n",
+        NEVER,
+        0,
+        "bad 1\nbad 2\nbad 3\nbad 4\nbad 5\nbad 6\nbad 7\nbad 8\nbad 9\nbad 10\nbad 11\nbad 12\n",
+    ),
+    // Outputs that slaves publish and their AL states aren't seen over a wire.
+    (
+        "expect a 0\nexpect state 0 OP\nexpect state s1 OP 0000\nexpect a -9",
+        NEVER,
+        0,
+        "bad 1\nbad 2\nbad 3\nbad 4\n",
+    ),
+    // A variable of the inputs can't be set, nor a value that a variable doesn't hold.
+    (
+        "set c 1\nset a 16\nset a -9\nset a -8\nset a 0xF\nset e 1\n",
+        NEVER,
+        0,
+        "no 1\nno 2\nno 3\nbad 6\n",
+    ),
+    // Expectations of inputs, reports and start-ups.
+    (
+        "expect ready\nexpect failed\nexpect taken\nexpect d 0\nexpect d 1\nexpect d -40000\n",
+        NEVER,
+        5,
+        "unmet 1\nunmet 2\nunmet 3\nunmet 5\nunmet 6\n",
+    ),
+    (
+        "ready\ncycle\nexpect ready\nexpect failed\nexpect taken\nexpect untaken\nexpect taken 0\nexpect taken 1\nexpect untaken 0\n",
+        NEVER,
+        4,
+        "ready\nreport taken missing 0 counters 6 al 0008\nunmet 4\nunmet 6\nunmet 8\nunmet 9\n",
+    ),
+    (
+        "repeat 3 expect ready\n",
+        NEVER,
+        3,
+        "unmet 1\nunmet 1\nunmet 1\n",
+    ),
+    // A start-up that fails, and then the next one.
+    (
+        "ready\nexpect failed 32\nexpect failed 26\ncycle\nready\ncycle\n",
+        0,
+        1,
+        "failed 32\nunmet 3\nno 4\nready\nreport taken missing 0 counters 6 al 0008\n",
+    ),
+    // A fault of the wire in a cycle: nothing is taken, the last report stays, and the next cycle goes on.
+    (
+        "ready\ncycle\nset b 7\ncycle\nshow\nreport\nexpect taken\nrepeat 2 cycle\nshow\n",
+        152,
+        0,
+        "ready\nreport taken missing 0 counters 6 al 0008\nfault 37 Wire\nc 0\nd 0\nreport taken missing 0 counters 6 al 0008\nreport taken missing 0 counters 6 al 0008\nreport taken missing 0 counters 6 al 0008\nc 0\nd 7\n",
+    ),
+    (
+        "ready\nset b 7\ncycle\ncycle\nshow\n",
+        153,
+        0,
+        "ready\nreport taken missing 0 counters 6 al 0008\nfault 37 Wire\nc 0\nd 0\n",
+    ),
+    (
+        "ready\ncycle\nreport\n",
+        150,
+        0,
+        "ready\nfault 37 Wire\nno 3\n",
+    ),
+    // Slaves that are up are brought up again; their inputs are 0 then, until outputs have come to them.
+    (
+        "ready\nset b 9\nrepeat 2 cycle\nexpect d 9\nready\ncycle\nexpect d 0\ncycle\nexpect d 9\n",
+        NEVER,
+        0,
+        "ready\nreport taken missing 0 counters 6 al 0008\nreport taken missing 0 counters 6 al 0008\nready\nreport taken missing 0 counters 6 al 0008\nreport taken missing 0 counters 6 al 0008\n",
+    ),
+    // Where that fails, no cycle is run until they are.
+    (
+        "ready\ncycle\nready\ncycle\nexpect ready\nready\ncycle\n",
+        152,
+        1,
+        "ready\nreport taken missing 0 counters 6 al 0008\nfailed 32\nno 4\nunmet 5\nready\nreport taken missing 0 counters 6 al 0008\n",
+    ),
+    // No line, and a line without an end.
+    ("", NEVER, 0, ""),
+    ("report", NEVER, 0, "no 1\n"),
+];
+
+#[test]
+fn lines_move_a_master(rt: HostRuntime) -> Result<(), Fail> {
+    for one in RUNS {
+        expect_run(&rt, one)?;
+    }
+    Ok(())
+}
+
+// A line that is no text is a bad one.
+#[test]
+fn bytes_that_are_no_text(rt: HostRuntime) -> Result<(), Fail> {
+    let table = read_table(rt.alloc(), THREE_SLAVES)?;
+    let (ended, output) = run_bytes(rt.alloc(), &table, b"show # \xff\nshow\n", NEVER)?;
+    assert_eq!(rt;
+        (ended, output.as_slice()),
+        (Ok(0), b"bad 1\nc 0\nd 0\n".as_slice())
+    );
+    Ok(())
+}
