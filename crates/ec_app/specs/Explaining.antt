@@ -1,6 +1,6 @@
 -- Which commands explain a refusal, and what may then be told behind its line (this project's profile).
 use Rattle.std.specs.Prelude.{◌≡◌, ℕ, List, [], Bool, true, false}
-use Rattle.ec_args.specs.Requests.{Command, PassOf, PlanOf, DecodeOf, EncodeOf, SimOf, LoopOf, SegmentOf}
+use Rattle.ec_args.specs.Requests.{Command, PassOf, PlanOf, DecodeOf, EncodeOf, SimOf, LoopOf, SegmentOf, MasterOf}
 
 -- whether a command is to explain a refusal
 abbrev pub is_explained : Command → Bool
@@ -11,6 +11,7 @@ is_explained EncodeOf = false
 is_explained (SimOf live capture explained) = explained
 is_explained (LoopOf cycles capture explained) = explained
 is_explained (SegmentOf frames port descriptor idle capture explained) = explained
+is_explained (MasterOf to descriptor patience capture explained) = explained
 
 -- what may be told behind the line of a refusal: nothing, where it isn't to be explained; else the text is free
 abbrev pub MayTell : Bool → List ℕ → Type 0

@@ -8,7 +8,7 @@ use Rattle.std.specs.declared.io.ErrorKind.TheVariants.{OutOfMemory}
 use Rattle.std.specs.declared.string.String.{String}
 use Rattle.std.specs.declared.vec.IntoIter.{IntoIter}
 use Rattle.std.specs.String.{string_bytes}
-use Rattle.ec_args.specs.Requests.{Command, PassOf, PlanOf, DecodeOf, EncodeOf, SimOf, LoopOf, SegmentOf, Reads, command_of}
+use Rattle.ec_args.specs.Requests.{Command, PassOf, PlanOf, DecodeOf, EncodeOf, SimOf, LoopOf, SegmentOf, MasterOf, Reads, command_of}
 use Rattle.ec_args.specs.declared.request.Notice.{Notice}
 use Rattle.ec_args.specs.declared.request.Notice.TheVariants as notice
 use Rattle.ec_args.specs.declared.request.Request.{Request}
@@ -22,10 +22,12 @@ use Rattle.ec_console.specs.Printing.{IsTold, Shows}
 use Rattle.ec_console.specs.Refusals.{line_of, status_of}
 use Rattle.ec_captured.specs.Capturing.{EndsWith}
 use Rattle.ec_live.specs.Living.{RunsLive}
+use Rattle.ec_master.specs.Mastering.{RunsMaster}
 use Rattle.ec_segment.specs.Serving.{RunsCardSegment, RunsSegment}
 use Rattle.ec_translate.specs.Remarking.{RunsDecodeWith}
 use Rattle.ec_translate.specs.Translating.{RunsEncode}
 use Rattle.ec_sim.specs.Simulating.{RunsSim}
+use Rattle.ec_why.specs.Reasons.{reasons_of}
 
 -- what a stream holds before and after, where it is known
 pub record Stream : Type 0 where
@@ -50,10 +52,14 @@ abbrev pub RunsSegmentAt : (descriptor : Option ℕ) → (frames port : ℕ) →
 RunsSegmentAt descriptor frames port file given output told ended =
     EndsWith file (RunsSegmentOn descriptor frames port given output told) (IsStill output told) ended
 
--- `ecat sim`, whose lines are run as a script, or as they come
-abbrev pub RunsLines : (live : Bool) → (given : Option (List ℕ)) → (output : Stream) → Result Unit Refusal → Type 0
-RunsLines false given output ended = RunsSim given output.old output.new ended
-RunsLines true given output ended = RunsLive given output.old output.new ended
+-- `ecat sim`, whose lines are run as a script, or as they come, and which tells why they say `no`, where it explains
+abbrev pub RunsLines : (live explained : Bool) → (given : Option (List ℕ)) → (output : Stream) → Result Unit Refusal → Type 0
+RunsLines false explained given output ended = RunsSim (reasons_of explained) given output.old output.new ended
+RunsLines true explained given output ended = RunsLive (reasons_of explained) given output.old output.new ended
+
+-- `ecat master`, with a capture if its file is named
+abbrev pub RunsMasterWith : (file : Option (List ℕ)) → (given : Option (List ℕ)) → (output : Stream) → Result Unit Refusal → Type 0
+RunsMasterWith file given output ended = EndsWith file (λ ended. RunsMaster given output.old output.new ended) (IsQuiet output) ended
 
 -- what a command does with the output, and what is told of it while it runs, by what the input gives, where that is known
 abbrev pub Runs : Command → (given : Option (List ℕ)) → (output told : Stream) → Result Unit Refusal → Type 0
@@ -61,11 +67,12 @@ Runs (PassOf slaves text) given output told ended = RunsPass slaves text output.
 Runs (PlanOf header explained) given output told ended = RunsPlan (form_of header explained) given output.old output.new ended × IsQuiet told
 Runs (DecodeOf table explained) given output told ended = RunsDecodeWith table explained given output.old output.new ended × IsQuiet told
 Runs EncodeOf given output told ended = RunsEncode given output.old output.new ended × IsQuiet told
-Runs (SimOf live capture explained) given output told ended = RunsLines live given output ended × IsQuiet told
+Runs (SimOf live capture explained) given output told ended = RunsLines live explained given output ended × IsQuiet told
 Runs (LoopOf cycles capture explained) given output told ended =
     EndsWith capture (λ ended. RunsLoop cycles given output.old output.new told.old told.new ended) (IsStill output told) ended
 Runs (SegmentOf frames port descriptor idle capture explained) given output told ended =
     RunsSegmentAt descriptor frames port capture given output told ended
+Runs (MasterOf to descriptor patience capture explained) given output told ended = RunsMasterWith capture given output ended × IsQuiet told
 
 -- what a command leaves alone: one that reads no input leaves it as it is, and one with no simulated application steps
 -- none
@@ -77,6 +84,7 @@ LeavesAlone EncodeOf input_old input_new app_old app_new = app_new ≡ app_old
 LeavesAlone (SimOf live capture explained) input_old input_new app_old app_new = app_new ≡ app_old
 LeavesAlone (LoopOf cycles capture explained) input_old input_new app_old app_new = Unit {0}
 LeavesAlone (SegmentOf frames port descriptor idle capture explained) input_old input_new app_old app_new = Unit {0}
+LeavesAlone (MasterOf to descriptor patience capture explained) input_old input_new app_old app_new = app_new ≡ app_old
 
 -- the exit status of a run, and what is told of it: a refusal's line
 abbrev pub Tells : Stream → ℕ → Result Unit Refusal → Type 0
@@ -111,6 +119,7 @@ LeavesInput EncodeOf old new = Unit {0}
 LeavesInput (SimOf live capture explained) old new = Unit {0}
 LeavesInput (LoopOf cycles capture explained) old new = Unit {0}
 LeavesInput (SegmentOf frames port descriptor idle capture explained) old new = Unit {0}
+LeavesInput (MasterOf to descriptor patience capture explained) old new = Unit {0}
 
 -- what a run leaves of it: all, too, where there is something to tell in place of a command
 abbrev pub EndsUnread : {R : Type 0} → Result Request Notice → (old new : R) → Type 0

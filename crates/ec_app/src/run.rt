@@ -5,7 +5,7 @@ ghost use Rattle.ec_args.specs.declared.request.Notice.{Notice as NoticeValue};
 ghost use Rattle.ec_args.specs.declared.request.Request.{Request as RequestValue};
 ghost use Rattle.ec_console.specs.Explaining.{IsLeft};
 ghost use Rattle.ec_app.specs.Explaining.{is_explained};
-ghost use Rattle.ec_app.specs.Running.{Ends, EndsAlone, LeavesAlone, Runs, RunsSegmentAt, Tells, TellsWith};
+ghost use Rattle.ec_app.specs.Running.{Ends, EndsAlone, LeavesAlone, Runs, RunsMasterWith, RunsSegmentAt, Tells, TellsWith};
 
 use crate::pass::print_pass;
 use crate::plan::{Form, print_plan};
@@ -13,9 +13,11 @@ use ec_args::{Notice, Request, read_args};
 use ec_console::{Explanation, Refusal, print_text, tell_and_end, tell_explained, tell_text};
 use ec_live::print_live;
 use ec_loop::{capture_loop, print_loop};
+use ec_master::{Way, capture_master, print_master};
 use ec_segment::{capture_card_segment, capture_segment, print_card_segment, print_segment};
 use ec_sim::print_sim;
 use ec_translate::{print_encode, print_payloads};
+use ec_why::Reasons;
 use ec_wire::App;
 use std::alloc::Global;
 use std::convert::AsStr;
@@ -67,6 +69,25 @@ fn run_segment<H: AllocGlobal + Net + Files + Clock, R: Read, W: Write, F: Write
     }
 }
 
+/// Runs `ecat master`, with a capture or without.
+fn run_master<H: AllocGlobal + Net + Files + Clock, R: Read, W: Write>(
+    rt: &H,
+    way: Way<'_>,
+    capture: Option<&str>,
+    input: &mut R,
+    output: &mut W,
+    behind: &mut Explanation,
+) -> Result<(), Refusal>
+    ensures runs { RunsMasterWith (option_map (λ file. file.now) capture.entry) (R.remaining input.old)
+        (record { old = W.contents output.old; new = W.contents output.new }) result }
+    ensures explains { IsLeft behind.old behind.new }
+{
+    match capture {
+        None => print_master(rt, way, input, output, behind),
+        Some(file) => capture_master(rt, way, file, input, output, behind),
+    }
+}
+
 /// Runs one command. The application and sockets are for the commands that simulate slaves or serve
 /// them; the fault stream is for what is told of a command while it runs.
 fn run_request<H: AllocGlobal + Net + Files + Clock, R: Read, W: Write, F: Write>(
@@ -102,13 +123,13 @@ fn run_request<H: AllocGlobal + Net + Files + Clock, R: Read, W: Write, F: Write
         Request::Sim {
             live: false,
             capture,
-            ..
-        } => print_sim(rt, capture, input, output, behind),
+            explained,
+        } => print_sim(rt, Reasons::of(explained), capture, input, output, behind),
         Request::Sim {
             live: true,
             capture,
-            ..
-        } => print_live(rt, capture, input, output, behind),
+            explained,
+        } => print_live(rt, Reasons::of(explained), capture, input, output, behind),
         Request::Loop {
             cycles,
             capture: None,
@@ -136,6 +157,20 @@ fn run_request<H: AllocGlobal + Net + Files + Clock, R: Read, W: Write, F: Write
                 rt, frames, place, capture, input, output, faults, app, behind,
             )
         }
+        Request::Master {
+            to,
+            descriptor,
+            patience,
+            capture,
+            ..
+        } => {
+            let way = Way {
+                to,
+                descriptor,
+                patience,
+            };
+            run_master(rt, way, capture, input, output, behind)
+        }
     }
 }
 
@@ -148,7 +183,8 @@ fn is_explained(request: &Request<'_>) -> bool
         Request::Plan { explained, .. }
         | Request::Sim { explained, .. }
         | Request::Loop { explained, .. }
-        | Request::Segment { explained, .. } => explained,
+        | Request::Segment { explained, .. }
+        | Request::Master { explained, .. } => explained,
     }
 }
 

@@ -4,6 +4,7 @@ mod explains;
 mod helps;
 mod lives;
 mod loops;
+mod masters;
 mod plans;
 mod programs;
 mod segments;

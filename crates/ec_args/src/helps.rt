@@ -202,7 +202,8 @@ A frame never passes an older one. While one is still on its way, as after `begi
 it. The way out: `lose K` for each slot with a frame, then `close`.
 
 What a line prints, before the next one runs:
-  no LINE         an event can't be made, and the script's line of this number ended there
+  no LINE         an event can't be made, and the script's line of this number ended there; with
+                  `--explain` the line behind it says why
   ready           the start-up has ended well
   failed NUMBER   it has ended otherwise, by 9, 26 to 32, 36 or 38: `ecat loop --help` says what
                   each stands for

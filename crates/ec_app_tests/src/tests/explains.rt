@@ -31,11 +31,12 @@ pub fn expect_explanation<H: AllocGlobal + Net + Files + Clock + Abort>(
     Ok(())
 }
 
-const COMMANDS: [&[&str]; 4] = [
+const COMMANDS: [&[&str]; 5] = [
     &["ecat", "plan", "--explain"],
     &["ecat", "sim", "--explain"],
     &["ecat", "loop", "--cycles", "1", "--explain"],
     &["ecat", "segment", "--explain", "--frames", "1"],
+    &["ecat", "master", "--explain"],
 ];
 
 #[test]
@@ -80,6 +81,37 @@ fn a_script_is_explained(rt: HostRuntime) -> Result<(), Fail> {
     let text = format!(in rt.alloc(); "{THREE_SLAVES}ready\n")?;
     let wanted = ["`%%`", "| ready\n"];
     expect_explanation(&rt, &sim, text.as_bytes(), "11 Toml", &wanted)
+}
+
+/// Lines of which two can't be done, what is printed of them, and what is printed where they are explained.
+const LINES: &str = "%%\nbegin\nready\nset a 16\nexpect d 9\ncycle\n";
+
+const PLAIN: &str = "no 1\nready\nno 3\nunmet 4\nreport taken missing 0 counters 6 al 0008\n";
+
+const EXPLAINED: &str =
+    "no 1\n  the start-up isn't ready: `ready` brings the slaves up\nready\nno 3\n  \
+    `a` has 4 bits, and its greatest value is 15\nunmet 4\nreport taken missing 0 counters 6 al 0008\n";
+
+/// Behind each `no` stands why, where an explanation is asked for, and nothing else is printed otherwise.
+#[test]
+fn each_no_is_explained(rt: HostRuntime) -> Result<(), Fail> {
+    let runs: [(&[&str], &str); 4] = [
+        (&["ecat", "sim"], PLAIN),
+        (&["ecat", "sim", "--live"], PLAIN),
+        (&["ecat", "sim", "--explain"], EXPLAINED),
+        (&["ecat", "sim", "--live", "--explain"], EXPLAINED),
+    ];
+    let text = format!(in rt.alloc(); "{THREE_SLAVES}{LINES}")?;
+    for (args, printed) in runs {
+        let ended = run_in_memory(&rt, args, text.as_bytes());
+        assert_eq!(rt;
+            (ended.status, ended.printed.as_slice()),
+            (5, printed.as_bytes()),
+            "{args:?}"
+        );
+        assert!(rt; ended.told.starts_with(b"ecat: 45 Unmet 1\n"), "{args:?}");
+    }
+    Ok(())
 }
 
 /// A fault of the input is explained too, and of the output where a command has printed something.
