@@ -11,7 +11,7 @@ use Rattle.ec_app.specs.Running.{Ends, EndsAlone, EndsGiven, EndsUnread, Stream,
 use Rattle.ec_args.specs.Requests.{Reads}
 use Rattle.ec_args.specs.declared.request.Notice.{Notice}
 use Rattle.ec_args.specs.declared.request.Request.{Request}
-use Rattle.ec_args.specs.declared.request.Request.TheVariants.{Pass, Plan, Decode, Encode, Sim, Loop, Segment}
+use Rattle.ec_args.specs.declared.request.Request.TheVariants.{Pass, Plan, Decode, Encode, Sim, Loop, Segment, Master}
 
 three_to_five : (b c : Bool) → Contains {X = ℕ} (0 ∷ 2 ∷ 3 ∷ 4 ∷ 5 ∷ []) (if b then 4 else (if c then 5 else 3))
 three_to_five true c = (3, omega arith, refl)
@@ -39,6 +39,7 @@ ends_unread (Ok Encode) old new app_old app_new alone = tt
 ends_unread (Ok (Sim l c e)) old new app_old app_new alone = tt
 ends_unread (Ok (Loop n c e)) old new app_old app_new alone = tt
 ends_unread (Ok (Segment n p d i c e)) old new app_old app_new alone = tt
+ends_unread (Ok (Master a d m c e)) old new app_old app_new alone = tt
 ends_unread (Err told) old new app_old app_new alone = alone.0
 
 -- a run on the arguments that were given, as texts
