@@ -74,7 +74,7 @@ fn does_its_lines(rt: HostRuntime) -> Result<(), Fail> {
 fn refuses_tables(rt: HostRuntime) {
     let rows: [(&[u8], u8, &str); 3] = [
         (b"[[\n%%\nshow\n", 3, "ecat: 11 Toml\n"),
-        (b"", 3, "ecat: 16 BadCount 0 0\n"),
+        (b"slaves = 1\n", 3, "ecat: 12 BadKey 0 0\n"),
         (b"\xff\n%%\n", 4, "ecat: 42 Input\n"),
     ];
     for (input, status, told) in rows {
