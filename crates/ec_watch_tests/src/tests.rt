@@ -8,7 +8,7 @@ use ec_link::{Plan, compile};
 use ec_rise::identities_of;
 use ec_table::{Table, read_table};
 use ec_watch::Watch;
-use ec_world::{Event, World};
+use ec_world::{Event, Watcher, World};
 use std::alloc::Global;
 use std::test::Fail;
 

@@ -106,18 +106,24 @@ fn follow_once(master: &mut Master<'_>, wire: &mut UdpWire, places: Places) -> b
     report.is_taken()
 }
 
-/// So many cycles, up to one that isn't taken.
-fn follow(master: &mut Master<'_>, wire: &mut UdpWire, places: Places, cycles: u32) -> Ending {
-    set(master, places.lamp, 1);
-    let mut taken = 0;
-    while taken < cycles && follow_once(master, wire, places) {
-        taken += 1;
-    }
+/// How a run ends of which so many cycles were taken.
+fn end_of(master: &Master<'_>, places: Places, taken: u32) -> Ending {
     Ending {
         taken,
         switches: get(master, places.switches),
         valves: get(master, places.valves),
     }
+}
+
+/// So many cycles, up to one that isn't taken.
+fn follow(master: &mut Master<'_>, wire: &mut UdpWire, places: Places, cycles: u32) -> Ending {
+    set(master, places.lamp, 1);
+    for taken in 0..cycles {
+        if !follow_once(master, wire, places) {
+            return end_of(master, places, taken);
+        }
+    }
+    end_of(master, places, cycles)
 }
 
 /// Brings the slaves of a plan up over a wire, and makes its master ready.
@@ -139,6 +145,7 @@ fn bring_up(
 }
 
 /// Runs the machine of a plan, whose slaves answer on a wire.
+#[tactic(auto, unfolding(ec_start::specs::Running::begun))]
 fn run_plan<H: AllocGlobal>(
     rt: &H,
     plan: &Plan,

@@ -92,24 +92,33 @@ const EXPLAINED: &str =
     "no 1\n  the start-up isn't ready: `ready` brings the slaves up\nready\nno 3\n  \
     `a` has 4 bits, and its greatest value is 15\nunmet 4\nreport taken missing 0 counters 6 al 0008\n";
 
+/// Each way to run them, and what is printed then.
+const WAYS: [(&[&str], &str); 4] = [
+    (&["ecat", "sim"], PLAIN),
+    (&["ecat", "sim", "--live"], PLAIN),
+    (&["ecat", "sim", "--explain"], EXPLAINED),
+    (&["ecat", "sim", "--live", "--explain"], EXPLAINED),
+];
+
+/// Runs lines one of which expects what isn't so, and compares what is printed.
+fn expect_unmet<H: AllocGlobal + Net + Files + Clock + Abort>(
+    rt: &H,
+    args: &[&str],
+    text: &str,
+    printed: &str,
+) {
+    let ended = run_in_memory(rt, args, text.as_bytes());
+    assert_eq!(rt; ended.status, 5, "{args:?}");
+    assert_eq!(rt; ended.printed.as_slice(), printed.as_bytes(), "{args:?}");
+    assert!(rt; ended.told.starts_with(b"ecat: 45 Unmet 1\n"), "{args:?}");
+}
+
 /// Behind each `no` stands why, where an explanation is asked for, and nothing else is printed otherwise.
 #[test]
 fn each_no_is_explained(rt: HostRuntime) -> Result<(), Fail> {
-    let runs: [(&[&str], &str); 4] = [
-        (&["ecat", "sim"], PLAIN),
-        (&["ecat", "sim", "--live"], PLAIN),
-        (&["ecat", "sim", "--explain"], EXPLAINED),
-        (&["ecat", "sim", "--live", "--explain"], EXPLAINED),
-    ];
     let text = format!(in rt.alloc(); "{THREE_SLAVES}{LINES}")?;
-    for (args, printed) in runs {
-        let ended = run_in_memory(&rt, args, text.as_bytes());
-        assert_eq!(rt;
-            (ended.status, ended.printed.as_slice()),
-            (5, printed.as_bytes()),
-            "{args:?}"
-        );
-        assert!(rt; ended.told.starts_with(b"ecat: 45 Unmet 1\n"), "{args:?}");
+    for (args, printed) in WAYS {
+        expect_unmet(&rt, args, text.as_str(), printed);
     }
     Ok(())
 }

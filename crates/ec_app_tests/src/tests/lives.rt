@@ -1,7 +1,7 @@
 //! `ecat sim --live`, over memory.
 
+use crate::tests::run_in_memory;
 use crate::tests::tables::{THREE_SLAVES, VALVES_AND_SWITCHES};
-use crate::tests::{Run, expect_run};
 use std::fs::Files;
 use std::net::Net;
 use std::process::Abort;
@@ -47,20 +47,16 @@ fn expect_live<H: AllocGlobal + Net + Files + Clock + Abort>(
     args: &[&str],
     table: &str,
     lines: &str,
-    ended: (&str, u8, &str),
+    wanted: (&str, u8, &str),
 ) -> Result<(), Fail> {
-    let (printed, status, told) = ended;
+    let (printed, status, told) = wanted;
     let lines = lines.replace(rt.alloc(), ";", "\n")?;
     let input = format!(in rt.alloc(); "{table}\n%%\n{lines}")?;
     let printed = printed.replace(rt.alloc(), ";", "\n")?;
-    let run = Run {
-        args,
-        input: input.as_bytes(),
-        status,
-        printed: printed.as_str(),
-        told,
-    };
-    expect_run(rt, run);
+    let ended = run_in_memory(rt, args, input.as_bytes());
+    assert_eq!(rt; ended.status, status, "{args:?}");
+    assert_eq!(rt; ended.printed.as_slice(), printed.as_bytes(), "{args:?}");
+    assert_eq!(rt; ended.told.as_slice(), told.as_bytes(), "{args:?}");
     Ok(())
 }
 
