@@ -213,8 +213,5 @@ fn a_table_that_is_none_is_told(rt: HostRuntime) {
         let (ended, printed) = remarked(&rt, Some("no such file"), explained, CYCLE.as_bytes());
         assert_eq!(rt; ended, Err(Refusal::Input));
         assert!(rt; printed.is_empty());
-        // an empty text is no table
-        let (ended, printed) = remarked(&rt, Some("/dev/null"), explained, CYCLE.as_bytes());
-        assert!(rt; ended.is_err() && printed.is_empty());
     }
 }
