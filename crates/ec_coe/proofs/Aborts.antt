@@ -4,6 +4,7 @@ use Rattle.std.proofs.lemmas.Option.{slice_get_within, slice_get_cases}
 use Rattle.std.proofs.lemmas.Map.Keys.{any_passes_from_place}
 use Rattle.std.proofs.lemmas.Bool.{cases_Bool, cases_lt, cases_order, false≢true, eqb-true, eqb-false, eq-eqb, ne_eqb, leb-true, leb-false, and_parts, and_cases, and_left, and_right, or_cases, or_parts, not-false, not_from_true}
 use Rattle.ec_regs.specs.declared.slave_type.Pdo.{Pdo}
+use Rattle.ec_regs.specs.declared.slave_type.Face.{Face}
 use Rattle.ec_regs.specs.Objects.{pdo_at, bits_assigned}
 use Rattle.ec_coe.specs.declared.value.Size.{Size}
 use Rattle.ec_coe.specs.declared.value.Value.{Value}
@@ -14,9 +15,9 @@ use Rattle.ec_coe.specs.declared.message.Message.{Message}
 use Rattle.ec_coe.specs.declared.abort_code.AbortCode.{AbortCode}
 use Rattle.ec_coe.specs.declared.abort_code.AbortCode.TheVariants.{InvalidCommand, ReadOnly, NoObject, WrongLength, NoSubindex, InvalidValue, WrongState}
 use Rattle.ec_coe.specs.Messages.{size_number}
-use Rattle.ec_coe.specs.Objects.{Assignment, Dictionary, output_assignment, input_assignment, object_values}
+use Rattle.ec_coe.specs.Objects.{Assignment, Dictionary, output_assignment, input_assignment, device_name_object, object_values}
 use Rattle.ec_coe.specs.Transfers.{abort_number, value_or_abort, value_at, uploaded, contains, distinct, most_bits, takes_count, takes_value, with_value, is_open, assignment_written, with_outs, with_ins, is_assignment, written_over, downloaded}
-use Rattle.ec_coe.specs.Answers.{Answer, abort_to, upload_answer, download_answer, value_of, invalid_answer, answer_by, answered}
+use Rattle.ec_coe.specs.Answers.{Answer, abort_to, has_long_name, upload_reply, download_answer, value_of, invalid_answer, answer_by, answered}
 use Rattle.ec_coe.specs.AbortLaw.{pdos_at, assignment_at, Downloads, HasTwice, IsBadCount, IsBadIndex, HasInvalidValue, Causes, place_in_order, IsFirstAbort, FirstAbort}
 use Rattle.ec_coe.specs.AbortLaw.IsBadCount.{TooMany, Double, TooLong}
 
@@ -129,15 +130,22 @@ no_request p d m c is by no_download no_upload =
 no_download_is : (p : Bool) (d : Dictionary) (m : Message) → m.command ≡ UploadRequest → (size : Size) → Downloads m size → ⊥
 no_download_is p d m is size h = let e : UploadRequest ≡ DownloadRequest size = sym is ∙ h in cc
 
+-- an abort is the same, however a value would come; and a value comes in a response
+refused_reply : (face : Option Face) (m : Message) (counter : ℕ) (code : AbortCode) → upload_reply face m counter (Err code) ≡ abort_to m counter code
+refused_reply face m counter code = elim (cases_Bool ((m.index == device_name_object) && has_long_name face)) [ inl on ↦ rw on refl | inr off ↦ rw off refl ]
+
+responded : (face : Option Face) (m : Message) (counter : ℕ) (v : Value) → (upload_reply face m counter (Ok v)).service ≡ Response
+responded face m counter v = elim (cases_Bool ((m.index == device_name_object) && has_long_name face)) [ inl on ↦ rw on refl | inr off ↦ rw off refl ]
+
 aborted_upload : (p : Bool) (d : Dictionary) (m : Message) (code : AbortCode) → m.command ≡ UploadRequest → uploaded d m.index m.subindex ≡ Err code
     → (counter : ℕ) → answered p d m counter ≡ record { reply = abort_to m counter code; dictionary = d }
 unfolding answered
-aborted_upload p d m code is h counter = ap (answer_by p d m counter) is ∙ ap (λ r. record { reply = upload_answer m counter r; dictionary = d }) h
+aborted_upload p d m code is h counter = ap (answer_by p d m counter) is ∙ ap (λ r. record { reply = upload_reply d.kind.face m counter r; dictionary = d }) h ∙ ap (λ r. record { reply = r; dictionary = d }) (refused_reply d.kind.face m counter code)
 
 answered_upload : (p : Bool) (d : Dictionary) (m : Message) (v : Value) → m.command ≡ UploadRequest → uploaded d m.index m.subindex ≡ Ok v → (counter : ℕ) → (answered p d m counter).reply.service ≡ Response
 unfolding answered
 answered_upload p d m v is h counter =
-    ap (λ (a : Answer). a.reply.service) (ap (answer_by p d m counter) is) ∙ ap (λ r. (upload_answer m counter r).service) h
+    ap (λ (a : Answer). a.reply.service) (ap (answer_by p d m counter) is) ∙ ap (λ r. (upload_reply d.kind.face m counter r).service) h ∙ responded d.kind.face m counter v
 
 aborted_download : (p : Bool) (d : Dictionary) (m : Message) (size : Size) (code : AbortCode) → m.command ≡ DownloadRequest size → downloaded p d m.index m.subindex (value_of size m.value) ≡ Err code
     → (counter : ℕ) → answered p d m counter ≡ record { reply = abort_to m counter code; dictionary = d }

@@ -7,3 +7,6 @@ pub mod Written
 pub mod Effects
 pub mod Keeping
 pub mod Aborts
+pub mod Names
+pub mod Refusing
+pub mod Letters

@@ -56,6 +56,11 @@ command_of n =
     else (if n == 0x43 then UploadResponse Four
     else (if n == 0x80 then Abort else OtherCommand n))))))))))
 
+-- the command byte of a normal upload response that says how many bytes follow it (ETG.1000.6, "Upload SDO normal
+-- response"): it stands in a message as `Other`
+abbrev pub normal_upload : ℕ
+normal_upload = 0x41
+
 -- ---- the spelling
 
 abbrev pub message_length : ℕ

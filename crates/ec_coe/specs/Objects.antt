@@ -1,13 +1,19 @@
 -- The object dictionary of a slave (ETG.1000.6, "Object dictionary"): its identity (0x1018), its PDOs (0x1600 to 0x17FF,
--- 0x1A00 to 0x1BFF), and which of them are assigned (0x1C12 and 0x1C13, "Sync manager PDO assignment").
-use Rattle.std.specs.Prelude.{ℕ, ◌+◌, ◌*◌, ◌==◌, ◌≡◌, List, [], ◌∷◌, ◌++◌, length, map, take, Bool, true, false, if◌then◌else◌, Option, Some, None, option_map}
+-- 0x1A00 to 0x1BFF), and which of them are assigned (0x1C12 and 0x1C13, "Sync manager PDO assignment"). A full slave, whose
+-- type has a face, has some more objects behind these, which usual masters read.
+use Rattle.std.specs.Prelude.{ℕ, ◌+◌, ◌*◌, ◌==◌, ◌≡◌, ◌||◌, not, List, [], ◌∷◌, ◌++◌, length, map, take, Bool, true, false, if◌then◌else◌, nat_lt, nat_le, slice_index, Option, Some, None, option_map}
+use Rattle.std.specs.Option.{option_or}
 use Rattle.ec_regs.specs.declared.slave_type.Entry.{Entry}
 use Rattle.ec_regs.specs.declared.slave_type.Pdo.{Pdo}
 use Rattle.ec_regs.specs.declared.slave_type.Identity.{Identity}
+use Rattle.ec_regs.specs.declared.slave_type.Mailbox.{Mailbox}
+use Rattle.ec_regs.specs.declared.slave_type.Face.{Face}
 use Rattle.ec_regs.specs.Types.{SlaveKind}
 use Rattle.ec_regs.specs.Objects.{pdo_at}
-use Rattle.ec_coe.specs.declared.value.Size.TheVariants.{One, Two, Four}
+use Rattle.ec_coe.specs.declared.value.Size.{Size}
+use Rattle.ec_coe.specs.declared.value.Size.TheVariants.{One, Two, Three, Four}
 use Rattle.ec_coe.specs.declared.value.Value.{Value}
+use Rattle.ec_coe.specs.Messages.{message_length}
 
 -- the slots of an assignment object, and how many of them count
 pub record Assignment : Type 0 where
@@ -80,6 +86,82 @@ abbrev pub has_some : {X : Type 0} → List X → Bool
 has_some [] = false
 has_some (x ∷ xs) = true
 
+-- ---- the objects that a full slave has besides
+
+abbrev pub device_type_object : ℕ
+device_type_object = 0x1000
+
+abbrev pub device_name_object : ℕ
+device_name_object = 0x1008
+
+abbrev pub hardware_version_object : ℕ
+hardware_version_object = 0x1009
+
+abbrev pub software_version_object : ℕ
+software_version_object = 0x100A
+
+abbrev pub manager_types_object : ℕ
+manager_types_object = 0x1C00
+
+-- device type 0: no device profile
+abbrev pub device_type_values : List Value
+device_type_values = long_value 0 ∷ []
+
+-- version "1"
+abbrev pub version_values : List Value
+version_values = byte_value 0x31 ∷ []
+
+-- what each sync manager is for ("Sync manager communication type"): subindex 0: how many there are; 1 to 4: mailbox out 1,
+-- mailbox in 2, outputs 3, inputs 4
+abbrev pub manager_types_values : List Value
+manager_types_values = byte_value 4 ∷ byte_value 1 ∷ byte_value 2 ∷ byte_value 3 ∷ byte_value 4 ∷ []
+
+-- how many bytes an expedited transfer carries at most
+abbrev pub most_expedited : ℕ
+most_expedited = 4
+
+abbrev pub is_long : List ℕ → Bool
+is_long name = nat_lt most_expedited (length name)
+
+abbrev pub size_of : ℕ → Size
+size_of n = if n == 1 then One else (if n == 2 then Two else (if n == 3 then Three else Four))
+
+-- the first four letters as a number, the first lowest; a letter past the end counts 0
+abbrev pub letters_number : List ℕ → ℕ
+letters_number name = slice_index name 0 + 256 * slice_index name 1 + 65536 * slice_index name 2 + 16777216 * slice_index name 3
+
+-- a name: its letters; but of a long one, whose letters come by a normal transfer, how many there are
+abbrev pub name_value : List ℕ → Value
+name_value name = if is_long name then long_value (length name) else record { size = size_of (length name); number = letters_number name }
+
+-- whether the letters of a name fit a mailbox of so many bytes, behind a message
+abbrev pub name_fits : List ℕ → ℕ → Bool
+name_fits name room = nat_le (message_length + length name) room
+
+-- a long name is there only where it fits
+abbrev pub name_values : List ℕ → ℕ → Option (List Value)
+name_values name room = if not (is_long name) || name_fits name room then Some (name_value name ∷ []) else None
+
+-- the object with an index of those that a face shows, through a mailbox of so many bytes
+abbrev pub face_values : Face → ℕ → ℕ → Option (List Value)
+face_values face room index =
+    if index == device_type_object then Some device_type_values
+    else (if index == device_name_object then name_values face.name room
+    else (if index == hardware_version_object then Some version_values
+    else (if index == software_version_object then Some version_values
+    else (if index == manager_types_object then Some manager_types_values else None))))
+
+-- how many bytes the mailbox has through which the slave sends; none has no room
+abbrev pub send_room : Option Mailbox → ℕ
+send_room None = 0
+send_room (Some mailbox) = mailbox.send_size
+
+abbrev pub shown_values : Option Face → ℕ → ℕ → Option (List Value)
+shown_values None room index = None
+shown_values (Some face) room index = face_values face room index
+
+-- ---- all of them
+
 -- The values of the object with an index, by subindex, if there is one. An assignment object is there where the type has
 -- PDOs of its direction.
 unfoldable pub object_values : Dictionary → ℕ → Option (List Value)
@@ -87,4 +169,4 @@ object_values d index =
     if index == identity_object then Some (identity_values d.identity)
     else (if index == output_assignment then (if has_some d.kind.outputs then Some (assignment_values d.outs) else None)
     else (if index == input_assignment then (if has_some d.kind.inputs then Some (assignment_values d.ins) else None)
-    else option_map pdo_values (pdo_at (d.kind.outputs ++ d.kind.inputs) index)))
+    else option_or (option_map pdo_values (pdo_at (d.kind.outputs ++ d.kind.inputs) index)) (shown_values d.kind.face (send_room d.kind.mailbox) index)))

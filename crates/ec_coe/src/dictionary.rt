@@ -1,17 +1,19 @@
 //! A slave's object dictionary.
 
-ghost use Rattle.std.specs.Prelude.{◌≡◌, ◌++◌, ◌≤◌, ◌<◌, ◌^◌, ◌*◌, ◌+◌, length, slice_get, IfOk, IfSome, MatchResult, Ok, Err};
+ghost use Rattle.std.specs.Prelude.{◌≡◌, ◌++◌, ◌≤◌, ◌<◌, ◌^◌, ◌*◌, ◌+◌, length, slice_get, if◌then◌else◌, IfOk, IfSome, MatchResult, Ok, Err};
 ghost use Rattle.std.specs.Option.{option_copied};
+ghost use Rattle.ec_coe.specs.declared.message.Command.TheVariants.{UploadResponse, Other as OtherCommand};
 ghost use Rattle.ec_regs.specs.Objects.{pdo_at, bits_assigned};
-ghost use Rattle.ec_coe.specs.Objects.{HasSlots, new_dictionary, assigned, entry_number as number_of_entry, identity_values, pdo_values};
-ghost use Rattle.ec_coe.specs.Messages.{size_number, IsMessage};
-ghost use Rattle.ec_coe.specs.Transfers.{value_or_abort, uploaded, downloaded};
-ghost use Rattle.ec_coe.specs.Answers.{answered};
+ghost use Rattle.ec_coe.specs.Objects.{HasSlots, new_dictionary, assigned, entry_number as number_of_entry, identity_values, pdo_values, send_room, shown_values};
+ghost use Rattle.ec_coe.specs.Messages.{size_number, normal_upload, IsMessage};
+ghost use Rattle.ec_coe.specs.Transfers.{value_or_abort, value_at, uploaded, downloaded};
+ghost use Rattle.ec_coe.specs.Answers.{answered, has_long_name};
 
 use crate::abort_code::AbortCode;
 use crate::assignment::{Assignment, find_pdo};
-use crate::message::{Command, Message, Service};
-use crate::value::Value;
+use crate::face::{DEVICE_NAME_OBJECT, face_value, is_long};
+use crate::message::{Command, Message, NORMAL_UPLOAD, Service};
+use crate::value::{Size, Value};
 use ec_regs::{Entry, Identity, Pdo, SlaveType};
 use std::alloc::{AllocError, Global};
 use std::marker::Model;
@@ -26,7 +28,8 @@ pub const OUTPUT_ASSIGNMENT: u16 = 0x1C12;
 pub const INPUT_ASSIGNMENT: u16 = 0x1C13;
 
 /// The objects of a slave (ETG.1000.6, "Object dictionary"): its identity, the PDOs of its type, and which of them are
-/// assigned. It owns all of these.
+/// assigned; of a full slave, whose type has a face, also the device type, the device name, the versions and what its sync
+/// managers are for. It owns all of these.
 #[derive(Debug, Drop)]
 pub struct Dictionary {
     kind: SlaveType,
@@ -84,6 +87,17 @@ fn found(value: Option<Value>) -> Result<Value, AbortCode>
     ensures { result ≡ value_or_abort value }
 {
     value.ok_or(AbortCode::NoSubindex)
+}
+
+/// The command of the response to an upload, by a normal or by an expedited transfer.
+fn upload_command(is_normal: bool, size: Size) -> Command
+    ensures { result ≡ (if is_normal then OtherCommand normal_upload else UploadResponse size) }
+{
+    if is_normal {
+        Command::Other(NORMAL_UPLOAD)
+    } else {
+        Command::UploadResponse(size)
+    }
 }
 
 impl Dictionary {
@@ -172,7 +186,7 @@ impl Dictionary {
         }
     }
 
-    /// The value at an index and a subindex.
+    /// The value at an index and a subindex. That of a name of more than four letters is how many they are.
     ///
     /// # Errors
     ///
@@ -189,8 +203,42 @@ impl Dictionary {
             INPUT_ASSIGNMENT => found(self.ins.value(subindex)),
             _ => match self.pdo(index) {
                 Some(pdo) => found(pdo_value(pdo, subindex)),
-                None => Err(AbortCode::NoObject),
+                None => self.shown(index, subindex),
             },
+        }
+    }
+
+    /// How many bytes the mailbox has through which the slave sends; 0 where it has none.
+    fn room(&self) -> usize
+        ensures { result ≡ send_room self.now.kind.mailbox }
+    {
+        match self.kind.mailbox() {
+            Some(mailbox) => mailbox.send_size as usize,
+            None => 0,
+        }
+    }
+
+    /// The value at an index and a subindex of the objects that a full slave has besides.
+    ///
+    /// # Errors
+    ///
+    /// As of `upload`; each index has no object where the slave isn't full.
+    fn shown(&self, index: u16, subindex: u8) -> Result<Value, AbortCode>
+        ensures { result ≡ value_at (shown_values self.now.kind.face (send_room self.now.kind.mailbox) index) subindex }
+    {
+        match self.kind.face() {
+            Some(face) => face_value(face, self.room(), index, subindex),
+            None => Err(AbortCode::NoObject),
+        }
+    }
+
+    /// Whether the slave is full and its name too long for an expedited transfer.
+    fn has_long_name(&self) -> bool
+        ensures { result ≡ has_long_name self.now.kind.face }
+    {
+        match self.kind.face() {
+            Some(face) => is_long(face.name.as_slice()),
+            None => false,
         }
     }
 
@@ -232,8 +280,9 @@ impl Dictionary {
     }
 
     /// The reply to a request, with this counter; the counter of the request is not looked at. The reply is a response with
-    /// the index and the subindex of the request, or an abort. The caller knows that the counter is below 8; the request may
-    /// be any value of its type.
+    /// the index and the subindex of the request, or an abort. The name of a full slave, where it has more than four letters,
+    /// is told by a normal upload response, whose letters `reply_bytes` puts behind the message. The caller knows that the
+    /// counter is below 8; the request may be any value of its type.
     #[tactic(auto, unfolding(crate::specs::Answers::answered))]
     pub fn answer(&mut self, in_preop: bool, request: &Message, counter: u8) -> Message
         requires { counter < 8 }
@@ -241,6 +290,7 @@ impl Dictionary {
         ensures reply { result ≡ (answered in_preop self.old request.now counter).reply }
         ensures after { self.new ≡ (answered in_preop self.old request.now counter).dictionary }
     {
+        let is_normal = request.index == DEVICE_NAME_OBJECT && self.has_long_name();
         let outcome = match request.command {
             Command::DownloadRequest(size) => self
                 .download(
@@ -251,7 +301,7 @@ impl Dictionary {
                 )
                 .map(|_| (Command::DownloadResponse, 0)),
             Command::UploadRequest => self.upload(request.index, request.subindex).map(|value| (
-                Command::UploadResponse(value.size),
+                upload_command(is_normal, value.size),
                 value.number,
             )),
             _ => Err(AbortCode::InvalidCommand),

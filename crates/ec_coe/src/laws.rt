@@ -2,6 +2,8 @@
 
 ghost use Rattle.ec_coe.specs.AbortLaw.{FirstAbort};
 ghost use Rattle.ec_coe.specs.Laws.{AnswersKeepAssignments, ChangesInPreopAlone, ReadsBack};
+ghost use Rattle.ec_coe.specs.NameLaws.{FacelessObjects, NamesComeBack, RepliesFit, RepliesReadAlone, RepliesStandAlone, UploadsAreExpedited};
+ghost use Rattle.ec_coe.specs.RefusalLaws.{RefusalsFit, RefusalsRead};
 
 /// A message is read back from its bytes, whatever follows them.
 #[tactic(auto, using(crate::proofs::ReadBack::reads_back))]
@@ -28,4 +30,53 @@ pub fn answers_keep_assignments()
 #[tactic(auto, using(crate::proofs::Aborts::first_abort))]
 pub fn first_abort()
     ensures { FirstAbort }
+{}
+
+/// An upload is answered by an expedited transfer where it isn't one of the device name, and where the slave isn't full.
+#[tactic(auto, using(crate::proofs::Names::uploads_expedited))]
+pub fn uploads_are_expedited()
+    ensures { UploadsAreExpedited }
+{}
+
+/// A slave that isn't full has its identity, the objects that assign PDOs and those of its PDOs, and no other.
+#[tactic(auto, using(crate::proofs::Names::faceless_objects))]
+pub fn objects_without_a_face()
+    ensures { FacelessObjects }
+{}
+
+/// No letters follow a reply that is no normal upload response, nor any of a slave that isn't full.
+#[tactic(auto, using(crate::proofs::Names::replies_alone))]
+pub fn replies_stand_alone()
+    ensures { RepliesStandAlone }
+{}
+
+/// A reply with letters behind it is read back as no message.
+#[tactic(auto, using(crate::proofs::Letters::message_or_none))]
+pub fn replies_read_alone()
+    ensures { RepliesReadAlone }
+{}
+
+/// A reply has 16 bytes at least, and fits each mailbox that a message fits.
+#[tactic(auto, using(crate::proofs::Names::replies_fit))]
+pub fn replies_fit()
+    ensures { RepliesFit }
+{}
+
+/// The name of a full slave comes back from the bytes of the reply: a long one behind the message, a short one from the data.
+#[tactic(auto, using(crate::proofs::Names::names_back))]
+pub fn names_come_back()
+    ensures { NamesComeBack }
+{}
+
+/// A refusal has 10 to 16 bytes.
+#[tactic(auto, using(crate::proofs::Refusing::refusals_fit))]
+pub fn refusals_fit()
+    ensures { RefusalsFit }
+{}
+
+/// An abort among the refusals is read back, with the index and the subindex of the request; a mailbox error is no message,
+/// and neither it nor an SDO information error is a reply to an SDO request.
+#[tactic(auto, using(crate::proofs::Refusing::refusals_read))]
+pub fn refusals_read()
+    ensures { RefusalsRead }
 {}

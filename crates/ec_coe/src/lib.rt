@@ -1,13 +1,18 @@
 //! CANopen over EtherCAT (CoE) as simulated slaves and their master speak it (ETG.1000.6): mailbox messages with expedited
-//! SDOs, a slave's object dictionary with its PDO assignments, and what a reply says.
+//! SDOs, a slave's object dictionary with its PDO assignments, the name that a full slave tells by a normal transfer, its
+//! refusals in place of silence, and what a reply says.
 #![tactic(auto)]
 
 mod abort_code;
 mod assignment;
+mod bytes;
 mod dictionary;
+mod face;
 pub mod laws;
 mod message;
+mod refusal;
 mod reply;
+mod reply_bytes;
 mod value;
 
 pub use crate::abort_code::AbortCode;
@@ -15,8 +20,15 @@ pub use crate::assignment::{Assignment, MAX_BITS, find_pdo};
 pub use crate::dictionary::{
     Dictionary, IDENTITY_OBJECT, INPUT_ASSIGNMENT, OUTPUT_ASSIGNMENT, entry_number,
 };
-pub use crate::message::{
-    BadMailbox, Command, MESSAGE_LENGTH, Message, Service, read_message, write_message,
+pub use crate::face::{
+    DEVICE_NAME_OBJECT, DEVICE_TYPE_OBJECT, HARDWARE_VERSION_OBJECT, MANAGER_TYPES_OBJECT,
+    SOFTWARE_VERSION_OBJECT,
 };
+pub use crate::message::{
+    BadMailbox, Command, MESSAGE_LENGTH, Message, NORMAL_UPLOAD, Service, read_message,
+    write_message,
+};
+pub use crate::refusal::{MailboxError, RefusalBytes, refuse};
 pub use crate::reply::{Reply, read_reply};
+pub use crate::reply_bytes::ReplyBytes;
 pub use crate::value::{Size, Value};

@@ -12,10 +12,14 @@ use byteorder::{ByteOrder, LittleEndian};
 pub const MESSAGE_LENGTH: usize = 16;
 
 /// What the mailbox header says of the length: the bytes that follow it.
-const BYTES_AFTER_HEADER: u16 = 10;
+pub(crate) const BYTES_AFTER_HEADER: u16 = 10;
+
+/// The command byte of the response to an upload by a normal transfer: the data say how many bytes follow the message
+/// (ETG.1000.6, "Upload SDO normal response"). It stands in a message as `Command::Other`.
+pub const NORMAL_UPLOAD: u8 = 0x41;
 
 /// The mailbox type of CoE.
-const COE: u8 = 3;
+pub(crate) const COE: u8 = 3;
 
 /// What the CoE header says of a message.
 #[derive(Clone, Copy, Debug, PartialEq, Eq)]

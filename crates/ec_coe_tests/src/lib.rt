@@ -2,4 +2,8 @@
 #![tactic(auto)]
 
 #[cfg(test)]
+mod full;
+#[cfg(test)]
+mod refusals;
+#[cfg(test)]
 mod tests;

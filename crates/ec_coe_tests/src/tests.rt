@@ -10,14 +10,14 @@ use std::process::Abort;
 use std::test::Fail;
 
 /// What the slave's type stands for.
-const DEVICE: Device = Device {
+pub(crate) const DEVICE: Device = Device {
     vendor: 0xABCD,
     product: 3,
     revision: 1,
 };
 
 /// The bytes of a row of hexadecimal digits.
-fn bytes_of(rt: &(impl AllocGlobal + Abort), row: &str) -> Result<Vec<u8>, Fail> {
+pub(crate) fn bytes_of(rt: &(impl AllocGlobal + Abort), row: &str) -> Result<Vec<u8>, Fail> {
     let mut bytes = Vec::new(rt.alloc());
     for word in row.split_whitespace() {
         bytes.extend_from_slice(&hex::decode(rt.alloc(), word)?)?;
@@ -26,7 +26,7 @@ fn bytes_of(rt: &(impl AllocGlobal + Abort), row: &str) -> Result<Vec<u8>, Fail>
 }
 
 /// A list of PDOs of one entry each.
-fn pdos_of(alloc: Global, rows: &[(u16, Entry)]) -> Result<Listed<Pdo>, AllocError> {
+pub(crate) fn pdos_of(alloc: Global, rows: &[(u16, Entry)]) -> Result<Listed<Pdo>, AllocError> {
     let mut pdos = Listed::new(alloc);
     for (index, entry) in rows {
         let mut entries = Listed::new(alloc);
@@ -59,7 +59,7 @@ fn dictionary_of(
 }
 
 /// An entry of an output PDO or of an input PDO.
-fn entry(index: u16, subindex: u8, bits: u8) -> Entry {
+pub(crate) fn entry(index: u16, subindex: u8, bits: u8) -> Entry {
     Entry {
         index,
         subindex,
@@ -77,7 +77,7 @@ fn mixed(rt: &(impl AllocGlobal + Abort)) -> Result<Dictionary, Fail> {
 }
 
 /// The message of a row of hexadecimal digits.
-fn message_of(rt: &(impl AllocGlobal + Abort), row: &str) -> Result<Message, Fail> {
+pub(crate) fn message_of(rt: &(impl AllocGlobal + Abort), row: &str) -> Result<Message, Fail> {
     Ok(read_message(&bytes_of(rt, row)?).ok().ok_or("a message")?)
 }
 

@@ -31,4 +31,4 @@ pub controls : ConstantsAreTheControls
 controls = record { mailbox_out = refl; mailbox_in = refl; outputs = refl; inputs = refl }
 
 pub limits : ConstantsAreTheLimits
-limits = record { outputs = refl; inputs = refl; indices = refl; pdos = refl; entries = refl; entry_bits = refl; smallest_mailbox = refl; largest_mailbox = refl }
+limits = record { outputs = refl; inputs = refl; indices = refl; pdos = refl; entries = refl; entry_bits = refl; smallest_mailbox = refl; largest_mailbox = refl; name = refl }

@@ -6,6 +6,7 @@ use Rattle.ec_regs.specs.declared.slave_type.Pdo.{Pdo}
 use Rattle.ec_regs.specs.declared.slave_type.Mailbox.{Mailbox}
 use Rattle.ec_regs.specs.declared.slave_type.Device.{Device}
 use Rattle.ec_regs.specs.declared.slave_type.Identity.{Identity}
+use Rattle.ec_regs.specs.declared.slave_type.Face.{Face}
 
 -- the value of a `SlaveType`
 pub record SlaveKind : Type 0 where
@@ -17,6 +18,8 @@ pub record SlaveKind : Type 0 where
   pub inputs : List Pdo
   -- whether it takes part in LRW datagrams
   pub lrw : Bool
+  -- what a full slave shows besides
+  pub face : Option Face
 
 -- what a slave of the device shows, which has a serial number of its own
 abbrev pub device_identity : Device → ℕ → Identity
@@ -69,13 +72,18 @@ pub record IsMailbox (m : Mailbox) : Type 0 where
   pub send_some : 16 ≤ m.send_size
   pub send_few : m.send_size ≤ 1024
 
+-- a name has 1 to 32 bytes
+pub record IsFace (f : Face) : Type 0 where
+  pub named : 1 ≤ length f.name
+  pub short : length f.name ≤ 32
+
 -- the limits of a type, which touch its mailbox and its PDOs
 pub record IsWithinLimits (m : Option Mailbox) (outs ins : List Pdo) : Type 0 where
   pub mailbox : ForSome m IsMailbox
   pub outputs : ArePdos first_output_index outs
   pub inputs : ArePdos first_input_index ins
 
--- a type without PDOs and without a mailbox, which takes part in LRW
+-- a type without PDOs, without a mailbox and without a face, which takes part in LRW
 abbrev pub plain_kind : SlaveKind
 plain_kind = record {
   device = record { vendor = 0; product = 0; revision = 0 };
@@ -85,4 +93,5 @@ plain_kind = record {
   outputs = [];
   inputs = [];
   lrw = true;
+  face = None;
 }

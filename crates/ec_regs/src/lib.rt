@@ -18,8 +18,8 @@ pub use crate::manager::{
     decode_manager, encode_manager,
 };
 pub use crate::slave_type::{
-    Device, Entry, FIRST_INPUT_INDEX, FIRST_OUTPUT_INDEX, Identity, MAX_ENTRIES, MAX_ENTRY_BITS,
-    MAX_MAILBOX_SIZE, MAX_PDOS, MIN_MAILBOX_SIZE, Mailbox, PDO_INDICES, Pdo, SlaveType,
-    are_within_limits, copied_pdos, have_own_indices,
+    Device, Entry, FIRST_INPUT_INDEX, FIRST_OUTPUT_INDEX, Face, Identity, MAX_ENTRIES,
+    MAX_ENTRY_BITS, MAX_MAILBOX_SIZE, MAX_NAME, MAX_PDOS, MIN_MAILBOX_SIZE, Mailbox, PDO_INDICES,
+    Pdo, SlaveType, are_within_limits, copied_pdos, have_own_indices,
 };
 pub use crate::words::{AlWord, SiiControl};

@@ -1,6 +1,7 @@
 //! Types of slaves: device, mailbox, PDOs and entries.
-ghost use Rattle.std.specs.Prelude.{◌≡◌, ◌≤◌, ◌↔◌, length, All, AllPairs, ◌≢◌, IsTrue, IfSome, IfOk};
-ghost use Rattle.ec_regs.specs.Types.{IsEntry, IsPdo, ArePdos, IsMailbox, IsWithinLimits, device_identity, device_of, pdo_bits, pdos_bits, plain_kind, first_output_index, first_input_index};
+ghost use Rattle.std.specs.Prelude.{◌≡◌, ◌≤◌, ◌↔◌, length, All, AllPairs, ◌≢◌, IsTrue, IfSome, IfOk, Some, None};
+ghost use Rattle.std.specs.Option.{option_copied};
+ghost use Rattle.ec_regs.specs.Types.{IsEntry, IsPdo, ArePdos, IsMailbox, IsFace, IsWithinLimits, device_identity, device_of, pdo_bits, pdos_bits, plain_kind, first_output_index, first_input_index};
 
 use crate::listed::Listed;
 use std::alloc::{AllocError, Global};
@@ -22,6 +23,8 @@ pub const MAX_ENTRY_BITS: u8 = 64;
 pub const MIN_MAILBOX_SIZE: u16 = 16;
 /// The most bytes of a mailbox.
 pub const MAX_MAILBOX_SIZE: u16 = 1024;
+/// The most letters of a face's name.
+pub const MAX_NAME: usize = 32;
 
 /// What tells the devices of one type from those of another: the first three numbers of object
 /// 0x1018 (ETG.1000.6, "Identity object").
@@ -82,8 +85,20 @@ pub struct Pdo {
     pub entries: Listed<Entry>,
 }
 
+/// What a full slave shows besides, to masters that look around before they know what stands on
+/// the ring: its name in the SII and as object 0x1008 (ETG.1000.6, "Object dictionary"), and by its
+/// data link registers (ETG.1000.4, "DL status") whether a slave follows it.
+#[derive(Debug, Drop)]
+pub struct Face {
+    /// The name of its type: 1 to 32 letters, digits and `_` of ASCII, a byte each.
+    pub name: Listed<u8>,
+    /// Whether it is the last slave of its ring.
+    pub is_last: bool,
+}
+
 /// What a slave of one type is: its device, where its mailboxes and its process data lie, and its
-/// process data objects, all within the limits of this profile.
+/// process data objects, all within the limits of this profile. A type with a face is that of one
+/// full slave, since where the slave stands is part of the face.
 #[derive(Debug, Drop)]
 pub struct SlaveType {
     device: Device,
@@ -93,10 +108,12 @@ pub struct SlaveType {
     outputs: Listed<Pdo>,
     inputs: Listed<Pdo>,
     lrw: bool,
+    face: Option<Face>,
 }
 
 impl Model for SlaveType {
-    ghost use Rattle.ec_regs.specs.Types.{SlaveKind, IsWithinLimits};
+    ghost use Rattle.std.specs.Option.{ForSome};
+    ghost use Rattle.ec_regs.specs.Types.{SlaveKind, IsFace, IsWithinLimits};
 
     ghost Value = { SlaveKind };
 
@@ -108,9 +125,10 @@ impl Model for SlaveType {
       outputs = t.outputs;
       inputs = t.inputs;
       lrw = t.lrw;
+      face = t.face;
     } };
 
-    ghost invariant = { λ t. IsWithinLimits t.mailbox t.outputs t.inputs };
+    ghost invariant = { λ t. IsWithinLimits t.mailbox t.outputs t.inputs × ForSome t.face IsFace };
 }
 
 impl Device {
@@ -240,6 +258,20 @@ pub fn copied_pdos(alloc: Global, pdos: &[Pdo]) -> Result<Listed<Pdo>, AllocErro
     Ok(copied)
 }
 
+/// A copy of a face, where there is one.
+fn copied_face(alloc: Global, face: &Option<Face>) -> Result<Option<Face>, AllocError>
+    ensures { IfOk result (λ f. f ≡ face.now) }
+{
+    let Some(face) = face else {
+        return Ok(None);
+    };
+    let name = Listed::copied(alloc, face.name.as_slice())?;
+    Ok(Some(Face {
+        name,
+        is_last: face.is_last,
+    }))
+}
+
 /// How many bits the PDOs of a direction have together.
 fn bits_of(pdos: &[Pdo]) -> usize
     requires few { length pdos.now ≤ 16 }
@@ -269,7 +301,7 @@ impl SlaveType {
     }
 
     /// The type of these parts, which `is_within_limits` accepts. `out_start` and `in_start` are
-    /// the addresses of the output and the input sync manager.
+    /// the addresses of the output and the input sync manager. It has no face.
     pub fn new(
         device: Device,
         mailbox: Option<Mailbox>,
@@ -288,6 +320,7 @@ impl SlaveType {
           outputs = outputs;
           inputs = inputs;
           lrw = lrw;
+          face = None;
         } }
     {
         SlaveType {
@@ -298,6 +331,7 @@ impl SlaveType {
             outputs,
             inputs,
             lrw,
+            face: None,
         }
     }
 
@@ -318,6 +352,7 @@ impl SlaveType {
             outputs: Listed::new(alloc),
             inputs: Listed::new(alloc),
             lrw: true,
+            face: None,
         }
     }
 
@@ -333,6 +368,7 @@ impl SlaveType {
             outputs,
             inputs,
             lrw: has_lrw,
+            face,
         } = self;
         Ok(SlaveType {
             device: *device,
@@ -342,7 +378,24 @@ impl SlaveType {
             outputs: copied_pdos(alloc, outputs.as_slice())?,
             inputs: copied_pdos(alloc, inputs.as_slice())?,
             lrw: *has_lrw,
+            face: copied_face(alloc, face)?,
         })
+    }
+
+    /// The type gets a face, and loses the one that it had: it is then the type of one full slave.
+    pub fn show(&mut self, face: Face)
+        requires { IsFace face }
+        ensures { self.new ≡ record self.old { face = Some face } }
+    {
+        self.face = Some(face);
+    }
+
+    /// What a full slave shows besides; none of a slave that isn't one.
+    pub fn face(&self) -> Option<&Face>
+        ensures value { option_copied result ≡ self.now.face }
+        ensures limits { IfSome result (λ face. IsFace face.now) }
+    {
+        self.face.as_ref()
     }
 
     /// The device that the type's slaves are; the serial number is each slave's own.

@@ -5,7 +5,7 @@ use Rattle.std.specs.Int.{from_bool, to_le_bytes, from_le_bytes, w32}
 use Rattle.ec_bits.specs.Bits.{within}
 use Rattle.ec_regs.specs.Memory.{sii_control, sii_address, sii_data}
 use Rattle.ec_regs.specs.Words.{sii_word}
-use Rattle.ec_sii.specs.Image.{word_at}
+use Rattle.ec_sii.specs.Image.{word_at, size_of}
 use Rattle.ec_sii.specs.declared.image.Image.{Image}
 
 -- the high byte of the control and status word, which has the command
@@ -78,9 +78,9 @@ written p from bytes =
 
 -- ---- the firmware
 
--- the last word address at which two words stand in the image
-abbrev pub last_address : ℕ
-last_address = 62
+-- the last word address at which two words stand in the image, whose size is in kibibits of 64 words
+abbrev pub last_address : Image → ℕ
+last_address image = 64 * size_of image.categories - 2
 
 -- two words as they stand in the data register
 abbrev pub two_words : Image → ℕ → ℕ
@@ -90,7 +90,7 @@ two_words image address = word_at image address + 65536 * word_at image (address
 unfoldable pub stepped : Sii → Sii
 stepped p =
     if p.busy
-    then (if nat_le p.address last_address
+    then (if nat_le p.address (last_address p.image)
     then record { image = p.image; address = p.address; busy = false; error = p.error; found = two_words p.image p.address }
     else record { image = p.image; address = p.address; busy = false; error = true; found = p.found })
     else p

@@ -1,39 +1,128 @@
 //! The words of a slave's SII.
-ghost use Rattle.std.specs.Prelude.{◌≡◌};
-ghost use Rattle.ec_sii.specs.Image.{word_at, identity_words, mailbox_words, low_word, high_word};
+ghost use Rattle.std.specs.Prelude.{◌≡◌, ◌<◌, ◌^◌, Some, None, IfOk};
+ghost use Rattle.std.specs.Option.{option_map};
+ghost use Rattle.ec_sii.specs.Categories.{categories_of};
+ghost use Rattle.ec_sii.specs.Image.{word_at, other_word, identity_words, mailbox_words, low_word, high_word, kibibits, size_of, image_of};
 
-use ec_regs::{Identity, Mailbox};
+use crate::categories::categories_of;
+use ec_regs::{Identity, Listed, Mailbox, SlaveType};
+use std::alloc::{AllocError, Global};
 
 /// The words of a slave's SII (ETG.1000.6, "Slave information interface area").
-#[derive(Clone, Copy, Debug, PartialEq, Eq)]
+#[derive(Debug, Drop)]
 pub struct Image {
     /// Who the slave is.
     pub identity: Identity,
     /// Where its mailboxes lie, if it has any.
     pub mailbox: Option<Mailbox>,
+    /// Of a full slave the words of its categories, one category after another.
+    pub categories: Option<Listed<u16>>,
 }
 
 impl Image {
-    /// The image of a slave.
+    /// The image of a slave that isn't full.
     pub fn new(identity: Identity, mailbox: Option<Mailbox>) -> Self
-        ensures { result ≡ record { identity = identity; mailbox = mailbox } }
+        ensures { result ≡ record { identity = identity; mailbox = mailbox; categories = None } }
     {
-        Image { identity, mailbox }
+        Image {
+            identity,
+            mailbox,
+            categories: None,
+        }
     }
 
-    /// The word at a word address, 0 past the image: 0x08 vendor, 0x0A product, 0x0C revision and 0x0E serial
-    /// number, two words each and the low one first; 0x18 offset and 0x19 size of the receive mailbox, 0x1A and
-    /// 0x1B those of the send mailbox, 0x1C the mailbox protocols (bit 2: CoE). All others are 0.
+    /// The image of a slave of a type, which is full where the type has a face. The error says that memory was
+    /// refused; the image of a slave that isn't full takes none.
+    pub fn of(alloc: Global, kind: &SlaveType, identity: Identity) -> Result<Image, AllocError>
+        ensures { IfOk result (λ image. image ≡ image_of kind.now identity) }
+    {
+        let categories = shown_categories(alloc, kind)?;
+        Ok(Image {
+            identity,
+            mailbox: kind.mailbox(),
+            categories,
+        })
+    }
+
+    /// How many kibibits, of 64 words each, the image has: 1, or of a full slave as many as its categories need.
+    pub(crate) fn size(&self) -> usize
+        ensures value { result ≡ size_of self.now.categories }
+        ensures limit { result < 2 ^ 57 }
+    {
+        match &self.categories {
+            Some(categories) => kibibits(categories.as_slice()),
+            None => 1,
+        }
+    }
+
+    /// The word at a word address: 0x08 vendor, 0x0A product, 0x0C revision and 0x0E serial number, two words each
+    /// and the low one first; 0x18 offset and 0x19 size of the receive mailbox, 0x1A and 0x1B those of the send
+    /// mailbox, 0x1C the mailbox protocols (bit 2: CoE). Of a full slave 0x3E is the size in kibibits less 1, 0x3F the
+    /// version, 1, and from 0x40 on the categories stand, with 0xFFFF behind them. All others are 0.
     #[tactic(auto, unfolding(crate::specs::Image::word_at))]
-    pub fn word(&self, address: u32) -> u16
+    pub fn word(&self, address: usize) -> u16
         ensures { result ≡ word_at self.now address }
     {
         match address {
-            0x08..=0x0F => identity_words(self.identity)[address as usize - 0x08],
-            0x18..=0x1C => mailbox_words(self.mailbox)[address as usize - 0x18],
-            _ => 0,
+            0x08..=0x0F => identity_words(self.identity)[address - 0x08],
+            0x18..=0x1C => mailbox_words(self.mailbox)[address - 0x18],
+            _ => self.other_word(address),
         }
     }
+
+    /// The word at a word address where neither the identity nor the mailboxes stand.
+    fn other_word(&self, address: usize) -> u16
+        ensures { result ≡ other_word self.now.categories address }
+    {
+        match &self.categories {
+            Some(categories) => category_word(categories.as_slice(), address),
+            None => 0,
+        }
+    }
+}
+
+/// Where the size of a full slave's image stands, in kibibits less 1.
+const SIZE: usize = 0x3E;
+/// Where the version of its image stands.
+const VERSION: usize = 0x3F;
+/// Where its categories begin.
+const CATEGORIES: usize = 0x40;
+/// What stands behind them.
+const END_MARK: u16 = 0xFFFF;
+
+/// The fewest kibibits, of 64 words each, that hold the first 64 words, these categories, the end mark and one
+/// word more, since a read at the end mark shows two.
+fn kibibits(categories: &[u16]) -> usize
+    ensures value { result ≡ kibibits categories.now }
+    ensures limit { result < 2 ^ 57 }
+{
+    (CATEGORIES + categories.len() + 2).div_ceil(64)
+}
+
+/// A word of a full slave, with these categories, where neither the identity nor the mailboxes stand.
+fn category_word(categories: &[u16], address: usize) -> u16
+    ensures { result ≡ other_word (Some categories.now) address }
+{
+    match address {
+        SIZE => ((kibibits(categories) - 1) % 65536) as u16,
+        VERSION => 1,
+        CATEGORIES.. => categories
+            .get(address - CATEGORIES)
+            .copied()
+            .unwrap_or(END_MARK),
+        _ => 0,
+    }
+}
+
+/// The categories of a slave of a type, if it is a full one.
+fn shown_categories(alloc: Global, kind: &SlaveType) -> Result<Option<Listed<u16>>, AllocError>
+    ensures { IfOk result (λ words. words ≡ option_map (λ f. categories_of kind.now f.name) kind.now.face) }
+{
+    let Some(face) = kind.face() else {
+        return Ok(None);
+    };
+    let words = categories_of(alloc, kind, face.name.as_slice())?;
+    Ok(Some(words))
 }
 
 fn low_word(number: u32) -> u16

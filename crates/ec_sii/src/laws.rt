@@ -1,7 +1,7 @@
 //! What a master finds by the slave information interface, proved of the definitions that the contracts of this
 //! crate cite. Each function does nothing; its contract is the law, which `specs/Laws.antt` spells out.
 
-ghost use Rattle.ec_sii.specs.Laws.{ImagesSpellIdentities, ImagesSpellMailboxes, ReadsShowWords, ReadsEndAtTheImage, BusyTakesNoWrite, StatusIsTheWord, CommandsAreTheWords, OthersHaveNoEffect};
+ghost use Rattle.ec_sii.specs.Laws.{ImagesSpellIdentities, ImagesSpellMailboxes, ImagesHaveSixtyFourWords, PlainTypesHavePlainImages, CategoriesAreShown, WordsFit, FullTypesAreReadBack, ReadsShowWords, ReadsEndAtTheImage, BusyTakesNoWrite, StatusIsTheWord, CommandsAreTheWords, OthersHaveNoEffect};
 
 /// The words of an image spell the identity: each number by two words, the low one first.
 #[tactic(auto, unfolding(crate::specs::Image::word_at))]
@@ -9,10 +9,36 @@ pub fn images_spell_identities()
     ensures { ImagesSpellIdentities }
 {}
 
-/// The words of an image say where the mailboxes lie; without mailboxes, and past the image, they are 0.
+/// The words of an image say where the mailboxes lie; without mailboxes, and past a plain image, they are 0.
 #[tactic(auto, unfolding(crate::specs::Image::word_at))]
 pub fn images_spell_mailboxes()
     ensures { ImagesSpellMailboxes }
+{}
+
+/// An image has 64 words, and more of a full slave.
+pub fn images_have_sixty_four_words()
+    ensures { ImagesHaveSixtyFourWords }
+{}
+
+/// A slave that isn't full shows its identity and its mailboxes, and no more.
+pub fn plain_types_have_plain_images()
+    ensures { PlainTypesHavePlainImages }
+{}
+
+/// The categories stand from 0x40 on, and the end mark fills the image behind them.
+pub fn categories_are_shown()
+    ensures { CategoriesAreShown }
+{}
+
+/// Each word of a slave's image has 16 bits.
+#[tactic(auto, using(crate::proofs::Fits::words_law))]
+pub fn words_fit()
+    ensures { WordsFit }
+{}
+
+/// A master that reads the categories of a full slave finds its name, its sync managers and its PDOs.
+pub fn full_types_are_read_back()
+    ensures { FullTypesAreReadBack }
 {}
 
 /// A read that is commanded at an idle port shows the two words at its address after the next firmware step.

@@ -1,6 +1,6 @@
 //! The registers by which SII words are read.
 ghost use Rattle.std.specs.Prelude.{◌≡◌, ◌<◌, ◌^◌};
-ghost use Rattle.ec_sii.specs.Port.{idle_port, sii_byte, status_byte, byte_for, address_written, written, stepped};
+ghost use Rattle.ec_sii.specs.Port.{idle_port, sii_byte, status_byte, byte_for, address_written, written, stepped, last_address};
 
 use crate::image::Image;
 use ec_regs::SiiControl;
@@ -12,9 +12,6 @@ const COMMAND: usize = SII_CONTROL + 1;
 
 /// The first address after the four bytes of the data.
 const END: usize = SII_DATA + 4;
-
-/// The last word address at which two words stand in the image.
-const LAST_ADDRESS: u32 = 62;
 
 /// The registers by which datagrams read the SII (ETG.1000.4, "Slave information interface"): 0x0502 control and
 /// status, 0x0504 the word address, 0x0508 the four bytes of the last read.
@@ -109,7 +106,7 @@ impl Port {
     }
 
     /// A firmware step: a read that is under way is finished. The two words at the word address then stand in the
-    /// data; for a word address over 62 there is an error and the data stay.
+    /// data; for a word address past the image there is an error and the data stay.
     #[tactic(auto, unfolding(crate::specs::Port::stepped))]
     pub fn step(&mut self)
         ensures { self.new ≡ stepped self.old }
@@ -118,20 +115,31 @@ impl Port {
             return;
         }
         self.is_busy = false;
-        if self.address <= LAST_ADDRESS {
-            let low = self.image.word(self.address);
-            let high = self.image.word(self.address + 1);
+        let address = self.address as usize;
+        if address <= self.last_address() {
+            let low = self.image.word(address);
+            let high = self.image.word(address + 1);
             self.found = low as u32 | (high as u32) << 16;
         } else {
             self.is_error = true;
         }
     }
 
-    /// The port is as at power-on.
+    /// The last word address at which two words stand in the image: 62, or of a full slave more.
+    fn last_address(&self) -> usize
+        ensures { result ≡ last_address self.now.image }
+    {
+        64 * self.image.size() - 2
+    }
+
+    /// The port is as at power-on, with the image that it has.
     pub fn reset(&mut self)
         ensures { self.new ≡ idle_port self.old.image }
     {
-        *self = Port::new(self.image);
+        self.address = 0;
+        self.is_busy = false;
+        self.is_error = false;
+        self.found = 0;
     }
 }
 

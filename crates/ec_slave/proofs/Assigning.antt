@@ -1,6 +1,8 @@
 -- What an SII keeps, and a slave as the power comes on.
 use Rattle.std.proofs.Common.{ℕ, ◌%◌, ◌==◌, ◌≡◌, List, [], ◌∷◌, Bool, true, false, if◌then◌else◌, nat_le, Option, Some, None, refl, ◌∙◌, ap}
 use Rattle.ec_sii.specs.declared.image.Image.{Image}
+use Rattle.ec_dl.specs.DataLink.{DataLink, new_data_link}
+use Rattle.ec_sii.specs.Image.{image_of}
 use Rattle.ec_sii.specs.Port.{Sii, idle_port, addressed, address_written, byte_for, commanded, command_place, written, stepped, two_words, last_address}
 use Rattle.ec_bits.specs.Bits.{zeros}
 use Rattle.ec_al.specs.Al as al
@@ -37,17 +39,18 @@ unfolding stepped
 stepped-image p =
     let done : Sii = record { image = p.image; address = p.address; busy = false; error = p.error; found = two_words p.image p.address } in
     let fault : Sii = record { image = p.image; address = p.address; busy = false; error = true; found = p.found } in
-    either p.busy (if nat_le p.address last_address then done else fault) p p.image (either (nat_le p.address last_address) done fault p.image refl refl) refl
+    either p.busy (if nat_le p.address (last_address p.image) then done else fault) p p.image (either (nat_le p.address (last_address p.image)) done fault p.image refl refl) refl
 
 -- a slave of these parts
-abbrev pub state_of : Dictionary → List ℕ → List Manager → Al → Sii → ℕ → SlaveState
-state_of d memory managers a sii replies = record {
+abbrev pub state_of : Dictionary → List ℕ → List Manager → Al → Sii → DataLink → ℕ → SlaveState
+state_of d memory managers a sii link replies = record {
   kind = d.kind;
   identity = d.identity;
   memory = memory;
   managers = managers;
   al = a;
   sii = sii;
+  link = link;
   outs = d.outs;
   ins = d.ins;
   replies = replies;
@@ -55,24 +58,25 @@ state_of d memory managers a sii replies = record {
 
 -- a slave all of whose parts are as the power comes on
 pub powered : (s : SlaveState) → s.memory ≡ zeros memory_length → s.managers ≡ (no_manager ∷ no_manager ∷ no_manager ∷ no_manager ∷ []) → s.al ≡ al.power_on
-    → s.sii ≡ idle_port (record { identity = s.identity; mailbox = s.kind.mailbox }) → s.outs ≡ all_assigned s.kind.outputs → s.ins ≡ all_assigned s.kind.inputs
+    → s.sii ≡ idle_port (image_of s.kind s.identity) → s.link ≡ new_data_link s.kind.face → s.outs ≡ all_assigned s.kind.outputs → s.ins ≡ all_assigned s.kind.inputs
     → s.replies ≡ 0 → s ≡ power_on s.kind s.identity
 unfolding power_on
-powered s memory managers al sii outs ins replies =
+powered s memory managers al sii link outs ins replies =
     ap (λ x. record s { memory = x }) memory
     ∙ (ap (λ x. record s { memory = zeros memory_length; managers = x }) managers
-    ∙ (ap (λ x. record (power_on s.kind s.identity) { al = x; sii = s.sii; outs = s.outs; ins = s.ins; replies = s.replies }) al
-    ∙ (ap (λ x. record (power_on s.kind s.identity) { sii = x; outs = s.outs; ins = s.ins; replies = s.replies }) sii
+    ∙ (ap (λ x. record (power_on s.kind s.identity) { al = x; sii = s.sii; link = s.link; outs = s.outs; ins = s.ins; replies = s.replies }) al
+    ∙ (ap (λ x. record (power_on s.kind s.identity) { sii = x; link = s.link; outs = s.outs; ins = s.ins; replies = s.replies }) sii
+    ∙ (ap (λ x. record (power_on s.kind s.identity) { link = x; outs = s.outs; ins = s.ins; replies = s.replies }) link
     ∙ (ap (λ x. record (power_on s.kind s.identity) { outs = x; ins = s.ins; replies = s.replies }) outs
     ∙ (ap (λ x. record (power_on s.kind s.identity) { ins = x; replies = s.replies }) ins
-    ∙ ap (λ x. record (power_on s.kind s.identity) { replies = x }) replies)))))
+    ∙ ap (λ x. record (power_on s.kind s.identity) { replies = x }) replies))))))
 
 -- a slave whose dictionary was reset, and whose other parts are as the power comes on
-pub reset-as-new : (old new : Dictionary) (memory : List ℕ) (managers : List Manager) (a : Al) (sii : Sii) → new ≡ new_dictionary old.kind old.identity
+pub reset-as-new : (old new : Dictionary) (memory : List ℕ) (managers : List Manager) (a : Al) (sii : Sii) (link : DataLink) → new ≡ new_dictionary old.kind old.identity
     → memory ≡ zeros memory_length → managers ≡ (no_manager ∷ no_manager ∷ no_manager ∷ no_manager ∷ []) → a ≡ al.power_on
-    → sii ≡ idle_port (record { identity = old.identity; mailbox = old.kind.mailbox })
-    → state_of new memory managers a sii 0 ≡ power_on old.kind old.identity
+    → sii ≡ idle_port (image_of old.kind old.identity) → link ≡ new_data_link old.kind.face
+    → state_of new memory managers a sii link 0 ≡ power_on old.kind old.identity
 unfolding power_on
-reset-as-new old new memory managers a sii d m ms e i =
-    ap (λ (x : Dictionary). state_of x memory managers a sii 0) d
-    ∙ powered (state_of (new_dictionary old.kind old.identity) memory managers a sii 0) m ms e i refl refl refl
+reset-as-new old new memory managers a sii link d m ms e i l =
+    ap (λ (x : Dictionary). state_of x memory managers a sii link 0) d
+    ∙ powered (state_of (new_dictionary old.kind old.identity) memory managers a sii link 0) m ms e i l refl refl refl

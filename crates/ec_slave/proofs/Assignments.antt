@@ -1,5 +1,5 @@
 -- What a firmware step does to the PDOs that are assigned.
-use Rattle.std.proofs.Common.{◌≡◌, ◌≢◌, Bool, true, false, Option, Some, None, refl, sym, ◌∙◌, ap, subst, if◌then◌else◌}
+use Rattle.std.proofs.Common.{◌≡◌, ◌≢◌, Bool, true, false, Option, Some, None, List, ℕ, refl, sym, ◌∙◌, ap, subst, if◌then◌else◌}
 use Rattle.ec_al.specs.declared.state.State.{State}
 use Rattle.ec_al.specs.declared.state.State.TheVariants.{Init, PreOp, SafeOp, Op}
 use Rattle.ec_regs.specs.Types.{SlaveKind}
@@ -11,7 +11,7 @@ use Rattle.ec_coe.specs.Laws.{IsAssignment, KeepsAssignments}
 use Rattle.ec_coe.proofs.Keeping.{assignments_kept, preop_alone}
 use Rattle.ec_slave.specs.State.{SlaveState, manager_at}
 use Rattle.ec_slave.specs.Application.{with_manager}
-use Rattle.ec_slave.specs.Serving.{served, request_decided, read_finished, message_served, is_served, reply_given, request_in, is_preop, dictionary_of, reply_counter}
+use Rattle.ec_slave.specs.Serving.{served, request_decided, read_finished, message_served, is_served, reply_given, request_in, refusal_in, is_preop, dictionary_of, reply_counter}
 use Rattle.ec_slave.specs.FirmwareLaws.{KeepsAssigned, ServesKeepAssignments}
 use Rattle.ec_slave.proofs.Serves.{decided-same}
 
@@ -21,9 +21,10 @@ no-preop PreOp n = absurd (n refl)
 no-preop SafeOp n = refl
 no-preop Op n = refl
 
-given-keeps : (s : SlaveState) (o : Option Message) → KeepsAssigned s (reply_given (with_manager s 0 (message_taken (manager_at s.managers 0))) o)
-given-keeps s None = record { elsewhere = λ n. (refl, refl); outputs = λ h. h; inputs = λ h. h }
-given-keeps s (Some r) =
+given-keeps : (s : SlaveState) (f : Option (List ℕ)) (o : Option Message) → KeepsAssigned s (reply_given (with_manager s 0 (message_taken (manager_at s.managers 0))) f o)
+given-keeps s None None = record { elsewhere = λ n. (refl, refl); outputs = λ h. h; inputs = λ h. h }
+given-keeps s (Some bytes) None = record { elsewhere = λ n. (refl, refl); outputs = λ h. h; inputs = λ h. h }
+given-keeps s f (Some r) =
     let k : KeepsAssignments (dictionary_of s) (answered (is_preop s.al.state) (dictionary_of s) r (reply_counter s.replies)).dictionary = assignments_kept (is_preop s.al.state) (dictionary_of s) r (reply_counter s.replies) in
     record {
       elsewhere = λ n.
@@ -40,7 +41,7 @@ either-keeps false s t k = record { elsewhere = λ n. (refl, refl); outputs = λ
 
 message-keeps : (s : SlaveState) → KeepsAssigned s (message_served s)
 unfolding message_served
-message-keeps s = either-keeps (is_served s) s _ (given-keeps s (request_in s))
+message-keeps s = either-keeps (is_served s) s _ (given-keeps s (refusal_in s) (request_in s))
 
 -- the read of the SII touches no assignment
 read-same : (s : SlaveState) → ((read_finished s).kind ≡ s.kind) × ((read_finished s).outs ≡ s.outs) × ((read_finished s).ins ≡ s.ins)

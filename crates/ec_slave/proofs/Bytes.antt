@@ -3,7 +3,7 @@ use Rattle.std.proofs.Common.{ℕ, ◌+◌, ◌*◌, ◌<◌, ◌≡◌, if◌th
 use Rattle.std.specs.Int.{from_bool}
 use Rattle.ec_slave.specs.declared.role.Role.TheVariants.{Nothing, Read, Write, ReadWrite, OrRead, OrReadWrite}
 use Rattle.ec_sync.specs.Manager.{Manager}
-use Rattle.ec_slave.specs.Physical.{Window, byte_read, some_byte_read, some_byte_written, physical_met}
+use Rattle.ec_slave.specs.Physical.{Window, byte_read, some_byte_read, is_written, physical_met}
 use Rattle.ec_slave.proofs.Windows.{kept_byte}
 use Rattle.ec_slave.specs.Keeping.{length-retold}
 use Rattle.ec_slave.specs.Laws.{WritesByByte, IsWrittenAt, ReadsByByte, CountsByRole}
@@ -48,7 +48,7 @@ pub counts_by_role : CountsByRole
 unfolding physical_met
 counts_by_role s Nothing w = refl
 counts_by_role s Read w = only_read (some_byte_read s.managers w)
-counts_by_role s Write w = alone (some_byte_written s.managers s.sii.busy w)
-counts_by_role s ReadWrite w = both (some_byte_read s.managers w) (some_byte_written s.managers s.sii.busy w)
+counts_by_role s Write w = alone (is_written s w)
+counts_by_role s ReadWrite w = both (some_byte_read s.managers w) (is_written s w)
 counts_by_role s OrRead w = only_read (some_byte_read s.managers w)
-counts_by_role s OrReadWrite w = both (some_byte_read s.managers w) (some_byte_written s.managers s.sii.busy w)
+counts_by_role s OrReadWrite w = both (some_byte_read s.managers w) (is_written s w)

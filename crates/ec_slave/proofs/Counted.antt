@@ -24,7 +24,9 @@ use Rattle.ec_slave.specs.Roles.{role_of, is_reading, is_writing, is_joining}
 use Rattle.ec_slave.specs.State.{SlaveState, Met, manager_at, station_of, fmmus}
 use Rattle.ec_slave.specs.Sound.{IsSlave}
 use Rattle.ec_slave.specs.Managers.{gets_at, is_read_by, is_written_by, reads_under, writes_under}
-use Rattle.ec_slave.specs.Physical.{Window, touches, byte_from, byte_read, retold, retold_from, is_kept, may_read_byte, may_write_byte, memory_written, is_configured, setting_for, physical_managers, physical_after, some_byte_read, some_byte_written, physical_met}
+use Rattle.ec_dl.specs.DataLink.{dl_takes, dl_written}
+use Rattle.ec_dl.proofs.Kept.{untaken}
+use Rattle.ec_slave.specs.Physical.{Window, touches, byte_from, byte_read, retold, retold_from, is_kept, may_read_byte, may_write_byte, memory_written, is_configured, setting_for, physical_managers, physical_after, some_byte_read, some_byte_written, is_written, physical_met}
 use Rattle.ec_slave.specs.AgainstAll.{each_from, governs_among, is_governor}
 use Rattle.ec_slave.specs.Logical.{place_of, readable_bit, read_bit, written_bit, plain_bit, logical_managers, only_if, some_read, some_written, meets_logically}
 use Rattle.ec_slave.specs.Written.{some_plain_written}
@@ -243,16 +245,28 @@ port-kept ms p w l f = elim (cases_Bool p.busy) [
 ]
 
 slave-idle : (s : SlaveState) (reads writes : Bool) (w : Window) → s.sii.address < 2 ^ 32
-    → (reads && some_byte_read s.managers w) ≡ false → (writes && some_byte_written s.managers s.sii.busy w) ≡ false → physical_after s reads writes w ≡ s
+    → (reads && some_byte_read s.managers w) ≡ false → (writes && is_written s w) ≡ false → physical_after s reads writes w ≡ s
 unfolding physical_after
-slave-idle s reads writes w l fr fw =
+slave-idle s reads writes w l fr none =
+    let parts = neither writes (some_byte_written s.managers s.sii.busy w) (dl_takes s.link w.from (length w.bytes)) none in
+    let fw = parts.0 in
     let managers = managers-idle s.managers s.sii.busy reads writes w fr fw in
     let memory = only-written writes (memory_written s.managers w s.memory) s.memory fw (λ f. memory-idle s.managers s.sii.busy w s.memory f) in
     let sii = only-written writes (written s.sii w.from w.bytes) s.sii fw (λ f. port-kept s.managers s.sii w l f) in
+    let link = only-kept writes (dl_written s.link w.from w.bytes) s.link parts.1 (λ f. untaken s.link w.from w.bytes f) in
     let request : (if writes && touches w 0x0120 then requesting s.al else s.al) ≡ s.al
     = if_false _ _ _ (both-false writes _ _ fw (λ t. some-written s.managers s.sii.busy w 0x0120 t (stored-writes s.managers s.sii.busy (touches w) 0x0120 refl))) in
-    rw (managers, memory, sii, request) refl
+    rw (managers, memory, sii, link, request) refl
   where
+    neither : (b x y : Bool) → (b && (x || y)) ≡ false → ((b && x) ≡ false) × ((b && y) ≡ false)
+    neither true true y f = absurd (false≢true (sym f))
+    neither true false y f = (refl, f)
+    neither false x y f = (refl, refl)
+
+    only-kept : {X : Type 0} (b : Bool) (x y : X) → (b && dl_takes s.link w.from (length w.bytes)) ≡ false → (dl_takes s.link w.from (length w.bytes) ≡ false → x ≡ y) → (if b then x else y) ≡ y
+    only-kept true x y f h = h f
+    only-kept false x y f h = refl
+
     only-written : {X : Type 0} (b : Bool) (x y : X) → (b && some_byte_written s.managers s.sii.busy w) ≡ false → (some_byte_written s.managers s.sii.busy w ≡ false → x ≡ y) → (if b then x else y) ≡ y
     only-written true x y f h = h f
     only-written false x y f h = refl
@@ -276,7 +290,7 @@ physical-counts s d h c e =
     let role : Role = role_of d.command (adp_of d) (station_of s) in
     let w : Window = window_of d in
     let n = one-or-two (is_reading role) in
-    let z = counted-nothing (is_reading role && some_byte_read s.managers w) (is_writing role && some_byte_written s.managers s.sii.busy w) (if is_reading role then 2 else 1) d.counter n.0 n.1 c e in
+    let z = counted-nothing (is_reading role && some_byte_read s.managers w) (is_writing role && is_written s w) (if is_reading role then 2 else 1) d.counter n.0 n.1 c e in
     (slave-idle s (is_reading role) (is_writing role) w h.word_address z.0 z.1, data-idle s (is_reading role) (is_joining role) w z.0)
 
 -- ---- a logical datagram

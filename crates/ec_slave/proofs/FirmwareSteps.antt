@@ -14,13 +14,14 @@ use Rattle.ec_sii.specs.Port.{Sii, commanded, addressed, address_written, byte_f
 use Rattle.ec_sii.specs.Port as port
 use Rattle.ec_sii.specs.declared.image.Image.{Image}
 use Rattle.ec_coe.specs.declared.message.Message.{Message}
-use Rattle.ec_coe.specs.Messages.{message_bytes, message_length}
+use Rattle.ec_coe.specs.Messages.{message_length}
+use Rattle.ec_coe.specs.ReplyBytes.{reply_bytes}
 use Rattle.ec_coe.proofs.Effects.{answered-slots}
-use Rattle.ec_coe.proofs.ReadBack.{length-message}
+use Rattle.ec_coe.proofs.Names.{replies_fit}
 use Rattle.ec_slave.specs.State.{SlaveState, manager_at}
 use Rattle.ec_slave.specs.Application.{with_manager}
 use Rattle.ec_slave.specs.Checking.{control_word, checks_of}
-use Rattle.ec_slave.specs.Serving.{dictionary_of, is_init, is_preop, has_mailbox, takes_reply, is_served, request_in, reply_counter, answer_to, replied, reply_given, request_decided, read_finished, message_served, served}
+use Rattle.ec_slave.specs.Serving.{dictionary_of, is_init, is_preop, has_mailbox, takes_reply, is_served, request_in, reply_counter, answer_to, bytes_to, replied, refused, refusal_in, reply_given, request_decided, read_finished, message_served, served}
 use Rattle.ec_slave.specs.Interface.{StepsSettle, StepsHaveThreeParts, RequestsAreDecided, ChecksAreOfManagers, ReadsAreFinished, MessagesKeep, MessagesRest, IsAnswered, RequestsAreAnswered}
 use Rattle.ec_slave.proofs.Serves.{message-kept, served-al, decided-al}
 
@@ -68,7 +69,7 @@ either-idle false x y e f = f
 stepped-idle : (p : Sii) → (port.stepped p).busy ≡ false
 unfolding port.stepped
 stepped-idle p = elim (cases_Bool p.busy) [
-  | inl e ↦ ap busy_of (if_true p.busy _ p e) ∙ either-idle (nat_le p.address port.last_address) _ _ refl refl
+  | inl e ↦ ap busy_of (if_true p.busy _ p e) ∙ either-idle (nat_le p.address (port.last_address p.image)) _ _ refl refl
   | inr e ↦ ap busy_of (if_false p.busy _ p e) ∙ e
 ]
 
@@ -85,7 +86,7 @@ either-image false x y i e f = f
 
 stepped-image : (p : Sii) → (port.stepped p).image ≡ p.image
 unfolding port.stepped
-stepped-image p = either-image p.busy _ p p.image (either-image (nat_le p.address port.last_address) _ _ p.image refl refl) refl
+stepped-image p = either-image p.busy _ p p.image (either-image (nat_le p.address (port.last_address p.image)) _ _ p.image refl refl) refl
 
 commanded-image : (p : Sii) (o : Option ℕ) → image_of (commanded p o) ≡ p.image
 commanded-image p None = refl
@@ -141,7 +142,7 @@ taken-others s n l = get_or-set_other s.managers 0 n (message_taken (manager_at 
 -- what the message part does to a slave: nothing, or it takes the message out and answers it
 pub data Mailed (s t : SlaveState) : Type 0 where
   Unmoved : is_served s ≡ false → t ≡ s → Mailed s t
-  Moved : is_served s ≡ true → t ≡ reply_given (taken_out s) (request_in s) → Mailed s t
+  Moved : is_served s ≡ true → t ≡ reply_given (taken_out s) (refusal_in s) (request_in s) → Mailed s t
 
 pub mailed : (s : SlaveState) → Mailed s (message_served s)
 unfolding message_served
@@ -153,40 +154,44 @@ mailed s = elim (cases_Bool (is_served s)) [
 -- what an answer leaves besides what `Kept` says
 record Left (s t : SlaveState) : Type 0 where
   sii : t.sii ≡ s.sii
+  link : t.link ≡ s.link
   count : length t.managers ≡ length s.managers
   locked : (n : ℕ) → (manager_at t.managers n).locked ≡ (manager_at s.managers n).locked
   others : (n : ℕ) → 2 ≤ n → manager_at t.managers n ≡ manager_at s.managers n
   out_slots : length t.outs.slots ≡ length s.outs.slots
   in_slots : length t.ins.slots ≡ length s.ins.slots
 
-given-left : (s : SlaveState) (o : Option Message) → Left s (reply_given (taken_out s) o)
-given-left s None = record {
+put-left : (s : SlaveState) (bytes : List ℕ) → Left s (refused (taken_out s) bytes)
+put-left s bytes = record {
   sii = refl;
+  link = refl;
+  count = length-set (taken_out s).managers 1 (message_put (manager_at (taken_out s).managers 1) bytes) ∙ length-set s.managers 0 (message_taken (manager_at s.managers 0));
+  locked = λ n. set-alike locked_of (taken_out s).managers 1 (message_put (manager_at (taken_out s).managers 1) bytes)
+      (either-locked (may_put_message (manager_at (taken_out s).managers 1) (length bytes)) _ (manager_at (taken_out s).managers 1) refl) n ∙ taken-locked s n;
+  others = λ n l. get_or-set_other (taken_out s).managers 1 n (message_put (manager_at (taken_out s).managers 1) bytes) no_manager (λ e. omega (arith, e, l)) ∙ taken-others s n l;
+  out_slots = refl;
+  in_slots = refl;
+}
+
+given-left : (s : SlaveState) (f : Option (List ℕ)) (o : Option Message) → Left s (reply_given (taken_out s) f o)
+given-left s None None = record {
+  sii = refl;
+  link = refl;
   count = length-set s.managers 0 (message_taken (manager_at s.managers 0));
   locked = taken-locked s;
   others = taken-others s;
   out_slots = refl;
   in_slots = refl;
 }
-given-left s (Some r) =
-    let t : SlaveState = taken_out s in
-    let bytes : List ℕ = message_bytes (answer_to (taken_out s) r).reply in
-    let put : Manager = message_put (manager_at (taken_out s).managers 1) (message_bytes (answer_to (taken_out s) r).reply) in
+given-left s (Some bytes) None = put-left s bytes
+given-left s f (Some r) =
+    let p = put-left s (bytes_to (taken_out s) r) in
     let q = answered-slots (is_preop s.al.state) (dictionary_of s) r (reply_counter s.replies) in
-    record {
-      sii = refl;
-      count = length-set (taken_out s).managers 1 (message_put (manager_at (taken_out s).managers 1) (message_bytes (answer_to (taken_out s) r).reply))
-          ∙ length-set s.managers 0 (message_taken (manager_at s.managers 0));
-      locked = λ n. set-alike locked_of (taken_out s).managers 1 (message_put (manager_at (taken_out s).managers 1) (message_bytes (answer_to (taken_out s) r).reply))
-          (either-locked (may_put_message (manager_at (taken_out s).managers 1) (length (message_bytes (answer_to (taken_out s) r).reply))) _ (manager_at (taken_out s).managers 1) refl) n ∙ taken-locked s n;
-      others = λ n l. get_or-set_other (taken_out s).managers 1 n (message_put (manager_at (taken_out s).managers 1) (message_bytes (answer_to (taken_out s) r).reply)) no_manager (λ e. omega (arith, e, l)) ∙ taken-others s n l;
-      out_slots = q.outs;
-      in_slots = q.ins;
-    }
+    record { sii = refl; link = refl; count = p.count; locked = p.locked; others = p.others; out_slots = q.outs; in_slots = q.ins }
 
 mailed-left : (s t : SlaveState) → Mailed s t → Left s t
-mailed-left s t (Unmoved n e) = subst (λ (x : SlaveState). Left s x) (sym e) (record { sii = refl; count = refl; locked = λ n. refl; others = λ n l. refl; out_slots = refl; in_slots = refl })
-mailed-left s t (Moved y e) = subst (λ (x : SlaveState). Left s x) (sym e) (given-left s (request_in s))
+mailed-left s t (Unmoved n e) = subst (λ (x : SlaveState). Left s x) (sym e) (record { sii = refl; link = refl; count = refl; locked = λ n. refl; others = λ n l. refl; out_slots = refl; in_slots = refl })
+mailed-left s t (Moved y e) = subst (λ (x : SlaveState). Left s x) (sym e) (given-left s (refusal_in s) (request_in s))
 
 pub messages_keep : MessagesKeep
 messages_keep s =
@@ -198,6 +203,7 @@ messages_keep s =
       memory = k.memory;
       al = k.al;
       sii = l.sii;
+      link = l.link;
       count = l.count;
       settings = k.settings;
       locked = l.locked;
@@ -221,25 +227,26 @@ messages_rest s = record {
     none : (manager_at s.managers 0).mail ≡ None → message_in (manager_at s.managers 0) ≡ None
     none e = if_none (is_enabled (manager_at s.managers 0) && (is_mailbox (manager_at s.managers 0).settings && is_ring_written (manager_at s.managers 0).settings)) (manager_at s.managers 0).mail e
 
--- manager 1 lets the firmware put a reply of sixteen bytes
-put-right : (m : Manager) (message : List ℕ) → length message ≡ 16 → takes_reply m ≡ true → 16 ≤ m.settings.length → may_put_message m (length message) ≡ true
-put-right m message e t l =
+-- manager 1 lets the firmware put a reply that fits
+put-right : (m : Manager) (message : List ℕ) → length message ≤ m.settings.length → takes_reply m ≡ true → may_put_message m (length message) ≡ true
+put-right m message e t =
     let a = and_parts (is_enabled m) _ t in
     let b = and_parts (is_mailbox m.settings) _ a.1 in
     let c = and_parts (is_ring_read m.settings) _ b.1 in
-    and_from _ _ a.0 (and_from _ _ b.0 (and_from _ _ c.0 (and_from _ _ c.1 (le-leb (length message) m.settings.length (omega (arith, e, l))))))
+    and_from _ _ a.0 (and_from _ _ b.0 (and_from _ _ c.0 (and_from _ _ c.1 (le-leb (length message) m.settings.length e))))
 
 given-answers : (s : SlaveState) (r : Message) → 1 < length s.managers → is_some (message_in (manager_at s.managers 0)) ≡ true → takes_reply (manager_at s.managers 1) ≡ true
     → message_length ≤ (manager_at s.managers 1).settings.length → IsAnswered s r (replied (taken_out s) r)
 given-answers s r l there t room =
     let m1 : Manager = manager_at s.managers 1 in
-    let bytes : List ℕ = message_bytes (answer_to s r).reply in
+    let told : Manager → List ℕ = λ m. reply_bytes (answer_to s r).dictionary m.settings.length (answer_to s r).reply in
     let x : Manager = message_taken (manager_at s.managers 0) in
-    let y : Manager = message_put (manager_at (set s.managers 0 (message_taken (manager_at s.managers 0))) 1) (message_bytes (answer_to s r).reply) in
-    let next : manager_at (set s.managers 0 (message_taken (manager_at s.managers 0))) 1 ≡ m1 = get_or-set_other s.managers 0 1 (message_taken (manager_at s.managers 0)) no_manager (λ q. omega (arith, q)) in
-    let put : (message_put (manager_at (set s.managers 0 (message_taken (manager_at s.managers 0))) 1) (message_bytes (answer_to s r).reply)).mail ≡ Some (padded (manager_at s.managers 1) (message_bytes (answer_to s r).reply))
-    = ap (λ (m : Manager). (message_put m (message_bytes (answer_to s r).reply)).mail) next
-    ∙ ap (λ (m : Manager). m.mail) (if_true _ (record m1 { mail = Some (padded (manager_at s.managers 1) (message_bytes (answer_to s r).reply)) }) m1 (put-right m1 (message_bytes (answer_to s r).reply) (length-message (answer_to s r).reply) t room)) in
+    let y : Manager = message_put (manager_at (set s.managers 0 x) 1) (told (manager_at (set s.managers 0 x) 1)) in
+    let next : manager_at (set s.managers 0 x) 1 ≡ m1 = get_or-set_other s.managers 0 1 x no_manager (λ q. omega (arith, q)) in
+    let fits : length (bytes_to s r) ≤ m1.settings.length = replies_fit.fits (answer_to s r).dictionary m1.settings.length (answer_to s r).reply room in
+    let put : y.mail ≡ Some (padded m1 (bytes_to s r))
+    = ap (λ (m : Manager). (message_put m (told m)).mail) next
+    ∙ ap (λ (m : Manager). m.mail) (if_true _ (record m1 { mail = Some (padded m1 (bytes_to s r)) }) m1 (put-right m1 (bytes_to s r) fits t)) in
     record {
       no_message = ap (λ (m : Manager). m.mail) (get_or-set_other (set s.managers 0 x) 1 0 y no_manager (λ q. omega (arith, q)) ∙ get_or-set_same s.managers 0 x no_manager (omega arith))
           ∙ ap (λ (m : Manager). m.mail) (if_true (is_some (message_in (manager_at s.managers 0))) (record (manager_at s.managers 0) { mail = None }) (manager_at s.managers 0) there);
@@ -253,7 +260,7 @@ unfolding message_served
 requests_answered s r l y e room =
     let parts = and_parts (has_mailbox s) (takes_reply (manager_at s.managers 1) && is_some (message_in (manager_at s.managers 0))) y in
     let inner = and_parts (takes_reply (manager_at s.managers 1)) (is_some (message_in (manager_at s.managers 0))) parts.1 in
-    let is : message_served s ≡ replied (taken_out s) r = if_true _ _ _ y ∙ ap (reply_given (taken_out s)) e in
+    let is : message_served s ≡ replied (taken_out s) r = if_true _ _ _ y ∙ ap (reply_given (taken_out s) (refusal_in s)) e in
     subst (λ (t : SlaveState). IsAnswered s r t) (sym is) (given-answers s r l inner.1 inner.0 room)
 
 -- ---- all of it

@@ -7,7 +7,7 @@ use Rattle.ec_frame.specs.declared.command.Command.TheVariants.{Nop, Aprd, Apwr,
 use Rattle.ec_frame.specs.Datagram.{Datagram, adp_of, ado_of}
 use Rattle.ec_slave.specs.Roles.{role_of, adp_after, is_reading, is_writing, is_joining}
 use Rattle.ec_slave.specs.State.{SlaveState, Met, station_of}
-use Rattle.ec_slave.specs.Physical.{Window, byte_read, retold, some_byte_read, some_byte_written, physical_after, physical_met}
+use Rattle.ec_slave.specs.Physical.{Window, byte_read, retold, some_byte_read, is_written, physical_after, physical_met}
 use Rattle.ec_slave.specs.Meeting.{window_of, meets, meets_by, meets_physically}
 use Rattle.ec_slave.specs.Keeping.{meets-keeps}
 use Rattle.ec_slave.specs.Logical.{meets_logically}
@@ -47,7 +47,7 @@ physical s d h = physical-by d.command s d (adp_of d) (station_of s) h
 
 -- what the counter grows by
 abbrev added_by : Bool → Bool → SlaveState → Window → ℕ
-added_by reads writes s w = from_bool (reads && some_byte_read s.managers w) + (if reads then 2 else 1) * from_bool (writes && some_byte_written s.managers s.sii.busy w)
+added_by reads writes s w = from_bool (reads && some_byte_read s.managers w) + (if reads then 2 else 1) * from_bool (writes && is_written s w)
 
 pub writes_meet : WritesMeet
 unfolding physical_met
@@ -61,7 +61,7 @@ writes_meet s d h =
       counter = ap (λ (x : Met). x.datagram.counter) m
           ∙ (ap (λ (b : Bool). (d.counter + added_by b (is_writing (role_of d.command (adp_of d) (station_of s))) s (window_of d)) % 65536) h.reads
           ∙ (ap (λ (b : Bool). (d.counter + added_by false b s (window_of d)) % 65536) h.writes
-          ∙ ap (λ (n : ℕ). (d.counter + n) % 65536) (plain (from_bool (some_byte_written s.managers s.sii.busy (window_of d))))));
+          ∙ ap (λ (n : ℕ). (d.counter + n) % 65536) (plain (from_bool (is_written s (window_of d))))));
     }
   where
     plain : (n : ℕ) → 0 + 1 * n ≡ n

@@ -68,6 +68,7 @@ registers_written s w l = record {
   managers = λ n b. let e : 0 + n ≡ n = omega arith in set-at [] s.managers w 0 n l b ∙ ap (λ (j : ℕ). set_by w j (manager_at s.managers n)) e;
   al = refl;
   sii = refl;
+  link = refl;
   outs = refl;
   ins = refl;
 }

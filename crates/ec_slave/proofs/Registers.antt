@@ -1,6 +1,6 @@
 -- What a slave's registers, managers and bits are after a datagram.
-use Rattle.std.proofs.Common.{ℕ, zero, suc, ◌+◌, ◌-◌, ◌*◌, ◌/◌, ◌%◌, ◌<◌, ◌≤◌, ◌≡◌, ◌==◌, ◌&&◌, ◌||◌, not, Bool, true, false, Option, Some, None, refl, sym, ◌∙◌, ap, inl, inr, arith, if◌then◌else◌, List, [], ◌∷◌, length, slice_index, unwrap_or, nat_lt}
-use Rattle.std.proofs.lemmas.Bool.{or_left, or_right, and_left, and_right, and_from, cases_Bool, both_ways, false_from_ne_true, false≢true, eqb-true, lt-leb, lt-ltb}
+use Rattle.std.proofs.Common.{ℕ, zero, suc, ◌+◌, ◌-◌, ◌*◌, ◌/◌, ◌%◌, ◌<◌, ◌≤◌, ◌≡◌, ◌==◌, ◌&&◌, ◌||◌, not, Bool, true, false, Option, Some, None, is_some, refl, sym, ◌∙◌, ap, subst, inl, inr, arith, if◌then◌else◌, List, [], ◌∷◌, length, slice_index, unwrap_or, nat_lt}
+use Rattle.std.proofs.lemmas.Bool.{or_left, or_right, and_left, and_right, and_from, and_parts, cases_Bool, both_ways, false_from_ne_true, false≢true, eqb-true, lt-leb, lt-ltb}
 use Rattle.std.proofs.lemmas.List.{length-replicate}
 use Rattle.ec_bits.specs.Bits.{bit, within, zeros}
 use Rattle.ec_bits.proofs.AnyLaws.{if_true, if_false, within_above, within_below, within_parts, within_true}
@@ -18,6 +18,8 @@ use Rattle.ec_slave.specs.State.{SlaveState, Met, fmmus, manager_at, station_of}
 use Rattle.ec_slave.specs.Sound.{IsSlave}
 use Rattle.ec_slave.specs.Managers.{manager_after}
 use Rattle.ec_slave.specs.AgainstAll.{bits_among, each_from, governs_among, value_among}
+use Rattle.ec_dl.specs.DataLink.{dl_byte, dl_keeps, dl_written, kept_place}
+use Rattle.ec_dl.proofs.Kept.{read_back, kept_are_six}
 use Rattle.ec_slave.specs.Physical.{Window, byte_at, is_configured, is_kept, physical_managers, physical_met, memory_written, register_byte, settings_written, physical_after, touches}
 use Rattle.ec_slave.specs.Logical.{brought, meets_logically, only_if, place_of}
 use Rattle.ec_slave.specs.Meeting.{window_of, meets, meets_by, meets_physically, slave_met}
@@ -115,12 +117,26 @@ stored-reads s a l m =
 
 -- any other reads by what it reads apart from the memory
 other-reads : (s t : SlaveState) (a : ℕ) → a < 0x0800 → in_memory a ≡ false → status_word t.al ≡ status_word s.al → t.al.code ≡ s.al.code
-    → sii_byte t.sii a ≡ sii_byte s.sii a → byte_at t a ≡ byte_at s a
+    → sii_byte t.sii a ≡ sii_byte s.sii a → dl_byte t.link a ≡ dl_byte s.link a → byte_at t a ≡ byte_at s a
 unfolding byte_at register_byte
-other-reads s t a l m w c p =
+other-reads s t a l m w c p k =
     let out : within 0x0800 32 a ≡ false = and_left _ _ (lt-leb 0x0800 a l) in
     let ram : nat_lt a ram_start ≡ true = lt-ltb a ram_start (omega arith) in
-    rw (ram, m, out, w, c, p) refl
+    rw (ram, m, out, w, c, p, k) refl
+
+-- a data link register that keeps writes reads what it keeps
+link-reads : (s : SlaveState) (a : ℕ) → is_some (kept_place a) ≡ true → byte_at s a ≡ dl_byte s.link a
+unfolding byte_at register_byte
+link-reads s a h =
+    let P : ℕ → Type 0 = λ x. byte_at s x ≡ dl_byte s.link x in
+    elim (kept_are_six a h) [
+      | inl e ↦ subst P (sym e) refl
+      | inr (inl e) ↦ subst P (sym e) refl
+      | inr (inr (inl e)) ↦ subst P (sym e) refl
+      | inr (inr (inr (inl e))) ↦ subst P (sym e) refl
+      | inr (inr (inr (inr (inl e)))) ↦ subst P (sym e) refl
+      | inr (inr (inr (inr (inr e)))) ↦ subst P (sym e) refl
+    ]
 
 -- the port's other bytes
 commanded-found : (p : Sii) (o : Option ℕ) → (commanded p o).found ≡ p.found
@@ -154,7 +170,7 @@ requested-same true al = (refl, refl)
 requested-same false al = (refl, refl)
 
 registers-written : (s : SlaveState) (reads : Bool) (w : Window) (a : ℕ) → IsSlave s → a < 0x0800 → within 0x0502 6 a ≡ false
-    → byte_at (physical_after s reads true w) a ≡ (if touches w a && is_stored a then slice_index w.bytes (a - w.from) else byte_at s a)
+    → byte_at (physical_after s reads true w) a ≡ (if touches w a && (is_stored a || dl_keeps s.link a) then slice_index w.bytes (a - w.from) else byte_at s a)
 unfolding physical_after
 registers-written s reads w a h l out =
     let inside : a < length s.memory = omega (arith, h.memory) in
@@ -164,18 +180,28 @@ registers-written s reads w a h l out =
       managers = physical_managers [] reads true w 0 s.managers;
       al = if touches w 0x0120 then requesting s.al else s.al;
       sii = written s.sii w.from w.bytes;
+      link = dl_written s.link w.from w.bytes;
     } in
-    elim (cases_Bool (in_memory a)) as (λ _. byte_at after a ≡ (if touches w a && is_stored a then slice_index w.bytes (a - w.from) else byte_at s a)) [
+    let back = read_back s.link w.from w.bytes a in
+    elim (cases_Bool (in_memory a)) as (λ _. byte_at after a ≡ (if touches w a && (is_stored a || dl_keeps s.link a) then slice_index w.bytes (a - w.from) else byte_at s a)) [
       | inl m ↦
           let stored : is_stored a ≡ true = stored-in-memory a l ∙ m in
-          stored-reads after a l m ∙ elim (cases_Bool (touches w a)) as (λ _. slice_index (memory_written s.managers w s.memory) a ≡ (if touches w a && is_stored a then slice_index w.bytes (a - w.from) else byte_at s a)) [
-            | inl t ↦ at.taken t (kept-stored s.managers a l ∙ stored) ∙ sym (if_true _ _ _ (and_from _ _ t stored))
+          stored-reads after a l m ∙ elim (cases_Bool (touches w a)) as (λ _. slice_index (memory_written s.managers w s.memory) a ≡ (if touches w a && (is_stored a || dl_keeps s.link a) then slice_index w.bytes (a - w.from) else byte_at s a)) [
+            | inl t ↦ at.taken t (kept-stored s.managers a l ∙ stored) ∙ sym (if_true _ _ _ (and_from _ _ t (or_left (is_stored a) _ stored)))
             | inr t ↦ at.untouched t ∙ (sym (stored-reads s a l m) ∙ sym (if_false _ _ _ (and_left _ _ t)))
           ]
       | inr m ↦
           let r = requested-same (touches w 0x0120) s.al in
-          other-reads s after a l m r.0 r.1 (port-others s.sii (written s.sii w.from w.bytes) a out (written-found s.sii w.from w.bytes))
-          ∙ sym (if_false _ _ _ (and_right (touches w a) _ (stored-in-memory a l ∙ m)))
+          let plain : (is_stored a || dl_keeps s.link a) ≡ dl_keeps s.link a = ap (λ (b : Bool). b || dl_keeps s.link a) (stored-in-memory a l ∙ m) in
+          elim (cases_Bool (touches w a && dl_keeps s.link a)) as (λ _. byte_at after a ≡ (if touches w a && (is_stored a || dl_keeps s.link a) then slice_index w.bytes (a - w.from) else byte_at s a)) [
+            | inl k ↦
+                let kept : dl_keeps s.link a ≡ true = (and_parts (touches w a) _ k).1 in
+                link-reads after a (and_parts s.link.shown _ kept).1 ∙ (back ∙ (if_true _ _ _ k
+                ∙ sym (if_true _ _ _ (ap (λ (b : Bool). touches w a && b) plain ∙ k))))
+            | inr k ↦
+                other-reads s after a l m r.0 r.1 (port-others s.sii (written s.sii w.from w.bytes) a out (written-found s.sii w.from w.bytes)) (back ∙ if_false _ _ _ k)
+                ∙ sym (if_false _ _ _ (ap (λ (b : Bool). touches w a && b) plain ∙ k))
+          ]
     ]
 
 pub registers_after_write : RegistersAfterWrite

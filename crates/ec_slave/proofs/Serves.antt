@@ -6,7 +6,7 @@ use Rattle.ec_regs.specs.declared.manager.ManagerSettings.{ManagerSettings}
 use Rattle.ec_sync.specs.Manager.{Manager, message_taken, message_put, message_in, zeros_published}
 use Rattle.ec_al.specs.declared.state.State.{State}
 use Rattle.ec_al.specs.declared.state.State.TheVariants.{Init, PreOp, SafeOp, Op}
-use Rattle.ec_al.specs.Al.{Al, stepped}
+use Rattle.ec_al.specs.Al.{Al, decided, stepped}
 use Rattle.ec_sii.specs.Port as port
 use Rattle.ec_sii.specs.Port.{Sii}
 use Rattle.ec_coe.specs.declared.message.Message.{Message}
@@ -16,7 +16,7 @@ use Rattle.ec_coe.proofs.Keeping.{assignments_kept}
 use Rattle.ec_slave.specs.State.{SlaveState, manager_at, fmmus_of}
 use Rattle.ec_slave.specs.Application.{is_running, with_manager}
 use Rattle.ec_slave.specs.Checking.{checks_of, control_word}
-use Rattle.ec_slave.specs.Serving.{served, request_decided, read_finished, message_served, with_al, managers_entered, is_served, reply_given, request_in, is_preop, dictionary_of, reply_counter, unlocked_empty, is_init, is_safeop, has_mailbox, takes_reply}
+use Rattle.ec_slave.specs.Serving.{served, request_decided, read_finished, message_served, with_al, managers_entered, is_served, reply_given, request_in, refusal_in, bytes_to, is_preop, dictionary_of, reply_counter, unlocked_empty, is_init, is_safeop, has_mailbox, takes_reply}
 use Rattle.ec_slave.specs.FirmwareLaws.{RestsQuietly, ServesKeepSettings, ServesKeepBuffers}
 
 -- ---- nothing waits
@@ -114,37 +114,59 @@ pub record Kept (s t : SlaveState) : Type 0 where
   pub buffers : (n : ℕ) → (manager_at t.managers n).buffer ≡ (manager_at s.managers n).buffer
   pub kind : t.kind ≡ s.kind
   pub identity : t.identity ≡ s.identity
+  pub link : t.link ≡ s.link
 
-replied-kept : (s : SlaveState) (o : Option Message) → Kept s (reply_given (with_manager s 0 (message_taken (manager_at s.managers 0))) o)
-replied-kept s None = record {
+-- what was put into manager 1 after the message was taken out changes no settings and no buffer
+put-alike : (s : SlaveState) (bytes : List ℕ) (n : ℕ) → (let t : SlaveState = with_manager s 0 (message_taken (manager_at s.managers 0)) in
+    ((manager_at (slice_set t.managers 1 (message_put (manager_at t.managers 1) bytes)) n).settings ≡ (manager_at s.managers n).settings)
+    × ((manager_at (slice_set t.managers 1 (message_put (manager_at t.managers 1) bytes)) n).buffer ≡ (manager_at s.managers n).buffer))
+put-alike s bytes n =
+    let t : SlaveState = with_manager s 0 (message_taken (manager_at s.managers 0)) in (
+      set-alike (λ (m : Manager). m.settings) t.managers 1 _ (put-settings (manager_at t.managers 1) _) n
+          ∙ set-alike (λ (m : Manager). m.settings) s.managers 0 (message_taken (manager_at s.managers 0)) (taken-settings (manager_at s.managers 0)) n,
+      set-alike (λ (m : Manager). m.buffer) t.managers 1 _ (put-buffer (manager_at t.managers 1) _) n
+          ∙ set-alike (λ (m : Manager). m.buffer) s.managers 0 (message_taken (manager_at s.managers 0)) (taken-buffer (manager_at s.managers 0)) n,
+    )
+
+replied-kept : (s : SlaveState) (f : Option (List ℕ)) (o : Option Message) → Kept s (reply_given (with_manager s 0 (message_taken (manager_at s.managers 0))) f o)
+replied-kept s None None = record {
   al = refl;
   memory = refl;
   settings = set-alike (λ (m : Manager). m.settings) s.managers 0 (message_taken (manager_at s.managers 0)) (taken-settings (manager_at s.managers 0));
   buffers = set-alike (λ (m : Manager). m.buffer) s.managers 0 (message_taken (manager_at s.managers 0)) (taken-buffer (manager_at s.managers 0));
   kind = refl;
   identity = refl;
+  link = refl;
 }
-replied-kept s (Some r) =
+replied-kept s (Some bytes) None = record {
+  al = refl;
+  memory = refl;
+  settings = λ n. (put-alike s bytes n).0;
+  buffers = λ n. (put-alike s bytes n).1;
+  kind = refl;
+  identity = refl;
+  link = refl;
+}
+replied-kept s f (Some r) =
     let t : SlaveState = with_manager s 0 (message_taken (manager_at s.managers 0)) in
     let k : KeepsAssignments (dictionary_of t) (answered (is_preop t.al.state) (dictionary_of t) r (reply_counter t.replies)).dictionary = assignments_kept (is_preop t.al.state) (dictionary_of t) r (reply_counter t.replies) in
     record {
       al = refl;
       memory = refl;
-      settings = λ n. set-alike (λ (m : Manager). m.settings) t.managers 1 _ (put-settings (manager_at t.managers 1) _) n
-          ∙ set-alike (λ (m : Manager). m.settings) s.managers 0 (message_taken (manager_at s.managers 0)) (taken-settings (manager_at s.managers 0)) n;
-      buffers = λ n. set-alike (λ (m : Manager). m.buffer) t.managers 1 _ (put-buffer (manager_at t.managers 1) _) n
-          ∙ set-alike (λ (m : Manager). m.buffer) s.managers 0 (message_taken (manager_at s.managers 0)) (taken-buffer (manager_at s.managers 0)) n;
+      settings = λ n. (put-alike s (bytes_to t r) n).0;
+      buffers = λ n. (put-alike s (bytes_to t r) n).1;
       kind = k.kind;
       identity = k.identity;
+      link = refl;
     }
 
 either-kept : (b : Bool) (s t : SlaveState) → Kept s t → Kept s (if b then t else s)
 either-kept true s t k = k
-either-kept false s t k = record { al = refl; memory = refl; settings = λ n. refl; buffers = λ n. refl; kind = refl; identity = refl }
+either-kept false s t k = record { al = refl; memory = refl; settings = λ n. refl; buffers = λ n. refl; kind = refl; identity = refl; link = refl }
 
 pub message-kept : (s : SlaveState) → Kept s (message_served s)
 unfolding message_served
-message-kept s = either-kept (is_served s) s _ (replied-kept s (request_in s))
+message-kept s = either-kept (is_served s) s _ (replied-kept s (refusal_in s) (request_in s))
 
 -- ---- the AL request
 
@@ -197,13 +219,22 @@ decided-managers s r h = managers-decided s.al.requested s _ r h
 -- ---- all of it
 
 -- the read of the SII changes nothing else
-read-managers : (s : SlaveState) → ((read_finished s).managers ≡ s.managers) × ((read_finished s).al ≡ s.al) × ((read_finished s).memory ≡ s.memory) × ((read_finished s).kind ≡ s.kind) × ((read_finished s).identity ≡ s.identity)
+read-managers : (s : SlaveState) → ((read_finished s).managers ≡ s.managers) × ((read_finished s).al ≡ s.al) × ((read_finished s).memory ≡ s.memory) × ((read_finished s).kind ≡ s.kind) × ((read_finished s).identity ≡ s.identity) × ((read_finished s).link ≡ s.link)
 unfolding read_finished
-read-managers s = (refl, refl, refl, refl, refl)
+read-managers s = (refl, refl, refl, refl, refl, refl)
 
 pub served-al : (s : SlaveState) → (served s).al ≡ (request_decided s).al
 unfolding served
 served-al s = (message-kept (read_finished (request_decided s))).al ∙ (read-managers (request_decided s)).1
+
+-- an AL request changes no data link register
+decided-link : (s : SlaveState) → (request_decided s).link ≡ s.link
+unfolding request_decided
+decided-link s = by s.al.requested (with_al s (decided s.al (control_word s) (checks_of s))) refl
+  where
+    by : (b : Bool) (t : SlaveState) → t.link ≡ s.link → (let x : SlaveState = if b then t else s in x.link ≡ s.link)
+    by true t h = h
+    by false t h = refl
 
 pub settings_kept : ServesKeepSettings
 unfolding served
@@ -220,6 +251,7 @@ settings_kept s =
       settings = λ n. k.settings n ∙ (ap (λ (ms : List Manager). (manager_at ms n).settings) q.0 ∙ decided-settings s n);
       kind = k.kind ∙ (q.3 ∙ (decided-same s).kind);
       identity = k.identity ∙ (q.4 ∙ (decided-same s).identity);
+      link = k.link ∙ (q.5 ∙ decided-link s);
     }
 
 pub buffers_kept : ServesKeepBuffers

@@ -12,7 +12,6 @@ use Rattle.ec_sync.specs.Sound.{IsManager}
 use Rattle.ec_al.specs.Al as al
 use Rattle.ec_al.specs.declared.state.State.{State}
 use Rattle.ec_coe.specs.declared.message.Message.{Message}
-use Rattle.ec_coe.specs.Messages.{message_bytes}
 use Rattle.ec_slave.specs.Roles.{role_of, is_reading, is_writing}
 use Rattle.ec_slave.specs.State.{SlaveState, Met, manager_at, station_of}
 use Rattle.ec_slave.specs.Physical.{Window, physical_after, physical_met}
@@ -20,7 +19,7 @@ use Rattle.ec_slave.specs.Logical.{meets_logically}
 use Rattle.ec_slave.specs.Meeting.{window_of, meets, meets_by, meets_physically, slave_met}
 use Rattle.ec_slave.specs.Application.{input_put, output_got, output_taken, with_manager, is_running}
 use Rattle.ec_slave.specs.Checking.{control_word, checks_of}
-use Rattle.ec_slave.specs.Serving.{served, request_decided, read_finished, message_served, reply_given, request_in, answer_to, is_served, managers_entered, unlocked_empty, is_init, is_safeop, is_preop, with_al}
+use Rattle.ec_slave.specs.Serving.{served, request_decided, read_finished, message_served, reply_given, request_in, refusal_in, refused, bytes_to, is_served, managers_entered, unlocked_empty, is_init, is_safeop, is_preop, with_al}
 use Rattle.ec_slave.specs.Faulting.{faulted, locked_empty}
 use Rattle.ec_slave.specs.Interface.{AreWhole, ValuesStayWhole}
 use Rattle.ec_slave.proofs.Lasting.{AreSound, empty-sound, no-manager-sound, all-met-sound, all-exchanged-sound}
@@ -230,10 +229,13 @@ message_put-sound m bytes h = by (may_put_message m (length bytes))
     by true = record { published = h.published; draft = h.draft; view = h.view }
     by false = h
 
-reply-whole : (s : SlaveState) (o : Option Message) → AreWhole s → AreWhole (reply_given s o)
-reply-whole s None h = h
-reply-whole s (Some r) h =
-    set-sound s.managers 1 (message_put (manager_at s.managers 1) (message_bytes (answer_to s r).reply)) h (message_put-sound (manager_at s.managers 1) (message_bytes (answer_to s r).reply) (h 1))
+back-whole : (s : SlaveState) (bytes : List ℕ) → AreWhole s → AreWhole (refused s bytes)
+back-whole s bytes h = set-sound s.managers 1 (message_put (manager_at s.managers 1) bytes) h (message_put-sound (manager_at s.managers 1) bytes (h 1))
+
+reply-whole : (s : SlaveState) (f : Option (List ℕ)) (o : Option Message) → AreWhole s → AreWhole (reply_given s f o)
+reply-whole s None None h = h
+reply-whole s (Some bytes) None h = back-whole s bytes h
+reply-whole s f (Some r) h = back-whole s (bytes_to s r) h
 
 message-whole : (s : SlaveState) → AreWhole s → AreWhole (message_served s)
 unfolding message_served
@@ -242,8 +244,8 @@ message-whole s h = by (is_served s)
     emptied : SlaveState
     emptied = with_manager s 0 (message_taken (manager_at s.managers 0))
 
-    by : (b : Bool) → (let x : SlaveState = if b then reply_given emptied (request_in s) else s in AreWhole x)
-    by true = reply-whole emptied (request_in s) (set-sound s.managers 0 (message_taken (manager_at s.managers 0)) h (message_taken-sound (manager_at s.managers 0) (h 0)))
+    by : (b : Bool) → (let x : SlaveState = if b then reply_given emptied (refusal_in s) (request_in s) else s in AreWhole x)
+    by true = reply-whole emptied (refusal_in s) (request_in s) (set-sound s.managers 0 (message_taken (manager_at s.managers 0)) h (message_taken-sound (manager_at s.managers 0) (h 0)))
     by false = h
 
 served-whole : (s : SlaveState) → AreWhole s → AreWhole (served s)

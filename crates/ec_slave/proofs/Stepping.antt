@@ -4,11 +4,10 @@ use Rattle.ec_bits.proofs.AnyLaws.{if_true}
 use Rattle.ec_sync.specs.Manager.{Manager, message_put}
 use Rattle.ec_al.specs.Al.{Al, stepped, decided}
 use Rattle.ec_coe.specs.declared.message.Message.{Message}
-use Rattle.ec_coe.specs.Messages.{message_bytes}
 use Rattle.ec_coe.specs.Objects.{Dictionary}
 use Rattle.ec_slave.specs.State.{SlaveState, manager_at}
 use Rattle.ec_slave.specs.Checking.{checks_of, control_word}
-use Rattle.ec_slave.specs.Serving.{request_decided, with_al, managers_entered, replies_entered, replied, reply_counter, answer_to}
+use Rattle.ec_slave.specs.Serving.{request_decided, with_al, managers_entered, replies_entered, replied, reply_counter, answer_to, bytes_to}
 
 -- a request was decided, and its state entered
 pub decided-by : (s : SlaveState) (a : Al) (ms : List Manager) (replies : ℕ) → s.al.requested ≡ true → a ≡ stepped s.al (control_word s) (checks_of s)
@@ -24,7 +23,7 @@ decided-by s a ms replies asked is managers counted =
 
 -- a reply was put, and counted
 pub replied-by : (s : SlaveState) (r : Message) (d : Dictionary) (m : Manager) → d ≡ (answer_to s r).dictionary
-    → m ≡ message_put (manager_at s.managers 1) (message_bytes (answer_to s r).reply)
+    → m ≡ message_put (manager_at s.managers 1) (bytes_to s r)
     → record s { kind = d.kind; identity = d.identity; outs = d.outs; ins = d.ins; managers = slice_set s.managers 1 m; replies = reply_counter s.replies } ≡ replied s r
 replied-by s r d m after put =
     ap (λ (x : Dictionary). record s { kind = x.kind; identity = x.identity; outs = x.outs; ins = x.ins; managers = slice_set s.managers 1 m; replies = reply_counter s.replies }) after

@@ -6,7 +6,6 @@ use Rattle.ec_bits.proofs.AnyLaws.{if_true, if_false}
 use Rattle.ec_al.specs.Al.{is_operational}
 use Rattle.ec_al.specs.declared.state.State.{State}
 use Rattle.ec_coe.specs.declared.message.Message.{Message}
-use Rattle.ec_coe.specs.Messages.{message_bytes}
 use Rattle.ec_frame.specs.declared.command.Command.{Command}
 use Rattle.ec_frame.specs.declared.command.Command.TheVariants.{Nop, Aprd, Apwr, Aprw, Fprd, Fpwr, Fprw, Brd, Bwr, Brw, Lrd, Lwr, Lrw, Armw, Frmw}
 use Rattle.ec_frame.specs.Datagram.{Datagram, adp_of}
@@ -22,7 +21,7 @@ use Rattle.ec_slave.specs.AgainstAll.{each_from, governs_among, value_among, bit
 use Rattle.ec_slave.specs.Logical.{meets_logically, place_of}
 use Rattle.ec_slave.specs.Meeting.{meets, meets_by, meets_physically, slave_met, window_of}
 use Rattle.ec_slave.specs.Application.{is_running, with_manager, output_taken}
-use Rattle.ec_slave.specs.Serving.{served, request_decided, read_finished, message_served, managers_entered, unlocked_empty, reply_given, request_in, is_served, answer_to, is_init, is_safeop, is_preop}
+use Rattle.ec_slave.specs.Serving.{served, request_decided, read_finished, message_served, managers_entered, unlocked_empty, reply_given, request_in, refusal_in, refused, bytes_to, is_served, is_init, is_safeop, is_preop}
 use Rattle.ec_slave.specs.Faulting.{faulted}
 use Rattle.ec_slave.specs.Steps.{AccessesAreSteps, IsRunTo, AreRunTo, ManagersGoByRuns, is_of_ring, is_of_firmware, is_of_application}
 use Rattle.ec_slave.proofs.AgainstAll.{physical_against_all, logical_against_all}
@@ -223,11 +222,9 @@ apart_run (x ∷ y ∷ ms) o p k l zero = one_step is_of_firmware 1 x _ o (omega
 apart_run (x ∷ y ∷ ms) o p k l (suc zero) = one_step is_of_firmware 1 y _ p (omega arith) l refl
 apart_run (x ∷ y ∷ ms) o p k l (suc (suc n)) = no_run is_of_firmware 1 _
 
-message_one : (s : SlaveState) (o : Option Message) → AreRunTo is_of_firmware 1 s (reply_given (with_manager s 0 (message_taken (manager_at s.managers 0))) o)
-message_one s None = set_run is_of_firmware 1 s.managers 0 _ (one_step is_of_firmware 1 (manager_at s.managers 0) _ MessageTake (omega arith) refl refl)
-message_one s (Some r) =
+put_one : (s : SlaveState) (bytes : List ℕ) → AreRunTo is_of_firmware 1 s (refused (with_manager s 0 (message_taken (manager_at s.managers 0))) bytes)
+put_one s bytes =
     let t : SlaveState = with_manager s 0 (message_taken (manager_at s.managers 0)) in
-    let bytes : List ℕ = message_bytes (answer_to t r).reply in
     subst (λ (m : Manager). AllRunTo is_of_firmware 1 s.managers (slice_set t.managers 1 (message_put m bytes))) (sym (next s.managers (message_taken (manager_at s.managers 0))))
     (apart_run s.managers MessageTake (MessagePut bytes) refl refl)
   where
@@ -235,10 +232,15 @@ message_one s (Some r) =
     next [] m = refl
     next (x ∷ ms) m = refl
 
+message_one : (s : SlaveState) (f : Option (List ℕ)) (o : Option Message) → AreRunTo is_of_firmware 1 s (reply_given (with_manager s 0 (message_taken (manager_at s.managers 0))) f o)
+message_one s None None = set_run is_of_firmware 1 s.managers 0 _ (one_step is_of_firmware 1 (manager_at s.managers 0) _ MessageTake (omega arith) refl refl)
+message_one s (Some bytes) None = put_one s bytes
+message_one s f (Some r) = put_one s (bytes_to (with_manager s 0 (message_taken (manager_at s.managers 0))) r)
+
 message_run : (s : SlaveState) → AreRunTo is_of_firmware 1 s (message_served s)
 unfolding message_served
 message_run s =
-    either_slave is_of_firmware 1 (is_served s) s _ s (message_one s (request_in s)) (same_slave is_of_firmware 1 s)
+    either_slave is_of_firmware 1 (is_served s) s _ s (message_one s (refusal_in s) (request_in s)) (same_slave is_of_firmware 1 s)
 
 served_run : (s : SlaveState) → AreRunTo is_of_firmware 3 s (served s)
 unfolding served

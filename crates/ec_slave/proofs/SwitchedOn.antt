@@ -27,6 +27,7 @@ switched_on kind identity = record {
   managers = refl;
   al = refl;
   sii = refl;
+  link = refl;
   outs = refl;
   ins = refl;
 }

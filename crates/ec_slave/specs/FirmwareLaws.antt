@@ -35,8 +35,9 @@ pub record KeepsSettings (s t : SlaveState) : Type 0 where
   pub settings : (n : ℕ) → (manager_at t.managers n).settings ≡ (manager_at s.managers n).settings
   pub kind : t.kind ≡ s.kind
   pub identity : t.identity ≡ s.identity
+  pub link : t.link ≡ s.link
 
--- A firmware step changes no byte of the memory, no station address, no FMMU and no manager's settings.
+-- A firmware step changes no byte of the memory, no station address, no FMMU, no manager's settings and no data link register.
 abbrev pub ServesKeepSettings : Type 0
 ServesKeepSettings = (s : SlaveState) → KeepsSettings s (served s)
 

@@ -5,13 +5,14 @@ use Rattle.ec_regs.specs.declared.slave_type.Identity.{Identity}
 use Rattle.ec_regs.specs.Memory.{ram_end}
 use Rattle.ec_regs.specs.Types.{SlaveKind}
 use Rattle.ec_sync.specs.Manager.{Manager}
+use Rattle.ec_sii.specs.Image.{image_of}
 use Rattle.ec_sii.specs.Port.{Sii}
 use Rattle.ec_slave.specs.State.{fmmus_of}
 
 -- The memory has all its addresses, there are four managers, the FMMUs are decoded as the registers stand, and the SII shows
--- the slave's identity and its type's mailbox.
+-- the slave's identity, its type's mailbox and the categories of a full slave.
 pub record IsHeld (kind : SlaveKind) (identity : Identity) (memory : List ℕ) (managers : List Manager) (fmmus : List FmmuSettings) (sii : Sii) : Type 0 where
   pub room : length memory ≡ ram_end
   pub four : length managers ≡ 4
   pub decoded : fmmus ≡ fmmus_of memory
-  pub image : sii.image ≡ record { identity = identity; mailbox = kind.mailbox }
+  pub image : sii.image ≡ image_of kind identity

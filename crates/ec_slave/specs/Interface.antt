@@ -15,20 +15,22 @@ use Rattle.ec_sync.specs.Manager.{Manager, no_manager, empty_manager, padded, ri
 use Rattle.ec_sync.specs.Sound.{IsManager}
 use Rattle.ec_al.specs.declared.state.State.TheVariants.{Init}
 use Rattle.ec_al.specs.Al as al
+use Rattle.ec_dl.specs.DataLink.{new_data_link, dl_written}
+use Rattle.ec_sii.specs.Image.{image_of}
 use Rattle.ec_sii.specs.Port as port
 use Rattle.ec_coe.specs.declared.message.Message.{Message}
-use Rattle.ec_coe.specs.Messages.{message_bytes, message_length}
+use Rattle.ec_coe.specs.Messages.{message_length}
 use Rattle.ec_coe.specs.Objects.{all_assigned, assigned}
 use Rattle.ec_slave.specs.State.{SlaveState, manager_at, station_of, power_on}
 use Rattle.ec_slave.specs.Roles.{role_of, adp_after, is_reading, is_writing, is_joining}
 use Rattle.ec_slave.specs.Managers.{reads_under, writes_under, is_ungoverned, is_read_by, is_written_by}
-use Rattle.ec_slave.specs.Physical.{Window, touches, byte_at, ram_byte, may_read_byte, may_write_byte, byte_read, retold, memory_written, is_configured, settings_written, physical_value, physical_manager, physical_managers, physical_after, some_byte_read, some_byte_written}
+use Rattle.ec_slave.specs.Physical.{Window, touches, byte_at, ram_byte, may_read_byte, may_write_byte, byte_read, retold, memory_written, is_configured, settings_written, physical_value, physical_manager, physical_managers, physical_after, some_byte_read, some_byte_written, is_written}
 use Rattle.ec_slave.specs.Logical.{meets_logically}
 use Rattle.ec_slave.specs.Exchange.{with_outputs, with_published}
 use Rattle.ec_slave.specs.Meeting.{window_of, meets, slave_met, datagram_met}
 use Rattle.ec_slave.specs.Application.{input_put, inputs_put, output_got, output_taken, outputs_taken}
 use Rattle.ec_slave.specs.Checking.{checks_of, control_word, mailbox_check, process_check, outputs_mode, inputs_mode}
-use Rattle.ec_slave.specs.Serving.{with_al, request_decided, read_finished, is_served, request_in, answer_to, message_served, served}
+use Rattle.ec_slave.specs.Serving.{with_al, request_decided, read_finished, is_served, request_in, answer_to, bytes_to, message_served, served}
 use Rattle.ec_slave.specs.Faulting.{faulted, locked_empty}
 
 -- ---- the power comes on
@@ -41,7 +43,8 @@ pub record IsSwitchedOn (kind : SlaveKind) (identity : Identity) (s : SlaveState
   pub memory : (a : ℕ) → slice_index s.memory a ≡ 0
   pub managers : s.managers ≡ no_manager ∷ no_manager ∷ no_manager ∷ no_manager ∷ []
   pub al : s.al ≡ al.power_on
-  pub sii : s.sii ≡ port.idle_port (record { identity = identity; mailbox = kind.mailbox })
+  pub sii : s.sii ≡ port.idle_port (image_of kind identity)
+  pub link : s.link ≡ new_data_link kind.face
   pub outs : s.outs ≡ all_assigned kind.outputs
   pub ins : s.ins ≡ all_assigned kind.inputs
 
@@ -98,6 +101,7 @@ pub record KeepsBesideMessages (s t : SlaveState) : Type 0 where
   pub memory : t.memory ≡ s.memory
   pub al : t.al ≡ s.al
   pub sii : t.sii ≡ s.sii
+  pub link : t.link ≡ s.link
   pub count : length t.managers ≡ length s.managers
   pub settings : (n : ℕ) → (manager_at t.managers n).settings ≡ (manager_at s.managers n).settings
   pub locked : (n : ℕ) → (manager_at t.managers n).locked ≡ (manager_at s.managers n).locked
@@ -121,7 +125,7 @@ MessagesRest = (s : SlaveState) → RestsWithoutMessages s (message_served s)
 -- A request is answered: it is taken out of manager 0, its answer lies in manager 1, and the assignments are the answer's.
 pub record IsAnswered (s : SlaveState) (r : Message) (t : SlaveState) : Type 0 where
   pub no_message : (manager_at t.managers 0).mail ≡ None
-  pub reply : (manager_at t.managers 1).mail ≡ Some (padded (manager_at s.managers 1) (message_bytes (answer_to s r).reply))
+  pub reply : (manager_at t.managers 1).mail ≡ Some (padded (manager_at s.managers 1) (bytes_to s r))
   pub outs : t.outs ≡ (answer_to s r).dictionary.outs
   pub ins : t.ins ≡ (answer_to s r).dictionary.ins
 
@@ -207,7 +211,7 @@ pub record OnlyWrites (s : SlaveState) (d : Datagram) : Type 0 where
 pub record IsWrite (s : SlaveState) (d : Datagram) : Type 0 where
   pub slave : slave_met s d ≡ physical_after s false true (window_of d)
   pub bytes : (datagram_met s d).data_bytes ≡ d.data_bytes
-  pub counter : (datagram_met s d).counter ≡ (d.counter + from_bool (some_byte_written s.managers s.sii.busy (window_of d))) % 65536
+  pub counter : (datagram_met s d).counter ≡ (d.counter + from_bool (is_written s (window_of d))) % 65536
 
 abbrev pub WritesMeet : Type 0
 WritesMeet = (s : SlaveState) (d : Datagram) → OnlyWrites s d → IsWrite s d
@@ -273,6 +277,7 @@ pub record Wrote (w : Window) (s t : SlaveState) : Type 0 where
   pub managers : (n : ℕ) → n < length s.managers → manager_at t.managers n ≡ set_by w n (manager_at s.managers n)
   pub al : t.al ≡ (if touches w al_control then al.requesting s.al else s.al)
   pub sii : t.sii ≡ port.written s.sii w.from w.bytes
+  pub link : t.link ≡ dl_written s.link w.from w.bytes
   pub outs : t.outs ≡ s.outs
   pub ins : t.ins ≡ s.ins
 
@@ -330,7 +335,7 @@ ManagersAreAccessed = (lower : List Manager) (w : Window) (n : ℕ) (m : Manager
 abbrev pub WholeValuesAreTheData : Type 0
 WholeValuesAreTheData = (w : Window) → physical_value [] w w.from (length w.bytes) ≡ w.bytes
 
--- a read changes managers alone; a write the memory, the managers, the AL request and the SII port
+-- a read changes managers alone; a write the memory, the managers, the AL request, the SII port and the data link registers
 pub record AccessLeaves (s : SlaveState) (w : Window) : Type 0 where
   pub read : physical_after s true false w ≡ record s { managers = physical_managers [] true false w 0 s.managers }
   pub written : physical_after s false true w
@@ -339,6 +344,7 @@ pub record AccessLeaves (s : SlaveState) (w : Window) : Type 0 where
         managers = physical_managers [] false true w 0 s.managers;
         al = if touches w al_control then al.requesting s.al else s.al;
         sii = port.written s.sii w.from w.bytes;
+        link = dl_written s.link w.from w.bytes;
       }
 
 abbrev pub AccessesLeave : Type 0

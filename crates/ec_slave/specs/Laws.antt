@@ -7,7 +7,7 @@ use Rattle.ec_slave.specs.declared.role.Role.{Role}
 use Rattle.ec_slave.specs.declared.role.Role.TheVariants.{Nothing, Read, Write, ReadWrite, OrRead, OrReadWrite}
 use Rattle.ec_slave.specs.State.{SlaveState, station_of}
 use Rattle.ec_sync.specs.Manager.{Manager}
-use Rattle.ec_slave.specs.Physical.{Window, touches, byte_at, byte_read, is_kept, may_read_byte, memory_written, retold, some_byte_read, some_byte_written, physical_met}
+use Rattle.ec_slave.specs.Physical.{Window, touches, byte_at, byte_read, is_kept, may_read_byte, memory_written, retold, some_byte_read, is_written, physical_met}
 use Rattle.ec_slave.specs.Meeting.{meets, slave_met, datagram_met}
 use Rattle.ec_slave.specs.Sound.{IsSlave}
 
@@ -73,4 +73,4 @@ count_of OrRead read written = if read then 1 else 0
 count_of OrReadWrite read written = if read then (if written then 3 else 1) else (if written then 2 else 0)
 
 abbrev pub CountsByRole : Type 0
-CountsByRole = (s : SlaveState) (role : Role) (w : Window) → (physical_met s role w).added ≡ count_of role (some_byte_read s.managers w) (some_byte_written s.managers s.sii.busy w)
+CountsByRole = (s : SlaveState) (role : Role) (w : Window) → (physical_met s role w).added ≡ count_of role (some_byte_read s.managers w) (is_written s w)

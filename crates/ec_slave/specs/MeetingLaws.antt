@@ -1,10 +1,11 @@
 -- Laws of a whole meeting: what a slave's registers, managers and bits are after a datagram.
-use Rattle.std.specs.Prelude.{ℕ, ◌+◌, ◌-◌, ◌*◌, ◌/◌, ◌<◌, ◌≤◌, ◌≡◌, ◌&&◌, length, Bool, true, false, if◌then◌else◌, slice_index, unwrap_or}
+use Rattle.std.specs.Prelude.{ℕ, ◌+◌, ◌-◌, ◌*◌, ◌/◌, ◌<◌, ◌≤◌, ◌≡◌, ◌&&◌, ◌||◌, length, Bool, true, false, if◌then◌else◌, slice_index, unwrap_or}
 use Rattle.ec_bits.specs.Bits.{bit, within}
 use Rattle.ec_regs.specs.Memory.{sii_control, sync_managers, ram_start, is_stored}
 use Rattle.ec_frame.specs.declared.command.Command.TheVariants.{Lrd, Lwr, Lrw}
 use Rattle.ec_frame.specs.Datagram.{Datagram, adp_of, ado_of}
 use Rattle.ec_sync.specs.Manager.{Manager, empty_manager, shown}
+use Rattle.ec_dl.specs.DataLink.{dl_keeps}
 use Rattle.ec_fmmu.specs.Applied.{touched_by_writing}
 use Rattle.ec_slave.specs.Roles.{role_of, is_writing}
 use Rattle.ec_slave.specs.State.{SlaveState, manager_at, station_of, fmmus}
@@ -19,12 +20,12 @@ use Rattle.ec_slave.specs.Meeting.{window_of, slave_met, datagram_met}
 abbrev pub writes_at : SlaveState → Datagram → Bool
 writes_at s d = is_writing (role_of d.command (adp_of d) (station_of s))
 
--- A register outside the sync managers and the SII port reads the byte that a writing datagram brings, if it is stored; else
--- what it read before.
+-- A register outside the sync managers and the SII port reads the byte that a writing datagram brings, if it is stored, or a data
+-- link register of a full slave that keeps writes; else what it read before.
 abbrev pub RegistersAfterWrite : Type 0
 RegistersAfterWrite =
     (s : SlaveState) (d : Datagram) (a : ℕ) → IsSlave s → writes_at s d ≡ true → a < sync_managers → within sii_control 6 a ≡ false
-    → byte_at (slave_met s d) a ≡ (if touches (window_of d) a && is_stored a then slice_index d.data_bytes (a - ado_of d) else byte_at s a)
+    → byte_at (slave_met s d) a ≡ (if touches (window_of d) a && (is_stored a || dl_keeps s.link a) then slice_index d.data_bytes (a - ado_of d) else byte_at s a)
 
 -- A writing datagram over registers alone: each manager of which it writes a setting has the settings that its bytes then
 -- say, is empty, and is locked or not as it was; every other manager is as it was.

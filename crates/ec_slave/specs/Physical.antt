@@ -9,6 +9,7 @@ use Rattle.ec_regs.specs.Managers.{settings_of}
 use Rattle.ec_sync.specs.Manager.{Manager, empty_manager}
 use Rattle.ec_sync.specs.Governing.{governor, manager_byte, shown_byte}
 use Rattle.ec_al.specs.Al.{status_word, requesting}
+use Rattle.ec_dl.specs.DataLink.{dl_byte, dl_takes, dl_written}
 use Rattle.ec_sii.specs.Port.{sii_byte, written}
 use Rattle.ec_slave.specs.declared.role.Role.{Role}
 use Rattle.ec_slave.specs.Roles.{is_reading, is_writing, is_joining}
@@ -38,7 +39,7 @@ retold xs f = retold_from 0 xs f
 -- ---- what an address reads
 
 -- 4 FMMUs, 4 sync managers and 8 KiB of RAM; station address, AL control and FMMUs as datagrams stored them; the AL status
--- and its code; the SII port; the sync managers. Every other register reads 0.
+-- and its code; the SII port; the sync managers; the data link registers of a full slave. Every other register reads 0.
 unfoldable pub register_byte : SlaveState → ℕ → ℕ
 register_byte s a =
     if (a == number_of_fmmus) || (a == number_of_sync_managers) then 4
@@ -48,7 +49,7 @@ register_byte s a =
     else (if within al_status_code 2 a then slice_index (to_le_bytes w16 s.al.code) (a - al_status_code)
     else (if within sii_control 10 a then sii_byte s.sii a
     else (if within sync_managers 32 a then manager_byte (manager_at s.managers ((a - sync_managers) / 8)) (a % 8)
-    else 0))))))
+    else dl_byte s.link a))))))
 
 -- a byte of the RAM: what its governor shows there, or as it lies in the memory
 abbrev pub ram_byte : List ℕ → List Manager → ℕ → Option ℕ → ℕ
@@ -115,13 +116,14 @@ physical_managers lower reads writes w n (m ∷ ms) =
     physical_manager lower reads writes w n m ∷ physical_managers (lower ++ m ∷ []) reads writes w (n + 1) ms
 
 -- The whole slave after a datagram that reads, writes or does both. A write of the first byte of AL control marks an AL
--- request; the SII port takes the bytes of its control and its address.
+-- request; the SII port takes the bytes of its control and its address, the data link registers those that they keep.
 unfoldable pub physical_after : SlaveState → Bool → Bool → Window → SlaveState
 physical_after s reads writes w = record s {
   memory = if writes then memory_written s.managers w s.memory else s.memory;
   managers = physical_managers [] reads writes w 0 s.managers;
   al = if writes && touches w al_control then requesting s.al else s.al;
   sii = if writes then written s.sii w.from w.bytes else s.sii;
+  link = if writes then dl_written s.link w.from w.bytes else s.link;
 }
 
 -- ---- the meeting
@@ -133,6 +135,10 @@ some_byte_read ms w = any_below (length w.bytes) (λ k. may_read_byte ms (touche
 abbrev pub some_byte_written : List Manager → Bool → Window → Bool
 some_byte_written ms busy w = any_below (length w.bytes) (λ k. may_write_byte ms busy (touches w) (w.from + k))
 
+-- a write at the slave: of its memory, its managers or its SII port, or of a data link register of a full slave
+abbrev pub is_written : SlaveState → Window → Bool
+is_written s w = some_byte_written s.managers s.sii.busy w || dl_takes s.link w.from (length w.bytes)
+
 -- A slave of a role meets the bytes of a datagram. The data get the memory as it was, and the memory the data as they were
 -- received. A read counts 1; a write counts 1, in a datagram that reads as well 2.
 unfoldable pub physical_met : SlaveState → Role → Window → MetBytes
@@ -140,5 +146,5 @@ physical_met s role w = record {
   slave = physical_after s (is_reading role) (is_writing role) w;
   bytes = if is_reading role then retold w.bytes (byte_read s (is_joining role) w) else w.bytes;
   added = from_bool (is_reading role && some_byte_read s.managers w)
-      + (if is_reading role then 2 else 1) * from_bool (is_writing role && some_byte_written s.managers s.sii.busy w);
+      + (if is_reading role then 2 else 1) * from_bool (is_writing role && is_written s w);
 }

@@ -1,6 +1,6 @@
 -- A firmware step of a slave: the AL request, the SII read and one mailbox message, in this order (ETG.1000.6, "EtherCAT state
 -- machine", "Slave information interface" and "Mailbox"; the step and its order are the profile of the simulated slaves).
-use Rattle.std.specs.Prelude.{ℕ, ◌+◌, ◌%◌, ◌&&◌, not, List, map, slice_set, Bool, true, false, if◌then◌else◌, nat_lt, Option, Some, None, is_some, is_none, option_and_then}
+use Rattle.std.specs.Prelude.{ℕ, ◌+◌, ◌%◌, ◌&&◌, not, List, map, slice_set, Bool, true, false, if◌then◌else◌, nat_lt, Option, Some, None, is_some, is_none, option_map, option_and_then}
 use Rattle.ec_sync.specs.Manager.{Manager, empty_manager, is_enabled, message_in, message_taken, message_put, zeros_published}
 use Rattle.ec_regs.specs.Managers.{is_mailbox, is_ring_read}
 use Rattle.ec_al.specs.declared.state.State.{State}
@@ -10,9 +10,11 @@ use Rattle.ec_sii.specs.Port as port
 use Rattle.ec_coe.specs.declared.message.Message.{Message}
 use Rattle.ec_coe.specs.declared.message.Service.{Service}
 use Rattle.ec_coe.specs.declared.message.Service.TheVariants.{Request, Response, Other}
-use Rattle.ec_coe.specs.Messages.{message_bytes, message_read, message_length}
+use Rattle.ec_coe.specs.Messages.{message_read, message_length}
 use Rattle.ec_coe.specs.Objects.{Dictionary}
 use Rattle.ec_coe.specs.Answers.{Answer, answered}
+use Rattle.ec_coe.specs.ReplyBytes.{reply_bytes}
+use Rattle.ec_coe.specs.Refusals.{refusal_bytes}
 use Rattle.ec_slave.specs.State.{SlaveState, manager_at}
 use Rattle.ec_slave.specs.Application.{with_manager}
 use Rattle.ec_slave.specs.Checking.{checks_of, control_word}
@@ -86,7 +88,7 @@ is_request Request = true
 is_request Response = false
 is_request (Other number) = false
 
--- a request that is well-formed, where there is room for the reply; anything else is dropped
+-- a request that is well-formed, where there is room for the reply
 abbrev pub request_for : Manager → Option Message → Option Message
 request_for m None = None
 request_for m (Some r) = if is_request r.service && not (nat_lt m.settings.length message_length) then Some r else None
@@ -105,10 +107,14 @@ dictionary_of s = record { kind = s.kind; identity = s.identity; outs = s.outs; 
 abbrev pub answer_to : SlaveState → Message → Answer
 answer_to s r = answered (is_preop s.al.state) (dictionary_of s) r (reply_counter s.replies)
 
+-- the bytes of the answer in manager 1
+abbrev pub bytes_to : SlaveState → Message → List ℕ
+bytes_to s r = reply_bytes (answer_to s r).dictionary (manager_at s.managers 1).settings.length (answer_to s r).reply
+
 -- the reply lies in manager 1, and counts
 abbrev pub replied : SlaveState → Message → SlaveState
 replied s r = record s {
-  managers = slice_set s.managers 1 (message_put (manager_at s.managers 1) (message_bytes (answer_to s r).reply));
+  managers = slice_set s.managers 1 (message_put (manager_at s.managers 1) (bytes_to s r));
   kind = (answer_to s r).dictionary.kind;
   identity = (answer_to s r).dictionary.identity;
   outs = (answer_to s r).dictionary.outs;
@@ -116,13 +122,32 @@ replied s r = record s {
   replies = reply_counter s.replies;
 }
 
-abbrev pub reply_given : SlaveState → Option Message → SlaveState
-reply_given s None = s
-reply_given s (Some r) = replied s r
+-- where it is no request a full slave refuses the message, if there is room for that; any other slave drops it
+abbrev pub refuses : SlaveState → Bool
+refuses s = is_some s.kind.face && not (nat_lt (manager_at s.managers 1).settings.length message_length)
 
--- the message is taken out of manager 0, and answered if it is a request
+abbrev pub refusal_in : SlaveState → Option (List ℕ)
+refusal_in s =
+    if refuses s then option_map (λ raw. refusal_bytes raw (reply_counter s.replies)) (message_in (manager_at s.managers 0)) else None
+
+-- a refusal lies in manager 1, and counts as a reply
+abbrev pub refused : SlaveState → List ℕ → SlaveState
+refused s bytes = record s {
+  managers = slice_set s.managers 1 (message_put (manager_at s.managers 1) bytes);
+  replies = reply_counter s.replies;
+}
+
+abbrev pub refusal_given : SlaveState → Option (List ℕ) → SlaveState
+refusal_given s None = s
+refusal_given s (Some bytes) = refused s bytes
+
+abbrev pub reply_given : SlaveState → Option (List ℕ) → Option Message → SlaveState
+reply_given s refusal None = refusal_given s refusal
+reply_given s refusal (Some r) = replied s r
+
+-- the message is taken out of manager 0, and answered if it is a request, or refused
 unfoldable pub message_served : SlaveState → SlaveState
-message_served s = if is_served s then reply_given (with_manager s 0 (message_taken (manager_at s.managers 0))) (request_in s) else s
+message_served s = if is_served s then reply_given (with_manager s 0 (message_taken (manager_at s.managers 0))) (refusal_in s) (request_in s) else s
 
 -- ---- all of it
 

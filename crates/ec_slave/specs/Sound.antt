@@ -5,6 +5,7 @@ use Rattle.ec_regs.specs.declared.slave_type.Identity.{Identity}
 use Rattle.ec_regs.specs.Memory.{ram_end}
 use Rattle.ec_regs.specs.Types.{SlaveKind}
 use Rattle.ec_frame.specs.Datagram.{Datagram}
+use Rattle.ec_sii.specs.Image.{image_of}
 use Rattle.ec_slave.specs.State.{SlaveState, manager_at, power_on}
 use Rattle.ec_slave.specs.Meeting.{slave_met}
 
@@ -14,8 +15,8 @@ pub record IsSlave (s : SlaveState) : Type 0 where
   -- there are four managers, and their values are as long as their settings say
   pub managers : length s.managers ≡ 4
   pub each_manager : (n : ℕ) → IsManager (manager_at s.managers n)
-  -- the SII shows the slave's identity and its type's mailbox, and a word address has 32 bits
-  pub image : s.sii.image ≡ record { identity = s.identity; mailbox = s.kind.mailbox }
+  -- the SII shows the slave's identity, its type's mailbox and the categories of a full slave, and a word address has 32 bits
+  pub image : s.sii.image ≡ image_of s.kind s.identity
   pub word_address : s.sii.address < 2 ^ 32
   -- as many slots as the type has PDOs, of which no more count than there are
   pub out_slots : length s.outs.slots ≡ length s.kind.outputs

@@ -10,6 +10,8 @@ use Rattle.ec_frame.specs.Datagram.{Datagram}
 use Rattle.ec_sync.specs.Manager.{Manager, no_manager}
 use Rattle.ec_al.specs.Al.{Al}
 use Rattle.ec_al.specs.Al as al
+use Rattle.ec_dl.specs.DataLink.{DataLink, new_data_link}
+use Rattle.ec_sii.specs.Image.{image_of}
 use Rattle.ec_sii.specs.Port.{Sii, idle_port}
 use Rattle.ec_coe.specs.Objects.{Assignment, all_assigned}
 
@@ -26,6 +28,8 @@ pub record SlaveState : Type 0 where
   pub al : Al
   -- the SII port
   pub sii : Sii
+  -- the data link registers that a full slave has besides
+  pub link : DataLink
   -- the PDOs that are assigned, 0x1C12 (outputs) and 0x1C13 (inputs)
   pub outs : Assignment
   pub ins : Assignment
@@ -63,7 +67,8 @@ power_on kind identity = record {
   memory = zeros memory_length;
   managers = no_manager ∷ no_manager ∷ no_manager ∷ no_manager ∷ [];
   al = al.power_on;
-  sii = idle_port (record { identity = identity; mailbox = kind.mailbox });
+  sii = idle_port (image_of kind identity);
+  link = new_data_link kind.face;
   outs = all_assigned kind.outputs;
   ins = all_assigned kind.inputs;
   replies = 0;

@@ -8,6 +8,7 @@ ghost use Rattle.ec_slave.specs.Application.{is_running as runs_in, outputs_show
 use crate::fmmus::read_fmmus;
 use crate::slave::Slave;
 use ec_al::State;
+use ec_dl::DataLink;
 use ec_regs::ManagerSettings;
 use ec_sync::Manager;
 
@@ -137,6 +138,7 @@ impl Slave {
         reset_managers(&mut self.managers);
         self.al.reset();
         self.port.reset();
+        self.link = DataLink::new(self.dictionary.kind().face());
         self.dictionary.reset();
         self.replies = 0;
     }

@@ -1,14 +1,14 @@
-//! The mailbox of a slave: one message is taken and answered.
+//! The mailbox of a slave: one message is taken and answered, or refused by a full slave.
 
-ghost use Rattle.std.specs.Prelude.{◌≡◌, is_some, true};
+ghost use Rattle.std.specs.Prelude.{◌≡◌, is_some, option_map, true};
 ghost use Rattle.ec_sync.specs.Manager.{message_in, message_taken};
 ghost use Rattle.ec_slave.specs.State.{manager_at};
 ghost use Rattle.ec_slave.specs.Application.{with_manager};
-ghost use Rattle.ec_slave.specs.Serving.{has_mailbox as has_mailbox_in, takes_reply, is_preop as is_preop_state, is_served as is_served_now, message_served, replied, request_in};
+ghost use Rattle.ec_slave.specs.Serving.{has_mailbox as has_mailbox_in, takes_reply, is_preop as is_preop_state, is_served as is_served_now, message_served, replied, request_in, refuses as refuses_in, refusal_in, refused, refusal_given};
 
 use crate::slave::Slave;
 use ec_al::State;
-use ec_coe::{MESSAGE_LENGTH, Message, Service, read_message};
+use ec_coe::{MESSAGE_LENGTH, Message, RefusalBytes, Service, read_message, refuse};
 
 /// Whether the state is PREOP.
 fn is_preop(state: State) -> bool
@@ -45,8 +45,37 @@ impl Slave {
         let counter = self.replies % 7 + 1;
         let in_preop = is_preop(self.al.state());
         let reply = self.dictionary.answer(in_preop, request, counter);
-        self.managers[1].mailbox_put(&reply.bytes());
+        let room = self.managers[1].settings().length as usize;
+        let bytes = self.dictionary.reply_bytes(room, &reply);
+        self.managers[1].mailbox_put(bytes.as_slice());
         self.replies = counter;
+    }
+
+    /// Whether a message that is no request is refused: by a full slave, where manager 1 has room for that.
+    fn refuses(&self) -> bool
+        ensures { result ≡ refuses_in self.now }
+    {
+        let has_room = self.managers[1].settings().length as usize >= MESSAGE_LENGTH;
+        self.dictionary.kind().face().is_some() && has_room
+    }
+
+    /// What the message in manager 0 is answered with where it is no request, if it is refused.
+    fn refusal(&self) -> Option<RefusalBytes>
+        ensures { option_map (λ bytes. bytes.items) result ≡ refusal_in self.now }
+    {
+        if !self.refuses() {
+            return None;
+        }
+        let raw = self.managers[0].message()?;
+        Some(refuse(raw, self.replies % 7 + 1))
+    }
+
+    /// Puts a refusal into manager 1, and counts it as a reply.
+    fn put_refusal(&mut self, bytes: &[u8])
+        ensures { self.new ≡ refused self.old bytes.now }
+    {
+        self.managers[1].mailbox_put(bytes);
+        self.replies = self.replies % 7 + 1;
     }
 
     /// Whether the reply can lie in manager 1: an enabled, empty mailbox that the ring reads.
@@ -77,7 +106,8 @@ impl Slave {
         self.managers[0].mailbox_take();
     }
 
-    /// Takes a message, where one lies in manager 0 and the reply can lie in manager 1, and answers it, or drops it.
+    /// Takes a message, where one lies in manager 0 and the reply can lie in manager 1, and answers it where it is a request; a
+    /// full slave refuses any other, and any other slave drops it.
     #[tactic(auto, unfolding(crate::specs::Serving::message_served))]
     pub(crate) fn serve_message(&mut self)
         ensures { self.new ≡ message_served self.old }
@@ -94,10 +124,23 @@ impl Slave {
         requires { is_served_now self.old ≡ true }
         ensures { self.new ≡ message_served self.old }
     {
-        let request = self.request();
+        match self.request() {
+            Some(request) => {
+                self.take_message();
+                self.reply(&request);
+            }
+            None => self.refuse_message(),
+        }
+    }
+
+    /// Takes a message that is no request, and refuses it or drops it.
+    fn refuse_message(&mut self)
+        ensures { self.new ≡ refusal_given (with_manager self.old 0 (message_taken (manager_at self.old.managers 0))) (refusal_in self.old) }
+    {
+        let refusal = self.refusal();
         self.take_message();
-        if let Some(request) = request {
-            self.reply(&request);
+        if let Some(refusal) = refusal {
+            self.put_refusal(refusal.as_slice());
         }
     }
 }

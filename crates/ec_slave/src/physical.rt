@@ -6,7 +6,7 @@ ghost use Rattle.ec_sync.specs.Governing.{governor as governor_of};
 ghost use Rattle.ec_al.specs.Al.{requesting};
 ghost use Rattle.std.specs.Int.{from_bool};
 ghost use Rattle.ec_bits.specs.Bits.{within};
-ghost use Rattle.ec_slave.specs.Physical.{byte_read, may_read_byte, physical_managers, physical_met, retold, physical_after, some_byte_read, some_byte_written};
+ghost use Rattle.ec_slave.specs.Physical.{byte_read, may_read_byte, physical_managers, physical_met, retold, physical_after, some_byte_read, is_written};
 ghost use Rattle.ec_slave.specs.State.{fmmus_of};
 
 mod bytes;
@@ -178,15 +178,16 @@ impl Slave {
     fn write_bytes(&mut self, reads: bool, from: usize, bytes: &[u8]) -> bool
         requires { from + length bytes.now < 2 ^ 32 }
         ensures slave { self.new ≡ physical_after self.old reads true (record { from = from; bytes = bytes.now }) }
-        ensures some { result ≡ some_byte_written self.old.managers self.old.sii.busy (record { from = from; bytes = bytes.now }) }
+        ensures some { result ≡ is_written self.old (record { from = from; bytes = bytes.now }) }
     {
         let is_busy = self.port.is_busy();
         let is_some = write_physical(&mut self.memory, &self.managers, is_busy, from, bytes);
         request_if(&mut self.al, within(from, bytes.len(), AL_CONTROL));
         self.port.write(from, bytes);
+        let is_kept = self.link.write(from, bytes);
         write_managers(&mut self.managers, reads, from, bytes);
         renew_fmmus(&mut self.fmmus, &self.memory, from, bytes.len());
-        is_some
+        is_some || is_kept
     }
 
     /// What a read does to the managers: a mailbox that it had is empty. Registers belong to none.
@@ -225,7 +226,7 @@ impl Slave {
         ensures slave { self.new ≡ physical_after self.old true true (record { from = from; bytes = bytes.old }) }
         ensures bytes { bytes.new ≡ retold bytes.old (byte_read self.old joining (record { from = from; bytes = bytes.old })) }
         ensures added { result ≡ from_bool (some_byte_read self.old.managers (record { from = from; bytes = bytes.old }))
-            + 2 * from_bool (some_byte_written self.old.managers self.old.sii.busy (record { from = from; bytes = bytes.old })) }
+            + 2 * from_bool (is_written self.old (record { from = from; bytes = bytes.old })) }
     {
         let is_read = self.read_physical(joining, from, bytes);
         let is_written = self.write_bytes(true, from, received);
@@ -240,7 +241,7 @@ impl Slave {
         ensures slave { self.new ≡ physical_after self.old true true (record { from = from; bytes = bytes.old }) }
         ensures bytes { bytes.new ≡ retold bytes.old (byte_read self.old joining (record { from = from; bytes = bytes.old })) }
         ensures added { result ≡ from_bool (some_byte_read self.old.managers (record { from = from; bytes = bytes.old }))
-            + 2 * from_bool (some_byte_written self.old.managers self.old.sii.busy (record { from = from; bytes = bytes.old })) }
+            + 2 * from_bool (is_written self.old (record { from = from; bytes = bytes.old })) }
     {
         let mut copy = [0; MAX_DATA];
         let received = &mut copy[..bytes.len()];

@@ -10,6 +10,7 @@ use crate::fmmus::read_fmmus;
 use crate::reach::governor;
 use ec_al::Al;
 use ec_coe::Dictionary;
+use ec_dl::DataLink;
 use ec_fmmu::FmmuTable;
 use ec_regs::registers::{
     AL_CONTROL, AL_STATUS, AL_STATUS_CODE, FMMU_COUNT, FMMUS, FMMUS_END, MANAGER_COUNT,
@@ -44,6 +45,7 @@ pub struct Slave {
     pub(crate) managers: Vec<Manager>,
     pub(crate) al: Al,
     pub(crate) port: Port,
+    pub(crate) link: DataLink,
     // the counter of the last mailbox reply, 0 before the first
     pub(crate) replies: u8,
 }
@@ -61,6 +63,7 @@ impl Model for Slave {
       managers = s.managers.items;
       al = s.al;
       sii = s.port;
+      link = s.link;
       outs = s.dictionary.outs;
       ins = s.dictionary.ins;
       replies = s.replies;
@@ -115,7 +118,9 @@ impl Slave {
         let memory = vec![in alloc; 0; memory_len()]?;
         let fmmus = read_fmmus(&memory);
         let managers = new_managers(alloc)?;
-        let port = Port::new(Image::new(identity, kind.mailbox()));
+        let image = Image::of(alloc, &kind, identity)?;
+        let port = Port::new(image);
+        let link = DataLink::new(kind.face());
         let dictionary = Dictionary::new(alloc, kind, identity)?;
         Ok(Slave {
             dictionary,
@@ -124,6 +129,7 @@ impl Slave {
             managers,
             al: Al::new(),
             port,
+            link,
             replies: 0,
         })
     }
@@ -258,7 +264,7 @@ impl Slave {
                 let place = (address - SYNC_MANAGERS) / MANAGER_SIZE;
                 self.managers[place].register(address % MANAGER_SIZE)
             }
-            _ => 0,
+            _ => self.link.read(address),
         }
     }
 }

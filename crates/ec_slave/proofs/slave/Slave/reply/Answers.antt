@@ -1,12 +1,13 @@
 use Rattle.std.proofs.Common.{◌≡◌, ◌<◌, ◌∙◌, ◌+◌, ◌%◌, ℕ, Bool, length, arith, ap, sym, slice_set, length-set}
 use Rattle.ec_sync.specs.Manager.{Manager, message_put}
 use Rattle.ec_coe.specs.declared.message.Message.{Message}
-use Rattle.ec_coe.specs.Messages.{message_bytes}
+use Rattle.ec_regs.specs.declared.manager.ManagerSettings.{ManagerSettings}
+use Rattle.ec_coe.specs.ReplyBytes.{reply_bytes}
 use Rattle.ec_coe.specs.Objects.{Dictionary}
 use Rattle.ec_coe.specs.Answers.{Answer, answered}
 use Rattle.ec_coe.proofs.Effects.{SameSlots, answered-slots}
 use Rattle.ec_slave.specs.State.{SlaveState, manager_at}
-use Rattle.ec_slave.specs.Serving.{is_preop, reply_counter, dictionary_of, answer_to}
+use Rattle.ec_slave.specs.Serving.{is_preop, reply_counter, dictionary_of, answer_to, bytes_to}
 use Rattle.ec_slave.proofs.Applications.{indexed}
 use Rattle.ec_slave.proofs.Stepping.{replied-by}
 use Rattle.ec_slave.proofs.slave.Slave.reply.Goals as goal
@@ -38,6 +39,14 @@ returns c =
     let by : Answer = answered c.is_preop-in_preop.result c.self.inside.dictionary r (reply_counter c.self.inside.replies) in
     let same : by ≡ answer_to s r = ap (λ (b : Bool). answered b c.self.inside.dictionary r (reply_counter c.self.inside.replies)) preop
     ∙ ap (λ (x : SlaveState). answered (is_preop s.al.state) (dictionary_of x) r (reply_counter x.replies)) c.self.view_is in
+    let there : c.index.result.now ≡ manager_at s.managers 1 = indexed _ s.managers 1 _ four c.index.ensures managers in
+    let room : c.settings-room.result.length ≡ (manager_at s.managers 1).settings.length = ap (λ (x : ManagerSettings). x.length) (c.settings-room.ensures ∙ ap (λ (m : Manager). m.settings) there) in
+    let after : c.answer-reply.new.self ≡ (answer_to s r).dictionary = c.answer-reply.ensures.after ∙ ap (λ (x : Answer). x.dictionary) same in
+    let told : c.as_slice.result.now ≡ bytes_to s r
+    = c.as_slice.ensures.value ∙ (c.reply_bytes-bytes.ensures.bytes
+    ∙ (ap (λ (d : Dictionary). reply_bytes d c.settings-room.result.length c.answer-reply.result) after
+    ∙ (ap (λ (n : ℕ). reply_bytes (answer_to s r).dictionary n c.answer-reply.result) room
+    ∙ ap (reply_bytes (answer_to s r).dictionary (manager_at s.managers 1).settings.length) (c.answer-reply.ensures.reply ∙ ap (λ (x : Answer). x.reply) same)))) in
     ap (λ (x : SlaveState). record x {
       kind = c.answer-reply.new.self.kind;
       identity = c.answer-reply.new.self.identity;
@@ -47,7 +56,7 @@ returns c =
       replies = reply_counter x.replies;
     }) c.self.view_is
     ∙ replied-by s r c.answer-reply.new.self c.mailbox_put.new.self
-    (c.answer-reply.ensures.after ∙ ap (λ (x : Answer). x.dictionary) same)
+    after
     (c.mailbox_put.ensures.after
-    ∙ (ap (λ (m : Manager). message_put m c.bytes.result) here
-    ∙ ap (message_put (manager_at s.managers 1)) (c.bytes.ensures ∙ (ap message_bytes c.answer-reply.ensures.reply ∙ ap (λ (x : Answer). message_bytes x.reply) same))))
+    ∙ (ap (λ (m : Manager). message_put m c.as_slice.result.now) here
+    ∙ ap (message_put (manager_at s.managers 1)) told))

@@ -1,0 +1,109 @@
+//! Messages that are no SDO request by an expedited transfer, and what a full slave answers to them.
+
+use crate::tests::bytes_of;
+use ec_coe::{Reply, read_message, read_reply, refuse};
+use std::test::Fail;
+
+/// The bytes of a mailbox, the counter of the reply, and its bytes.
+const ROWS: [(&str, u8, &str); 14] = [
+    // Another protocol: EoE, none, and a type that the standard leaves free.
+    (
+        "0a0000000012 0020 40181001 00000000",
+        3,
+        "040000000030 0100 0200",
+    ),
+    (
+        "000000000000 0000 00000000 00000000",
+        1,
+        "040000000010 0100 0200",
+    ),
+    ("", 7, "040000000070 0100 0200"),
+    (
+        "0e000000001b 0020 40181001 00000000",
+        2,
+        "040000000020 0100 0200",
+    ),
+    // SDO information: the list of the objects, the description of one.
+    (
+        "080000000013 0080 01000000 0100",
+        2,
+        "0a0000000023 0080 07000000 00000106",
+    ),
+    (
+        "080000000073 0080 03000000 1810",
+        7,
+        "0a0000000073 0080 07000000 00000106",
+    ),
+    // A longer SDO request: its length in the low byte, and in the high byte.
+    (
+        "0e0000000013 0020 21081002 04000000 61626364",
+        4,
+        "0a0000000043 0020 80081002 01000405",
+    ),
+    (
+        "000100000013 0020 21121c00 f6000000 00000000",
+        1,
+        "0a0000000013 0020 80121c00 01000405",
+    ),
+    // A shorter one, and one of whose ten bytes the mailbox has only nine.
+    ("060000000013 0020 40181001", 5, "040000000050 0100 0600"),
+    (
+        "0a0000000013 0020 40181001 000000",
+        6,
+        "040000000060 0100 0600",
+    ),
+    // Other services of CoE: an emergency, an SDO response, a number that the standard leaves free, and none.
+    (
+        "0a0000000013 0010 00000000 00000000",
+        6,
+        "040000000060 0100 0400",
+    ),
+    (
+        "0a0000000013 0030 60121c00 00000000",
+        1,
+        "040000000010 0100 0400",
+    ),
+    (
+        "0e0000000013 00f0 40181001 00000000",
+        2,
+        "040000000020 0100 0400",
+    ),
+    ("000000000003", 3, "040000000030 0100 0400"),
+];
+
+#[test]
+fn refuses(rt: HostRuntime) -> Result<(), Fail> {
+    for (sent, counter, back) in ROWS {
+        let refusal = refuse(&bytes_of(&rt, sent)?, counter % 8);
+        assert!(rt; refusal.as_slice() == &bytes_of(&rt, back)?[..], "{sent}");
+    }
+    Ok(())
+}
+
+// A master that waits for a reply finds the abort of its transfer, and nothing in the other refusals.
+#[test]
+fn refusals_are_no_replies(rt: HostRuntime) -> Result<(), Fail> {
+    for (sent, counter, _) in ROWS {
+        let raw = bytes_of(&rt, sent)?;
+        let reply = read_reply(refuse(&raw, counter % 8).as_slice(), 0x1008, 2);
+        let wanted = if sent.starts_with("0e0000000013 0020") {
+            Reply::Aborted(0x0504_0001)
+        } else {
+            Reply::Unexpected
+        };
+        assert_eq!(rt; reply, wanted, "{sent}");
+    }
+    Ok(())
+}
+
+// A mailbox error is no message, not even with zeros behind it.
+#[test]
+fn an_error_is_no_message(rt: HostRuntime) -> Result<(), Fail> {
+    let mut mailbox = [0; 20];
+    let refusal = refuse(&[], 1);
+    for (place, byte) in refusal.as_slice().iter().enumerate() {
+        mailbox[place % 20] = *byte;
+    }
+    assert!(rt; read_message(&mailbox).is_err());
+    Ok(())
+}

@@ -1,0 +1,148 @@
+//! The data link registers of a slave.
+ghost use Rattle.std.specs.Prelude.{◌≡◌, length, slice_index};
+ghost use Rattle.std.specs.Option.{option_copied, option_map_or};
+ghost use Rattle.std.specs.List.{list_any};
+ghost use Rattle.ec_bits.specs.Bits.{within as within_of};
+ghost use Rattle.ec_dl.specs.DataLink.{new_data_link, dl_byte, dl_takes, dl_written, byte_kept, kept_place, kept_registers, status_word};
+
+use ec_bits::within;
+use ec_regs::Face;
+use std::marker::Model;
+
+/// The type of the slave controller, a byte.
+const CONTROLLER_TYPE: usize = 0x0000;
+/// What it says: an IP core.
+const IP_CORE: u8 = 0x11;
+/// The port descriptors, a byte.
+const PORT_DESCRIPTORS: usize = 0x0007;
+/// What they say: ports 0 and 1 are MII, two bits each.
+const TWO_PORTS: u8 = 0x0F;
+/// DL status, two bytes.
+const DL_STATUS: usize = 0x0110;
+/// Its high byte.
+const DL_STATUS_HIGH: usize = DL_STATUS + 1;
+/// DL status where a slave follows, and where none does.
+const FOLLOWED: u16 = 0x5A31;
+
+const LAST: u16 = 0x5611;
+
+/// The registers that keep what is written: DL control, PDI control, SII access.
+const KEPT: [usize; 6] = [0x0100, 0x0101, 0x0102, 0x0103, 0x0140, 0x0500];
+
+/// The data link registers of a slave (ETG.1000.4, "DL information" to "DL status"). A full slave shows the type of its
+/// controller (0x0000), its port descriptors (0x0007) and its links (DL status, 0x0110), and keeps what datagrams write to DL
+/// control (0x0100 to 0x0103), PDI control (0x0140) and SII access (0x0500), without an effect. Any other slave shows and keeps
+/// none of them.
+#[derive(Debug, Drop)]
+pub struct DataLink {
+    is_shown: bool,
+    has_next: bool,
+    kept: [u8; 6],
+}
+
+impl Model for DataLink {
+    ghost use Rattle.ec_dl.specs.DataLink.{DataLink as Registers};
+
+    ghost Value = { Registers };
+
+    ghost view = { λ d. record { shown = d.is_shown; next = d.has_next; kept = d.kept } };
+}
+
+/// The byte that an address keeps, after a datagram whose bytes lie from `from` on.
+fn byte_kept(from: usize, bytes: &[u8], address: usize, old: u8) -> u8
+    ensures { result ≡ byte_kept from bytes.now address old }
+{
+    if within(from, bytes.len(), address) {
+        bytes[address - from]
+    } else {
+        old
+    }
+}
+
+/// Whether a datagram over `len` bytes from `from` on reaches a register that keeps writes.
+fn reaches_kept(from: usize, len: usize) -> bool
+    ensures { result ≡ list_any (λ a. within_of from len a) kept_registers }
+{
+    KEPT.iter().any(|address| within(from, len, *address))
+}
+
+/// DL status of a full slave, where a slave follows it or not.
+fn status_word(has_next: bool) -> u16
+    ensures { result ≡ status_word has_next }
+{
+    if has_next { FOLLOWED } else { LAST }
+}
+
+impl DataLink {
+    /// The registers of a slave that was just switched on: of a full one, which has a face, or of any other.
+    pub fn new(face: Option<&Face>) -> Self
+        ensures { result ≡ new_data_link (option_copied face.entry) }
+    {
+        match face {
+            None => DataLink {
+                is_shown: false,
+                has_next: false,
+                kept: [0; 6],
+            },
+            Some(face) => DataLink {
+                is_shown: true,
+                has_next: !face.is_last,
+                kept: [0; 6],
+            },
+        }
+    }
+
+    /// The byte that an address reads, 0 where it is none of these registers or the slave isn't full.
+    #[tactic(auto, unfolding(crate::specs::DataLink::dl_byte))]
+    pub fn read(&self, address: usize) -> u8
+        ensures { result ≡ dl_byte self.now address }
+    {
+        if !self.is_shown {
+            return 0;
+        }
+        match address {
+            CONTROLLER_TYPE => IP_CORE,
+            PORT_DESCRIPTORS => TWO_PORTS,
+            DL_STATUS => (status_word(self.has_next) % 256) as u8,
+            DL_STATUS_HIGH => (status_word(self.has_next) / 256) as u8,
+            _ => self.kept_byte(address),
+        }
+    }
+
+    /// What was written to an address, if it keeps that.
+    fn kept_byte(&self, address: usize) -> u8
+        ensures { result ≡ option_map_or (slice_index self.now.kept) (kept_place address) 0 }
+    {
+        match address {
+            0x0100 => self.kept[0],
+            0x0101 => self.kept[1],
+            0x0102 => self.kept[2],
+            0x0103 => self.kept[3],
+            0x0140 => self.kept[4],
+            0x0500 => self.kept[5],
+            _ => 0,
+        }
+    }
+
+    /// A datagram writes bytes to the addresses from `from` on: those of a full slave that keep writes take them, and the answer
+    /// is whether there is one; all else is left alone.
+    #[tactic(auto, unfolding(crate::specs::DataLink::dl_written, crate::specs::DataLink::dl_takes))]
+    pub fn write(&mut self, from: usize, bytes: &[u8]) -> bool
+        ensures after { self.new ≡ dl_written self.old from bytes.now }
+        ensures some { result ≡ dl_takes self.old from (length bytes.now) }
+    {
+        if !self.is_shown || !reaches_kept(from, bytes.len()) {
+            return false;
+        }
+        let [byte_0, byte_1, byte_2, byte_3, pdi, sii] = self.kept;
+        self.kept = [
+            byte_kept(from, bytes, 0x0100, byte_0),
+            byte_kept(from, bytes, 0x0101, byte_1),
+            byte_kept(from, bytes, 0x0102, byte_2),
+            byte_kept(from, bytes, 0x0103, byte_3),
+            byte_kept(from, bytes, 0x0140, pdi),
+            byte_kept(from, bytes, 0x0500, sii),
+        ];
+        true
+    }
+}

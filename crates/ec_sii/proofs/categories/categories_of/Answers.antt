@@ -1,0 +1,6 @@
+use Rattle.std.proofs.Common.{arith}
+use Rattle.ec_sii.proofs.Lengths.{strings_few}
+use Rattle.ec_sii.proofs.categories.categories_of.Goals as goal
+
+pub push_category-requires : goal.push_category-requires
+push_category-requires c = grind (arith, strings_few c.args.name.now c.requires)
