@@ -10,6 +10,7 @@ use std::process::Abort;
 use std::test::Fail;
 
 mod described;
+mod full;
 mod tables;
 
 /// What is told of a plan: the whole, or its parts alone.

@@ -1,6 +1,6 @@
 -- The commands of a start-up at their slave: each counts 1, and what the firmware step after it makes of it.
-use Rattle.std.proofs.Common.{ℕ, zero, suc, ◌+◌, ◌*◌, ◌/◌, ◌%◌, ◌<◌, ◌≡◌, ◌&&◌, not, Bool, true, false, Ok, refl, sym, ◌∙◌, ap, subst, arith, [], ◌∷◌, length}
-use Rattle.std.proofs.lemmas.Bool.{or_left, or_right, and_left}
+use Rattle.std.proofs.Common.{ℕ, zero, suc, ◌+◌, ◌-◌, ◌*◌, ◌/◌, ◌%◌, ◌<◌, ◌≤◌, ◌≡◌, ◌&&◌, not, Bool, true, false, List, Option, Some, None, Ok, refl, sym, ◌∙◌, ap, subst, arith, [], ◌∷◌, length}
+use Rattle.std.proofs.lemmas.Bool.{or_left, or_right, and_left, le-leb}
 use Rattle.ec_bits.proofs.AnyLaws.{if_true, if_false, within_true}
 use Rattle.ec_regs.specs.declared.manager.ManagerSettings.{ManagerSettings}
 use Rattle.ec_regs.specs.declared.fmmu.FmmuSettings.{FmmuSettings}
@@ -16,7 +16,7 @@ use Rattle.ec_al.specs.States.{state_number}
 use Rattle.ec_al.specs.Transitions.{answer, requested_by, acknowledges}
 use Rattle.ec_al.specs.Al.{Al}
 use Rattle.ec_al.specs.Al as al
-use Rattle.ec_sii.specs.Image.{word_at}
+use Rattle.ec_sii.specs.Image.{word_at, size_of}
 use Rattle.ec_sii.specs.Port.{Sii, written}
 use Rattle.ec_sii.specs.Port as port
 use Rattle.ec_sii.specs.Laws.{read_command}
@@ -114,11 +114,24 @@ pub record HasFound (value : ℕ) (p : Sii) : Type 0 where
 whole : (n : ℕ) → n % 65536 + 65536 * (n / 65536) ≡ n
 whole n = omega arith
 
+-- every image has the words of the identity
+room : (o : Option (List ℕ)) → 62 ≤ 64 * size_of o - 2
+room None = omega arith
+room (Some categories) = omega arith
+
+-- a read that is under way there is finished
+finished-read : (q : Sii) → q.busy ≡ true → q.address ≤ 62 → port.stepped q ≡ record { image = q.image; address = q.address; busy = false; error = q.error; found = port.two_words q.image q.address }
+unfolding port.stepped
+finished-read q b l = if_true _ _ _ b ∙ if_true _ _ _ (le-leb q.address (port.last_address q.image) (let r = room q.image.categories in omega (arith, l, r)))
+
+found-by : (value : ℕ) (q : Sii) → q.busy ≡ true → q.error ≡ false → q.address ≤ 62 → port.two_words q.image q.address ≡ value → HasFound value (port.stepped q)
+found-by value q b e l f = subst (HasFound value) (sym (finished-read q b l)) (record { idle = refl; no_error = e; found_is = f })
+
 finds : (p : Sii) (which : ℕ) → which < 3 → p.busy ≡ false → HasFound (word_of (device_of p.image.identity) which) (port.stepped (written p 0x0502 (read_command (word_place which))))
-unfolding written port.stepped word_at
-finds p zero l e = subst (λ (q : Sii). HasFound p.image.identity.vendor (port.stepped q)) (sym (if_false _ _ _ e)) (record { idle = refl; no_error = refl; found_is = whole p.image.identity.vendor })
-finds p (suc zero) l e = subst (λ (q : Sii). HasFound p.image.identity.product (port.stepped q)) (sym (if_false _ _ _ e)) (record { idle = refl; no_error = refl; found_is = whole p.image.identity.product })
-finds p (suc (suc zero)) l e = subst (λ (q : Sii). HasFound p.image.identity.revision (port.stepped q)) (sym (if_false _ _ _ e)) (record { idle = refl; no_error = refl; found_is = whole p.image.identity.revision })
+unfolding written word_at
+finds p zero l e = subst (λ (q : Sii). HasFound p.image.identity.vendor (port.stepped q)) (sym (if_false _ _ _ e)) (found-by p.image.identity.vendor _ refl refl (omega arith) (whole p.image.identity.vendor))
+finds p (suc zero) l e = subst (λ (q : Sii). HasFound p.image.identity.product (port.stepped q)) (sym (if_false _ _ _ e)) (found-by p.image.identity.product _ refl refl (omega arith) (whole p.image.identity.product))
+finds p (suc (suc zero)) l e = subst (λ (q : Sii). HasFound p.image.identity.revision (port.stepped q)) (sym (if_false _ _ _ e)) (found-by p.image.identity.revision _ refl refl (omega arith) (whole p.image.identity.revision))
 finds p (suc (suc (suc which))) l e = absurd (omega (arith, l))
 
 spelled-word : (t : Device) (s : SlaveState) (which : ℕ) → IsSpelled t s → word_of (device_of s.sii.image.identity) which ≡ word_of t which

@@ -15,7 +15,7 @@ use Rattle.ec_table.specs.declared.rows.Direction.TheVariants.{Out, In}
 use Rattle.ec_table.specs.declared.rows.SlaveRow.{SlaveRow}
 use Rattle.ec_table.specs.declared.rows.TypeRow.{TypeRow}
 use Rattle.ec_table.specs.Contents.{Contents, pdos_toward, assigned_toward}
-use Rattle.ec_table.specs.Objects.{type_of, kind_of_type, entries_of}
+use Rattle.ec_table.specs.Objects.{type_of, kind_at, entries_of}
 use Rattle.ec_table.specs.Pdos.{indices_of}
 use Rattle.ec_table.specs.Sound as table
 use Rattle.ec_link.specs.declared.settings.Settings.{Settings}
@@ -147,7 +147,7 @@ module _ (t : Contents) (sound : table.IsSound t) (free : compile_fault t ≡ No
       let set = own.each s r is in
       let x : Settings = slave_at (plan_of t) s in
       let row : table.IsSlave t.version t.types r = subst (table.IsSlave t.version t.types) (get_or_from_slice_get t.slaves s r r is) (sound.slaves.each s r lt) in
-      let kind : x.kind ≡ kind_of_type k = set.kind ∙ kind_told t s k type in
+      let kind : x.kind ≡ kind_at t s k = set.kind ∙ kind_told t s k type in
       let outs : x.share.outs ≡ bits_assigned k.process.outputs r.outputs
       = ap (λ (h : Share). h.outs) (share_is t s lt) ∙ (ap bits_of (entries-told t s r k Out is place) ∙ sym (bits_assigned_law k.process.outputs r.outputs)) in
       let ins : x.share.ins ≡ bits_assigned k.process.inputs r.inputs

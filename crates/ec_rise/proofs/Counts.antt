@@ -1,12 +1,13 @@
 -- The working counter and the data of a start-up's datagram, at the slave that it is for.
 use Rattle.std.proofs.Common.{ℕ, ◌+◌, ◌*◌, ◌%◌, ◌<◌, ◌≡◌, Bool, true, refl, ◌∙◌, ap, arith, List, length}
 use Rattle.std.specs.Int.{from_bool}
+use Rattle.std.proofs.lemmas.Bool.{or_left}
 use Rattle.ec_bits.proofs.AnyLaws.{any_below_from}
 use Rattle.ec_regs.specs.Memory.{ram_start, takes_writes}
 use Rattle.ec_frame.specs.declared.command.Command.TheVariants.{Apwr, Fprd, Fpwr, Bwr}
 use Rattle.ec_frame.specs.Datagram.{Datagram, adp_of}
 use Rattle.ec_slave.specs.State.{SlaveState, station_of}
-use Rattle.ec_slave.specs.Physical.{Window, touches, may_read_byte, may_write_byte, some_byte_read, some_byte_written}
+use Rattle.ec_slave.specs.Physical.{Window, touches, may_read_byte, may_write_byte, some_byte_read, some_byte_written, is_written}
 use Rattle.ec_slave.specs.Meeting.{window_of, datagram_met}
 use Rattle.ec_start.specs.Actions.{station, sent}
 use Rattle.ec_slave.specs.Interface.{OnlyWrites}
@@ -38,7 +39,7 @@ write-counts : (s : SlaveState) (d : Datagram) (w : Window) (k : ℕ) → OnlyWr
     → may_write_byte s.managers s.sii.busy (touches w) (w.from + k) ≡ true → (datagram_met s d).counter ≡ (d.counter + 1) % 65536
 write-counts s d w k h win l m =
     (writes_meet s d h).counter
-    ∙ (ap (λ (x : Window). (d.counter + from_bool (some_byte_written s.managers s.sii.busy x)) % 65536) win ∙ ap (λ (b : Bool). (d.counter + from_bool b) % 65536) (some-written s w k l m))
+    ∙ (ap (λ (x : Window). (d.counter + from_bool (is_written s x)) % 65536) win ∙ ap (λ (b : Bool). (d.counter + from_bool b) % 65536) (or_left _ _ (some-written s w k l m)))
 
 -- the slave that is meant counts
 pub own-write-counts : (s : SlaveState) (d : Datagram) (w : Window) (k : ℕ) → d.command ≡ Fpwr → adp_of d ≡ station_of s → window_of d ≡ w → k < length w.bytes

@@ -1,4 +1,5 @@
 -- The premises can be met: a segment of one slave with a mailbox and PDOs in both directions comes up.
+use Rattle.ec_sii.specs.Image.{image_of}
 use Rattle.ec_sii.specs.Port.{Sii, idle_port}
 use Rattle.ec_slave.proofs.SwitchedOn.{switched_on}
 use Rattle.std.proofs.Common.{ℕ, zero, suc, ◌+◌, ◌<◌, ◌≡◌, refl, ap, arith, [], ◌∷◌, length, All}
@@ -35,6 +36,7 @@ complete = record {
         shown = refl;
         index_is = refl;
         no_identity = λ e. omega (arith, e);
+        no_name = λ e. omega (arith, e);
         no_outputs = λ e. omega (arith, e);
         no_inputs = λ e. omega (arith, e);
         few = omega arith;
@@ -56,6 +58,7 @@ complete = record {
         shown = refl;
         index_is = refl;
         no_identity = λ e. omega (arith, e);
+        no_name = λ e. omega (arith, e);
         no_outputs = λ e. omega (arith, e);
         no_inputs = λ e. omega (arith, e);
         few = omega arith;
@@ -90,7 +93,7 @@ plans = record {
 device : IsDevice mix.kind (power_on mix.kind (device_identity mix.kind.device 0))
 device = record { slave = power_on_is mix.kind (device_identity mix.kind.device 0); spelled = by_port (switched_on mix.kind (device_identity mix.kind.device 0)).sii }
   where
-    by_port : (power_on mix.kind (device_identity mix.kind.device 0)).sii ≡ idle_port (record { identity = device_identity mix.kind.device 0; mailbox = mix.kind.mailbox }) → IsSpelled mix.kind.device (power_on mix.kind (device_identity mix.kind.device 0))
+    by_port : (power_on mix.kind (device_identity mix.kind.device 0)).sii ≡ idle_port (image_of mix.kind (device_identity mix.kind.device 0)) → IsSpelled mix.kind.device (power_on mix.kind (device_identity mix.kind.device 0))
     by_port e = record { vendor = ap (λ (p : Sii). p.image.identity.vendor) e; product = ap (λ (p : Sii). p.image.identity.product) e; revision = ap (λ (p : Sii). p.image.identity.revision) e }
 
 devices : AreDevices (mix ∷ []) (power_on mix.kind (device_identity mix.kind.device 0) ∷ [])

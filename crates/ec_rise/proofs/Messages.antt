@@ -1,5 +1,5 @@
 -- A firmware step of a slave that stands at a stage: its mailbox.
-use Rattle.std.proofs.Common.{ℕ, ◌+◌, ◌-◌, ◌*◌, ◌<◌, ◌≤◌, ◌≡◌, ◌&&◌, not, Bool, true, Option, Some, None, refl, sym, ◌∙◌, ap, subst, inl, inr, arith, List, length, slice_index, is_some, length-append, option_and_then}
+use Rattle.std.proofs.Common.{ℕ, ◌+◌, ◌-◌, ◌*◌, ◌<◌, ◌≤◌, ◌≡◌, ◌&&◌, ◌++◌, not, Bool, true, Option, Some, None, refl, sym, ◌∙◌, ap, subst, inl, inr, arith, List, length, slice_index, is_some, length-append, option_and_then}
 use Rattle.std.proofs.lemmas.Bool.{cases_Bool, both_ways, and_parts, le-ltb}
 use Rattle.std.proofs.lemmas.List.{length-replicate}
 use Rattle.ec_bits.specs.Bits.{zeros}
@@ -13,14 +13,21 @@ use Rattle.ec_coe.specs.declared.message.Message.{Message}
 use Rattle.ec_coe.specs.declared.value.Size.{Size}
 use Rattle.ec_coe.specs.declared.value.Size.TheVariants.{One, Two, Three, Four}
 use Rattle.ec_coe.specs.declared.message.Command.TheVariants.{DownloadRequest}
-use Rattle.ec_coe.specs.Messages.{message_bytes, message_read, message_length, command_of, command_number}
+use Rattle.ec_coe.specs.Messages.{message_read, message_length, command_of, command_number}
 use Rattle.ec_slave.specs.Interface.{KeepsBesideMessages, IsAnswered}
 use Rattle.ec_slave.proofs.FirmwareSteps.{three_parts, messages_keep, messages_rest, requests_answered}
 use Rattle.ec_slave.proofs.SwitchedOn.{switched_on}
-use Rattle.ec_coe.proofs.ReadBack.{reads_back, length-message}
-use Rattle.ec_slave.specs.Serving.{dictionary_of, is_preop, has_mailbox, takes_reply, is_served, request_for, request_in, reply_counter, answer_to, message_served, served}
+use Rattle.ec_coe.specs.Answers.{Answer}
+use Rattle.ec_coe.specs.declared.reply.Reply.TheVariants.{Unexpected}
+use Rattle.ec_coe.proofs.ReadBack.{reads_back}
+use Rattle.ec_coe.proofs.Names.{replies_fit}
+use Rattle.ec_coe.proofs.Letters.{message_or_none}
+use Rattle.ec_slave.specs.Serving.{dictionary_of, is_preop, has_mailbox, takes_reply, is_served, request_for, request_in, reply_counter, answer_to, bytes_to, message_served, served}
 use Rattle.ec_start.specs.declared.action.Transfer.{Transfer}
 use Rattle.ec_start.specs.declared.action.Transfer.TheVariants.{Download, Upload}
+use Rattle.ec_start.specs.declared.action.Request.{Request}
+use Rattle.ec_start.specs.Verdicts.{message_verdict, reply_verdict}
+use Rattle.ec_start.specs.declared.verdict.Verdict.TheVariants.{Next}
 use Rattle.ec_start.specs.Actions.{filled, request_bytes, request_command, request_message}
 use Rattle.ec_rise.specs.Stages.{Config, Stage, Before, Called, Down, Up, Talk}
 use Rattle.ec_rise.specs.Standing.{HasAll, HoldsZeros, IsInInit, IsOfKind, IsConfigured, IsSent, Claims, Talks, IsUpAt, IsDownAt, Reached, IsGone, HadFault, Stands}
@@ -49,7 +56,7 @@ mailbox_message-read t = reads_back (message_of t) _ (record { counter = omega a
 
 -- the reply to a message, in manager 1
 abbrev pub reply_raw : SlaveState → Message → List ℕ
-reply_raw s r = padded (manager_at s.managers 1) (message_bytes (answer_to s r).reply)
+reply_raw s r = padded (manager_at s.managers 1) (bytes_to s r)
 
 -- the step, in short
 pub record Replies (s : SlaveState) (r : Message) (t : SlaveState) : Type 0 where
@@ -61,11 +68,23 @@ given-replies s r l y e room = record { kept = messages_keep s; answer = request
 
 -- ---- a slave that was sent a request
 
-pub raw-length : (m : Manager) (message : List ℕ) (size : ℕ) → length message ≡ 16 → m.settings.length ≡ size → 16 ≤ size → length (padded m message) ≡ size
-raw-length m message size e f l =
+pub raw-length : (m : Manager) (message : List ℕ) (size : ℕ) → length message ≤ m.settings.length → m.settings.length ≡ size → length (padded m message) ≡ size
+raw-length m message size e f =
     let a = length-append message (zeros (m.settings.length - length message)) in
     let b = length-replicate {A = ℕ} (m.settings.length - length message) 0 in
-    omega (arith, a, b, e, f, l)
+    omega (arith, a, b, e, f)
+
+-- a reply fits
+pub reply-fits : (s : SlaveState) (r : Message) → 16 ≤ (manager_at s.managers 1).settings.length → length (bytes_to s r) ≤ (manager_at s.managers 1).settings.length
+reply-fits s r l = replies_fit.fits (answer_to s r).dictionary (manager_at s.managers 1).settings.length (answer_to s r).reply l
+
+-- what is no message doesn't bring the start-up on
+none-stops : (i : ℕ) (r : Request) → message_verdict i r None ≡ Next → ⊥
+none-stops i r e = by r.transfer e
+  where
+    by : (x : Transfer) → reply_verdict i r x Unexpected ≡ Next → ⊥
+    by (Download v) h = cc
+    by (Upload v) h = cc
 
 pub replied-up : (i : ℕ) (c : Config) (k : Talk) (s t : SlaveState) → c.talk ≡ Some k → length s.managers ≡ 4 → IsUpAt i c s → IsSent k c s → Replies s (message_of k) t → IsUpAt i c t
 replied-up i c k s t talk four u h r = record {
@@ -83,15 +102,24 @@ replied-up i c k s t talk four u h r = record {
     mailboxes = h.mailboxes;
     no_message = r.answer.no_message;
     raw = reply_raw s (message_of k);
-    whole = raw-length (manager_at s.managers 1) (message_bytes (answer_to s (message_of k)).reply) k.mailbox.send_size (length-message (answer_to s (message_of k)).reply)
-        (ap (λ x. x.length) (u.configured.settings 1 (omega arith)) ∙ h.mailboxes.send_length) h.mailboxes.send_some;
+    whole = raw-length (manager_at s.managers 1) (bytes_to s (message_of k)) k.mailbox.send_size
+        (reply-fits s (message_of k) (subst (λ (x : ℕ). 16 ≤ x) (sym (ap (λ x. x.length) (u.configured.settings 1 (omega arith)) ∙ h.mailboxes.send_length)) h.mailboxes.send_some))
+        (ap (λ x. x.length) (u.configured.settings 1 (omega arith)) ∙ h.mailboxes.send_length);
     reply = r.answer.reply;
     done = λ e.
-        let q = reply-claims c k.request i (is_preop s.al.state) (dictionary_of s) (message_of k) (reply_counter s.replies) _ h.request refl refl refl refl h.assigned.outs h.assigned.ins e in
-        record {
-          outs = subst (Claims _) (sym r.answer.outs) q.0;
-          ins = subst (Claims _) (sym r.answer.ins) q.1;
-        };
+        let m1 : Manager = manager_at s.managers 1 in
+        let a : Answer = answer_to s (message_of k) in
+        let rest : List ℕ = zeros (m1.settings.length - length (bytes_to s (message_of k))) in
+        elim (message_or_none a.dictionary m1.settings.length a.reply rest) [
+          | inl same ↦
+              let f = sym (ap (λ (bytes : List ℕ). message_verdict i k.request (message_read (bytes ++ rest))) same) ∙ e in
+              let q = reply-claims c k.request i (is_preop s.al.state) (dictionary_of s) (message_of k) (reply_counter s.replies) rest h.request refl refl refl refl h.assigned.outs h.assigned.ins f in
+              record {
+                outs = subst (Claims _) (sym r.answer.outs) q.0;
+                ins = subst (Claims _) (sym r.answer.ins) q.1;
+              }
+          | inr none ↦ absurd (none-stops i k.request (sym (ap (message_verdict i k.request) none) ∙ e))
+        ];
   }));
   quiet = u.quiet;
 }

@@ -1,6 +1,7 @@
 -- A slave of the type answers each request of the script as it should: its mapping is the type's, and each download is done.
 use Rattle.std.proofs.Common.{ℕ, zero, suc, ◌+◌, ◌-◌, ◌*◌, ◌%◌, ◌^◌, ◌<◌, ◌≤◌, ◌≡◌, ◌≢◌, ◌==◌, not, Bool, true, false, Option, Some, None, Result, refl, sym, ◌∙◌, ap, subst, arith, if◌then◌else◌, List, [], ◌∷◌, ◌++◌, length, map, take, slice_get, slice_set, nat_le, is_some, option_map, All, append_assoc, length-append}
 use Rattle.std.specs.List.{flat_map}
+use Rattle.std.specs.Option.{option_or}
 use Rattle.std.proofs.lemmas.Bool.{eq-eqb, ne_eqb, and_from, or_right, le-leb}
 use Rattle.std.proofs.lemmas.Option.{slice_get-map}
 use Rattle.ec_bits.proofs.AnyLaws.{if_true, if_false}
@@ -17,10 +18,11 @@ use Rattle.ec_coe.specs.declared.message.Command.{Command as Sdo}
 use Rattle.ec_coe.specs.declared.message.Command.TheVariants.{DownloadRequest, DownloadResponse, UploadRequest, UploadResponse}
 use Rattle.ec_coe.specs.Messages.{size_number}
 use Rattle.ec_coe.specs.Answers.{answered as answer_of, answer_by, upload_answer, download_answer, reply_to, value_of}
-use Rattle.ec_coe.specs.Objects.{Dictionary, Assignment, identity_object, output_assignment, input_assignment, has_some, entry_number, byte_value, word_value, long_value, assignment_values, pdo_values, object_values}
+use Rattle.ec_coe.specs.Objects.{Dictionary, Assignment, identity_object, output_assignment, input_assignment, has_some, entry_number, byte_value, word_value, long_value, assignment_values, pdo_values, device_name_object, shown_values, send_room, object_values}
 use Rattle.ec_regs.specs.Objects.{pdo_at, bits_assigned}
 use Rattle.ec_coe.specs.Transfers.{value_or_abort, value_at, uploaded, distinct, takes_value, is_open, assignment_written, with_value, with_outs, with_ins, written_over, downloaded}
 use Rattle.ec_coe.proofs.Effects.{good}
+use Rattle.ec_coe.proofs.Names.{uploads_expedited}
 use Rattle.ec_link.specs.declared.settings.Settings.{Settings}
 use Rattle.ec_start.specs.declared.action.Request.{Request}
 use Rattle.ec_start.specs.Scripts.{requests, uploads, downloads, entries_read, pdo_read, slots_written, assignment_written as assignment_requests}
@@ -50,16 +52,15 @@ all-append : (kind : SlaveKind) (c : Config) (xs bs : List Request) → AllAnswe
 all-append kind c [] bs h k = k
 all-append kind c (r ∷ xs) bs h k = (h.0, all-append kind (answered c r) xs bs h.1 k)
 
-upload-reply : (d : Dictionary) (m : Message) (counter : ℕ) (v : Value) → m.command ≡ UploadRequest → uploaded d m.index m.subindex ≡ good v
+upload-reply : (d : Dictionary) (m : Message) (counter : ℕ) (v : Value) → m.command ≡ UploadRequest → m.index ≢ device_name_object → uploaded d m.index m.subindex ≡ good v
     → (answer_of true d m counter).reply ≡ reply_to m counter Response (UploadResponse v.size) v.number
-unfolding answer_of
-upload-reply d m counter v c u = ap (λ (k : Sdo). (answer_by true d m counter k).reply) c ∙ ap (upload_answer m counter) u
+upload-reply d m counter v c ne u = uploads_expedited.elsewhere true d m counter c ne ∙ ap (upload_answer m counter) u
 
-upload-answers : (kind : SlaveKind) (o n : Claim) (index sub : ℕ) (v : Value) → ((d : Dictionary) → d.kind ≡ kind → uploaded d index sub ≡ good v) → v.number < 2 ^ (8 * size_number v.size)
+upload-answers : (kind : SlaveKind) (o n : Claim) (index sub : ℕ) (v : Value) → ((d : Dictionary) → d.kind ≡ kind → uploaded d index sub ≡ good v) → v.number < 2 ^ (8 * size_number v.size) → index ≢ device_name_object
     → Answers kind o n (uploads index sub v)
-upload-answers kind o n index sub v h small d m counter k asks =
+upload-answers kind o n index sub v h small ne d m counter k asks =
     let q : uploaded d m.index m.subindex ≡ good v = ap (λ (x : ℕ). uploaded d x m.subindex) asks.index ∙ (ap (λ (x : ℕ). uploaded d index x) asks.subindex ∙ h d k.kind_is) in
-    subst (λ (x : Message). IsWanted (uploads index sub v) x) (sym (upload-reply d m counter v asks.command q))
+    subst (λ (x : Message). IsWanted (uploads index sub v) x) (sym (upload-reply d m counter v asks.command (λ e. ne (sym asks.index ∙ e)) q))
     (record { service = refl; index = asks.index; subindex = asks.subindex; brings = (refl, refl, small) })
 
 -- an object of a PDO
@@ -68,7 +69,7 @@ unfolding uploaded object_values
 pdo-shown kind ps x h d sub v k e =
     let there : pdo_at (d.kind.outputs ++ d.kind.inputs) x ≡ Some h.pdo = ap (λ (t : SlaveKind). pdo_at (t.outputs ++ t.inputs) x) k ∙ h.shown in
     let object : object_values d x ≡ Some (pdo_values h.pdo)
-    = if_false _ _ _ (ne_eqb x identity_object h.no_identity) ∙ (if_false _ _ _ (ne_eqb x output_assignment h.no_outputs) ∙ (if_false _ _ _ (ne_eqb x input_assignment h.no_inputs) ∙ ap (option_map pdo_values) there)) in
+    = if_false _ _ _ (ne_eqb x identity_object h.no_identity) ∙ (if_false _ _ _ (ne_eqb x output_assignment h.no_outputs) ∙ (if_false _ _ _ (ne_eqb x input_assignment h.no_inputs) ∙ ap (λ (o : Option Pdo). option_or (option_map pdo_values o) (shown_values d.kind.face (send_room d.kind.mailbox) x)) there)) in
     ap (λ (y : ℕ). uploaded d y sub) h.index_is ∙ (ap (λ (o : Option (List Value)). value_at o sub) object ∙ ap value_or_abort e)
 
 get-map : (es : List Entry) (j : ℕ) (e : Entry) → slice_get es j ≡ Some e → slice_get (map (λ (x : Entry). long_value (entry_number x)) es) j ≡ Some (long_value (entry_number e))
@@ -80,7 +81,7 @@ entries-answer kind ps x h k [] small f = tt
 entries-answer kind ps x h k (e ∷ es) small f =
     let z : k + 0 ≡ k = omega arith in
     let v : slice_get (pdo_values h.pdo) k ≡ Some (long_value (entry_number e)) = ap (slice_get (pdo_values h.pdo)) (sym z) ∙ f 0 e refl in (
-      λ o n. upload-answers kind o n h.pdo.index k (long_value (entry_number e)) (λ d q. pdo-shown kind ps x h d k (long_value (entry_number e)) q v) (small 0 e (omega arith)),
+      λ o n. upload-answers kind o n h.pdo.index k (long_value (entry_number e)) (λ d q. pdo-shown kind ps x h d k (long_value (entry_number e)) q v) (small 0 e (omega arith)) (λ w. h.no_name (sym h.index_is ∙ w)),
       entries-answer kind ps x h (k + 1) es (λ j y l. small (suc j) y (omega (arith, l))) (λ j y q. let w : k + 1 + j ≡ k + suc j = omega arith in ap (slice_get (pdo_values h.pdo)) w ∙ f (suc j) y q),
     )
 
@@ -89,7 +90,7 @@ pdo-answer kind ps x h =
     let few = h.few in
     let small : length h.pdo.entries < 2 ^ 8 = omega (arith, few) in
     subst (λ (o : Option Pdo). AnyAnswers kind (pdo_read o)) (sym h.named) (
-      λ o n. upload-answers kind o n h.pdo.index 0 (byte_value (length h.pdo.entries)) (λ d q. pdo-shown kind ps x h d 0 (byte_value (length h.pdo.entries)) q refl) small,
+      λ o n. upload-answers kind o n h.pdo.index 0 (byte_value (length h.pdo.entries)) (λ d q. pdo-shown kind ps x h d 0 (byte_value (length h.pdo.entries)) q refl) small (λ w. h.no_name (sym h.index_is ∙ w)),
       entries-answer kind ps x h 1 h.pdo.entries h.entries
           (λ j e q. let w : 1 + j ≡ suc j = omega arith in ap (slice_get (pdo_values h.pdo)) w ∙ get-map h.pdo.entries j e q),
     )

@@ -28,8 +28,10 @@ use Rattle.ec_coe.specs.Messages.{message_bytes, message_in, message_read, messa
 use Rattle.ec_coe.specs.Replies.{reply_in, reply_by, response_in}
 use Rattle.ec_coe.specs.Answers.{answered as answer_of}
 use Rattle.ec_coe.specs.Objects.{Dictionary}
-use Rattle.ec_coe.proofs.ReadBack.{reads-as-message, length-message, command-read, service-read, index-read, subindex-read, value-read}
-use Rattle.ec_slave.specs.Serving.{dictionary_of, is_init, is_preop, has_mailbox, takes_reply, request_for, request_in, reply_counter, answer_to, message_served, read_finished, request_decided, served}
+use Rattle.ec_coe.specs.ReplyBytes.{reply_bytes}
+use Rattle.ec_coe.proofs.Names.{replies_alone}
+use Rattle.ec_coe.proofs.ReadBack.{reads-as-message, command-read, service-read, index-read, subindex-read, value-read}
+use Rattle.ec_slave.specs.Serving.{dictionary_of, is_init, is_preop, has_mailbox, takes_reply, request_for, request_in, reply_counter, answer_to, bytes_to, message_served, read_finished, request_decided, served}
 use Rattle.ec_start.specs.declared.action.Action.TheVariants.{SendRequest}
 use Rattle.ec_start.specs.declared.action.Request.{Request}
 use Rattle.ec_start.specs.declared.action.Transfer.{Transfer}
@@ -44,7 +46,7 @@ use Rattle.ec_rise.proofs.Owns.{window-sent}
 use Rattle.ec_rise.proofs.Sends.{sending, sending-length, set-lies, four-of}
 use Rattle.ec_slave.proofs.FirmwareSteps.{three_parts, decided as requests_decided, finished}
 use Rattle.ec_slave.proofs.RegisterAccess.{ram_governed}
-use Rattle.ec_rise.proofs.Messages.{message_of, mailbox_message-read, reply_raw, Replies, given-replies, raw-length}
+use Rattle.ec_rise.proofs.Messages.{message_of, mailbox_message-read, reply_raw, Replies, given-replies, raw-length, reply-fits}
 use Rattle.ec_rise.proofs.Counts.{own-write-counts}
 use Rattle.ec_rise.proofs.Shown.{HasReply}
 
@@ -150,6 +152,14 @@ pub record Knows (kind : SlaveKind) (o n : Claim) (d : Dictionary) : Type 0 wher
 abbrev pub Answers : SlaveKind → Claim → Claim → Request → Type 0
 Answers kind outs ins r = (d : Dictionary) (m : Message) (counter : ℕ) → Knows kind outs ins d → Asks r m → IsWanted r (answer_of true d m counter).reply
 
+-- no letters follow it
+wanted-alone : (d : Dictionary) (room : ℕ) (r : Request) (m : Message) → IsWanted r m → reply_bytes d room m ≡ message_bytes m
+wanted-alone d room r m h = by r.transfer h.brings
+  where
+    by : (x : Transfer) → DoesBring x m.command m.value → reply_bytes d room m ≡ message_bytes m
+    by (Download v) b = replies_alone.downloaded d room m b
+    by (Upload v) b = replies_alone.uploaded d room m v.size b.0
+
 -- ---- the firmware step
 
 pub replied : (kind : SlaveKind) (i : ℕ) (c : Config) (k : Talk) (box : Mailbox) (s : SlaveState) → IsOfKind kind s → kind.mailbox ≡ Some box → IsConfigured i c s
@@ -183,9 +193,11 @@ replied kind i c k box s slave boxed u unlocked preop idle h good =
     (good (dictionary_of s) (message_of k) (reply_counter s.replies)
     (record { kind_is = slave.kind_is; out_room = slave.outs; in_room = slave.ins; outs = h.assigned.outs; ins = h.assigned.ins })
     (record { command = refl; index = refl; subindex = refl; value = refl })) in
+    let rest : List ℕ = zeros (m1.settings.length - length (bytes_to s (message_of k))) in
+    let alone : bytes_to s (message_of k) ≡ message_bytes (answer_to s (message_of k)).reply = wanted-alone (answer_to s (message_of k)).dictionary m1.settings.length k.request (answer_to s (message_of k)).reply wanted in
     subst (λ (t : SlaveState). HasReply i k.request k.mailbox.send_size t) (sym all) (record {
       raw = reply_raw s (message_of k);
-      long = raw-length m1 (message_bytes (answer_to s (message_of k)).reply) k.mailbox.send_size (length-message (answer_to s (message_of k)).reply) size h.mailboxes.send_some;
+      long = raw-length m1 (bytes_to s (message_of k)) k.mailbox.send_size (reply-fits s (message_of k) long) size;
       mail = rep.answer.reply;
-      fits = wanted-back i k.request (answer_to s (message_of k)).reply (zeros (m1.settings.length - length (message_bytes (answer_to s (message_of k)).reply))) wanted;
+      fits = ap (λ (bytes : List ℕ). message_verdict i k.request (message_read (bytes ++ rest))) alone ∙ wanted-back i k.request (answer_to s (message_of k)).reply rest wanted;
     })

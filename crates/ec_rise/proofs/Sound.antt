@@ -53,6 +53,7 @@ offers-output kind x p h numbered e =
       shown = found-first kind.outputs kind.inputs x p e;
       index_is = i;
       no_identity = λ q. omega (arith, i, lo, hi, q);
+      no_name = λ q. omega (arith, i, lo, hi, q);
       no_outputs = λ q. omega (arith, i, lo, hi, q);
       no_inputs = λ q. omega (arith, i, lo, hi, q);
       few = omega (arith, few);
@@ -70,6 +71,7 @@ offers-input kind x p h numbered e =
       index_is = i;
       shown = found-second (IsPdo first_output_index) kind.outputs kind.inputs x h.outputs.each (λ r g q. let a = g.below in omega (arith, a, i, lo, q)) ∙ e;
       no_identity = λ q. omega (arith, i, lo, hi, q);
+      no_name = λ q. omega (arith, i, lo, hi, q);
       no_outputs = λ q. omega (arith, i, lo, hi, q);
       no_inputs = λ q. omega (arith, i, lo, hi, q);
       few = omega (arith, few);

@@ -18,7 +18,7 @@ use Rattle.ec_table.specs.declared.rows.Direction.TheVariants.{Out, In}
 use Rattle.ec_table.specs.declared.rows.SlaveRow.{SlaveRow}
 use Rattle.ec_table.specs.declared.rows.TypeRow.{TypeRow}
 use Rattle.ec_table.specs.Contents.{Contents}
-use Rattle.ec_table.specs.Objects.{type_of, kind_of_type}
+use Rattle.ec_table.specs.Objects.{type_of, kind_at}
 use Rattle.ec_table.specs.Pdos.{indices_of}
 use Rattle.ec_table.specs.Sound as table
 use Rattle.ec_link.specs.declared.settings.Settings.{Settings}
@@ -254,8 +254,8 @@ startable x ms fs is box outs ins oa ia =
     readable-at (suc (suc (suc (suc n)))) l = absurd (omega (arith, l))
 
 -- the kind of a slave is its type's
-pub kind_told : (t : Contents) (s : ℕ) (k : TypeRow) → type_of t s ≡ Some k → kind_of t s ≡ kind_of_type k
-kind_told t s k e = ap (λ (o : Option TypeRow). unwrap_or (option_map kind_of_type o) plain_kind) e
+pub kind_told : (t : Contents) (s : ℕ) (k : TypeRow) → type_of t s ≡ Some k → kind_of t s ≡ kind_at t s k
+kind_told t s k e = ap (λ (o : Option TypeRow). unwrap_or (option_map (kind_at t s) o) plain_kind) e
 
 -- ---- of a table without faults
 
@@ -269,7 +269,7 @@ module _ (t : Contents) (sound : table.IsSound t) (free : compile_fault t ≡ No
       let set = own.each s r is in
       let x : Settings = slave_at (plan_of t) s in
       let row : table.IsSlave t.version t.types r = subst (table.IsSlave t.version t.types) (get_or_from_slice_get t.slaves s r r is) (sound.slaves.each s r lt) in
-      let kind : x.kind ≡ kind_of_type k = set.kind ∙ kind_told t s k type in
+      let kind : x.kind ≡ kind_at t s k = set.kind ∙ kind_told t s k type in
       let mailbox : x.kind.mailbox ≡ k.mailbox = ap (λ (y : SlaveKind). y.mailbox) kind in
       let outs : x.kind.outputs ≡ k.process.outputs = ap (λ (y : SlaveKind). y.outputs) kind in
       let ins : x.kind.inputs ≡ k.process.inputs = ap (λ (y : SlaveKind). y.inputs) kind in

@@ -18,7 +18,7 @@ abbrev pub box : Mailbox
 box = record { receive_start = 0x1000; receive_size = 128; send_start = 0x1080; send_size = 128 }
 
 abbrev pub kind_of : Option Mailbox → ℕ → SlaveKind
-kind_of b product = record { device = record { vendor = 0xABCD; product = product; revision = 1 }; mailbox = b; out_start = 0x1100; in_start = 0x1400; outputs = []; inputs = []; lrw = true }
+kind_of b product = record { device = record { vendor = 0xABCD; product = product; revision = 1 }; mailbox = b; out_start = 0x1100; in_start = 0x1400; outputs = []; inputs = []; lrw = true; face = None }
 
 abbrev pub set_at : ℕ → ℕ → ℕ → ManagerSettings
 set_at start len control = record { start = start; length = len; control = control; activate = 1 }

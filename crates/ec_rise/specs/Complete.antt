@@ -8,7 +8,7 @@ use Rattle.ec_regs.specs.declared.slave_type.Device.{Device}
 use Rattle.ec_regs.specs.declared.slave_type.Mailbox.{Mailbox}
 use Rattle.ec_regs.specs.Managers.{is_set}
 use Rattle.ec_regs.specs.Types.{SlaveKind}
-use Rattle.ec_coe.specs.Objects.{entry_number, identity_object, output_assignment, input_assignment}
+use Rattle.ec_coe.specs.Objects.{entry_number, identity_object, output_assignment, input_assignment, device_name_object}
 use Rattle.ec_regs.specs.Objects.{pdo_at, bits_assigned}
 use Rattle.ec_coe.specs.Transfers.{distinct}
 use Rattle.ec_slave.specs.Checking.{outputs_mode, inputs_mode}
@@ -41,6 +41,7 @@ pub record IsOffered (kind : SlaveKind) (ps : List Pdo) (x : ℕ) : Type 0 where
   pub no_identity : x ≢ identity_object
   pub no_outputs : x ≢ output_assignment
   pub no_inputs : x ≢ input_assignment
+  pub no_name : x ≢ device_name_object
   pub few : length pdo.entries < 256
   pub small : x < 65536
   pub entries : All IsNumbered pdo.entries

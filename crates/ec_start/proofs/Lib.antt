@@ -6,3 +6,4 @@ pub mod Shaping
 pub mod Answering
 pub mod LawLemmas
 pub mod Assigned
+pub mod FullScripts

@@ -11,6 +11,7 @@ pub mod Planned
 -- Laws: other words for the same, proved; ThreeSlaves is the plan of an example.
 pub mod ThreeSlaves
 pub mod Laws
+pub mod ShownFull
 -- To be believed, too: what an action must be for its own calls.
 pub mod Doable
 -- Private: these serve private code and its proofs alone.

@@ -16,6 +16,7 @@ kind_of product mailbox out_start in_start outputs inputs = record {
   outputs = outputs;
   inputs = inputs;
   lrw = true;
+  face = None;
 }
 
 -- a PDO with one entry

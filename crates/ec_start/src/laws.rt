@@ -1,5 +1,6 @@
 //! What the definitions of this crate say together. The functions do nothing: their contracts are the laws.
 
+ghost use Rattle.ec_start.specs.ShownFull.{ShownFullHasTheScript};
 ghost use Rattle.ec_start.specs.Laws.{IsScriptOfThree, UploadsComeFirst, CountersRunToSeven, EndedStays, PlansStay, PollsEnd, ForeignChangesNothing, FramesAreAnswered, StartablesAreTaken};
 
 /// The script of the example's three slaves has 75 steps, and step 10 is the first wait for slave 0's SII.
@@ -52,4 +53,11 @@ pub fn frames_are_answered()
 /// `Startup::new` takes each plan that can be started up.
 pub fn startables_are_taken()
     ensures { StartablesAreTaken }
+{}
+
+/// A master brings full slaves up by the script that it has for slaves that aren't full: the script of a table that is shown in
+/// full is the table's.
+#[tactic(auto, using(crate::proofs::FullScripts::full_scripts))]
+pub fn shown_full_has_the_script()
+    ensures { ShownFullHasTheScript }
 {}

@@ -1,5 +1,5 @@
 -- What is left out has its default.
-use Rattle.std.proofs.Common.{◌≡◌, ℕ, List, [], true, not, ◌||◌, IsTrue, Result, Option, Some, None, codes, slice_get, unwrap_or, refl, subst}
+use Rattle.std.proofs.Common.{◌≡◌, ℕ, List, [], true, false, not, ◌||◌, IsTrue, Result, Option, Some, None, codes, slice_get, unwrap_or, refl, subst}
 use Rattle.std.specs.Option.{ok_or}
 use Rattle.toml.specs.Data.{Data, Items, no_items, item, Members, get_member}
 use Rattle.ec_table.specs.declared.fault.Fault.{Fault}
@@ -140,12 +140,13 @@ document_defaults ms =
     meets_then _ (DocumentDefaults ms) _ _ (no_rows (slave_element v ts) slave_items) (λ ss hss.
     meets_then _ (DocumentDefaults ms) _ _ (no_rows (variable_element v) variable_items) (λ ws hws.
     meets_then _ (DocumentDefaults ms) _ _ (no_rows (link_element v ss ws) link_items) (λ ls hls.
-    meets_ok (DocumentDefaults ms) (record { version = v; types = ts; slaves = ss; variables = ws; links = ls }) (record {
+    meets_ok (DocumentDefaults ms) (record { version = v; types = ts; slaves = ss; variables = ws; links = ls; full = false }) (record {
       version = hv;
       types = λ none. hts (it none);
       slaves = λ none. hss (is none);
       variables = λ none. hws (iw none);
       links = λ none. hls (il none);
+      full = refl;
     })))))))))))
 
 pub defaults : LeftOutIsDefault

@@ -9,7 +9,7 @@ use Rattle.ec_table.specs.declared.rows.TypeRow.{TypeRow}
 use Rattle.ec_table.specs.declared.rows.SlaveRow.{SlaveRow}
 use Rattle.ec_table.specs.declared.rows.VariableRow.{VariableRow}
 use Rattle.ec_table.specs.declared.rows.LinkRow.{LinkRow}
-use Rattle.ec_table.specs.Contents.{Contents}
+use Rattle.ec_table.specs.Contents.{Contents, as_stated}
 use Rattle.ec_table.specs.Fields.{◌>>=◌}
 use Rattle.ec_table.specs.InOrder.{rows_after}
 use Rattle.ec_table.specs.Reading.{type_element, slave_element, variable_element, link_element, table_of_document, table_of_sections}
@@ -61,7 +61,7 @@ rest row before d after xs f read fault = rw (read, zero-add, fault) refl
 pub section_fails : {X : Type 0} (row : ℕ → Data → List X → Result X Fault) (before : List Data) (d : Data) (after : List Data) (xs : List X) (f : Fault) → EachReads row before xs → row (length before) d xs ≡ Err f → rows_after row [] 0 (items_of (before ++ d ∷ after)) ≡ Err f
 section_fails row before d after xs f h fault = rows_append row [] 0 before (d ∷ after) ∙ rest row before d after xs f (section_each row before xs h) fault
 
-pub accepted : (ms : Members) (types slaves variables links : List Data) (c : Contents) → HasSections ms c.version types slaves variables links → AllRead types slaves variables links c → table_of_document ms ≡ Ok c
+pub accepted : (ms : Members) (types slaves variables links : List Data) (c : Contents) → HasSections ms c.version types slaves variables links → AllRead types slaves variables links c → table_of_document ms ≡ Ok (as_stated c)
 unfolding table_of_document table_of_sections
 accepted ms types slaves variables links c h r =
     rw (h.version, h.keys, h.types, h.slaves, h.variables, h.links, section_each (type_element c.version) types c.types r.types, section_each (slave_element c.version c.types) slaves c.slaves r.slaves, section_each (variable_element c.version) variables c.variables r.variables, section_each (link_element c.version c.slaves c.variables) links c.links r.links) refl

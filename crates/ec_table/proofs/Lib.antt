@@ -6,6 +6,7 @@ pub mod Ranges
 pub mod SoundReads
 pub mod SoundRows
 pub mod ObjectLemmas
+pub mod Shown
 pub mod Placed
 pub mod Written
 pub mod WrittenRows

@@ -229,7 +229,7 @@ links_met v ss ws ds variables = rows_met (All (IsLink ss ws)) (λ found x. IsLi
 
 -- ---- the whole
 
-pub read_sound : (v : Version) (type_items slave_items variable_items link_items : Items) (ts : List TypeRow) (ss : List SlaveRow) (ws : List VariableRow) (ls : List LinkRow) → rows_after (type_element v) [] 0 type_items ≡ Ok ts → rows_after (slave_element v ts) [] 0 slave_items ≡ Ok ss → rows_after (variable_element v) [] 0 variable_items ≡ Ok ws → rows_after (link_element v ss ws) [] 0 link_items ≡ Ok ls → IsSound (record { version = v; types = ts; slaves = ss; variables = ws; links = ls })
+pub read_sound : (v : Version) (type_items slave_items variable_items link_items : Items) (ts : List TypeRow) (ss : List SlaveRow) (ws : List VariableRow) (ls : List LinkRow) → rows_after (type_element v) [] 0 type_items ≡ Ok ts → rows_after (slave_element v ts) [] 0 slave_items ≡ Ok ss → rows_after (variable_element v) [] 0 variable_items ≡ Ok ws → rows_after (link_element v ss ws) [] 0 link_items ≡ Ok ls → IsSound (record { version = v; types = ts; slaves = ss; variables = ws; links = ls; full = false })
 read_sound v type_items slave_items variable_items link_items ts ss ws ls it is iw il =
     let types : AreTypes ts = (types_met v type_items).all ts it in
     let variables : AreVariables ws = (variables_met v variable_items).all ws iw in
@@ -248,7 +248,7 @@ document_met ms =
     meets_then _ IsSound _ _ (slaves_met v ts slave_items types) (λ ss slaves.
     meets_then _ IsSound _ _ (variables_met v variable_items) (λ ws variables.
     meets_then _ IsSound _ _ (links_met v ss ws link_items variables) (λ ls links.
-    meets_ok IsSound (record { version = v; types = ts; slaves = ss; variables = ws; links = ls }) (record { types = types; slaves = slaves; variables = variables; links = links })))))))))))
+    meets_ok IsSound (record { version = v; types = ts; slaves = ss; variables = ws; links = ls; full = false }) (record { types = types; slaves = slaves; variables = variables; links = links })))))))))))
 
 pub text_met : (text : List ℕ) → Meets (table_of text) IsSound
 unfolding table_of

@@ -22,7 +22,7 @@ use Rattle.ec_table.specs.declared.rows.TypeRow.{TypeRow}
 use Rattle.ec_table.specs.declared.rows.SlaveRow.{SlaveRow}
 use Rattle.ec_table.specs.declared.rows.VariableRow.{VariableRow}
 use Rattle.ec_table.specs.declared.rows.LinkRow.{LinkRow}
-use Rattle.ec_table.specs.Contents.{Contents, pdos_toward, assigned_toward}
+use Rattle.ec_table.specs.Contents.{Contents, as_stated, pdos_toward, assigned_toward}
 use Rattle.ec_table.specs.Fields.{number_in, section_in, are_tables, version_in}
 use Rattle.ec_table.specs.InOrder.{rows_after}
 use Rattle.ec_table.specs.Pdos.{indices_of, has_twice}
@@ -190,7 +190,7 @@ unfolding version_in number_in
 version_reads p One = refl
 version_reads p Two = refl
 
-pub document_reads : (c : Contents) → IsSound c → table_of_document (document_of c) ≡ Ok c
+pub document_reads : (c : Contents) → IsSound c → table_of_document (document_of c) ≡ Ok (as_stated c)
 unfolding table_of_document table_of_sections document_of
 document_reads c h =
     rw (

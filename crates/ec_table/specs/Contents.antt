@@ -1,5 +1,5 @@
 -- What a link table holds.
-use Rattle.std.specs.Prelude.{ℕ, List}
+use Rattle.std.specs.Prelude.{ℕ, Bool, true, false, if◌then◌else◌, List}
 use Rattle.ec_regs.specs.declared.slave_type.Pdo.{Pdo}
 use Rattle.ec_table.specs.declared.rows.Version.{Version}
 use Rattle.ec_table.specs.declared.rows.Direction.{Direction}
@@ -9,13 +9,27 @@ use Rattle.ec_table.specs.declared.rows.SlaveRow.{SlaveRow}
 use Rattle.ec_table.specs.declared.rows.VariableRow.{VariableRow}
 use Rattle.ec_table.specs.declared.rows.LinkRow.{LinkRow}
 
--- the value of a `Table`: its version, and each section's rows in file order
+-- the value of a `Table`: its version, each section's rows in file order, and whether its slaves are full
 pub record Contents : Type 0 where
   pub version : Version
   pub types : List TypeRow
   pub slaves : List SlaveRow
   pub variables : List VariableRow
   pub links : List LinkRow
+  -- whether its slaves are full: what the segment shows to usual masters; no text states it, so a table that was read isn't
+  pub full : Bool
+
+-- the same table, its slaves full
+abbrev pub shown_full : Contents → Contents
+shown_full c = record c { full = true }
+
+-- a table shown in full, where that is wanted
+abbrev pub shown_as : (full : Bool) → Contents → Contents
+shown_as full c = if full then shown_full c else c
+
+-- the same table as its text states it, its slaves not full
+abbrev pub as_stated : Contents → Contents
+as_stated c = record c { full = false }
 
 -- the process data objects of a type in one direction
 abbrev pub pdos_toward : Direction → TypeRow → List Pdo

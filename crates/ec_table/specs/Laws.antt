@@ -15,7 +15,7 @@ use Rattle.ec_table.specs.declared.rows.TypeRow.{TypeRow}
 use Rattle.ec_table.specs.declared.rows.SlaveRow.{SlaveRow}
 use Rattle.ec_table.specs.declared.rows.VariableRow.{VariableRow}
 use Rattle.ec_table.specs.declared.rows.LinkRow.{LinkRow}
-use Rattle.ec_table.specs.Contents.{Contents}
+use Rattle.ec_table.specs.Contents.{Contents, as_stated}
 use Rattle.ec_table.specs.Sound.{IsSound}
 use Rattle.ec_table.specs.Faults.{fault_place}
 use Rattle.ec_table.specs.Pdos.{indices_of}
@@ -65,7 +65,7 @@ pub record AllRead (type_data slave_data variable_data link_data : List Data) (c
 
 -- A document whose every element passes its own tests is accepted.
 abbrev pub AcceptedElementByElement : Type 0
-AcceptedElementByElement = (ms : Members) (types slaves variables links : List Data) (c : Contents) → HasSections ms c.version types slaves variables links → AllRead types slaves variables links c → table_of_document ms ≡ Ok c
+AcceptedElementByElement = (ms : Members) (types slaves variables links : List Data) (c : Contents) → HasSections ms c.version types slaves variables links → AllRead types slaves variables links c → table_of_document ms ≡ Ok (as_stated c)
 
 -- The first element in order that fails a test is told: all types before it, then all types and all slaves before it, and so on.
 pub record FirstFaultIsTold : Type 0 where
@@ -114,13 +114,14 @@ pub record SlaveDefaults (ts : List TypeRow) (ms : Members) (s : SlaveRow) : Typ
 pub record LinkDefaults (ws : List VariableRow) (ms : Members) (l : LinkRow) : Type 0 where
   pub bits : LeavesOut ms (codes "bits") → (w : VariableRow) → slice_get ws l.variable ≡ Some w → l.bits ≡ record { variable_bit = 0; entry_bit = 0; count = w.bits }
 
--- a document is then of version 1, and the section has no rows
+-- a document is then of version 1, and the section has no rows; its slaves are never full, since no key says so
 pub record DocumentDefaults (ms : Members) (c : Contents) : Type 0 where
   pub version : LeavesOut ms (codes "version") → c.version ≡ One
   pub types : LeavesOut ms (codes "type") → c.types ≡ []
   pub slaves : LeavesOut ms (codes "slave") → c.slaves ≡ []
   pub variables : LeavesOut ms (codes "variable") → c.variables ≡ []
   pub links : LeavesOut ms (codes "link") → c.links ≡ []
+  pub full : c.full ≡ false
 
 -- What an accepted element or document leaves out has its default.
 pub record LeftOutIsDefault : Type 0 where
@@ -131,9 +132,9 @@ pub record LeftOutIsDefault : Type 0 where
 
 -- ---- written out
 
--- Each sound table has a document that states it: its sections written out, with each key.
+-- Each sound table has a document that states it, but for whether its slaves are full: its sections written out, with each key.
 abbrev pub WrittenIsRead : Type 0
-WrittenIsRead = (c : Contents) → IsSound c → table_of_document (document_of c) ≡ Ok c
+WrittenIsRead = (c : Contents) → IsSound c → table_of_document (document_of c) ≡ Ok (as_stated c)
 
 -- A direction of a slave has as many object bits as its entries have bits, gaps with them.
 abbrev pub ObjectBitsAreCounted : Type 0

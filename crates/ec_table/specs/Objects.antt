@@ -1,9 +1,10 @@
--- What a table says of one slave or one link: its type, its identity, and the entries of the PDOs that it assigns (ETG.1000.6, "Object dictionary").
-use Rattle.std.specs.Prelude.{ℕ, List, [], Option, slice_get, option_map, option_and_then}
+-- What a table says of one slave or one link: its type, its identity, what it shows besides where it is full, and the entries of the PDOs that it assigns (ETG.1000.6, "Object dictionary").
+use Rattle.std.specs.Prelude.{ℕ, ◌+◌, ◌==◌, if◌then◌else◌, List, [], length, Option, Some, None, slice_get, option_map, option_and_then}
 use Rattle.std.specs.List.{flat_map}
 use Rattle.std.specs.Option.{option_map_or}
 use Rattle.ec_regs.specs.declared.slave_type.Entry.{Entry}
 use Rattle.ec_regs.specs.declared.slave_type.Identity.{Identity}
+use Rattle.ec_regs.specs.declared.slave_type.Face.{Face}
 use Rattle.ec_regs.specs.Types.{SlaveKind, device_identity}
 use Rattle.ec_regs.specs.Objects.{ObjectBit, entry_bits, assigned_entries}
 use Rattle.ec_table.specs.declared.rows.Direction.{Direction}
@@ -28,7 +29,7 @@ slave_of c l = option_and_then (λ (r : LinkRow). slice_get c.slaves r.slave) (s
 abbrev pub identity_of : Contents → ℕ → Option Identity
 identity_of c s = option_and_then (λ (r : SlaveRow). option_map (λ (t : TypeRow). device_identity t.device r.serial) (slice_get c.types r.type_place)) (slice_get c.slaves s)
 
--- the type of slave s, as a slave has it
+-- a type as its slaves have it where they are not full
 abbrev pub kind_of_type : TypeRow → SlaveKind
 kind_of_type t = record {
   device = t.device;
@@ -38,10 +39,20 @@ kind_of_type t = record {
   outputs = t.process.outputs;
   inputs = t.process.inputs;
   lrw = t.lrw;
+  face = None;
 }
 
+-- what slave s, of that type, shows besides where it is full: the name of its type, and whether it is the last of its ring
+abbrev pub face_of : Contents → ℕ → TypeRow → Face
+face_of c s t = record { name = t.name; is_last = s + 1 == length c.slaves }
+
+-- slave s, of that type: it has a face where the table's slaves are full
+abbrev pub kind_at : Contents → ℕ → TypeRow → SlaveKind
+kind_at c s t = record (kind_of_type t) { face = if c.full then Some (face_of c s t) else None }
+
+-- the type of slave s, as a slave has it
 abbrev pub kind_of : Contents → ℕ → Option SlaveKind
-kind_of c s = option_map kind_of_type (type_of c s)
+kind_of c s = option_map (kind_at c s) (type_of c s)
 
 -- the entries of slave s in a direction
 unfoldable pub entries_of : Contents → ℕ → Direction → List Entry

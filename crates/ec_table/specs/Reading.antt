@@ -1,5 +1,5 @@
 -- The elements of the sections, in the order of their tests: keys, values key by key, doubles, references.
-use Rattle.std.specs.Prelude.{List, [], ℕ, ◌==◌, Bool, not, ◌&&◌, ◌||◌, codes, is_some, unwrap_or, slice_get, Result, Ok}
+use Rattle.std.specs.Prelude.{List, [], ℕ, ◌==◌, Bool, false, not, ◌&&◌, ◌||◌, codes, is_some, unwrap_or, slice_get, Result, Ok}
 use Rattle.std.specs.List.{list_any, list_all}
 use Rattle.std.specs.Str.{bytes_eq}
 use Rattle.std.specs.Option.{ok_or}
@@ -175,7 +175,7 @@ table_of_sections version type_items slave_items variable_items link_items = do
   slaves ← rows_after (slave_element version types) [] 0 slave_items
   variables ← rows_after (variable_element version) [] 0 variable_items
   links ← rows_after (link_element version slaves variables) [] 0 link_items
-  Ok (record { version = version; types = types; slaves = slaves; variables = variables; links = links })
+  Ok (record { version = version; types = types; slaves = slaves; variables = variables; links = links; full = false })
 
 -- the table that a document states: its version, its keys, its sections, then each section's elements
 unfoldable pub table_of_document : Members → Result Contents Fault

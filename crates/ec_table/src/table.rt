@@ -1,17 +1,19 @@
 //! Tables, and what the layers above ask of them.
-ghost use Rattle.std.specs.Prelude.{◌≡◌, ◌<◌, ◌≤◌, length, All, Some, IfOk};
-ghost use Rattle.ec_regs.specs.Types.{IsEntry};
+ghost use Rattle.std.specs.Prelude.{◌≡◌, ◌<◌, ◌≤◌, length, All, Some, option_map, false, IfOk};
+ghost use Rattle.ec_regs.specs.Types.{IsEntry, IsFace};
 ghost use Rattle.ec_regs.specs.Objects.{bits_of};
+ghost use Rattle.ec_table.specs.Contents.{shown_as, shown_full};
 ghost use Rattle.ec_table.specs.Sound.{IsSound, IsType, AreTypes, AreSlaves, IsVariable, AreVariables, IsLink};
-ghost use Rattle.ec_table.specs.Objects.{type_of, variable_of, slave_of, identity_of, kind_of, entries_of};
+ghost use Rattle.ec_table.specs.Objects.{type_of, variable_of, slave_of, identity_of, face_of, kind_of, entries_of};
 
 use crate::objects::assigned_entries;
 use crate::rows::{Direction, LinkRow, SlaveRow, TypeRow, VariableRow, Version};
-use ec_regs::{Entry, Identity, Listed, SlaveType, copied_pdos};
+use ec_regs::{Entry, Face, Identity, Listed, SlaveType, copied_pdos};
 use std::alloc::{AllocError, Global};
 use std::marker::Model;
 
-/// What a text states: a version, and the rows of each section in file order.
+/// What a text states: a version, and the rows of each section in file order. Besides, which no text states, whether the
+/// table is shown in full: its slaves then have a face, so that they look to usual masters as those expect.
 ///
 /// Each table is sound: names stand once in their section, what refers to a row refers to one that there is,
 /// assigned objects are the type's, each once, and all values are in their ranges.
@@ -22,6 +24,7 @@ pub struct Table {
     slaves: Listed<SlaveRow>,
     variables: Listed<VariableRow>,
     links: Listed<LinkRow>,
+    is_full: bool,
 }
 
 impl Model for Table {
@@ -36,6 +39,7 @@ impl Model for Table {
       slaves = t.slaves;
       variables = t.variables;
       links = t.links;
+      full = t.is_full;
     } };
 
     ghost invariant = { λ t. IsSound (record {
@@ -44,11 +48,12 @@ impl Model for Table {
       slaves = t.slaves;
       variables = t.variables;
       links = t.links;
+      full = t.is_full;
     }) };
 }
 
 impl Table {
-    /// A table of rows that were read.
+    /// A table of rows that were read, which isn't shown in full.
     pub(crate) fn new(
         version: Version,
         types: Listed<TypeRow>,
@@ -62,6 +67,7 @@ impl Table {
           slaves = slaves;
           variables = variables;
           links = links;
+          full = false;
         }) }
         ensures { result ≡ record {
           version = version;
@@ -69,6 +75,7 @@ impl Table {
           slaves = slaves;
           variables = variables;
           links = links;
+          full = false;
         } }
     {
         Table {
@@ -77,6 +84,25 @@ impl Table {
             slaves,
             variables,
             links,
+            is_full: false,
+        }
+    }
+
+    /// Shows the table in full: each slave has a face from now on, with the name of its type, and the last one says that
+    /// it is the last of its ring. No row changes.
+    #[tactic(auto, using(crate::proofs::Shown::sound_shown))]
+    pub fn show_full(&mut self)
+        ensures { self.new ≡ shown_full self.old }
+    {
+        self.is_full = true;
+    }
+
+    /// Shows the table in full, where that is wanted.
+    pub fn show_as(&mut self, full: bool)
+        ensures { self.new ≡ shown_as full self.old }
+    {
+        if full {
+            self.show_full();
         }
     }
 
@@ -162,7 +188,23 @@ impl Table {
         device.identity(row.serial)
     }
 
-    /// The type of the slave at a place, as a slave has it. The error says that memory was refused.
+    /// What the slave at a place shows besides where it is full. The error says that memory was refused.
+    fn face(&self, alloc: Global, slave: usize) -> Result<Face, AllocError>
+        requires { slave < length self.now.slaves }
+        ensures value { IfOk result (λ f. option_map (face_of self.now slave) (type_of self.now slave) ≡ Some f) }
+        ensures limits { IfOk result IsFace }
+    {
+        let row = self.type_of(slave);
+        let name = Listed::copied(alloc, row.name.as_str().as_bytes())?;
+        let slaves = self.slaves.len();
+        Ok(Face {
+            name,
+            is_last: slave + 1 == slaves,
+        })
+    }
+
+    /// The type of the slave at a place, as a slave has it: with a face where the table is shown in full. The error says
+    /// that memory was refused.
     pub fn kind_of(&self, alloc: Global, slave: usize) -> Result<SlaveType, AllocError>
         requires { slave < length self.now.slaves }
         ensures { IfOk result (λ k. kind_of self.now slave ≡ Some k) }
@@ -170,7 +212,7 @@ impl Table {
         let row = self.type_of(slave);
         let outputs = copied_pdos(alloc, row.process.outputs.as_slice())?;
         let inputs = copied_pdos(alloc, row.process.inputs.as_slice())?;
-        Ok(SlaveType::new(
+        let mut kind = SlaveType::new(
             row.device,
             row.mailbox,
             row.process.out_start,
@@ -178,7 +220,11 @@ impl Table {
             outputs,
             inputs,
             row.lrw,
-        ))
+        );
+        if self.is_full {
+            kind.show(self.face(alloc, slave)?);
+        }
+        Ok(kind)
     }
 
     /// The entries of the objects that the slave at a place assigns in one direction, one after another;

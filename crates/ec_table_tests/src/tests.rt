@@ -12,6 +12,7 @@ use std::test::Fail;
 mod changes;
 mod described;
 mod examples;
+mod full;
 
 const THREE_SLAVES_READ: &str = "One
 type do4 43981 1 1 None 4352 0 true out 5632: 28672.1.4 in

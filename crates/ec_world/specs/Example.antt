@@ -33,7 +33,7 @@ abbrev pub small_link : LinkRow
 small_link = record { variable = 0; slave = 0; index = 0x7000; subindex = 1; bits = record { variable_bit = 0; entry_bit = 0; count = 4 } }
 
 abbrev pub small_table : Contents
-small_table = record { version = One; types = small_type ∷ []; slaves = small_slave ∷ []; variables = small_variable ∷ []; links = small_link ∷ [] }
+small_table = record { version = One; types = small_type ∷ []; slaves = small_slave ∷ []; variables = small_variable ∷ []; links = small_link ∷ []; full = false }
 
 abbrev pub AcceptedLaw : Type 0
 AcceptedLaw = table.IsSound small_table × (compile_fault small_table ≡ None)
@@ -77,6 +77,7 @@ two_units = record {
   slaves = slave_in 115 0 0 ∷ slave_in 116 1 1 ∷ [];
   variables = variable_of 97 Out 4 ∷ variable_of 98 In 4 ∷ variable_of 99 Out 12 ∷ variable_of 100 In 16 ∷ [];
   links = link_to 0 0 0x7000 4 ∷ link_to 1 0 0x6000 4 ∷ link_to 2 1 0x7010 12 ∷ link_to 3 1 0x6010 16 ∷ [];
+  full = false;
 }
 
 abbrev pub AcceptedTwoLaw : Type 0
