@@ -10,7 +10,7 @@ is_explained (DecodeOf table explained) = false
 is_explained EncodeOf = false
 is_explained (SimOf live capture explained) = explained
 is_explained (LoopOf cycles capture explained) = explained
-is_explained (SegmentOf frames port descriptor idle capture explained) = explained
+is_explained (SegmentOf frames port descriptor full idle capture explained) = explained
 is_explained (MasterOf to descriptor patience capture explained) = explained
 
 -- what may be told behind the line of a refusal: nothing, where it isn't to be explained; else the text is free

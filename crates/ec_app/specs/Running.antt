@@ -39,18 +39,18 @@ abbrev pub IsQuiet : Stream → Type 0
 IsQuiet told = told.new ≡ told.old
 
 -- `ecat segment` on a port; or on the card whose socket has a descriptor, where one is given, and nothing is told
-abbrev pub RunsSegmentOn : (descriptor : Option ℕ) → (frames port : ℕ) → (given : Option (List ℕ)) → (output told : Stream) → Result Unit Refusal → Type 0
-RunsSegmentOn None frames port given output told ended = RunsSegment frames port given output.old output.new told.old told.new ended
-RunsSegmentOn (Some descriptor) frames port given output told ended = RunsCardSegment frames given output.old output.new ended × IsQuiet told
+abbrev pub RunsSegmentOn : (descriptor : Option ℕ) → (frames port : ℕ) → (full : Bool) → (given : Option (List ℕ)) → (output told : Stream) → Result Unit Refusal → Type 0
+RunsSegmentOn None frames port full given output told ended = RunsSegment frames port full given output.old output.new told.old told.new ended
+RunsSegmentOn (Some descriptor) frames port full given output told ended = RunsCardSegment frames full given output.old output.new ended × IsQuiet told
 
 -- nothing is printed or told
 abbrev pub IsStill : (output told : Stream) → Type 0
 IsStill output told = IsQuiet output × IsQuiet told
 
 -- and with a capture, if its file is named
-abbrev pub RunsSegmentAt : (descriptor : Option ℕ) → (frames port : ℕ) → (file : Option (List ℕ)) → (given : Option (List ℕ)) → (output told : Stream) → Result Unit Refusal → Type 0
-RunsSegmentAt descriptor frames port file given output told ended =
-    EndsWith file (RunsSegmentOn descriptor frames port given output told) (IsStill output told) ended
+abbrev pub RunsSegmentAt : (descriptor : Option ℕ) → (frames port : ℕ) → (full : Bool) → (file : Option (List ℕ)) → (given : Option (List ℕ)) → (output told : Stream) → Result Unit Refusal → Type 0
+RunsSegmentAt descriptor frames port full file given output told ended =
+    EndsWith file (RunsSegmentOn descriptor frames port full given output told) (IsStill output told) ended
 
 -- `ecat sim`, whose lines are run as a script, or as they come, and which tells why they say `no`, where it explains
 abbrev pub RunsLines : (live explained : Bool) → (given : Option (List ℕ)) → (output : Stream) → Result Unit Refusal → Type 0
@@ -70,8 +70,8 @@ Runs EncodeOf given output told ended = RunsEncode given output.old output.new e
 Runs (SimOf live capture explained) given output told ended = RunsLines live explained given output ended × IsQuiet told
 Runs (LoopOf cycles capture explained) given output told ended =
     EndsWith capture (λ ended. RunsLoop cycles given output.old output.new told.old told.new ended) (IsStill output told) ended
-Runs (SegmentOf frames port descriptor idle capture explained) given output told ended =
-    RunsSegmentAt descriptor frames port capture given output told ended
+Runs (SegmentOf frames port descriptor full idle capture explained) given output told ended =
+    RunsSegmentAt descriptor frames port full capture given output told ended
 Runs (MasterOf to descriptor patience capture explained) given output told ended = RunsMasterWith capture given output ended × IsQuiet told
 
 -- what a command leaves alone: one that reads no input leaves it as it is, and one with no simulated application steps
@@ -83,7 +83,7 @@ LeavesAlone (DecodeOf table explained) input_old input_new app_old app_new = app
 LeavesAlone EncodeOf input_old input_new app_old app_new = app_new ≡ app_old
 LeavesAlone (SimOf live capture explained) input_old input_new app_old app_new = app_new ≡ app_old
 LeavesAlone (LoopOf cycles capture explained) input_old input_new app_old app_new = Unit {0}
-LeavesAlone (SegmentOf frames port descriptor idle capture explained) input_old input_new app_old app_new = Unit {0}
+LeavesAlone (SegmentOf frames port descriptor full idle capture explained) input_old input_new app_old app_new = Unit {0}
 LeavesAlone (MasterOf to descriptor patience capture explained) input_old input_new app_old app_new = app_new ≡ app_old
 
 -- the exit status of a run, and what is told of it: a refusal's line
@@ -118,7 +118,7 @@ LeavesInput (DecodeOf table explained) old new = Unit {0}
 LeavesInput EncodeOf old new = Unit {0}
 LeavesInput (SimOf live capture explained) old new = Unit {0}
 LeavesInput (LoopOf cycles capture explained) old new = Unit {0}
-LeavesInput (SegmentOf frames port descriptor idle capture explained) old new = Unit {0}
+LeavesInput (SegmentOf frames port descriptor full idle capture explained) old new = Unit {0}
 LeavesInput (MasterOf to descriptor patience capture explained) old new = Unit {0}
 
 -- what a run leaves of it: all, too, where there is something to tell in place of a command

@@ -32,6 +32,8 @@ struct Place {
     port: u16,
     /// The socket of a card, in the place of the port.
     descriptor: Option<u16>,
+    /// Whether its slaves are full.
+    full: bool,
     idle: u32,
 }
 
@@ -47,24 +49,30 @@ fn run_segment<H: AllocGlobal + Net + Files + Clock, R: Read, W: Write, F: Write
     app: &mut dyn App,
     behind: &mut Explanation,
 ) -> Result<(), Refusal>
-    ensures runs { RunsSegmentAt place.descriptor frames place.port (option_map (λ file. file.now) capture.entry)
+    ensures runs { RunsSegmentAt place.descriptor frames place.port place.full (option_map (λ file. file.now) capture.entry)
         (R.remaining input.old) (record { old = W.contents output.old; new = W.contents output.new })
         (record { old = F.contents faults.old; new = F.contents faults.new }) result }
     ensures explains { IsLeft behind.old behind.new }
 {
-    let (port, idle) = (place.port, place.idle);
+    let (port, full, idle) = (place.port, place.full, place.idle);
     match (place.descriptor, capture) {
-        (None, None) => print_segment(rt, frames, port, idle, input, output, faults, app, behind),
+        (None, None) => {
+            print_segment(
+                rt, frames, port, full, idle, input, output, faults, app, behind,
+            )
+        }
         (None, Some(file)) => {
             capture_segment(
-                rt, frames, port, idle, file, input, output, faults, app, behind,
+                rt, frames, port, full, idle, file, input, output, faults, app, behind,
             )
         }
         (Some(card), None) => {
-            print_card_segment(rt, frames, card, idle, input, output, app, behind)
+            print_card_segment(rt, frames, card, full, idle, input, output, app, behind)
         }
         (Some(card), Some(file)) => {
-            capture_card_segment(rt, frames, card, idle, file, input, output, app, behind)
+            capture_card_segment(
+                rt, frames, card, full, idle, file, input, output, app, behind,
+            )
         }
     }
 }
@@ -144,6 +152,7 @@ fn run_request<H: AllocGlobal + Net + Files + Clock, R: Read, W: Write, F: Write
             frames,
             port,
             descriptor,
+            full,
             idle,
             capture,
             ..
@@ -151,6 +160,7 @@ fn run_request<H: AllocGlobal + Net + Files + Clock, R: Read, W: Write, F: Write
             let place = Place {
                 port,
                 descriptor,
+                full,
                 idle,
             };
             run_segment(

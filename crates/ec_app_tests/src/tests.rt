@@ -405,7 +405,7 @@ fn tells_a_fault_of_the_args(rt: HostRuntime) {
         (
             &["ecat", "segment"],
             missing,
-            "--frames <N> [--port <P> | --descriptor <N>] [--idle <SECONDS>] [--capture <FILE>] [--explain] < TABLE",
+            "--frames <N> [--port <P> | --descriptor <N>] [--full] [--idle <SECONDS>] [--capture <FILE>] [--explain] < TABLE",
         ),
         (
             &["ecat", "master", "127.0.0.1:34980"],

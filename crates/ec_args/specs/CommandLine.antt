@@ -75,6 +75,10 @@ port_rule = or_else (codes "34980") (number_rule (codes "port") 1 65535)
 abbrev pub descriptor_rule : Rule
 descriptor_rule = number_rule (codes "descriptor") 0 1023
 
+-- whether the slaves are as usual masters expect them
+abbrev pub full_rule : Rule
+full_rule = flag_rule (codes "full")
+
 -- how many seconds are waited for a payload, a day at most; without it, a minute
 abbrev pub idle_rule : Rule
 idle_rule = or_else (codes "60") (number_rule (codes "idle") 0 86400)
@@ -115,15 +119,18 @@ turning = with_rule (with_rule (new_app (codes "loop")) cycles_rule) capture_rul
 abbrev pub loop_shape : Shape
 loop_shape = (with_rule turning explain_rule).top
 
--- which payloads a segment is to answer, and on what
+-- which payloads a segment is to answer, on what, and as which slaves
 abbrev pub listening : App
 listening = with_rule (with_rule (new_app (codes "segment")) frames_rule) port_rule
 
+abbrev pub showing : App
+showing = with_rule (with_rule listening descriptor_rule) full_rule
+
 abbrev pub waiting : App
-waiting = with_rule (with_rule listening descriptor_rule) idle_rule
+waiting = with_rule (with_rule showing idle_rule) capture_rule
 
 abbrev pub segment_shape : Shape
-segment_shape = (with_rule (with_rule waiting capture_rule) explain_rule).top
+segment_shape = (with_rule waiting explain_rule).top
 
 -- which segment a master speaks with, how long it waits for its answers, and what is noted of them
 abbrev pub reaching : App

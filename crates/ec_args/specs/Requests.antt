@@ -31,9 +31,9 @@ pub data Command : Type 0 where
   SimOf : Bool → Option Text → Bool → Command
   -- `ecat loop`: the number of cycles
   LoopOf : ℕ → Option Text → Bool → Command
-  -- `ecat segment`: the number of payloads, the port, the descriptor that is given in its place, if one is, and how many seconds
-  -- it waits for a payload
-  SegmentOf : ℕ → ℕ → Option ℕ → ℕ → Option Text → Bool → Command
+  -- `ecat segment`: the number of payloads, the port, the descriptor that is given in its place, if one is, whether its slaves are
+  -- as usual masters expect them, and how many seconds it waits for a payload
+  SegmentOf : ℕ → ℕ → Option ℕ → Bool → ℕ → Option Text → Bool → Command
   -- `ecat master`: the text of a segment's address and port, the descriptor that is given in its place, if one is, and how many
   -- milliseconds it waits for an answer
   MasterOf : Text → Option ℕ → ℕ → Option Text → Bool → Command
@@ -46,7 +46,7 @@ word_of (DecodeOf table explained) = codes "decode"
 word_of EncodeOf = codes "encode"
 word_of (SimOf live capture explained) = codes "sim"
 word_of (LoopOf cycles capture explained) = codes "loop"
-word_of (SegmentOf frames port descriptor idle capture explained) = codes "segment"
+word_of (SegmentOf frames port descriptor full idle capture explained) = codes "segment"
 word_of (MasterOf to descriptor patience capture explained) = codes "master"
 
 -- ---- what `clap` finds for its arguments
@@ -95,10 +95,11 @@ pub record FindsLoop (rows : List Row) (cycles : ℕ) (capture : Option Text) (e
   pub for_capture : FindsText rows (codes "capture") capture
   pub for_explain : FindsFlag rows (codes "explain") explained
 
-pub record FindsSegment (rows : List Row) (frames port : ℕ) (descriptor : Option ℕ) (idle : ℕ) (capture : Option Text) (explained : Bool) : Type 0 where
+pub record FindsSegment (rows : List Row) (frames port : ℕ) (descriptor : Option ℕ) (full : Bool) (idle : ℕ) (capture : Option Text) (explained : Bool) : Type 0 where
   pub for_frames : FindsNumber rows (codes "frames") frames (2 ^ 32)
   pub for_port : FindsNumber rows (codes "port") port (2 ^ 16)
   pub for_descriptor : FindsAny rows (codes "descriptor") descriptor (2 ^ 16)
+  pub for_full : FindsFlag rows (codes "full") full
   pub for_idle : FindsNumber rows (codes "idle") idle (2 ^ 32)
   pub for_capture : FindsText rows (codes "capture") capture
   pub for_explain : FindsFlag rows (codes "explain") explained
@@ -118,7 +119,7 @@ Finds rows (DecodeOf table explained) = FindsDecode rows table explained
 Finds rows EncodeOf = Unit {0}
 Finds rows (SimOf live capture explained) = FindsSim rows live capture explained
 Finds rows (LoopOf cycles capture explained) = FindsLoop rows cycles capture explained
-Finds rows (SegmentOf frames port descriptor idle capture explained) = FindsSegment rows frames port descriptor idle capture explained
+Finds rows (SegmentOf frames port descriptor full idle capture explained) = FindsSegment rows frames port descriptor full idle capture explained
 Finds rows (MasterOf to descriptor patience capture explained) = FindsMaster rows to descriptor patience capture explained
 
 -- `clap` met this command, and found what it is given
@@ -139,8 +140,8 @@ command_of (Decode table explained) = DecodeOf (option_map (λ file. file.now) t
 command_of Encode = EncodeOf
 command_of (Sim live capture explained) = SimOf live (option_map (λ file. file.now) capture) explained
 command_of (Loop cycles capture explained) = LoopOf cycles (option_map (λ file. file.now) capture) explained
-command_of (Segment frames port descriptor idle capture explained) =
-    SegmentOf frames port descriptor idle (option_map (λ file. file.now) capture) explained
+command_of (Segment frames port descriptor full idle capture explained) =
+    SegmentOf frames port descriptor full idle (option_map (λ file. file.now) capture) explained
 command_of (Master to descriptor patience capture explained) =
     MasterOf to.now descriptor patience (option_map (λ file. file.now) capture) explained
 

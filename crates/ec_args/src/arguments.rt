@@ -2,7 +2,7 @@
 //! minutes to check.
 ghost use Rattle.std.specs.Prelude.{◌≡◌, false};
 ghost use Rattle.clap.specs.Walk.{rule_of};
-ghost use Rattle.ec_args.specs.CommandLine.{capture_rule, cycles_rule, descriptor_rule, explain_rule, frame_rule, frames_rule, header_rule, idle_rule, live_rule, patience_rule, port_rule, slaves_rule, table_rule, to_rule};
+ghost use Rattle.ec_args.specs.CommandLine.{capture_rule, cycles_rule, descriptor_rule, explain_rule, frame_rule, frames_rule, full_rule, header_rule, idle_rule, live_rule, patience_rule, port_rule, slaves_rule, table_rule, to_rule};
 
 use clap::{Arg, ArgAction};
 use std::alloc::Global;
@@ -141,6 +141,17 @@ pub(crate) fn descriptor_argument<'a>(alloc: Global) -> Arg<'a>
         .value_name("N")
         .value_parser(clap::value_parser!(u16).range(0..=1023))
         .help("In its place, the descriptor of a network card's open raw socket, 0 to 1023")
+}
+
+/// `--full`, whether the slaves are as usual masters expect them.
+pub(crate) fn full_argument<'a>(alloc: Global) -> Arg<'a>
+    ensures rule { rule_of result ≡ full_rule }
+    ensures local { result.global ≡ false }
+{
+    Arg::new(alloc, "full")
+        .long("full")
+        .action(ArgAction::SetTrue)
+        .help("Show slaves as usual masters expect them: SII categories, DL status, more objects")
 }
 
 /// `--idle SECONDS`, how long a segment waits for a payload.

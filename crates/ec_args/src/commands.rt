@@ -3,11 +3,11 @@
 ghost use Rattle.std.specs.Prelude.{◌≡◌, false, IfOk};
 ghost use Rattle.clap.specs.Simple.{app_of, shape_of};
 ghost use Rattle.clap.specs.declared.builder.command.Command.TheViews.{out-Command as fields_of};
-ghost use Rattle.ec_args.specs.CommandLine.{asking, cycling, decode_shape, ecat, encode_shape, listening, loop_shape, master_shape, pass_shape, plan_shape, planning, reaching, running, segment_shape, sim_shape, telling, turning, waiting};
+ghost use Rattle.ec_args.specs.CommandLine.{asking, cycling, decode_shape, ecat, encode_shape, listening, loop_shape, master_shape, pass_shape, plan_shape, planning, reaching, running, segment_shape, showing, sim_shape, telling, turning, waiting};
 
 use crate::arguments::{
     capture_argument, cycles_argument, descriptor_argument, explain_argument,
-    explain_frames_argument, explain_plan_argument, frame_argument, frames_argument,
+    explain_frames_argument, explain_plan_argument, frame_argument, frames_argument, full_argument,
     header_argument, idle_argument, live_argument, patience_argument, port_argument,
     slaves_argument, table_argument, to_argument,
 };
@@ -118,7 +118,7 @@ fn listening_command<'a>(alloc: Global) -> Result<Command<'a>, AllocError>
 {
     Command::new(alloc, "segment")
         .override_usage(
-            "ecat segment --frames <N> [--port <P> | --descriptor <N>] [--idle <SECONDS>] [--capture <FILE>] [--explain] < TABLE",
+            "ecat segment --frames <N> [--port <P> | --descriptor <N>] [--full] [--idle <SECONDS>] [--capture <FILE>] [--explain] < TABLE",
         )
         .about(
             "Answers frames on a UDP port of 127.0.0.1, or a card, as the slaves of a link table",
@@ -128,24 +128,32 @@ fn listening_command<'a>(alloc: Global) -> Result<Command<'a>, AllocError>
         .arg(port_argument(alloc))
 }
 
-/// The same with those that say where it may wait in the place of a port, and how long.
-fn waiting_command<'a>(alloc: Global) -> Result<Command<'a>, AllocError>
-    ensures shape { IfOk result (λ command. shape_of command ≡ waiting.top) }
+/// The same with those that say where they may come in the place of a port, and what slaves answer them.
+fn showing_command<'a>(alloc: Global) -> Result<Command<'a>, AllocError>
+    ensures shape { IfOk result (λ command. shape_of command ≡ showing.top) }
     ensures local { IfOk result (λ command. (fields_of command).has_globals ≡ false) }
 {
     listening_command(alloc)?
         .arg(descriptor_argument(alloc))?
-        .arg(idle_argument(alloc))
+        .arg(full_argument(alloc))
 }
 
-/// `ecat segment --frames N [--port P | --descriptor N] [--idle SECONDS] [--capture FILE] [--explain]`.
+/// The same with those that say how long it waits for one, and what is noted of them.
+fn waiting_command<'a>(alloc: Global) -> Result<Command<'a>, AllocError>
+    ensures shape { IfOk result (λ command. shape_of command ≡ waiting.top) }
+    ensures local { IfOk result (λ command. (fields_of command).has_globals ≡ false) }
+{
+    showing_command(alloc)?
+        .arg(idle_argument(alloc))?
+        .arg(capture_argument(alloc))
+}
+
+/// `ecat segment --frames N [--port P | --descriptor N] [--full] [--idle SECONDS] [--capture FILE] [--explain]`.
 fn segment_command<'a>(alloc: Global) -> Result<Command<'a>, AllocError>
     ensures shape { IfOk result (λ command. shape_of command ≡ segment_shape) }
     ensures local { IfOk result (λ command. (fields_of command).has_globals ≡ false) }
 {
-    waiting_command(alloc)?
-        .arg(capture_argument(alloc))?
-        .arg(explain_argument(alloc))
+    waiting_command(alloc)?.arg(explain_argument(alloc))
 }
 
 /// `ecat master` with the arguments that say which segment it speaks with.

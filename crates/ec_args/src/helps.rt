@@ -299,6 +299,9 @@ on the raw socket of a network card, which is open already, as `tools/with_card`
 end a line `served N refused M` says how many payloads were frames, which were answered, and how
 many were not.
 
+With `--full` slaves are as usual masters expect them, and show besides: SII categories, DL status,
+and CoE objects 0x1000 to 0x100A and 0x1C00.
+
 Exit status:
   0  all payloads came, and the line is on standard output
   2  the arguments ask for no command: put them right as standard error says

@@ -53,11 +53,12 @@ pub enum Request<'a> {
     },
     /// Answer this many payloads on this port, or on the card whose socket has this descriptor, as the
     /// slaves of the link table on the input, while no wait for one is longer than `idle` seconds; 0 is
-    /// without an end.
+    /// without an end. The slaves are as usual masters expect them if it says that they are `full`.
     Segment {
         frames: u32,
         port: u16,
         descriptor: Option<u16>,
+        full: bool,
         idle: u32,
         capture: Option<&'a str>,
         explained: bool,
@@ -148,6 +149,7 @@ fn read_segment<'a>(given: &ArgMatches<'a>) -> Option<Request<'a>>
         frames: given.get_one::<u32>("frames")?,
         port: given.get_one::<u16>("port")?,
         descriptor: given.get_one::<u16>("descriptor"),
+        full: given.get_flag("full"),
         idle: given.get_one::<u32>("idle")?,
         capture: given.get_str("capture"),
         explained: given.get_flag("explain"),

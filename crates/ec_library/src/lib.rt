@@ -284,19 +284,20 @@ pub extern "C" fn ecat_c_variable(
     *out = conceal_master(Kept::of(machine));
 }
 
-/// Opens the slaves of the table that bytes state, just switched on.
+/// Opens the slaves of the table that bytes state, `full` or as it states them, just switched on.
 #[tactic(auto, using(crate::proofs::Leading::opened_as, crate::proofs::Leading::refused_as))]
 #[unsafe(no_mangle)]
 pub extern "C" fn ecat_c_segment_open(
     alloc: Global,
     table: &[u8],
+    full: bool,
     name: &mut [u8],
     told: &mut Refused,
     out: &mut SegmentHandle,
 )
-    ensures { HasOpened (AreOpened table.now) table.now told.new out.new.slaves out.old out.new }
+    ensures { HasOpened (AreOpened full table.now) table.now told.new out.new.slaves out.old out.new }
 {
-    match boxed_slaves(alloc, table) {
+    match boxed_slaves(alloc, table, full) {
         Ok(slaves) => {
             *told = opened();
             *out = conceal_segment(Kept::of(slaves));

@@ -84,11 +84,11 @@ pub fn boxed_machine(alloc: Global, table: &[u8]) -> Result<Box<Machine>, OpenEr
 }
 
 /// The box of the slaves of the table that bytes state.
-pub fn boxed_slaves(alloc: Global, table: &[u8]) -> Result<Box<Ring>, OpenError>
-    ensures opened { IfOk result (λ boxed. AreOpened table.now boxed.value) }
+pub fn boxed_slaves(alloc: Global, table: &[u8], full: bool) -> Result<Box<Ring>, OpenError>
+    ensures opened { IfOk result (λ boxed. AreOpened full table.now boxed.value) }
     ensures refused { IfErr result (IsOpenFault table.now) }
 {
-    let slaves = open_slaves(alloc, table)?;
+    let slaves = open_slaves(alloc, table, full)?;
     match Box::new(alloc, slaves) {
         Ok(boxed) => Ok(boxed),
         Err(_) => Err(OpenError::Memory),

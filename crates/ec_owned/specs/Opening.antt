@@ -1,7 +1,7 @@
 -- What a text is opened to.
-use Rattle.std.specs.Prelude.{◌≡◌, ℕ, List, [], ◌∷◌, Option, Some, None, Ok, IsUtf8, codes}
+use Rattle.std.specs.Prelude.{◌≡◌, ℕ, Bool, List, [], ◌∷◌, Option, Some, None, Ok, IsUtf8, codes}
 use Rattle.ec_slave.specs.State.{SlaveState}
-use Rattle.ec_table.specs.Contents.{Contents}
+use Rattle.ec_table.specs.Contents.{Contents, shown_as}
 use Rattle.ec_table.specs.InOrder.{Fails as TableFails}
 use Rattle.ec_table.specs.Faults.{error_name as table_name, error_number as table_number, error_place, section_number}
 use Rattle.ec_table.specs.Reading.{table_of}
@@ -24,9 +24,9 @@ pub record States (text : List ℕ) (table : Contents) : Type 0 where
 abbrev pub IsOpened : List ℕ → MachineState → Type 0
 IsOpened text m = (table : Contents) × States text table × (m ≡ new_machine table)
 
--- the slaves of that table, just switched on
-abbrev pub AreOpened : List ℕ → List SlaveState → Type 0
-AreOpened text slaves = (table : Contents) × States text table × AreSlavesOf table slaves
+-- the slaves of that table, full or as it states them, just switched on
+abbrev pub AreOpened : (full : Bool) → List ℕ → List SlaveState → Type 0
+AreOpened full text slaves = (table : Contents) × States text table × AreSlavesOf (shown_as full table) slaves
 
 -- a fault of a table that was read
 abbrev pub IsLinkFault : Contents → OpenError → Type 0

@@ -59,15 +59,16 @@ fn slaves_in(alloc: Global, table: &Table) -> Result<Ring, OpenError>
     Ok(slaves_of(alloc, table, &plan)?)
 }
 
-/// The slaves of the table that bytes state, just switched on.
+/// The slaves of the table that bytes state, `full` or as it states them, just switched on.
 ///
 /// # Errors
 ///
 /// As those of [`open_machine`].
-pub fn open_slaves(alloc: Global, text: &[u8]) -> Result<Ring, OpenError>
-    ensures opened { IfOk result (AreOpened text.now) }
+pub fn open_slaves(alloc: Global, text: &[u8], full: bool) -> Result<Ring, OpenError>
+    ensures opened { IfOk result (AreOpened full text.now) }
     ensures refused { IfErr result (IsOpenFault text.now) }
 {
-    let table = table_in(alloc, text)?;
+    let mut table = table_in(alloc, text)?;
+    table.show_as(full);
     slaves_in(alloc, &table)
 }

@@ -1,9 +1,9 @@
 -- What `ecat segment` prints and tells (this project's profile).
-use Rattle.std.specs.Prelude.{◌≡◌, ◌⊎◌, ℕ, List, ◌∷◌, [], ◌++◌, Option, None, Result, Ok, Err, codes}
+use Rattle.std.specs.Prelude.{◌≡◌, ◌⊎◌, ℕ, Bool, List, ◌∷◌, [], ◌++◌, Option, None, Result, Ok, Err, codes}
 use Rattle.std.specs.Fmt.{decimal}
 use Rattle.std.specs.Io.KnownBytes.{Appends}
 use Rattle.ec_slave.specs.State.{SlaveState}
-use Rattle.ec_table.specs.Contents.{Contents}
+use Rattle.ec_table.specs.Contents.{Contents, shown_as}
 use Rattle.ec_table.specs.Reading.{table_of}
 use Rattle.ec_link.specs.Faults.{compile_fault}
 use Rattle.ec_rise.specs.SwitchedOn.{AreSlavesOf}
@@ -29,12 +29,12 @@ abbrev pub HasSlaves : Contents → List SlaveState → Type 0
 HasSlaves t slaves = (compile_fault t ≡ None) × AreSlavesOf t slaves
 
 -- those of the table that a text states
-abbrev pub StatesSlaves : List ℕ → List SlaveState → Type 0
-StatesSlaves text slaves = (t : Contents) × (table_of text ≡ Ok t) × HasSlaves t slaves
+abbrev pub StatesSlaves : (full : Bool) → List ℕ → List SlaveState → Type 0
+StatesSlaves full text slaves = (t : Contents) × (table_of text ≡ Ok t) × HasSlaves (shown_as full t) slaves
 
 -- and of that which the input gives
-abbrev pub GivesSlaves : Option (List ℕ) → List SlaveState → Type 0
-GivesSlaves known slaves = (text : List ℕ) × GivesText known text × StatesSlaves text slaves
+abbrev pub GivesSlaves : (full : Bool) → Option (List ℕ) → List SlaveState → Type 0
+GivesSlaves full known slaves = (text : List ℕ) × GivesText known text × StatesSlaves full text slaves
 
 -- ---- on a wire
 
@@ -61,14 +61,14 @@ ServesSegment frames shows first last before after old new (Err _) = ⊥
 abbrev pub any_inputs : List ℕ → List ℕ → Type 0
 any_inputs outputs inputs = Unit {0}
 
--- A socket on this port, and at it the slaves of the table that the input states, just switched on: it is told that they
+-- A socket on this port, and at it the slaves of the table that the input states, full or as stated, just switched on: it is told that they
 -- listen there, and then they are served. A socket tells no payload, so what it carried is any.
-pub record ListensOn (frames port : ℕ) (known old new quiet told : Option (List ℕ)) (ended : Result Unit Refusal) : Type 0 where
+pub record ListensOn (frames port : ℕ) (full : Bool) (known old new quiet told : Option (List ℕ)) (ended : Result Unit Refusal) : Type 0 where
   pub opened : SocketState
   pub closed : SocketState
   pub first : List SlaveState
   pub last : List SlaveState
-  pub slaves : GivesSlaves known first
+  pub slaves : GivesSlaves full known first
   pub socket : IsOpened port opened
   pub tells : IsTold (listening_line opened.port) quiet told
   pub serves : ServesSegment frames any_inputs first last (silent opened.failed) (silent closed.failed) old new ended
@@ -78,22 +78,22 @@ abbrev pub RefusesSegment : Option (List ℕ) → Refusal → Type 0
 RefusesSegment known refusal = RefusesTable known refusal ⊎ (refusal ≡ Socket)
 
 -- how it ends, by what the input gives, and what the output and the fault stream hold before and after
-abbrev pub RunsSegment : (frames port : ℕ) → (known old new quiet told : Option (List ℕ)) → Result Unit Refusal → Type 0
-RunsSegment frames port known old new quiet told ended =
-    ListensOn frames port known old new quiet told ended
+abbrev pub RunsSegment : (frames port : ℕ) → (full : Bool) → (known old new quiet told : Option (List ℕ)) → Result Unit Refusal → Type 0
+RunsSegment frames port full known old new quiet told ended =
+    ListensOn frames port full known old new quiet told ended
     ⊎ ((refusal : Refusal) × (ended ≡ Err refusal) × RefusesSegment known refusal × (new ≡ old) × (told ≡ quiet))
 
 -- ---- on a card
 
 -- A card's socket, and at it the slaves of the table that the input states, just switched on, which are served.
-pub record AnswersOnCard (frames : ℕ) (known old new : Option (List ℕ)) (ended : Result Unit Refusal) : Type 0 where
+pub record AnswersOnCard (frames : ℕ) (full : Bool) (known old new : Option (List ℕ)) (ended : Result Unit Refusal) : Type 0 where
   pub closed : WireState
   pub first : List SlaveState
   pub last : List SlaveState
-  pub slaves : GivesSlaves known first
+  pub slaves : GivesSlaves full known first
   pub serves : ServesSegment frames any_inputs first last (silent 0) closed old new ended
 
 -- or a fault of the input or its table, or the descriptor is no socket's
-abbrev pub RunsCardSegment : (frames : ℕ) → (known old new : Option (List ℕ)) → Result Unit Refusal → Type 0
-RunsCardSegment frames known old new ended =
-    AnswersOnCard frames known old new ended ⊎ ((refusal : Refusal) × (ended ≡ Err refusal) × RefusesSegment known refusal × (new ≡ old))
+abbrev pub RunsCardSegment : (frames : ℕ) → (full : Bool) → (known old new : Option (List ℕ)) → Result Unit Refusal → Type 0
+RunsCardSegment frames full known old new ended =
+    AnswersOnCard frames full known old new ended ⊎ ((refusal : Refusal) × (ended ≡ Err refusal) × RefusesSegment known refusal × (new ≡ old))

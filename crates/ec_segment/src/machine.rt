@@ -22,30 +22,32 @@ fn slaves_of_table(alloc: Global, table: &Table) -> Result<Ring, Refusal>
     Ok(slaves_of(alloc, table, &plan)?)
 }
 
-/// The slaves of the table that the text states, as they are switched on.
+/// The slaves of the table that the text states, full or as it states them, as they are switched on.
 #[tactic(auto, using(crate::proofs::SegmentLemmas::if_states))]
-fn slaves_of_text(alloc: Global, text: &str) -> Result<Ring, Refusal>
-    ensures slaves { IfOk result (StatesSlaves text.now) }
+fn slaves_of_text(alloc: Global, text: &str, full: bool) -> Result<Ring, Refusal>
+    ensures slaves { IfOk result (StatesSlaves full text.now) }
     ensures refused { IfErr result (IsTableRefusal text.now) }
 {
-    let table = read_table(alloc, text)?;
+    let mut table = read_table(alloc, text)?;
+    table.show_as(full);
     slaves_of_table(alloc, &table)
 }
 
-/// The slaves of the table that the input states, as they are switched on. A refusal of the table is
-/// explained, where that is wanted.
+/// The slaves of the table that the input states, full or as it states them, as they are switched on. A
+/// refusal of the table is explained, where that is wanted.
 #[tactic(auto, using(crate::proofs::SegmentLemmas::if_gives))]
 pub(crate) fn slaves_of_input<R: Read>(
     alloc: Global,
     input: &mut R,
+    full: bool,
     behind: &mut Explanation,
 ) -> Result<Ring, Refusal>
-    ensures slaves { IfOk result (GivesSlaves (R.remaining input.old)) }
+    ensures slaves { IfOk result (GivesSlaves full (R.remaining input.old)) }
     ensures refused { IfErr result (RefusesTable (R.remaining input.old)) }
     ensures explains { IsLeft behind.old behind.new }
 {
     let text = read_text(alloc, input)?;
-    let made = slaves_of_text(alloc, text.as_str());
+    let made = slaves_of_text(alloc, text.as_str(), full);
     if let Err(refusal) = &made {
         behind.explain(alloc, text.as_str(), refusal);
     }

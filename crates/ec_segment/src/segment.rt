@@ -127,6 +127,7 @@ fn serve_port<H: AllocGlobal + Net + Files + Clock, R: Read, W: Write, F: Write>
     rt: &H,
     frames: u32,
     port: u16,
+    full: bool,
     idle: u32,
     capture: &mut Capture<H::File>,
     input: &mut R,
@@ -135,18 +136,18 @@ fn serve_port<H: AllocGlobal + Net + Files + Clock, R: Read, W: Write, F: Write>
     app: &mut dyn App,
     behind: &mut Explanation,
 ) -> Result<(), Refusal>
-    ensures runs { RunsSegment frames port (R.remaining input.old) (W.contents output.old) (W.contents output.new)
+    ensures runs { RunsSegment frames port full (R.remaining input.old) (W.contents output.old) (W.contents output.new)
         (F.contents faults.old) (F.contents faults.new) result }
     ensures explains { IsLeft behind.old behind.new }
 {
-    let mut slaves = slaves_of_input(rt.alloc(), input, behind)?;
+    let mut slaves = slaves_of_input(rt.alloc(), input, full, behind)?;
     let wire = UdpWire::bind_idle(rt, port, idle)?;
     tell_listening(wire.port(), faults);
     serve_tapped(rt, &mut slaves, app, wire, frames, capture, output)
 }
 
-/// Answers payloads on a port of 127.0.0.1, so many in all, as the slaves of the table that the input states, whose
-/// applications are `app`. Once it listens it says so on `faults`; at every end from then on it prints how many payloads were
+/// Answers payloads on a port of 127.0.0.1, so many in all, as the slaves of the table that the input states, which are `full`
+/// or as it states them, and whose applications are `app`. Once it listens it says so on `faults`; at every end from then on it prints how many payloads were
 /// frames, which were answered, and how many were not. Where no payload comes for `idle` seconds it ends as by a fault of
 /// the socket; with 0 it waits on. A refusal of the table is explained, where that is wanted.
 ///
@@ -158,6 +159,7 @@ pub fn print_segment<H: AllocGlobal + Net + Files + Clock, R: Read, W: Write, F:
     rt: &H,
     frames: u32,
     port: u16,
+    full: bool,
     idle: u32,
     input: &mut R,
     output: &mut W,
@@ -165,12 +167,12 @@ pub fn print_segment<H: AllocGlobal + Net + Files + Clock, R: Read, W: Write, F:
     app: &mut dyn App,
     behind: &mut Explanation,
 ) -> Result<(), Refusal>
-    ensures runs { RunsSegment frames port (R.remaining input.old) (W.contents output.old) (W.contents output.new)
+    ensures runs { RunsSegment frames port full (R.remaining input.old) (W.contents output.old) (W.contents output.new)
         (F.contents faults.old) (F.contents faults.new) result }
     ensures explains { IsLeft behind.old behind.new }
 {
     serve_port(
-        rt, frames, port, idle, &mut None, input, output, faults, app, behind,
+        rt, frames, port, full, idle, &mut None, input, output, faults, app, behind,
     )
 }
 
@@ -179,6 +181,7 @@ fn port_captured<H: AllocGlobal + Net + Files + Clock, R: Read, W: Write, F: Wri
     rt: &H,
     frames: u32,
     port: u16,
+    full: bool,
     idle: u32,
     capture: Capture<H::File>,
     input: &mut R,
@@ -187,7 +190,7 @@ fn port_captured<H: AllocGlobal + Net + Files + Clock, R: Read, W: Write, F: Wri
     app: &mut dyn App,
     behind: &mut Explanation,
 ) -> Result<(), Refusal>
-    ensures runs { (ended : Result Unit RefusalValue) × RunsSegment frames port (R.remaining input.old) (W.contents output.old)
+    ensures runs { (ended : Result Unit RefusalValue) × RunsSegment frames port full (R.remaining input.old) (W.contents output.old)
         (W.contents output.new) (F.contents faults.old) (F.contents faults.new) ended × Finishes ended result }
     ensures explains { IsLeft behind.old behind.new }
 {
@@ -196,6 +199,7 @@ fn port_captured<H: AllocGlobal + Net + Files + Clock, R: Read, W: Write, F: Wri
         rt,
         frames,
         port,
+        full,
         idle,
         &mut capture,
         input,
@@ -218,6 +222,7 @@ pub fn capture_segment<H: AllocGlobal + Net + Files + Clock, R: Read, W: Write, 
     rt: &H,
     frames: u32,
     port: u16,
+    full: bool,
     idle: u32,
     file: &str,
     input: &mut R,
@@ -226,14 +231,14 @@ pub fn capture_segment<H: AllocGlobal + Net + Files + Clock, R: Read, W: Write, 
     app: &mut dyn App,
     behind: &mut Explanation,
 ) -> Result<(), Refusal>
-    ensures runs { EndsCaptured (λ ended. RunsSegment frames port (R.remaining input.old) (W.contents output.old)
+    ensures runs { EndsCaptured (λ ended. RunsSegment frames port full (R.remaining input.old) (W.contents output.old)
         (W.contents output.new) (F.contents faults.old) (F.contents faults.new) ended)
         ((output.new ≡ output.old) × (faults.new ≡ faults.old)) result }
     ensures explains { IsLeft behind.old behind.new }
 {
     let capture = open_capture(rt, file, "segment")?;
     port_captured(
-        rt, frames, port, idle, capture, input, output, faults, app, behind,
+        rt, frames, port, full, idle, capture, input, output, faults, app, behind,
     )
 }
 
@@ -252,6 +257,7 @@ fn serve_card<H: AllocGlobal + Files + Clock, R: Read, W: Write>(
     rt: &H,
     frames: u32,
     descriptor: u16,
+    full: bool,
     idle: u32,
     capture: &mut Capture<H::File>,
     input: &mut R,
@@ -259,10 +265,10 @@ fn serve_card<H: AllocGlobal + Files + Clock, R: Read, W: Write>(
     app: &mut dyn App,
     behind: &mut Explanation,
 ) -> Result<(), Refusal>
-    ensures runs { RunsCardSegment frames (R.remaining input.old) (W.contents output.old) (W.contents output.new) result }
+    ensures runs { RunsCardSegment frames full (R.remaining input.old) (W.contents output.old) (W.contents output.new) result }
     ensures explains { IsLeft behind.old behind.new }
 {
-    let mut slaves = slaves_of_input(rt.alloc(), input, behind)?;
+    let mut slaves = slaves_of_input(rt.alloc(), input, full, behind)?;
     let wire = CardWire::of_descriptor(i32::from(descriptor), Sender::Segment, patience_of(idle))?;
     serve_tapped(rt, &mut slaves, app, wire, frames, capture, output)
 }
@@ -280,17 +286,18 @@ pub fn print_card_segment<H: AllocGlobal + Files + Clock, R: Read, W: Write>(
     rt: &H,
     frames: u32,
     descriptor: u16,
+    full: bool,
     idle: u32,
     input: &mut R,
     output: &mut W,
     app: &mut dyn App,
     behind: &mut Explanation,
 ) -> Result<(), Refusal>
-    ensures runs { RunsCardSegment frames (R.remaining input.old) (W.contents output.old) (W.contents output.new) result }
+    ensures runs { RunsCardSegment frames full (R.remaining input.old) (W.contents output.old) (W.contents output.new) result }
     ensures explains { IsLeft behind.old behind.new }
 {
     serve_card(
-        rt, frames, descriptor, idle, &mut None, input, output, app, behind,
+        rt, frames, descriptor, full, idle, &mut None, input, output, app, behind,
     )
 }
 
@@ -299,6 +306,7 @@ fn card_captured<H: AllocGlobal + Files + Clock, R: Read, W: Write>(
     rt: &H,
     frames: u32,
     descriptor: u16,
+    full: bool,
     idle: u32,
     capture: Capture<H::File>,
     input: &mut R,
@@ -306,7 +314,7 @@ fn card_captured<H: AllocGlobal + Files + Clock, R: Read, W: Write>(
     app: &mut dyn App,
     behind: &mut Explanation,
 ) -> Result<(), Refusal>
-    ensures runs { (ended : Result Unit RefusalValue) × RunsCardSegment frames (R.remaining input.old) (W.contents output.old)
+    ensures runs { (ended : Result Unit RefusalValue) × RunsCardSegment frames full (R.remaining input.old) (W.contents output.old)
         (W.contents output.new) ended × Finishes ended result }
     ensures explains { IsLeft behind.old behind.new }
 {
@@ -315,6 +323,7 @@ fn card_captured<H: AllocGlobal + Files + Clock, R: Read, W: Write>(
         rt,
         frames,
         descriptor,
+        full,
         idle,
         &mut capture,
         input,
@@ -331,6 +340,7 @@ pub fn capture_card_segment<H: AllocGlobal + Files + Clock, R: Read, W: Write>(
     rt: &H,
     frames: u32,
     descriptor: u16,
+    full: bool,
     idle: u32,
     file: &str,
     input: &mut R,
@@ -338,12 +348,12 @@ pub fn capture_card_segment<H: AllocGlobal + Files + Clock, R: Read, W: Write>(
     app: &mut dyn App,
     behind: &mut Explanation,
 ) -> Result<(), Refusal>
-    ensures runs { EndsCaptured (λ ended. RunsCardSegment frames (R.remaining input.old) (W.contents output.old)
+    ensures runs { EndsCaptured (λ ended. RunsCardSegment frames full (R.remaining input.old) (W.contents output.old)
         (W.contents output.new) ended) (output.new ≡ output.old) result }
     ensures explains { IsLeft behind.old behind.new }
 {
     let capture = open_capture(rt, file, "segment")?;
     card_captured(
-        rt, frames, descriptor, idle, capture, input, output, app, behind,
+        rt, frames, descriptor, full, idle, capture, input, output, app, behind,
     )
 }

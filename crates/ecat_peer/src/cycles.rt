@@ -65,11 +65,13 @@ fn slaves_up(alloc: Global, table: &Table) -> Option<Ring> {
     Some(ring)
 }
 
-/// The slaves of a table, once they have come up. None where it has a fault, memory was refused, or they don't come up.
-pub fn ring_of(alloc: Global, text: &str) -> Option<Ring> {
-    let Ok(table) = read_table(alloc, text) else {
+/// The slaves of a table, full or as it states them, once they have come up. None where it has a fault, memory was refused, or
+/// they don't come up.
+pub fn ring_of(alloc: Global, text: &str, full: bool) -> Option<Ring> {
+    let Ok(mut table) = read_table(alloc, text) else {
         return None;
     };
+    table.show_as(full);
     slaves_up(alloc, &table)
 }
 

@@ -1,5 +1,5 @@
 //! A hostile peer, from a seed. A segment of three slaves gets payloads at random: frames, frames that were tampered with, and
-//! bytes. A master runs cycles over a wire that answers with other frames' answers, answers of earlier cycles, and answers with
+//! bytes; full slaves get the same, and what masters ask that look around. A master runs cycles over a wire that answers with other frames' answers, answers of earlier cycles, and answers with
 //! bytes and counters changed. All is judged apart from the crates that are tried, from the payloads alone.
 //!
 //!     ecat_peer [SEED [ROUNDS [PORT]]]
@@ -15,9 +15,10 @@ mod payloads;
 mod plain;
 mod segment;
 mod tables;
+mod visits;
 
 use crate::cycles::{Ran, ring_of, run_cycles};
-use crate::segment::{Served, send_bursts, serve_in_memory};
+use crate::segment::{Sent, Served, send_bursts, serve_in_memory};
 use crate::tables::{THREE_SLAVES, two_units, without_lrw};
 use std::alloc::Global;
 use std::env::Env;
@@ -57,10 +58,18 @@ fn task_of(args: &[String]) -> Option<Task> {
     })
 }
 
-/// Serves payloads over a segment in memory whose slaves have come up.
-fn serve(alloc: Global, task: &Task) -> Option<Served> {
-    let mut ring = ring_of(alloc, THREE_SLAVES)?;
-    Some(serve_in_memory(&mut ring, task.seed, task.rounds))
+/// Serves payloads over a segment in memory whose slaves, full or not, have come up.
+fn serve(alloc: Global, task: &Task, full: bool, sent: Sent) -> Option<Served> {
+    let mut ring = ring_of(alloc, THREE_SLAVES, full)?;
+    Some(serve_in_memory(&mut ring, sent, task.seed, task.rounds))
+}
+
+/// Whether full slaves answer the same payloads as others, and each frame of a master that looks around.
+fn full_slaves_answer(alloc: Global, task: &Task, served: Served) -> Option<bool> {
+    let full = serve(alloc, task, true, Sent::Anything)?;
+    let visited = serve(alloc, task, true, Sent::Visits)?;
+    let is_same = full.answered == served.answered && full.refused == served.refused;
+    Some(full.is_right && is_same && visited.is_right && visited.answered == task.rounds)
 }
 
 /// Cycles of the three tables.
@@ -111,10 +120,12 @@ fn print_ran<W: Write>(ran: Ran, output: &mut W) -> io::Result<bool> {
 
 /// Plays the peer in memory, and prints its figures.
 fn play<W: Write>(alloc: Global, task: &Task, output: &mut W) -> io::Result<bool> {
-    let (Some(served), Some(all)) = (serve(alloc, task), run_all(alloc, task)) else {
+    let served = serve(alloc, task, false, Sent::Anything);
+    let (Some(served), Some(all)) = (served, run_all(alloc, task)) else {
         return Ok(false);
     };
-    let mut is_right = print_served(served, output)?;
+    let is_full = full_slaves_answer(alloc, task, served) == Some(true);
+    let mut is_right = print_served(served, output)? && is_full;
     for ran in all {
         is_right = print_ran(ran, output)? && is_right;
     }

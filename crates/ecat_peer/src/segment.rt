@@ -1,6 +1,7 @@
 //! A segment under payloads at random: over a wire in memory, and over the system's sockets.
 use crate::payloads::random_payload;
 use crate::plain::{is_frame, may_answer};
+use crate::visits::visit;
 use ec_frame::Frame;
 use ec_frame::field::MAX_FRAME_LEN;
 use ec_random::Random;
@@ -23,10 +24,20 @@ pub struct Served {
     pub is_right: bool,
 }
 
+/// What a peer sends.
+#[derive(Clone, Copy, Drop)]
+pub enum Sent {
+    /// Frames, frames that were tampered with, and bytes.
+    Anything,
+    /// What masters ask that look around, and what hostile ones do.
+    Visits,
+}
+
 /// What a peer expects of a segment.
 #[derive(Drop)]
 struct Peer {
     random: Random,
+    sent: Sent,
     // the frame that has no answer yet
     open: Option<Frame>,
     frames: u32,
@@ -35,9 +46,10 @@ struct Peer {
 }
 
 impl Peer {
-    fn new(seed: u64) -> Peer {
+    fn new(seed: u64, sent: Sent) -> Peer {
         Peer {
             random: Random::new(seed),
+            sent,
             open: None,
             frames: 0,
             others: 0,
@@ -48,7 +60,10 @@ impl Peer {
     /// The next payload. The frame before must have been answered.
     fn payload(&mut self) -> Frame {
         self.is_right = self.is_right && self.open.is_none();
-        let payload = random_payload(&mut self.random);
+        let payload = match self.sent {
+            Sent::Anything => random_payload(&mut self.random),
+            Sent::Visits => visit(&mut self.random),
+        };
         if is_frame(payload.as_slice()) {
             self.frames = self.frames.saturating_add(1);
             self.open = Some(crate::payloads::frame_of(payload.as_slice()));
@@ -100,9 +115,9 @@ impl Wire for Peer {
     }
 }
 
-/// Serves so many payloads at random, in memory.
-pub fn serve_in_memory(ring: &mut Ring, seed: u64, rounds: u32) -> Served {
-    let mut peer = Peer::new(seed);
+/// Serves so many payloads of a kind at random, in memory.
+pub fn serve_in_memory(ring: &mut Ring, sent: Sent, seed: u64, rounds: u32) -> Served {
+    let mut peer = Peer::new(seed, sent);
     let counts = serve_segment(ring, &mut Echo, &mut peer, rounds);
     let seen = peer.served();
     let is_told = match counts {
@@ -171,7 +186,7 @@ pub fn send_bursts<R: Net + AllocGlobal>(
         return Ok(None);
     };
     let mut sender = Sender {
-        peer: Peer::new(seed),
+        peer: Peer::new(seed, Sent::Anything),
         wire,
         open: Vec::new(rt.alloc()),
     };

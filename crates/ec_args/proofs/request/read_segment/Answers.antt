@@ -20,8 +20,9 @@ returns-clause-some c =
         for_frames = finds_number found (codes "frames") 32 c.get_one.result c.in_ok-get_one.field-0 c.get_one.ensures.none c.get_one.ensures.value c.in_ok-get_one.was;
         for_port = finds_number found (codes "port") 16 c.get_one-2.result c.in_ok-get_one-2.field-0 c.get_one-2.ensures.none c.get_one-2.ensures.value c.in_ok-get_one-2.was;
         for_descriptor = finds_any found (codes "descriptor") 16 c.get_one-3.result c.get_one-3.ensures.none c.get_one-3.ensures.value;
+        for_full = finds_flag found (codes "full") c.get_flag.result c.get_flag.ensures.value c.get_flag.ensures.other;
         for_idle = finds_number found (codes "idle") 32 c.get_one-4.result c.in_ok-get_one-3.field-0 c.get_one-4.ensures.none c.get_one-4.ensures.value c.in_ok-get_one-3.was;
         for_capture = finds_text found (codes "capture") _ c.get_str.ensures;
-        for_explain = finds_flag found (codes "explain") c.get_flag.result c.get_flag.ensures.value c.get_flag.ensures.other;
+        for_explain = finds_flag found (codes "explain") c.get_flag-2.result c.get_flag-2.ensures.value c.get_flag-2.ensures.other;
       },
     )

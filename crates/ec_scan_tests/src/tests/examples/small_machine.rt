@@ -1,0 +1,188 @@
+//! The machine of `examples/small_machine.toml`.
+use crate::tests::rows::{MailboxRow, PdoRow, SlaveRow};
+
+/// The text of `examples/small_machine.toml`; keep both equal.
+pub const TABLE: &str =
+    r#"# A small machine: a coupler with a few digital inputs and outputs, and an analog
+# terminal with two channels, of which this machine uses one.
+version = 2
+
+# The coupler: four lamps and valves, one bit each, and a gap up to the byte;
+# eight switches. It has no mailbox, so its slaves assign all of its objects.
+[[type]]
+name = "coupler"
+vendor = 0x5A5
+product = 0x0011
+revision = 2
+out_start = 0x1100
+in_start = 0x1180
+rxpdo = [
+    { index = 0x1600, entries = [[0x7000, 1, 1], [0x7000, 2, 1], [0x7000, 3, 1], [0x7000, 4, 1], [0, 0, 4]] },
+]
+txpdo = [
+    { index = 0x1A00, entries = [[0x6000, 1, 8]] },
+]
+
+# The analog terminal: each channel has a setpoint, a status byte with a gap
+# behind it, and a measured value. It takes no part in LRW datagrams.
+[[type]]
+name = "analog2"
+vendor = 0x5A5
+product = 0x0302
+revision = 1
+mailbox = [0x1000, 128, 0x1080, 128]
+out_start = 0x1100
+in_start = 0x1400
+rxpdo = [
+    { index = 0x1600, entries = [[0x7010, 17, 16]] },
+    { index = 0x1601, entries = [[0x7020, 17, 16]] },
+]
+txpdo = [
+    { index = 0x1A00, entries = [[0x6010, 1, 8], [0, 0, 8], [0x6010, 17, 16]] },
+    { index = 0x1A01, entries = [[0x6020, 1, 8], [0, 0, 8], [0x6020, 17, 16]] },
+]
+lrw = false
+
+[[slave]]
+name = "panel"
+type = "coupler"
+
+# The press runs in a sync unit of its own, with its second channel alone.
+[[slave]]
+name = "press"
+type = "analog2"
+out = [0x1601]
+in = [0x1A01]
+serial = 1042
+unit = 1
+
+[[variable]]
+name = "lamp"
+dir = "out"
+bits = 1
+[[variable]]
+name = "valves"
+dir = "out"
+bits = 2
+[[variable]]
+name = "switches"
+dir = "in"
+bits = 8
+[[variable]]
+name = "force_wanted"
+dir = "out"
+bits = 16
+[[variable]]
+name = "force"
+dir = "in"
+bits = 16
+
+[[link]]
+var = "lamp"
+slave = "panel"
+index = 0x7000
+sub = 1
+
+# Both bits of `valves`, each to an entry of one bit: [variable bit, entry bit, count].
+[[link]]
+var = "valves"
+slave = "panel"
+index = 0x7000
+sub = 2
+bits = [0, 0, 1]
+[[link]]
+var = "valves"
+slave = "panel"
+index = 0x7000
+sub = 3
+bits = [1, 0, 1]
+
+[[link]]
+var = "switches"
+slave = "panel"
+index = 0x6000
+sub = 1
+[[link]]
+var = "force_wanted"
+slave = "press"
+index = 0x7020
+sub = 17
+[[link]]
+var = "force"
+slave = "press"
+index = 0x6020
+sub = 17
+"#;
+
+// 2 + 7 bytes of the string are 5 words; an object of five entries has 24. 0x40 + 7 + 18 + 4 + 18 + 10 + 26 = 0x93, and 0x94 words
+// are three kibibits.
+const COUPLER: SlaveRow = SlaveRow {
+    name: "coupler",
+    identity: [0x5A5, 0x0011, 2, 0],
+    mailbox: None,
+    out_start: 0x1100,
+    in_start: 0x1180,
+    outputs: &[PdoRow {
+        index: 0x1600,
+        entries: &[
+            (0x7000, 1, 1),
+            (0x7000, 2, 1),
+            (0x7000, 3, 1),
+            (0x7000, 4, 1),
+            (0, 0, 4),
+        ],
+    }],
+    inputs: &[PdoRow {
+        index: 0x1A00,
+        entries: &[(0x6000, 1, 8)],
+    }],
+    output_bytes: 1,
+    input_bytes: 1,
+    lrw: true,
+    categories: &[(10, 5), (30, 16), (40, 2), (41, 16), (50, 8), (51, 24)],
+    end: 0x93,
+    size: 2,
+};
+
+// Two objects of three entries, two of one. 0x40 + 7 + 18 + 4 + 18 + 34 + 18 = 0xA3.
+const ANALOG2: SlaveRow = SlaveRow {
+    name: "analog2",
+    identity: [0x5A5, 0x0302, 1, 1042],
+    mailbox: Some(MailboxRow {
+        receive_start: 0x1000,
+        receive_size: 128,
+        send_start: 0x1080,
+        send_size: 128,
+    }),
+    out_start: 0x1100,
+    in_start: 0x1400,
+    outputs: &[
+        PdoRow {
+            index: 0x1600,
+            entries: &[(0x7010, 17, 16)],
+        },
+        PdoRow {
+            index: 0x1601,
+            entries: &[(0x7020, 17, 16)],
+        },
+    ],
+    inputs: &[
+        PdoRow {
+            index: 0x1A00,
+            entries: &[(0x6010, 1, 8), (0, 0, 8), (0x6010, 17, 16)],
+        },
+        PdoRow {
+            index: 0x1A01,
+            entries: &[(0x6020, 1, 8), (0, 0, 8), (0x6020, 17, 16)],
+        },
+    ],
+    output_bytes: 4,
+    input_bytes: 8,
+    lrw: false,
+    categories: &[(10, 5), (30, 16), (40, 2), (41, 16), (50, 32), (51, 16)],
+    end: 0xA3,
+    size: 2,
+};
+
+/// Its slaves.
+pub const SLAVES: &[SlaveRow] = &[COUPLER, ANALOG2];

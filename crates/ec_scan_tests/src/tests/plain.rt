@@ -1,0 +1,56 @@
+//! Slaves that aren't full: a scan stops at the first of them.
+use crate::tests::bytes::byte_at;
+use crate::tests::link::{Link, MemoryLink};
+use crate::tests::machine::TABLE;
+use crate::tests::master::{Master, station_of};
+use crate::tests::segments::slaves_of_text;
+use std::process::Abort;
+use std::test::Fail;
+
+/// They are counted; they show no type, no ports and no links, and don't take what is written to the data link layer.
+fn expect_no_data_link<L: Link + Drop>(
+    rt: &(impl AllocGlobal + Abort),
+    master: &mut Master<L>,
+) -> Result<(), Fail> {
+    let types = master.read_all(0x0000, 1)?;
+    assert_eq!(rt; (types.counter, byte_at(&types.bytes, 0)), (3, 0));
+    for (register, bytes) in [(0x0101, [0].as_slice()), (0x0103, &[0]), (0x0500, &[2])] {
+        assert_eq!(rt; master.write_all(register, bytes)?, 0, "{register:x}");
+    }
+    for register in [0x0007, 0x0110, 0x0111] {
+        assert_eq!(rt;
+            byte_at(&master.read_all(register, 1)?.bytes, 0),
+            0,
+            "{register:x}"
+        );
+    }
+    Ok(())
+}
+
+/// The SII has the first 64 words alone, with neither a size nor a version.
+fn expect_no_categories<L: Link + Drop>(
+    rt: &(impl AllocGlobal + Abort),
+    master: &mut Master<L>,
+    station: u16,
+) -> Result<(), Fail> {
+    assert_eq!(rt; master.words_at(station, 0x3E)?, Some((0, 0)));
+    assert_eq!(rt; master.words_at(station, 0x40)?, None);
+    Ok(())
+}
+
+// The same table as it is: the master counts three slaves and can address them, and gets no further.
+#[test]
+fn slaves_that_are_not_full(rt: HostRuntime) -> Result<(), Fail> {
+    let ring = slaves_of_text(rt.alloc(), TABLE, false)?;
+    let mut master = Master::new(rt.alloc(), MemoryLink::new(ring));
+    expect_no_data_link(&rt, &mut master)?;
+    for place in 0..3 {
+        let station = station_of(place)?;
+        assert_eq!(rt;
+            master.write_place(place, 0x0010, &station.to_le_bytes())?,
+            1
+        );
+        expect_no_categories(&rt, &mut master, station)?;
+    }
+    Ok(())
+}

@@ -1,0 +1,270 @@
+//! The process data of a segment: where they lie in the logical memory, and cycles over them (ETG.1000.4, "Sync manager", "Fieldbus
+//! memory management unit").
+use crate::tests::bytes::{byte_at, part_of};
+use crate::tests::frames::Datagram;
+use crate::tests::link::{Link, made_input};
+use crate::tests::master::Master;
+use std::alloc::Global;
+use std::process::Abort;
+use std::test::Fail;
+
+// the numbers of the commands
+const LRD: u8 = 10;
+
+const LWR: u8 = 11;
+
+const LRW: u8 = 12;
+
+/// So many cycles are run.
+const CYCLES: u32 = 20;
+
+/// Bytes of a slave in the logical memory.
+#[derive(Clone, Copy, Drop)]
+pub struct Area {
+    /// The logical address of the first.
+    pub logical: u32,
+    /// How many there are.
+    pub count: u16,
+    /// The address of the first in the slave.
+    pub physical: u16,
+}
+
+impl Area {
+    /// The sixteen bytes of an FMMU that moves them, by reads (1) or by writes (2).
+    pub fn fmmu(self, direction: u8) -> [u8; 16] {
+        let [a, b, c, d] = self.logical.to_le_bytes();
+        let [low, high] = self.count.to_le_bytes();
+        let [start, page] = self.physical.to_le_bytes();
+        [
+            a, b, c, d, low, high, 0, 7, start, page, 0, direction, 1, 0, 0, 0,
+        ]
+    }
+
+    /// The bytes of it in an image of the logical memory.
+    fn part(self, alloc: Global, image: &[u8]) -> Result<Vec<u8>, Fail> {
+        let place = usize::try_from(self.logical)?;
+        Ok(part_of(alloc, image, place, usize::from(self.count))?)
+    }
+}
+
+/// The process data of a slave.
+#[derive(Clone, Copy, Drop)]
+pub struct Seat {
+    /// Its outputs.
+    pub outputs: Area,
+    /// Its inputs.
+    pub inputs: Area,
+    /// Whether it takes part in LRW.
+    pub lrw: bool,
+}
+
+/// Slaves in a row that go by the same commands.
+#[derive(Clone, Copy, Drop)]
+struct Run {
+    from: u32,
+    count: u16,
+    lrw: bool,
+    written: u16,
+    read: u16,
+}
+
+impl Run {
+    /// The datagrams that carry it, and the working counter that each must come back with.
+    fn push_to(
+        self,
+        alloc: Global,
+        image: &[u8],
+        datagrams: &mut Vec<Datagram>,
+        counters: &mut Vec<u16>,
+    ) -> Result<(), Fail> {
+        let bytes = part_of(
+            alloc,
+            image,
+            usize::try_from(self.from)?,
+            usize::from(self.count),
+        )?;
+        let zeros = vec![in alloc; 0u8; usize::from(self.count)]?;
+        if self.lrw {
+            datagrams.push(Datagram::new(alloc, LRW, self.from, &bytes)?)?;
+            counters.push(self.written.saturating_mul(2).saturating_add(self.read))?;
+        } else {
+            datagrams.push(Datagram::new(alloc, LWR, self.from, &bytes)?)?;
+            counters.push(self.written)?;
+            datagrams.push(Datagram::new(alloc, LRD, self.from, &zeros)?)?;
+            counters.push(self.read)?;
+        }
+        Ok(())
+    }
+
+    /// The same run with a slave behind it.
+    fn with(self, seat: &Seat) -> Run {
+        let written = u16::from(seat.outputs.count > 0);
+        let read = u16::from(seat.inputs.count > 0);
+        Run {
+            count: self
+                .count
+                .saturating_add(seat.outputs.count)
+                .saturating_add(seat.inputs.count),
+            written: self.written.saturating_add(written),
+            read: self.read.saturating_add(read),
+            ..self
+        }
+    }
+}
+
+/// The process data of all slaves, one slave after another from logical address 0 on.
+#[derive(Drop)]
+pub struct Process {
+    alloc: Global,
+    seats: Vec<Seat>,
+    next: u32,
+}
+
+impl Process {
+    /// No slaves.
+    pub fn new(alloc: Global) -> Process {
+        Process {
+            alloc,
+            seats: Vec::new(alloc),
+            next: 0,
+        }
+    }
+
+    /// The bytes behind those that have a place.
+    fn area(&mut self, physical: u16, count: u16) -> Area {
+        let logical = self.next;
+        self.next = logical.saturating_add(u32::from(count));
+        Area {
+            logical,
+            count,
+            physical,
+        }
+    }
+
+    /// A slave more: outputs and inputs, of each the address and how many bytes, and whether it takes part in LRW.
+    pub fn seat(
+        &mut self,
+        outputs: (u16, u16),
+        inputs: (u16, u16),
+        lrw: bool,
+    ) -> Result<Seat, Fail> {
+        let seat = Seat {
+            outputs: self.area(outputs.0, outputs.1),
+            inputs: self.area(inputs.0, inputs.1),
+            lrw,
+        };
+        self.seats.push(seat)?;
+        Ok(seat)
+    }
+
+    /// The runs of slaves that go by the same commands; `joint` says whether LRW is used at all.
+    fn runs(&self, joint: bool) -> Result<Vec<Run>, Fail> {
+        let mut runs: Vec<Run> = Vec::new(self.alloc);
+        for seat in &self.seats {
+            let lrw = joint && seat.lrw;
+            let run = match runs.pop() {
+                Some(run) if run.lrw == lrw => run,
+                other => {
+                    if let Some(run) = other {
+                        runs.push(run)?;
+                    }
+                    Run {
+                        from: seat.outputs.logical,
+                        count: 0,
+                        lrw,
+                        written: 0,
+                        read: 0,
+                    }
+                }
+            };
+            runs.push(run.with(seat))?;
+        }
+        Ok(runs)
+    }
+
+    /// The outputs of a cycle, other ones in each.
+    fn image(&self, cycle: u32) -> Result<Vec<u8>, Fail> {
+        let mut image = Vec::new(self.alloc);
+        for place in 0..self.next {
+            let number = cycle.wrapping_mul(37).wrapping_add(place.wrapping_mul(11));
+            image.push((number % 256) as u8)?;
+        }
+        Ok(image)
+    }
+}
+
+/// What the datagrams brought back to an image of the logical memory.
+fn brought_back(alloc: Global, length: u32, datagrams: &[Datagram]) -> Result<Vec<u8>, Fail> {
+    let mut image = vec![in alloc; 0u8; usize::try_from(length)?]?;
+    for datagram in datagrams {
+        let from = usize::try_from(datagram.address)?;
+        for (place, byte) in datagram.bytes.iter().enumerate() {
+            if let Some(cell) = image.get_mut(from.saturating_add(place)) {
+                if datagram.command != LWR {
+                    *cell = *byte;
+                }
+            }
+        }
+    }
+    Ok(image)
+}
+
+/// The inputs of a slave are what its application made of the outputs of the cycle before.
+fn expect_inputs(
+    rt: &(impl AllocGlobal + Abort),
+    seat: &Seat,
+    before: &[u8],
+    seen: &[u8],
+) -> Result<(), Fail> {
+    let outputs = seat.outputs.part(rt.alloc(), before)?;
+    let inputs = seat.inputs.part(rt.alloc(), seen)?;
+    for place in 0..usize::from(seat.inputs.count) {
+        let at = seat.inputs.logical;
+        assert_eq!(rt;
+            byte_at(&inputs, place),
+            made_input(&outputs, place),
+            "{at} {place}"
+        );
+    }
+    Ok(())
+}
+
+/// A cycle carries these outputs, and brings what the applications made of the outputs before.
+fn expect_cycle<L: Link + Drop>(
+    rt: &(impl AllocGlobal + Abort),
+    master: &mut Master<L>,
+    process: &Process,
+    joint: bool,
+    outputs: &[u8],
+    before: &[u8],
+) -> Result<(), Fail> {
+    let mut datagrams = Vec::new(rt.alloc());
+    let mut counters = Vec::new(rt.alloc());
+    for run in &process.runs(joint)? {
+        run.push_to(rt.alloc(), outputs, &mut datagrams, &mut counters)?;
+    }
+    master.exchange(&mut datagrams)?;
+    for (datagram, counter) in datagrams.iter().zip(&counters) {
+        assert_eq!(rt; datagram.counter, *counter, "command {}", datagram.command);
+    }
+    let seen = brought_back(rt.alloc(), process.next, &datagrams)?;
+    for seat in &process.seats {
+        expect_inputs(rt, seat, before, &seen)?;
+    }
+    Ok(())
+}
+
+/// Cycles with other outputs in each, by LRW as far as the slaves take part in it; and two by LWR and LRD alone.
+pub fn expect_cycles<L: Link + Drop>(
+    rt: &(impl AllocGlobal + Abort),
+    master: &mut Master<L>,
+    process: &Process,
+) -> Result<(), Fail> {
+    let mut before = vec![in rt.alloc(); 0u8; usize::try_from(process.next)?]?;
+    for cycle in 1..=CYCLES.saturating_add(2) {
+        let outputs = process.image(cycle)?;
+        expect_cycle(rt, master, process, cycle <= CYCLES, &outputs, &before)?;
+        before = outputs;
+    }
+    Ok(())
+}
