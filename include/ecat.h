@@ -62,7 +62,7 @@ void ecat_c_get(struct ecat machine, size_t variable, struct ecat_done *done, st
 void ecat_c_outputs(struct ecat machine, const uint8_t *outputs, size_t len, struct ecat_done *done, struct ecat *out);
 void ecat_c_inputs(struct ecat machine, uint8_t *inputs, size_t room, struct ecat_done *done, struct ecat *out);
 void ecat_c_variable(struct ecat machine, const uint8_t *name, size_t len, struct ecat_done *done, struct ecat *out);
-void ecat_c_segment_open(const uint8_t *table, size_t len, uint8_t *name, size_t room, struct ecat_refused *refused, struct ecat_segment *out);
+void ecat_c_segment_open(const uint8_t *table, size_t len, bool full, uint8_t *name, size_t room, struct ecat_refused *refused, struct ecat_segment *out);
 void ecat_c_segment_drop(struct ecat_segment segment);
 void ecat_c_segment_pass(struct ecat_segment segment, uint8_t *frame, size_t len, bool *done, struct ecat_segment *out);
 void ecat_c_segment_serve(struct ecat_segment segment, size_t slave, bool *done, struct ecat_segment *out);
@@ -229,13 +229,13 @@ ECAT_CALL long ecat_variable(struct ecat *m, const char *name) {
 
 /* ---- a segment: the slaves of a link table, just switched on */
 
-/* As `ecat_open`. `full` asks for slaves as usual masters expect them; where they can't be shown so, it is refused by 255. */
+/* As `ecat_open`. With `full` the slaves are as usual masters expect them (docs/PROFILE.md, "Full slaves"). */
 ECAT_CALL uint8_t ecat_segment_open(struct ecat_segment *s, const char *table, size_t len, bool full, struct ecat_refusal *refusal) {
     struct ecat_refused told = {0, 0, 0, 0, 0, 0};
     uint8_t name[24];
     uint8_t *bytes = ecat_bytes(table, &len);
-    if (!s || s->at || full) { told.number = 255; return ecat_told(&told, name, refusal); }
-    ecat_c_segment_open(bytes, len, name, sizeof name, &told, s);
+    if (!s || s->at) { told.number = 255; return ecat_told(&told, name, refusal); }
+    ecat_c_segment_open(bytes, len, full, name, sizeof name, &told, s);
     return ecat_told(&told, name, refusal);
 }
 

@@ -1,0 +1,58 @@
+/* A master over an in-process segment of the same library: what the programs beside it share. */
+#include "ecat.h"
+
+#include <stdio.h>
+#include <stdlib.h>
+#include <string.h>
+
+#define SLAVES 64
+
+static char table[1 << 20];
+static uint8_t frame[ECAT_FRAME];
+
+/* What is wrong ends the program. */
+static void must(int holds, const char *what) {
+    if (!holds) {
+        fprintf(stderr, "machine: not so: %s\n", what);
+        exit(1);
+    }
+}
+
+/* Each slave's firmware steps, and its application shows its outputs as its inputs. */
+static void serve(struct ecat_segment *slaves) {
+    for (size_t slave = 0; ecat_segment_serve(slaves, slave); slave++) {
+        uint8_t outputs[2048];
+        size_t count = 0;
+        while (count < sizeof outputs && ecat_segment_get(slaves, slave, count, &outputs[count])) count++;
+        for (size_t k = 0; ecat_segment_put(slaves, slave, k, k < count ? outputs[k] : 0); k++) {}
+    }
+}
+
+static void bring_up(struct ecat *m, struct ecat_segment *slaves) {
+    for (size_t len; (len = ecat_next(m, frame, sizeof frame)) != 0;) {
+        must(ecat_segment_pass(slaves, frame, len), "a frame of the start-up passes");
+        serve(slaves);
+        must(ecat_take(m, frame, len, NULL), "its answer is taken");
+    }
+    must(ecat_phase(m) == 1, "the start-up ends ready");
+}
+
+/* A cycle begins, and the frame of each part passes the slaves and is taken. */
+static void exchange(struct ecat *m, struct ecat_segment *slaves) {
+    size_t missing = 1;
+    int parts = ecat_begin(m);
+    must(parts > 0, "a cycle begins");
+    for (int part = 0; part < parts; part++) {
+        size_t len = ecat_part(m, (size_t)part, frame, sizeof frame);
+        must(len > 0 && ecat_segment_pass(slaves, frame, len), "the frame of a part passes");
+        must(ecat_take(m, frame, len, &missing), "and is taken");
+    }
+    must(missing == 0, "all parts are back");
+}
+
+static bool cycle(struct ecat *m, struct ecat_segment *slaves, uint16_t *al) {
+    size_t missing;
+    exchange(m, slaves);
+    serve(slaves);
+    return ecat_close(m, &missing, al);
+}
