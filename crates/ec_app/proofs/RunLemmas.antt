@@ -38,7 +38,7 @@ ends_unread (Ok (Decode t e)) old new app_old app_new alone = tt
 ends_unread (Ok Encode) old new app_old app_new alone = tt
 ends_unread (Ok (Sim l c e)) old new app_old app_new alone = tt
 ends_unread (Ok (Loop n c e)) old new app_old app_new alone = tt
-ends_unread (Ok (Segment n p d i c e)) old new app_old app_new alone = tt
+ends_unread (Ok (Segment n p d f i c e)) old new app_old app_new alone = tt
 ends_unread (Ok (Master a d m c e)) old new app_old app_new alone = tt
 ends_unread (Err told) old new app_old app_new alone = alone.0
 
