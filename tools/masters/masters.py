@@ -44,6 +44,17 @@ class Bus:
             self.heading = b""
         self.socket.settimeout(10)
 
+    def wait(self):
+        """Broadcasts until a frame comes back: over a card nobody is told when a segment begins to listen."""
+        self.socket.settimeout(0.1)
+        for _ in range(100):
+            try:
+                self.physical(BRD, 0, 0x0000, bytes(1))
+                break
+            except TimeoutError:
+                pass
+        self.socket.settimeout(10)
+
     def send(self, command, address, data):
         """What came back in the datagram: its data and its working counter."""
         self.number = (self.number + 1) % 256
