@@ -1,15 +1,17 @@
 //! The FMMUs of a slave together, with what was found of all of them once.
 
-ghost use Rattle.std.specs.Prelude.{◌≡◌, ◌+◌, ◌<◌, ◌≤◌, ◌^◌, ℕ, None, true, false, get_or, length};
+ghost use Rattle.std.specs.Prelude.{◌≡◌, ◌+◌, ◌<◌, ◌≤◌, ◌^◌, ℕ, None, IfSome, true, false, get_or, length};
 ghost use Rattle.std.specs.Bool.{OnTrue};
 ghost use Rattle.ec_regs.specs.Fmmus.{no_fmmu};
 ghost use Rattle.ec_fmmu.specs.Apart.{AreApart};
+ghost use Rattle.ec_fmmu.specs.Areas.{IsMappedBy};
 ghost use Rattle.ec_fmmu.specs.Applied.{data_bit_for};
 ghost use Rattle.ec_fmmu.specs.Pairs.{reaches};
 ghost use Rattle.ec_fmmu.specs.Sets.{target, readers};
 ghost use Rattle.ec_fmmu.specs.Stretches.{Has, IsAround};
 ghost use Rattle.ec_fmmu.specs.Ways.{IsReadWay, IsWriteWay};
 
+use crate::area::{MappedArea, area_of};
 use crate::crossing::are_apart;
 use crate::mapping::Fmmu;
 use crate::ways::{Way, end_of_open, read_ways, write_ways};
@@ -61,8 +63,8 @@ fn around(fmmus: &[Fmmu; 4]) -> Stretch
 }
 
 /// The four FMMUs of a slave. What is asked of each datagram is found once: where their ranges lie
-/// in the logical space, by which pairs datagrams go through each of them, and whether any bit that
-/// is read may be written as well.
+/// in the logical space, by which pairs datagrams go through each of them, whether any bit that is
+/// read may be written as well, and which area they map where they are set as usual.
 #[derive(Debug, Drop)]
 pub struct FmmuTable {
     fmmus: [Fmmu; 4],
@@ -73,13 +75,15 @@ pub struct FmmuTable {
     // the places behind the last ones that are open
     read_end: usize,
     write_end: usize,
+    area: Option<MappedArea>,
 }
 
 impl Model for FmmuTable {
-    ghost use Rattle.std.specs.Prelude.{◌≡◌, ◌≤◌, List, length};
+    ghost use Rattle.std.specs.Prelude.{◌≡◌, ◌≤◌, List, IfSome, length};
     ghost use Rattle.std.specs.Bool.{OnTrue};
     ghost use Rattle.ec_regs.specs.declared.fmmu.FmmuSettings.{FmmuSettings};
     ghost use Rattle.ec_fmmu.specs.Apart.{AreApart};
+    ghost use Rattle.ec_fmmu.specs.Areas.{IsMappedBy};
     ghost use Rattle.ec_fmmu.specs.Stretches.{IsAround};
     ghost use Rattle.ec_fmmu.specs.Ways.{AreClosedFrom, AreReadWays, AreWriteWays};
 
@@ -90,7 +94,8 @@ impl Model for FmmuTable {
     ghost invariant = { λ t. (length t.fmmus ≡ 4) × (IsAround t.stretch t.fmmus) × OnTrue t.is_apart (AreApart t.fmmus)
         × AreReadWays t.fmmus t.reading × AreWriteWays t.fmmus t.writing
         × (t.read_end ≤ 4) × AreClosedFrom t.read_end t.reading
-        × (t.write_end ≤ 4) × AreClosedFrom t.write_end t.writing };
+        × (t.write_end ≤ 4) × AreClosedFrom t.write_end t.writing
+        × IfSome t.area (λ a. IsMappedBy t.fmmus a) };
 }
 
 impl FmmuTable {
@@ -105,6 +110,7 @@ impl FmmuTable {
             is_apart: are_apart(&fmmus),
             read_end: end_of_open(&reading),
             write_end: end_of_open(&writing),
+            area: area_of(&fmmus),
             reading,
             writing,
             fmmus,
@@ -150,6 +156,14 @@ impl FmmuTable {
         ensures there { place < length self.now }
     {
         self.writing[place]
+    }
+
+    /// The area that they map, where they are set as usual: at most the first writes, and at most the
+    /// second reads, each from bit 0 of a byte of the RAM on. None says nothing.
+    pub fn area(&self) -> Option<MappedArea>
+        ensures { IfSome result (λ a. IsMappedBy self.now a) }
+    {
+        self.area
     }
 
     /// Whether no physical bit is in the range of an FMMU that reads and of one that writes, as

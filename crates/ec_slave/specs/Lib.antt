@@ -33,3 +33,4 @@ pub mod Sights
 pub mod Written
 pub mod Untouched
 pub mod Keeping
+pub mod Usual

@@ -13,6 +13,7 @@ ghost use Rattle.ec_slave.specs.LogicalLaws.{Misses};
 ghost use Rattle.ec_slave.specs.Logical.{logical_after, read_bit, some_read, some_written};
 ghost use Rattle.ec_slave.specs.Mapped.{MayWriteFirst, mapped_met};
 
+mod exchange;
 mod managers;
 mod reading;
 mod writing;
@@ -126,9 +127,9 @@ impl Slave {
         self.fmmus.is_missed(from, bits)
     }
 
-    /// Meets the bits of a datagram in a role, and answers what the working counter grows by. Whether
-    /// it concerns the slave at all is asked before, by `misses`.
-    pub(crate) fn access_bits(&mut self, role: Role, from: u64, bytes: &mut [u8]) -> u16
+    /// Meets the bits of a datagram in a role, whatever the FMMUs and the managers are.
+    #[inline(never)]
+    fn access_any_bits(&mut self, role: Role, from: u64, bytes: &mut [u8]) -> u16
         requires small { from + 8 * length bytes.old < 2 ^ 64 }
         requires few { length bytes.old < 2048 }
         ensures slave { self.new ≡ (mapped_met self.old role (record { from = from; bits = 8 * length bytes.old }) bytes.old).slave }
@@ -140,6 +141,22 @@ impl Slave {
             Role::Read | Role::OrRead => self.read_bits(from, bytes) as u16,
             Role::Write => self.write_bits(false, from, bytes) as u16,
             Role::ReadWrite | Role::OrReadWrite => self.exchange_bits(from, bytes),
+        }
+    }
+
+    /// Meets the bits of a datagram in a role, and answers what the working counter grows by. Whether
+    /// it concerns the slave at all is asked before, by `misses`. Most often it has all process data
+    /// of a slave that is set up as usual, which is a copy each way.
+    pub(crate) fn access_bits(&mut self, role: Role, from: u64, bytes: &mut [u8]) -> u16
+        requires small { from + 8 * length bytes.old < 2 ^ 64 }
+        requires few { length bytes.old < 2048 }
+        ensures slave { self.new ≡ (mapped_met self.old role (record { from = from; bits = 8 * length bytes.old }) bytes.old).slave }
+        ensures bytes { bytes.new ≡ (mapped_met self.old role (record { from = from; bits = 8 * length bytes.old }) bytes.old).bytes }
+        ensures added { result ≡ (mapped_met self.old role (record { from = from; bits = 8 * length bytes.old }) bytes.old).added }
+    {
+        match self.whole_area(from, 8 * bytes.len() as u64) {
+            Some(mapped) => self.exchange_area(&mapped, role, from, bytes),
+            None => self.access_any_bits(role, from, bytes),
         }
     }
 }

@@ -1,6 +1,9 @@
 //! What a slave does with a datagram, by its command and address.
-ghost use Rattle.std.specs.Prelude.{◌≡◌, ◌+◌, ◌%◌, if◌then◌else◌};
+ghost use Rattle.std.specs.Prelude.{◌≡◌, ◌+◌, ◌*◌, ◌%◌, if◌then◌else◌};
+ghost use Rattle.std.specs.Int.{from_bool};
 ghost use Rattle.ec_slave.specs.Encounters.{encounter_of};
+ghost use Rattle.ec_slave.specs.Mapped.{weight};
+ghost use Rattle.ec_slave.specs.Roles.{is_reading, is_writing};
 ghost use Rattle.ec_slave.specs.declared.role.Encounter.TheVariants.{Physical};
 ghost use Rattle.ec_slave.specs.declared.role.Role.TheVariants.{Nothing, Read, Write};
 
@@ -35,6 +38,34 @@ impl Role {
         ensures { result ≡ (if is_meant then Read else Write) }
     {
         if is_meant { Role::Read } else { Role::Write }
+    }
+
+    /// Whether the data become what is read.
+    pub(crate) fn reads(self) -> bool
+        ensures { result ≡ is_reading self }
+    {
+        match self {
+            Role::Nothing | Role::Write => false,
+            Role::Read | Role::ReadWrite | Role::OrRead | Role::OrReadWrite => true,
+        }
+    }
+
+    /// Whether the data are written.
+    pub(crate) fn writes(self) -> bool
+        ensures { result ≡ is_writing self }
+    {
+        match self {
+            Role::Nothing | Role::Read | Role::OrRead => false,
+            Role::Write | Role::ReadWrite | Role::OrReadWrite => true,
+        }
+    }
+
+    /// What the working counter grows by where bits were read, written, or both: a write counts 2 in a role that also reads.
+    pub(crate) fn count(self, is_read: bool, is_written: bool) -> u16
+        ensures { result ≡ from_bool is_read + weight self * from_bool is_written }
+    {
+        let weight = if self.reads() && self.writes() { 2 } else { 1 };
+        is_read as u16 + weight * is_written as u16
     }
 
     /// In this role, and the ADP stays.

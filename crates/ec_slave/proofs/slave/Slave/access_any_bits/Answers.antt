@@ -6,7 +6,7 @@ use Rattle.ec_slave.specs.Mapped.{mapped_met}
 use Rattle.ec_slave.specs.Logical.{logical_after}
 use Rattle.ec_slave.proofs.Misses.{slave_left}
 use Rattle.ec_slave.specs.declared.role.Role.{Role}
-use Rattle.ec_slave.proofs.slave.Slave.access_bits.Goals as goal
+use Rattle.ec_slave.proofs.slave.Slave.access_any_bits.Goals as goal
 
 pub returns-in-Write-clause-bytes : goal.returns-in-Write-clause-bytes
 returns-in-Write-clause-bytes c =
