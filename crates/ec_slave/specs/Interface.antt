@@ -24,7 +24,7 @@ use Rattle.ec_coe.specs.Objects.{all_assigned, assigned}
 use Rattle.ec_slave.specs.State.{SlaveState, manager_at, station_of, power_on}
 use Rattle.ec_slave.specs.Roles.{role_of, adp_after, is_reading, is_writing, is_joining}
 use Rattle.ec_slave.specs.Managers.{reads_under, writes_under, is_ungoverned, is_read_by, is_written_by}
-use Rattle.ec_slave.specs.Physical.{Window, touches, byte_at, ram_byte, may_read_byte, may_write_byte, byte_read, retold, memory_written, is_configured, settings_written, physical_value, physical_manager, physical_managers, physical_after, some_byte_read, some_byte_written, is_written}
+use Rattle.ec_slave.specs.Physical.{Window, touches, byte_at, ram_byte, may_read_byte, may_write_byte, byte_read, retold, memory_written, is_configured, settings_written, physical_value, physical_manager, physical_managers, physical_after, some_byte_read, is_written}
 use Rattle.ec_slave.specs.Logical.{meets_logically}
 use Rattle.ec_slave.specs.Exchange.{with_outputs, with_published}
 use Rattle.ec_slave.specs.Meeting.{window_of, meets, slave_met, datagram_met}

@@ -3,7 +3,7 @@
 
 ghost use Rattle.std.specs.Prelude.{◌≡◌, ◌+◌, ◌-◌, ◌*◌, ◌<◌, ◌≤◌, ◌^◌, ◌&&◌, ℕ, IfSome, true, false, if◌then◌else◌, length, nat_lt, slice_index};
 ghost use Rattle.std.specs.Bool.{OnTrue};
-ghost use Rattle.ec_bits.specs.Bits.{bytes_of_bits, overlay};
+ghost use Rattle.ec_bits.specs.Bits.{bytes_of_bits};
 ghost use Rattle.ec_fmmu.specs.Applied.{Place};
 ghost use Rattle.ec_fmmu.specs.Areas.{area, Spans};
 ghost use Rattle.ec_sync.specs.Manager.{may_read, may_write};
