@@ -1,33 +1,45 @@
 //! Full slaves in memory and behind a socket, scanned; and what slaves that aren't full show to the same master.
-mod bytes;
-mod categories;
-mod eeprom;
-mod examples;
-mod frames;
 mod last_word;
-mod link;
 mod machine;
-mod mailbox;
-mod master;
-mod objects;
 mod plain;
-mod process;
-mod rows;
-mod scan;
-mod segments;
+mod sockets;
 mod startup;
-mod stations;
 
-use crate::tests::examples::{drive, line, small_machine, terminals};
-use crate::tests::link::{MemoryLink, UdpLink};
 use crate::tests::machine::{LAMPS_WORDS, SLAVES, TABLE};
-use crate::tests::master::{Master, station_of};
-use crate::tests::rows::SlaveRow;
-use crate::tests::scan::expect_scan;
-use crate::tests::segments::slaves_of_text;
-use crate::tests::stations::expect_stations;
+use crate::tests::sockets::UdpLink;
+use ec_scan::examples::{drive, line, small_machine, terminals};
+use ec_scan::{
+    Found, Link, Master, MemoryLink, SlaveRow, expect_scan, expect_stations, slaves_of_text,
+    station_of,
+};
 use std::process::Abort;
 use std::test::Fail;
+
+/// What was found of a slave is what its row says.
+fn expect_found(rt: &impl Abort, found: &Found, row: &SlaveRow) {
+    assert_eq!(rt; found.name.as_str(), row.name);
+    assert_eq!(rt; found.identity, row.identity);
+    assert_eq!(rt;
+        (found.output_bytes, found.input_bytes),
+        (row.output_bytes, row.input_bytes)
+    );
+}
+
+/// The slaves of a segment are as these rows say to a master that scans them, and each is found.
+fn expect_rows<L: Link + Drop>(
+    rt: &(impl AllocGlobal + Abort),
+    link: L,
+    rows: &[SlaveRow],
+) -> Result<(), Fail> {
+    let mut found = Vec::new(rt.alloc());
+    let mut master = Master::new(rt.alloc(), link);
+    expect_scan(&mut master, rows, &mut found)?;
+    assert_eq!(rt; found.len(), rows.len());
+    for (slave, row) in found.iter().zip(rows) {
+        expect_found(rt, slave, row);
+    }
+    Ok(())
+}
 
 /// The slaves of a table that is shown in full are as these rows say, to a master that scans them in memory.
 fn expect_full(
@@ -36,8 +48,7 @@ fn expect_full(
     rows: &[SlaveRow],
 ) -> Result<(), Fail> {
     let ring = slaves_of_text(rt.alloc(), table, true)?;
-    let mut master = Master::new(rt.alloc(), MemoryLink::new(ring));
-    expect_scan(rt, &mut master, rows)
+    expect_rows(rt, MemoryLink::new(ring), rows)
 }
 
 #[test]
@@ -68,9 +79,7 @@ fn scans_a_small_machine(rt: HostRuntime) -> Result<(), Fail> {
 #[test]
 fn scans_over_sockets(rt: HostRuntime) -> Result<(), Fail> {
     let ring = slaves_of_text(rt.alloc(), TABLE, true)?;
-    let link = UdpLink::open(&rt, ring)?;
-    let mut master = Master::new(rt.alloc(), link);
-    expect_scan(&rt, &mut master, SLAVES)
+    expect_rows(&rt, UdpLink::open(&rt, ring)?, SLAVES)
 }
 
 // The categories of one slave, word by word.
@@ -78,7 +87,7 @@ fn scans_over_sockets(rt: HostRuntime) -> Result<(), Fail> {
 fn reads_words_of_categories(rt: HostRuntime) -> Result<(), Fail> {
     let ring = slaves_of_text(rt.alloc(), TABLE, true)?;
     let mut master = Master::new(rt.alloc(), MemoryLink::new(ring));
-    expect_stations(&rt, &mut master, SLAVES.len())?;
+    expect_stations(&mut master, SLAVES.len())?;
     let station = station_of(1)?;
     for (place, word) in LAMPS_WORDS.iter().enumerate() {
         let address = u32::try_from(place)?.saturating_add(0x40);

@@ -1,9 +1,6 @@
 //! A slave whose categories end right before the last word of a kibibit.
-use crate::tests::link::MemoryLink;
-use crate::tests::master::Master;
-use crate::tests::rows::{PdoRow, SlaveRow};
-use crate::tests::scan::expect_scan;
-use crate::tests::segments::slaves_of_text;
+use crate::tests::expect_full;
+use ec_scan::{PdoRow, SlaveRow};
 use std::test::Fail;
 
 /// One object of three entries, and a name of three letters.
@@ -43,7 +40,5 @@ const DI3: SlaveRow = SlaveRow {
 
 #[test]
 fn scans_a_full_kibibit(rt: HostRuntime) -> Result<(), Fail> {
-    let ring = slaves_of_text(rt.alloc(), TABLE, true)?;
-    let mut master = Master::new(rt.alloc(), MemoryLink::new(ring));
-    expect_scan(&rt, &mut master, &[DI3])
+    expect_full(&rt, TABLE, &[DI3])
 }

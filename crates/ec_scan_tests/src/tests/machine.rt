@@ -1,6 +1,6 @@
 //! A machine of this crate's own: an axis with mailboxes and both directions, lamps that are written alone and have no mailbox,
 //! and an eye that is read alone and takes no part in LRW.
-use crate::tests::rows::{MailboxRow, PdoRow, SlaveRow};
+use ec_scan::{MailboxRow, PdoRow, SlaveRow};
 
 /// Its table. The axis assigns one of its two objects of outputs alone; the types' names have 32, 5 and 3 letters.
 pub const TABLE: &str = r#"slave = [

@@ -1,9 +1,6 @@
 //! Slaves that aren't full: a scan stops at the first of them.
-use crate::tests::bytes::byte_at;
-use crate::tests::link::{Link, MemoryLink};
 use crate::tests::machine::TABLE;
-use crate::tests::master::{Master, station_of};
-use crate::tests::segments::slaves_of_text;
+use ec_scan::{Link, Master, MemoryLink, byte_at, slaves_of_text, station_of};
 use std::process::Abort;
 use std::test::Fail;
 

@@ -1,28 +1,33 @@
 //! Full slaves that a scanning master left in OP, brought back to INIT, come up by the start-up of the project's own.
-use crate::tests::link::MemoryLink;
 use crate::tests::machine::{SLAVES, TABLE};
-use crate::tests::master::Master;
-use crate::tests::scan::{expect_init, expect_scan};
-use crate::tests::segments::{plan_of, slaves_of_text};
+use ec_link::{Plan, compile};
 use ec_ring::Ring;
+use ec_scan::{Master, MemoryLink, expect_init, expect_scan, slaves_of_text};
 use ec_start::{StartError, Startup};
+use ec_table::read_table;
 use ec_wire::{MemoryWire, bring_up_wire};
 use std::alloc::Global;
-use std::process::Abort;
 use std::test::Fail;
 
 /// Room for so many payloads.
 const ROOM: usize = 3000;
 
 /// The slaves of the machine behind a scan, in OP or brought back to INIT.
-fn scanned(rt: &(impl AllocGlobal + Abort), is_back: bool) -> Result<Ring, Fail> {
-    let ring = slaves_of_text(rt.alloc(), TABLE, true)?;
-    let mut master = Master::new(rt.alloc(), MemoryLink::new(ring));
-    expect_scan(rt, &mut master, SLAVES)?;
+fn scanned(alloc: Global, is_back: bool) -> Result<Ring, Fail> {
+    let ring = slaves_of_text(alloc, TABLE, true)?;
+    let mut master = Master::new(alloc, MemoryLink::new(ring));
+    expect_scan(&mut master, SLAVES, &mut Vec::new(alloc))?;
     if is_back {
-        expect_init(rt, &mut master, SLAVES.len())?;
+        expect_init(&mut master, SLAVES.len())?;
     }
     Ok(master.into_link().into_ring())
+}
+
+/// The plan of the table that a text states, shown in full.
+fn plan_of(alloc: Global, text: &str) -> Result<Plan, Fail> {
+    let mut table = read_table(alloc, text)?;
+    table.show_full();
+    Ok(compile(alloc, &table)?)
 }
 
 /// How a start-up of the machine's plan ends over these slaves.
@@ -40,7 +45,7 @@ fn ended(alloc: Global, ring: Ring) -> Result<Option<Result<(), StartError>>, Fa
 #[test]
 fn comes_up_after_a_scan(rt: HostRuntime) -> Result<(), Fail> {
     for is_back in [true, false] {
-        let ring = scanned(&rt, is_back)?;
+        let ring = scanned(rt.alloc(), is_back)?;
         assert_eq!(rt; ended(rt.alloc(), ring)?, Some(Ok(())), "{is_back}");
     }
     Ok(())

@@ -1,5 +1,5 @@
 //! The machine of `examples/drive.toml`.
-use crate::tests::rows::{MailboxRow, PdoRow, SlaveRow};
+use crate::rows::{MailboxRow, PdoRow, SlaveRow};
 
 /// The text of `examples/drive.toml`; keep both equal.
 pub const TABLE: &str =

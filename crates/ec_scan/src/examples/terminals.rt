@@ -1,5 +1,5 @@
 //! The machine of `examples/terminals.toml`.
-use crate::tests::rows::{PdoRow, SlaveRow};
+use crate::rows::{PdoRow, SlaveRow};
 
 /// The text of `examples/terminals.toml`; keep both equal.
 pub const TABLE: &str =

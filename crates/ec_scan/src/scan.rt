@@ -1,17 +1,18 @@
 //! A scan: what a usual master does from the first frame to cycles in OP.
-use crate::tests::bytes::{byte_at, word_at};
-use crate::tests::categories::{INPUTS, MANAGERS, OUTPUTS, expect_edge, expect_eeprom};
-use crate::tests::eeprom::{Eeprom, bytes_together};
-use crate::tests::link::Link;
-use crate::tests::mailbox::Mailbox;
-use crate::tests::master::{Master, station_of};
-use crate::tests::objects::{INPUTS_ASSIGNED, OUTPUTS_ASSIGNED, assign, expect_objects};
-use crate::tests::process::{Process, Seat, expect_cycles};
-use crate::tests::rows::SlaveRow;
-use crate::tests::stations::expect_stations;
+use crate::bytes::{byte_at, word_at};
+use crate::categories::{INPUTS, MANAGERS, OUTPUTS, expect_edge, expect_eeprom};
+use crate::eeprom::{Eeprom, bytes_together};
+use crate::error::ScanError;
+use crate::expected::expect_number;
+use crate::found::Found;
+use crate::link::Link;
+use crate::mailbox::Mailbox;
+use crate::master::{Master, station_of};
+use crate::objects::{INPUTS_ASSIGNED, OUTPUTS_ASSIGNED, assign, expect_objects};
+use crate::process::{Process, Seat, expect_cycles};
+use crate::rows::SlaveRow;
+use crate::stations::expect_stations;
 use std::alloc::Global;
-use std::process::Abort;
-use std::test::Fail;
 
 // the AL states
 const INIT: u8 = 1;
@@ -51,35 +52,38 @@ fn set_manager<L: Link + Drop>(
     managers: &[u8],
     number: u16,
     length: u16,
-) -> Result<(), Fail> {
+) -> Result<(), ScanError> {
     let register = SYNC_MANAGERS.saturating_add(number.saturating_mul(8));
     master.set(station, register, &manager_page(managers, number, length))
 }
 
 /// A slave enters a state.
 fn expect_state<L: Link + Drop>(
-    rt: &impl Abort,
     master: &mut Master<L>,
     station: u16,
     state: u8,
-) -> Result<(), Fail> {
-    let shown = master.change_state(station, state)?;
-    assert_eq!(rt; shown, (u16::from(state), 0), "slave {station:x}");
-    Ok(())
+) -> Result<(), ScanError> {
+    let (shown, code) = master.change_state(station, state)?;
+    expect_number(
+        "AL status of",
+        u32::from(station),
+        u32::from(shown),
+        u32::from(state),
+    )?;
+    expect_number("AL status code of", u32::from(station), u32::from(code), 0)
 }
 
 /// Managers 0 and 1 get what the SII says, both by one datagram, and PREOP is entered.
 fn expect_preop<L: Link + Drop>(
-    rt: &(impl AllocGlobal + Abort),
     master: &mut Master<L>,
     station: u16,
     managers: &[u8],
-) -> Result<(), Fail> {
-    let mut pages = Vec::new(rt.alloc());
+) -> Result<(), ScanError> {
+    let mut pages = Vec::new(master.alloc());
     pages.extend_from_slice(&manager_page(managers, 0, word_at(managers, 2)))?;
     pages.extend_from_slice(&manager_page(managers, 1, word_at(managers, 10)))?;
     master.set(station, SYNC_MANAGERS, &pages)?;
-    expect_state(rt, master, station, PREOP)
+    expect_state(master, station, PREOP)
 }
 
 /// Where a slave's process data go, by its SII.
@@ -88,7 +92,7 @@ fn seat_of(
     process: &mut Process,
     eeprom: &Eeprom,
     managers: &[u8],
-) -> Result<Seat, Fail> {
+) -> Result<Seat, ScanError> {
     let outputs = bytes_together(&eeprom.pdos(alloc, OUTPUTS)?)?;
     let inputs = bytes_together(&eeprom.pdos(alloc, INPUTS)?)?;
     let general = eeprom.bytes(alloc, 30)?;
@@ -106,7 +110,7 @@ fn set_process_data<L: Link + Drop>(
     station: u16,
     managers: &[u8],
     seat: &Seat,
-) -> Result<(), Fail> {
+) -> Result<(), ScanError> {
     set_manager(master, station, managers, 2, seat.outputs.count)?;
     set_manager(master, station, managers, 3, seat.inputs.count)?;
     if seat.outputs.count > 0 {
@@ -120,75 +124,70 @@ fn set_process_data<L: Link + Drop>(
 
 /// The objects of a slave with mailboxes are as its row says, and all of its process data objects are assigned anew.
 fn expect_mailbox<L: Link + Drop>(
-    rt: &(impl AllocGlobal + Abort),
     master: &mut Master<L>,
     station: u16,
     eeprom: &Eeprom,
     row: &SlaveRow,
-) -> Result<(), Fail> {
+) -> Result<(), ScanError> {
     let Some(mut mailbox) = Mailbox::of(station, eeprom) else {
         return Ok(());
     };
-    let outputs = eeprom.pdos(rt.alloc(), OUTPUTS)?;
-    let inputs = eeprom.pdos(rt.alloc(), INPUTS)?;
-    expect_objects(rt, master, &mut mailbox, row)?;
-    assign(rt, master, &mut mailbox, OUTPUTS_ASSIGNED, &outputs)?;
-    assign(rt, master, &mut mailbox, INPUTS_ASSIGNED, &inputs)
+    let outputs = eeprom.pdos(master.alloc(), OUTPUTS)?;
+    let inputs = eeprom.pdos(master.alloc(), INPUTS)?;
+    expect_objects(master, &mut mailbox, row)?;
+    assign(master, &mut mailbox, OUTPUTS_ASSIGNED, &outputs)?;
+    assign(master, &mut mailbox, INPUTS_ASSIGNED, &inputs)
 }
 
-/// The slave at a place says what its row does, and is set up to SAFEOP.
+/// The slave at a place says what its row does, and is set up to SAFEOP. What was found of it.
 fn expect_slave<L: Link + Drop>(
-    rt: &(impl AllocGlobal + Abort),
     master: &mut Master<L>,
     process: &mut Process,
     place: usize,
     row: &SlaveRow,
-) -> Result<(), Fail> {
+) -> Result<Found, ScanError> {
     let station = station_of(place)?;
     let eeprom = master.read_eeprom(station)?;
-    let managers = eeprom.bytes(rt.alloc(), MANAGERS)?;
-    expect_eeprom(rt, &eeprom, row)?;
-    expect_edge(rt, master, station, row)?;
-    expect_preop(rt, master, station, &managers)?;
-    expect_mailbox(rt, master, station, &eeprom, row)?;
-    let seat = seat_of(rt.alloc(), process, &eeprom, &managers)?;
+    let managers = eeprom.bytes(master.alloc(), MANAGERS)?;
+    expect_eeprom(master.alloc(), &eeprom, row)?;
+    expect_edge(master, station, row)?;
+    expect_preop(master, station, &managers)?;
+    expect_mailbox(master, station, &eeprom, row)?;
+    let seat = seat_of(master.alloc(), process, &eeprom, &managers)?;
     set_process_data(master, station, &managers, &seat)?;
-    expect_state(rt, master, station, SAFEOP)
+    expect_state(master, station, SAFEOP)?;
+    Found::of(master.alloc(), station, &eeprom, &seat)
 }
 
 /// All slaves of a segment enter a state.
 pub fn expect_states<L: Link + Drop>(
-    rt: &impl Abort,
     master: &mut Master<L>,
     count: usize,
     state: u8,
-) -> Result<(), Fail> {
+) -> Result<(), ScanError> {
     for place in 0..count {
-        expect_state(rt, master, station_of(place)?, state)?;
+        expect_state(master, station_of(place)?, state)?;
     }
     Ok(())
 }
 
-/// The slaves of a segment are counted, read, set up and run, and are as their rows say.
+/// The slaves of a segment are counted, read, set up and run, and are as their rows say. What is found of each is added to
+/// `found`, also where a slave behind it isn't as its row says.
 pub fn expect_scan<L: Link + Drop>(
-    rt: &(impl AllocGlobal + Abort),
     master: &mut Master<L>,
     rows: &[SlaveRow],
-) -> Result<(), Fail> {
-    let mut process = Process::new(rt.alloc());
-    expect_stations(rt, master, rows.len())?;
+    found: &mut Vec<Found>,
+) -> Result<(), ScanError> {
+    let mut process = Process::new(master.alloc());
+    expect_stations(master, rows.len())?;
     for (place, row) in rows.iter().enumerate() {
-        expect_slave(rt, master, &mut process, place, row)?;
+        found.push(expect_slave(master, &mut process, place, row)?)?;
     }
-    expect_states(rt, master, rows.len(), OP)?;
-    expect_cycles(rt, master, &process)
+    expect_states(master, rows.len(), OP)?;
+    expect_cycles(master, &process)
 }
 
 /// All slaves go back to INIT.
-pub fn expect_init<L: Link + Drop>(
-    rt: &impl Abort,
-    master: &mut Master<L>,
-    count: usize,
-) -> Result<(), Fail> {
-    expect_states(rt, master, count, INIT)
+pub fn expect_init<L: Link + Drop>(master: &mut Master<L>, count: usize) -> Result<(), ScanError> {
+    expect_states(master, count, INIT)
 }

@@ -1,11 +1,11 @@
 //! Mailbox messages, and SDOs in them (ETG.1000.4, "Mailbox structure"; ETG.1000.6, "SDO services").
-use crate::tests::bytes::{byte_at, part_of};
-use crate::tests::eeprom::Eeprom;
-use crate::tests::link::Link;
-use crate::tests::master::{MOST_POLLS, Master};
+use crate::bytes::{byte_at, part_of};
+use crate::eeprom::Eeprom;
+use crate::error::ScanError;
+use crate::expected::expect_bytes;
+use crate::link::Link;
+use crate::master::{MOST_POLLS, Master};
 use std::alloc::{AllocError, Global};
-use std::process::Abort;
-use std::test::Fail;
 
 /// The status of sync manager 1.
 const SEND_STATUS: u16 = 0x080D;
@@ -55,7 +55,7 @@ impl Mailbox {
 }
 
 /// The mailbox header of a message, and what follows it.
-fn message_of(alloc: Global, kind: u8, counter: u8, body: &[u8]) -> Result<Vec<u8>, Fail> {
+fn message_of(alloc: Global, kind: u8, counter: u8, body: &[u8]) -> Result<Vec<u8>, ScanError> {
     let mut message = Vec::new(alloc);
     message.extend_from_slice(&u16::try_from(body.len())?.to_le_bytes())?;
     message.extend_from_slice(&[0, 0, 0, kind | (counter % 8) << 4])?;
@@ -65,7 +65,7 @@ fn message_of(alloc: Global, kind: u8, counter: u8, body: &[u8]) -> Result<Vec<u
 
 impl<L: Link + Drop> Master<L> {
     /// A message goes into the mailbox of a slave, which is written whole.
-    fn send(&mut self, mailbox: &mut Mailbox, kind: u8, body: &[u8]) -> Result<(), Fail> {
+    fn send(&mut self, mailbox: &mut Mailbox, kind: u8, body: &[u8]) -> Result<(), ScanError> {
         mailbox.sent = next_counter(mailbox.sent);
         let message = message_of(self.alloc(), kind, mailbox.sent, body)?;
         let size = usize::from(mailbox.receive_size);
@@ -74,7 +74,7 @@ impl<L: Link + Drop> Master<L> {
     }
 
     /// Waits for a message from a slave, and reads its mailbox whole. None where none comes.
-    fn receive(&mut self, mailbox: &Mailbox) -> Result<Option<Vec<u8>>, Fail> {
+    fn receive(&mut self, mailbox: &Mailbox) -> Result<Option<Vec<u8>>, ScanError> {
         for _ in 0..MOST_POLLS {
             let status = self.get(mailbox.station, SEND_STATUS, 2)?;
             if byte_at(&status, 0) & 0x08 != 0 {
@@ -91,7 +91,7 @@ impl<L: Link + Drop> Master<L> {
         mailbox: &mut Mailbox,
         kind: u8,
         body: &[u8],
-    ) -> Result<Option<Vec<u8>>, Fail> {
+    ) -> Result<Option<Vec<u8>>, ScanError> {
         self.send(mailbox, kind, body)?;
         self.receive(mailbox)
     }
@@ -99,22 +99,20 @@ impl<L: Link + Drop> Master<L> {
 
 /// A message is answered by one of this type, with this behind its header, with the counter that follows and zeros behind.
 pub fn expect_answer<L: Link + Drop>(
-    rt: &(impl AllocGlobal + Abort),
     master: &mut Master<L>,
     mailbox: &mut Mailbox,
     asked: (u8, &[u8]),
     wanted: (u8, &[u8]),
-) -> Result<(), Fail> {
+) -> Result<(), ScanError> {
     mailbox.answered = next_counter(mailbox.answered);
     let (kind, body) = wanted;
-    let message = message_of(rt.alloc(), kind, mailbox.answered, body)?;
-    let whole = part_of(rt.alloc(), &message, 0, usize::from(mailbox.send_size))?;
+    let message = message_of(master.alloc(), kind, mailbox.answered, body)?;
+    let whole = part_of(master.alloc(), &message, 0, usize::from(mailbox.send_size))?;
     let answer = master.converse(mailbox, asked.0, asked.1)?;
     let Some(answer) = answer else {
-        return Err("a message without an answer".into());
+        return Err(ScanError::Silent);
     };
-    assert_eq!(rt; answer.as_slice(), whole.as_slice(), "asked {asked:?}");
-    Ok(())
+    expect_bytes("mailbox answer", 0, &answer, &whole)
 }
 
 /// What follows the mailbox header of an SDO: the CoE header with its service, the command, the object and at least four bytes.
@@ -141,7 +139,7 @@ fn expedited(command: u8, count: usize) -> u8 {
 }
 
 /// The response to an upload: expedited up to four bytes, normal where there are more.
-fn upload_response(alloc: Global, object: Object, value: &[u8]) -> Result<Vec<u8>, Fail> {
+fn upload_response(alloc: Global, object: Object, value: &[u8]) -> Result<Vec<u8>, ScanError> {
     if value.len() <= 4 {
         return Ok(sdo_of(alloc, 3, expedited(0x43, value.len()), object, value)?);
     }
@@ -153,41 +151,38 @@ fn upload_response(alloc: Global, object: Object, value: &[u8]) -> Result<Vec<u8
 
 /// An upload gives these bytes.
 pub fn expect_upload<L: Link + Drop>(
-    rt: &(impl AllocGlobal + Abort),
     master: &mut Master<L>,
     mailbox: &mut Mailbox,
     object: Object,
     value: &[u8],
-) -> Result<(), Fail> {
-    let asked = sdo_of(rt.alloc(), 2, 0x40, object, &[])?;
-    let wanted = upload_response(rt.alloc(), object, value)?;
-    expect_answer(rt, master, mailbox, (COE, &asked), (COE, &wanted))
+) -> Result<(), ScanError> {
+    let asked = sdo_of(master.alloc(), 2, 0x40, object, &[])?;
+    let wanted = upload_response(master.alloc(), object, value)?;
+    expect_answer(master, mailbox, (COE, &asked), (COE, &wanted))
 }
 
 /// A download of these bytes is taken.
 pub fn expect_download<L: Link + Drop>(
-    rt: &(impl AllocGlobal + Abort),
     master: &mut Master<L>,
     mailbox: &mut Mailbox,
     object: Object,
     value: &[u8],
-) -> Result<(), Fail> {
+) -> Result<(), ScanError> {
     let command = expedited(0x23, value.len());
-    let asked = sdo_of(rt.alloc(), 2, command, object, value)?;
-    let wanted = sdo_of(rt.alloc(), 3, 0x60, object, &[])?;
-    expect_answer(rt, master, mailbox, (COE, &asked), (COE, &wanted))
+    let asked = sdo_of(master.alloc(), 2, command, object, value)?;
+    let wanted = sdo_of(master.alloc(), 3, 0x60, object, &[])?;
+    expect_answer(master, mailbox, (COE, &asked), (COE, &wanted))
 }
 
 /// A request with this command and these bytes is aborted with this code.
 pub fn expect_abort<L: Link + Drop>(
-    rt: &(impl AllocGlobal + Abort),
     master: &mut Master<L>,
     mailbox: &mut Mailbox,
     request: (u8, Object, &[u8]),
     code: u32,
-) -> Result<(), Fail> {
+) -> Result<(), ScanError> {
     let (command, object, content) = request;
-    let asked = sdo_of(rt.alloc(), 2, command, object, content)?;
-    let wanted = sdo_of(rt.alloc(), 2, 0x80, object, &code.to_le_bytes())?;
-    expect_answer(rt, master, mailbox, (COE, &asked), (COE, &wanted))
+    let asked = sdo_of(master.alloc(), 2, command, object, content)?;
+    let wanted = sdo_of(master.alloc(), 2, 0x80, object, &code.to_le_bytes())?;
+    expect_answer(master, mailbox, (COE, &asked), (COE, &wanted))
 }

@@ -1,12 +1,12 @@
 //! The process data of a segment: where they lie in the logical memory, and cycles over them (ETG.1000.4, "Sync manager", "Fieldbus
 //! memory management unit").
-use crate::tests::bytes::{byte_at, part_of};
-use crate::tests::frames::Datagram;
-use crate::tests::link::{Link, made_input};
-use crate::tests::master::Master;
+use crate::bytes::{byte_at, part_of};
+use crate::error::ScanError;
+use crate::expected::expect_number;
+use crate::frames::Datagram;
+use crate::link::{Applications, Link};
+use crate::master::Master;
 use std::alloc::Global;
-use std::process::Abort;
-use std::test::Fail;
 
 // the numbers of the commands
 const LRD: u8 = 10;
@@ -15,8 +15,11 @@ const LWR: u8 = 11;
 
 const LRW: u8 = 12;
 
-/// So many cycles are run.
+/// So many cycles are run by LRW, as far as the slaves take part in it.
 const CYCLES: u32 = 20;
+
+/// So many are run in all: two by LWR and LRD alone.
+pub const ALL_CYCLES: u32 = CYCLES + 2;
 
 /// Bytes of a slave in the logical memory.
 #[derive(Clone, Copy, Drop)]
@@ -41,7 +44,7 @@ impl Area {
     }
 
     /// The bytes of it in an image of the logical memory.
-    fn part(self, alloc: Global, image: &[u8]) -> Result<Vec<u8>, Fail> {
+    fn part(self, alloc: Global, image: &[u8]) -> Result<Vec<u8>, ScanError> {
         let place = usize::try_from(self.logical)?;
         Ok(part_of(alloc, image, place, usize::from(self.count))?)
     }
@@ -76,7 +79,7 @@ impl Run {
         image: &[u8],
         datagrams: &mut Vec<Datagram>,
         counters: &mut Vec<u16>,
-    ) -> Result<(), Fail> {
+    ) -> Result<(), ScanError> {
         let bytes = part_of(
             alloc,
             image,
@@ -147,7 +150,7 @@ impl Process {
         outputs: (u16, u16),
         inputs: (u16, u16),
         lrw: bool,
-    ) -> Result<Seat, Fail> {
+    ) -> Result<Seat, ScanError> {
         let seat = Seat {
             outputs: self.area(outputs.0, outputs.1),
             inputs: self.area(inputs.0, inputs.1),
@@ -158,7 +161,7 @@ impl Process {
     }
 
     /// The runs of slaves that go by the same commands; `joint` says whether LRW is used at all.
-    fn runs(&self, joint: bool) -> Result<Vec<Run>, Fail> {
+    fn runs(&self, joint: bool) -> Result<Vec<Run>, ScanError> {
         let mut runs: Vec<Run> = Vec::new(self.alloc);
         for seat in &self.seats {
             let lrw = joint && seat.lrw;
@@ -183,7 +186,7 @@ impl Process {
     }
 
     /// The outputs of a cycle, other ones in each.
-    fn image(&self, cycle: u32) -> Result<Vec<u8>, Fail> {
+    fn image(&self, cycle: u32) -> Result<Vec<u8>, ScanError> {
         let mut image = Vec::new(self.alloc);
         for place in 0..self.next {
             let number = cycle.wrapping_mul(37).wrapping_add(place.wrapping_mul(11));
@@ -193,77 +196,107 @@ impl Process {
     }
 }
 
+/// What a datagram brought back to its place of an image; LWR brings nothing.
+fn bring_back(image: &mut [u8], from: usize, datagram: &Datagram) {
+    if datagram.command == LWR {
+        return;
+    }
+    for (place, byte) in datagram.bytes.iter().enumerate() {
+        if let Some(cell) = image.get_mut(from.saturating_add(place)) {
+            *cell = *byte;
+        }
+    }
+}
+
 /// What the datagrams brought back to an image of the logical memory.
-fn brought_back(alloc: Global, length: u32, datagrams: &[Datagram]) -> Result<Vec<u8>, Fail> {
+fn brought_back(alloc: Global, length: u32, datagrams: &[Datagram]) -> Result<Vec<u8>, ScanError> {
     let mut image = vec![in alloc; 0u8; usize::try_from(length)?]?;
     for datagram in datagrams {
-        let from = usize::try_from(datagram.address)?;
-        for (place, byte) in datagram.bytes.iter().enumerate() {
-            if let Some(cell) = image.get_mut(from.saturating_add(place)) {
-                if datagram.command != LWR {
-                    *cell = *byte;
-                }
-            }
-        }
+        bring_back(&mut image, usize::try_from(datagram.address)?, datagram);
     }
     Ok(image)
 }
 
 /// The inputs of a slave are what its application made of the outputs of the cycle before.
 fn expect_inputs(
-    rt: &(impl AllocGlobal + Abort),
+    alloc: Global,
+    applications: Applications,
     seat: &Seat,
     before: &[u8],
     seen: &[u8],
-) -> Result<(), Fail> {
-    let outputs = seat.outputs.part(rt.alloc(), before)?;
-    let inputs = seat.inputs.part(rt.alloc(), seen)?;
+) -> Result<(), ScanError> {
+    let outputs = seat.outputs.part(alloc, before)?;
+    let inputs = seat.inputs.part(alloc, seen)?;
+    let mut at = seat.inputs.logical;
     for place in 0..usize::from(seat.inputs.count) {
-        let at = seat.inputs.logical;
-        assert_eq!(rt;
-            byte_at(&inputs, place),
-            made_input(&outputs, place),
-            "{at} {place}"
-        );
+        let made = applications.input(&outputs, place);
+        expect_number(
+            "input",
+            at,
+            u32::from(byte_at(&inputs, place)),
+            u32::from(made),
+        )?;
+        at = at.saturating_add(1);
     }
     Ok(())
 }
 
+/// Each datagram came back with its counter.
+fn expect_counters(datagrams: &[Datagram], counters: &[u16]) -> Result<(), ScanError> {
+    for (datagram, counter) in datagrams.iter().zip(counters) {
+        let command = u32::from(datagram.command);
+        expect_number(
+            "counter of command",
+            command,
+            u32::from(datagram.counter),
+            u32::from(*counter),
+        )?;
+    }
+    Ok(())
+}
+
+/// The runs go out in one frame with these outputs, and come back with their counters.
+fn exchange_cycle<L: Link + Drop>(
+    master: &mut Master<L>,
+    runs: &[Run],
+    outputs: &[u8],
+) -> Result<Vec<Datagram>, ScanError> {
+    let mut datagrams = Vec::new(master.alloc());
+    let mut counters = Vec::new(master.alloc());
+    for run in runs {
+        run.push_to(master.alloc(), outputs, &mut datagrams, &mut counters)?;
+    }
+    master.exchange(&mut datagrams)?;
+    expect_counters(&datagrams, &counters)?;
+    Ok(datagrams)
+}
+
 /// A cycle carries these outputs, and brings what the applications made of the outputs before.
 fn expect_cycle<L: Link + Drop>(
-    rt: &(impl AllocGlobal + Abort),
     master: &mut Master<L>,
     process: &Process,
     joint: bool,
     outputs: &[u8],
     before: &[u8],
-) -> Result<(), Fail> {
-    let mut datagrams = Vec::new(rt.alloc());
-    let mut counters = Vec::new(rt.alloc());
-    for run in &process.runs(joint)? {
-        run.push_to(rt.alloc(), outputs, &mut datagrams, &mut counters)?;
-    }
-    master.exchange(&mut datagrams)?;
-    for (datagram, counter) in datagrams.iter().zip(&counters) {
-        assert_eq!(rt; datagram.counter, *counter, "command {}", datagram.command);
-    }
-    let seen = brought_back(rt.alloc(), process.next, &datagrams)?;
+) -> Result<(), ScanError> {
+    let alloc = master.alloc();
+    let datagrams = exchange_cycle(master, &process.runs(joint)?, outputs)?;
+    let seen = brought_back(alloc, process.next, &datagrams)?;
     for seat in &process.seats {
-        expect_inputs(rt, seat, before, &seen)?;
+        expect_inputs(alloc, master.applications(), seat, before, &seen)?;
     }
     Ok(())
 }
 
 /// Cycles with other outputs in each, by LRW as far as the slaves take part in it; and two by LWR and LRD alone.
 pub fn expect_cycles<L: Link + Drop>(
-    rt: &(impl AllocGlobal + Abort),
     master: &mut Master<L>,
     process: &Process,
-) -> Result<(), Fail> {
-    let mut before = vec![in rt.alloc(); 0u8; usize::try_from(process.next)?]?;
-    for cycle in 1..=CYCLES.saturating_add(2) {
+) -> Result<(), ScanError> {
+    let mut before = vec![in master.alloc(); 0u8; usize::try_from(process.next)?]?;
+    for cycle in 1..=ALL_CYCLES {
         let outputs = process.image(cycle)?;
-        expect_cycle(rt, master, process, cycle <= CYCLES, &outputs, &before)?;
+        expect_cycle(master, process, cycle <= CYCLES, &outputs, &before)?;
         before = outputs;
     }
     Ok(())

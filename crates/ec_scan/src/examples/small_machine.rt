@@ -1,5 +1,5 @@
 //! The machine of `examples/small_machine.toml`.
-use crate::tests::rows::{MailboxRow, PdoRow, SlaveRow};
+use crate::rows::{MailboxRow, PdoRow, SlaveRow};
 
 /// The text of `examples/small_machine.toml`; keep both equal.
 pub const TABLE: &str =

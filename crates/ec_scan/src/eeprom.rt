@@ -1,10 +1,10 @@
 //! The SII of a slave, read by its port (ETG.1000.4, "Slave information interface"; ETG.1000.6, "Slave information interface
 //! area").
-use crate::tests::bytes::{byte_at, bytes_of, word_at};
-use crate::tests::link::Link;
-use crate::tests::master::{MOST_POLLS, Master};
+use crate::bytes::{byte_at, bytes_of, word_at};
+use crate::error::ScanError;
+use crate::link::Link;
+use crate::master::{MOST_POLLS, Master};
 use std::alloc::{AllocError, Global};
-use std::test::Fail;
 
 /// SII control and status; the word address follows it, and the data follow that.
 const SII_CONTROL: u16 = 0x0502;
@@ -67,7 +67,7 @@ impl FoundPdo {
 }
 
 /// How many bytes objects have together.
-pub fn bytes_together(pdos: &[FoundPdo]) -> Result<u16, Fail> {
+pub fn bytes_together(pdos: &[FoundPdo]) -> Result<u16, ScanError> {
     let mut bits: u32 = 0;
     for pdo in pdos {
         bits = bits.saturating_add(pdo.bits());
@@ -137,18 +137,22 @@ impl Eeprom {
 
 impl<L: Link + Drop> Master<L> {
     /// Waits until the port isn't busy. Its status word.
-    fn await_port(&mut self, station: u16) -> Result<u16, Fail> {
+    fn await_port(&mut self, station: u16) -> Result<u16, ScanError> {
         for _ in 0..MOST_POLLS {
             let status = self.port_status(station)?;
             if status & BUSY == 0 {
                 return Ok(status);
             }
         }
-        Err("an SII that stays busy".into())
+        Err(ScanError::Busy)
     }
 
     /// The two words at a word address; none where the port says that they can't be read.
-    pub fn words_at(&mut self, station: u16, address: u32) -> Result<Option<(u16, u16)>, Fail> {
+    pub fn words_at(
+        &mut self,
+        station: u16,
+        address: u32,
+    ) -> Result<Option<(u16, u16)>, ScanError> {
         if self.await_port(station)? & ERRORS != 0 {
             self.set(station, SII_CONTROL, &[0, 0])?;
         }
@@ -162,13 +166,13 @@ impl<L: Link + Drop> Master<L> {
     }
 
     /// The status word of the port.
-    pub fn port_status(&mut self, station: u16) -> Result<u16, Fail> {
+    pub fn port_status(&mut self, station: u16) -> Result<u16, ScanError> {
         Ok(word_at(&self.get(station, SII_CONTROL, 2)?, 0))
     }
 
     /// The two words at a word address by a shorter way: the command with half of the address, then status, address and data at
     /// once.
-    pub fn words_at_once(&mut self, station: u16, address: u16) -> Result<(u16, u16), Fail> {
+    pub fn words_at_once(&mut self, station: u16, address: u16) -> Result<(u16, u16), ScanError> {
         let [low, high] = address.to_le_bytes();
         self.set(station, SII_CONTROL, &[0x80, 0x01, low, high])?;
         for _ in 0..MOST_POLLS {
@@ -177,16 +181,21 @@ impl<L: Link + Drop> Master<L> {
                 return Ok((word_at(&shown, 6), word_at(&shown, 8)));
             }
         }
-        Err("an SII that stays busy".into())
+        Err(ScanError::Busy)
     }
 
     /// So many words from a word address on, two at a time.
-    fn words_from(&mut self, station: u16, address: u32, count: u16) -> Result<Vec<u16>, Fail> {
+    fn words_from(
+        &mut self,
+        station: u16,
+        address: u32,
+        count: u16,
+    ) -> Result<Vec<u16>, ScanError> {
         let mut words = Vec::new(self.alloc());
         for step in 0..u32::from(count.div_ceil(2)) {
             let at = address.saturating_add(step.saturating_mul(2));
             let Some((first, second)) = self.words_at(station, at)? else {
-                return Err("words that aren't there".into());
+                return Err(ScanError::NoWords(at));
             };
             words.push(first)?;
             words.push(second)?;
@@ -196,10 +205,10 @@ impl<L: Link + Drop> Master<L> {
     }
 
     /// Goes from category to category up to the end mark.
-    fn crawl(&mut self, station: u16, eeprom: &mut Eeprom) -> Result<(), Fail> {
+    fn crawl(&mut self, station: u16, eeprom: &mut Eeprom) -> Result<(), ScanError> {
         for _ in 0..MOST_CATEGORIES {
             let Some((number, count)) = self.words_at(station, eeprom.end)? else {
-                return Err("a category that can't be read".into());
+                return Err(ScanError::NoWords(eeprom.end));
             };
             if number == END_MARK {
                 return Ok(());
@@ -209,11 +218,11 @@ impl<L: Link + Drop> Master<L> {
             eeprom.categories.push(Category { number, words })?;
             eeprom.end = from.saturating_add(u32::from(count));
         }
-        Err("categories without an end".into())
+        Err(ScanError::Endless)
     }
 
     /// All that the SII of a slave says.
-    pub fn read_eeprom(&mut self, station: u16) -> Result<Eeprom, Fail> {
+    pub fn read_eeprom(&mut self, station: u16) -> Result<Eeprom, ScanError> {
         let mut eeprom = Eeprom {
             head: self.words_from(station, 0, 0x40)?,
             categories: Vec::new(self.alloc()),

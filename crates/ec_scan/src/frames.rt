@@ -1,7 +1,7 @@
 //! Frames of datagrams, byte by byte (ETG.1000.4, "EtherCAT frame structure").
-use crate::tests::bytes::{byte_at, long_at, word_at};
+use crate::bytes::{byte_at, long_at, word_at};
+use crate::error::ScanError;
 use std::alloc::{AllocError, Global};
-use std::test::Fail;
 
 /// The bytes of a datagram before its data.
 const HEADING: usize = 10;
@@ -39,7 +39,7 @@ impl Datagram {
     }
 
     /// Appends its bytes to those of a frame.
-    fn push_to(&self, area: &mut Vec<u8>, index: u8, has_more: bool) -> Result<(), Fail> {
+    fn push_to(&self, area: &mut Vec<u8>, index: u8, has_more: bool) -> Result<(), ScanError> {
         let length = u16::try_from(self.bytes.len())?;
         let more: u16 = if has_more { 0x8000 } else { 0 };
         let flags = length & 0x07FF | more;
@@ -53,12 +53,12 @@ impl Datagram {
     }
 
     /// Takes over what stands at a place of a frame that came back.
-    fn take_from(&mut self, frame: &[u8], place: usize, index: u8) -> Result<(), Fail> {
+    fn take_from(&mut self, frame: &[u8], place: usize, index: u8) -> Result<(), ScanError> {
         let content = place.saturating_add(HEADING);
         if byte_at(frame, place) != self.command
             || byte_at(frame, place.saturating_add(1)) != index
         {
-            return Err("another datagram came back".into());
+            return Err(ScanError::Datagram);
         }
         self.address = long_at(frame, place.saturating_add(2));
         for (step, byte) in self.bytes.iter_mut().enumerate() {
@@ -70,7 +70,7 @@ impl Datagram {
 }
 
 /// The frame of datagrams, each with this index.
-pub fn frame_of(alloc: Global, index: u8, datagrams: &[Datagram]) -> Result<Vec<u8>, Fail> {
+pub fn frame_of(alloc: Global, index: u8, datagrams: &[Datagram]) -> Result<Vec<u8>, ScanError> {
     let mut area = Vec::new(alloc);
     for (place, datagram) in datagrams.iter().enumerate() {
         let has_more = place.saturating_add(1) < datagrams.len();
@@ -84,7 +84,7 @@ pub fn frame_of(alloc: Global, index: u8, datagrams: &[Datagram]) -> Result<Vec<
 }
 
 /// Takes over what came back of the datagrams of a frame.
-pub fn take_back(frame: &[u8], index: u8, datagrams: &mut [Datagram]) -> Result<(), Fail> {
+pub fn take_back(frame: &[u8], index: u8, datagrams: &mut [Datagram]) -> Result<(), ScanError> {
     let mut place: usize = 2;
     for datagram in datagrams.iter_mut() {
         datagram.take_from(frame, place, index)?;

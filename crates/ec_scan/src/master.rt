@@ -1,9 +1,9 @@
 //! A master that knows nothing of the segment but what the slaves show it.
-use crate::tests::bytes::word_at;
-use crate::tests::frames::{Datagram, frame_of, take_back};
-use crate::tests::link::Link;
+use crate::bytes::word_at;
+use crate::error::ScanError;
+use crate::frames::{Datagram, frame_of, take_back};
+use crate::link::{Applications, Link};
 use std::alloc::Global;
-use std::test::Fail;
 
 // the numbers of the commands
 const APRD: u8 = 1;
@@ -30,7 +30,7 @@ const AL_STATUS: u16 = 0x0130;
 pub const MOST_POLLS: usize = 10;
 
 /// The station address of the slave at a place.
-pub fn station_of(place: usize) -> Result<u16, Fail> {
+pub fn station_of(place: usize) -> Result<u16, ScanError> {
     Ok(FIRST_STATION.wrapping_add(u16::try_from(place)?))
 }
 
@@ -40,7 +40,7 @@ fn address_of(adp: u16, register: u16) -> u32 {
 }
 
 /// The ADP that reaches the slave at a place by auto increment.
-fn position_of(place: usize) -> Result<u16, Fail> {
+fn position_of(place: usize) -> Result<u16, ScanError> {
     Ok(0u16.wrapping_sub(u16::try_from(place)?))
 }
 
@@ -73,8 +73,13 @@ impl<L: Link + Drop> Master<L> {
         self.alloc
     }
 
+    /// What the applications of the segment make of their outputs.
+    pub fn applications(&self) -> Applications {
+        self.link.applications()
+    }
+
     /// The datagrams go out in one frame, and come back.
-    pub fn exchange(&mut self, datagrams: &mut [Datagram]) -> Result<(), Fail> {
+    pub fn exchange(&mut self, datagrams: &mut [Datagram]) -> Result<(), ScanError> {
         self.index = self.index.wrapping_add(1);
         let mut frame = frame_of(self.alloc, self.index, datagrams)?;
         self.link.exchange(&mut frame)?;
@@ -82,29 +87,34 @@ impl<L: Link + Drop> Master<L> {
     }
 
     /// A datagram goes out alone, and comes back.
-    fn ask(&mut self, command: u8, address: u32, bytes: &[u8]) -> Result<Datagram, Fail> {
+    fn ask(&mut self, command: u8, address: u32, bytes: &[u8]) -> Result<Datagram, ScanError> {
         let datagram = Datagram::new(self.alloc, command, address, bytes)?;
         let mut datagrams = vec![in self.alloc; datagram]?;
         self.exchange(&mut datagrams)?;
         match datagrams.pop() {
             Some(datagram) => Ok(datagram),
-            None => Err("no datagram".into()),
+            None => Err(ScanError::Datagram),
         }
     }
 
     /// The same with so many bytes of 0.
-    fn ask_empty(&mut self, command: u8, address: u32, count: usize) -> Result<Datagram, Fail> {
+    fn ask_empty(
+        &mut self,
+        command: u8,
+        address: u32,
+        count: usize,
+    ) -> Result<Datagram, ScanError> {
         let bytes = vec![in self.alloc; 0u8; count]?;
         self.ask(command, address, &bytes)
     }
 
     /// Reads a register of all slaves, joined by OR.
-    pub fn read_all(&mut self, register: u16, count: usize) -> Result<Datagram, Fail> {
+    pub fn read_all(&mut self, register: u16, count: usize) -> Result<Datagram, ScanError> {
         self.ask_empty(BRD, address_of(0, register), count)
     }
 
     /// Writes a register of all slaves. How many take it.
-    pub fn write_all(&mut self, register: u16, bytes: &[u8]) -> Result<u16, Fail> {
+    pub fn write_all(&mut self, register: u16, bytes: &[u8]) -> Result<u16, ScanError> {
         Ok(self.ask(BWR, address_of(0, register), bytes)?.counter)
     }
 
@@ -114,23 +124,33 @@ impl<L: Link + Drop> Master<L> {
         place: usize,
         register: u16,
         count: usize,
-    ) -> Result<Datagram, Fail> {
+    ) -> Result<Datagram, ScanError> {
         self.ask_empty(APRD, address_of(position_of(place)?, register), count)
     }
 
     /// Writes a register of the slave at a place. How many take it.
-    pub fn write_place(&mut self, place: usize, register: u16, bytes: &[u8]) -> Result<u16, Fail> {
+    pub fn write_place(
+        &mut self,
+        place: usize,
+        register: u16,
+        bytes: &[u8],
+    ) -> Result<u16, ScanError> {
         let address = address_of(position_of(place)?, register);
         Ok(self.ask(APWR, address, bytes)?.counter)
     }
 
     /// Reads a register of the slave with a station address.
-    pub fn read(&mut self, station: u16, register: u16, count: usize) -> Result<Datagram, Fail> {
+    pub fn read(
+        &mut self,
+        station: u16,
+        register: u16,
+        count: usize,
+    ) -> Result<Datagram, ScanError> {
         self.ask_empty(FPRD, address_of(station, register), count)
     }
 
     /// Writes a register of the slave with a station address. How many take it.
-    pub fn write(&mut self, station: u16, register: u16, bytes: &[u8]) -> Result<u16, Fail> {
+    pub fn write(&mut self, station: u16, register: u16, bytes: &[u8]) -> Result<u16, ScanError> {
         Ok(
             self.ask(FPWR, address_of(station, register), bytes)?
                 .counter,
@@ -138,26 +158,26 @@ impl<L: Link + Drop> Master<L> {
     }
 
     /// The same where the slave must take it.
-    pub fn set(&mut self, station: u16, register: u16, bytes: &[u8]) -> Result<(), Fail> {
+    pub fn set(&mut self, station: u16, register: u16, bytes: &[u8]) -> Result<(), ScanError> {
         if self.write(station, register, bytes)? == 1 {
             Ok(())
         } else {
-            Err("a register that takes no write".into())
+            Err(ScanError::NotTaken(register))
         }
     }
 
     /// The bytes of a register, which the slave must show.
-    pub fn get(&mut self, station: u16, register: u16, count: usize) -> Result<Vec<u8>, Fail> {
+    pub fn get(&mut self, station: u16, register: u16, count: usize) -> Result<Vec<u8>, ScanError> {
         let datagram = self.read(station, register, count)?;
         if datagram.counter == 1 {
             Ok(datagram.bytes)
         } else {
-            Err("a register that isn't read".into())
+            Err(ScanError::NotRead(register))
         }
     }
 
     /// Asks a slave for an AL state, acknowledges an error, and waits for it. The status word and the code that it shows then.
-    pub fn change_state(&mut self, station: u16, state: u8) -> Result<(u16, u16), Fail> {
+    pub fn change_state(&mut self, station: u16, state: u8) -> Result<(u16, u16), ScanError> {
         self.set(station, AL_CONTROL, &[state | 0x10, 0])?;
         let mut seen = (0, 0);
         for _ in 0..MOST_POLLS {
