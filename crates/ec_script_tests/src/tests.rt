@@ -3,6 +3,8 @@ ghost use Rattle.std.specs.Prelude.{◌≡◌, length};
 ghost use Rattle.ec_link.specs.Faults.{compile_fault};
 ghost use Rattle.ec_link.specs.Plan.{plan_of};
 
+mod borders;
+mod deeds;
 mod lines;
 
 use ec_link::{Plan, compile};
@@ -159,7 +161,7 @@ const TWO_UNITS_RUNS: [(&str, &str); 4] = [
 ];
 
 /// Texts, and the table and the script in them.
-const HALVES: [(&str, (&str, &str)); 8] = [
+const HALVES: [(&str, (&str, &str)); 12] = [
     ("", ("", "")),
     ("a\n", ("a\n", "")),
     ("%%", ("", "")),
@@ -168,6 +170,10 @@ const HALVES: [(&str, (&str, &str)); 8] = [
     ("a\r\n%%\r\nb", ("a\r\n", "b")),
     ("a%%\nb\n", ("a%%\nb\n", "")),
     ("%% \n%%%\n %%\n%%\r", ("%% \n%%%\n %%\n%%\r", "")),
+    ("%%\r\n", ("", "")),
+    ("a\n%%\n%%", ("a\n", "%%")),
+    ("%% # b\n%%#\n", ("%% # b\n%%#\n", "")),
+    ("# %%\n%%\n# %%", ("# %%\n", "# %%")),
 ];
 
 /// Whether a text is read as one line that stands for an act.
@@ -300,15 +306,29 @@ fn with_lines(alloc: Global, script: &str) -> Result<String, AllocError> {
     script.replace(alloc, ";", "\n")
 }
 
+/// Whether a script over a table prints this.
+fn prints_text(
+    alloc: Global,
+    table: &Table,
+    plan: &Plan,
+    script: &str,
+    wanted: &str,
+) -> Result<bool, Fail>
+    requires accepted { compile_fault table.now ≡ None }
+    requires plan { plan.now ≡ plan_of table.now }
+{
+    let script = with_lines(alloc, script)?;
+    let wanted = with_lines(alloc, wanted)?;
+    let printed = printed(alloc, table, plan, script.as_str())?;
+    Ok(printed.as_str() == wanted.as_str())
+}
+
 /// Whether a script over a table prints what it is to.
 fn prints(alloc: Global, table: &Table, plan: &Plan, run: &(&str, &str)) -> Result<bool, Fail>
     requires accepted { compile_fault table.now ≡ None }
     requires plan { plan.now ≡ plan_of table.now }
 {
-    let script = with_lines(alloc, run.0)?;
-    let wanted = with_lines(alloc, run.1)?;
-    let printed = printed(alloc, table, plan, script.as_str())?;
-    Ok(printed.as_str() == wanted.as_str())
+    prints_text(alloc, table, plan, run.0, run.1)
 }
 
 /// Scripts over a table and its plan, each with what it prints.
@@ -346,6 +366,30 @@ fn expect_runs<H: AllocGlobal + Abort>(
 ) -> Result<(), Fail> {
     let table = read_table(rt.alloc(), table)?;
     expect_runs_of(rt, &table, runs)
+}
+
+/// A script over a table that was read, and what it prints.
+fn expect_text_of<H: AllocGlobal + Abort>(
+    rt: &H,
+    table: &Table,
+    script: &str,
+    wanted: &str,
+) -> Result<(), Fail> {
+    let plan = compile(rt.alloc(), table)?;
+    let prints = prints_text(rt.alloc(), table, &plan, script, wanted)?;
+    assert!(rt; prints, "{script}");
+    Ok(())
+}
+
+/// A script over a table, and what it prints.
+fn expect_text<H: AllocGlobal + Abort>(
+    rt: &H,
+    table: &str,
+    script: &str,
+    wanted: &str,
+) -> Result<(), Fail> {
+    let table = read_table(rt.alloc(), table)?;
+    expect_text_of(rt, &table, script, wanted)
 }
 
 #[test]

@@ -27,7 +27,7 @@ link = [ { var = "a", slave = "valves", index = 0x7000, sub = 1 }, { var = "b", 
 "#;
 
 /// Scripts on this table, and for each `no` the number of its line and why; `;` stands for the end of a line.
-const RUNS: [(&str, &str); 16] = [
+const RUNS: [(&str, &str); 20] = [
     ("ready;cycle;begin;close", ""),
     (
         "begin;cycle;ready;begin;begin;cycle;start;ready",
@@ -120,6 +120,68 @@ const RUNS: [(&str, &str); 16] = [
     (
         "start;close;ready;start;lose 0;ready",
         "3  a frame is on its way: the start-up sends one at a time;4  a frame is on its way: the start-up sends one at a time;",
+    ),
+    // the older frame is in the higher slot
+    (
+        "ready;begin;close;begin;close;lose 0;begin;pass 0",
+        "8  the older frame in slot 1 is in its way: frames don't overtake;",
+    ),
+    // an older frame that is a slave ahead lets a frame pass that slave, and no further
+    (
+        "ready;begin;close;begin;pass 0;pass 1;pass 1;lose 0;pass 1",
+        "7  the older frame in slot 0 is in its way: frames don't overtake;",
+    ),
+    (
+        "start;return 0;lose 64;serve 18446744073709551615;reset 3",
+        "2  the frame in slot 0 has passed 0 of 3 slaves;\
+         3  there is no slot 64: frames are on their way in slots 0 to 63;\
+         4  there is no slave 18446744073709551615: the table has slaves 0 to 2;\
+         5  there is no slave 3: the table has slaves 0 to 2;",
+    ),
+    // in SAFEOP an application has inputs still
+    (
+        "ready;fault drive;in d 5;put drive 0 1;put drive 2 1;put keys 1 1",
+        "5  `drive` has no byte 2 of inputs: the last is byte 1;\
+         6  `keys` has no byte 1 of inputs: the last is byte 0;",
+    ),
+];
+
+/// The same with the second slave in a sync unit of its own: of a cycle's two frames that of the lower unit is older.
+const UNITS_RUNS: [(&str, &str); 2] = [
+    (
+        "ready;begin;pass 1;pass 0;pass 1;pass 1",
+        "3  the older frame in slot 0 is in its way: frames don't overtake;\
+         6  the older frame in slot 0 is in its way: frames don't overtake;",
+    ),
+    // of a whole cycle the first frame is the one that is held up
+    (
+        "ready;begin;lose 0;close;cycle;close;lose 1;cycle",
+        "5  the older frame in slot 1 is in its way: frames don't overtake;\
+         8  the older frame in slot 0 is in its way: frames don't overtake;",
+    ),
+];
+
+/// Two slaves that have the halves of a variable.
+const SHARED: &str =
+    r#"type = [ { name = "di4", vendor = 1, product = 2, revision = 1, out_start = 0, in_start = 0x1100, txpdo = [ { index = 0x1A00, entries = [[0x6000, 1, 4]] } ] } ]
+slave = [ { name = "left", type = "di4" }, { name = "right", type = "di4" } ]
+variable = [ { name = "both", dir = "in", bits = 8 }, { name = "none", dir = "in", bits = 4 } ]
+link = [ { var = "both", slave = "left", index = 0x6000, sub = 1, bits = [0, 0, 4] }, { var = "both", slave = "right", index = 0x6000, sub = 1, bits = [4, 0, 4] } ]
+"#;
+
+/// The slave is named that has no inputs now; one that is linked to nothing can always be given what it holds.
+const SHARED_RUNS: [(&str, &str); 2] = [
+    (
+        "in both 1;ready;reset right;in both 1;reset left;in both 1;serve 2",
+        "1  `left` is in INIT: its application has inputs in SAFEOP and OP;\
+         4  `right` is in INIT: its application has inputs in SAFEOP and OP;\
+         6  `left` is in INIT: its application has inputs in SAFEOP and OP;\
+         7  there is no slave 2: the table has slaves 0 to 1;",
+    ),
+    (
+        "in none 15;in none 16;in both 256",
+        "2  `none` has 4 bits, and its greatest value is 15;\
+         3  `both` has 8 bits, and its greatest value is 255;",
     ),
 ];
 
@@ -217,4 +279,45 @@ fn tells_of_few_slaves(rt: HostRuntime) -> Result<(), Fail> {
         "1  there is no slave 1: the table has one, slave 0;",
     )];
     expect_reasons(&rt, ALONE, &one)
+}
+
+#[test]
+fn tells_why_by_units(rt: HostRuntime) -> Result<(), Fail> {
+    let table = TABLE.replace(rt.alloc(), "type = \"di4\" }", "type = \"di4\", unit = 1 }")?;
+    let table = format!(in rt.alloc(); "version = 2\n{table}")?;
+    expect_reasons(&rt, table.as_str(), &UNITS_RUNS)
+}
+
+#[test]
+fn tells_why_of_shared_variables(rt: HostRuntime) -> Result<(), Fail> {
+    expect_reasons(&rt, SHARED, &SHARED_RUNS)
+}
+
+/// Why the lines of a script over a table say `no`.
+fn expect_reason<H: AllocGlobal + Abort>(
+    rt: &H,
+    table: &str,
+    script: &str,
+    reasons: &str,
+) -> Result<(), Fail> {
+    let table = read_table(rt.alloc(), table)?;
+    let plan = compile(rt.alloc(), &table)?;
+    let script = script.replace(rt.alloc(), ";", "\n")?;
+    let reasons = reasons.replace(rt.alloc(), ";", "\n")?;
+    let told = told(rt.alloc(), &table, &plan, script.as_str())?;
+    assert_eq!(rt; told.as_str(), reasons.as_str());
+    Ok(())
+}
+
+/// Thirty-two cycles of two frames each, none of which comes back, take all 64 slots.
+#[test]
+fn tells_of_full_slots(rt: HostRuntime) -> Result<(), Fail> {
+    let table = TABLE.replace(rt.alloc(), "type = \"di4\" }", "type = \"di4\", unit = 1 }")?;
+    let table = format!(in rt.alloc(); "version = 2\n{table}")?;
+    let cycles = "begin;close;".repeat(rt.alloc(), 32)?;
+    let script = format!(in rt.alloc(); "ready;{cycles}begin;cycle;lose 5;lose 6;begin")?;
+    let reasons =
+        "66  a cycle sends 2 frames, and 0 slots are free: frames of earlier cycles are on their way;\
+         67  a cycle sends 2 frames, and 0 slots are free: frames of earlier cycles are on their way;";
+    expect_reason(&rt, table.as_str(), script.as_str(), reasons)
 }

@@ -12,7 +12,7 @@ use std::process::Abort;
 use std::test::Fail;
 
 /// Variables of 64 bits, eight and one, and a slave that is named as a number.
-const NAMES: &str = r#"type = [
+pub const NAMES: &str = r#"type = [
   { name = "do4", vendor = 0xABCD, product = 1, revision = 1, out_start = 0x1100, in_start = 0, rxpdo = [ { index = 0x1600, entries = [[0x7000, 1, 4]] } ] },
 ]
 slave = [ { name = "left", type = "do4" }, { name = "right", type = "do4" }, { name = "3", type = "do4" } ]
@@ -37,7 +37,7 @@ link = [
 
 /// Lines with names, comments, and values in each of their forms, and what each stands for. `wide` has 64 bits, `byte` eight and
 /// `flag` one.
-const VALUES: [(&str, Act); 30] = [
+pub const VALUES: [(&str, Act); 30] = [
     ("set byte 0x1f", One(Set(1, 31))),
     ("set byte 0xFF", One(Set(1, 255))),
     ("set byte 0x00000000000000000000100", One(Set(1, 256))),
@@ -279,7 +279,7 @@ fn expectations_are_read(rt: HostRuntime) -> Result<(), Fail> {
 }
 
 /// Whether a line stands for an act that is done so often.
-fn is_repeated(
+pub fn is_repeated(
     alloc: Global,
     table: &Table,
     text: &str,
