@@ -9,11 +9,11 @@ use std::process::Abort;
 use std::test::Fail;
 
 /// A change of a table, the refusal that it brings, and what must be told of it.
-struct Case {
-    number: u8,
-    old: &'static str,
-    new: &'static str,
-    told: &'static [&'static str],
+pub struct Case {
+    pub number: u8,
+    pub old: &'static str,
+    pub new: &'static str,
+    pub told: &'static [&'static str],
 }
 
 /// Why a table is refused.
@@ -39,13 +39,13 @@ fn number_of(cause: Cause) -> u8 {
 }
 
 /// A text with its first OLD made NEW.
-fn changed(alloc: Global, text: &str, old: &str, new: &str) -> Result<String, Fail> {
+pub fn changed(alloc: Global, text: &str, old: &str, new: &str) -> Result<String, Fail> {
     let (before, after) = text.split_once(old).ok_or("nothing to change")?;
     Ok(format!(in alloc; "{before}{new}{after}")?)
 }
 
 /// Compares what is told of a text that is refused by a number.
-fn assert_told(
+pub fn assert_told(
     rt: &(impl AllocGlobal + Abort),
     number: u8,
     text: &str,
@@ -63,7 +63,11 @@ fn assert_told(
 }
 
 /// Compares what is told of a text with changes.
-fn assert_cases(rt: &(impl AllocGlobal + Abort), text: &str, cases: &[Case]) -> Result<(), Fail> {
+pub fn assert_cases(
+    rt: &(impl AllocGlobal + Abort),
+    text: &str,
+    cases: &[Case],
+) -> Result<(), Fail> {
     for case in cases {
         let text = changed(rt.alloc(), text, case.old, case.new)?;
         assert_told(rt, case.number, text.as_str(), case.told)?;
@@ -71,7 +75,7 @@ fn assert_cases(rt: &(impl AllocGlobal + Abort), text: &str, cases: &[Case]) -> 
     Ok(())
 }
 
-static READING: [Case; 21] = [
+pub static READING: [Case; 21] = [
     Case {
         number: 11,
         old: "dir = \"in\"",
@@ -247,7 +251,7 @@ static READING: [Case; 21] = [
     },
 ];
 
-static LINKING: [Case; 13] = [
+pub static LINKING: [Case; 13] = [
     Case {
         number: 16,
         old: "index = 0x6000\nsub",
@@ -381,7 +385,7 @@ static LINKING: [Case; 13] = [
     },
 ];
 
-static INLINE: [Case; 5] = [
+pub static INLINE: [Case; 5] = [
     Case {
         number: 12,
         old: "sub = 0 }",
@@ -461,7 +465,7 @@ fn line_ends_of_two_bytes_and_a_mark(rt: HostRuntime) -> Result<(), Fail> {
 }
 
 /// A type whose slaves have no process data.
-const PLAIN: &str = "[[type]]
+pub const PLAIN: &str = "[[type]]
 name = \"t\"
 vendor = 1
 product = 1

@@ -328,3 +328,211 @@ fn other_texts(rt: HostRuntime) -> Result<(), Fail> {
     }
     Ok(())
 }
+
+/// A device that no type of the table is.
+const STRANGER: Device = Device {
+    vendor: 9,
+    product: 4,
+    revision: 1,
+};
+
+/// More start-ups that failed, and what is told of them.
+static FAILED: [(StartError, &[&str]); 6] = [
+    (
+        StartError::Count { seen: 0 },
+        &[
+            "line 28, column 1: 0 slaves answered",
+            "the table has 3",
+            "slave 0 panel ",
+        ],
+    ),
+    (
+        StartError::Count { seen: 4 },
+        &["4 slaves answered", "the table has 3"],
+    ),
+    (
+        StartError::Identity {
+            slave: 2,
+            seen: STRANGER,
+        },
+        &[
+            "line 35, column 1: slave 2 y ",
+            "vendor 0x00000009, product 0x00000004, revision 0x00000001",
+            "line 15, column 8: ",
+            "type drive ",
+            "vendor 0x00000001, product 0x00000004, revision 0x00000001",
+        ],
+    ),
+    (
+        StartError::AlError {
+            slave: 0,
+            code: 0x8001,
+        },
+        &["line 28, column 1: slave 0 panel ", "0x8001"],
+    ),
+    (
+        StartError::Mapping {
+            slave: 2,
+            index: 0x1601,
+            subindex: 0,
+            seen: 3,
+        },
+        &[
+            "line 35, column 1: slave 2 y ",
+            "0x1601:0",
+            "line 24, column 3: ",
+            "type drive has 2",
+        ],
+    ),
+    (
+        StartError::Mapping {
+            slave: 1,
+            index: 0x1A00,
+            subindex: 1,
+            seen: 0x6041_0020,
+        },
+        &[
+            "line 31, column 1: slave 1 x ",
+            "0x1A00:1",
+            "line 26, column 11: ",
+            "0x60410010",
+            "[0x6041, 0, 16]",
+            "[0x6041, 0, 32]",
+        ],
+    ),
+];
+
+#[test]
+fn more_start_ups(rt: HostRuntime) -> Result<(), Fail> {
+    for (error, wanted) in FAILED {
+        assert_told(&rt, MACHINE, Cause::Start(error), wanted)?;
+    }
+    Ok(())
+}
+
+/// Further lines behind the machine's table: each kind of line with a word that is missing, one too many, or another.
+static OTHER_LINES: [(&str, usize, &[&str]); 56] = [
+    ("start now", 1, &["`start`"]),
+    ("begin 0", 1, &["`begin`"]),
+    ("close 0", 1, &["`close`"]),
+    ("cycle 2", 1, &["`cycle`"]),
+    ("show buttons", 1, &["`show`"]),
+    ("Ready", 1, &["`Ready`", "did you mean `ready`?"]),
+    ("set\tlamps 1", 1, &["begins with `set\u{fffd}lamps`"]),
+    ("%%", 1, &["`%%`"]),
+    (" cycle", 1, &["blank"]),
+    ("cycle ", 7, &["blank"]),
+    ("pass  1", 6, &["blank"]),
+    ("lose x", 6, &["`x` is no number"]),
+    ("lose", 1, &["`lose K`"]),
+    ("return x", 8, &["`x` is no number"]),
+    ("return 0 0", 1, &["`return K`"]),
+    (
+        "pass 18446744073709551616",
+        6,
+        &["`18446744073709551616` is no number"],
+    ),
+    ("serve", 1, &["`serve S`"]),
+    (
+        "serve panle",
+        7,
+        &[
+            "no slave has the name `panle`",
+            "did you mean `panel`?",
+            "| serve panle\n       |       ^^^^^\n",
+        ],
+    ),
+    ("fault nobody", 7, &["no slave has the name `nobody`"]),
+    ("fault", 1, &["`fault S`"]),
+    ("reset X", 7, &["no slave has the name `X`"]),
+    ("reset 0 0", 1, &["`reset S`"]),
+    ("put panel x 0", 11, &["`x` is no number"]),
+    ("put panel 0 -1", 13, &["`-1` is no byte", "0 to 255"]),
+    ("put panel 0", 1, &["`put S I BYTE`"]),
+    ("put lamps 0 0", 5, &["no slave has the name `lamps`"]),
+    ("get panel x", 11, &["`x` is no number"]),
+    ("get panel", 1, &["`get S I`"]),
+    ("in buttons", 1, &["`in NAME VALUE`"]),
+    ("in buttons x", 12, &["`x` is no value"]),
+    ("in x 1", 4, &["no variable has the name `x`"]),
+    ("set lamps -", 11, &["`-` is no value"]),
+    (
+        "set lamps 0x10000000000000000",
+        11,
+        &["`0x10000000000000000` is no value"],
+    ),
+    (
+        "set l\u{e4}mps 1",
+        5,
+        &[
+            "no variable has the name `l\u{e4}mps`",
+            "did you mean `lamps`?",
+            "| set l\u{e4}mps 1\n       |     ^^^^^\n",
+        ],
+    ),
+    ("expect", 1, &["`expect NAME VALUE`"]),
+    ("expect lamps", 1, &["`expect NAME VALUE`"]),
+    ("expect buttons x", 16, &["`x` is no value"]),
+    ("expect taken 0 0", 1, &["`expect taken UNIT`"]),
+    ("expect untaken -1", 16, &["`-1` is no number"]),
+    ("expect failed 0x20", 15, &["`0x20` is no number"]),
+    ("expect ready now", 1, &["`expect ready`"]),
+    ("expect state", 1, &["`expect state S STATE CODE`"]),
+    (
+        "expect state nobody OP",
+        14,
+        &["no slave has the name `nobody`"],
+    ),
+    (
+        "expect state panel op",
+        20,
+        &["`op` is no AL state", "INIT, PREOP, SAFEOP or OP"],
+    ),
+    (
+        "expect state panel OP 00g1",
+        23,
+        &["`00g1` is no AL status code"],
+    ),
+    (
+        "expect state panel OP 0001 1",
+        1,
+        &["`expect state S STATE CODE`"],
+    ),
+    ("expect state panel", 1, &["`expect state S STATE CODE`"]),
+    ("repeat 2", 1, &["`repeat N LINE`"]),
+    ("repeat x cycle", 8, &["`x` is no number of times"]),
+    ("repeat +2 cycle", 8, &["`+2` is no number of times"]),
+    ("repeat 2 pass x", 15, &["`x` is no number"]),
+    ("repeat 2 set lamps", 10, &["`set NAME VALUE`"]),
+    (
+        "repeat 2 expect lamp 1",
+        17,
+        &["no variable has the name `lamp`"],
+    ),
+    ("repeat 2 cycle 2", 10, &["`cycle`"]),
+    ("repeat 2 # cycle", 1, &["`repeat N LINE`"]),
+    ("set # lamps 1", 1, &["`set NAME VALUE`"]),
+];
+
+/// Compares what is told of line 2 behind the machine's table: the column of what is at fault, and these phrases.
+fn assert_line(
+    rt: &(impl AllocGlobal + Abort),
+    line: &str,
+    column: usize,
+    wanted: &[&str],
+) -> Result<(), Fail> {
+    let text = format!(in rt.alloc(); "{MACHINE}%%\n\n{line}\n")?;
+    let from = text.len().saturating_sub(line.len()).saturating_sub(2);
+    let cause = Cause::Script { from, line: 2 };
+    assert_told(rt, text.as_str(), cause, wanted)?;
+    let place = format!(in rt.alloc(); "line 72, column {column}: ")?;
+    assert_told(rt, text.as_str(), cause, &[place.as_str(), "To do: "])
+}
+
+#[test]
+fn each_kind_of_line(rt: HostRuntime) -> Result<(), Fail> {
+    for (line, column, wanted) in OTHER_LINES {
+        assert_line(&rt, line, column, wanted)?;
+    }
+    Ok(())
+}
