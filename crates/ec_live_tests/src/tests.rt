@@ -1,4 +1,5 @@
 //! Each line is answered before the next one is read.
+mod drivers;
 mod tables;
 
 use self::tables::THREE_SLAVES;
