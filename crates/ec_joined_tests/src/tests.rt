@@ -1,10 +1,12 @@
 //! Two hundred tables, each with a script, through the program and through the calls; and tables of every size.
 mod cycles;
+mod names;
 mod scripts;
 mod seeds;
 mod sizes;
 
 use self::cycles::cycles_of;
+use self::names::with_names;
 use self::scripts::answers;
 use self::sizes::{filled_up, table_of_size};
 use ec_app::run_command;
@@ -23,6 +25,10 @@ struct Ended {
     printed: Vec<u8>,
     told: Vec<u8>,
 }
+
+const SIM: [&str; 2] = ["ecat", "sim"];
+
+const LIVE: [&str; 3] = ["ecat", "sim", "--live"];
 
 /// Runs the program, with applications that show their slaves' outputs as inputs.
 fn run<H: AllocGlobal + Net + Files + Clock>(rt: &H, args: &[&str], input: &str) -> Ended {
@@ -57,13 +63,14 @@ fn unmet_in(printed: &str) -> usize {
         .count()
 }
 
-/// `ecat sim` prints this, and ends with status 5 where a line of it says that what is expected isn't so.
+/// `ecat sim` with these args prints this, and ends with status 5 where a line of it says that what is expected isn't so.
 fn expect_run<H: AllocGlobal + Net + Files + Clock + Abort>(
     rt: &H,
+    args: &[&str],
     input: &str,
     printed: &str,
 ) -> Result<(), Fail> {
-    let ended = run(rt, &["ecat", "sim"], input);
+    let ended = run(rt, args, input);
     let unmet = unmet_in(printed);
     let told = if unmet == 0 {
         String::new(rt.alloc())
@@ -85,7 +92,7 @@ fn expect_answers<H: AllocGlobal + Net + Files + Clock + Abort>(
     let (plan, printed) = answers(rt.alloc(), table, script)?;
     let input = format!(in rt.alloc(); "{table}%%\n{script}")?;
     expect_printed(rt, &["ecat", "plan"], table, plan.as_str());
-    expect_run(rt, input.as_str(), printed.as_str())
+    expect_run(rt, &SIM, input.as_str(), printed.as_str())
 }
 
 /// The same of a table and a script that a seed decides.
@@ -104,6 +111,58 @@ fn joined(rt: HostRuntime) -> Result<(), Fail> {
     for seed in 0..200 {
         expect_script(&rt, seed)?;
     }
+    Ok(())
+}
+
+/// A table and a script that a seed decides, and what the script prints by the calls.
+fn seeded<H: AllocGlobal>(rt: &H, seed: u64) -> Result<(String, String, String), Fail> {
+    let mut random = Random::new(seed);
+    let table = random_table(rt.alloc(), &mut random)?;
+    let script = random_script(rt.alloc(), &mut random, table.as_str())?;
+    let (_plan, printed) = answers(rt.alloc(), table.as_str(), script.as_str())?;
+    Ok((table, script, printed))
+}
+
+/// The script that a seed decides prints the same where its lines are run as they come.
+fn expect_live<H: AllocGlobal + Net + Files + Clock + Abort>(
+    rt: &H,
+    seed: u64,
+) -> Result<(), Fail> {
+    let (table, script, printed) = seeded(rt, seed)?;
+    let input = format!(in rt.alloc(); "{table}%%\n{script}")?;
+    expect_run(rt, &LIVE, input.as_str(), printed.as_str())
+}
+
+#[test]
+fn joined_live(rt: HostRuntime) -> Result<(), Fail> {
+    for seed in 0..200 {
+        expect_live(&rt, seed)?;
+    }
+    Ok(())
+}
+
+/// The script that a seed decides prints the same where it has the slaves' names in place of their numbers; whether it has some.
+fn expect_named<H: AllocGlobal + Net + Files + Clock + Abort>(
+    rt: &H,
+    seed: u64,
+) -> Result<bool, Fail> {
+    let (table, script, printed) = seeded(rt, seed)?;
+    let named = with_names(rt.alloc(), table.as_str(), script.as_str())?;
+    let input = format!(in rt.alloc(); "{table}%%\n{named}")?;
+    expect_run(rt, &SIM, input.as_str(), printed.as_str())?;
+    Ok(named.as_str() != script.as_str())
+}
+
+// More than half of the scripts have lines with a slave that the table has.
+#[test]
+fn joined_by_names(rt: HostRuntime) -> Result<(), Fail> {
+    let mut named: u32 = 0;
+    for seed in 0..200 {
+        if expect_named(&rt, seed)? {
+            named = named.saturating_add(1);
+        }
+    }
+    assert!(rt; named > 100);
     Ok(())
 }
 
