@@ -439,6 +439,45 @@ const SECTIONS: [(&str, &[&str]); 5] = [
     ),
 ];
 
+/// Texts that are no TOML, and the line of each where that is seen.
+static SYNTAX: [Case; 5] = [
+    Case {
+        number: 11,
+        old: "name = \"panel\"",
+        new: "name = \"panel",
+        told: &["line 29, column ", "    29 | name = \"panel\n", "To do: "],
+    },
+    Case {
+        number: 11,
+        old: "sub = 0\n",
+        new: "sub = 0\nsub = 1\n",
+        told: &["line 70, column 1: ", "duplicate", "    70 | sub = 1\n"],
+    },
+    Case {
+        number: 11,
+        old: "[[link]]",
+        new: "[[link]",
+        told: &["line 54, column ", "    54 | [[link]\n"],
+    },
+    Case {
+        number: 11,
+        old: "vendor = 1\nproduct = 2",
+        new: "vendor = 0xZZ\nproduct = 2",
+        told: &["line 6, column ", "     6 | vendor = 0xZZ\n"],
+    },
+    Case {
+        number: 11,
+        old: "dir = \"in\"",
+        new: "dir \"in\"",
+        told: &["line 47, column ", "    47 | dir \"in\"\n"],
+    },
+];
+
+#[test]
+fn texts_that_are_no_toml(rt: HostRuntime) -> Result<(), Fail> {
+    assert_cases(&rt, MACHINE, &SYNTAX)
+}
+
 #[test]
 fn keys_of_each_section(rt: HostRuntime) -> Result<(), Fail> {
     assert_cases(&rt, MACHINE, &KEYS)

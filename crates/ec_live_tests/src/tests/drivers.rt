@@ -240,7 +240,8 @@ fn answers_each_byte(rt: HostRuntime) -> Result<(), Fail> {
     input.extend_from_slice(b"%%\n")?;
     let mut line: u32 = 0;
     for byte in 0..=255u8 {
-        input.extend_from_slice(&[byte, b'\n'])?;
+        input.push(byte)?;
+        input.push(b'\n')?;
         line = line.saturating_add(1);
         if byte == b'\n' {
             line = line.saturating_add(1);
