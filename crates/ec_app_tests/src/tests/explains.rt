@@ -123,6 +123,59 @@ fn each_no_is_explained(rt: HostRuntime) -> Result<(), Fail> {
     Ok(())
 }
 
+/// Each way to run them with an explanation.
+const EXPLAINED_WAYS: [&[&str]; 2] = [
+    &["ecat", "sim", "--explain"],
+    &["ecat", "sim", "--live", "--explain"],
+];
+
+/// What is told of lines that expect what isn't so begins as ever, and says how often, and what to do; nothing more is told
+/// where no explanation is asked for.
+#[test]
+fn unmet_lines_are_explained(rt: HostRuntime) -> Result<(), Fail> {
+    let text = format!(in rt.alloc(); "{THREE_SLAVES}%%\nrepeat 7 expect ready\n")?;
+    for args in EXPLAINED_WAYS {
+        let ended = run_in_memory(&rt, args, text.as_bytes());
+        assert_eq!(rt; ended.status, 5, "{args:?}");
+        let told = String::from_utf8(ended.told).map_err(|_| "no text")?;
+        let told = told.as_str();
+        assert!(rt; told.starts_with("ecat: 45 Unmet 7\n7 times "), "{told}");
+        assert!(rt; told.find("To do: ").is_some(), "{told}");
+    }
+    let ended = run_in_memory(&rt, &["ecat", "sim"], text.as_bytes());
+    assert_eq!(rt; ended.told.as_slice(), b"ecat: 45 Unmet 7\n".as_slice());
+    Ok(())
+}
+
+/// A text whose lines end in two bytes, and before which stands a mark: lines and columns are those that an editor counts.
+#[test]
+fn other_line_ends_are_explained(rt: HostRuntime) -> Result<(), Fail> {
+    let sim = ["ecat", "sim", "--explain"];
+    let lines = THREE_SLAVES.lines().count() + 5;
+    let text = format!(in rt.alloc(); "{THREE_SLAVES}%%\nready\n\n# \u{fc}ber\nset \u{e4} 1\n")?;
+    let text = text.replace(rt.alloc(), "\n", "\r\n")?;
+    let text = format!(in rt.alloc(); "\u{feff}{}", text.as_str())?;
+    let place = format!(in rt.alloc(); "line {lines}, column 5: ")?;
+    let wanted = [
+        place.as_str(),
+        "`\u{e4}`",
+        "| set \u{e4} 1\n       |     ^\n",
+    ];
+    expect_explanation(&rt, &sim, text.as_bytes(), "39 BadScript 4", &wanted)
+}
+
+/// A line that can't be read prints that it is bad, and is explained no further; the next one is.
+#[test]
+fn a_bad_line_is_no_refusal(rt: HostRuntime) -> Result<(), Fail> {
+    let text = format!(in rt.alloc(); "{THREE_SLAVES}%%\nstop\nserve 3\n")?;
+    let live = ["ecat", "sim", "--live", "--explain"];
+    let ended = run_in_memory(&rt, &live, text.as_bytes());
+    assert_eq!(rt; (ended.status, ended.told.len()), (0, 0));
+    let printed = "bad 1\nno 2\n  there is no slave 3: the table has slaves 0 to 2\n";
+    assert_eq!(rt; ended.printed.as_slice(), printed.as_bytes());
+    Ok(())
+}
+
 /// A fault of the input is explained too, and of the output where a command has printed something.
 #[test]
 fn faults_are_explained(rt: HostRuntime) -> Result<(), Fail> {

@@ -203,7 +203,15 @@ fn tells_the_first_fault_of_a_table(rt: HostRuntime) -> Result<(), Fail> {
 fn tells_that_a_variable_is_split(rt: HostRuntime) -> Result<(), Fail> {
     let mut table = with_two_units(rt.alloc())?;
     table.push_str(SPLIT_VARIABLE)?;
-    expect_told(&rt, &PLAN, table.as_bytes(), 3, "44 SplitVariable 4")
+    expect_told(&rt, &PLAN, table.as_bytes(), 3, "44 SplitVariable 4")?;
+    let wanted = [
+        "input variable e ",
+        "link 4 joins it to slave s1 of unit 1",
+        "link 5 joins it to slave s2 of unit 0",
+        "To do: ",
+    ];
+    let refusal = "44 SplitVariable 4";
+    expect_explanation(&rt, &EXPLAIN, table.as_bytes(), refusal, &wanted)
 }
 
 /// So many slaves with four outputs, each in a sync unit of its own if they are to be.
@@ -231,14 +239,28 @@ rxpdo = [ { index = 0x1600, entries = [[0x7000, 1, 4]] } ]
     Ok(text)
 }
 
+/// Rows of slaves of which there is one too many, behind nine lines and in four lines each, and what is told.
+const COUNTED: [(usize, bool, &str, &[&str]); 2] = [
+    (
+        65,
+        false,
+        "22 TooManySlaves 65",
+        &["line 266, column 1: 65 slaves, and 64 ", "To do: "],
+    ),
+    (
+        33,
+        true,
+        "23 TooManyParts 33",
+        &["line 141, column 8: 33 sync units", "To do: "],
+    ),
+];
+
 #[test]
 fn counts_slaves_and_parts(rt: HostRuntime) -> Result<(), Fail> {
-    for (slaves, own_units, refusal) in [
-        (65, false, "22 TooManySlaves 65"),
-        (33, true, "23 TooManyParts 33"),
-    ] {
+    for (slaves, own_units, refusal, wanted) in COUNTED {
         let table = row_of_slaves(rt.alloc(), slaves, own_units)?;
         expect_told(&rt, &PLAN, table.as_bytes(), 3, refusal)?;
+        expect_explanation(&rt, &EXPLAIN, table.as_bytes(), refusal, wanted)?;
     }
     Ok(())
 }
@@ -253,7 +275,9 @@ fn counts_bits(rt: HostRuntime) -> Result<(), Fail> {
         "[[0x7010, 1, 12]]",
         entries.as_str(),
     )?;
-    expect_told(&rt, &PLAN, table.as_bytes(), 3, "21 TooManyBits 2")
+    expect_told(&rt, &PLAN, table.as_bytes(), 3, "21 TooManyBits 2")?;
+    let wanted = ["slave s2 has 2060 output bits", "2048", "To do: "];
+    expect_explanation(&rt, &EXPLAIN, table.as_bytes(), "21 TooManyBits 2", &wanted)
 }
 
 /// A reader that gives blanks, so many at a time, without an end.
