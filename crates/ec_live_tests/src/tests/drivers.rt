@@ -7,7 +7,6 @@ use ec_why::Reasons;
 use std::fs::Files;
 use std::io;
 use std::io::{ErrorKind, Read, Write};
-use std::process::Abort;
 use std::test::Fail;
 
 /// Runs lines as they come behind a table over a reader and a writer.
