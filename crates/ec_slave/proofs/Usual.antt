@@ -45,31 +45,32 @@ wholly_from bytes xs at count skipped small l =
     ∙ overlay_alike zs (run_told 0 bytes (at + skipped) (8 * n)) _ (λ k i.
     ap (λ (x : Option Bool). unwrap_or x (bit zs k)) (alike bytes at count skipped (8 * n) k (λ h. omega (arith, h, l)) (λ h. absurd (omega (arith, h, i, long)))))
 
+-- the bits of a run, counted from a datagram's first
+pub within_moved : (at n from i : ℕ) → from ≤ at → within at n (from + i) ≡ within (at - from) n i
+within_moved at n from i l = elim (cases_Bool (within at n (from + i))) [
+  | inl t ↦
+      let b = within_parts at n (from + i) t in
+      t ∙ sym (within_true (at - from) n i (let x = b.0 in omega (arith, x, l)) (let x = b.1 in omega (arith, x, l)))
+  | inr f ↦ f ∙ sym (elim (cases_Bool (within (at - from) n i)) as (λ _. within (at - from) n i ≡ false) [
+    | inl t ↦
+        let b = within_parts (at - from) n i t in
+        absurd (both_ways (within at n (from + i)) f (within_true at n (from + i) (let x = b.0 in omega (arith, x, l)) (let x = b.1 in omega (arith, x, l))))
+    | inr g ↦ g
+  ])
+]
+
 -- the inputs of an area, as one copy
 pub copied_into : (a : Area) (p : Place) (inputs bytes : List ℕ) → p.from ≤ a.in_at → copied bytes (a.in_at - p.from) inputs 0 a.ins ≡ inputs_into a p inputs bytes
 copied_into a p inputs bytes l =
     overlay_alike bytes (run_told (a.in_at - p.from) inputs 0 a.ins) _ (λ i k.
     ap (λ (x : Option Bool). unwrap_or x (bit bytes i)) (same i))
   where
-    outside : (i : ℕ) → within a.in_at a.ins (p.from + i) ≡ false → within (a.in_at - p.from) a.ins i ≡ false
-    outside i w = elim (cases_Bool (within (a.in_at - p.from) a.ins i)) [
-      | inl t ↦
-          let b = within_parts (a.in_at - p.from) a.ins i t in
-          absurd (both_ways (within a.in_at a.ins (p.from + i)) w (within_true a.in_at a.ins (p.from + i) (let x = b.0 in omega (arith, x, l)) (let x = b.1 in omega (arith, x, l))))
-      | inr f ↦ f
-    ]
-
     same : (i : ℕ) → run_told (a.in_at - p.from) inputs 0 a.ins i ≡ (if within a.in_at a.ins (p.from + i) then Some (bit inputs (p.from + i - a.in_at)) else None)
-    same i = elim (cases_Bool (within a.in_at a.ins (p.from + i))) [
-      | inl w ↦
-          let b = within_parts a.in_at a.ins (p.from + i) w in
-          let e : 0 + (i - (a.in_at - p.from)) ≡ p.from + i - a.in_at = let x = b.0 in omega (arith, x, l) in
-          if_true (within (a.in_at - p.from) a.ins i) (Some (bit inputs (0 + (i - (a.in_at - p.from))))) None
-          (within_true (a.in_at - p.from) a.ins i (let x = b.0 in omega (arith, x, l)) (let x = b.1 in omega (arith, x, l)))
-          ∙ (ap (λ (k : ℕ). Some (bit inputs k)) e ∙ sym (if_true (within a.in_at a.ins (p.from + i)) (Some (bit inputs (p.from + i - a.in_at))) None w))
-      | inr w ↦ if_false (within (a.in_at - p.from) a.ins i) (Some (bit inputs (0 + (i - (a.in_at - p.from))))) None (outside i w)
-          ∙ sym (if_false (within a.in_at a.ins (p.from + i)) (Some (bit inputs (p.from + i - a.in_at))) None w)
-    ]
+    same i =
+        let moved = within_moved a.in_at a.ins p.from i l in
+        let e : 0 + (i - (a.in_at - p.from)) ≡ p.from + i - a.in_at = omega (arith, l) in
+        ap (λ (b : Bool). if b then Some (bit inputs (0 + (i - (a.in_at - p.from)))) else None) (sym moved)
+        ∙ ap (λ (k : ℕ). if within a.in_at a.ins (p.from + i) then Some (bit inputs k) else None) e
 
 -- the outputs of an area, as the bits of a value that begins where they do
 pub outputs_are : (a : Area) (p : Place) (bytes : List ℕ) (start len : ℕ) → start ≡ a.out_start → len ≡ bytes_of_bits a.outs → p.from ≤ a.out_at

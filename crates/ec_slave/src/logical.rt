@@ -154,9 +154,14 @@ impl Slave {
         ensures bytes { bytes.new ≡ (mapped_met self.old role (record { from = from; bits = 8 * length bytes.old }) bytes.old).bytes }
         ensures added { result ≡ (mapped_met self.old role (record { from = from; bits = 8 * length bytes.old }) bytes.old).added }
     {
-        match self.whole_area(from, 8 * bytes.len() as u64) {
-            Some(mapped) => self.exchange_area(&mapped, role, from, bytes),
-            None => self.access_any_bits(role, from, bytes),
+        match self.spanned_area(from, 8 * bytes.len() as u64) {
+            Some(mapped) if self.is_held(&mapped) => {
+                self.exchange_area(&mapped, role, from, bytes)
+            }
+            Some(mapped) if self.is_plain(&mapped) => {
+                self.exchange_plain(&mapped, role, from, bytes)
+            }
+            _ => self.access_any_bits(role, from, bytes),
         }
     }
 }

@@ -1,22 +1,24 @@
 //! A logical datagram at a slave that is set up as usual, all of whose process data it has: the outputs are taken and the inputs
-//! given, a copy each.
+//! given, a copy each. They are the values of managers 2 and 3, or lie in the RAM itself.
 
 ghost use Rattle.std.specs.Prelude.{◌≡◌, ◌+◌, ◌-◌, ◌*◌, ◌<◌, ◌≤◌, ◌^◌, ◌&&◌, ℕ, IfSome, true, false, if◌then◌else◌, length, nat_lt, slice_index};
 ghost use Rattle.std.specs.Bool.{OnTrue};
-ghost use Rattle.ec_bits.specs.Bits.{bytes_of_bits};
+ghost use Rattle.ec_bits.specs.Bits.{bytes_of_bits, copied};
+ghost use Rattle.ec_regs.specs.Memory.{ram_end};
 ghost use Rattle.ec_fmmu.specs.Applied.{Place};
-ghost use Rattle.ec_fmmu.specs.Areas.{area, Spans};
+ghost use Rattle.ec_fmmu.specs.Areas.{area, IsMappedBy, Spans};
 ghost use Rattle.ec_sync.specs.Manager.{may_read, may_write};
 ghost use Rattle.ec_sync.specs.Governing.{governs};
 ghost use Rattle.ec_slave.specs.Exchange.{IsBufferAt, IsMapped, gives, inputs_into, inputs_of, outputs_from, takes, with_outputs, with_published};
 ghost use Rattle.ec_slave.specs.Mapped.{mapped_met};
-ghost use Rattle.ec_slave.specs.State.{manager_at};
-ghost use Rattle.ec_slave.specs.Usual.{LiesIn, bits_from};
+ghost use Rattle.ec_slave.specs.State.{fmmus, manager_at, with_memory};
+ghost use Rattle.ec_slave.specs.Usual.{IsPlain, LiesFree, LiesIn, bits_from};
 
 use crate::role::Role;
 use crate::slave::Slave;
 use ec_bits::{copy_by_words, within};
 use ec_fmmu::MappedArea;
+use ec_regs::registers::RAM_END;
 use ec_sync::{Manager, Touching, Writing};
 
 /// Whether a manager governs none of the bytes from one address on and below another. False says nothing.
@@ -75,6 +77,27 @@ fn has_inputs(managers: &[Manager], start: u64, bits: u64) -> bool
     is_clear(&managers[0], first, end)
         && is_clear(&managers[1], first, end)
         && is_clear(&managers[2], first, end)
+}
+
+/// Whether so many bits from an address on lie in the RAM itself, and no manager governs a byte of them. False says nothing.
+fn is_free(managers: &[Manager], start: u64, bits: u64) -> bool
+    requires four { length managers.now ≡ 4 }
+    requires inside { start ≤ ram_end }
+    requires small { bits < 2 ^ 42 }
+    ensures { OnTrue result (LiesFree managers.now start bits) }
+{
+    if bits == 0 {
+        return true;
+    }
+    let stop = start + (bits + 7) / 8;
+    if stop > RAM_END as u64 {
+        return false;
+    }
+    let (first, end) = (start as usize, stop as usize);
+    is_clear(&managers[0], first, end)
+        && is_clear(&managers[1], first, end)
+        && is_clear(&managers[2], first, end)
+        && is_clear(&managers[3], first, end)
 }
 
 /// Whether the `bits` logical bits from `from` on have a whole area.
@@ -191,18 +214,43 @@ fn give_inputs(manager: &Manager, mapped: &MappedArea, from: u64, bytes: &mut [u
 }
 
 impl Slave {
-    /// The area that the FMMUs map and the managers hold, if the `bits` logical bits from `from` on have it whole. None says
-    /// nothing.
-    pub(super) fn whole_area(&self, from: u64, bits: u64) -> Option<MappedArea>
+    /// The area that the FMMUs map, if the `bits` logical bits from `from` on have it whole.
+    pub(super) fn spanned_area(&self, from: u64, bits: u64) -> Option<MappedArea>
         requires { from + bits < 2 ^ 64 }
-        ensures mapped { IfSome result (λ m. IsMapped self.now (area m)) }
+        ensures mapped { IfSome result (λ m. IsMappedBy (fmmus self.now) m) }
         ensures spans { IfSome result (λ m. Spans (record { from = from; bits = bits }) (area m)) }
     {
         let mapped = self.fmmus.area()?;
-        let is_whole = spans(&mapped, from, bits)
-            && has_outputs(&self.managers, mapped.out_start, mapped.outs)
-            && has_inputs(&self.managers, mapped.in_start, mapped.ins);
-        if is_whole { Some(mapped) } else { None }
+        if spans(&mapped, from, bits) {
+            Some(mapped)
+        } else {
+            None
+        }
+    }
+
+    /// Whether managers 2 and 3 hold an area that the FMMUs map. False says nothing.
+    pub(super) fn is_held(&self, mapped: &MappedArea) -> bool
+        requires { IsMappedBy (fmmus self.now) mapped.now }
+        ensures { OnTrue result (IsMapped self.now (area mapped.now)) }
+    {
+        has_outputs(&self.managers, mapped.out_start, mapped.outs)
+            && has_inputs(&self.managers, mapped.in_start, mapped.ins)
+    }
+
+    /// Whether an area that the FMMUs map lies in the RAM itself. False says nothing.
+    pub(super) fn is_plain(&self, mapped: &MappedArea) -> bool
+        requires { IsMappedBy (fmmus self.now) mapped.now }
+        ensures { OnTrue result (IsPlain self.now (area mapped.now)) }
+    {
+        let last = RAM_END as u64;
+        if mapped.out_start > last || mapped.in_start > last {
+            return false;
+        }
+        let out_end = 8 * mapped.out_start + mapped.outs;
+        let in_end = 8 * mapped.in_start + mapped.ins;
+        (out_end <= 8 * mapped.in_start || in_end <= 8 * mapped.out_start)
+            && is_free(&self.managers, mapped.out_start, mapped.outs)
+            && is_free(&self.managers, mapped.in_start, mapped.ins)
     }
 
     /// Takes the outputs of an area that a datagram has whole, if it has any and may be written. Answers whether.
@@ -251,5 +299,58 @@ impl Slave {
         let is_written = role.writes() && self.take_area(mapped, from, bytes);
         let is_read = role.reads() && self.give_area(mapped, from, bytes);
         role.count(is_read, is_written)
+    }
+
+    /// Puts the outputs of an area of the RAM itself there.
+    fn put_area(&mut self, mapped: &MappedArea, from: u64, bytes: &[u8])
+        requires small { from + 8 * length bytes.now < 2 ^ 64 }
+        requires plain { IsPlain self.old (area mapped.now) }
+        requires spans { Spans (record { from = from; bits = 8 * length bytes.now }) (area mapped.now) }
+        ensures { self.new ≡ with_memory self.old
+            (copied self.old.memory (8 * mapped.now.out_start) bytes.now (mapped.now.out_at - from) mapped.now.outs) self.old.managers }
+    {
+        let to = 8 * mapped.out_start as usize;
+        let at = (mapped.out_at - from) as usize;
+        copy_by_words(&mut self.memory, to, bytes, at, mapped.outs as usize);
+    }
+
+    /// Gets the inputs of an area of the RAM itself from there.
+    fn get_area(&self, mapped: &MappedArea, from: u64, bytes: &mut [u8])
+        requires small { from + 8 * length bytes.old < 2 ^ 64 }
+        requires room { length self.now.memory ≡ ram_end }
+        requires inside { mapped.now.in_start + bytes_of_bits mapped.now.ins ≤ ram_end }
+        requires first { from ≤ mapped.now.in_at }
+        requires last { mapped.now.in_at + mapped.now.ins ≤ from + 8 * length bytes.old }
+        ensures { bytes.new ≡ copied bytes.old (mapped.now.in_at - from) self.now.memory (8 * mapped.now.in_start) mapped.now.ins }
+    {
+        let to = (mapped.in_at - from) as usize;
+        let at = 8 * mapped.in_start as usize;
+        copy_by_words(bytes, to, &self.memory, at, mapped.ins as usize);
+    }
+
+    /// A datagram that has the whole area, which lies in the RAM itself: its outputs are put there first, as they came, and then
+    /// the inputs gotten, none of which is an output.
+    pub(super) fn exchange_plain(
+        &mut self,
+        mapped: &MappedArea,
+        role: Role,
+        from: u64,
+        bytes: &mut [u8],
+    ) -> u16
+        requires small { from + 8 * length bytes.old < 2 ^ 64 }
+        requires plain { IsPlain self.old (area mapped.now) }
+        requires spans { Spans (record { from = from; bits = 8 * length bytes.old }) (area mapped.now) }
+        ensures slave { self.new ≡ (mapped_met self.old role (record { from = from; bits = 8 * length bytes.old }) bytes.old).slave }
+        ensures bytes { bytes.new ≡ (mapped_met self.old role (record { from = from; bits = 8 * length bytes.old }) bytes.old).bytes }
+        ensures added { result ≡ (mapped_met self.old role (record { from = from; bits = 8 * length bytes.old }) bytes.old).added }
+    {
+        let (reads, writes) = (role.reads(), role.writes());
+        if writes {
+            self.put_area(mapped, from, bytes);
+        }
+        if reads {
+            self.get_area(mapped, from, bytes);
+        }
+        role.count(reads & (mapped.ins > 0), writes & (mapped.outs > 0))
     }
 }
