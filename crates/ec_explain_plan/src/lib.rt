@@ -2,6 +2,8 @@
 #![tactic(auto)]
 
 mod areas;
+mod keys;
 mod linking;
+mod twice;
 
 pub use crate::linking::tell_link_fault;

@@ -1,5 +1,7 @@
 //! Why a link table has no plan: refusals 16 to 25 and 44.
 use crate::areas::{Area, areas_of, first_free, first_met};
+use crate::keys::assignment_key;
+use crate::twice::tell_entry_twice;
 use ec_link::LinkFault;
 use ec_outline::{Part, Step, Telling, counted, listing};
 use ec_regs::registers::{RAM_END, RAM_START};
@@ -43,22 +45,6 @@ fn word_of(direction: Direction) -> &'static str {
     match direction {
         Direction::Out => "output",
         Direction::In => "input",
-    }
-}
-
-/// The key under which a slave assigns PDOs of a direction.
-fn assignment_key(direction: Direction) -> &'static str {
-    match direction {
-        Direction::Out => "out",
-        Direction::In => "in",
-    }
-}
-
-/// The key under which a type has PDOs of a direction.
-fn pdos_key(direction: Direction) -> &'static str {
-    match direction {
-        Direction::Out => "rxpdo",
-        Direction::In => "txpdo",
     }
 }
 
@@ -257,13 +243,14 @@ fn tell_outside(
     let (variable, variable_bits) = (at.variable.name.as_str(), at.variable.bits);
     let end = usize::from(bits.entry_bit).saturating_add(usize::from(bits.count));
     let way = bits_way(telling, link);
+    let are = if bits.count == 1 { "is" } else { "are" };
     if end > usize::from(entry_bits) {
         let linked = bits_text(alloc, bits.entry_bit, bits.count)?;
         let (linked, slave) = (linked.as_str(), at.slave.name.as_str());
         let has = counted(alloc, usize::from(entry_bits), "bit")?;
         let has = has.as_str();
         let words = format!(in alloc;
-            "{linked} of 0x{index:04X}:{subindex} of slave {slave} are linked, and it has {has}"
+            "{linked} of 0x{index:04X}:{subindex} of slave {slave} {are} linked, and it has {has}"
         )?;
         telling.at(&way, Part::Value, words)?;
     } else {
@@ -272,7 +259,7 @@ fn tell_outside(
         let has = counted(alloc, usize::from(variable_bits), "bit")?;
         let has = has.as_str();
         let words = format!(in alloc;
-            "{linked} of variable {variable} are linked, and it has {has}"
+            "{linked} of variable {variable} {are} linked, and it has {has}"
         )?;
         telling.at(&way, Part::Value, words)?;
     }
@@ -377,119 +364,16 @@ fn tell_linked_twice(
     telling.advise("leave one of the links out, or give them different bits")
 }
 
-/// Where an entry stands in a type: the place of its PDO, and its place there.
-#[derive(Clone, Copy)]
-struct Seat {
-    pdo: usize,
-    entry: usize,
-    index: u16,
-    named: Entry,
-}
-
-/// Where the entries stand that are assigned, in order, but for gaps.
-fn seats_of(
-    alloc: Global,
-    kind: &TypeRow,
-    slave: &SlaveRow,
-    direction: Direction,
-) -> Result<Vec<Seat>, AllocError> {
-    let mut seats = Vec::new(alloc);
-    for index in slave.assigned(direction) {
-        for (pdo, row) in kind.pdos(direction).iter().enumerate() {
-            if row.index == *index {
-                for (entry, named) in row.entries.as_slice().iter().enumerate() {
-                    if named.index != 0 {
-                        seats.push(Seat {
-                            pdo,
-                            entry,
-                            index: *index,
-                            named: *named,
-                        })?;
-                    }
-                }
-            }
-        }
-    }
-    Ok(seats)
-}
-
-/// The first entry that stands behind another of its name, and that one.
-fn seats_twice(seats: &[Seat]) -> Option<(Seat, Seat)> {
-    for (second, seat) in seats.iter().enumerate() {
-        for (first, earlier) in seats.iter().enumerate() {
-            let is_same = earlier.named.index == seat.named.index
-                && earlier.named.subindex == seat.named.subindex;
-            if first < second && is_same {
-                return Some((*earlier, *seat));
-            }
-        }
-    }
-    None
-}
-
-/// The way to an entry of a type.
-fn entry_way<'s>(kind: usize, direction: Direction, seat: Seat) -> [Step<'s>; 6] {
-    [
-        Step::Key("type"),
-        Step::Item(kind),
-        Step::Key(pdos_key(direction)),
-        Step::Item(seat.pdo),
-        Step::Key("entries"),
-        Step::Item(seat.entry),
-    ]
-}
-
-/// Tells of a slave that assigns an entry twice.
-fn tell_entry_twice(
-    telling: &mut Telling<'_>,
-    slave: usize,
-    row: &SlaveRow,
-    kind: &TypeRow,
-) -> Result<(), AllocError> {
-    let alloc = telling.alloc;
-    let (name, kind_name) = (row.name.as_str(), kind.name.as_str());
-    for direction in [Direction::Out, Direction::In] {
-        let seats = seats_of(alloc, kind, row, direction)?;
-        if let Some((first, second)) = seats_twice(seats.as_slice()) {
-            let key = assignment_key(direction);
-            let (index, subindex) = (first.named.index, first.named.subindex);
-            let (one, two) = (first.index, second.index);
-            let words = format!(in alloc;
-                "slave {name} assigns PDOs 0x{one:04X} and 0x{two:04X} of type {kind_name}, and both have 0x{index:04X}:{subindex}"
-            )?;
-            let written = [Step::Key("slave"), Step::Item(slave), Step::Key(key)];
-            if telling.has(&written) {
-                telling.at(&written, Part::Value, words)?;
-            } else {
-                telling.at(&[Step::Key("slave"), Step::Item(slave)], Part::Key, words)?;
-            }
-            for seat in [first, second] {
-                let pdo = seat.index;
-                let words = format!(in alloc; "0x{index:04X}:{subindex} in PDO 0x{pdo:04X}")?;
-                telling.at(
-                    &entry_way(row.type_place, direction, seat),
-                    Part::Value,
-                    words,
-                )?;
-            }
-            let advice = format!(in alloc;
-                "assign one of the PDOs alone: `{key} = [0x{one:04X}]`, with the others that it needs; without `{key}` all PDOs of the type are assigned"
-            )?;
-            return telling.advise(advice.as_str());
-        }
-    }
-    Ok(())
-}
-
 /// Tells of a slave with too many bits in a direction.
 fn tell_too_many_bits(
     telling: &mut Telling<'_>,
     table: &Table,
     slave: usize,
     row: &SlaveRow,
+    kind: &TypeRow,
 ) -> Result<(), AllocError> {
     let alloc = telling.alloc;
-    let name = row.name.as_str();
+    let (name, kind_name) = (row.name.as_str(), kind.name.as_str());
     for direction in [Direction::Out, Direction::In] {
         let entries = entries_of(alloc, table, slave, direction)?;
         let bits = bits_of(entries.as_slice());
@@ -499,7 +383,13 @@ fn tell_too_many_bits(
                 "slave {name} has {bits} {word} bits, gaps with them, and 2048 are the most"
             )?;
             telling.at(&[Step::Key("slave"), Step::Item(slave)], Part::Key, words)?;
-            let advice = format!(in alloc; "assign fewer PDOs of its type by `{key}`")?;
+            let advice = if kind.mailbox.is_some() {
+                format!(in alloc; "assign fewer PDOs of its type by `{key}`")?
+            } else {
+                format!(in alloc;
+                    "leave PDOs or entries of type {kind_name} out: it has no mailbox, so all its PDOs are assigned"
+                )?
+            };
             return telling.advise(advice.as_str());
         }
     }
@@ -731,7 +621,7 @@ fn tell_of_slave(
     };
     match fault {
         LinkFault::EntryTwice(_) => tell_entry_twice(telling, slave, row, kind),
-        LinkFault::TooManyBits(_) => tell_too_many_bits(telling, table, slave, row),
+        LinkFault::TooManyBits(_) => tell_too_many_bits(telling, table, slave, row, kind),
         LinkFault::AreasOverlap(_) => tell_overlap(telling, table, slave, row, kind),
         _ => tell_outside_ram(telling, table, slave, row, kind),
     }

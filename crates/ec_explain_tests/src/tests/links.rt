@@ -9,7 +9,7 @@ use std::process::Abort;
 use std::test::Fail;
 
 /// Links, entries and areas as people get them wrong, by a bit or a byte too many.
-static LINKING: [Case; 12] = [
+static LINKING: [Case; 14] = [
     Case {
         number: 16,
         old: "index = 0x7000\nsub = 1",
@@ -48,8 +48,7 @@ static LINKING: [Case; 12] = [
         old: "bits = [0, 0, 1]",
         new: "bits = [0, 1, 1]",
         told: &[
-            "line 59, column 8: bit 1 of 0x7000:1 of slave panel",
-            "1 bit\n",
+            "line 59, column 8: bit 1 of 0x7000:1 of slave panel is linked, and it has 1 bit\n",
         ],
     },
     Case {
@@ -88,10 +87,34 @@ static LINKING: [Case; 12] = [
         old: "[0x6041, 0, 16], [0x6064, 0, 32]",
         new: "[0x6041, 0, 16], [0x6041, 0, 32]",
         told: &[
-            "line 31, column 1: slave x ",
-            "0x6041:0",
+            "line 31, column 1: slave x assigns PDO 0x1A00 of type drive, which has 0x6041:0 twice\n",
             "line 26, column 40: ",
             "line 26, column 57: ",
+            "To do: leave one of the two entries out of PDO 0x1A00, or correct its index or subindex.\n",
+        ],
+    },
+    Case {
+        number: 20,
+        old: "[0x6040, 0, 16], [0x607A, 0, 32]",
+        new: "[0x6040, 0, 16], [0x607A, 0, 32], [0x6040, 0, 4]",
+        told: &[
+            "line 34, column 7: slave x assigns PDO 0x1600 of type drive, which has 0x6040:0 twice\n",
+            "| out = [0x1600]\n       |       ^^^^^^^^\n",
+            "line 23, column 32: ",
+            "line 23, column 66: ",
+            "To do: leave one of the two entries out of PDO 0x1600",
+        ],
+    },
+    Case {
+        number: 20,
+        old: "[0, 0, 6]] } ]",
+        new: "[0, 0, 6]] }, { index = 0x1601, entries = [[0x7000, 2, 1]] } ]",
+        told: &[
+            "line 28, column 1: slave panel assigns PDOs 0x1600 and 0x1601 of type coupler, and both have 0x7000:2\n",
+            "line 11, column 56: ",
+            "line 11, column 115: ",
+            "To do: leave the entry out of PDO 0x1600 or 0x1601",
+            "without a mailbox",
         ],
     },
     Case {
@@ -221,7 +244,20 @@ fn too_many_input_bits(rt: HostRuntime) -> Result<(), Fail> {
     let wanted = [
         "line 15, column 1: slave wide has 2049 input bits",
         "2048",
-        "`in`",
+        "leave PDOs or entries of type t out",
+        "no mailbox",
+    ];
+    assert_told(&rt, 21, text.as_str(), &wanted)?;
+    // with a mailbox, whose line is one more, it may assign what it needs
+    let text = changed(
+        rt.alloc(),
+        text.as_str(),
+        "in_start",
+        "mailbox = [0x2000, 128, 0x2080, 128]\nin_start",
+    )?;
+    let wanted = [
+        "line 16, column 1: slave wide has 2049 input bits",
+        "assign fewer PDOs of its type by `in`",
     ];
     assert_told(&rt, 21, text.as_str(), &wanted)
 }

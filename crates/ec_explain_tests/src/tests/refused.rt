@@ -44,6 +44,12 @@ pub fn changed(alloc: Global, text: &str, old: &str, new: &str) -> Result<String
     Ok(format!(in alloc; "{before}{new}{after}")?)
 }
 
+/// What is told of a text that is refused.
+pub fn told_of(alloc: Global, text: &str) -> Result<String, Fail> {
+    let cause = cause_of(alloc, text).ok_or("not refused")?;
+    Ok(explanation(alloc, text, cause)?)
+}
+
 /// Compares what is told of a text that is refused by a number.
 pub fn assert_told(
     rt: &(impl AllocGlobal + Abort),
@@ -290,8 +296,7 @@ pub static LINKING: [Case; 13] = [
         old: "bits = [0, 0, 1]",
         new: "bits = [0, 0, 2]",
         told: &[
-            "line 59, column 8: bits 0 to 1 of 0x7000:1 of slave panel",
-            "1 bit\n",
+            "line 59, column 8: bits 0 to 1 of 0x7000:1 of slave panel are linked, and it has 1 bit\n",
             "variable lamps has 2",
         ],
     },
@@ -299,7 +304,7 @@ pub static LINKING: [Case; 13] = [
         number: 18,
         old: "bits = [0, 0, 1]",
         new: "bits = [2, 0, 1]",
-        told: &["line 59, column 8: bit 2 of variable lamps", "2 bits\n"],
+        told: &["line 59, column 8: bit 2 of variable lamps is linked, and it has 2 bits\n"],
     },
     Case {
         number: 19,
@@ -516,7 +521,12 @@ fn too_many_bits(rt: HostRuntime) -> Result<(), Fail> {
         text.push_str("] },\n")?;
     }
     text.push_str("]\n[[slave]]\nname = \"wide\"\ntype = \"t\"\n")?;
-    let wanted = ["line 15, column 1: slave wide has 2560 output bits", "2048"];
+    let wanted = [
+        "line 15, column 1: slave wide has 2560 output bits",
+        "2048",
+        "leave PDOs or entries of type t out",
+        "no mailbox",
+    ];
     assert_told(&rt, 21, text.as_str(), &wanted)
 }
 
@@ -528,8 +538,7 @@ fn what_is_shown_of_a_line(rt: HostRuntime) -> Result<(), Fail> {
         text.push_str("          ")?;
     }
     text.push_str("{ var = \"\u{1b}\" } ]\n")?;
-    let cause = cause_of(alloc, text.as_str()).ok_or("not refused")?;
-    let told = explanation(alloc, text.as_str(), cause)?;
+    let told = told_of(alloc, text.as_str())?;
     for line in told.as_str().lines() {
         assert!(rt; line.chars().count() <= 120, "{line}");
         assert!(rt; line.chars().all(|c| !c.is_control()), "{line:?}");
