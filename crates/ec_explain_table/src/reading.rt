@@ -1,5 +1,5 @@
 //! Why a text is no link table: refusals 11 to 15.
-use crate::rule::{Rule, keys_of, lacking, misfit, needs_of, rule_of, taken_by, word_of};
+use crate::rule::{Mark, Rule, keys_of, lacking, misfit, needs_of, rule_of, taken_by, word_of};
 use ec_outline::{Part, Span, Step, Telling, is_among, listing, meant, printable};
 use ec_table::{Fault, Place, Section};
 use std::alloc::{AllocError, Global};
@@ -198,10 +198,9 @@ fn tell_bad_section(
 fn tell_bad_top(telling: &mut Telling<'_>, document: &Table) -> Result<(), AllocError> {
     let alloc = telling.alloc;
     if let Some(version) = document.get("version") {
-        let mut way = Vec::new(alloc);
-        way.push(Step::Key("version"))?;
-        if let Some(words) = misfit(alloc, Rule::Number(1, 2), version, &mut way)? {
-            telling.at(way.as_slice(), Part::Value, words)?;
+        let mut mark = Mark::under(Vec::new(alloc), "version")?;
+        if let Some(words) = misfit(alloc, Rule::Number(1, 2), version, &mut mark)? {
+            telling.at(mark.way.as_slice(), mark.part, words)?;
             return telling.advise(
                 "give version 1 or 2; 2 has sync units, the key `unit` of a slave",
             );
@@ -225,10 +224,9 @@ fn tell_misfit(
     for key in keys_of(place.section) {
         if let Some(value) = members.get(*key) {
             let rule = rule_of(place.section, *key);
-            let mut way = way_to(alloc, place)?;
-            way.push(Step::Key(*key))?;
-            if let Some(words) = misfit(alloc, rule, value, &mut way)? {
-                telling.at(way.as_slice(), Part::Value, words)?;
+            let mut mark = Mark::under(way_to(alloc, place)?, *key)?;
+            if let Some(words) = misfit(alloc, rule, value, &mut mark)? {
+                telling.at(mark.way.as_slice(), mark.part, words)?;
                 let taken = taken_by(alloc, rule)?;
                 let (key, taken) = (*key, taken.as_str());
                 let advice = format!(in alloc; "give `{key}` what it takes: {taken}")?;
@@ -241,23 +239,33 @@ fn tell_misfit(
 }
 
 /// Tells of a slave that assigns PDOs of its own choice, though its type has no mailbox.
-fn tell_fixed(telling: &mut Telling<'_>, place: Place, members: &Table) -> Result<(), AllocError> {
+fn tell_fixed(
+    telling: &mut Telling<'_>,
+    document: &Table,
+    place: Place,
+    members: &Table,
+) -> Result<(), AllocError> {
     let alloc = telling.alloc;
-    let key = if members.get("out").is_some() {
-        "out"
-    } else {
-        "in"
+    let Some(kind) = members.get("type").and_then(|name| name.as_str()) else {
+        return Ok(());
     };
-    let kind = match members.get("type").and_then(|name| name.as_str()) {
-        Some(kind) => kind,
-        None => "",
-    };
-    let mut way = way_to(alloc, place)?;
-    way.push(Step::Key(key))?;
-    let words = format!(in alloc;
-        "type {kind} has no mailbox, so its slaves assign all its PDOs, in the order of the type"
-    )?;
-    telling.at(way.as_slice(), Part::Key, words)?;
+    for (key, list) in [("out", "rxpdo"), ("in", "txpdo")] {
+        let Some(written) = members.get(key) else {
+            continue;
+        };
+        let known = indices_under(alloc, document, kind, list)?;
+        let numbers = numbers_in(alloc, written)?;
+        if numbers.as_slice() != known.as_slice() {
+            let all = indices_text(alloc, known.as_slice())?;
+            let all = all.as_str();
+            let mut way = way_to(alloc, place)?;
+            way.push(Step::Key(key))?;
+            let words = format!(in alloc;
+                "type {kind} has no mailbox, so its slaves assign all its PDOs, in the order of its `{list}`: {all}"
+            )?;
+            telling.at(way.as_slice(), Part::Key, words)?;
+        }
+    }
     telling.advise("leave `out` and `in` out, or give the type a `mailbox`")
 }
 
@@ -275,7 +283,7 @@ fn tell_bad_value(
         return Ok(());
     }
     if place.section == Section::Slave {
-        return tell_fixed(telling, place, members);
+        return tell_fixed(telling, document, place, members);
     }
     Ok(())
 }
@@ -442,6 +450,23 @@ fn indices_text(alloc: Global, indices: &[Option<i64>]) -> Result<String, AllocE
     listing(alloc, words.as_slice())
 }
 
+/// The indices of the PDOs that the type of a name has in a list; none where there is no such type.
+fn indices_under(
+    alloc: Global,
+    document: &Table,
+    kind: &str,
+    list: &str,
+) -> Result<Vec<Option<i64>>, AllocError> {
+    let types = elements_of(document, "type");
+    let Some(at) = element_named(types, kind, types.len()) else {
+        return Ok(Vec::new(alloc));
+    };
+    match types.get(at).and_then(|element| element.get(list)) {
+        Some(pdos) => numbers_in(alloc, pdos),
+        None => Ok(Vec::new(alloc)),
+    }
+}
+
 /// Tells of a PDO that a slave assigns and its type hasn't; whether there was one to tell of.
 fn tell_unknown_pdo(
     telling: &mut Telling<'_>,
@@ -457,14 +482,7 @@ fn tell_unknown_pdo(
     let Some(kind) = members.get("type").and_then(|name| name.as_str()) else {
         return Ok(false);
     };
-    let types = elements_of(document, "type");
-    let Some(at) = element_named(types, kind, types.len()) else {
-        return Ok(false);
-    };
-    let known = match types.get(at).and_then(|element| element.get(keys.1)) {
-        Some(pdos) => numbers_in(alloc, pdos)?,
-        None => Vec::new(alloc),
-    };
+    let known = indices_under(alloc, document, kind, keys.1)?;
     let numbers = numbers_in(alloc, written)?;
     for (item, number) in numbers.as_slice().iter().enumerate() {
         if !known.as_slice().iter().any(|index| *index == *number) {

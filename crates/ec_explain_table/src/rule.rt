@@ -1,5 +1,5 @@
 //! The keys of a link table, what each takes, and in words how a value doesn't fit it.
-use ec_outline::{Step, is_among, listing, meant, printable};
+use ec_outline::{Part, Step, is_among, listing, meant, printable};
 use ec_regs::{FIRST_INPUT_INDEX, FIRST_OUTPUT_INDEX, MAX_ENTRIES, MAX_PDOS, PDO_INDICES};
 use ec_table::Section;
 use std::alloc::{AllocError, Global};
@@ -24,6 +24,22 @@ pub enum Rule {
     LinkBits,
     /// A truth value.
     Truth,
+}
+
+/// Where a fault stands: at the end of a way, by the key there or by its value.
+#[derive(Drop)]
+pub struct Mark<'s> {
+    pub way: Vec<Step<'s>>,
+    pub part: Part,
+}
+
+impl<'s> Mark<'s> {
+    /// The value under a key of what a way leads to.
+    pub fn under(mut way: Vec<Step<'s>>, key: &'s str) -> Result<Mark<'s>, AllocError> {
+        way.push(Step::Key(key))?;
+        let part = Part::Value;
+        Ok(Mark { way, part })
+    }
 }
 
 static SECTIONS: [&str; 5] = ["version", "type", "slave", "variable", "link"];
@@ -243,12 +259,12 @@ fn index_misfit(alloc: Global, value: &Value, first: u16) -> Result<Option<Strin
     Ok(Some(words))
 }
 
-/// What is wrong with a list of so many numbers; the way is led to the one that is wrong.
+/// What is wrong with a list of so many numbers; the mark is led to the one that is wrong.
 fn numbers_misfit(
     alloc: Global,
     value: &Value,
     ranges: &[(u32, u32)],
-    way: &mut Vec<Step<'_>>,
+    mark: &mut Mark<'_>,
 ) -> Result<Option<String>, AllocError> {
     let Some(items) = value.as_array() else {
         return kind_stands(alloc, value, "a list of numbers")
@@ -261,7 +277,7 @@ fn numbers_misfit(
     for (place, (low, high)) in ranges.iter().enumerate() {
         if let Some(item) = items.get(place) {
             if let Some(words) = number_misfit(alloc, item, *low, *high)? {
-                way.push(Step::Item(place))?;
+                mark.way.push(Step::Item(place))?;
                 return Ok(Some(words));
             }
         }
@@ -273,9 +289,9 @@ fn numbers_misfit(
 fn entry_misfit(
     alloc: Global,
     value: &Value,
-    way: &mut Vec<Step<'_>>,
+    mark: &mut Mark<'_>,
 ) -> Result<Option<String>, AllocError> {
-    if let Some(words) = numbers_misfit(alloc, value, &ENTRY, way)? {
+    if let Some(words) = numbers_misfit(alloc, value, &ENTRY, mark)? {
         return Ok(Some(words));
     }
     let index = value.get(0).and_then(|item| item.as_integer());
@@ -287,21 +303,21 @@ fn entry_misfit(
     Ok(None)
 }
 
-/// What is wrong with entries; the way is led to what is wrong.
+/// What is wrong with entries; the mark is led to what is wrong.
 fn entries_misfit(
     alloc: Global,
     value: &Value,
-    way: &mut Vec<Step<'_>>,
+    mark: &mut Mark<'_>,
 ) -> Result<Option<String>, AllocError> {
     let Some(entries) = value.as_array() else {
         return kind_stands(alloc, value, "a list of entries");
     };
     for (place, entry) in entries.as_slice().iter().enumerate() {
-        way.push(Step::Item(place))?;
-        if let Some(words) = entry_misfit(alloc, entry, way)? {
+        mark.way.push(Step::Item(place))?;
+        if let Some(words) = entry_misfit(alloc, entry, mark)? {
             return Ok(Some(words));
         }
-        let _ = way.pop();
+        let _ = mark.way.pop();
     }
     let count = entries.len();
     if count > MAX_ENTRIES {
@@ -311,14 +327,20 @@ fn entries_misfit(
     Ok(None)
 }
 
-/// What is wrong with the keys of a PDO.
-fn pdo_keys_misfit(alloc: Global, members: &toml::Table) -> Result<Option<String>, AllocError> {
+/// What is wrong with the keys of a PDO; the mark is led to the key that is wrong.
+fn pdo_keys_misfit<'s>(
+    alloc: Global,
+    members: &'s toml::Table,
+    mark: &mut Mark<'s>,
+) -> Result<Option<String>, AllocError> {
     for key in members.keys() {
         if !is_among(key.as_str(), &PDO_KEYS) {
             let shown = printable(alloc, key.as_str())?;
             let near = meant(alloc, key.as_str(), &PDO_KEYS)?;
             let (shown, near) = (shown.as_str(), near.as_str());
             let words = format!(in alloc; "`{shown}` is no key of a PDO{near}")?;
+            mark.way.push(Step::Key(key.as_str()))?;
+            mark.part = Part::Key;
             return Ok(Some(words));
         }
     }
@@ -331,53 +353,53 @@ fn pdo_keys_misfit(alloc: Global, members: &toml::Table) -> Result<Option<String
     Ok(Some(words))
 }
 
-/// What is wrong with a PDO; the way is led to what is wrong.
-fn pdo_misfit(
+/// What is wrong with a PDO; the mark is led to what is wrong.
+fn pdo_misfit<'s>(
     alloc: Global,
-    value: &Value,
+    value: &'s Value,
     first: u16,
-    way: &mut Vec<Step<'_>>,
+    mark: &mut Mark<'s>,
 ) -> Result<Option<String>, AllocError> {
     let Some(members) = value.as_table() else {
         return kind_stands(alloc, value, "a PDO, `{ index = .., entries = [..] }`,");
     };
-    if let Some(words) = pdo_keys_misfit(alloc, members)? {
+    if let Some(words) = pdo_keys_misfit(alloc, members, mark)? {
         return Ok(Some(words));
     }
     if let Some(index) = members.get("index") {
         if let Some(words) = index_misfit(alloc, index, first)? {
-            way.push(Step::Key("index"))?;
+            mark.way.push(Step::Key("index"))?;
             return Ok(Some(words));
         }
     }
     if let Some(entries) = members.get("entries") {
-        way.push(Step::Key("entries"))?;
-        let misfit = entries_misfit(alloc, entries, way)?;
+        mark.way.push(Step::Key("entries"))?;
+        let misfit = entries_misfit(alloc, entries, mark)?;
         if misfit.is_some() {
             return Ok(misfit);
         }
-        let _ = way.pop();
+        let _ = mark.way.pop();
     }
     Ok(None)
 }
 
-/// What is wrong with PDOs; the way is led to what is wrong.
-fn pdos_misfit(
+/// What is wrong with PDOs; the mark is led to what is wrong.
+fn pdos_misfit<'s>(
     alloc: Global,
-    value: &Value,
+    value: &'s Value,
     first: u16,
-    way: &mut Vec<Step<'_>>,
+    mark: &mut Mark<'s>,
 ) -> Result<Option<String>, AllocError> {
     let Some(pdos) = value.as_array() else {
         return kind_stands(alloc, value, "a list of PDOs");
     };
     for (place, pdo) in pdos.as_slice().iter().enumerate() {
-        way.push(Step::Item(place))?;
-        let misfit = pdo_misfit(alloc, pdo, first, way)?;
+        mark.way.push(Step::Item(place))?;
+        let misfit = pdo_misfit(alloc, pdo, first, mark)?;
         if misfit.is_some() {
             return Ok(misfit);
         }
-        let _ = way.pop();
+        let _ = mark.way.pop();
     }
     let count = pdos.len();
     if count > MAX_PDOS {
@@ -387,39 +409,39 @@ fn pdos_misfit(
     Ok(None)
 }
 
-/// What is wrong with a list of indices; the way is led to the one that is wrong.
+/// What is wrong with a list of indices; the mark is led to the one that is wrong.
 fn indices_misfit(
     alloc: Global,
     value: &Value,
     first: u16,
-    way: &mut Vec<Step<'_>>,
+    mark: &mut Mark<'_>,
 ) -> Result<Option<String>, AllocError> {
     let Some(indices) = value.as_array() else {
         return kind_stands(alloc, value, "a list of PDO indices");
     };
     for (place, index) in indices.as_slice().iter().enumerate() {
         if let Some(words) = index_misfit(alloc, index, first)? {
-            way.push(Step::Item(place))?;
+            mark.way.push(Step::Item(place))?;
             return Ok(Some(words));
         }
     }
     Ok(None)
 }
 
-/// In words how a value doesn't fit a rule, if it doesn't; the way is led to what is wrong.
-pub fn misfit(
+/// In words how a value doesn't fit a rule, if it doesn't; the mark is led to what is wrong.
+pub fn misfit<'s>(
     alloc: Global,
     rule: Rule,
-    value: &Value,
-    way: &mut Vec<Step<'_>>,
+    value: &'s Value,
+    mark: &mut Mark<'s>,
 ) -> Result<Option<String>, AllocError> {
     match rule {
         Rule::Name => name_misfit(alloc, value),
         Rule::Number(low, high) => number_misfit(alloc, value, low, high),
-        Rule::Mailbox => numbers_misfit(alloc, value, &MAILBOX, way),
-        Rule::Indices(first) => indices_misfit(alloc, value, first, way),
-        Rule::Pdos(first) => pdos_misfit(alloc, value, first, way),
-        Rule::LinkBits => numbers_misfit(alloc, value, &LINK_BITS, way),
+        Rule::Mailbox => numbers_misfit(alloc, value, &MAILBOX, mark),
+        Rule::Indices(first) => indices_misfit(alloc, value, first, mark),
+        Rule::Pdos(first) => pdos_misfit(alloc, value, first, mark),
+        Rule::LinkBits => numbers_misfit(alloc, value, &LINK_BITS, mark),
         Rule::Direction => match value.as_str() {
             Some("out" | "in") => Ok(None),
             Some(_) => Ok(Some(String::from_str(alloc, "a direction is \"out\" or \"in\"")?)),

@@ -1,6 +1,6 @@
 //! Keys, values and names as people get them wrong in each section of a table.
 use crate::tests::machine::{COMPACT, MACHINE};
-use crate::tests::refused::{Case, assert_cases, assert_told};
+use crate::tests::refused::{Case, PLAIN, assert_cases, assert_told, told_of};
 use std::alloc::{AllocError, Global};
 use std::fmt::Write as _;
 use std::test::Fail;
@@ -143,7 +143,10 @@ static VALUES: [Case; 33] = [
         number: 13,
         old: "entries = [[0x6000, 1, 8]]",
         new: "entrys = [[0x6000, 1, 8]]",
-        told: &["line 12, column ", "`entrys` ", "`entries`?"],
+        told: &[
+            "line 12, column 29: `entrys` is no key of a PDO; did you mean `entries`?\n",
+            " } ]\n       |                             ^^^^^^\n",
+        ],
     },
     Case {
         number: 13,
@@ -544,4 +547,66 @@ fn too_many_objects(rt: HostRuntime) -> Result<(), Fail> {
         text.as_str(),
         &["line 9, column 29: 65 entries", "64 "],
     )
+}
+
+/// What stands behind a type without PDOs or a mailbox, whose lines are 1 to 7, and what is told of both.
+const BEHIND_PLAIN: [(&str, &[&str]); 5] = [
+    (
+        "[[type.rxpdo]]\nindex = 0x1600\nentrys = [[0x7000, 1, 1]]\n",
+        &[
+            "line 1, column 1: type 0 begins here\n",
+            "line 10, column 1: `entrys` is no key of a PDO; did you mean `entries`?\n    10 | entrys = [[0x7000, 1, 1]]\n       | ^^^^^^\n",
+            "To do: give `rxpdo` what it takes",
+        ],
+    ),
+    (
+        "[[type.txpdo]]\nindex = 0x1A00\nentries = []\n[[type.txpdo]]\nindx = 0x1A01\nentries = []\n",
+        &[
+            "line 12, column 1: `indx` is no key of a PDO; did you mean `index`?\n    12 | indx = 0x1A01\n       | ^^^^\n",
+        ],
+    ),
+    (
+        "[[type.rxpdo]]\nindex = 0x1600\n",
+        &["line 8, column 1: this PDO lacks entries\n     8 | [[type.rxpdo]]\n"],
+    ),
+    (
+        "rxpdo = [ { index = 0x1600, entries = [] } ]\ntxpdo = [ { index = 0x1A00, entries = [] }, { index = 0x1A01, entries = [] } ]\n[[slave]]\nname = \"a\"\ntype = \"t\"\nout = [0x1600]\nin = [0x1A01, 0x1A00]\n",
+        &[
+            "line 10, column 1: slave 0 begins here\n",
+            "line 14, column 1: type t has no mailbox, ",
+            "`txpdo`: 0x1A00 and 0x1A01\n    14 | in = [0x1A01, 0x1A00]\n       | ^^\n",
+        ],
+    ),
+    (
+        "rxpdo = [ { index = 0x1600, entries = [] } ]\ntxpdo = [ { index = 0x1A00, entries = [] } ]\n[[slave]]\nname = \"a\"\ntype = \"t\"\nin = []\nout = []\n",
+        &[
+            "line 13, column 1: type t has no mailbox, ",
+            "`txpdo`: 0x1A00\n    13 | in = []\n       | ^^\n",
+            "line 14, column 1: type t has no mailbox, ",
+            "`rxpdo`: 0x1600\n    14 | out = []\n       | ^^^\n",
+        ],
+    ),
+];
+
+#[test]
+fn objects_of_a_plain_type(rt: HostRuntime) -> Result<(), Fail> {
+    for (behind, wanted) in BEHIND_PLAIN {
+        let text = format!(in rt.alloc(); "{PLAIN}{behind}")?;
+        assert_told(&rt, 13, text.as_str(), wanted)?;
+    }
+    Ok(())
+}
+
+// Where one of two lists is right, only the other is told of.
+#[test]
+fn a_list_that_is_right(rt: HostRuntime) -> Result<(), Fail> {
+    let (behind, _) = BEHIND_PLAIN[3];
+    let text = format!(in rt.alloc(); "{PLAIN}{behind}")?;
+    let told = told_of(rt.alloc(), text.as_str())?;
+    assert!(rt;
+        told.as_str().find("line 13, ").is_none(),
+        "{}",
+        told.as_str()
+    );
+    Ok(())
 }
