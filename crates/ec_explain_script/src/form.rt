@@ -136,10 +136,25 @@ impl Form {
     }
 }
 
-/// The form that words begin as.
-pub fn form_of(words: &[Word<'_>]) -> Option<Form> {
+/// Whether one word alone never stands behind a head of `expect`: in a line with one, the second word of the head is the name
+/// of a variable, and the word behind it a value.
+fn is_name_before_value(head: &str) -> bool {
+    head == "expect ready" || head == "expect state"
+}
+
+/// The word between `expect` and the only word behind it.
+pub fn word_expected<'t>(words: &[Word<'t>]) -> Option<&'t str> {
+    match words {
+        [verb, name, _] if verb.text == "expect" => Some(name.text),
+        _ => None,
+    }
+}
+
+/// The form that words begin as; `is_variable` says whether a variable has the word between `expect` and the only word behind
+/// it as its name.
+pub fn form_of(words: &[Word<'_>], is_variable: bool) -> Option<Form> {
     for (head, text) in LINES {
-        if begins(words, head) {
+        if begins(words, head) && !(is_variable && is_name_before_value(head)) {
             return Some(Form {
                 head,
                 needs: needs_of(head),

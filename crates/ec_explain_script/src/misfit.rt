@@ -7,14 +7,53 @@ use std::alloc::{AllocError, Global};
 /// The names of the AL states.
 static STATES: [&str; 4] = ["INIT", "PREOP", "SAFEOP", "OP"];
 
+/// What is wrong with a word, and what to do about it.
+#[derive(Drop)]
+pub struct Wrong {
+    pub words: String,
+    pub advice: &'static str,
+}
+
+/// Whether a word is decimal digits.
+fn has_digits(word: &str) -> bool {
+    !word.is_empty() && word.bytes().all(|byte| byte.is_ascii_digit())
+}
+
+/// Whether a word is hex digits.
+fn has_hex_digits(word: &str) -> bool {
+    !word.is_empty() && word.bytes().all(|byte| byte.is_ascii_hexdigit())
+}
+
 /// Whether a word is decimal digits that 64 bits hold.
 fn is_number(word: &str) -> bool {
-    !word.starts_with('+') && word.parse::<u64>().is_ok()
+    has_digits(word) && word.parse::<u64>().is_ok()
 }
 
 /// Whether a word is hex digits that 64 bits hold.
 fn is_hex(word: &str) -> bool {
-    !word.starts_with('+') && u64::from_str_radix(word, 16).is_ok()
+    has_hex_digits(word) && u64::from_str_radix(word, 16).is_ok()
+}
+
+/// What 64 bits hold, where they don't hold the number that a word writes; a byte and a number of times have bounds of their own.
+fn past_64_bits(kind: Kind, word: &str) -> Option<&'static str> {
+    if !matches!(kind, Kind::Slave | Kind::Number | Kind::Value) {
+        return None;
+    }
+    if has_digits(word) && !is_number(word) {
+        return Some("is too large: 64 bits hold no more than 18446744073709551615");
+    }
+    if kind != Kind::Value {
+        return None;
+    }
+    match (word.strip_prefix('-'), word.strip_prefix("0x")) {
+        (Some(digits), _) if has_digits(digits) && !is_number(digits) => {
+            Some("is too small: 64 bits hold no less than -9223372036854775808")
+        }
+        (None, Some(digits)) if has_hex_digits(digits) && !is_hex(digits) => {
+            Some("is too large: 64 bits hold no more than 0xFFFFFFFFFFFFFFFF")
+        }
+        _ => None,
+    }
 }
 
 /// Whether a word is a number from the least to the most.
@@ -67,18 +106,26 @@ fn other(alloc: Global, word: &str, what: &str) -> Result<String, AllocError> {
     format!(in alloc; "`{shown}` is no {what}")
 }
 
+/// Whether a variable of a table has a name.
+pub fn names_variable(table: &Table, name: &str) -> bool {
+    table
+        .variables()
+        .iter()
+        .any(|row| row.name.as_str() == name)
+}
+
 /// What is wrong with the name of a variable of a table, if something is.
 fn no_variable(alloc: Global, table: &Table, word: &str) -> Result<Option<String>, AllocError> {
-    let names = variables_of(alloc, table)?;
-    if is_among(word, names.as_slice()) {
+    if names_variable(table, word) {
         return Ok(None);
     }
+    let names = variables_of(alloc, table)?;
     Ok(Some(unknown(alloc, "variable", word, names.as_slice())?))
 }
 
 /// What is wrong with the number or the name of a slave of a table, if something is.
 fn no_slave(alloc: Global, table: &Table, word: &str) -> Result<Option<String>, AllocError> {
-    if word.bytes().all(|byte| byte.is_ascii_digit()) {
+    if has_digits(word) {
         return Ok(None);
     }
     let names = slaves_of(alloc, table)?;
@@ -113,8 +160,8 @@ fn fits(kind: Kind, word: &str) -> (bool, &'static str) {
     }
 }
 
-/// What is wrong with a word that is to be of a kind, if something is; its names are the table's, where there is one.
-pub fn misfit(
+/// What is wrong with a word that isn't of a kind, if something is; its names are the table's, where there is one.
+fn other_than(
     alloc: Global,
     table: Option<&Table>,
     kind: Kind,
@@ -134,11 +181,44 @@ pub fn misfit(
 }
 
 /// What to do about a word that is not of a kind.
-pub fn remedy(kind: Kind) -> &'static str {
+fn remedy(kind: Kind) -> &'static str {
     match kind {
         Kind::Variable => "correct the name, or add a variable of that name to the table",
         Kind::Slave =>
             "correct the name, add a slave of that name to the table, or write its number",
+        Kind::Times => "write a number from 1 to 1000000",
         _ => "correct it; `ecat sim --help` lists the lines that a script has",
+    }
+}
+
+/// What to do about a number that 64 bits don't hold.
+fn remedy_within(kind: Kind) -> &'static str {
+    match kind {
+        Kind::Slave => "write the number of a slave, the first of which is 0, or its name",
+        Kind::Value => "write a value that the variable has the bits for",
+        _ => "write a smaller number",
+    }
+}
+
+/// What is wrong with a word that is to be of a kind, if something is; its names are the table's, where there is one.
+pub fn misfit(
+    alloc: Global,
+    table: Option<&Table>,
+    kind: Kind,
+    word: &str,
+) -> Result<Option<Wrong>, AllocError> {
+    if let Some(held) = past_64_bits(kind, word) {
+        let shown = printable(alloc, word)?;
+        let shown = shown.as_str();
+        let words = format!(in alloc; "`{shown}` {held}")?;
+        let advice = remedy_within(kind);
+        return Ok(Some(Wrong { words, advice }));
+    }
+    match other_than(alloc, table, kind, word)? {
+        Some(words) => {
+            let advice = remedy(kind);
+            Ok(Some(Wrong { words, advice }))
+        }
+        None => Ok(None),
     }
 }

@@ -1,6 +1,6 @@
 //! Which line of a script stands for nothing: refusal 39; and that what lines expect isn't so: 45.
-use crate::form::{Form, Kind, form_of, verbs};
-use crate::misfit::{misfit, remedy};
+use crate::form::{Form, Kind, form_of, verbs, word_expected};
+use crate::misfit::{misfit, names_variable};
 use crate::word::{Word, without_comment, words_of};
 use ec_outline::{Span, Telling, meant, printable};
 use ec_table::{Table, read_table};
@@ -70,8 +70,8 @@ fn tell_misfit(
             return Ok(false);
         };
         if let Some(wrong) = misfit(alloc, table, kind, word.text)? {
-            telling.at_span(word.span(), wrong)?;
-            telling.advise(remedy(kind))?;
+            telling.at_span(word.span(), wrong.words)?;
+            telling.advise(wrong.advice)?;
             return Ok(true);
         }
     }
@@ -89,6 +89,14 @@ fn span_of(words: &[Word<'_>]) -> Span {
     }
 }
 
+/// Whether a variable of the table has the word between `expect` and the only word behind it as its name.
+fn expects_variable(table: Option<&Table>, words: &[Word<'_>]) -> bool {
+    match (table, word_expected(words)) {
+        (Some(table), Some(name)) => names_variable(table, name),
+        _ => false,
+    }
+}
+
 /// Tells what is wrong with the words of a line that isn't repeated.
 fn tell_words(
     telling: &mut Telling<'_>,
@@ -98,7 +106,7 @@ fn tell_words(
     let Some(first) = words.first() else {
         return Ok(());
     };
-    let Some(form) = form_of(words) else {
+    let Some(form) = form_of(words, expects_variable(table, words)) else {
         return tell_unknown_verb(telling, *first);
     };
     if tell_misfit(telling, table, form, words)? {
@@ -118,8 +126,8 @@ fn tell_repeat(
         return tell_form(telling, span_of(words), "repeat N LINE");
     };
     if let Some(wrong) = misfit(alloc, None, Kind::Times, times.text)? {
-        telling.at_span(times.span(), wrong)?;
-        return telling.advise("write a number from 1 to 1000000");
+        telling.at_span(times.span(), wrong.words)?;
+        return telling.advise(wrong.advice);
     }
     if next.text == "repeat" {
         let wrong = String::from_str(alloc, "a line that repeats another isn't repeated")?;

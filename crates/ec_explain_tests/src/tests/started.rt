@@ -233,7 +233,11 @@ static BAD_LINES: [(&str, usize, &[&str]); 30] = [
     ("set lamps 0xg", 11, &["`0xg` is no value"]),
     ("set lamps +1", 11, &["`+1` is no value"]),
     ("set lamps --1", 11, &["`--1` is no value"]),
-    ("set lamps 18446744073709551616", 11, &["is no value"]),
+    (
+        "set lamps 18446744073709551616",
+        11,
+        &["`18446744073709551616` is too large: 64 bits hold no more than 18446744073709551615\n"],
+    ),
     ("set lamps", 1, &["isn't written as `set NAME VALUE`"]),
     ("set lamps 1 2", 1, &["isn't written as `set NAME VALUE`"]),
     ("pass x", 6, &["`x` is no number"]),
@@ -430,7 +434,11 @@ static OTHER_LINES: [(&str, usize, &[&str]); 56] = [
     (
         "pass 18446744073709551616",
         6,
-        &["`18446744073709551616` is no number"],
+        &[
+            "`18446744073709551616` is too large: 64 bits hold no more than 18446744073709551615\n",
+            "| pass 18446744073709551616\n       |      ^^^^^^^^^^^^^^^^^^^^\n",
+            "To do: write a smaller number.\n",
+        ],
     ),
     ("serve", 1, &["`serve S`"]),
     (
@@ -459,7 +467,7 @@ static OTHER_LINES: [(&str, usize, &[&str]); 56] = [
     (
         "set lamps 0x10000000000000000",
         11,
-        &["`0x10000000000000000` is no value"],
+        &["`0x10000000000000000` is too large: 64 bits hold no more than 0xFFFFFFFFFFFFFFFF\n"],
     ),
     (
         "set l\u{e4}mps 1",
@@ -514,14 +522,16 @@ static OTHER_LINES: [(&str, usize, &[&str]); 56] = [
     ("set # lamps 1", 1, &["`set NAME VALUE`"]),
 ];
 
-/// Compares what is told of line 2 behind the machine's table: the column of what is at fault, and these phrases.
+/// Compares what is told of line 2 behind the machine's table, or one of as many lines: the column of what is at fault, and
+/// these phrases.
 fn assert_line(
     rt: &(impl AllocGlobal + Abort),
+    table: &str,
     line: &str,
     column: usize,
     wanted: &[&str],
 ) -> Result<(), Fail> {
-    let text = format!(in rt.alloc(); "{MACHINE}%%\n\n{line}\n")?;
+    let text = format!(in rt.alloc(); "{table}%%\n\n{line}\n")?;
     let from = text.len().saturating_sub(line.len()).saturating_sub(2);
     let cause = Cause::Script { from, line: 2 };
     assert_told(rt, text.as_str(), cause, wanted)?;
@@ -532,7 +542,137 @@ fn assert_line(
 #[test]
 fn each_kind_of_line(rt: HostRuntime) -> Result<(), Fail> {
     for (line, column, wanted) in OTHER_LINES {
-        assert_line(&rt, line, column, wanted)?;
+        assert_line(&rt, MACHINE, line, column, wanted)?;
+    }
+    Ok(())
+}
+
+/// Lines with numbers that 64 bits don't hold, in each place where one of 64 bits may stand; behind them lines whose numbers have
+/// other bounds.
+static PAST_64_BITS: [(&str, usize, &[&str]); 18] = [
+    (
+        "serve 18446744073709551616",
+        7,
+        &[
+            "`18446744073709551616` is too large: 64 bits hold no more than 18446744073709551615\n",
+            "| serve 18446744073709551616\n       |       ^^^^^^^^^^^^^^^^^^^^\n",
+            "To do: write the number of a slave, the first of which is 0, or its name.\n",
+        ],
+    ),
+    (
+        "fault 99999999999999999999",
+        7,
+        &["`99999999999999999999` is too large"],
+    ),
+    (
+        "reset 18446744073709551616",
+        7,
+        &["is too large", "its name"],
+    ),
+    (
+        "put 18446744073709551616 0 1",
+        5,
+        &["is too large", "its name"],
+    ),
+    (
+        "put 0 18446744073709551616 1",
+        7,
+        &["is too large", "a smaller"],
+    ),
+    (
+        "get 18446744073709551616 0",
+        5,
+        &["is too large", "its name"],
+    ),
+    (
+        "get 0 18446744073709551616",
+        7,
+        &["is too large", "a smaller"],
+    ),
+    (
+        "expect state 18446744073709551616 OP",
+        14,
+        &["is too large", "its name"],
+    ),
+    (
+        "repeat 2 serve 18446744073709551616",
+        16,
+        &["is too large", "its name"],
+    ),
+    ("lose 18446744073709551616", 6, &["is too large"]),
+    ("return 18446744073709551616", 8, &["is too large"]),
+    ("expect taken 18446744073709551616", 14, &["is too large"]),
+    ("expect failed 18446744073709551616", 15, &["is too large"]),
+    (
+        "expect lamps 18446744073709551616",
+        14,
+        &["is too large", "the bits for"],
+    ),
+    (
+        "in buttons -18446744073709551616",
+        12,
+        &["`-18446744073709551616` is too small: 64 bits hold no less than -9223372036854775808\n"],
+    ),
+    (
+        "repeat 18446744073709551616 cycle",
+        8,
+        &["is no number of times: it is 1 to 1000000"],
+    ),
+    (
+        "put 0 0 18446744073709551616",
+        9,
+        &["is no byte: it is 0 to 255"],
+    ),
+    (
+        "expect state 0 OP 18446744073709551616",
+        19,
+        &["is no AL status code: it has four hex digits"],
+    ),
+];
+
+#[test]
+fn numbers_past_64_bits(rt: HostRuntime) -> Result<(), Fail> {
+    for (line, column, wanted) in PAST_64_BITS {
+        assert_line(&rt, MACHINE, line, column, wanted)?;
+    }
+    Ok(())
+}
+
+/// Lines where `expect` stands before a variable's name that is one of its own words too: with a word behind it, that is a value.
+static SAME_NAMES: [(&str, usize, &[&str]); 8] = [
+    (
+        "expect ready x",
+        14,
+        &[
+            "`x` is no value: it is decimal",
+            "| expect ready x\n       |              ^\n",
+        ],
+    ),
+    ("expect state x", 14, &["`x` is no value: it is decimal"]),
+    ("expect state -", 14, &["`-` is no value"]),
+    ("repeat 2 expect ready x", 23, &["`x` is no value"]),
+    ("expect ready 0 1", 1, &["isn't written as `expect ready`"]),
+    (
+        "expect state 0 OPP",
+        16,
+        &["`OPP` is no AL state: it is INIT, PREOP, SAFEOP or OP"],
+    ),
+    (
+        "expect state nobody OP",
+        14,
+        &["no slave has the name `nobody`"],
+    ),
+    ("expect taken x", 14, &["`x` is no number"]),
+];
+
+#[test]
+fn variables_named_as_words(rt: HostRuntime) -> Result<(), Fail> {
+    let alloc = rt.alloc();
+    let table = MACHINE.replace(alloc, "\"lamps\"", "\"ready\"")?;
+    let table = table.as_str().replace(alloc, "\"buttons\"", "\"state\"")?;
+    let table = table.as_str().replace(alloc, "\"x_target\"", "\"taken\"")?;
+    for (line, column, wanted) in SAME_NAMES {
+        assert_line(&rt, table.as_str(), line, column, wanted)?;
     }
     Ok(())
 }
