@@ -1,7 +1,7 @@
 //! Why an event can't be made, by the world as it is.
-use crate::places::{Firmware, no_frame, no_slave, not_written, slave_name};
+use crate::places::{Firmware, has_locked_outputs, no_frame, no_slave, not_written, slave_name};
 use crate::reasons::has_cycle;
-use ec_outline::printable;
+use ec_outline::{counted, printable};
 use ec_table::{Direction, Table};
 use ec_world::{Event, Progress, World};
 use std::alloc::{AllocError, Global};
@@ -27,6 +27,17 @@ fn why_no_start(alloc: Global, world: &World<'_>) -> Result<String, AllocError> 
     )
 }
 
+/// That a cycle needs more slots than are free.
+fn few_slots(alloc: Global, free: usize, parts: usize) -> Result<String, AllocError> {
+    let frames = counted(alloc, parts, "frame")?;
+    let held = "frames of earlier cycles are on their way";
+    match free {
+        0 => format!(in alloc; "a cycle sends {frames}, and no slot is free: {held}"),
+        1 => format!(in alloc; "a cycle sends {frames}, and 1 slot is free: {held}"),
+        free => format!(in alloc; "a cycle sends {frames}, and {free} slots are free: {held}"),
+    }
+}
+
 /// Why no cycle is begun.
 fn why_no_begin(alloc: Global, world: &World<'_>) -> Result<String, AllocError> {
     if !world.is_ready() {
@@ -37,9 +48,7 @@ fn why_no_begin(alloc: Global, world: &World<'_>) -> Result<String, AllocError> 
     }
     let (free, parts) = (free_slots(world), world.parts());
     if free < parts {
-        return format!(in alloc;
-            "a cycle sends {parts} frames, and {free} slots are free: frames of earlier cycles are on their way"
-        );
+        return few_slots(alloc, free, parts);
     }
     format!(in alloc; "there is no number left for its frames")
 }
@@ -83,8 +92,12 @@ fn why_no_return(alloc: Global, world: &World<'_>, slot: usize) -> Result<String
     let Some(frame) = world.progress(slot) else {
         return no_frame(alloc, world, slot);
     };
-    let (passed, slaves) = (frame.passed, world.slaves());
-    format!(in alloc; "the frame in slot {slot} has passed {passed} of {slaves} slaves")
+    match (frame.passed, world.slaves()) {
+        (_, 1) => format!(in alloc; "the frame in slot {slot} hasn't passed the slave"),
+        (passed, slaves) => {
+            format!(in alloc; "the frame in slot {slot} has passed {passed} of {slaves} slaves")
+        }
+    }
 }
 
 /// How many bytes a slave has of the outputs or inputs.
@@ -94,6 +107,18 @@ fn bytes_of(world: &World<'_>, slave: usize, direction: Direction) -> usize {
         (Some(settings), Direction::Out) => settings.share.outs.div_ceil(8),
         (Some(settings), Direction::In) => settings.share.ins.div_ceil(8),
     }
+}
+
+/// That an application reads no outputs since a fault has locked them, and what opens them.
+fn locked_words(alloc: Global, world: &World<'_>, name: &str) -> Result<String, AllocError> {
+    if world.is_ready() {
+        return format!(in alloc;
+            "the outputs of `{name}` are locked since its fault: INIT alone opens them, and no start-up follows one that is ready"
+        );
+    }
+    format!(in alloc;
+        "the outputs of `{name}` are locked since its fault: INIT alone opens them, with which a start-up begins"
+    )
 }
 
 /// Why an application doesn't write a byte of its inputs, or read one of its outputs.
@@ -125,6 +150,9 @@ fn why_no_byte(
         count if place >= count => {
             let last = count.saturating_sub(1);
             format!(in alloc; "`{name}` has no byte {place} of {what}: the last is byte {last}")
+        }
+        _ if direction == Direction::Out && has_locked_outputs(world, slave) => {
+            locked_words(alloc, world, name.as_str())
         }
         _ => {
             format!(in alloc;

@@ -6,5 +6,6 @@ mod places;
 mod reasons;
 mod wanted;
 
-pub use crate::reasons::{has_cycle, reason_text};
+pub use crate::places::misfit_words;
+pub use crate::reasons::{has_cycle, reason_line, reason_text};
 pub use crate::wanted::Reasons;

@@ -1,11 +1,14 @@
 //! Slaves, variables and slots as a person names them, and what they don't have.
-use ec_outline::printable;
+use ec_outline::{counted, printable};
 use ec_table::{Direction, Table, VariableRow};
 use ec_world::World;
 use std::alloc::{AllocError, Global};
 
 /// The register of the AL status (ETG.1000.4), whose low four bits are the state.
 const AL_STATUS: u16 = 0x0130;
+
+/// The byte of sync manager 2, of the outputs, that the slave's side sets (ETG.1000.4): its bit 0 deactivates the manager.
+const OUTPUTS_LOCK: u16 = 0x0817;
 
 /// How far a firmware is.
 #[derive(Clone, Copy, Debug, PartialEq, Eq, Drop)]
@@ -46,6 +49,11 @@ impl Firmware {
     }
 }
 
+/// Whether the outputs of a slave are locked: a fault does that, and only INIT ends it.
+pub fn has_locked_outputs(world: &World<'_>, slave: usize) -> bool {
+    slave < world.slaves() && world.slave(slave).byte(OUTPUTS_LOCK).unwrap_or(0) & 1 == 1
+}
+
 /// The name of a slave, if the table has it.
 pub fn slave_name(table: &Table, slave: usize) -> Option<&str> {
     table.slaves().get(slave).map(|row| row.name.as_str())
@@ -80,14 +88,20 @@ pub fn greatest(bits: u8) -> u64 {
     }
 }
 
+/// How far below 0 the least value of so many bits is, as a two's complement.
+fn depth(bits: u8) -> u64 {
+    match 1_u64.checked_shl(u32::from(bits.saturating_sub(1))) {
+        Some(power) => power,
+        None => 0,
+    }
+}
+
 /// That a variable has too few bits for a value.
 fn misfit(alloc: Global, row: &VariableRow) -> Result<String, AllocError> {
     let name = printable(alloc, row.name.as_str())?;
-    let (bits, most) = (row.bits, greatest(row.bits));
-    match bits {
-        1 => format!(in alloc; "`{name}` has 1 bit, and its greatest value is 1"),
-        bits => format!(in alloc; "`{name}` has {bits} bits, and its greatest value is {most}"),
-    }
+    let bits = counted(alloc, usize::from(row.bits), "bit")?;
+    let (least, most) = (depth(row.bits), greatest(row.bits));
+    format!(in alloc; "`{name}` has {bits}, and its values go from -{least} to {most}")
 }
 
 /// Why a variable doesn't become a value by an act that writes variables of one direction.
@@ -112,8 +126,8 @@ pub fn not_written(
     }
 }
 
-/// That a variable has too few bits for a value that isn't even a number of 64 bits, or is below what they can be.
-pub fn never_fits(alloc: Global, table: &Table, variable: usize) -> Result<String, AllocError> {
+/// That a variable has too few bits for a value, also for one that is no number of 64 bits.
+pub fn misfit_words(alloc: Global, table: &Table, variable: usize) -> Result<String, AllocError> {
     match table.variables().get(variable) {
         None => format!(in alloc; "the table has no variable {variable}"),
         Some(row) => misfit(alloc, row),

@@ -1,10 +1,10 @@
 //! Why a line ended at an event that can't be made, as the line that is printed of it.
-ghost use Rattle.std.specs.Prelude.{◌≡◌, ◌≢◌, [], All, IfOk, is_some, string_bytes};
+ghost use Rattle.std.specs.Prelude.{◌≡◌, ◌≢◌, ◌∷◌, ◌++◌, [], All, IfOk, codes, is_some, string_bytes};
 ghost use Rattle.ec_world.specs.Watching.{sent_of};
 ghost use Rattle.ec_why.specs.Reasons.{IsReason};
 
 use crate::events::{event_words, frame_words};
-use crate::places::{Firmware, greatest, never_fits, not_written};
+use crate::places::{Firmware, greatest, misfit_words, not_written};
 use ec_link::{Link, Variable};
 use ec_script::Act;
 use ec_table::{Direction, Table};
@@ -79,23 +79,41 @@ fn act_words(
     match act {
         Act::One(event) => event_words(alloc, table, world, event),
         Act::Input(variable, value) => input_words(alloc, table, world, variable, value),
-        Act::Never(variable) => never_fits(alloc, table, variable),
+        Act::Never(variable) => misfit_words(alloc, table, variable),
         Act::Ready => event_words(alloc, table, world, Event::StartNext),
         Act::Cycle => cycle_words(alloc, table, world, had_cycle),
         Act::Expect(_) | Act::Show => String::from_str(alloc, PLAIN),
     }
 }
 
-/// Words, of which there are some, and which are on one line.
+/// Words, of which there are some, and which are on one line: these, if they are so.
 fn on_one_line(words: &str) -> &str
     ensures some { result.now ≢ [] }
     ensures one_line { All (λ b. b ≢ 10) result.now }
+    ensures kept { words.now ≢ [] → All (λ b. b ≢ 10) words.now → result.now ≡ words.now }
 {
     if words.is_empty() || words.as_bytes().contains(&b'\n') {
         PLAIN
     } else {
         words
     }
+}
+
+/// Words as a line that says why, with two blanks before them. They are to be on one line: where they aren't, or there are none,
+/// other words stand there.
+///
+/// # Errors
+///
+/// `AllocError` where there is no memory for the text.
+pub fn reason_line(alloc: Global, words: &str) -> Result<String, AllocError>
+    ensures form { IfOk result (λ text. IsReason (string_bytes text)) }
+    ensures words { IfOk result (λ text. words.now ≢ [] → All (λ b. b ≢ 10) words.now
+        → string_bytes text ≡ codes "  " ++ (words.now ++ (10 ∷ []))) }
+{
+    let mut text = String::from_str(alloc, "  ")?;
+    text.push_str(on_one_line(words))?;
+    text.push_str("\n")?;
+    Ok(text)
 }
 
 /// Why an act ended at an event that can't be made, as a line with two blanks before it. The world is the one that the act left,
@@ -115,8 +133,5 @@ pub fn reason_text(
     ensures { IfOk result (λ text. IsReason (string_bytes text)) }
 {
     let words = act_words(alloc, table, world, act, had_cycle)?;
-    let mut text = String::from_str(alloc, "  ")?;
-    text.push_str(on_one_line(words.as_str()))?;
-    text.push_str("\n")?;
-    Ok(text)
+    reason_line(alloc, words.as_str())
 }

@@ -27,7 +27,7 @@ link = [ { var = "a", slave = "valves", index = 0x7000, sub = 1 }, { var = "b", 
 "#;
 
 /// Scripts on this table, and for each `no` the number of its line and why; `;` stands for the end of a line.
-const RUNS: [(&str, &str); 20] = [
+const RUNS: [(&str, &str); 23] = [
     ("ready;cycle;begin;close", ""),
     (
         "begin;cycle;ready;begin;begin;cycle;start;ready",
@@ -76,20 +76,20 @@ const RUNS: [(&str, &str); 20] = [
     ),
     (
         "set a 16;set a -9;set c 1;set flag 2;set b 4096;set wide -9223372036854775809",
-        "1  `a` has 4 bits, and its greatest value is 15;\
-         2  `a` has 4 bits, and its greatest value is 15;\
+        "1  `a` has 4 bits, and its values go from -8 to 15;\
+         2  `a` has 4 bits, and its values go from -8 to 15;\
          3  `c` comes from slaves: `in c VALUE` writes it there;\
-         4  `flag` has 1 bit, and its greatest value is 1;\
-         5  `b` has 12 bits, and its greatest value is 4095;\
-         6  `wide` has 64 bits, and its greatest value is 18446744073709551615;",
+         4  `flag` has 1 bit, and its values go from -1 to 1;\
+         5  `b` has 12 bits, and its values go from -2048 to 4095;\
+         6  `wide` has 64 bits, and its values go from -9223372036854775808 to 18446744073709551615;",
     ),
     (
         "in c 1;in a 1;in d 65536;in c 16;in c -9",
         "1  `keys` is in INIT: its application has inputs in SAFEOP and OP;\
          2  `a` goes to slaves: `set a VALUE` sets it;\
-         3  `d` has 16 bits, and its greatest value is 65535;\
-         4  `c` has 4 bits, and its greatest value is 15;\
-         5  `c` has 4 bits, and its greatest value is 15;",
+         3  `d` has 16 bits, and its values go from -32768 to 65535;\
+         4  `c` has 4 bits, and its values go from -8 to 15;\
+         5  `c` has 4 bits, and its values go from -8 to 15;",
     ),
     (
         "ready;reset drive;in d 1;in c 1",
@@ -144,6 +144,25 @@ const RUNS: [(&str, &str); 20] = [
         "5  `drive` has no byte 2 of inputs: the last is byte 1;\
          6  `keys` has no byte 1 of inputs: the last is byte 0;",
     ),
+    // a fault locks the outputs, also of a slave that has none, and no inputs
+    (
+        "ready;fault valves;get valves 0;put valves 0 1;get valves 1;fault keys;get keys 0;put keys 0 1",
+        "3  the outputs of `valves` are locked since its fault: INIT alone opens them, and no start-up follows one that is ready;\
+         4  `valves` has no inputs;\
+         5  `valves` has no byte 1 of outputs: the last is byte 0;\
+         7  `keys` has no outputs;",
+    ),
+    (
+        "ready;get drive 0;fault drive;get drive 1;put drive 0 1;put drive 1 2;get drive 0;reset drive;get drive 0",
+        "4  the outputs of `drive` are locked since its fault: INIT alone opens them, and no start-up follows one that is ready;\
+         7  the outputs of `drive` are locked since its fault: INIT alone opens them, and no start-up follows one that is ready;\
+         9  `drive` is in INIT: its application has outputs in SAFEOP and OP;",
+    ),
+    // the least value that a variable has is its own, and the greatest
+    (
+        "set a -8;set a 15;set a 0;set flag -1;set flag 1;set flag -2;set wide -9223372036854775808",
+        "6  `flag` has 1 bit, and its values go from -1 to 1;",
+    ),
 ];
 
 /// The same with the second slave in a sync unit of its own: of a cycle's two frames that of the lower unit is older.
@@ -180,8 +199,8 @@ const SHARED_RUNS: [(&str, &str); 2] = [
     ),
     (
         "in none 15;in none 16;in both 256",
-        "2  `none` has 4 bits, and its greatest value is 15;\
-         3  `both` has 8 bits, and its greatest value is 255;",
+        "2  `none` has 4 bits, and its values go from -8 to 15;\
+         3  `both` has 8 bits, and its values go from -128 to 255;",
     ),
 ];
 
@@ -315,9 +334,51 @@ fn tells_of_full_slots(rt: HostRuntime) -> Result<(), Fail> {
     let table = TABLE.replace(rt.alloc(), "type = \"di4\" }", "type = \"di4\", unit = 1 }")?;
     let table = format!(in rt.alloc(); "version = 2\n{table}")?;
     let cycles = "begin;close;".repeat(rt.alloc(), 32)?;
-    let script = format!(in rt.alloc(); "ready;{cycles}begin;cycle;lose 5;lose 6;begin")?;
+    let script = format!(in rt.alloc(); "ready;{cycles}begin;cycle;lose 5;begin;lose 6;begin")?;
     let reasons =
-        "66  a cycle sends 2 frames, and 0 slots are free: frames of earlier cycles are on their way;\
-         67  a cycle sends 2 frames, and 0 slots are free: frames of earlier cycles are on their way;";
+        "66  a cycle sends 2 frames, and no slot is free: frames of earlier cycles are on their way;\
+         67  a cycle sends 2 frames, and no slot is free: frames of earlier cycles are on their way;\
+         69  a cycle sends 2 frames, and 1 slot is free: frames of earlier cycles are on their way;";
     expect_reason(&rt, table.as_str(), script.as_str(), reasons)
+}
+
+/// Twenty-one cycles of three frames each leave one slot, and one that is lost a second.
+#[test]
+fn tells_of_two_free_slots(rt: HostRuntime) -> Result<(), Fail> {
+    let table = TABLE.replace(rt.alloc(), "type = \"di4\" }", "type = \"di4\", unit = 1 }")?;
+    let table = table.replace(rt.alloc(), "type = \"mix\" }", "type = \"mix\", unit = 2 }")?;
+    let table = format!(in rt.alloc(); "version = 2\n{table}")?;
+    let cycles = "begin;close;".repeat(rt.alloc(), 21)?;
+    let script = format!(in rt.alloc(); "ready;{cycles}lose 5;begin;lose 6;begin")?;
+    let reasons =
+        "45  a cycle sends 3 frames, and 2 slots are free: frames of earlier cycles are on their way;";
+    expect_reason(&rt, table.as_str(), script.as_str(), reasons)
+}
+
+/// One slave and one frame are counted as one.
+#[test]
+fn tells_of_one_frame(rt: HostRuntime) -> Result<(), Fail> {
+    let cycles = "begin;close;".repeat(rt.alloc(), 64)?;
+    let script = format!(in rt.alloc(); "ready;{cycles}begin;return 7")?;
+    let reasons =
+        "130  a cycle sends 1 frame, and no slot is free: frames of earlier cycles are on their way;\
+         131  the frame in slot 7 hasn't passed the slave;";
+    expect_reason(&rt, ALONE, script.as_str(), reasons)
+}
+
+/// A turn of a start-up of three slaves: its frame goes round, and their firmwares step.
+const TURN: &str = "start;pass 0;pass 0;pass 0;serve 0;serve 1;serve 2;return 0;";
+
+/// After 71 of its 75 frames the first slave is in OP, and the start-up isn't ready: one that is made behind a fault begins with
+/// INIT, and opens the outputs.
+#[test]
+fn tells_of_outputs_that_a_start_up_opens(rt: HostRuntime) -> Result<(), Fail> {
+    let turns = TURN.repeat(rt.alloc(), 71)?;
+    let script = format!(in rt.alloc();
+        "{turns}fault valves;get valves 0;start;lose 0;close;get valves 0;ready;get valves 0;cycle"
+    )?;
+    let locked =
+        "the outputs of `valves` are locked since its fault: INIT alone opens them, with which a start-up begins";
+    let reasons = format!(in rt.alloc(); "570  {locked};574  {locked};")?;
+    expect_reason(&rt, TABLE, script.as_str(), reasons.as_str())
 }

@@ -90,7 +90,7 @@ const PLAIN: &str = "no 1\nready\nno 3\nunmet 4\nreport taken missing 0 counters
 
 const EXPLAINED: &str =
     "no 1\n  the start-up isn't ready: `ready` brings the slaves up\nready\nno 3\n  \
-    `a` has 4 bits, and its greatest value is 15\nunmet 4\nreport taken missing 0 counters 6 al 0008\n";
+    `a` has 4 bits, and its values go from -8 to 15\nunmet 4\nreport taken missing 0 counters 6 al 0008\n";
 
 /// Each way to run them, and what is printed then.
 const WAYS: [(&[&str], &str); 4] = [
