@@ -27,6 +27,7 @@ use Rattle.ec_segment.specs.Serving.{RunsCardSegment, RunsSegment}
 use Rattle.ec_translate.specs.Remarking.{RunsDecodeWith}
 use Rattle.ec_translate.specs.Translating.{RunsEncode}
 use Rattle.ec_sim.specs.Simulating.{RunsSim}
+use Rattle.ec_why.specs.declared.wanted.Reasons.{Reasons}
 use Rattle.ec_why.specs.Reasons.{reasons_of}
 
 -- what a stream holds before and after, where it is known
@@ -57,9 +58,9 @@ abbrev pub RunsLines : (live explained : Bool) → (given : Option (List ℕ)) �
 RunsLines false explained given output ended = RunsSim (reasons_of explained) given output.old output.new ended
 RunsLines true explained given output ended = RunsLive (reasons_of explained) given output.old output.new ended
 
--- `ecat master`, with a capture if its file is named
-abbrev pub RunsMasterWith : (file : Option (List ℕ)) → (given : Option (List ℕ)) → (output : Stream) → Result Unit Refusal → Type 0
-RunsMasterWith file given output ended = EndsWith file (λ ended. RunsMaster given output.old output.new ended) (IsQuiet output) ended
+-- `ecat master`, which tells why lines can't be done, where reasons are told, with a capture if its file is named
+abbrev pub RunsMasterWith : Reasons → (file : Option (List ℕ)) → (given : Option (List ℕ)) → (output : Stream) → Result Unit Refusal → Type 0
+RunsMasterWith reasons file given output ended = EndsWith file (λ ended. RunsMaster reasons given output.old output.new ended) (IsQuiet output) ended
 
 -- what a command does with the output, and what is told of it while it runs, by what the input gives, where that is known
 abbrev pub Runs : Command → (given : Option (List ℕ)) → (output told : Stream) → Result Unit Refusal → Type 0
@@ -72,7 +73,7 @@ Runs (LoopOf cycles capture explained) given output told ended =
     EndsWith capture (λ ended. RunsLoop cycles given output.old output.new told.old told.new ended) (IsStill output told) ended
 Runs (SegmentOf frames port descriptor full idle capture explained) given output told ended =
     RunsSegmentAt descriptor frames port full capture given output told ended
-Runs (MasterOf to descriptor patience capture explained) given output told ended = RunsMasterWith capture given output ended × IsQuiet told
+Runs (MasterOf to descriptor patience capture explained) given output told ended = RunsMasterWith (reasons_of explained) capture given output ended × IsQuiet told
 
 -- what a command leaves alone: one that reads no input leaves it as it is, and one with no simulated application steps
 -- none

@@ -80,19 +80,20 @@ fn run_segment<H: AllocGlobal + Net + Files + Clock, R: Read, W: Write, F: Write
 /// Runs `ecat master`, with a capture or without.
 fn run_master<H: AllocGlobal + Net + Files + Clock, R: Read, W: Write>(
     rt: &H,
+    reasons: Reasons,
     way: Way<'_>,
     capture: Option<&str>,
     input: &mut R,
     output: &mut W,
     behind: &mut Explanation,
 ) -> Result<(), Refusal>
-    ensures runs { RunsMasterWith (option_map (λ file. file.now) capture.entry) (R.remaining input.old)
+    ensures runs { RunsMasterWith reasons (option_map (λ file. file.now) capture.entry) (R.remaining input.old)
         (record { old = W.contents output.old; new = W.contents output.new }) result }
     ensures explains { IsLeft behind.old behind.new }
 {
     match capture {
-        None => print_master(rt, way, input, output, behind),
-        Some(file) => capture_master(rt, way, file, input, output, behind),
+        None => print_master(rt, reasons, way, input, output, behind),
+        Some(file) => capture_master(rt, reasons, way, file, input, output, behind),
     }
 }
 
@@ -172,14 +173,15 @@ fn run_request<H: AllocGlobal + Net + Files + Clock, R: Read, W: Write, F: Write
             descriptor,
             patience,
             capture,
-            ..
+            explained,
         } => {
+            let reasons = Reasons::of(explained);
             let way = Way {
                 to,
                 descriptor,
                 patience,
             };
-            run_master(rt, way, capture, input, output, behind)
+            run_master(rt, reasons, way, capture, input, output, behind)
         }
     }
 }

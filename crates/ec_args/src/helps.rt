@@ -345,7 +345,7 @@ Lines:
 What a line prints; lines count from 1 behind `%%`:
   ready           the start-up has ended well
   failed NUMBER   it has ended otherwise, by 9, 26 to 32, 36 or 38: `ecat loop --help` says what
-                  each stands for
+                  each stands for; with `--explain` the line behind it says what was seen
   report ...      of `cycle` and `report`, as `ecat sim --help` says
   fault 37 Wire   of `cycle`: a socket was faulty, or an answer didn't come for MS. Inputs and the
                   last report stay as they were, and a new `cycle` or `ready` may go well
@@ -353,7 +353,8 @@ What a line prints; lines count from 1 behind `%%`:
   unmet LINE      what this line expects isn't so
   no LINE         what this line says can't be done, and nothing was: a `cycle` while the last
                   start-up hasn't ended well, or with no frame number left; a `set` of what is no
-                  output variable, or can't hold the value; a `report` before the first one
+                  output variable, or can't hold the value; a `report` before the first one. With
+                  `--explain` the line behind it says why
   bad LINE        the line is none of these, and nothing was done. `expect` of an output variable or
                   of a slave's state is none of them: no frame of a cycle tells what slaves publish
                   of their outputs, or the state of one slave

@@ -1,4 +1,5 @@
 mod Holding
 mod Mastering
+mod Reasoned
 mod SayingLemmas
 mod Shown

@@ -8,6 +8,7 @@ use Rattle.ec_wire.specs.Wires.{WireState, silent}
 use Rattle.ec_lines.specs.declared.error.LinesError.{LinesError}
 use Rattle.ec_lines.specs.Taking.{RefusesText}
 use Rattle.ec_sim.specs.Simulating.{counted, ended_by}
+use Rattle.ec_why.specs.declared.wanted.Reasons.{Reasons}
 use Rattle.ec_console.specs.declared.refusal.Refusal.{Refusal}
 use Rattle.ec_console.specs.declared.refusal.Refusal.TheVariants.{Unmet}
 use Rattle.ec_console.specs.Given.{lines_refusal}
@@ -28,38 +29,38 @@ counted_none count unmet is none = omega arith
 counted_some : (count unmet : ℕ) → count ≡ counted unmet → (count == 0) ≡ false → 0 < unmet
 counted_some count unmet is some = let more : 0 < count = grind (arith, nat_tests) in omega arith
 
-by_count : (b : Bool) (t : Contents) (before after : WireState) (count unmet : ℕ) (input old new : Option (List ℕ)) → (count == 0) ≡ b → count ≡ counted unmet → RunsToEnd t before after unmet input old new
-    → RunsOver t before after input old new (if b then Ok tt else Err (Unmet count))
-by_count true t before after count unmet input old new is counts runs =
+by_count : (b : Bool) (reasons : Reasons) (t : Contents) (before after : WireState) (count unmet : ℕ) (input old new : Option (List ℕ)) → (count == 0) ≡ b → count ≡ counted unmet → RunsToEnd reasons t before after unmet input old new
+    → RunsOver reasons t before after input old new (if b then Ok tt else Err (Unmet count))
+by_count true reasons t before after count unmet input old new is counts runs =
     let none : unmet ≡ 0 = counted_none count unmet counts (grind (arith, nat_tests)) in
-    subst (λ (n : ℕ). RunsToEnd t before after n input old new) none runs
-by_count false t before after count unmet input old new is counts runs = inr (inr (unmet, counted_some count unmet counts is, ap Unmet counts, runs))
+    subst (λ (n : ℕ). RunsToEnd reasons t before after n input old new) none runs
+by_count false reasons t before after count unmet input old new is counts runs = inr (inr (unmet, counted_some count unmet counts is, ap Unmet counts, runs))
 
 -- all lines are done
-pub lines_ran : (r : Result Unit Refusal) (t : Contents) (p : PlanState) (c last : ControlState) (before after : WireState) (count : ℕ) (input old new : Option (List ℕ)) → r ≡ ended_by count → c ≡ new_control p
-    → p ≡ plan_of t → (unmet : ℕ) × (count ≡ counted unmet) × ObeysAll t (record { control = c; wire = before }) (record { control = last; wire = after }) unmet input old new
-    → RunsOver t before after input old new r
-lines_ran r t p c last before after count input old new ended begun plan (unmet, counts, all) =
-    let runs : RunsToEnd t before after unmet input old new = record {
+pub lines_ran : (r : Result Unit Refusal) (reasons : Reasons) (t : Contents) (p : PlanState) (c last : ControlState) (before after : WireState) (count : ℕ) (input old new : Option (List ℕ)) → r ≡ ended_by count → c ≡ new_control p
+    → p ≡ plan_of t → (unmet : ℕ) × (count ≡ counted unmet) × ObeysAll reasons t (record { control = c; wire = before }) (record { control = last; wire = after }) unmet input old new
+    → RunsOver reasons t before after input old new r
+lines_ran r reasons t p c last before after count input old new ended begun plan (unmet, counts, all) =
+    let runs : RunsToEnd reasons t before after unmet input old new = record {
       last = record { control = last; wire = after };
       wire = refl;
-      obeys = subst (λ (m : Moment). ObeysAll t m (record { control = last; wire = after }) unmet input old new) (new_moment t p c before (record { control = c; wire = before }) begun plan refl) all;
+      obeys = subst (λ (m : Moment). ObeysAll reasons t m (record { control = last; wire = after }) unmet input old new) (new_moment t p c before (record { control = c; wire = before }) begun plan refl) all;
     } in
-    subst (RunsOver t before after input old new) (sym ended) (by_count (count == 0) t before after count unmet input old new refl counts runs)
+    subst (RunsOver reasons t before after input old new) (sym ended) (by_count (count == 0) reasons t before after count unmet input old new refl counts runs)
 
 -- lines over a wire whose payloads are noted are lines over the wire
-pub tapped_runs : {W : Type 0} (state : W → WireState) (t : Contents) (first began after : WireState) (last : W) (input old new : Option (List ℕ)) (r : Result Unit Refusal)
-    → began ≡ first → state last ≡ after → RunsOver t began after input old new r → (x : W) × RunsOver t first (state x) input old new r
-tapped_runs state t first began after last input old new r same is runs =
-    (last, subst (λ (w : WireState). RunsOver t first w input old new r) (sym is) (subst (λ (w : WireState). RunsOver t w after input old new r) same runs))
+pub tapped_runs : {W : Type 0} (state : W → WireState) (reasons : Reasons) (t : Contents) (first began after : WireState) (last : W) (input old new : Option (List ℕ)) (r : Result Unit Refusal)
+    → began ≡ first → state last ≡ after → RunsOver reasons t began after input old new r → (x : W) × RunsOver reasons t first (state x) input old new r
+tapped_runs state reasons t first began after last input old new r same is runs =
+    (last, subst (λ (w : WireState). RunsOver reasons t first w input old new r) (sym is) (subst (λ (w : WireState). RunsOver reasons t w after input old new r) same runs))
 
 -- ---- a socket or a card
 
-pub on_wire : (r : Result Unit Refusal) (t : Contents) (opened after : WireState) (input old new : Option (List ℕ)) → opened ≡ silent 0 → RunsOver t opened after input old new r → RunsPlan t input old new r
-on_wire r t opened after input old new is runs = inl (after, subst (λ (w : WireState). RunsOver t w after input old new r) is runs)
+pub on_wire : (r : Result Unit Refusal) (reasons : Reasons) (t : Contents) (opened after : WireState) (input old new : Option (List ℕ)) → opened ≡ silent 0 → RunsOver reasons t opened after input old new r → RunsPlan reasons t input old new r
+on_wire r reasons t opened after input old new is runs = inl (after, subst (λ (w : WireState). RunsOver reasons t w after input old new r) is runs)
 
-pub on_socket : (r : Result Unit Refusal) (t : Contents) (failed : ℕ) (after : WireState) (input old new : Option (List ℕ)) → failed ≡ 0 → RunsOver t (silent failed) after input old new r → RunsPlan t input old new r
-on_socket r t failed after input old new is runs = on_wire r t (silent failed) after input old new (ap silent is) runs
+pub on_socket : (r : Result Unit Refusal) (reasons : Reasons) (t : Contents) (failed : ℕ) (after : WireState) (input old new : Option (List ℕ)) → failed ≡ 0 → RunsOver reasons t (silent failed) after input old new r → RunsPlan reasons t input old new r
+on_socket r reasons t failed after input old new is runs = on_wire r reasons t (silent failed) after input old new (ap silent is) runs
 
 -- a refusal, also where a call passes it on
 pub never_run : (r : Result Unit Refusal) (x : Refusal) (Refuses : Refusal → Type 0) (old : Option (List ℕ)) → IsErrAnd r (λ e. e ≡ x) → Refuses x → IsNeverRun Refuses old old r
@@ -67,5 +68,5 @@ never_run (Ok done) x Refuses old is h = absurd is
 never_run (Err e) x Refuses old is h = (e, refl, subst Refuses (sym is) h, refl)
 
 -- no text stands before a line `%%`
-pub no_text : (r : Result Unit Refusal) (x : Refusal) (error : LinesError) (input left old : Option (List ℕ)) → IsErrAnd r (λ e. e ≡ x) → x ≡ lines_refusal error → RefusesText input left error → RunsMaster input old old r
-no_text r x error input left old is named why = inr (never_run r x (IsTextRefusal input) old is (error, left, why, named))
+pub no_text : (r : Result Unit Refusal) (reasons : Reasons) (x : Refusal) (error : LinesError) (input left old : Option (List ℕ)) → IsErrAnd r (λ e. e ≡ x) → x ≡ lines_refusal error → RefusesText input left error → RunsMaster reasons input old old r
+no_text r reasons x error input left old is named why = inr (never_run r x (IsTextRefusal input) old is (error, left, why, named))

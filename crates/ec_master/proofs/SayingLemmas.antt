@@ -8,6 +8,7 @@ use Rattle.ec_lines.proofs.TakeLemmas.{takes_push}
 use Rattle.ec_sim.specs.Simulating.{counted}
 use Rattle.ec_console.specs.Printing.{AppendsPart}
 use Rattle.ec_console.proofs.PrintLemmas.{appends_more, appends_nothing, whole_part}
+use Rattle.ec_why.specs.declared.wanted.Reasons.{Reasons}
 use Rattle.ec_master.specs.declared.answer.Answer.{Answer}
 use Rattle.ec_master.specs.declared.order.Task.{Task}
 use Rattle.ec_master.specs.Texts.{is_unmet}
@@ -16,37 +17,37 @@ use Rattle.ec_master.specs.Saying.{Moment, ObeysSome, PrintsAll, PrintsPart, Say
 
 -- ---- lines one after another
 
-pub says_one : (t : Contents) (w new : Moment) (line : Task) (text : List ℕ) (unmet : ℕ) → SaysTask t w line new text unmet → Says t w (line ∷ []) new text unmet
-says_one t w new line text unmet h = (new, text, [], unmet, 0, h, (refl, refl, refl), sym (append-nil text), omega arith)
+pub says_one : (reasons : Reasons) (t : Contents) (w new : Moment) (line : Task) (text : List ℕ) (unmet : ℕ) → SaysTask reasons t w line new text unmet → Says reasons t w (line ∷ []) new text unmet
+says_one reasons t w new line text unmet h = (new, text, [], unmet, 0, h, (refl, refl, refl), sym (append-nil text), omega arith)
 
-pub says_join : (t : Contents) (w mid new : Moment) (xs ys : List Task) (p q : List ℕ) (a b : ℕ) → Says t w xs mid p a → Says t mid ys new q b
-    → Says t w (xs ++ ys) new (p ++ q) (a + b)
-says_join t w mid new [] ys p q a b h g =
-    let base : Says t w ys new q b = subst (λ (v : Moment). Says t v ys new q b) h.0 g in
+pub says_join : (reasons : Reasons) (t : Contents) (w mid new : Moment) (xs ys : List Task) (p q : List ℕ) (a b : ℕ) → Says reasons t w xs mid p a → Says reasons t mid ys new q b
+    → Says reasons t w (xs ++ ys) new (p ++ q) (a + b)
+says_join reasons t w mid new [] ys p q a b h g =
+    let base : Says reasons t w ys new q b = subst (λ (v : Moment). Says reasons t v ys new q b) h.0 g in
     let text : q ≡ p ++ q = sym (ap (λ (r : List ℕ). r ++ q) h.1) in
     let none : a ≡ 0 = h.2 in
     let count : b ≡ a + b = omega arith in
-    subst (λ (n : ℕ). Says t w ys new (p ++ q) n) count (subst (λ (r : List ℕ). Says t w ys new r b) text base)
-says_join t w mid new (x ∷ xs) ys p q a b (first, text, more, one, rest, line, says, printed, unmet) g = (
+    subst (λ (n : ℕ). Says reasons t w ys new (p ++ q) n) count (subst (λ (r : List ℕ). Says reasons t w ys new r b) text base)
+says_join reasons t w mid new (x ∷ xs) ys p q a b (first, text, more, one, rest, line, says, printed, unmet) g = (
   first,
   text,
   more ++ q,
   one,
   rest + b,
   line,
-  says_join t first mid new xs ys more q rest b says g,
+  says_join reasons t first mid new xs ys more q rest b says g,
   ap (λ (r : List ℕ). r ++ q) printed ∙ append_assoc text more q,
   omega arith,
 )
 
-pub prints_none : (t : Contents) (w : Moment) (old : Option (List ℕ)) → PrintsAll t w [] w 0 old old
-prints_none t w old = record { printed = []; says = (refl, refl, refl); appends = appends_nothing old }
+pub prints_none : (reasons : Reasons) (t : Contents) (w : Moment) (old : Option (List ℕ)) → PrintsAll reasons t w [] w 0 old old
+prints_none reasons t w old = record { printed = []; says = (refl, refl, refl); appends = appends_nothing old }
 
-pub prints_join : (t : Contents) (w mid new : Moment) (xs ys : List Task) (a b : ℕ) (old half whole : Option (List ℕ)) → PrintsAll t w xs mid a old half
-    → PrintsAll t mid ys new b half whole → PrintsAll t w (xs ++ ys) new (a + b) old whole
-prints_join t w mid new xs ys a b old half whole h g = record {
+pub prints_join : (reasons : Reasons) (t : Contents) (w mid new : Moment) (xs ys : List Task) (a b : ℕ) (old half whole : Option (List ℕ)) → PrintsAll reasons t w xs mid a old half
+    → PrintsAll reasons t mid ys new b half whole → PrintsAll reasons t w (xs ++ ys) new (a + b) old whole
+prints_join reasons t w mid new xs ys a b old half whole h g = record {
   printed = h.printed ++ g.printed;
-  says = says_join t w mid new xs ys h.printed g.printed a b h.says g.says;
+  says = says_join reasons t w mid new xs ys h.printed g.printed a b h.says g.says;
   appends = appends_more old half whole h.printed g.printed h.appends g.appends;
 }
 
@@ -66,24 +67,24 @@ some_take [] ys (suc n) = (0, refl)
 some_take (x ∷ xs) ys zero = (0, refl)
 some_take (x ∷ xs) ys (suc n) = let r = some_take xs ys n in (suc r.0, ap (λ rest. x ∷ rest) r.1)
 
-pub part_none : (t : Contents) (w : Moment) (lines : List Task) (old : Option (List ℕ)) → PrintsPart t w lines old old
-part_none t w lines old = record { count = 0; last = w; printed = []; unmet = 0; says = (refl, refl, refl); appends = (0, appends_nothing old) }
+pub part_none : (reasons : Reasons) (t : Contents) (w : Moment) (lines : List Task) (old : Option (List ℕ)) → PrintsPart reasons t w lines old old
+part_none reasons t w lines old = record { count = 0; last = w; printed = []; unmet = 0; says = (refl, refl, refl); appends = (0, appends_nothing old) }
 
 -- of some first lines it is one of all
-pub part_more : (t : Contents) (w : Moment) (xs ys : List Task) (old new : Option (List ℕ)) → PrintsPart t w xs old new → PrintsPart t w (xs ++ ys) old new
-part_more t w xs ys old new h =
+pub part_more : (reasons : Reasons) (t : Contents) (w : Moment) (xs ys : List Task) (old new : Option (List ℕ)) → PrintsPart reasons t w xs old new → PrintsPart reasons t w (xs ++ ys) old new
+part_more reasons t w xs ys old new h =
     let r = some_take xs ys h.count in
-    record { count = r.0; last = h.last; printed = h.printed; unmet = h.unmet; says = subst (λ (ls : List Task). Says t w ls h.last h.printed h.unmet) (sym r.1) h.says; appends = h.appends }
+    record { count = r.0; last = h.last; printed = h.printed; unmet = h.unmet; says = subst (λ (ls : List Task). Says reasons t w ls h.last h.printed h.unmet) (sym r.1) h.says; appends = h.appends }
 
 -- behind lines that are printed whole
-pub part_behind : (t : Contents) (w mid : Moment) (xs ys : List Task) (a : ℕ) (old half new : Option (List ℕ)) → PrintsAll t w xs mid a old half → PrintsPart t mid ys half new
-    → PrintsPart t w (xs ++ ys) old new
-part_behind t w mid xs ys a old half new h g = record {
+pub part_behind : (reasons : Reasons) (t : Contents) (w mid : Moment) (xs ys : List Task) (a : ℕ) (old half new : Option (List ℕ)) → PrintsAll reasons t w xs mid a old half → PrintsPart reasons t mid ys half new
+    → PrintsPart reasons t w (xs ++ ys) old new
+part_behind reasons t w mid xs ys a old half new h g = record {
   count = length xs + g.count;
   last = g.last;
   printed = h.printed ++ g.printed;
   unmet = a + g.unmet;
-  says = subst (λ (ls : List Task). Says t w ls g.last (h.printed ++ g.printed) (a + g.unmet)) (sym (take-lines xs ys g.count)) (says_join t w mid g.last xs (take g.count ys) h.printed g.printed a g.unmet h.says g.says);
+  says = subst (λ (ls : List Task). Says reasons t w ls g.last (h.printed ++ g.printed) (a + g.unmet)) (sym (take-lines xs ys g.count)) (says_join reasons t w mid g.last xs (take g.count ys) h.printed g.printed a g.unmet h.says g.says);
   appends = (
     length h.printed + g.appends.0,
     subst (Appends old new) (sym (take-part h.printed g.printed g.appends.0)) (appends_more old half new h.printed (take g.appends.0 g.printed) h.appends g.appends.1),
@@ -91,17 +92,17 @@ part_behind t w mid xs ys a old half new h g = record {
 }
 
 -- a line whose text is cut
-pub part_one : (t : Contents) (w mid : Moment) (line : Task) (text : List ℕ) (unmet : ℕ) (old new : Option (List ℕ)) → SaysTask t w line mid text unmet → AppendsPart old new text
-    → PrintsPart t w (line ∷ []) old new
-part_one t w mid line text unmet old new h part =
-    record { count = 1; last = mid; printed = text; unmet = unmet; says = says_one t w mid line text unmet h; appends = part }
+pub part_one : (reasons : Reasons) (t : Contents) (w mid : Moment) (line : Task) (text : List ℕ) (unmet : ℕ) (old new : Option (List ℕ)) → SaysTask reasons t w line mid text unmet → AppendsPart old new text
+    → PrintsPart reasons t w (line ∷ []) old new
+part_one reasons t w mid line text unmet old new h part =
+    record { count = 1; last = mid; printed = text; unmet = unmet; says = says_one reasons t w mid line text unmet h; appends = part }
 
 -- a line that is printed whole
-pub one_all : (t : Contents) (w mid : Moment) (line : Task) (text : List ℕ) (unmet : Bool) (said : Answer) (old new : Option (List ℕ)) → SaysTask t w line mid text (unmet_of said) → unmet ≡ is_unmet said
-    → Appends old new text → PrintsAll t w (line ∷ []) mid (if unmet then 1 else 0) old new
-one_all t w mid line text unmet said old new h is appends =
-    subst (λ (b : Bool). PrintsAll t w (line ∷ []) mid (if b then 1 else 0) old new) (sym is)
-    (record { printed = text; says = says_one t w mid line text (unmet_of said) h; appends = appends })
+pub one_all : (reasons : Reasons) (t : Contents) (w mid : Moment) (line : Task) (text : List ℕ) (unmet : Bool) (said : Answer) (old new : Option (List ℕ)) → SaysTask reasons t w line mid text (unmet_of said) → unmet ≡ is_unmet said
+    → Appends old new text → PrintsAll reasons t w (line ∷ []) mid (if unmet then 1 else 0) old new
+one_all reasons t w mid line text unmet said old new h is appends =
+    subst (λ (b : Bool). PrintsAll reasons t w (line ∷ []) mid (if b then 1 else 0) old new) (sym is)
+    (record { printed = text; says = says_one reasons t w mid line text (unmet_of said) h; appends = appends })
 
 -- ---- a line as often as it is done
 
@@ -114,35 +115,35 @@ where_false false x m n is e = e
 where_false true x m n is e = absurd (let f : true ≡ false = is in cc)
 
 -- so many times it was done, and each time printed
-pub record IsDone (t : Contents) (w : Moment) (line : Task) (times : ℕ) (now : Moment) (count : ℕ) (old new : Option (List ℕ)) : Type 0 where
+pub record IsDone (reasons : Reasons) (t : Contents) (w : Moment) (line : Task) (times : ℕ) (now : Moment) (count : ℕ) (old new : Option (List ℕ)) : Type 0 where
   pub unmet : ℕ
   pub counts : count ≡ counted unmet
-  pub printed : PrintsAll t w (replicate times line) now unmet old new
+  pub printed : PrintsAll reasons t w (replicate times line) now unmet old new
 
-pub done_more : (t : Contents) (w : Moment) (line : Task) (i : ℕ) (now new : Moment) (count total : ℕ) (b : Bool) (old half whole : Option (List ℕ)) → IsDone t w line i now count old half
-    → PrintsAll t now (line ∷ []) new (if b then 1 else 0) half whole → total ≡ (if b then min (count + 1) (2 ^ 64 - 1) else count) → IsDone t w line (i + 1) new total old whole
-done_more t w line i now new count total b old half whole h one is = record {
+pub done_more : (reasons : Reasons) (t : Contents) (w : Moment) (line : Task) (i : ℕ) (now new : Moment) (count total : ℕ) (b : Bool) (old half whole : Option (List ℕ)) → IsDone reasons t w line i now count old half
+    → PrintsAll reasons t now (line ∷ []) new (if b then 1 else 0) half whole → total ≡ (if b then min (count + 1) (2 ^ 64 - 1) else count) → IsDone reasons t w line (i + 1) new total old whole
+done_more reasons t w line i now new count total b old half whole h one is = record {
   unmet = h.unmet + (if b then 1 else 0);
   counts = is ∙ more b;
-  printed = subst (λ (ls : List Task). PrintsAll t w ls new (h.unmet + (if b then 1 else 0)) old whole) (replicate-append-replicate i 1 line)
-      (prints_join t w now new (replicate i line) (line ∷ []) h.unmet (if b then 1 else 0) old half whole h.printed one);
+  printed = subst (λ (ls : List Task). PrintsAll reasons t w ls new (h.unmet + (if b then 1 else 0)) old whole) (replicate-append-replicate i 1 line)
+      (prints_join reasons t w now new (replicate i line) (line ∷ []) h.unmet (if b then 1 else 0) old half whole h.printed one);
 }
   where
     more : (c : Bool) → (if c then min (count + 1) (2 ^ 64 - 1) else count) ≡ counted (h.unmet + (if c then 1 else 0))
     more true = let e : count ≡ counted h.unmet = h.counts in omega arith
     more false = let e : count ≡ counted h.unmet = h.counts in let z : h.unmet + 0 ≡ h.unmet = omega arith in omega arith
 
-pub done_part : (t : Contents) (w : Moment) (line : Task) (i n : ℕ) (now : Moment) (count : ℕ) (old half whole : Option (List ℕ)) → IsDone t w line i now count old half → i < n
-    → PrintsPart t now (line ∷ []) half whole → PrintsPart t w (replicate n line) old whole
-done_part t w line i n now count old half whole h lt part =
+pub done_part : (reasons : Reasons) (t : Contents) (w : Moment) (line : Task) (i n : ℕ) (now : Moment) (count : ℕ) (old half whole : Option (List ℕ)) → IsDone reasons t w line i now count old half → i < n
+    → PrintsPart reasons t now (line ∷ []) half whole → PrintsPart reasons t w (replicate n line) old whole
+done_part reasons t w line i n now count old half whole h lt part =
     let rest : 1 + (n - (i + 1)) ≡ n - i = omega arith in
     let all : i + (n - i) ≡ n = omega arith in
-    let ahead : PrintsPart t now (replicate (n - i) line) half whole =
-    subst (λ (k : ℕ). PrintsPart t now (replicate k line) half whole) rest
-    (subst (λ (ls : List Task). PrintsPart t now ls half whole) (replicate-append-replicate 1 (n - (i + 1)) line) (part_more t now (line ∷ []) (replicate (n - (i + 1)) line) half whole part)) in
-    subst (λ (k : ℕ). PrintsPart t w (replicate k line) old whole) all
-    (subst (λ (ls : List Task). PrintsPart t w ls old whole) (replicate-append-replicate i (n - i) line)
-    (part_behind t w now (replicate i line) (replicate (n - i) line) h.unmet old half whole h.printed ahead))
+    let ahead : PrintsPart reasons t now (replicate (n - i) line) half whole =
+    subst (λ (k : ℕ). PrintsPart reasons t now (replicate k line) half whole) rest
+    (subst (λ (ls : List Task). PrintsPart reasons t now ls half whole) (replicate-append-replicate 1 (n - (i + 1)) line) (part_more reasons t now (line ∷ []) (replicate (n - (i + 1)) line) half whole part)) in
+    subst (λ (k : ℕ). PrintsPart reasons t w (replicate k line) old whole) all
+    (subst (λ (ls : List Task). PrintsPart reasons t w ls old whole) (replicate-append-replicate i (n - i) line)
+    (part_behind reasons t w now (replicate i line) (replicate (n - i) line) h.unmet old half whole h.printed ahead))
 
 -- ---- lines
 
@@ -169,22 +170,22 @@ done-snoc t lines line n is =
     ∙ (ap (λ (k : ℕ). done_from t 1 lines ++ done_from t k (line ∷ [])) (sym is) ∙ ap (λ (ls : List Task). done_from t 1 lines ++ ls) (done-one t n line))
 
 -- the lines before this one are taken and printed
-pub record AreObeyed (t : Contents) (w : Moment) (n : ℕ) (now : Moment) (count : ℕ) (input left old new : Option (List ℕ)) : Type 0 where
+pub record AreObeyed (reasons : Reasons) (t : Contents) (w : Moment) (n : ℕ) (now : Moment) (count : ℕ) (input left old new : Option (List ℕ)) : Type 0 where
   pub lines : List (List ℕ)
   pub taken : TakesLines input left lines
   pub number : n ≡ 1 + length lines
   pub unmet : ℕ
   pub counts : count ≡ counted unmet
-  pub printed : PrintsAll t w (done_from t 1 lines) now unmet old new
+  pub printed : PrintsAll reasons t w (done_from t 1 lines) now unmet old new
 
-pub none_obeyed : (t : Contents) (w : Moment) (input old : Option (List ℕ)) → AreObeyed t w 1 w 0 input input old old
-none_obeyed t w input old = record {
+pub none_obeyed : (reasons : Reasons) (t : Contents) (w : Moment) (input old : Option (List ℕ)) → AreObeyed reasons t w 1 w 0 input input old old
+none_obeyed reasons t w input old = record {
   lines = [];
   taken = refl;
   number = refl;
   unmet = 0;
   counts = refl;
-  printed = subst (λ (ls : List Task). PrintsAll t w ls w 0 old old) (sym (done-none t 1)) (prints_none t w old);
+  printed = subst (λ (ls : List Task). PrintsAll reasons t w ls w 0 old old) (sym (done-none t 1)) (prints_none reasons t w old);
 }
 
 sum_counted : (a b c d : ℕ) → c ≡ counted a → d ≡ counted b → min (c + d) (2 ^ 64 - 1) ≡ counted (a + b)
@@ -194,11 +195,11 @@ length-snoc : (xs : List (List ℕ)) (x : List ℕ) → length (xs ++ x ∷ []) 
 length-snoc [] x = omega arith
 length-snoc (y ∷ ys) x = let e = length-snoc ys x in omega (arith, e)
 
-obeyed_more : (t : Contents) (w : Moment) (n : ℕ) (now new : Moment) (count more total : ℕ) (task : Option Task) (line : List ℕ) (input left next old half whole : Option (List ℕ))
-    → AreObeyed t w n now count input left old half → TakesLine left next line → 0 < length line → task ≡ task_on t n line
-    → (unmet : ℕ) × (more ≡ counted unmet) × PrintsAll t now (repeated task) new unmet half whole → total ≡ min (count + more) (2 ^ 64 - 1)
-    → AreObeyed t w (n + 1) new total input next old whole
-obeyed_more t w n now new count more total task line input left next old half whole h takes some is (unmet, counts, printed) sums =
+obeyed_more : (reasons : Reasons) (t : Contents) (w : Moment) (n : ℕ) (now new : Moment) (count more total : ℕ) (task : Option Task) (line : List ℕ) (input left next old half whole : Option (List ℕ))
+    → AreObeyed reasons t w n now count input left old half → TakesLine left next line → 0 < length line → task ≡ task_on t n line
+    → (unmet : ℕ) × (more ≡ counted unmet) × PrintsAll reasons t now (repeated task) new unmet half whole → total ≡ min (count + more) (2 ^ 64 - 1)
+    → AreObeyed reasons t w (n + 1) new total input next old whole
+obeyed_more reasons t w n now new count more total task line input left next old half whole h takes some is (unmet, counts, printed) sums =
     let longer = length-snoc h.lines line in
     let number = h.number in
     record {
@@ -207,53 +208,53 @@ obeyed_more t w n now new count more total task line input left next old half wh
       number = omega (arith, longer, number);
       unmet = h.unmet + unmet;
       counts = sums ∙ sum_counted h.unmet unmet count more h.counts counts;
-      printed = subst (λ (ls : List Task). PrintsAll t w ls new (h.unmet + unmet) old whole) (sym (done-snoc t h.lines line n h.number))
-          (prints_join t w now new (done_from t 1 h.lines) (repeated (task_on t n line)) h.unmet unmet old half whole h.printed
-          (subst (λ (o : Option Task). PrintsAll t now (repeated o) new unmet half whole) is printed));
+      printed = subst (λ (ls : List Task). PrintsAll reasons t w ls new (h.unmet + unmet) old whole) (sym (done-snoc t h.lines line n h.number))
+          (prints_join reasons t w now new (done_from t 1 h.lines) (repeated (task_on t n line)) h.unmet unmet old half whole h.printed
+          (subst (λ (o : Option Task). PrintsAll reasons t now (repeated o) new unmet half whole) is printed));
     }
 
 -- by what the next line asks for
-pub obeyed_next : (t : Contents) (w : Moment) (n : ℕ) (now new : Moment) (count more total : ℕ) (asked : Option (Option Task)) (task : Option Task) (input left next old half whole : Option (List ℕ))
-    → AreObeyed t w n now count input left old half → IsNext t n left next asked → asked ≡ Some task → (unmet : ℕ) × (more ≡ counted unmet) × PrintsAll t now (repeated task) new unmet half whole
-    → total ≡ min (count + more) (2 ^ 64 - 1) → AreObeyed t w (n + 1) new total input next old whole
-obeyed_next t w n now new count more total asked task input left next old half whole h asks is printed sums = by (subst (IsNext t n left next) is asks)
+pub obeyed_next : (reasons : Reasons) (t : Contents) (w : Moment) (n : ℕ) (now new : Moment) (count more total : ℕ) (asked : Option (Option Task)) (task : Option Task) (input left next old half whole : Option (List ℕ))
+    → AreObeyed reasons t w n now count input left old half → IsNext t n left next asked → asked ≡ Some task → (unmet : ℕ) × (more ≡ counted unmet) × PrintsAll reasons t now (repeated task) new unmet half whole
+    → total ≡ min (count + more) (2 ^ 64 - 1) → AreObeyed reasons t w (n + 1) new total input next old whole
+obeyed_next reasons t w n now new count more total asked task input left next old half whole h asks is printed sums = by (subst (IsNext t n left next) is asks)
   where
-    by : IsNext t n left next (Some task) → AreObeyed t w (n + 1) new total input next old whole
-    by (line, takes, some, same) = obeyed_more t w n now new count more total task line input left next old half whole h takes some same printed sums
+    by : IsNext t n left next (Some task) → AreObeyed reasons t w (n + 1) new total input next old whole
+    by (line, takes, some, same) = obeyed_more reasons t w n now new count more total task line input left next old half whole h takes some same printed sums
 
 -- a line that is cut
-obeyed_part : (t : Contents) (w : Moment) (n : ℕ) (now : Moment) (count : ℕ) (task : Option Task) (line : List ℕ) (input left next old half whole : Option (List ℕ))
-    → AreObeyed t w n now count input left old half → TakesLine left next line → 0 < length line → task ≡ task_on t n line → PrintsPart t now (repeated task) half whole → ObeysSome t w input old whole
-obeyed_part t w n now count task line input left next old half whole h takes some is part = record {
+obeyed_part : (reasons : Reasons) (t : Contents) (w : Moment) (n : ℕ) (now : Moment) (count : ℕ) (task : Option Task) (line : List ℕ) (input left next old half whole : Option (List ℕ))
+    → AreObeyed reasons t w n now count input left old half → TakesLine left next line → 0 < length line → task ≡ task_on t n line → PrintsPart reasons t now (repeated task) half whole → ObeysSome reasons t w input old whole
+obeyed_part reasons t w n now count task line input left next old half whole h takes some is part = record {
   lines = h.lines ++ line ∷ [];
   left = next;
   taken = takes_push input left next h.lines line h.taken takes some;
-  printed = subst (λ (ls : List Task). PrintsPart t w ls old whole) (sym (done-snoc t h.lines line n h.number))
-      (part_behind t w now (done_from t 1 h.lines) (repeated (task_on t n line)) h.unmet old half whole h.printed
-      (subst (λ (o : Option Task). PrintsPart t now (repeated o) half whole) is part));
+  printed = subst (λ (ls : List Task). PrintsPart reasons t w ls old whole) (sym (done-snoc t h.lines line n h.number))
+      (part_behind reasons t w now (done_from t 1 h.lines) (repeated (task_on t n line)) h.unmet old half whole h.printed
+      (subst (λ (o : Option Task). PrintsPart reasons t now (repeated o) half whole) is part));
 }
 
-pub obeyed_cut : (t : Contents) (w : Moment) (n : ℕ) (now : Moment) (count : ℕ) (asked : Option (Option Task)) (task : Option Task) (input left next old half whole : Option (List ℕ))
-    → AreObeyed t w n now count input left old half → IsNext t n left next asked → asked ≡ Some task → PrintsPart t now (repeated task) half whole → ObeysSome t w input old whole
-obeyed_cut t w n now count asked task input left next old half whole h asks is part = by (subst (IsNext t n left next) is asks)
+pub obeyed_cut : (reasons : Reasons) (t : Contents) (w : Moment) (n : ℕ) (now : Moment) (count : ℕ) (asked : Option (Option Task)) (task : Option Task) (input left next old half whole : Option (List ℕ))
+    → AreObeyed reasons t w n now count input left old half → IsNext t n left next asked → asked ≡ Some task → PrintsPart reasons t now (repeated task) half whole → ObeysSome reasons t w input old whole
+obeyed_cut reasons t w n now count asked task input left next old half whole h asks is part = by (subst (IsNext t n left next) is asks)
   where
-    by : IsNext t n left next (Some task) → ObeysSome t w input old whole
-    by (line, takes, some, same) = obeyed_part t w n now count task line input left next old half whole h takes some same part
+    by : IsNext t n left next (Some task) → ObeysSome reasons t w input old whole
+    by (line, takes, some, same) = obeyed_part reasons t w n now count task line input left next old half whole h takes some same part
 
 -- all that is printed is a first part of it
-all_part : (t : Contents) (w last : Moment) (tasks : List Task) (unmet : ℕ) (old new : Option (List ℕ)) → PrintsAll t w tasks last unmet old new → PrintsPart t w tasks old new
-all_part t w last tasks unmet old new h =
+all_part : (reasons : Reasons) (t : Contents) (w last : Moment) (tasks : List Task) (unmet : ℕ) (old new : Option (List ℕ)) → PrintsAll reasons t w tasks last unmet old new → PrintsPart reasons t w tasks old new
+all_part reasons t w last tasks unmet old new h =
     let whole : take (length tasks) tasks ≡ tasks = take_all (length tasks) tasks (omega arith) in
     record {
       count = length tasks;
       last = last;
       printed = h.printed;
       unmet = unmet;
-      says = subst (λ (ls : List Task). Says t w ls last h.printed unmet) (sym whole) h.says;
+      says = subst (λ (ls : List Task). Says reasons t w ls last h.printed unmet) (sym whole) h.says;
       appends = whole_part old new h.printed h.appends;
     }
 
 -- no further line
-pub obeyed_some : (t : Contents) (w : Moment) (n : ℕ) (now : Moment) (count : ℕ) (input left old new : Option (List ℕ)) → AreObeyed t w n now count input left old new → ObeysSome t w input old new
-obeyed_some t w n now count input left old new h =
-    record { lines = h.lines; left = left; taken = h.taken; printed = all_part t w now (done_from t 1 h.lines) h.unmet old new h.printed }
+pub obeyed_some : (reasons : Reasons) (t : Contents) (w : Moment) (n : ℕ) (now : Moment) (count : ℕ) (input left old new : Option (List ℕ)) → AreObeyed reasons t w n now count input left old new → ObeysSome reasons t w input old new
+obeyed_some reasons t w n now count input left old new h =
+    record { lines = h.lines; left = left; taken = h.taken; printed = all_part reasons t w now (done_from t 1 h.lines) h.unmet old new h.printed }

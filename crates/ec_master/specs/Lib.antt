@@ -12,6 +12,8 @@ pub mod Texts
 pub mod Saying
 -- the whole command
 pub mod Mastering
+-- Laws: what the definitions say together.
+pub mod Laws
 -- Private: these serve private code and its proofs alone.
 pub mod Held
 pub mod Stages

@@ -4,6 +4,7 @@ use Rattle.std.specs.Io.KnownBytes.{Appends}
 use Rattle.ec_table.specs.Contents.{Contents}
 use Rattle.ec_wire.specs.Wires.{WireState}
 use Rattle.ec_lines.specs.Taking.{TakesLine, TakesLines, is_text_line, without_end}
+use Rattle.ec_why.specs.declared.wanted.Reasons.{Reasons}
 use Rattle.ec_console.specs.declared.refusal.Refusal.{Refusal}
 use Rattle.ec_console.specs.declared.refusal.Refusal.TheVariants.{Memory, Output, Input}
 use Rattle.ec_console.specs.Printing.{AppendsPart}
@@ -12,7 +13,7 @@ use Rattle.ec_master.specs.declared.order.Task.{Task}
 use Rattle.ec_master.specs.State.{ControlState}
 use Rattle.ec_master.specs.Controls.{Does}
 use Rattle.ec_master.specs.Orders.{bad_task, task_of}
-use Rattle.ec_master.specs.Texts.{answer_text, is_unmet}
+use Rattle.ec_master.specs.Texts.{IsWhy, answer_text, is_unmet}
 
 -- ---- lines
 
@@ -48,47 +49,50 @@ pub record Moment : Type 0 where
 abbrev pub unmet_of : Answer → ℕ
 unmet_of told = if is_unmet told then 1 else 0
 
--- a task is done once; its text is that of the master then
-pub record SaysTask (t : Contents) (w : Moment) (task : Task) (new : Moment) (printed : List ℕ) (unmet : ℕ) : Type 0 where
+-- a task is done once, in the same way whether reasons are told or not; its text is that of the master then; behind that stands
+-- why it can't be done or has failed, where reasons are told
+pub record SaysTask (reasons : Reasons) (t : Contents) (w : Moment) (task : Task) (new : Moment) (printed : List ℕ) (unmet : ℕ) : Type 0 where
   pub told : Answer
   pub does : Does task.order w.control w.wire new.control new.wire told
-  pub text : printed ≡ answer_text t task.number new.control told
+  pub why : List ℕ
+  pub reason : IsWhy reasons new.control told why
+  pub text : printed ≡ answer_text t task.number new.control told ++ why
   pub count : unmet ≡ unmet_of told
 
 -- What tasks print that are done once each, and how often what they expect isn't so. Each is done where the one before left the
 -- master and the wire.
-abbrev pub Says : Contents → Moment → List Task → Moment → List ℕ → ℕ → Type 0
-Says t w [] new printed unmet = (new ≡ w) × (printed ≡ []) × (unmet ≡ 0)
-Says t w (task ∷ tasks) new printed unmet = (mid : Moment) × (text : List ℕ) × (more : List ℕ) × (one : ℕ) × (rest : ℕ)
-    × SaysTask t w task mid text one × Says t mid tasks new more rest × (printed ≡ text ++ more) × (unmet ≡ one + rest)
+abbrev pub Says : Reasons → Contents → Moment → List Task → Moment → List ℕ → ℕ → Type 0
+Says reasons t w [] new printed unmet = (new ≡ w) × (printed ≡ []) × (unmet ≡ 0)
+Says reasons t w (task ∷ tasks) new printed unmet = (mid : Moment) × (text : List ℕ) × (more : List ℕ) × (one : ℕ) × (rest : ℕ)
+    × SaysTask reasons t w task mid text one × Says reasons t mid tasks new more rest × (printed ≡ text ++ more) × (unmet ≡ one + rest)
 
 -- these tasks are done and printed
-pub record PrintsAll (t : Contents) (w : Moment) (tasks : List Task) (last : Moment) (unmet : ℕ) (old new : Option (List ℕ)) : Type 0 where
+pub record PrintsAll (reasons : Reasons) (t : Contents) (w : Moment) (tasks : List Task) (last : Moment) (unmet : ℕ) (old new : Option (List ℕ)) : Type 0 where
   pub printed : List ℕ
-  pub says : Says t w tasks last printed unmet
+  pub says : Says reasons t w tasks last printed unmet
   pub appends : Appends old new printed
 
 -- a first part is printed of what some first of these tasks say
-pub record PrintsPart (t : Contents) (w : Moment) (tasks : List Task) (old new : Option (List ℕ)) : Type 0 where
+pub record PrintsPart (reasons : Reasons) (t : Contents) (w : Moment) (tasks : List Task) (old new : Option (List ℕ)) : Type 0 where
   pub count : ℕ
   pub last : Moment
   pub printed : List ℕ
   pub unmet : ℕ
-  pub says : Says t w (take count tasks) last printed unmet
+  pub says : Says reasons t w (take count tasks) last printed unmet
   pub appends : AppendsPart old new printed
 
 -- Lines are taken from an input up to its end, and done one after another as they come; each is printed before the next is taken.
-pub record ObeysAll (t : Contents) (w : Moment) (last : Moment) (unmet : ℕ) (input old new : Option (List ℕ)) : Type 0 where
+pub record ObeysAll (reasons : Reasons) (t : Contents) (w : Moment) (last : Moment) (unmet : ℕ) (input old new : Option (List ℕ)) : Type 0 where
   pub lines : List (List ℕ)
   pub taken : TakesToEnd input lines
-  pub printed : PrintsAll t w (done_from t 1 lines) last unmet old new
+  pub printed : PrintsAll reasons t w (done_from t 1 lines) last unmet old new
 
 -- The same until memory ran out, a read was refused or a write was.
-pub record ObeysSome (t : Contents) (w : Moment) (input old new : Option (List ℕ)) : Type 0 where
+pub record ObeysSome (reasons : Reasons) (t : Contents) (w : Moment) (input old new : Option (List ℕ)) : Type 0 where
   pub lines : List (List ℕ)
   pub left : Option (List ℕ)
   pub taken : TakesLines input left lines
-  pub printed : PrintsPart t w (done_from t 1 lines) old new
+  pub printed : PrintsPart reasons t w (done_from t 1 lines) old new
 
 -- what can end it so
 abbrev pub IsLate : Refusal → Type 0

@@ -1,10 +1,14 @@
 -- What is printed of an order (this project's profile): reports, start-ups and values as a script prints them.
-use Rattle.std.specs.Prelude.{ℕ, List, [], ◌++◌, Bool, true, false, codes}
+use Rattle.std.specs.Prelude.{ℕ, List, [], ◌++◌, Bool, true, false, None, codes}
 use Rattle.std.specs.Fmt.{decimal}
 use Rattle.ec_table.specs.Contents.{Contents}
 use Rattle.ec_start.specs.Running.{outcome_of}
 use Rattle.ec_text.specs.PlanText.{newline}
+use Rattle.ec_script.specs.Expecting.{is_failed}
 use Rattle.ec_script.specs.Texts.{outcome_text, report_if}
+use Rattle.ec_why.specs.declared.wanted.Reasons.{Reasons}
+use Rattle.ec_why.specs.declared.wanted.Reasons.TheVariants.{Told}
+use Rattle.ec_why.specs.Reasons.{ReasonIf}
 use Rattle.ec_loop.specs.Looping.{inputs_text, shown}
 use Rattle.ec_master.specs.declared.answer.Answer.{Answer}
 use Rattle.ec_master.specs.declared.answer.Answer.TheVariants.{Nothing, No, Unmet, Bad, Ended, Report, Fault, Values}
@@ -24,3 +28,13 @@ answer_text t n s Values = inputs_text (shown s.master) t
 abbrev pub is_unmet : Answer → Bool
 is_unmet Unmet = true
 is_unmet _ = false
+
+-- The answers behind which stands why, where reasons are told: that a line can't be done, and that a start-up has failed.
+abbrev pub is_reasoned : Reasons → ControlState → Answer → Bool
+is_reasoned Told s No = true
+is_reasoned Told s Ended = is_failed None (outcome_of s.start.phase)
+is_reasoned _ s _ = false
+
+-- why that is so, where reasons are told; behind any other answer there is nothing
+abbrev pub IsWhy : Reasons → ControlState → Answer → List ℕ → Type 0
+IsWhy reasons s told why = ReasonIf (is_reasoned reasons s told) why

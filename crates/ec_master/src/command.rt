@@ -19,6 +19,7 @@ use ec_link::{Plan, compile};
 use ec_sim::end_of;
 use ec_table::{Table, read_table};
 use ec_tap::{CapturedWire, Side};
+use ec_why::Reasons;
 use ec_wire::{SocketFault, UdpWire, Wire};
 use std::alloc::Global;
 use std::fs::Files;
@@ -44,6 +45,7 @@ pub struct Way<'a> {
 pub fn run_master<W: Wire, R: Read, O: Write>(
     alloc: Global,
     table: &Table,
+    reasons: Reasons,
     plan: &Plan,
     wire: &mut W,
     input: &mut R,
@@ -51,11 +53,11 @@ pub fn run_master<W: Wire, R: Read, O: Write>(
 ) -> Result<(), Refusal>
     requires accepted { compile_fault table.now ≡ None }
     requires plan { plan.now ≡ plan_of table.now }
-    ensures { RunsOver table.now (W.state wire.old) (W.state wire.new) (R.remaining input.old)
+    ensures { RunsOver reasons table.now (W.state wire.old) (W.state wire.new) (R.remaining input.old)
         (O.contents output.old) (O.contents output.new) result }
 {
     let mut control = Control::new(alloc, table, plan)?;
-    let unmet = print_lines(alloc, table, &mut control, wire, input, output)?;
+    let unmet = print_lines(alloc, table, reasons, &mut control, wire, input, output)?;
     end_of(unmet)
 }
 
@@ -63,6 +65,7 @@ pub fn run_master<W: Wire, R: Read, O: Write>(
 fn run_tapped<H: AllocGlobal + Files + Clock, W: Wire + Drop, R: Read, O: Write>(
     rt: &H,
     table: &Table,
+    reasons: Reasons,
     plan: &Plan,
     wire: W,
     capture: &mut Capture<H::File>,
@@ -73,17 +76,17 @@ fn run_tapped<H: AllocGlobal + Files + Clock, W: Wire + Drop, R: Read, O: Write>
     requires plan { plan.now ≡ plan_of table.now }
     requires sent { Tells (W.state wire).sent [] }
     requires received { Tells (W.state wire).received [] }
-    ensures { (last : W) × RunsOver table.now (W.state wire) (W.state last) (R.remaining input.old)
+    ensures { (last : W) × RunsOver reasons table.now (W.state wire) (W.state last) (R.remaining input.old)
         (O.contents output.old) (O.contents output.new) result }
 {
     match capture.take() {
         None => {
             let mut wire = wire;
-            run_master(rt.alloc(), table, plan, &mut wire, input, output)
+            run_master(rt.alloc(), table, reasons, plan, &mut wire, input, output)
         }
         Some(recording) => {
             let mut tapped = CapturedWire::new(wire, recording, Side::Master, rt);
-            let ended = run_master(rt.alloc(), table, plan, &mut tapped, input, output);
+            let ended = run_master(rt.alloc(), table, reasons, plan, &mut tapped, input, output);
             let (_, recording) = tapped.into_parts();
             *capture = Some(recording);
             ended
@@ -110,6 +113,7 @@ fn patience_of(way: Way<'_>) -> Patience {
 fn run_plan<H: AllocGlobal + Net + Files + Clock, R: Read, O: Write>(
     rt: &H,
     table: &Table,
+    reasons: Reasons,
     plan: &Plan,
     way: Way<'_>,
     capture: &mut Capture<H::File>,
@@ -118,17 +122,17 @@ fn run_plan<H: AllocGlobal + Net + Files + Clock, R: Read, O: Write>(
 ) -> Result<(), Refusal>
     requires accepted { compile_fault table.now ≡ None }
     requires plan { plan.now ≡ plan_of table.now }
-    ensures { RunsPlan table.now (R.remaining input.old) (O.contents output.old) (O.contents output.new) result }
+    ensures { RunsPlan reasons table.now (R.remaining input.old) (O.contents output.old) (O.contents output.new) result }
 {
     match way.descriptor {
         None => {
             let wire = connect(rt, way)?;
-            run_tapped(rt, table, plan, wire, capture, input, output)
+            run_tapped(rt, table, reasons, plan, wire, capture, input, output)
         }
         Some(descriptor) => {
             let own = Sender::Master;
             let wire = CardWire::of_descriptor(i32::from(descriptor), own, patience_of(way))?;
-            run_tapped(rt, table, plan, wire, capture, input, output)
+            run_tapped(rt, table, reasons, plan, wire, capture, input, output)
         }
     }
 }
@@ -137,46 +141,49 @@ fn run_plan<H: AllocGlobal + Net + Files + Clock, R: Read, O: Write>(
 fn run_table<H: AllocGlobal + Net + Files + Clock, R: Read, O: Write>(
     rt: &H,
     table: &Table,
+    reasons: Reasons,
     way: Way<'_>,
     capture: &mut Capture<H::File>,
     input: &mut R,
     output: &mut O,
 ) -> Result<(), Refusal>
-    ensures { RunsTable table.now (R.remaining input.old) (O.contents output.old) (O.contents output.new) result }
+    ensures { RunsTable reasons table.now (R.remaining input.old) (O.contents output.old) (O.contents output.new) result }
 {
     let plan = compile(rt.alloc(), table)?;
-    run_plan(rt, table, &plan, way, capture, input, output)
+    run_plan(rt, table, reasons, &plan, way, capture, input, output)
 }
 
 /// The same of the table that a text states.
 fn run_text<H: AllocGlobal + Net + Files + Clock, R: Read, O: Write>(
     rt: &H,
     text: &str,
+    reasons: Reasons,
     way: Way<'_>,
     capture: &mut Capture<H::File>,
     input: &mut R,
     output: &mut O,
 ) -> Result<(), Refusal>
-    ensures { RunsText text.now (R.remaining input.old) (O.contents output.old) (O.contents output.new) result }
+    ensures { RunsText reasons text.now (R.remaining input.old) (O.contents output.old) (O.contents output.new) result }
 {
     let table = read_table(rt.alloc(), text)?;
-    run_table(rt, &table, way, capture, input, output)
+    run_table(rt, &table, reasons, way, capture, input, output)
 }
 
 /// The same of the table that an input gives up to a line `%%`. A refusal of it is explained, where that is wanted.
 fn run_input<H: AllocGlobal + Net + Files + Clock, R: Read, O: Write>(
     rt: &H,
+    reasons: Reasons,
     way: Way<'_>,
     capture: &mut Capture<H::File>,
     input: &mut R,
     output: &mut O,
     behind: &mut Explanation,
 ) -> Result<(), Refusal>
-    ensures runs { RunsMaster (R.remaining input.old) (O.contents output.old) (O.contents output.new) result }
+    ensures runs { RunsMaster reasons (R.remaining input.old) (O.contents output.old) (O.contents output.new) result }
     ensures explains { IsLeft behind.old behind.new }
 {
     let text = take_text(rt.alloc(), input)?;
-    let ended = run_text(rt, text.as_str(), way, capture, input, output);
+    let ended = run_text(rt, text.as_str(), reasons, way, capture, input, output);
     if let Err(refusal) = &ended {
         behind.explain(rt.alloc(), text.as_str(), refusal);
     }
@@ -184,7 +191,8 @@ fn run_input<H: AllocGlobal + Net + Files + Clock, R: Read, O: Write>(
 }
 
 /// Reads a link table from the input up to a line `%%`, and then line after line as they come; each moves the table's master
-/// over a socket or a card, and what it tells is printed before the next is read.
+/// over a socket or a card, and what it tells is printed before the next is read, with why it can't be done or has failed behind
+/// it, where reasons are told.
 ///
 /// # Errors
 ///
@@ -193,32 +201,34 @@ fn run_input<H: AllocGlobal + Net + Files + Clock, R: Read, O: Write>(
 /// isn't so.
 pub fn print_master<H: AllocGlobal + Net + Files + Clock, R: Read, O: Write>(
     rt: &H,
+    reasons: Reasons,
     way: Way<'_>,
     input: &mut R,
     output: &mut O,
     behind: &mut Explanation,
 ) -> Result<(), Refusal>
-    ensures runs { RunsMaster (R.remaining input.old) (O.contents output.old) (O.contents output.new) result }
+    ensures runs { RunsMaster reasons (R.remaining input.old) (O.contents output.old) (O.contents output.new) result }
     ensures explains { IsLeft behind.old behind.new }
 {
-    run_input(rt, way, &mut None, input, output, behind)
+    run_input(rt, reasons, way, &mut None, input, output, behind)
 }
 
 /// The same with a capture that is open, which is then written to the end.
 fn run_captured<H: AllocGlobal + Net + Files + Clock, R: Read, O: Write>(
     rt: &H,
+    reasons: Reasons,
     way: Way<'_>,
     capture: Capture<H::File>,
     input: &mut R,
     output: &mut O,
     behind: &mut Explanation,
 ) -> Result<(), Refusal>
-    ensures runs { (ended : Result Unit RefusalValue) × RunsMaster (R.remaining input.old) (O.contents output.old)
+    ensures runs { (ended : Result Unit RefusalValue) × RunsMaster reasons (R.remaining input.old) (O.contents output.old)
         (O.contents output.new) ended × Finishes ended result }
     ensures explains { IsLeft behind.old behind.new }
 {
     let mut capture = capture;
-    let ended = run_input(rt, way, &mut capture, input, output, behind);
+    let ended = run_input(rt, reasons, way, &mut capture, input, output, behind);
     close_capture(ended, capture)
 }
 
@@ -231,16 +241,17 @@ fn run_captured<H: AllocGlobal + Net + Files + Clock, R: Read, O: Write>(
 #[tactic(auto, using(ec_captured::proofs::CaptureLemmas::captured_refused, ec_captured::proofs::CaptureLemmas::captured_end))]
 pub fn capture_master<H: AllocGlobal + Net + Files + Clock, R: Read, O: Write>(
     rt: &H,
+    reasons: Reasons,
     way: Way<'_>,
     file: &str,
     input: &mut R,
     output: &mut O,
     behind: &mut Explanation,
 ) -> Result<(), Refusal>
-    ensures runs { EndsCaptured (λ ended. RunsMaster (R.remaining input.old) (O.contents output.old)
+    ensures runs { EndsCaptured (λ ended. RunsMaster reasons (R.remaining input.old) (O.contents output.old)
         (O.contents output.new) ended) (output.new ≡ output.old) result }
     ensures explains { IsLeft behind.old behind.new }
 {
     let capture = open_capture(rt, file, "master")?;
-    run_captured(rt, way, capture, input, output, behind)
+    run_captured(rt, reasons, way, capture, input, output, behind)
 }

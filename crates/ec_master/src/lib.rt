@@ -4,9 +4,11 @@
 mod answer;
 mod command;
 mod control;
+pub mod laws;
 mod meeting;
 mod order;
 mod saying;
+mod why;
 
 pub use crate::answer::{Answer, answer_text};
 pub use crate::command::{Way, capture_master, print_master, run_master};

@@ -48,7 +48,7 @@ fn has_unit(control: &Control<'_>, number: u64, taken: bool) -> bool
 }
 
 /// Whether a start-up has failed, by the refusal of a number if one is wanted.
-fn is_failed(number: Option<u64>, outcome: Option<Result<(), StartError>>) -> bool
+pub(crate) fn is_failed(number: Option<u64>, outcome: Option<Result<(), StartError>>) -> bool
     ensures { result ≡ is_failed number outcome }
 {
     match (outcome, number) {

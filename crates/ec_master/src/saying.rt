@@ -4,12 +4,13 @@ ghost use Rattle.ec_sim.specs.Simulating.{counted};
 ghost use Rattle.ec_master.specs.Held.{IsNext};
 ghost use Rattle.ec_master.specs.Saying.{IsLate, ObeysAll, ObeysSome, PrintsAll, PrintsPart, repeated};
 
-use crate::answer::answer_text;
 use crate::control::Control;
 use crate::order::{Order, Task, read_task};
+use crate::why::told_text;
 use ec_console::{Refusal, print_text};
 use ec_lines::{Taken, take_line};
 use ec_table::Table;
+use ec_why::Reasons;
 use ec_wire::Wire;
 use std::alloc::Global;
 use std::io::{Read, Write};
@@ -18,44 +19,46 @@ use std::io::{Read, Write};
 fn print_once<W: Wire, O: Write>(
     alloc: Global,
     table: &Table,
+    reasons: Reasons,
     control: &mut Control<'_>,
     wire: &mut W,
     task: Task,
     output: &mut O,
 ) -> Result<bool, Refusal>
-    ensures all { IfOk result (λ unmet. PrintsAll table.now (record { control = control.old; wire = W.state wire.old }) (task ∷ [])
+    ensures all { IfOk result (λ unmet. PrintsAll reasons table.now (record { control = control.old; wire = W.state wire.old }) (task ∷ [])
         (record { control = control.new; wire = W.state wire.new }) (if unmet then 1 else 0)
         (O.contents output.old) (O.contents output.new)) }
-    ensures part { OnErr result (PrintsPart table.now (record { control = control.old; wire = W.state wire.old }) (task ∷ [])
+    ensures part { OnErr result (PrintsPart reasons table.now (record { control = control.old; wire = W.state wire.old }) (task ∷ [])
         (O.contents output.old) (O.contents output.new)) }
     ensures late { IfErr result IsLate }
 {
     let answer = control.obey(alloc, wire, task.order)?;
-    let text = answer_text(alloc, table, task.number, control, answer)?;
+    let text = told_text(alloc, table, reasons, control, task, answer)?;
     print_text(text.as_bytes(), output)?;
     Ok(answer.is_unmet())
 }
 
-/// Does a task as often as it is to be done, prints each time what there is to tell before it is done again, and answers how
-/// often what it expects isn't so.
+/// Does a task as often as it is to be done, prints each time what there is to tell before it is done again, with why it can't be
+/// done or has failed behind it, where reasons are told, and answers how often what it expects isn't so.
 pub fn print_task<W: Wire, O: Write>(
     alloc: Global,
     table: &Table,
+    reasons: Reasons,
     control: &mut Control<'_>,
     wire: &mut W,
     task: Task,
     output: &mut O,
 ) -> Result<u64, Refusal>
     ensures all { IfOk result (λ count. (unmet : ℕ) × (count ≡ counted unmet)
-        × PrintsAll table.now (record { control = control.old; wire = W.state wire.old }) (replicate task.times task)
+        × PrintsAll reasons table.now (record { control = control.old; wire = W.state wire.old }) (replicate task.times task)
         (record { control = control.new; wire = W.state wire.new }) unmet (O.contents output.old) (O.contents output.new)) }
-    ensures part { OnErr result (PrintsPart table.now (record { control = control.old; wire = W.state wire.old })
+    ensures part { OnErr result (PrintsPart reasons table.now (record { control = control.old; wire = W.state wire.old })
         (replicate task.times task) (O.contents output.old) (O.contents output.new)) }
     ensures late { IfErr result IsLate }
 {
     let mut unmet: u64 = 0;
     for _ in 0..task.times {
-        if print_once(alloc, table, control, wire, task, output)? {
+        if print_once(alloc, table, reasons, control, wire, task, output)? {
             unmet = unmet.saturating_add(1);
         }
     }
@@ -87,26 +90,28 @@ fn next_task<R: Read>(
 fn print_line<W: Wire, O: Write>(
     alloc: Global,
     table: &Table,
+    reasons: Reasons,
     control: &mut Control<'_>,
     wire: &mut W,
     task: Option<Task>,
     output: &mut O,
 ) -> Result<u64, Refusal>
     ensures all { IfOk result (λ count. (unmet : ℕ) × (count ≡ counted unmet)
-        × PrintsAll table.now (record { control = control.old; wire = W.state wire.old }) (repeated task)
+        × PrintsAll reasons table.now (record { control = control.old; wire = W.state wire.old }) (repeated task)
         (record { control = control.new; wire = W.state wire.new }) unmet (O.contents output.old) (O.contents output.new)) }
-    ensures part { OnErr result (PrintsPart table.now (record { control = control.old; wire = W.state wire.old })
+    ensures part { OnErr result (PrintsPart reasons table.now (record { control = control.old; wire = W.state wire.old })
         (repeated task) (O.contents output.old) (O.contents output.new)) }
     ensures late { IfErr result IsLate }
 {
     match task {
-        Some(task) => print_task(alloc, table, control, wire, task, output),
+        Some(task) => print_task(alloc, table, reasons, control, wire, task, output),
         None => Ok(0),
     }
 }
 
 /// Takes line after line from an input up to its end, does what each asks for over a wire, and prints what there is to tell
-/// before the next line is taken. It answers how often what lines expect isn't so.
+/// before the next line is taken, and why a line can't be done or a start-up has failed, where reasons are told. It answers how
+/// often what lines expect isn't so.
 ///
 /// # Errors
 ///
@@ -115,16 +120,17 @@ fn print_line<W: Wire, O: Write>(
 pub fn print_lines<W: Wire, R: Read, O: Write>(
     alloc: Global,
     table: &Table,
+    reasons: Reasons,
     control: &mut Control<'_>,
     wire: &mut W,
     input: &mut R,
     output: &mut O,
 ) -> Result<u64, Refusal>
     ensures all { IfOk result (λ count. (unmet : ℕ) × (count ≡ counted unmet)
-        × ObeysAll table.now (record { control = control.old; wire = W.state wire.old })
+        × ObeysAll reasons table.now (record { control = control.old; wire = W.state wire.old })
         (record { control = control.new; wire = W.state wire.new }) unmet (R.remaining input.old)
         (O.contents output.old) (O.contents output.new)) }
-    ensures part { OnErr result (ObeysSome table.now (record { control = control.old; wire = W.state wire.old })
+    ensures part { OnErr result (ObeysSome reasons table.now (record { control = control.old; wire = W.state wire.old })
         (R.remaining input.old) (O.contents output.old) (O.contents output.new)) }
     ensures late { IfErr result IsLate }
 {
@@ -133,7 +139,7 @@ pub fn print_lines<W: Wire, R: Read, O: Write>(
         let Some(task) = next_task(alloc, table, number, input)? else {
             return Ok(unmet);
         };
-        let count = print_line(alloc, table, control, wire, task, output)?;
+        let count = print_line(alloc, table, reasons, control, wire, task, output)?;
         unmet = unmet.saturating_add(count);
     }
     Err(Refusal::Input)

@@ -12,6 +12,17 @@ use std::time::Clock;
 /// Where nobody answers.
 const NOBODY: [&str; 6] = ["ecat", "master", "--to", "127.0.0.1:9", "--patience", "50"];
 
+/// The same with an explanation.
+const NOBODY_EXPLAINED: [&str; 7] = [
+    "ecat",
+    "master",
+    "--to",
+    "127.0.0.1:9",
+    "--patience",
+    "50",
+    "--explain",
+];
+
 /// No address with a port.
 const NOWHERE: [&str; 4] = ["ecat", "master", "--to", "localhost"];
 
@@ -21,12 +32,24 @@ const NO_CARD: [&str; 4] = ["ecat", "master", "--descriptor", "1023"];
 /// A run of `ecat master` on the three slaves with these lines: how it ends, what it prints and what it tells.
 type Lines<'a> = (&'a [&'a str], &'a str, u8, &'a str, &'a str);
 
-const RUNS: [Lines; 5] = [
+const RUNS: [Lines; 6] = [
     (
         &NOBODY,
         "ready\ncycle\nexpect failed 32\nshow\n",
         0,
         "failed 32\nno 2\nc 0\nd 0\n",
+        "",
+    ),
+    (
+        &NOBODY_EXPLAINED,
+        "cycle\nready\ncycle\nset a 16\nset c 1\nbegin\nreport\nshow\n",
+        0,
+        "no 1\n  there was no start-up: `ready` brings the slaves up\n\
+         failed 32\n  32 Lost: given up\n\
+         no 3\n  the last start-up failed, 32 Lost: given up; `ready` makes one more\n\
+         no 4\n  `a` has 4 bits, and its values go from -8 to 15\n\
+         no 5\n  `c` comes from slaves: the master doesn't set it\n\
+         bad 6\nno 7\n  no cycle has ended with a report yet\nc 0\nd 0\n",
         "",
     ),
     (

@@ -8,6 +8,7 @@ use ec_link::{Plan, compile};
 use ec_master::{Control, print_lines};
 use ec_rise::slaves_of;
 use ec_table::{Table, read_table};
+use ec_why::Reasons;
 use ec_wire::MemoryWire;
 use std::alloc::Global;
 use std::process::Abort;
@@ -97,6 +98,7 @@ fn run_plan(
     alloc: Global,
     table: &Table,
     plan: &Plan,
+    reasons: Reasons,
     lines: &[u8],
     fails_at: u64,
 ) -> Result<Ended, Fail>
@@ -110,6 +112,7 @@ fn run_plan(
     let ended = print_lines(
         alloc,
         table,
+        reasons,
         &mut control,
         &mut wire,
         &mut input,
@@ -119,24 +122,30 @@ fn run_plan(
 }
 
 /// The same of a table that was read.
-fn run_bytes(alloc: Global, table: &Table, lines: &[u8], fails_at: u64) -> Result<Ended, Fail> {
+fn run_bytes(
+    alloc: Global,
+    table: &Table,
+    reasons: Reasons,
+    lines: &[u8],
+    fails_at: u64,
+) -> Result<Ended, Fail> {
     let plan = compile(alloc, table)?;
-    run_plan(alloc, table, &plan, lines, fails_at)
+    run_plan(alloc, table, &plan, reasons, lines, fails_at)
 }
 
 /// The same of the three slaves.
-fn run(alloc: Global, lines: &str, fails_at: u64) -> Result<Ended, Fail> {
+fn run(alloc: Global, reasons: Reasons, lines: &str, fails_at: u64) -> Result<Ended, Fail> {
     let table = read_table(alloc, THREE_SLAVES)?;
-    run_bytes(alloc, &table, lines.as_bytes(), fails_at)
+    run_bytes(alloc, &table, reasons, lines.as_bytes(), fails_at)
 }
 
 /// Lines, the call of the wire that fails, how often what they expect isn't so, and what they print.
 type Run<'a> = (&'a str, u64, u64, &'a str);
 
 /// Runs lines, and compares what they print.
-fn expect_run<H: AllocGlobal + Abort>(rt: &H, run_of: Run) -> Result<(), Fail> {
+fn expect_run<H: AllocGlobal + Abort>(rt: &H, reasons: Reasons, run_of: Run) -> Result<(), Fail> {
     let (lines, fails_at, unmet, printed) = run_of;
-    let (ended, output) = run(rt.alloc(), lines, fails_at)?;
+    let (ended, output) = run(rt.alloc(), reasons, lines, fails_at)?;
     assert_eq!(rt;
         (ended, output.as_slice()),
         (Ok(unmet), printed.as_bytes()),
@@ -264,7 +273,136 @@ const RUNS: [Run; 18] = [
 #[test]
 fn lines_move_a_master(rt: HostRuntime) -> Result<(), Fail> {
     for one in RUNS {
-        expect_run(&rt, one)?;
+        expect_run(&rt, Reasons::Untold, one)?;
+    }
+    Ok(())
+}
+
+// Behind each line that can't be done, and behind a start-up that has failed, stands why, where reasons are told.
+const REASONED: [Run; 8] = [
+    (
+        "cycle\nready\ncycle\n",
+        NEVER,
+        0,
+        "no 1\n  there was no start-up: `ready` brings the slaves up\nready\nreport taken missing 0 counters 6 al 0008\n",
+    ),
+    (
+        "set c 1\nset a 16\nset a -9\nset c -9\nset b 4096\nset a 15\nset b -2048\nset e 1\n",
+        NEVER,
+        0,
+        "no 1\n  `c` comes from slaves: the master doesn't set it\n\
+         no 2\n  `a` has 4 bits, and its values go from -8 to 15\n\
+         no 3\n  `a` has 4 bits, and its values go from -8 to 15\n\
+         no 4\n  `c` comes from slaves: the master doesn't set it\n\
+         no 5\n  `b` has 12 bits, and its values go from -2048 to 4095\n\
+         bad 8\n",
+    ),
+    // What is repeated is told each time.
+    (
+        "repeat 2 report\n",
+        NEVER,
+        0,
+        "no 1\n  no cycle has ended with a report yet\nno 1\n  no cycle has ended with a report yet\n",
+    ),
+    // A start-up that fails, then a cycle, and then the next start-up.
+    (
+        "ready\ncycle\nexpect ready\nready\ncycle\n",
+        0,
+        1,
+        "failed 32\n  32 Lost: given up\n\
+         no 2\n  the last start-up failed, 32 Lost: given up; `ready` makes one more\n\
+         unmet 3\nready\nreport taken missing 0 counters 6 al 0008\n",
+    ),
+    // Behind one that was ready.
+    (
+        "ready\ncycle\nready\ncycle\nreport\n",
+        152,
+        0,
+        "ready\nreport taken missing 0 counters 6 al 0008\nfailed 32\n  32 Lost: given up\n\
+         no 4\n  the last start-up failed, 32 Lost: given up; `ready` makes one more\n\
+         report taken missing 0 counters 6 al 0008\n",
+    ),
+    // A fault of the wire is none, nor are lines that are no order, and what is expected.
+    (
+        "ready\ncycle\nreport\nbegin\nexpect taken\nshow\n",
+        150,
+        1,
+        "ready\nfault 37 Wire\nno 3\n  no cycle has ended with a report yet\nbad 4\nunmet 5\nc 0\nd 0\n",
+    ),
+    ("# nothing\n\nshow\n", NEVER, 0, "c 0\nd 0\n"),
+    ("", NEVER, 0, ""),
+];
+
+#[test]
+fn lines_tell_why(rt: HostRuntime) -> Result<(), Fail> {
+    for one in REASONED {
+        expect_run(&rt, Reasons::Told, one)?;
+    }
+    Ok(())
+}
+
+/// What lines print over a wire to the slaves of another plan, where reasons are told.
+fn run_others(
+    alloc: Global,
+    table: &Table,
+    plan: &Plan,
+    others: &Table,
+    lines: &[u8],
+) -> Result<Vec<u8>, Fail>
+    requires accepted { compile_fault table.now ≡ None }
+    requires plan { plan.now ≡ plan_of table.now }
+{
+    let there = compile(alloc, others)?;
+    let mut control = Control::new(alloc, table, plan)?;
+    let mut wire = MemoryWire::new(alloc, slaves_of(alloc, others, &there)?, 1000, NEVER)?;
+    let mut input = lines;
+    let mut output = Vec::new(alloc);
+    print_lines(
+        alloc,
+        table,
+        Reasons::Told,
+        &mut control,
+        &mut wire,
+        &mut input,
+        &mut output,
+    )?;
+    Ok(output)
+}
+
+// What a start-up has seen stands behind its end.
+#[test]
+fn failures_tell_what_was_seen(rt: HostRuntime) -> Result<(), Fail> {
+    let table = read_table(rt.alloc(), THREE_SLAVES)?;
+    let plan = compile(rt.alloc(), &table)?;
+    let first = THREE_SLAVES.split_once("[[slave]]\nname = \"s1\"");
+    let (head, _) = first.ok_or("no second slave")?;
+    let one = read_table(rt.alloc(), head)?;
+    let output = run_others(rt.alloc(), &table, &plan, &one, b"ready\n")?;
+    let printed = "failed 26\n  26 Count 1: 1 slave answered, and the table has 3\n";
+    assert_eq!(rt; output.as_slice(), printed.as_bytes());
+    let other = THREE_SLAVES.replace(rt.alloc(), "product = 2", "product = 9")?;
+    let other = read_table(rt.alloc(), other.as_str())?;
+    let output = run_others(rt.alloc(), &table, &plan, &other, b"ready\n")?;
+    let printed =
+        "failed 27\n  27 Identity 1 43981 9 1: slave 1: another device than its type says\n";
+    assert_eq!(rt; output.as_slice(), printed.as_bytes());
+    Ok(())
+}
+
+// Where no reasons are told, the same lines print the same but for them.
+#[test]
+fn reasons_stand_between_lines(rt: HostRuntime) -> Result<(), Fail> {
+    for (lines, fails_at, unmet, printed) in REASONED {
+        let mut plain = String::new(rt.alloc());
+        for line in printed.lines().filter(|line| !line.starts_with("  ")) {
+            plain.push_str(line)?;
+            plain.push_str("\n")?;
+        }
+        expect_run(
+            &rt,
+            Reasons::Untold,
+            (lines, fails_at, unmet, plain.as_str()),
+        )?;
     }
     Ok(())
 }
@@ -273,7 +411,13 @@ fn lines_move_a_master(rt: HostRuntime) -> Result<(), Fail> {
 #[test]
 fn bytes_that_are_no_text(rt: HostRuntime) -> Result<(), Fail> {
     let table = read_table(rt.alloc(), THREE_SLAVES)?;
-    let (ended, output) = run_bytes(rt.alloc(), &table, b"show # \xff\nshow\n", NEVER)?;
+    let (ended, output) = run_bytes(
+        rt.alloc(),
+        &table,
+        Reasons::Untold,
+        b"show # \xff\nshow\n",
+        NEVER,
+    )?;
     assert_eq!(rt;
         (ended, output.as_slice()),
         (Ok(0), b"bad 1\nc 0\nd 0\n".as_slice())
