@@ -1,5 +1,5 @@
 //! What a slave's SII must say by its table.
-use crate::bytes::{byte_at, part_of, word_at};
+use crate::bytes::{byte_at, part_of};
 use crate::eeprom::{Eeprom, FoundPdo};
 use crate::error::ScanError;
 use crate::expected::{expect_bytes, expect_count, expect_number};
