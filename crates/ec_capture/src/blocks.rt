@@ -23,7 +23,7 @@ const NAME: u8 = 2;
 const ETHERNET: u32 = 1;
 
 /// As many bytes of a frame may be kept.
-const MOST_KEPT: u32 = 65535;
+const MAX_KEPT: u32 = 65535;
 
 /// The head of a file.
 const SECTION: [u8; 28] = [
@@ -116,7 +116,7 @@ pub fn write_interface<W: Write>(name: &str, file: &mut W) -> Result<(), WriteFa
     ensures { Writes (block_bytes (interface_block name.now)) (W.contents file.old) (W.contents file.new) result }
 {
     let size = 20 + options_size(name.len());
-    write_numbers(&[INTERFACE, size, ETHERNET, MOST_KEPT], file)?;
+    write_numbers(&[INTERFACE, size, ETHERNET, MAX_KEPT], file)?;
     write_options(NAME, name, file)?;
     write_numbers(&[size], file)
 }

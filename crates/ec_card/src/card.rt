@@ -15,7 +15,7 @@ use std::time::Duration;
 const ROOM: usize = 1514;
 
 /// A master that got so many frames in a row which it isn't handed waits no longer.
-const MOST_FOREIGN: u64 = 1000;
+const MAX_FOREIGN: u64 = 1000;
 
 /// A wire over a network card: each payload goes in an Ethernet frame of type 0x88A4, and frames of
 /// other types, ones that are too short and one's own are dropped. It doesn't tell what it carried.
@@ -61,7 +61,7 @@ fn set_patience(socket: &UdpSocket, patience: Patience) -> bool {
 /// How many frames are read in one receive.
 fn reads_of(own: Sender, patience: Patience) -> u64 {
     match (own, patience) {
-        (Sender::Master, Patience::For(_)) => MOST_FOREIGN,
+        (Sender::Master, Patience::For(_)) => MAX_FOREIGN,
         _ => u64::MAX,
     }
 }

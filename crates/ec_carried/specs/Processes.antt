@@ -4,21 +4,21 @@ use Rattle.std.specs.Prelude.{ℕ, ◌==◌, ◌&&◌, ◌||◌, not, Bool, true
 use Rattle.ec_frame.specs.declared.command.Command.{Command}
 use Rattle.ec_frame.specs.declared.command.Command.TheVariants.{Lrd, Lwr, Lrw}
 use Rattle.ec_link.specs.declared.plan.PartPlan.{PartPlan}
-use Rattle.ec_link.specs.declared.plan.Predicted.{Predicted}
-use Rattle.ec_link.specs.declared.plan.Predicted.TheVariants as counters
+use Rattle.ec_link.specs.declared.plan.ExpectedCounters.{ExpectedCounters}
+use Rattle.ec_link.specs.declared.plan.ExpectedCounters.TheVariants as counters
 use Rattle.ec_link.specs.Plan.{PlanState}
 use Rattle.ec_carried.specs.declared.process.Process.{Process}
-use Rattle.ec_carried.specs.declared.process.Way.{Way}
-use Rattle.ec_carried.specs.declared.process.Way.TheVariants.{Both, Write, Read}
+use Rattle.ec_carried.specs.declared.process.ProcessCommand.{ProcessCommand}
+use Rattle.ec_carried.specs.declared.process.ProcessCommand.TheVariants.{Both, Write, Read}
 
-abbrev pub way_of : Command → Option Way
+abbrev pub way_of : Command → Option ProcessCommand
 way_of Lrw = Some Both
 way_of Lwr = Some Write
 way_of Lrd = Some Read
 way_of _ = None
 
 -- the parts that go by an LWR and an LRD
-abbrev pub is_split : Way → Bool
+abbrev pub is_split : ProcessCommand → Bool
 is_split Both = false
 is_split Write = true
 is_split Read = true
@@ -27,16 +27,16 @@ is_split Read = true
 abbrev pub is_of : (split : Bool) (address size : ℕ) → PartPlan → Bool
 is_of split address size part = ((part.address == address) && (part.bytes == size)) && ((part.split && split) || not (part.split || split))
 
-abbrev pub process_by : PlanState → (address size : ℕ) → Way → Option Process
+abbrev pub process_by : PlanState → (address size : ℕ) → ProcessCommand → Option Process
 process_by p address size way = option_map (λ k. record { part = k; way = way }) (position (is_of (is_split way) address size) p.parts)
 
 -- the part that a datagram of a command, an address and so many bytes of data is of, if it is of one
-abbrev pub process_of : PlanState → Option Way → (address size : ℕ) → Option Process
+abbrev pub process_of : PlanState → Option ProcessCommand → (address size : ℕ) → Option Process
 process_of p None address size = None
 process_of p (Some way) address size = process_by p address size way
 
 -- of the predicted counters that of a datagram; a part that isn't split has an LRW alone
-abbrev pub counter_of : Way → Predicted → Option ℕ
+abbrev pub counter_of : ProcessCommand → ExpectedCounters → Option ℕ
 counter_of Both (counters.Lrw n) = Some n
 counter_of Both (counters.Split w r) = None
 counter_of Write (counters.Lrw n) = None

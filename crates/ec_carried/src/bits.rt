@@ -7,7 +7,7 @@ ghost use Rattle.ec_carried.specs.Placing.{IsPlaced};
 
 use ec_bits::{read_bits, within};
 use ec_link::{Link, Plan, Variable};
-use ec_regs::Listed;
+use ec_listed::Listed;
 use ec_table::Direction;
 use std::alloc::{AllocError, Global};
 

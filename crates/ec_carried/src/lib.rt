@@ -7,5 +7,5 @@ mod process;
 mod saying;
 
 pub use crate::bits::{Carried, carried_bits, variable_at};
-pub use crate::process::{Process, Way, find_process, predicted_counter};
+pub use crate::process::{Process, ProcessCommand, find_process, predicted_counter};
 pub use crate::saying::{Told, write_process};

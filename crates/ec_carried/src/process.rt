@@ -5,11 +5,11 @@ ghost use Rattle.ec_link.specs.Shares.{predicted};
 ghost use Rattle.ec_carried.specs.Processes.{counter_of, is_of, is_split, process_by, process_of, way_of};
 
 use ec_frame::Command;
-use ec_link::{PartPlan, Plan, Predicted};
+use ec_link::{ExpectedCounters, PartPlan, Plan};
 
 /// How a datagram moves process data.
 #[derive(Clone, Copy, Debug, PartialEq, Eq)]
-pub enum Way {
+pub enum ProcessCommand {
     /// By an LRW: outputs to the slaves, and inputs from them.
     Both,
     /// By an LWR: outputs to the slaves.
@@ -24,18 +24,18 @@ pub struct Process {
     /// The part that it is of.
     pub part: usize,
     /// How it moves the part's data.
-    pub way: Way,
+    pub way: ProcessCommand,
 }
 
-impl Way {
+impl ProcessCommand {
     /// That of a logical command.
-    pub fn of(command: Command) -> Option<Way>
+    pub fn of(command: Command) -> Option<ProcessCommand>
         ensures { result ≡ way_of command }
     {
         match command {
-            Command::Lrw => Some(Way::Both),
-            Command::Lwr => Some(Way::Write),
-            Command::Lrd => Some(Way::Read),
+            Command::Lrw => Some(ProcessCommand::Both),
+            Command::Lwr => Some(ProcessCommand::Write),
+            Command::Lrd => Some(ProcessCommand::Read),
             _ => None,
         }
     }
@@ -45,8 +45,8 @@ impl Way {
         ensures { result ≡ is_split self }
     {
         match self {
-            Way::Both => false,
-            Way::Write | Way::Read => true,
+            ProcessCommand::Both => false,
+            ProcessCommand::Write | ProcessCommand::Read => true,
         }
     }
 }
@@ -71,7 +71,7 @@ fn find_part(plan: &Plan, split: bool, address: u32, size: usize) -> Option<usiz
 }
 
 /// The part of a plan that a datagram of a way is of.
-fn find_by(plan: &Plan, address: u32, size: usize, way: Way) -> Option<Process>
+fn find_by(plan: &Plan, address: u32, size: usize, way: ProcessCommand) -> Option<Process>
     ensures value { result ≡ process_by plan.now address size way }
     ensures there { IfSome result (λ process. process.part < length plan.now.parts) }
     ensures whole { IfSome result (λ process. size ≡ (part_at plan.now.parts process.part).bytes) }
@@ -87,7 +87,7 @@ pub fn find_process(plan: &Plan, command: Command, address: u32, size: usize) ->
     ensures there { IfSome result (λ process. process.part < length plan.now.parts) }
     ensures whole { IfSome result (λ process. size ≡ (part_at plan.now.parts process.part).bytes) }
 {
-    find_by(plan, address, size, Way::of(command)?)
+    find_by(plan, address, size, ProcessCommand::of(command)?)
 }
 
 /// The working counter with which a process datagram comes back where each slave of its part works; none
@@ -97,9 +97,9 @@ pub fn predicted_counter(plan: &Plan, process: Process) -> Option<usize>
     ensures { result ≡ counter_of process.way (predicted plan.now process.part) }
 {
     match (process.way, plan.predicted(process.part)) {
-        (Way::Both, Predicted::Lrw(count)) => Some(count),
-        (Way::Write, Predicted::Split { write, read: _ }) => Some(write),
-        (Way::Read, Predicted::Split { write: _, read }) => Some(read),
+        (ProcessCommand::Both, ExpectedCounters::Lrw(count)) => Some(count),
+        (ProcessCommand::Write, ExpectedCounters::Split { write, read: _ }) => Some(write),
+        (ProcessCommand::Read, ExpectedCounters::Split { write: _, read }) => Some(read),
         _ => None,
     }
 }

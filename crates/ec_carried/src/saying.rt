@@ -4,7 +4,7 @@ ghost use Rattle.ec_link.specs.Plan.{part_at};
 ghost use Rattle.ec_link.specs.Usable.{IsUsable};
 
 use crate::bits::{Carried, carried_bits, variable_at};
-use crate::process::{Process, Way, find_process, predicted_counter};
+use crate::process::{Process, ProcessCommand, find_process, predicted_counter};
 use ec_frame::Command;
 use ec_link::{Link, Plan};
 use ec_table::{Direction, Table};
@@ -138,10 +138,10 @@ pub fn write_process(
         return Ok(());
     };
     write_part(text, plan, process, told.counter)?;
-    if process.way != Way::Read {
+    if process.way != ProcessCommand::Read {
         write_direction(alloc, text, table, plan, process, Direction::Out, told)?;
     }
-    if process.way != Way::Write && told.counter > 0 {
+    if process.way != ProcessCommand::Write && told.counter > 0 {
         write_direction(alloc, text, table, plan, process, Direction::In, told)?;
     }
     Ok(())

@@ -1,6 +1,8 @@
 ghost use Rattle.ec_link.specs.Usable.{IsUsable};
 
-use ec_carried::{Process, Way, carried_bits, find_process, predicted_counter, variable_at};
+use ec_carried::{
+    Process, ProcessCommand, carried_bits, find_process, predicted_counter, variable_at,
+};
 use ec_frame::Command;
 use ec_link::{Plan, compile};
 use ec_table::{Direction, Table, read_table};
@@ -20,7 +22,10 @@ link = [ { var = "speed", slave = "low", index = 0x7000, sub = 1, bits = [0, 0, 
 
 /// The datagrams over the two bytes of the one part.
 fn expect_processes(rt: &impl Abort, plan: &Plan) {
-    for (command, way, counter) in [(Command::Lwr, Way::Write, 2), (Command::Lrd, Way::Read, 1)] {
+    for (command, way, counter) in [
+        (Command::Lwr, ProcessCommand::Write, 2),
+        (Command::Lrd, ProcessCommand::Read, 1),
+    ] {
         let process = Process { part: 0, way };
         assert_eq!(rt; find_process(plan, command, 0x0001_0000, 2), Some(process));
         assert_eq!(rt; find_process(plan, command, 0x0001_0000, 1), None);

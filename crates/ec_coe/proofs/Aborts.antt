@@ -3,20 +3,20 @@ use Rattle.std.proofs.Common.{ℕ, zero, suc, ◌+◌, ◌<◌, ◌≤◌, ◌�
 use Rattle.std.proofs.lemmas.Option.{slice_get_within, slice_get_cases}
 use Rattle.std.proofs.lemmas.Map.Keys.{any_passes_from_place}
 use Rattle.std.proofs.lemmas.Bool.{cases_Bool, cases_lt, cases_order, false≢true, eqb-true, eqb-false, eq-eqb, ne_eqb, leb-true, leb-false, and_parts, and_cases, and_left, and_right, or_cases, or_parts, not-false, not_from_true}
-use Rattle.ec_regs.specs.declared.slave_type.Pdo.{Pdo}
-use Rattle.ec_regs.specs.declared.slave_type.Face.{Face}
-use Rattle.ec_regs.specs.Objects.{pdo_at, bits_assigned}
-use Rattle.ec_coe.specs.declared.value.Size.{Size}
-use Rattle.ec_coe.specs.declared.value.Value.{Value}
-use Rattle.ec_coe.specs.declared.message.Command.{Command}
-use Rattle.ec_coe.specs.declared.message.Command.TheVariants.{DownloadRequest, DownloadResponse, UploadRequest, UploadResponse, Abort, Other as OtherCommand}
+use Rattle.ec_device.specs.declared.slave_type.Pdo.{Pdo}
+use Rattle.ec_device.specs.declared.slave_type.Face.{Face}
+use Rattle.ec_device.specs.Objects.{pdo_at, bits_assigned}
+use Rattle.ec_coe.specs.declared.value.ValueSize.{ValueSize}
+use Rattle.ec_coe.specs.declared.value.SdoValue.{SdoValue}
+use Rattle.ec_coe.specs.declared.message.SdoCommand.{SdoCommand}
+use Rattle.ec_coe.specs.declared.message.SdoCommand.TheVariants.{DownloadRequest, DownloadResponse, UploadRequest, UploadResponse, Abort, Other as OtherCommand}
 use Rattle.ec_coe.specs.declared.message.Service.TheVariants.{Request, Response}
 use Rattle.ec_coe.specs.declared.message.Message.{Message}
 use Rattle.ec_coe.specs.declared.abort_code.AbortCode.{AbortCode}
 use Rattle.ec_coe.specs.declared.abort_code.AbortCode.TheVariants.{InvalidCommand, ReadOnly, NoObject, WrongLength, NoSubindex, InvalidValue, WrongState}
 use Rattle.ec_coe.specs.Messages.{size_number}
 use Rattle.ec_coe.specs.Objects.{Assignment, Dictionary, output_assignment, input_assignment, device_name_object, object_values}
-use Rattle.ec_coe.specs.Transfers.{abort_number, value_or_abort, value_at, uploaded, contains, distinct, most_bits, takes_count, takes_value, with_value, is_open, assignment_written, with_outs, with_ins, is_assignment, written_over, downloaded}
+use Rattle.ec_coe.specs.Transfers.{abort_number, value_or_abort, value_at, uploaded, contains, distinct, max_bits, takes_count, takes_value, with_value, is_open, assignment_written, with_outs, with_ins, is_assignment, written_over, downloaded}
 use Rattle.ec_coe.specs.Answers.{Answer, abort_to, has_long_name, upload_reply, download_answer, value_of, invalid_answer, answer_by, answered}
 use Rattle.ec_coe.specs.AbortLaw.{pdos_at, assignment_at, Downloads, HasTwice, IsBadCount, IsBadIndex, HasInvalidValue, Causes, place_in_order, IsFirstAbort, FirstAbort}
 use Rattle.ec_coe.specs.AbortLaw.IsBadCount.{TooMany, Double, TooLong}
@@ -121,20 +121,20 @@ law_done p d m counter (Answers clean is) h = is counter
 
 -- ---- the commands
 
-no_request : (p : Bool) (d : Dictionary) (m : Message) (c : Command) → m.command ≡ c → ((counter : ℕ) → answer_by p d m counter c ≡ invalid_answer d m counter) → ((size : Size) → c ≡ DownloadRequest size → ⊥) → (c ≡ UploadRequest → ⊥) → Verdict p d m
+no_request : (p : Bool) (d : Dictionary) (m : Message) (c : SdoCommand) → m.command ≡ c → ((counter : ℕ) → answer_by p d m counter c ≡ invalid_answer d m counter) → ((size : ValueSize) → c ≡ DownloadRequest size → ⊥) → (c ≡ UploadRequest → ⊥) → Verdict p d m
 unfolding answered
 no_request p d m c is by no_download no_upload =
     aborts p d m InvalidCommand (clean_none p d m) (record { no_download = λ size h. no_download size (sym is ∙ h); no_upload = λ h. no_upload (sym is ∙ h) })
     (λ counter. ap (answer_by p d m counter) is ∙ by counter)
 
-no_download_is : (p : Bool) (d : Dictionary) (m : Message) → m.command ≡ UploadRequest → (size : Size) → Downloads m size → ⊥
+no_download_is : (p : Bool) (d : Dictionary) (m : Message) → m.command ≡ UploadRequest → (size : ValueSize) → Downloads m size → ⊥
 no_download_is p d m is size h = let e : UploadRequest ≡ DownloadRequest size = sym is ∙ h in cc
 
 -- an abort is the same, however a value would come; and a value comes in a response
 refused_reply : (face : Option Face) (m : Message) (counter : ℕ) (code : AbortCode) → upload_reply face m counter (Err code) ≡ abort_to m counter code
 refused_reply face m counter code = elim (cases_Bool ((m.index == device_name_object) && has_long_name face)) [ inl on ↦ rw on refl | inr off ↦ rw off refl ]
 
-responded : (face : Option Face) (m : Message) (counter : ℕ) (v : Value) → (upload_reply face m counter (Ok v)).service ≡ Response
+responded : (face : Option Face) (m : Message) (counter : ℕ) (v : SdoValue) → (upload_reply face m counter (Ok v)).service ≡ Response
 responded face m counter v = elim (cases_Bool ((m.index == device_name_object) && has_long_name face)) [ inl on ↦ rw on refl | inr off ↦ rw off refl ]
 
 aborted_upload : (p : Bool) (d : Dictionary) (m : Message) (code : AbortCode) → m.command ≡ UploadRequest → uploaded d m.index m.subindex ≡ Err code
@@ -142,17 +142,17 @@ aborted_upload : (p : Bool) (d : Dictionary) (m : Message) (code : AbortCode) �
 unfolding answered
 aborted_upload p d m code is h counter = ap (answer_by p d m counter) is ∙ ap (λ r. record { reply = upload_reply d.kind.face m counter r; dictionary = d }) h ∙ ap (λ r. record { reply = r; dictionary = d }) (refused_reply d.kind.face m counter code)
 
-answered_upload : (p : Bool) (d : Dictionary) (m : Message) (v : Value) → m.command ≡ UploadRequest → uploaded d m.index m.subindex ≡ Ok v → (counter : ℕ) → (answered p d m counter).reply.service ≡ Response
+answered_upload : (p : Bool) (d : Dictionary) (m : Message) (v : SdoValue) → m.command ≡ UploadRequest → uploaded d m.index m.subindex ≡ Ok v → (counter : ℕ) → (answered p d m counter).reply.service ≡ Response
 unfolding answered
 answered_upload p d m v is h counter =
     ap (λ (a : Answer). a.reply.service) (ap (answer_by p d m counter) is) ∙ ap (λ r. (upload_reply d.kind.face m counter r).service) h ∙ responded d.kind.face m counter v
 
-aborted_download : (p : Bool) (d : Dictionary) (m : Message) (size : Size) (code : AbortCode) → m.command ≡ DownloadRequest size → downloaded p d m.index m.subindex (value_of size m.value) ≡ Err code
+aborted_download : (p : Bool) (d : Dictionary) (m : Message) (size : ValueSize) (code : AbortCode) → m.command ≡ DownloadRequest size → downloaded p d m.index m.subindex (value_of size m.value) ≡ Err code
     → (counter : ℕ) → answered p d m counter ≡ record { reply = abort_to m counter code; dictionary = d }
 unfolding answered
 aborted_download p d m size code is h counter = ap (answer_by p d m counter) is ∙ ap (download_answer d m counter) h
 
-answered_download : (p : Bool) (d : Dictionary) (m : Message) (size : Size) (e : Dictionary) → m.command ≡ DownloadRequest size → downloaded p d m.index m.subindex (value_of size m.value) ≡ Ok e → (counter : ℕ) → (answered p d m counter).reply.service ≡ Response
+answered_download : (p : Bool) (d : Dictionary) (m : Message) (size : ValueSize) (e : Dictionary) → m.command ≡ DownloadRequest size → downloaded p d m.index m.subindex (value_of size m.value) ≡ Ok e → (counter : ℕ) → (answered p d m counter).reply.service ≡ Response
 unfolding answered
 answered_download p d m size e is h counter =
     ap (λ (a : Answer). a.reply.service) (ap (answer_by p d m counter) is) ∙ ap (λ r. (download_answer d m counter r).reply.service) h
@@ -163,21 +163,21 @@ uploaded_none : (d : Dictionary) (m : Message) → object_values d m.index ≡ N
 unfolding uploaded
 uploaded_none d m h = ap (λ o. value_at o m.subindex) h
 
-uploaded_past : (d : Dictionary) (m : Message) (vs : List Value) → object_values d m.index ≡ Some vs → slice_get vs m.subindex ≡ None → uploaded d m.index m.subindex ≡ Err NoSubindex
+uploaded_past : (d : Dictionary) (m : Message) (vs : List SdoValue) → object_values d m.index ≡ Some vs → slice_get vs m.subindex ≡ None → uploaded d m.index m.subindex ≡ Err NoSubindex
 unfolding uploaded
 uploaded_past d m vs h g = ap (λ o. value_at o m.subindex) h ∙ ap value_or_abort g
 
-uploaded_there : (d : Dictionary) (m : Message) (vs : List Value) (v : Value) → object_values d m.index ≡ Some vs → slice_get vs m.subindex ≡ Some v → uploaded d m.index m.subindex ≡ Ok v
+uploaded_there : (d : Dictionary) (m : Message) (vs : List SdoValue) (v : SdoValue) → object_values d m.index ≡ Some vs → slice_get vs m.subindex ≡ Some v → uploaded d m.index m.subindex ≡ Ok v
 unfolding uploaded
 uploaded_there d m vs v h g = ap (λ o. value_at o m.subindex) h ∙ ap value_or_abort g
 
-past_end : (vs : List Value) (k : ℕ) → slice_get vs k ≡ None → length vs ≤ k
+past_end : (vs : List SdoValue) (k : ℕ) → slice_get vs k ≡ None → length vs ≤ k
 past_end vs k h = elim ((slice_get_cases vs k).1) [ inl in_it ↦ absurd (let at = in_it.2 in cc) | inr out ↦ out.0 ]
 
 -- a request of a command that the slave has: its object and value, or one of the two aborts
 module _ (p : Bool) (d : Dictionary) (m : Message) (abort : (code : AbortCode) → uploaded d m.index m.subindex ≡ Err code → (counter : ℕ) → answered p d m counter ≡ record { reply = abort_to m counter code; dictionary = d })
-    (go : (vs : List Value) (v : Value) → Clean p d m 3 → object_values d m.index ≡ Some vs → slice_get vs m.subindex ≡ Some v → uploaded d m.index m.subindex ≡ Ok v → Verdict p d m) where
-  at_value : (vs : List Value) → Clean p d m 2 → object_values d m.index ≡ Some vs → (s : Option Value) → slice_get vs m.subindex ≡ s → Verdict p d m
+    (go : (vs : List SdoValue) (v : SdoValue) → Clean p d m 3 → object_values d m.index ≡ Some vs → slice_get vs m.subindex ≡ Some v → uploaded d m.index m.subindex ≡ Ok v → Verdict p d m) where
+  at_value : (vs : List SdoValue) → Clean p d m 2 → object_values d m.index ≡ Some vs → (s : Option SdoValue) → slice_get vs m.subindex ≡ s → Verdict p d m
   at_value vs clean h None g = aborts p d m NoSubindex clean (record { values = vs; object = h; past = past_end vs m.subindex g }) (abort NoSubindex (uploaded_past d m vs h g))
   at_value vs clean h (Some v) g =
       go vs v (clean_more p d m 2 clean (λ c.
@@ -186,7 +186,7 @@ module _ (p : Bool) (d : Dictionary) (m : Message) (abort : (code : AbortCode) �
       let past : length vs ≤ m.subindex = subst (λ ws. length ws ≤ m.subindex) same c.past in
       omega arith)) h g (uploaded_there d m vs v h g)
 
-  at_object : Clean p d m 1 → (o : Option (List Value)) → object_values d m.index ≡ o → Verdict p d m
+  at_object : Clean p d m 1 → (o : Option (List SdoValue)) → object_values d m.index ≡ o → Verdict p d m
   at_object clean None h = aborts p d m NoObject clean (record { none = h }) (abort NoObject (uploaded_none d m h))
   at_object clean (Some vs) h = at_value vs (clean_more p d m 1 clean (λ c. let o = c.none in cc)) h (slice_get vs m.subindex) refl
 
@@ -231,26 +231,26 @@ twice_from (n ∷ ns) zero (suc j) x lt a b =
 twice_from (n ∷ ns) (suc i) (suc j) x lt a b = and_right (not (contains ns n)) (distinct ns) (twice_from ns i j x (omega arith) a b)
 
 bad_count : (ps : List Pdo) (a : Assignment) (n : ℕ) → takes_count ps a n ≡ false → IsBadCount ps a n
-bad_count ps a n h = elim (and_cases (nat_le n (length ps)) (distinct (take n a.slots) && nat_le (bits_assigned ps (take n a.slots)) most_bits) h) [
+bad_count ps a n h = elim (and_cases (nat_le n (length ps)) (distinct (take n a.slots) && nat_le (bits_assigned ps (take n a.slots)) max_bits) h) [
   | inl many ↦ TooMany (leb-false n (length ps) many)
-  | inr rest ↦ elim (and_cases (distinct (take n a.slots)) (nat_le (bits_assigned ps (take n a.slots)) most_bits) rest) [
+  | inr rest ↦ elim (and_cases (distinct (take n a.slots)) (nat_le (bits_assigned ps (take n a.slots)) max_bits) rest) [
     | inl twice ↦ Double (twice_found (take n a.slots) twice)
-    | inr long ↦ TooLong (leb-false (bits_assigned ps (take n a.slots)) most_bits long)
+    | inr long ↦ TooLong (leb-false (bits_assigned ps (take n a.slots)) max_bits long)
   ]
 ]
 
 good_count : (ps : List Pdo) (a : Assignment) (n : ℕ) → takes_count ps a n ≡ true → IsBadCount ps a n → ⊥
 good_count ps a n h (TooMany many) =
-    let parts = and_parts (nat_le n (length ps)) (distinct (take n a.slots) && nat_le (bits_assigned ps (take n a.slots)) most_bits) h in
+    let parts = and_parts (nat_le n (length ps)) (distinct (take n a.slots) && nat_le (bits_assigned ps (take n a.slots)) max_bits) h in
     omega (arith, leb-true n (length ps) parts.0, many)
 good_count ps a n h (Double t) =
-    let parts = and_parts (nat_le n (length ps)) (distinct (take n a.slots) && nat_le (bits_assigned ps (take n a.slots)) most_bits) h in
-    let inner = and_parts (distinct (take n a.slots)) (nat_le (bits_assigned ps (take n a.slots)) most_bits) parts.1 in
+    let parts = and_parts (nat_le n (length ps)) (distinct (take n a.slots) && nat_le (bits_assigned ps (take n a.slots)) max_bits) h in
+    let inner = and_parts (distinct (take n a.slots)) (nat_le (bits_assigned ps (take n a.slots)) max_bits) parts.1 in
     false≢true (sym (twice_from (take n a.slots) t.first t.second t.number t.before t.there t.there_too) ∙ inner.0)
 good_count ps a n h (TooLong long) =
-    let parts = and_parts (nat_le n (length ps)) (distinct (take n a.slots) && nat_le (bits_assigned ps (take n a.slots)) most_bits) h in
-    let inner = and_parts (distinct (take n a.slots)) (nat_le (bits_assigned ps (take n a.slots)) most_bits) parts.1 in
-    omega (arith, leb-true (bits_assigned ps (take n a.slots)) most_bits inner.1, long)
+    let parts = and_parts (nat_le n (length ps)) (distinct (take n a.slots) && nat_le (bits_assigned ps (take n a.slots)) max_bits) h in
+    let inner = and_parts (distinct (take n a.slots)) (nat_le (bits_assigned ps (take n a.slots)) max_bits) parts.1 in
+    omega (arith, leb-true (bits_assigned ps (take n a.slots)) max_bits inner.1, long)
 
 none_behind : (x : Pdo) (ps : List Pdo) (index : ℕ) → x.index ≢ index → ((k : ℕ) (q : Pdo) → slice_get ps k ≡ Some q → q.index ≢ index) → (k : ℕ) (q : Pdo) → slice_get (x ∷ ps) k ≡ Some q → q.index ≢ index
 none_behind x ps index ne w zero q at = let same : x ≡ q = cc in subst (λ (y : Pdo). y.index ≢ index) same ne
@@ -330,11 +330,11 @@ open_is p a subindex h closed =
       ]
     ]
 
-module _ (p : Bool) (d : Dictionary) (m : Message) (size : Size) (is : m.command ≡ DownloadRequest size) (vs : List Value) (v : Value) (object : object_values d m.index ≡ Some vs) (there : slice_get vs m.subindex ≡ Some v) (found : uploaded d m.index m.subindex ≡ Ok v) where
+module _ (p : Bool) (d : Dictionary) (m : Message) (size : ValueSize) (is : m.command ≡ DownloadRequest size) (vs : List SdoValue) (v : SdoValue) (object : object_values d m.index ≡ Some vs) (there : slice_get vs m.subindex ≡ Some v) (found : uploaded d m.index m.subindex ≡ Ok v) where
   abbrev number : ℕ
   number = (value_of size m.value).number
 
-  same_size : (z : Size) → Downloads m z → z ≡ size
+  same_size : (z : ValueSize) → Downloads m z → z ≡ size
   same_size z h = let e : DownloadRequest z ≡ DownloadRequest size = sym h ∙ is in cc
 
   chain : downloaded p d m.index m.subindex (value_of size m.value) ≡ written_over p d m.index m.subindex (value_of size m.value) (Ok v)
@@ -398,7 +398,7 @@ module _ (p : Bool) (d : Dictionary) (m : Message) (size : Size) (is : m.command
         let values : c.values ≡ vs = let o = c.object in cc in
         let at : slice_get vs m.subindex ≡ Some c.value = subst (λ ws. slice_get ws m.subindex ≡ Some c.value) values c.there in
         let value : c.value ≡ v = cc in
-        c.unlike (ap size_number (same_size c.size c.download) ∙ eqb-true (size_number size) (size_number v.size) on ∙ ap (λ (x : Value). size_number x.size) (sym value))))
+        c.unlike (ap size_number (same_size c.size c.download) ∙ eqb-true (size_number size) (size_number v.size) on ∙ ap (λ (x : SdoValue). size_number x.size) (sym value))))
         (to_assignment h on)
   ]
 
@@ -415,18 +415,18 @@ module _ (p : Bool) (d : Dictionary) (m : Message) (size : Size) (is : m.command
         ])) on
   ]
 
-refused_early : (p : Bool) (d : Dictionary) (m : Message) (size : Size) (code : AbortCode) → uploaded d m.index m.subindex ≡ Err code → downloaded p d m.index m.subindex (value_of size m.value) ≡ Err code
+refused_early : (p : Bool) (d : Dictionary) (m : Message) (size : ValueSize) (code : AbortCode) → uploaded d m.index m.subindex ≡ Err code → downloaded p d m.index m.subindex (value_of size m.value) ≡ Err code
 unfolding downloaded
 refused_early p d m size code h = ap (written_over p d m.index m.subindex (value_of size m.value)) h
 
-download_verdict : (p : Bool) (d : Dictionary) (m : Message) (size : Size) → m.command ≡ DownloadRequest size → Verdict p d m
+download_verdict : (p : Bool) (d : Dictionary) (m : Message) (size : ValueSize) → m.command ≡ DownloadRequest size → Verdict p d m
 download_verdict p d m size is =
     at_object p d m (λ code h. aborted_download p d m size code is (refused_early p d m size code h)) (λ vs v clean h g u. at_index p d m size is vs v h g u clean)
     (clean_more p d m 0 (clean_none p d m) (λ c. c.no_download size is)) (object_values d m.index) refl
 
 -- ---- the whole
 
-verdict : (p : Bool) (d : Dictionary) (m : Message) (c : Command) → m.command ≡ c → Verdict p d m
+verdict : (p : Bool) (d : Dictionary) (m : Message) (c : SdoCommand) → m.command ≡ c → Verdict p d m
 verdict p d m (DownloadRequest size) is = download_verdict p d m size is
 verdict p d m UploadRequest is = upload_verdict p d m is
 verdict p d m DownloadResponse is = no_request p d m DownloadResponse is (λ counter. refl) (λ size h. cc) (λ h. cc)

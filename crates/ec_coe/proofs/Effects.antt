@@ -2,12 +2,12 @@
 use Rattle.std.proofs.Common.{ℕ, ◌-◌, ◌≡◌, ◌≢◌, ◌==◌, ◌&&◌, ◌||◌, not, Bool, true, false, Result, Ok, Err, refl, sym, ◌∙◌, ap, inl, inr, if◌then◌else◌, List, length, set, length-set}
 use Rattle.std.proofs.lemmas.Bool.{cases_eq, eqb-true, eq-eqb, ne_eqb}
 use Rattle.ec_bits.proofs.AnyLaws.{if_true, if_false}
-use Rattle.ec_regs.specs.declared.slave_type.Pdo.{Pdo}
-use Rattle.ec_coe.specs.declared.value.Value.{Value}
+use Rattle.ec_device.specs.declared.slave_type.Pdo.{Pdo}
+use Rattle.ec_coe.specs.declared.value.SdoValue.{SdoValue}
 use Rattle.ec_coe.specs.declared.abort_code.AbortCode.{AbortCode}
 use Rattle.ec_coe.specs.declared.abort_code.AbortCode.TheVariants.{ReadOnly, WrongLength, InvalidValue, WrongState}
-use Rattle.ec_coe.specs.declared.message.Command.{Command}
-use Rattle.ec_coe.specs.declared.message.Command.TheVariants.{DownloadRequest, DownloadResponse, UploadRequest, UploadResponse, Abort, Other as OtherCommand}
+use Rattle.ec_coe.specs.declared.message.SdoCommand.{SdoCommand}
+use Rattle.ec_coe.specs.declared.message.SdoCommand.TheVariants.{DownloadRequest, DownloadResponse, UploadRequest, UploadResponse, Abort, Other as OtherCommand}
 use Rattle.ec_coe.specs.declared.message.Message.{Message}
 use Rattle.ec_coe.specs.Messages.{size_number}
 use Rattle.ec_coe.specs.Objects.{Assignment, Dictionary, output_assignment, input_assignment}
@@ -84,7 +84,7 @@ ins-effect : (in_preop : Bool) (d : Dictionary) (index subindex number : ℕ) (e
 ins-effect in_preop d index subindex number e (Ok b) o i q h = ((h b refl).0, Inputs o i b (sym (ok-is _ _ q)) (h b refl).1)
 ins-effect in_preop d index subindex number e (Err code) o i q h = absurd (err-not code e q)
 
-over-effect : (in_preop : Bool) (d : Dictionary) (index subindex : ℕ) (v : Value) (e : Dictionary) (old : Result Value AbortCode)
+over-effect : (in_preop : Bool) (d : Dictionary) (index subindex : ℕ) (v : SdoValue) (e : Dictionary) (old : Result SdoValue AbortCode)
     → written_over in_preop d index subindex v old ≡ good e → (in_preop ≡ true) × Downloaded d index subindex v.number e
 over-effect in_preop d index subindex v e (Err code) q = absurd (err-not code e q)
 over-effect in_preop d index subindex v e (Ok old) q =
@@ -100,7 +100,7 @@ over-effect in_preop d index subindex v e (Ok old) q =
           (λ b r. assignment-effect in_preop d.kind.inputs d.ins subindex v.number b r)
     ]
 
-pub download-effect : (in_preop : Bool) (d : Dictionary) (index subindex : ℕ) (v : Value) (e : Dictionary) → downloaded in_preop d index subindex v ≡ good e
+pub download-effect : (in_preop : Bool) (d : Dictionary) (index subindex : ℕ) (v : SdoValue) (e : Dictionary) → downloaded in_preop d index subindex v ≡ good e
     → (in_preop ≡ true) × Downloaded d index subindex v.number e
 unfolding downloaded
 download-effect in_preop d index subindex v e q = over-effect in_preop d index subindex v e (uploaded d index subindex) q
@@ -112,12 +112,12 @@ pub data Changed (in_preop : Bool) (d e : Dictionary) : Type 0 where
   Same : e ≡ d → Changed in_preop d e
   Done : in_preop ≡ true → (index subindex number : ℕ) → Downloaded d index subindex number e → Changed in_preop d e
 
-done-changed : (in_preop : Bool) (d : Dictionary) (m : Message) (counter index subindex : ℕ) (v : Value) (r : Result Dictionary AbortCode)
+done-changed : (in_preop : Bool) (d : Dictionary) (m : Message) (counter index subindex : ℕ) (v : SdoValue) (r : Result Dictionary AbortCode)
     → downloaded in_preop d index subindex v ≡ r → Changed in_preop d (download_answer d m counter r).dictionary
 done-changed in_preop d m counter index subindex v (Ok after) e = let w = download-effect in_preop d index subindex v after e in Done w.0 index subindex v.number w.1
 done-changed in_preop d m counter index subindex v (Err code) e = Same refl
 
-by-changed : (in_preop : Bool) (d : Dictionary) (m : Message) (counter : ℕ) (c : Command) → Changed in_preop d (answer_by in_preop d m counter c).dictionary
+by-changed : (in_preop : Bool) (d : Dictionary) (m : Message) (counter : ℕ) (c : SdoCommand) → Changed in_preop d (answer_by in_preop d m counter c).dictionary
 by-changed in_preop d m counter (DownloadRequest s) = done-changed in_preop d m counter m.index m.subindex (value_of s m.value) _ refl
 by-changed in_preop d m counter UploadRequest = Same refl
 by-changed in_preop d m counter DownloadResponse = Same refl

@@ -5,10 +5,10 @@ use Rattle.std.proofs.lemmas.List.Folds.{find-append}
 use Rattle.std.specs.Option.{option_or}
 use Rattle.std.proofs.lemmas.Option.{slice_get-map}
 use Rattle.ec_bits.proofs.AnyLaws.{if_true, if_false}
-use Rattle.ec_regs.specs.declared.slave_type.Pdo.{Pdo}
-use Rattle.ec_regs.specs.Types.{ArePdos, pdo_bits}
-use Rattle.ec_regs.specs.Objects.{pdo_at}
-use Rattle.ec_regs.proofs.Limits.{few_bits}
+use Rattle.ec_device.specs.declared.slave_type.Pdo.{Pdo}
+use Rattle.ec_device.specs.Types.{ArePdos, pdo_bits}
+use Rattle.ec_device.specs.Objects.{pdo_at}
+use Rattle.ec_device.proofs.Limits.{few_bits}
 
 -- what holds of each element holds of the one that is found
 pub find-all : {X : Type 0} (P : X → Type 0) (test : X → Bool) (xs : List X) (x : X) → All P xs → find test xs ≡ Some x → P x

@@ -1,10 +1,10 @@
 -- Assignments stay lists of the type's own PDOs, without a double and of few enough bits.
 use Rattle.std.proofs.Common.{ℕ, ◌-◌, ◌<◌, ◌≤◌, ◌≡◌, ◌==◌, ◌&&◌, Bool, true, false, refl, sym, ◌∙◌, ap, subst, inl, inr, arith, List, [], length, set, take, get_or, is_some, length-set, get_or-set_same, get_or-set_other}
 use Rattle.std.proofs.lemmas.Bool.{cases_eq, eqb-true, leb-true}
-use Rattle.ec_regs.specs.declared.slave_type.Pdo.{Pdo}
-use Rattle.ec_regs.specs.Objects.{pdo_at, bits_assigned}
+use Rattle.ec_device.specs.declared.slave_type.Pdo.{Pdo}
+use Rattle.ec_device.specs.Objects.{pdo_at, bits_assigned}
 use Rattle.ec_coe.specs.Objects.{Assignment, Dictionary}
-use Rattle.ec_coe.specs.Transfers.{distinct, most_bits, takes_count}
+use Rattle.ec_coe.specs.Transfers.{distinct, max_bits, takes_count}
 use Rattle.ec_coe.specs.Laws.{IsAssignment, KeepsAssignments, ChangesInPreopAlone, AnswersKeepAssignments}
 use Rattle.ec_coe.proofs.Effects.{Assigned, Counted, Slotted, Outputs, Inputs, Changed, Same, Done, answered-changed}
 
@@ -19,7 +19,7 @@ both-first false b e = absurd (let f : false ≡ true = e in cc)
 counted-stays : (ps : List Pdo) (a b : Assignment) (number : ℕ) → takes_count ps a number ≡ true → b ≡ record { slots = a.slots; count = number } → IsAssignment ps a → IsAssignment ps b
 counted-stays ps a b number t e h =
     let inner = both-second _ _ t in
-    let small : bits_assigned ps (take number a.slots) ≤ most_bits = leb-true _ _ (both-second _ _ inner) in
+    let small : bits_assigned ps (take number a.slots) ≤ max_bits = leb-true _ _ (both-second _ _ inner) in
     subst (IsAssignment ps) (sym e) (record { own = h.own; apart = both-first _ _ inner; bits = small })
 
 -- nothing is assigned while the count is 0
@@ -41,7 +41,7 @@ slotted-stays ps a b slot number o t e h =
             ap (λ (n : ℕ). is_some (pdo_at ps n)) (get_or-set_other a.slots slot k number 0 q) ∙ h.own k inside
       ];
       apart = ap distinct same;
-      bits = subst (λ (xs : List ℕ). bits_assigned ps xs ≤ most_bits) (sym same) (omega arith);
+      bits = subst (λ (xs : List ℕ). bits_assigned ps xs ≤ max_bits) (sym same) (omega arith);
     })
 
 assigned-stays : (ps : List Pdo) (a b : Assignment) (subindex number : ℕ) → Assigned ps a subindex number b → IsAssignment ps a → IsAssignment ps b

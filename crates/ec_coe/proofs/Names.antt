@@ -4,18 +4,18 @@ use Rattle.std.specs.Option.{option_or}
 use Rattle.std.proofs.lemmas.Bool.{cases_Bool, eq-eqb, ne_eqb, lt-ltb, le-ltb, le-leb, leb-true, and_left, and_right, and_from}
 use Rattle.std.proofs.lemmas.List.Folds.{find-append}
 use Rattle.ec_bits.proofs.AnyLaws.{if_true, if_false}
-use Rattle.ec_regs.specs.declared.slave_type.Pdo.{Pdo}
-use Rattle.ec_regs.specs.declared.slave_type.Face.{Face}
-use Rattle.ec_regs.specs.Types.{IsPdo, IsWithinLimits, first_output_index, first_input_index}
-use Rattle.ec_regs.specs.Objects.{pdo_at}
-use Rattle.ec_coe.specs.declared.value.Value.{Value}
+use Rattle.ec_device.specs.declared.slave_type.Pdo.{Pdo}
+use Rattle.ec_device.specs.declared.slave_type.Face.{Face}
+use Rattle.ec_device.specs.Types.{IsPdo, IsWithinLimits, first_output_index, first_input_index}
+use Rattle.ec_device.specs.Objects.{pdo_at}
+use Rattle.ec_coe.specs.declared.value.SdoValue.{SdoValue}
 use Rattle.ec_coe.specs.declared.abort_code.AbortCode.{AbortCode}
-use Rattle.ec_coe.specs.declared.message.Command.{Command}
-use Rattle.ec_coe.specs.declared.message.Command.TheVariants.{DownloadRequest, DownloadResponse, UploadRequest, UploadResponse, Abort, Other as OtherCommand}
+use Rattle.ec_coe.specs.declared.message.SdoCommand.{SdoCommand}
+use Rattle.ec_coe.specs.declared.message.SdoCommand.TheVariants.{DownloadRequest, DownloadResponse, UploadRequest, UploadResponse, Abort, Other as OtherCommand}
 use Rattle.ec_coe.specs.declared.message.Service.TheVariants.{Response}
 use Rattle.ec_coe.specs.declared.message.Message.{Message}
 use Rattle.ec_coe.specs.Messages.{message_bytes, message_length, normal_upload}
-use Rattle.ec_coe.specs.Objects.{Dictionary, identity_object, output_assignment, input_assignment, device_name_object, size_of, most_expedited, is_long, letters_number, name_value, name_fits, name_values, long_value, pdo_values, send_room, shown_values, object_values}
+use Rattle.ec_coe.specs.Objects.{Dictionary, identity_object, output_assignment, input_assignment, device_name_object, size_of, max_expedited, is_long, letters_number, name_value, name_fits, name_values, long_value, pdo_values, send_room, shown_values, object_values}
 use Rattle.ec_coe.specs.Transfers.{value_at, uploaded}
 use Rattle.ec_coe.specs.Answers.{reply_to, has_long_name, normal_answer, upload_answer, upload_reply, answer_by, answered}
 use Rattle.ec_coe.specs.ReplyBytes.{fitting_name, letters_behind, message_with, bytes_with, reply_bytes}
@@ -27,18 +27,18 @@ use Rattle.ec_coe.proofs.ReadBack.{length-message}
 -- the answer to an upload
 pub upload-replied : (in_preop : Bool) (d : Dictionary) (m : Message) (counter : ℕ) → m.command ≡ UploadRequest → (answered in_preop d m counter).reply ≡ upload_reply d.kind.face m counter (uploaded d m.index m.subindex)
 unfolding answered
-upload-replied in_preop d m counter e = ap (λ (c : Command). (answer_by in_preop d m counter c).reply) e
+upload-replied in_preop d m counter e = ap (λ (c : SdoCommand). (answer_by in_preop d m counter c).reply) e
 
-pub reply-elsewhere : (face : Option Face) (m : Message) (counter : ℕ) (r : Result Value AbortCode) → m.index ≢ device_name_object → upload_reply face m counter r ≡ upload_answer m counter r
+pub reply-elsewhere : (face : Option Face) (m : Message) (counter : ℕ) (r : Result SdoValue AbortCode) → m.index ≢ device_name_object → upload_reply face m counter r ≡ upload_answer m counter r
 reply-elsewhere face m counter r ne = if_false _ _ _ (and_left _ _ (ne_eqb m.index device_name_object ne))
 
-pub reply-faceless : (face : Option Face) (m : Message) (counter : ℕ) (r : Result Value AbortCode) → face ≡ None → upload_reply face m counter r ≡ upload_answer m counter r
+pub reply-faceless : (face : Option Face) (m : Message) (counter : ℕ) (r : Result SdoValue AbortCode) → face ≡ None → upload_reply face m counter r ≡ upload_answer m counter r
 reply-faceless face m counter r e = if_false _ _ _ (and_right _ _ (ap has_long_name e))
 
-pub reply-short : (face : Option Face) (m : Message) (counter : ℕ) (r : Result Value AbortCode) → has_long_name face ≡ false → upload_reply face m counter r ≡ upload_answer m counter r
+pub reply-short : (face : Option Face) (m : Message) (counter : ℕ) (r : Result SdoValue AbortCode) → has_long_name face ≡ false → upload_reply face m counter r ≡ upload_answer m counter r
 reply-short face m counter r e = if_false _ _ _ (and_right _ _ e)
 
-pub reply-long : (face : Option Face) (m : Message) (counter : ℕ) (r : Result Value AbortCode) → m.index ≡ device_name_object → has_long_name face ≡ true → upload_reply face m counter r ≡ normal_answer m counter r
+pub reply-long : (face : Option Face) (m : Message) (counter : ℕ) (r : Result SdoValue AbortCode) → m.index ≡ device_name_object → has_long_name face ≡ true → upload_reply face m counter r ≡ normal_answer m counter r
 reply-long face m counter r i e = if_true _ _ _ (and_from _ _ (eq-eqb m.index device_name_object i) e)
 
 pub uploads_expedited : UploadsAreExpedited
@@ -97,7 +97,7 @@ fitting-fits (Some face) room letters e = elim (cases_Bool (name_fits face.name 
   | inr off ↦ let is : None ≡ Some letters = sym (if_false _ _ _ off) ∙ e in absurd (cc)
 ]
 
-letters-fit : (face : Option Face) (room : ℕ) (c : Command) (letters : List ℕ) → letters_behind face room c ≡ Some letters → message_length + length letters ≤ room
+letters-fit : (face : Option Face) (room : ℕ) (c : SdoCommand) (letters : List ℕ) → letters_behind face room c ≡ Some letters → message_length + length letters ≤ room
 letters-fit face room (DownloadRequest size) letters e = absurd (cc)
 letters-fit face room DownloadResponse letters e = absurd (cc)
 letters-fit face room UploadRequest letters e = absurd (cc)
@@ -123,7 +123,7 @@ replies_fit = record {
   fits = λ d room m l. with-fits m room (letters_behind d.kind.face room m.command) l (λ letters e. letters-fit d.kind.face room m.command letters e);
 }
 
-none-faceless : (room : ℕ) (c : Command) → letters_behind None room c ≡ None
+none-faceless : (room : ℕ) (c : SdoCommand) → letters_behind None room c ≡ None
 none-faceless room (DownloadRequest size) = refl
 none-faceless room DownloadResponse = refl
 none-faceless room UploadRequest = refl
@@ -131,7 +131,7 @@ none-faceless room (UploadResponse size) = refl
 none-faceless room Abort = refl
 none-faceless room (OtherCommand number) = elim (cases_Bool (number == normal_upload)) [ inl on ↦ if_true _ _ _ on | inr off ↦ if_false _ _ _ off ]
 
-none-other : (face : Option Face) (room : ℕ) (c : Command) → c ≢ OtherCommand normal_upload → letters_behind face room c ≡ None
+none-other : (face : Option Face) (room : ℕ) (c : SdoCommand) → c ≢ OtherCommand normal_upload → letters_behind face room c ≡ None
 none-other face room (DownloadRequest size) ne = refl
 none-other face room DownloadResponse ne = refl
 none-other face room UploadRequest ne = refl
@@ -143,9 +143,9 @@ pub replies_alone : RepliesStandAlone
 unfolding reply_bytes
 replies_alone = record {
   other = λ d room m ne. ap (bytes_with m) (none-other d.kind.face room m.command ne);
-  uploaded = λ d room m size e. ap (λ (c : Command). bytes_with m (letters_behind d.kind.face room c)) e;
-  downloaded = λ d room m e. ap (λ (c : Command). bytes_with m (letters_behind d.kind.face room c)) e;
-  aborted = λ d room m e. ap (λ (c : Command). bytes_with m (letters_behind d.kind.face room c)) e;
+  uploaded = λ d room m size e. ap (λ (c : SdoCommand). bytes_with m (letters_behind d.kind.face room c)) e;
+  downloaded = λ d room m e. ap (λ (c : SdoCommand). bytes_with m (letters_behind d.kind.face room c)) e;
+  aborted = λ d room m e. ap (λ (c : SdoCommand). bytes_with m (letters_behind d.kind.face room c)) e;
   faceless = λ d room m e. ap (λ (f : Option Face). bytes_with m (letters_behind f room m.command)) e ∙ ap (bytes_with m) (none-faceless room m.command);
 }
 
@@ -155,14 +155,14 @@ told : (m : Message) (name : List ℕ) → m.command ≡ OtherCommand normal_upl
 unfolding message_bytes
 told m name c v =
     let number : m.value % 256 + 256 * (m.value / 256 % 256) + 65536 * (m.value / 65536 % 256) + 16777216 * (m.value / 16777216) ≡ m.value = omega arith in
-    record { header = omega arith; command = ap (λ (k : Command). slice_index (message_with (record m { command = k }) name) 8) c; size = number ∙ v; letters = refl }
+    record { header = omega arith; command = ap (λ (k : SdoCommand). slice_index (message_with (record m { command = k }) name) 8) c; size = number ∙ v; letters = refl }
 
 -- the bytes of a normal upload response
 named-bytes : (d : Dictionary) (face : Face) (room : ℕ) (m : Message) → d.kind.face ≡ Some face → message_length + length face.name ≤ room → m.command ≡ OtherCommand normal_upload → reply_bytes d room m ≡ message_with m face.name
 unfolding reply_bytes
 named-bytes d face room m f l c =
     ap (λ (o : Option Face). bytes_with m (letters_behind o room m.command)) f
-    ∙ (ap (λ (k : Command). bytes_with m (letters_behind (Some face) room k)) c
+    ∙ (ap (λ (k : SdoCommand). bytes_with m (letters_behind (Some face) room k)) c
     ∙ ap (bytes_with m) (if_true _ _ _ (le-leb (message_length + length face.name) room l)))
 
 -- what the object of the name is
@@ -177,23 +177,23 @@ either-true false b e = e
 name-uploaded : (d : Dictionary) (face : Face) (m : Message) → AsksForName d face m → (not (is_long face.name) || name_fits face.name (send_room d.kind.mailbox)) ≡ true → uploaded d m.index m.subindex ≡ Ok (name_value face.name)
 unfolding uploaded
 name-uploaded d face m h there =
-    ap (λ (o : Option (List Value)). value_at o m.subindex) (name-object d face m h ∙ if_true _ _ _ there)
+    ap (λ (o : Option (List SdoValue)). value_at o m.subindex) (name-object d face m h ∙ if_true _ _ _ there)
     ∙ ap (value_at (Some (name_value face.name ∷ []))) h.subindex
 
-long-replied : (in_preop : Bool) (d : Dictionary) (face : Face) (m : Message) (counter : ℕ) → AsksForName d face m → most_expedited < length face.name → message_length + length face.name ≤ send_room d.kind.mailbox
+long-replied : (in_preop : Bool) (d : Dictionary) (face : Face) (m : Message) (counter : ℕ) → AsksForName d face m → max_expedited < length face.name → message_length + length face.name ≤ send_room d.kind.mailbox
     → (answered in_preop d m counter).reply ≡ reply_to m counter Response (OtherCommand normal_upload) (length face.name)
 long-replied in_preop d face m counter h l fits =
-    let long : is_long face.name ≡ true = lt-ltb most_expedited (length face.name) l in
+    let long : is_long face.name ≡ true = lt-ltb max_expedited (length face.name) l in
     let there : uploaded d m.index m.subindex ≡ Ok (name_value face.name) = name-uploaded d face m h (either-true _ _ (le-leb (message_length + length face.name) (send_room d.kind.mailbox) fits)) in
     let value : name_value face.name ≡ long_value (length face.name) = if_true _ _ _ long in
     upload-replied in_preop d m counter h.command
     ∙ (reply-long d.kind.face m counter (uploaded d m.index m.subindex) h.index (ap has_long_name h.full ∙ long)
     ∙ ap (normal_answer m counter) (there ∙ ap Ok value))
 
-short-replied : (in_preop : Bool) (d : Dictionary) (face : Face) (m : Message) (counter : ℕ) → AsksForName d face m → length face.name ≤ most_expedited
+short-replied : (in_preop : Bool) (d : Dictionary) (face : Face) (m : Message) (counter : ℕ) → AsksForName d face m → length face.name ≤ max_expedited
     → (answered in_preop d m counter).reply ≡ reply_to m counter Response (UploadResponse (size_of (length face.name))) (letters_number face.name)
 short-replied in_preop d face m counter h l =
-    let short : is_long face.name ≡ false = le-ltb most_expedited (length face.name) l in
+    let short : is_long face.name ≡ false = le-ltb max_expedited (length face.name) l in
     let there : uploaded d m.index m.subindex ≡ Ok (name_value face.name) = name-uploaded d face m h (ap (λ (b : Bool). not b || name_fits face.name (send_room d.kind.mailbox)) short) in
     let value : name_value face.name ≡ record { size = size_of (length face.name); number = letters_number face.name } = if_false _ _ _ short in
     upload-replied in_preop d m counter h.command

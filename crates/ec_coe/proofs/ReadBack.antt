@@ -4,7 +4,7 @@ use Rattle.std.proofs.lemmas.Bool.{and_from, eq-eqb, le-ltb}
 use Rattle.ec_bits.proofs.AnyLaws.{if_true}
 use Rattle.ec_coe.specs.declared.message.Message.{Message}
 use Rattle.ec_coe.specs.declared.message.Service.{Service}
-use Rattle.ec_coe.specs.declared.message.Command.{Command}
+use Rattle.ec_coe.specs.declared.message.SdoCommand.{SdoCommand}
 use Rattle.ec_coe.specs.Messages.{message_bytes, message_in, message_read, message_length, service_of, service_number, command_of, command_number, IsMessage}
 
 pub length-message : (m : Message) → length (message_bytes m) ≡ 16
@@ -41,7 +41,7 @@ message-alike : (m n : Message) → m.counter ≡ n.counter → m.service ≡ n.
 message-alike m n a b c d e f =
     ap (λ (x : ℕ). record { counter = x; service = m.service; command = m.command; index = m.index; subindex = m.subindex; value = m.value }) a
     ∙ (ap (λ (x : Service). record { counter = n.counter; service = x; command = m.command; index = m.index; subindex = m.subindex; value = m.value }) b
-    ∙ (ap (λ (x : Command). record { counter = n.counter; service = n.service; command = x; index = m.index; subindex = m.subindex; value = m.value }) c
+    ∙ (ap (λ (x : SdoCommand). record { counter = n.counter; service = n.service; command = x; index = m.index; subindex = m.subindex; value = m.value }) c
     ∙ (ap (λ (x : ℕ). record { counter = n.counter; service = n.service; command = n.command; index = x; subindex = m.subindex; value = m.value }) d
     ∙ (ap (λ (x : ℕ). record { counter = n.counter; service = n.service; command = n.command; index = n.index; subindex = x; value = m.value }) e
     ∙ ap (λ (x : ℕ). record { counter = n.counter; service = n.service; command = n.command; index = n.index; subindex = n.subindex; value = x }) f))))

@@ -1,18 +1,18 @@
 -- Each abort by its cause, as a relation between a dictionary and a request, and the law that the abort a slave answers with is
 -- the one whose cause holds while none of an earlier one does (the order is the profile of the simulated slaves).
 use Rattle.std.specs.Prelude.{ℕ, ◌<◌, ◌≤◌, ◌≡◌, ◌≢◌, ◌==◌, ◌⊎◌, List, length, take, Bool, false, if◌then◌else◌, slice_get, Some, None}
-use Rattle.ec_regs.specs.declared.slave_type.Pdo.{Pdo}
-use Rattle.ec_regs.specs.Objects.{bits_assigned}
-use Rattle.ec_coe.specs.declared.value.Size.{Size}
-use Rattle.ec_coe.specs.declared.value.Value.{Value}
-use Rattle.ec_coe.specs.declared.message.Command.TheVariants.{DownloadRequest, UploadRequest}
+use Rattle.ec_device.specs.declared.slave_type.Pdo.{Pdo}
+use Rattle.ec_device.specs.Objects.{bits_assigned}
+use Rattle.ec_coe.specs.declared.value.ValueSize.{ValueSize}
+use Rattle.ec_coe.specs.declared.value.SdoValue.{SdoValue}
+use Rattle.ec_coe.specs.declared.message.SdoCommand.TheVariants.{DownloadRequest, UploadRequest}
 use Rattle.ec_coe.specs.declared.message.Service.TheVariants.{Response}
 use Rattle.ec_coe.specs.declared.message.Message.{Message}
 use Rattle.ec_coe.specs.declared.abort_code.AbortCode.{AbortCode}
 use Rattle.ec_coe.specs.declared.abort_code.AbortCode.TheVariants.{InvalidCommand, ReadOnly, NoObject, WrongLength, NoSubindex, InvalidValue, WrongState}
 use Rattle.ec_coe.specs.Messages.{size_number}
 use Rattle.ec_coe.specs.Objects.{Assignment, Dictionary, output_assignment, input_assignment, object_values}
-use Rattle.ec_coe.specs.Transfers.{most_bits}
+use Rattle.ec_coe.specs.Transfers.{max_bits}
 use Rattle.ec_coe.specs.Answers.{abort_to, value_of, answered}
 
 -- the type's PDOs and the assignment of the direction that an assignment object has
@@ -23,14 +23,14 @@ abbrev pub assignment_at : Dictionary → ℕ → Assignment
 assignment_at d index = if index == output_assignment then d.outs else d.ins
 
 -- the request downloads a value of a size
-abbrev pub Downloads : Message → Size → Type 0
+abbrev pub Downloads : Message → ValueSize → Type 0
 Downloads m size = m.command ≡ DownloadRequest size
 
 -- ---- the causes, in their order
 
 -- it is neither a download nor an upload
 pub record IsNoRequest (m : Message) : Type 0 where
-  pub no_download : (size : Size) → Downloads m size → ⊥
+  pub no_download : (size : ValueSize) → Downloads m size → ⊥
   pub no_upload : m.command ≡ UploadRequest → ⊥
 
 -- the slave has no object of the index
@@ -39,30 +39,30 @@ pub record HasNoObject (d : Dictionary) (m : Message) : Type 0 where
 
 -- the object has no value at the subindex
 pub record HasNoSubindex (d : Dictionary) (m : Message) : Type 0 where
-  pub values : List Value
+  pub values : List SdoValue
   pub object : object_values d m.index ≡ Some values
   pub past : length values ≤ m.subindex
 
 -- a download to an object that assigns no PDOs
 pub record IsReadOnly (m : Message) : Type 0 where
-  pub size : Size
+  pub size : ValueSize
   pub download : Downloads m size
   pub no_outputs : m.index ≢ output_assignment
   pub no_inputs : m.index ≢ input_assignment
 
 -- a download of another length than that of the value that is there
 pub record HasWrongLength (d : Dictionary) (m : Message) : Type 0 where
-  pub size : Size
+  pub size : ValueSize
   pub download : Downloads m size
-  pub values : List Value
+  pub values : List SdoValue
   pub object : object_values d m.index ≡ Some values
-  pub value : Value
+  pub value : SdoValue
   pub there : slice_get values m.subindex ≡ Some value
   pub unlike : size_number size ≢ size_number value.size
 
 -- a download in another state than PREOP, or to a slot while the count isn't 0
 pub record IsWrongState (in_preop : Bool) (d : Dictionary) (m : Message) : Type 0 where
-  pub size : Size
+  pub size : ValueSize
   pub download : Downloads m size
   pub closed : (in_preop ≡ false) ⊎ ((0 < m.subindex) × (0 < (assignment_at d m.index).count))
 
@@ -79,7 +79,7 @@ pub record HasTwice (ns : List ℕ) : Type 0 where
 pub data IsBadCount (ps : List Pdo) (a : Assignment) (count : ℕ) : Type 0 where
   TooMany : length ps < count → IsBadCount ps a count
   Double : HasTwice (take count a.slots) → IsBadCount ps a count
-  TooLong : most_bits < bits_assigned ps (take count a.slots) → IsBadCount ps a count
+  TooLong : max_bits < bits_assigned ps (take count a.slots) → IsBadCount ps a count
 
 -- an index that no PDO of the direction has
 pub record IsBadIndex (ps : List Pdo) (index : ℕ) : Type 0 where
@@ -87,7 +87,7 @@ pub record IsBadIndex (ps : List Pdo) (index : ℕ) : Type 0 where
 
 -- a download of a value that the object doesn't take
 pub record HasInvalidValue (d : Dictionary) (m : Message) : Type 0 where
-  pub size : Size
+  pub size : ValueSize
   pub download : Downloads m size
   pub count : m.subindex ≡ 0 → IsBadCount (pdos_at d m.index) (assignment_at d m.index) (value_of size m.value).number
   pub slot : m.subindex ≢ 0 → IsBadIndex (pdos_at d m.index) (value_of size m.value).number

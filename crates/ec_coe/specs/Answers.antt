@@ -1,12 +1,12 @@
 -- What a slave answers to an SDO request (ETG.1000.6, "SDO services", expedited transfer; "Upload SDO normal response").
 use Rattle.std.specs.Prelude.{ℕ, ◌*◌, ◌%◌, ◌^◌, ◌==◌, ◌&&◌, Bool, false, if◌then◌else◌, Option, Some, None, Result, Ok, Err}
-use Rattle.ec_regs.specs.declared.slave_type.Face.{Face}
-use Rattle.ec_coe.specs.declared.value.Size.{Size}
-use Rattle.ec_coe.specs.declared.value.Value.{Value}
+use Rattle.ec_device.specs.declared.slave_type.Face.{Face}
+use Rattle.ec_coe.specs.declared.value.ValueSize.{ValueSize}
+use Rattle.ec_coe.specs.declared.value.SdoValue.{SdoValue}
 use Rattle.ec_coe.specs.declared.message.Service.{Service}
 use Rattle.ec_coe.specs.declared.message.Service.TheVariants.{Request, Response}
-use Rattle.ec_coe.specs.declared.message.Command.{Command}
-use Rattle.ec_coe.specs.declared.message.Command.TheVariants.{DownloadRequest, DownloadResponse, UploadRequest, UploadResponse, Abort, Other as OtherCommand}
+use Rattle.ec_coe.specs.declared.message.SdoCommand.{SdoCommand}
+use Rattle.ec_coe.specs.declared.message.SdoCommand.TheVariants.{DownloadRequest, DownloadResponse, UploadRequest, UploadResponse, Abort, Other as OtherCommand}
 use Rattle.ec_coe.specs.declared.message.Message.{Message}
 use Rattle.ec_coe.specs.declared.abort_code.AbortCode.{AbortCode}
 use Rattle.ec_coe.specs.declared.abort_code.AbortCode.TheVariants.{InvalidCommand}
@@ -20,7 +20,7 @@ pub record Answer : Type 0 where
   pub dictionary : Dictionary
 
 -- a reply has the index and the subindex of its request
-abbrev pub reply_to : Message → ℕ → Service → Command → ℕ → Message
+abbrev pub reply_to : Message → ℕ → Service → SdoCommand → ℕ → Message
 reply_to m counter service command value =
     record { counter = counter; service = service; command = command; index = m.index; subindex = m.subindex; value = value }
 
@@ -28,12 +28,12 @@ reply_to m counter service command value =
 abbrev pub abort_to : Message → ℕ → AbortCode → Message
 abort_to m counter code = reply_to m counter Request Abort (abort_number code)
 
-abbrev pub upload_answer : Message → ℕ → Result Value AbortCode → Message
+abbrev pub upload_answer : Message → ℕ → Result SdoValue AbortCode → Message
 upload_answer m counter (Ok value) = reply_to m counter Response (UploadResponse value.size) value.number
 upload_answer m counter (Err code) = abort_to m counter code
 
 -- what comes by a normal transfer: the data say how many bytes follow
-abbrev pub normal_answer : Message → ℕ → Result Value AbortCode → Message
+abbrev pub normal_answer : Message → ℕ → Result SdoValue AbortCode → Message
 normal_answer m counter (Ok value) = reply_to m counter Response (OtherCommand normal_upload) value.number
 normal_answer m counter (Err code) = abort_to m counter code
 
@@ -42,7 +42,7 @@ has_long_name None = false
 has_long_name (Some face) = is_long face.name
 
 -- the name of a full slave comes by a normal transfer where it is long; everything else by an expedited one
-abbrev pub upload_reply : Option Face → Message → ℕ → Result Value AbortCode → Message
+abbrev pub upload_reply : Option Face → Message → ℕ → Result SdoValue AbortCode → Message
 upload_reply face m counter outcome = if (m.index == device_name_object) && has_long_name face then normal_answer m counter outcome else upload_answer m counter outcome
 
 abbrev pub download_answer : Dictionary → Message → ℕ → Result Dictionary AbortCode → Answer
@@ -50,13 +50,13 @@ download_answer d m counter (Ok after) = record { reply = reply_to m counter Res
 download_answer d m counter (Err code) = record { reply = abort_to m counter code; dictionary = d }
 
 -- as many of the four bytes of data as the command says
-abbrev pub value_of : Size → ℕ → Value
+abbrev pub value_of : ValueSize → ℕ → SdoValue
 value_of size data_bytes = record { size = size; number = data_bytes % 2 ^ (8 * size_number size) }
 
 abbrev pub invalid_answer : Dictionary → Message → ℕ → Answer
 invalid_answer d m counter = record { reply = abort_to m counter InvalidCommand; dictionary = d }
 
-abbrev pub answer_by : Bool → Dictionary → Message → ℕ → Command → Answer
+abbrev pub answer_by : Bool → Dictionary → Message → ℕ → SdoCommand → Answer
 answer_by in_preop d m counter (DownloadRequest size) = download_answer d m counter (downloaded in_preop d m.index m.subindex (value_of size m.value))
 answer_by in_preop d m counter UploadRequest = record { reply = upload_reply d.kind.face m counter (uploaded d m.index m.subindex); dictionary = d }
 answer_by in_preop d m counter DownloadResponse = invalid_answer d m counter

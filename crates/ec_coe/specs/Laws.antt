@@ -1,11 +1,11 @@
 -- What the definitions of this crate say together.
 use Rattle.std.specs.Prelude.{ℕ, ◌≡◌, ◌<◌, ◌≤◌, List, ◌++◌, length, Bool, true, false, Some, is_some, slice_index}
 use Rattle.ec_coe.specs.declared.message.Message.{Message}
-use Rattle.ec_regs.specs.declared.slave_type.Pdo.{Pdo}
-use Rattle.ec_regs.specs.Objects.{pdo_at, bits_assigned}
+use Rattle.ec_device.specs.declared.slave_type.Pdo.{Pdo}
+use Rattle.ec_device.specs.Objects.{pdo_at, bits_assigned}
 use Rattle.ec_coe.specs.Messages.{IsMessage, message_bytes, message_read}
 use Rattle.ec_coe.specs.Objects.{Assignment, Dictionary, assigned}
-use Rattle.ec_coe.specs.Transfers.{distinct, most_bits}
+use Rattle.ec_coe.specs.Transfers.{distinct, max_bits}
 use Rattle.ec_coe.specs.Answers.{answered}
 
 -- A message is read back from its bytes, whatever follows them.
@@ -20,7 +20,7 @@ ChangesInPreopAlone = (d : Dictionary) (m : Message) (counter : ℕ) → (answer
 pub record IsAssignment (ps : List Pdo) (a : Assignment) : Type 0 where
   pub own : (k : ℕ) → k < length a.slots → is_some (pdo_at ps (slice_index a.slots k)) ≡ true
   pub apart : distinct (assigned a) ≡ true
-  pub bits : bits_assigned ps (assigned a) ≤ most_bits
+  pub bits : bits_assigned ps (assigned a) ≤ max_bits
 
 -- An answer leaves the type and the identity as they are, and each assignment one of the type's own PDOs without a double
 -- and of at most 2048 bits.

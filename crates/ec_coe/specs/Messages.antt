@@ -1,18 +1,18 @@
 -- A mailbox message with an expedited SDO, and its spelling (ETG.1000.4, "Mailbox structure"; ETG.1000.6, "CoE header",
 -- "SDO services", expedited transfer).
 use Rattle.std.specs.Prelude.{ℕ, ◌+◌, ◌*◌, ◌/◌, ◌%◌, ◌<◌, ◌≡◌, ◌==◌, ◌&&◌, not, List, [], ◌∷◌, length, Bool, if◌then◌else◌, nat_lt, slice_index, Option, Some, None}
-use Rattle.ec_coe.specs.declared.value.Size.{Size}
-use Rattle.ec_coe.specs.declared.value.Size.TheVariants.{One, Two, Three, Four}
+use Rattle.ec_coe.specs.declared.value.ValueSize.{ValueSize}
+use Rattle.ec_coe.specs.declared.value.ValueSize.TheVariants.{One, Two, Three, Four}
 use Rattle.ec_coe.specs.declared.message.Service.{Service}
 use Rattle.ec_coe.specs.declared.message.Service.TheVariants.{Request, Response, Other as OtherService}
-use Rattle.ec_coe.specs.declared.message.Command.{Command}
-use Rattle.ec_coe.specs.declared.message.Command.TheVariants.{DownloadRequest, DownloadResponse, UploadRequest, UploadResponse, Abort, Other as OtherCommand}
+use Rattle.ec_coe.specs.declared.message.SdoCommand.{SdoCommand}
+use Rattle.ec_coe.specs.declared.message.SdoCommand.TheVariants.{DownloadRequest, DownloadResponse, UploadRequest, UploadResponse, Abort, Other as OtherCommand}
 use Rattle.ec_coe.specs.declared.message.Message.{Message}
 
 -- ---- the numbers of the standard
 
 -- how many bytes
-abbrev pub size_number : Size → ℕ
+abbrev pub size_number : ValueSize → ℕ
 size_number One = 1
 size_number Two = 2
 size_number Three = 3
@@ -28,7 +28,7 @@ abbrev pub service_of : ℕ → Service
 service_of n = if n == 2 then Request else (if n == 3 then Response else OtherService n)
 
 -- the command byte of an expedited SDO
-abbrev pub command_number : Command → ℕ
+abbrev pub command_number : SdoCommand → ℕ
 command_number (DownloadRequest One) = 0x2F
 command_number (DownloadRequest Two) = 0x2B
 command_number (DownloadRequest Three) = 0x27
@@ -42,7 +42,7 @@ command_number (UploadResponse Four) = 0x43
 command_number Abort = 0x80
 command_number (OtherCommand n) = n
 
-abbrev pub command_of : ℕ → Command
+abbrev pub command_of : ℕ → SdoCommand
 command_of n =
     if n == 0x2F then DownloadRequest One
     else (if n == 0x2B then DownloadRequest Two

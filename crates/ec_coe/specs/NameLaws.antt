@@ -1,14 +1,14 @@
 -- What a full slave tells, in other words: where its answers are those of a slave that isn't full, and how its name comes back
 -- from the bytes that it answers with.
 use Rattle.std.specs.Prelude.{ℕ, ◌+◌, ◌*◌, ◌<◌, ◌≤◌, ◌≡◌, ◌≢◌, ◌⊎◌, List, ◌++◌, length, take, drop, slice_index, All, Bool, Some, None, option_map}
-use Rattle.ec_regs.specs.declared.slave_type.Face.{Face}
-use Rattle.ec_regs.specs.Types.{IsWithinLimits}
-use Rattle.ec_regs.specs.Objects.{pdo_at}
-use Rattle.ec_coe.specs.declared.value.Size.{Size}
-use Rattle.ec_coe.specs.declared.message.Command.TheVariants.{DownloadResponse, UploadRequest, UploadResponse, Abort, Other as OtherCommand}
+use Rattle.ec_device.specs.declared.slave_type.Face.{Face}
+use Rattle.ec_device.specs.Types.{IsWithinLimits}
+use Rattle.ec_device.specs.Objects.{pdo_at}
+use Rattle.ec_coe.specs.declared.value.ValueSize.{ValueSize}
+use Rattle.ec_coe.specs.declared.message.SdoCommand.TheVariants.{DownloadResponse, UploadRequest, UploadResponse, Abort, Other as OtherCommand}
 use Rattle.ec_coe.specs.declared.message.Message.{Message}
 use Rattle.ec_coe.specs.Messages.{message_bytes, message_read, message_length, normal_upload}
-use Rattle.ec_coe.specs.Objects.{Dictionary, identity_object, output_assignment, input_assignment, device_name_object, size_of, most_expedited, pdo_values, send_room, object_values}
+use Rattle.ec_coe.specs.Objects.{Dictionary, identity_object, output_assignment, input_assignment, device_name_object, size_of, max_expedited, pdo_values, send_room, object_values}
 use Rattle.ec_coe.specs.Transfers.{uploaded}
 use Rattle.ec_coe.specs.Answers.{upload_answer, answered}
 use Rattle.ec_coe.specs.ReplyBytes.{reply_bytes}
@@ -30,7 +30,7 @@ FacelessObjects = (d : Dictionary) (index : ℕ) → d.kind.face ≡ None → in
 -- No letters follow a reply that is no normal upload response, nor one of a slave that isn't full.
 pub record RepliesStandAlone : Type 0 where
   pub other : (d : Dictionary) (room : ℕ) (m : Message) → m.command ≢ OtherCommand normal_upload → reply_bytes d room m ≡ message_bytes m
-  pub uploaded : (d : Dictionary) (room : ℕ) (m : Message) (size : Size) → m.command ≡ UploadResponse size → reply_bytes d room m ≡ message_bytes m
+  pub uploaded : (d : Dictionary) (room : ℕ) (m : Message) (size : ValueSize) → m.command ≡ UploadResponse size → reply_bytes d room m ≡ message_bytes m
   pub downloaded : (d : Dictionary) (room : ℕ) (m : Message) → m.command ≡ DownloadResponse → reply_bytes d room m ≡ message_bytes m
   pub aborted : (d : Dictionary) (room : ℕ) (m : Message) → m.command ≡ Abort → reply_bytes d room m ≡ message_bytes m
   pub faceless : (d : Dictionary) (room : ℕ) (m : Message) → d.kind.face ≡ None → reply_bytes d room m ≡ message_bytes m
@@ -71,9 +71,9 @@ pub record AsksForName (d : Dictionary) (face : Face) (m : Message) : Type 0 whe
 -- A long name comes back whole where it fits the mailbox; a short one stands in the data of an expedited transfer, as many
 -- bytes as its size says.
 pub record NamesComeBack : Type 0 where
-  pub long : (in_preop : Bool) (d : Dictionary) (face : Face) (m : Message) (counter room : ℕ) → AsksForName d face m → most_expedited < length face.name
+  pub long : (in_preop : Bool) (d : Dictionary) (face : Face) (m : Message) (counter room : ℕ) → AsksForName d face m → max_expedited < length face.name
       → message_length + length face.name ≤ send_room d.kind.mailbox → message_length + length face.name ≤ room → TellsName face.name (reply_bytes d room (answered in_preop d m counter).reply)
-  pub short_size : (in_preop : Bool) (d : Dictionary) (face : Face) (m : Message) (counter : ℕ) → AsksForName d face m → length face.name ≤ most_expedited
+  pub short_size : (in_preop : Bool) (d : Dictionary) (face : Face) (m : Message) (counter : ℕ) → AsksForName d face m → length face.name ≤ max_expedited
       → (answered in_preop d m counter).reply.command ≡ UploadResponse (size_of (length face.name))
-  pub short : (in_preop : Bool) (d : Dictionary) (face : Face) (m : Message) (counter : ℕ) → AsksForName d face m → length face.name ≤ most_expedited → All (λ letter. letter < 256) face.name
+  pub short : (in_preop : Bool) (d : Dictionary) (face : Face) (m : Message) (counter : ℕ) → AsksForName d face m → length face.name ≤ max_expedited → All (λ letter. letter < 256) face.name
       → take (length face.name) (drop 12 (message_bytes (answered in_preop d m counter).reply)) ≡ face.name

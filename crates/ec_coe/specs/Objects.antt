@@ -3,16 +3,16 @@
 -- type has a face, has some more objects behind these, which usual masters read.
 use Rattle.std.specs.Prelude.{ℕ, ◌+◌, ◌*◌, ◌==◌, ◌≡◌, ◌||◌, not, List, [], ◌∷◌, ◌++◌, length, map, take, Bool, true, false, if◌then◌else◌, nat_lt, nat_le, slice_index, Option, Some, None, option_map}
 use Rattle.std.specs.Option.{option_or}
-use Rattle.ec_regs.specs.declared.slave_type.Entry.{Entry}
-use Rattle.ec_regs.specs.declared.slave_type.Pdo.{Pdo}
-use Rattle.ec_regs.specs.declared.slave_type.Identity.{Identity}
-use Rattle.ec_regs.specs.declared.slave_type.Mailbox.{Mailbox}
-use Rattle.ec_regs.specs.declared.slave_type.Face.{Face}
-use Rattle.ec_regs.specs.Types.{SlaveKind}
-use Rattle.ec_regs.specs.Objects.{pdo_at}
-use Rattle.ec_coe.specs.declared.value.Size.{Size}
-use Rattle.ec_coe.specs.declared.value.Size.TheVariants.{One, Two, Three, Four}
-use Rattle.ec_coe.specs.declared.value.Value.{Value}
+use Rattle.ec_device.specs.declared.slave_type.Entry.{Entry}
+use Rattle.ec_device.specs.declared.slave_type.Pdo.{Pdo}
+use Rattle.ec_device.specs.declared.slave_type.Identity.{Identity}
+use Rattle.ec_device.specs.declared.slave_type.Mailbox.{Mailbox}
+use Rattle.ec_device.specs.declared.slave_type.Face.{Face}
+use Rattle.ec_device.specs.Types.{SlaveKind}
+use Rattle.ec_device.specs.Objects.{pdo_at}
+use Rattle.ec_coe.specs.declared.value.ValueSize.{ValueSize}
+use Rattle.ec_coe.specs.declared.value.ValueSize.TheVariants.{One, Two, Three, Four}
+use Rattle.ec_coe.specs.declared.value.SdoValue.{SdoValue}
 use Rattle.ec_coe.specs.Messages.{message_length}
 
 -- the slots of an assignment object, and how many of them count
@@ -57,21 +57,21 @@ output_assignment = 0x1C12
 abbrev pub input_assignment : ℕ
 input_assignment = 0x1C13
 
-abbrev pub byte_value : ℕ → Value
+abbrev pub byte_value : ℕ → SdoValue
 byte_value n = record { size = One; number = n }
 
-abbrev pub word_value : ℕ → Value
+abbrev pub word_value : ℕ → SdoValue
 word_value n = record { size = Two; number = n }
 
-abbrev pub long_value : ℕ → Value
+abbrev pub long_value : ℕ → SdoValue
 long_value n = record { size = Four; number = n }
 
 -- subindex 0: how many; 1 to 4: vendor, product, revision, serial number
-abbrev pub identity_values : Identity → List Value
+abbrev pub identity_values : Identity → List SdoValue
 identity_values i = byte_value 4 ∷ long_value i.vendor ∷ long_value i.product ∷ long_value i.revision ∷ long_value i.serial ∷ []
 
 -- subindex 0: how many count; from 1 on: the slots
-abbrev pub assignment_values : Assignment → List Value
+abbrev pub assignment_values : Assignment → List SdoValue
 assignment_values a = byte_value a.count ∷ map word_value a.slots
 
 -- an entry of a PDO: its index in the top 16 bits, then its subindex, then its length in bits
@@ -79,7 +79,7 @@ abbrev pub entry_number : Entry → ℕ
 entry_number e = 65536 * e.index + 256 * e.subindex + e.bits
 
 -- subindex 0: how many entries; from 1 on: the entries
-abbrev pub pdo_values : Pdo → List Value
+abbrev pub pdo_values : Pdo → List SdoValue
 pdo_values p = byte_value (length p.entries) ∷ map (λ e. long_value (entry_number e)) p.entries
 
 abbrev pub has_some : {X : Type 0} → List X → Bool
@@ -104,26 +104,26 @@ abbrev pub manager_types_object : ℕ
 manager_types_object = 0x1C00
 
 -- device type 0: no device profile
-abbrev pub device_type_values : List Value
+abbrev pub device_type_values : List SdoValue
 device_type_values = long_value 0 ∷ []
 
 -- version "1"
-abbrev pub version_values : List Value
+abbrev pub version_values : List SdoValue
 version_values = byte_value 0x31 ∷ []
 
 -- what each sync manager is for ("Sync manager communication type"): subindex 0: how many there are; 1 to 4: mailbox out 1,
 -- mailbox in 2, outputs 3, inputs 4
-abbrev pub manager_types_values : List Value
+abbrev pub manager_types_values : List SdoValue
 manager_types_values = byte_value 4 ∷ byte_value 1 ∷ byte_value 2 ∷ byte_value 3 ∷ byte_value 4 ∷ []
 
 -- how many bytes an expedited transfer carries at most
-abbrev pub most_expedited : ℕ
-most_expedited = 4
+abbrev pub max_expedited : ℕ
+max_expedited = 4
 
 abbrev pub is_long : List ℕ → Bool
-is_long name = nat_lt most_expedited (length name)
+is_long name = nat_lt max_expedited (length name)
 
-abbrev pub size_of : ℕ → Size
+abbrev pub size_of : ℕ → ValueSize
 size_of n = if n == 1 then One else (if n == 2 then Two else (if n == 3 then Three else Four))
 
 -- the first four letters as a number, the first lowest; a letter past the end counts 0
@@ -131,7 +131,7 @@ abbrev pub letters_number : List ℕ → ℕ
 letters_number name = slice_index name 0 + 256 * slice_index name 1 + 65536 * slice_index name 2 + 16777216 * slice_index name 3
 
 -- a name: its letters; but of a long one, whose letters come by a normal transfer, how many there are
-abbrev pub name_value : List ℕ → Value
+abbrev pub name_value : List ℕ → SdoValue
 name_value name = if is_long name then long_value (length name) else record { size = size_of (length name); number = letters_number name }
 
 -- whether the letters of a name fit a mailbox of so many bytes, behind a message
@@ -139,11 +139,11 @@ abbrev pub name_fits : List ℕ → ℕ → Bool
 name_fits name room = nat_le (message_length + length name) room
 
 -- a long name is there only where it fits
-abbrev pub name_values : List ℕ → ℕ → Option (List Value)
+abbrev pub name_values : List ℕ → ℕ → Option (List SdoValue)
 name_values name room = if not (is_long name) || name_fits name room then Some (name_value name ∷ []) else None
 
 -- the object with an index of those that a face shows, through a mailbox of so many bytes
-abbrev pub face_values : Face → ℕ → ℕ → Option (List Value)
+abbrev pub face_values : Face → ℕ → ℕ → Option (List SdoValue)
 face_values face room index =
     if index == device_type_object then Some device_type_values
     else (if index == device_name_object then name_values face.name room
@@ -156,7 +156,7 @@ abbrev pub send_room : Option Mailbox → ℕ
 send_room None = 0
 send_room (Some mailbox) = mailbox.send_size
 
-abbrev pub shown_values : Option Face → ℕ → ℕ → Option (List Value)
+abbrev pub shown_values : Option Face → ℕ → ℕ → Option (List SdoValue)
 shown_values None room index = None
 shown_values (Some face) room index = face_values face room index
 
@@ -164,7 +164,7 @@ shown_values (Some face) room index = face_values face room index
 
 -- The values of the object with an index, by subindex, if there is one. An assignment object is there where the type has
 -- PDOs of its direction.
-unfoldable pub object_values : Dictionary → ℕ → Option (List Value)
+unfoldable pub object_values : Dictionary → ℕ → Option (List SdoValue)
 object_values d index =
     if index == identity_object then Some (identity_values d.identity)
     else (if index == output_assignment then (if has_some d.kind.outputs then Some (assignment_values d.outs) else None)

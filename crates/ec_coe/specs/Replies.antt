@@ -2,15 +2,15 @@
 use Rattle.std.specs.Prelude.{ℕ, ◌==◌, ◌&&◌, if◌then◌else◌, Option, Some, None}
 use Rattle.ec_coe.specs.declared.message.Service.{Service}
 use Rattle.ec_coe.specs.declared.message.Service.TheVariants.{Request, Response, Other as OtherService}
-use Rattle.ec_coe.specs.declared.message.Command.{Command}
-use Rattle.ec_coe.specs.declared.message.Command.TheVariants.{DownloadRequest, DownloadResponse, UploadRequest, UploadResponse, Abort, Other as OtherCommand}
+use Rattle.ec_coe.specs.declared.message.SdoCommand.{SdoCommand}
+use Rattle.ec_coe.specs.declared.message.SdoCommand.TheVariants.{DownloadRequest, DownloadResponse, UploadRequest, UploadResponse, Abort, Other as OtherCommand}
 use Rattle.ec_coe.specs.declared.message.Message.{Message}
 use Rattle.ec_coe.specs.declared.reply.Reply.{Reply}
 use Rattle.ec_coe.specs.declared.reply.Reply.TheVariants.{Downloaded, Uploaded, Aborted, Unexpected}
 use Rattle.ec_coe.specs.Answers.{value_of}
 
 -- A response: done, whatever its data are, or a value of its size, whatever the bytes behind it are.
-abbrev pub response_in : Message → Command → Reply
+abbrev pub response_in : Message → SdoCommand → Reply
 response_in m DownloadResponse = Downloaded
 response_in m (UploadResponse size) = Uploaded (value_of size m.value)
 response_in m Abort = Aborted m.value
@@ -19,7 +19,7 @@ response_in m UploadRequest = Unexpected
 response_in m (OtherCommand number) = Unexpected
 
 -- an abort may have the service of a request too
-abbrev pub abort_in : Message → Command → Reply
+abbrev pub abort_in : Message → SdoCommand → Reply
 abort_in m Abort = Aborted m.value
 abort_in m DownloadResponse = Unexpected
 abort_in m (UploadResponse size) = Unexpected

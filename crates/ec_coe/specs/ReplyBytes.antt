@@ -1,9 +1,9 @@
 -- How a reply lies in the mailbox that is read: as the bytes of a message, and behind a normal upload response the letters
 -- of the name (ETG.1000.6, "Upload SDO normal response").
 use Rattle.std.specs.Prelude.{ℕ, ◌+◌, ◌==◌, List, ◌++◌, length, if◌then◌else◌, slice_set, Option, Some, None}
-use Rattle.ec_regs.specs.declared.slave_type.Face.{Face}
-use Rattle.ec_coe.specs.declared.message.Command.{Command}
-use Rattle.ec_coe.specs.declared.message.Command.TheVariants.{DownloadRequest, DownloadResponse, UploadRequest, UploadResponse, Abort, Other as OtherCommand}
+use Rattle.ec_device.specs.declared.slave_type.Face.{Face}
+use Rattle.ec_coe.specs.declared.message.SdoCommand.{SdoCommand}
+use Rattle.ec_coe.specs.declared.message.SdoCommand.TheVariants.{DownloadRequest, DownloadResponse, UploadRequest, UploadResponse, Abort, Other as OtherCommand}
 use Rattle.ec_coe.specs.declared.message.Message.{Message}
 use Rattle.ec_coe.specs.Messages.{message_bytes, normal_upload}
 use Rattle.ec_coe.specs.Objects.{Dictionary, name_fits}
@@ -14,7 +14,7 @@ fitting_name None room = None
 fitting_name (Some face) room = if name_fits face.name room then Some face.name else None
 
 -- the letters that follow a message: a name behind a normal upload response, none behind any other
-abbrev pub letters_behind : Option Face → ℕ → Command → Option (List ℕ)
+abbrev pub letters_behind : Option Face → ℕ → SdoCommand → Option (List ℕ)
 letters_behind face room (DownloadRequest size) = None
 letters_behind face room DownloadResponse = None
 letters_behind face room UploadRequest = None

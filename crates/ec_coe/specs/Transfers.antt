@@ -2,10 +2,10 @@
 -- the table of abort codes; which of several aborts comes is the profile of the simulated slaves).
 use Rattle.std.specs.Prelude.{ℕ, ◌-◌, ◌==◌, ◌&&◌, ◌||◌, not, List, [], ◌∷◌, length, take, Bool, true, if◌then◌else◌, nat_le, slice_get, slice_set, Option, Some, None, is_some, Result, Ok, Err}
 use Rattle.std.specs.List.{list_any}
-use Rattle.ec_regs.specs.declared.slave_type.Pdo.{Pdo}
-use Rattle.ec_regs.specs.Objects.{pdo_at, bits_assigned}
+use Rattle.ec_device.specs.declared.slave_type.Pdo.{Pdo}
+use Rattle.ec_device.specs.Objects.{pdo_at, bits_assigned}
 use Rattle.ec_coe.specs.Messages.{size_number}
-use Rattle.ec_coe.specs.declared.value.Value.{Value}
+use Rattle.ec_coe.specs.declared.value.SdoValue.{SdoValue}
 use Rattle.ec_coe.specs.declared.abort_code.AbortCode.{AbortCode}
 use Rattle.ec_coe.specs.declared.abort_code.AbortCode.TheVariants.{InvalidCommand, ReadOnly, NoObject, WrongLength, NoSubindex, InvalidValue, WrongState}
 use Rattle.ec_coe.specs.Objects.{Assignment, Dictionary, output_assignment, object_values, input_assignment}
@@ -22,16 +22,16 @@ abort_number WrongState = 0x08000022
 
 -- ---- upload
 
-abbrev pub value_or_abort : Option Value → Result Value AbortCode
+abbrev pub value_or_abort : Option SdoValue → Result SdoValue AbortCode
 value_or_abort None = Err NoSubindex
 value_or_abort (Some value) = Ok value
 
-abbrev pub value_at : Option (List Value) → ℕ → Result Value AbortCode
+abbrev pub value_at : Option (List SdoValue) → ℕ → Result SdoValue AbortCode
 value_at None subindex = Err NoObject
 value_at (Some values) subindex = value_or_abort (slice_get values subindex)
 
 -- the value at an index and a subindex: no object, no subindex, or it
-unfoldable pub uploaded : Dictionary → ℕ → ℕ → Result Value AbortCode
+unfoldable pub uploaded : Dictionary → ℕ → ℕ → Result SdoValue AbortCode
 uploaded d index subindex = value_at (object_values d index) subindex
 
 -- ---- download
@@ -45,12 +45,12 @@ distinct [] = true
 distinct (x ∷ xs) = not (contains xs x) && distinct xs
 
 -- how many bits a direction may have
-abbrev pub most_bits : ℕ
-most_bits = 2048
+abbrev pub max_bits : ℕ
+max_bits = 2048
 
 -- a count: as many slots as the type has PDOs of the direction, distinct, with at most 2048 bits
 abbrev pub takes_count : List Pdo → Assignment → ℕ → Bool
-takes_count ps a n = nat_le n (length ps) && (distinct (take n a.slots) && nat_le (bits_assigned ps (take n a.slots)) most_bits)
+takes_count ps a n = nat_le n (length ps) && (distinct (take n a.slots) && nat_le (bits_assigned ps (take n a.slots)) max_bits)
 
 -- an index: that of a PDO of the direction
 abbrev pub takes_index : List Pdo → ℕ → Bool
@@ -87,7 +87,7 @@ abbrev pub is_assignment : ℕ → Bool
 is_assignment index = (index == output_assignment) || (index == input_assignment)
 
 -- what is there is written over, where it takes downloads and has the length
-abbrev pub written_over : Bool → Dictionary → ℕ → ℕ → Value → Result Value AbortCode → Result Dictionary AbortCode
+abbrev pub written_over : Bool → Dictionary → ℕ → ℕ → SdoValue → Result SdoValue AbortCode → Result Dictionary AbortCode
 written_over in_preop d index subindex value (Err code) = Err code
 written_over in_preop d index subindex value (Ok old) =
     if not (is_assignment index) then Err ReadOnly
@@ -98,5 +98,5 @@ written_over in_preop d index subindex value (Ok old) =
 
 -- The dictionary after a download, or the first abort that fits: no object, no subindex, read-only, another length, another
 -- state than PREOP or an index while the count isn't 0, a value that isn't taken.
-unfoldable pub downloaded : Bool → Dictionary → ℕ → ℕ → Value → Result Dictionary AbortCode
+unfoldable pub downloaded : Bool → Dictionary → ℕ → ℕ → SdoValue → Result Dictionary AbortCode
 downloaded in_preop d index subindex value = written_over in_preop d index subindex value (uploaded d index subindex)

@@ -2,14 +2,14 @@
 
 ghost use Rattle.std.specs.Prelude.{◌≡◌, ◌≤◌, ◌<◌, ◌^◌, ◌-◌, length, slice_get, All, IfOk, MatchResult, Ok, Err};
 ghost use Rattle.std.specs.Option.{option_copied};
-ghost use Rattle.ec_regs.specs.Types.{pdo_bits};
-ghost use Rattle.ec_regs.specs.Objects.{pdo_at, bits_at, bits_assigned};
+ghost use Rattle.ec_device.specs.Types.{pdo_bits};
+ghost use Rattle.ec_device.specs.Objects.{pdo_at, bits_at, bits_assigned};
 ghost use Rattle.ec_coe.specs.Objects.{indices, all_assigned, assigned as assigned_indices, assignment_values};
 ghost use Rattle.ec_coe.specs.Transfers.{distinct, takes_count as takes_count_of, takes_value as takes_value_of, with_value, assignment_written};
 
 use crate::abort_code::AbortCode;
-use crate::value::Value;
-use ec_regs::Pdo;
+use crate::value::SdoValue;
+use ec_device::Pdo;
 use std::alloc::{AllocError, Global};
 use std::marker::Model;
 
@@ -121,14 +121,14 @@ impl Assignment {
     }
 
     /// The value at a subindex of the object: at 0 how many slots count, from 1 on the slots.
-    pub(crate) fn value(&self, subindex: u8) -> Option<Value>
+    pub(crate) fn value(&self, subindex: u8) -> Option<SdoValue>
         ensures { result ≡ slice_get (assignment_values self.now) subindex }
     {
         if subindex == 0 {
-            return Some(Value::byte(self.count));
+            return Some(SdoValue::byte(self.count));
         }
         let slot = self.slots.get(subindex as usize - 1)?;
-        Some(Value::word(*slot))
+        Some(SdoValue::word(*slot))
     }
 
     /// Whether so many slots may count: there are so many, no index stands twice in them, and their PDOs fit a direction.

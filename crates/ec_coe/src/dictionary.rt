@@ -2,8 +2,8 @@
 
 ghost use Rattle.std.specs.Prelude.{◌≡◌, ◌++◌, ◌≤◌, ◌<◌, ◌^◌, ◌*◌, ◌+◌, length, slice_get, if◌then◌else◌, IfOk, IfSome, MatchResult, Ok, Err};
 ghost use Rattle.std.specs.Option.{option_copied};
-ghost use Rattle.ec_coe.specs.declared.message.Command.TheVariants.{UploadResponse, Other as OtherCommand};
-ghost use Rattle.ec_regs.specs.Objects.{pdo_at, bits_assigned};
+ghost use Rattle.ec_coe.specs.declared.message.SdoCommand.TheVariants.{UploadResponse, Other as OtherCommand};
+ghost use Rattle.ec_device.specs.Objects.{pdo_at, bits_assigned};
 ghost use Rattle.ec_coe.specs.Objects.{HasSlots, new_dictionary, assigned, entry_number as number_of_entry, identity_values, pdo_values, send_room, shown_values};
 ghost use Rattle.ec_coe.specs.Messages.{size_number, normal_upload, IsMessage};
 ghost use Rattle.ec_coe.specs.Transfers.{value_or_abort, value_at, uploaded, downloaded};
@@ -12,9 +12,9 @@ ghost use Rattle.ec_coe.specs.Answers.{answered, has_long_name};
 use crate::abort_code::AbortCode;
 use crate::assignment::{Assignment, find_pdo};
 use crate::face::{DEVICE_NAME_OBJECT, face_value, is_long};
-use crate::message::{Command, Message, NORMAL_UPLOAD, Service};
-use crate::value::{Size, Value};
-use ec_regs::{Entry, Identity, Pdo, SlaveType};
+use crate::message::{Message, NORMAL_UPLOAD, SdoCommand, Service};
+use crate::value::{SdoValue, ValueSize};
+use ec_device::{Entry, Identity, Pdo, SlaveType};
 use std::alloc::{AllocError, Global};
 use std::marker::Model;
 
@@ -57,46 +57,46 @@ pub fn entry_number(entry: &Entry) -> u32
 }
 
 /// The value at a subindex of the identity object.
-fn identity_value(identity: &Identity, subindex: u8) -> Option<Value>
+fn identity_value(identity: &Identity, subindex: u8) -> Option<SdoValue>
     ensures { result ≡ slice_get (identity_values identity.now) subindex }
 {
     match subindex {
-        0 => Some(Value::byte(4)),
-        1 => Some(Value::long(identity.vendor)),
-        2 => Some(Value::long(identity.product)),
-        3 => Some(Value::long(identity.revision)),
-        4 => Some(Value::long(identity.serial)),
+        0 => Some(SdoValue::byte(4)),
+        1 => Some(SdoValue::long(identity.vendor)),
+        2 => Some(SdoValue::long(identity.product)),
+        3 => Some(SdoValue::long(identity.revision)),
+        4 => Some(SdoValue::long(identity.serial)),
         _ => None,
     }
 }
 
 /// The value at a subindex of a PDO's mapping object.
-fn pdo_value(pdo: &Pdo, subindex: u8) -> Option<Value>
+fn pdo_value(pdo: &Pdo, subindex: u8) -> Option<SdoValue>
     requires { length pdo.now.entries < 256 }
     ensures { result ≡ slice_get (pdo_values pdo.now) subindex }
 {
     if subindex == 0 {
-        return Some(Value::byte(pdo.entries.len() as u8));
+        return Some(SdoValue::byte(pdo.entries.len() as u8));
     }
     let entry = pdo.entries.as_slice().get(subindex as usize - 1)?;
-    Some(Value::long(entry_number(entry)))
+    Some(SdoValue::long(entry_number(entry)))
 }
 
 /// What the value of an object is, where the object is there.
-fn found(value: Option<Value>) -> Result<Value, AbortCode>
+fn found(value: Option<SdoValue>) -> Result<SdoValue, AbortCode>
     ensures { result ≡ value_or_abort value }
 {
     value.ok_or(AbortCode::NoSubindex)
 }
 
 /// The command of the response to an upload, by a normal or by an expedited transfer.
-fn upload_command(is_normal: bool, size: Size) -> Command
+fn upload_command(is_normal: bool, size: ValueSize) -> SdoCommand
     ensures { result ≡ (if is_normal then OtherCommand normal_upload else UploadResponse size) }
 {
     if is_normal {
-        Command::Other(NORMAL_UPLOAD)
+        SdoCommand::Other(NORMAL_UPLOAD)
     } else {
-        Command::UploadResponse(size)
+        SdoCommand::UploadResponse(size)
     }
 }
 
@@ -192,7 +192,7 @@ impl Dictionary {
     ///
     /// `NoObject` where the index has no object, `NoSubindex` where the object has no such subindex.
     #[tactic(auto, unfolding(crate::specs::Transfers::uploaded, crate::specs::Objects::object_values))]
-    pub fn upload(&self, index: u16, subindex: u8) -> Result<Value, AbortCode>
+    pub fn upload(&self, index: u16, subindex: u8) -> Result<SdoValue, AbortCode>
         ensures { result ≡ uploaded self.now index subindex }
     {
         match index {
@@ -223,7 +223,7 @@ impl Dictionary {
     /// # Errors
     ///
     /// As of `upload`; each index has no object where the slave isn't full.
-    fn shown(&self, index: u16, subindex: u8) -> Result<Value, AbortCode>
+    fn shown(&self, index: u16, subindex: u8) -> Result<SdoValue, AbortCode>
         ensures { result ≡ value_at (shown_values self.now.kind.face (send_room self.now.kind.mailbox) index) subindex }
     {
         match self.kind.face() {
@@ -244,7 +244,7 @@ impl Dictionary {
 
     /// A download to an index and a subindex. The objects that assign PDOs alone take any, and only in PREOP: a count of
     /// slots, and while that is 0 the slots. The caller knows that the value has no more bits than its size says, as each has
-    /// that `Value::of`, `byte`, `word` or `long` makes.
+    /// that `SdoValue::of`, `byte`, `word` or `long` makes.
     ///
     /// # Errors
     ///
@@ -256,7 +256,7 @@ impl Dictionary {
         in_preop: bool,
         index: u16,
         subindex: u8,
-        value: Value,
+        value: SdoValue,
     ) -> Result<(), AbortCode>
         requires { value.number < 2 ^ (8 * size_number value.size) }
         ensures { MatchResult result
@@ -292,15 +292,15 @@ impl Dictionary {
     {
         let is_normal = request.index == DEVICE_NAME_OBJECT && self.has_long_name();
         let outcome = match request.command {
-            Command::DownloadRequest(size) => self
+            SdoCommand::DownloadRequest(size) => self
                 .download(
                     in_preop,
                     request.index,
                     request.subindex,
-                    Value::of(size, request.value),
+                    SdoValue::of(size, request.value),
                 )
-                .map(|_| (Command::DownloadResponse, 0)),
-            Command::UploadRequest => self.upload(request.index, request.subindex).map(|value| (
+                .map(|_| (SdoCommand::DownloadResponse, 0)),
+            SdoCommand::UploadRequest => self.upload(request.index, request.subindex).map(|value| (
                 upload_command(is_normal, value.size),
                 value.number,
             )),
@@ -308,7 +308,7 @@ impl Dictionary {
         };
         let (service, command, value) = match outcome {
             Ok((command, value)) => (Service::Response, command, value),
-            Err(code) => (Service::Request, Command::Abort, code.number()),
+            Err(code) => (Service::Request, SdoCommand::Abort, code.number()),
         };
         Message {
             counter,

@@ -8,8 +8,8 @@ ghost use Rattle.ec_coe.specs.Transfers.{value_at};
 use crate::abort_code::AbortCode;
 use crate::bytes::byte_at;
 use crate::message::MESSAGE_LENGTH;
-use crate::value::{Size, Value};
-use ec_regs::Face;
+use crate::value::{SdoValue, ValueSize};
+use ec_device::Face;
 
 /// The index of the device type.
 pub const DEVICE_TYPE_OBJECT: u16 = 0x1000;
@@ -27,13 +27,13 @@ pub const SOFTWARE_VERSION_OBJECT: u16 = 0x100A;
 pub const MANAGER_TYPES_OBJECT: u16 = 0x1C00;
 
 /// The most bytes that an expedited transfer carries.
-const MOST_EXPEDITED: usize = 4;
+const MAX_EXPEDITED: usize = 4;
 
 /// Whether a name is too long for an expedited transfer.
 pub(crate) fn is_long(name: &[u8]) -> bool
     ensures { result ≡ is_long_name name.now }
 {
-    name.len() > MOST_EXPEDITED
+    name.len() > MAX_EXPEDITED
 }
 
 /// Whether the letters of a name fit a mailbox of so many bytes, behind a message.
@@ -45,26 +45,26 @@ pub(crate) fn has_room(name: &[u8], room: usize) -> bool
 }
 
 /// The size of a value of so many bytes.
-fn size_of_bytes(count: usize) -> Size
+fn size_of_bytes(count: usize) -> ValueSize
     ensures { result ≡ size_of count }
 {
     match count {
-        1 => Size::One,
-        2 => Size::Two,
-        3 => Size::Three,
-        _ => Size::Four,
+        1 => ValueSize::One,
+        2 => ValueSize::Two,
+        3 => ValueSize::Three,
+        _ => ValueSize::Four,
     }
 }
 
 /// The value of the device name: its letters, the first in the lowest byte; of a long name how many it has.
-fn name_value(name: &[u8]) -> Value
+fn name_value(name: &[u8]) -> SdoValue
     requires { length name.now ≤ 32 }
     ensures { result ≡ value_of_name name.now }
 {
     if is_long(name) {
-        return Value::long(name.len() as u32);
+        return SdoValue::long(name.len() as u32);
     }
-    Value {
+    SdoValue {
         size: size_of_bytes(name.len()),
         number: byte_at(name, 0) as u32
             + 0x100 * byte_at(name, 1) as u32
@@ -74,22 +74,22 @@ fn name_value(name: &[u8]) -> Value
 }
 
 /// The value at a subindex of an object that has no other.
-fn only(value: Value, subindex: u8) -> Option<Value>
+fn only(value: SdoValue, subindex: u8) -> Option<SdoValue>
     ensures { result ≡ slice_get (value ∷ []) subindex }
 {
     (subindex == 0).then_some(value)
 }
 
 /// What a sync manager is for: mailbox out 1, mailbox in 2, outputs 3, inputs 4; at subindex 0 how many there are.
-fn manager_type(subindex: u8) -> Option<Value>
+fn manager_type(subindex: u8) -> Option<SdoValue>
     ensures { result ≡ slice_get manager_types_values subindex }
 {
     match subindex {
-        0 => Some(Value::byte(4)),
-        1 => Some(Value::byte(1)),
-        2 => Some(Value::byte(2)),
-        3 => Some(Value::byte(3)),
-        4 => Some(Value::byte(4)),
+        0 => Some(SdoValue::byte(4)),
+        1 => Some(SdoValue::byte(1)),
+        2 => Some(SdoValue::byte(2)),
+        3 => Some(SdoValue::byte(3)),
+        4 => Some(SdoValue::byte(4)),
         _ => None,
     }
 }
@@ -104,18 +104,18 @@ pub(crate) fn face_value(
     room: usize,
     index: u16,
     subindex: u8,
-) -> Result<Value, AbortCode>
+) -> Result<SdoValue, AbortCode>
     requires { length face.now.name ≤ 32 }
     ensures { result ≡ value_at (face_values face.now room index) subindex }
 {
     let name = face.name.as_slice();
     let value = match index {
-        DEVICE_TYPE_OBJECT => only(Value::long(0), subindex),
+        DEVICE_TYPE_OBJECT => only(SdoValue::long(0), subindex),
         DEVICE_NAME_OBJECT if is_long(name) && !has_room(name, room) => {
             return Err(AbortCode::NoObject);
         }
         DEVICE_NAME_OBJECT => only(name_value(name), subindex),
-        HARDWARE_VERSION_OBJECT | SOFTWARE_VERSION_OBJECT => only(Value::byte(b'1'), subindex),
+        HARDWARE_VERSION_OBJECT | SOFTWARE_VERSION_OBJECT => only(SdoValue::byte(b'1'), subindex),
         MANAGER_TYPES_OBJECT => manager_type(subindex),
         _ => return Err(AbortCode::NoObject),
     };

@@ -25,10 +25,10 @@ pub use crate::face::{
     SOFTWARE_VERSION_OBJECT,
 };
 pub use crate::message::{
-    BadMailbox, Command, MESSAGE_LENGTH, Message, NORMAL_UPLOAD, Service, read_message,
+    BadMailbox, MESSAGE_LENGTH, Message, NORMAL_UPLOAD, SdoCommand, Service, read_message,
     write_message,
 };
 pub use crate::refusal::{MailboxError, RefusalBytes, refuse};
 pub use crate::reply::{Reply, read_reply};
 pub use crate::reply_bytes::ReplyBytes;
-pub use crate::value::{Size, Value};
+pub use crate::value::{SdoValue, ValueSize};

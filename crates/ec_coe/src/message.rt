@@ -5,7 +5,7 @@ ghost use Rattle.std.specs.Prelude.{◌≡◌, ◌-◌, ◌<◌, ◌≤◌, ◌+
 ghost use Rattle.ec_bits.specs.Bits.{zeros};
 ghost use Rattle.ec_coe.specs.Messages.{service_number, service_of, command_number, command_of, message_bytes, message_read, message_length, IsMessage};
 
-use crate::value::Size;
+use crate::value::ValueSize;
 use byteorder::{ByteOrder, LittleEndian};
 
 /// How many bytes a message has; the rest of a mailbox is zeros.
@@ -15,7 +15,7 @@ pub const MESSAGE_LENGTH: usize = 16;
 pub(crate) const BYTES_AFTER_HEADER: u16 = 10;
 
 /// The command byte of the response to an upload by a normal transfer: the data say how many bytes follow the message
-/// (ETG.1000.6, "Upload SDO normal response"). It stands in a message as `Command::Other`.
+/// (ETG.1000.6, "Upload SDO normal response"). It stands in a message as `SdoCommand::Other`.
 pub const NORMAL_UPLOAD: u8 = 0x41;
 
 /// The mailbox type of CoE.
@@ -34,15 +34,15 @@ pub enum Service {
 
 /// What the command byte of an expedited SDO says.
 #[derive(Clone, Copy, Debug, PartialEq, Eq)]
-pub enum Command {
+pub enum SdoCommand {
     /// A download of a value of this size, which the data are: 0x2F, 0x2B, 0x27, 0x23.
-    DownloadRequest(Size),
+    DownloadRequest(ValueSize),
     /// A download was done, 0x60.
     DownloadResponse,
     /// A request for a value, 0x40.
     UploadRequest,
     /// A value of this size, which the data are: 0x4F, 0x4B, 0x47, 0x43.
-    UploadResponse(Size),
+    UploadResponse(ValueSize),
     /// A transfer was aborted, 0x80: the data are the abort code.
     Abort,
     /// Another number.
@@ -57,7 +57,7 @@ pub struct Message {
     /// The service of the CoE header.
     pub service: Service,
     /// The command.
-    pub command: Command,
+    pub command: SdoCommand,
     /// The object's index.
     pub index: u16,
     /// The subindex.
@@ -103,24 +103,24 @@ impl Service {
     }
 }
 
-impl Command {
+impl SdoCommand {
     /// The command with a number.
     pub fn of(number: u8) -> Self
         ensures { result ≡ command_of number }
     {
         match number {
-            0x2F => Command::DownloadRequest(Size::One),
-            0x2B => Command::DownloadRequest(Size::Two),
-            0x27 => Command::DownloadRequest(Size::Three),
-            0x23 => Command::DownloadRequest(Size::Four),
-            0x60 => Command::DownloadResponse,
-            0x40 => Command::UploadRequest,
-            0x4F => Command::UploadResponse(Size::One),
-            0x4B => Command::UploadResponse(Size::Two),
-            0x47 => Command::UploadResponse(Size::Three),
-            0x43 => Command::UploadResponse(Size::Four),
-            0x80 => Command::Abort,
-            _ => Command::Other(number),
+            0x2F => SdoCommand::DownloadRequest(ValueSize::One),
+            0x2B => SdoCommand::DownloadRequest(ValueSize::Two),
+            0x27 => SdoCommand::DownloadRequest(ValueSize::Three),
+            0x23 => SdoCommand::DownloadRequest(ValueSize::Four),
+            0x60 => SdoCommand::DownloadResponse,
+            0x40 => SdoCommand::UploadRequest,
+            0x4F => SdoCommand::UploadResponse(ValueSize::One),
+            0x4B => SdoCommand::UploadResponse(ValueSize::Two),
+            0x47 => SdoCommand::UploadResponse(ValueSize::Three),
+            0x43 => SdoCommand::UploadResponse(ValueSize::Four),
+            0x80 => SdoCommand::Abort,
+            _ => SdoCommand::Other(number),
         }
     }
 
@@ -129,18 +129,18 @@ impl Command {
         ensures { result ≡ command_number self }
     {
         match self {
-            Command::DownloadRequest(Size::One) => 0x2F,
-            Command::DownloadRequest(Size::Two) => 0x2B,
-            Command::DownloadRequest(Size::Three) => 0x27,
-            Command::DownloadRequest(Size::Four) => 0x23,
-            Command::DownloadResponse => 0x60,
-            Command::UploadRequest => 0x40,
-            Command::UploadResponse(Size::One) => 0x4F,
-            Command::UploadResponse(Size::Two) => 0x4B,
-            Command::UploadResponse(Size::Three) => 0x47,
-            Command::UploadResponse(Size::Four) => 0x43,
-            Command::Abort => 0x80,
-            Command::Other(number) => number,
+            SdoCommand::DownloadRequest(ValueSize::One) => 0x2F,
+            SdoCommand::DownloadRequest(ValueSize::Two) => 0x2B,
+            SdoCommand::DownloadRequest(ValueSize::Three) => 0x27,
+            SdoCommand::DownloadRequest(ValueSize::Four) => 0x23,
+            SdoCommand::DownloadResponse => 0x60,
+            SdoCommand::UploadRequest => 0x40,
+            SdoCommand::UploadResponse(ValueSize::One) => 0x4F,
+            SdoCommand::UploadResponse(ValueSize::Two) => 0x4B,
+            SdoCommand::UploadResponse(ValueSize::Three) => 0x47,
+            SdoCommand::UploadResponse(ValueSize::Four) => 0x43,
+            SdoCommand::Abort => 0x80,
+            SdoCommand::Other(number) => number,
         }
     }
 }
@@ -150,7 +150,7 @@ impl Message {
     ///
     /// The caller knows that the message is one that bytes can spell: its counter is below 8, its service below 16, and a
     /// service or a command that has a name stands by it. So a counter of 8, `Service::Other(16)`, `Service::Other(2)` and
-    /// `Command::Other(0x40)` are no message, though the type has them. What `Dictionary::answer` gives is one.
+    /// `SdoCommand::Other(0x40)` are no message, though the type has them. What `Dictionary::answer` gives is one.
     #[tactic(auto, unfolding(crate::specs::Messages::message_bytes))]
     pub fn bytes(&self) -> [u8; 16]
         requires { IsMessage self.now }
@@ -197,7 +197,7 @@ pub fn read_message(mailbox: &[u8]) -> Result<Message, BadMailbox>
     Ok(Message {
         counter: mailbox[5] / 16 % 8,
         service: Service::of(mailbox[7] / 16),
-        command: Command::of(mailbox[8]),
+        command: SdoCommand::of(mailbox[8]),
         index: LittleEndian::read_u16(&mailbox[9..11]),
         subindex: mailbox[11],
         value: LittleEndian::read_u32(&mailbox[12..16]),

@@ -6,7 +6,7 @@ ghost use Rattle.ec_coe.specs.Refusals.{detail_number, error_reply as error_repl
 
 use crate::abort_code::AbortCode;
 use crate::bytes::{byte_at, gathered, word_at};
-use crate::message::{BYTES_AFTER_HEADER, COE, Command, Message, Service};
+use crate::message::{BYTES_AFTER_HEADER, COE, Message, SdoCommand, Service};
 use arrayvec::ArrayVec;
 
 /// The bytes of a refusal: those of a mailbox error, or as many as a message has.
@@ -83,7 +83,7 @@ fn transfer_abort(raw: &[u8], counter: u8) -> RefusalBytes
     let abort = Message {
         counter,
         service: Service::Request,
-        command: Command::Abort,
+        command: SdoCommand::Abort,
         index: word_at(raw, 9),
         subindex: byte_at(raw, 11),
         value: AbortCode::InvalidCommand.number(),

@@ -4,8 +4,8 @@ ghost use Rattle.std.specs.Prelude.{◌≡◌};
 ghost use Rattle.ec_coe.specs.Messages.{message_read};
 ghost use Rattle.ec_coe.specs.Replies.{reply_in, reply_of};
 
-use crate::message::{Command, Message, Service, read_message};
-use crate::value::Value;
+use crate::message::{Message, SdoCommand, Service, read_message};
+use crate::value::SdoValue;
 
 /// What a mailbox says as the reply to a request (ETG.1000.6, "SDO services").
 #[derive(Clone, Copy, Debug, PartialEq, Eq)]
@@ -13,7 +13,7 @@ pub enum Reply {
     /// The download was done; the data of such a reply are not looked at.
     Downloaded,
     /// The value that was asked for, of the size that the reply says.
-    Uploaded(Value),
+    Uploaded(SdoValue),
     /// The transfer was aborted, with this code.
     Aborted(u32),
     /// Anything else: no message, another index or subindex, another service or command.
@@ -31,10 +31,10 @@ impl Message {
             return Reply::Unexpected;
         }
         match (self.service, self.command) {
-            (Service::Request | Service::Response, Command::Abort) => Reply::Aborted(self.value),
-            (Service::Response, Command::DownloadResponse) => Reply::Downloaded,
-            (Service::Response, Command::UploadResponse(size)) => {
-                Reply::Uploaded(Value::of(size, self.value))
+            (Service::Request | Service::Response, SdoCommand::Abort) => Reply::Aborted(self.value),
+            (Service::Response, SdoCommand::DownloadResponse) => Reply::Downloaded,
+            (Service::Response, SdoCommand::UploadResponse(size)) => {
+                Reply::Uploaded(SdoValue::of(size, self.value))
             }
             _ => Reply::Unexpected,
         }

@@ -8,7 +8,7 @@ ghost use Rattle.ec_coe.specs.ReplyBytes.{fitting_name as fitting_name_of, lette
 use crate::bytes::{append, gathered};
 use crate::dictionary::Dictionary;
 use crate::face::has_room;
-use crate::message::{BYTES_AFTER_HEADER, Command, Message, NORMAL_UPLOAD};
+use crate::message::{BYTES_AFTER_HEADER, Message, NORMAL_UPLOAD, SdoCommand};
 use arrayvec::ArrayVec;
 
 /// The bytes of a reply: those of a message, and at most 32 letters.
@@ -43,13 +43,13 @@ impl Dictionary {
     }
 
     /// The letters that follow a message with this command.
-    fn letters_behind(&self, room: usize, command: Command) -> Option<&[u8]>
+    fn letters_behind(&self, room: usize, command: SdoCommand) -> Option<&[u8]>
         ensures value { option_copied result ≡ letters_behind_of self.now.kind.face room command }
         ensures short { IfSome result (λ name. length name.now ≤ 32) }
         ensures fits { IfSome result (λ name. message_length + length name.now ≤ room) }
     {
         match command {
-            Command::Other(NORMAL_UPLOAD) => self.fitting_name(room),
+            SdoCommand::Other(NORMAL_UPLOAD) => self.fitting_name(room),
             _ => None,
         }
     }

@@ -7,7 +7,7 @@ ghost use Rattle.ec_coe.specs.Objects.{byte_value, word_value, long_value};
 
 /// How many bytes a value has, as the command of an expedited SDO says it.
 #[derive(Clone, Copy, Debug, PartialEq, Eq)]
-pub enum Size {
+pub enum ValueSize {
     /// 1 byte.
     One,
     /// 2 bytes.
@@ -18,36 +18,36 @@ pub enum Size {
     Four,
 }
 
-impl Size {
+impl ValueSize {
     /// The number of bytes.
     pub fn number(self) -> u8
         ensures { result ≡ size_number self }
     {
         match self {
-            Size::One => 1,
-            Size::Two => 2,
-            Size::Three => 3,
-            Size::Four => 4,
+            ValueSize::One => 1,
+            ValueSize::Two => 2,
+            ValueSize::Three => 3,
+            ValueSize::Four => 4,
         }
     }
 }
 
 /// A value of 1 to 4 bytes, little-endian on the wire.
 #[derive(Clone, Copy, Debug, PartialEq, Eq)]
-pub struct Value {
+pub struct SdoValue {
     /// How many bytes it has.
-    pub size: Size,
+    pub size: ValueSize,
     /// The bytes as a number.
     pub number: u32,
 }
 
-impl Value {
+impl SdoValue {
     /// A value of one byte.
     pub fn byte(number: u8) -> Self
         ensures { result ≡ byte_value number }
     {
-        Value {
-            size: Size::One,
+        SdoValue {
+            size: ValueSize::One,
             number: number as u32,
         }
     }
@@ -56,8 +56,8 @@ impl Value {
     pub fn word(number: u16) -> Self
         ensures { result ≡ word_value number }
     {
-        Value {
-            size: Size::Two,
+        SdoValue {
+            size: ValueSize::Two,
             number: number as u32,
         }
     }
@@ -66,22 +66,22 @@ impl Value {
     pub fn long(number: u32) -> Self
         ensures { result ≡ long_value number }
     {
-        Value {
-            size: Size::Four,
+        SdoValue {
+            size: ValueSize::Four,
             number,
         }
     }
 
     /// As many of the four bytes of data as the size says, which come as a number.
-    pub fn of(size: Size, bytes: u32) -> Self
+    pub fn of(size: ValueSize, bytes: u32) -> Self
         ensures { result ≡ value_of size bytes }
     {
         let number = match size {
-            Size::One => bytes % 0x100,
-            Size::Two => bytes % 0x1_0000,
-            Size::Three => bytes % 0x100_0000,
-            Size::Four => bytes,
+            ValueSize::One => bytes % 0x100,
+            ValueSize::Two => bytes % 0x1_0000,
+            ValueSize::Three => bytes % 0x100_0000,
+            ValueSize::Four => bytes,
         };
-        Value { size, number }
+        SdoValue { size, number }
     }
 }

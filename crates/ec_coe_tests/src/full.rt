@@ -2,7 +2,8 @@
 
 use crate::tests::{DEVICE, bytes_of, entry, message_of, pdos_of};
 use ec_coe::{Dictionary, read_message};
-use ec_regs::{Face, Listed, MAX_NAME, Mailbox, SlaveType};
+use ec_device::{Face, MAX_NAME, Mailbox, SlaveType};
+use ec_listed::Listed;
 use std::process::Abort;
 use std::test::Fail;
 

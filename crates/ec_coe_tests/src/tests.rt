@@ -2,9 +2,10 @@
 ghost use Rattle.ec_coe.specs.Messages.{IsMessage};
 
 use ec_coe::{
-    BadMailbox, Dictionary, Message, Reply, Value, read_message, read_reply, write_message,
+    BadMailbox, Dictionary, Message, Reply, SdoValue, read_message, read_reply, write_message,
 };
-use ec_regs::{Device, Entry, Listed, Mailbox, Pdo, SlaveType};
+use ec_device::{Device, Entry, Mailbox, Pdo, SlaveType};
+use ec_listed::Listed;
 use std::alloc::{AllocError, Global};
 use std::process::Abort;
 use std::test::Fail;
@@ -407,11 +408,11 @@ fn replies(rt: HostRuntime) -> Result<(), Fail> {
         ("0a0000000013 0030 60121c00 01020304", Reply::Downloaded),
         (
             "0a0000000013 0030 4f121c00 0102ffff",
-            Reply::Uploaded(Value::byte(1)),
+            Reply::Uploaded(SdoValue::byte(1)),
         ),
         (
             "0a0000000013 0030 43121c00 01020304",
-            Reply::Uploaded(Value::long(0x0403_0201)),
+            Reply::Uploaded(SdoValue::long(0x0403_0201)),
         ),
         (
             "0a0000000013 0020 80121c00 22000008",

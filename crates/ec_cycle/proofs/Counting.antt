@@ -3,7 +3,7 @@ use Rattle.std.proofs.Common.{ℕ, zero, suc, ◌<◌, ◌≤◌, ◌≡◌, ◌
 use Rattle.std.specs.Int.{from_bool}
 use Rattle.std.proofs.lemmas.Bool.{eqb-true, and_parts}
 use Rattle.std.proofs.lemmas.List.{length-map, get_or-map}
-use Rattle.ec_link.specs.declared.settings.Settings.{Settings}
+use Rattle.ec_link.specs.declared.settings.SlavePlan.{SlavePlan}
 use Rattle.ec_link.specs.Shares.{Gave, counters_of, same_counters, share_in, sum_of, lwr_count, lrd_count, lrw_count, nothing_given, predicted}
 use Rattle.ec_link.specs.Meaning.{slave_at, no_slave}
 use Rattle.ec_link.specs.Plan.{PlanState, part_at}
@@ -62,10 +62,10 @@ same_gift f g a b = ap (λ (z : Bool). gift z f.read) (bits_tell f.wrote g.wrote
 pub predicted_means_whole : (p : PlanState) (k : ℕ) (gave : List Gave) → GaveAtMost p k gave → same_counters (counters_of (part_at p.parts k).split gave) (predicted p k) ≡ true
     → (s : ℕ) → s < length p.slaves → get_or gave s nothing_given ≡ share_in k (slave_at p s).share
 predicted_means_whole p k gave most same s l =
-    let whole = map (λ (x : Settings). share_in k x.share) p.slaves in
+    let whole = map (λ (x : SlavePlan). share_in k x.share) p.slaves in
     let count = most.0 in
-    let len : length gave ≡ length whole = count ∙ sym (length-map p.slaves (λ (x : Settings). share_in k x.share)) in
-    let here : (t : ℕ) → t < length p.slaves → at whole t ≡ share_in k (slave_at p t).share = λ t b. get_or-map (λ (x : Settings). share_in k x.share) p.slaves t no_slave nothing_given b in
+    let len : length gave ≡ length whole = count ∙ sym (length-map p.slaves (λ (x : SlavePlan). share_in k x.share)) in
+    let here : (t : ℕ) → t < length p.slaves → at whole t ≡ share_in k (slave_at p t).share = λ t b. get_or-map (λ (x : SlavePlan). share_in k x.share) p.slaves t no_slave nothing_given b in
     let there : s < length gave = omega arith in
     let both = counts_tell (part_at p.parts k).split gave whole len (λ t b.
     let c : t < length p.slaves = omega arith in

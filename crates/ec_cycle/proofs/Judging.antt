@@ -3,7 +3,7 @@ use Rattle.std.proofs.Common.{ℕ, zero, suc, ◌+◌, ◌-◌, ◌<◌, ◌≤�
 use Rattle.std.proofs.lemmas.Bool.{cases_eq, eq-eqb, ne_eqb}
 use Rattle.std.proofs.lemmas.List.{take_all, take_more, map-append, get_or_default}
 use Rattle.std.proofs.lemmas.List.Sums.{fold-append}
-use Rattle.ec_link.specs.declared.plan.Predicted.{Predicted}
+use Rattle.ec_link.specs.declared.plan.ExpectedCounters.{ExpectedCounters}
 use Rattle.ec_link.specs.Shares.{predicted}
 use Rattle.ec_bits.proofs.AnyLaws.{if_true, if_false}
 use Rattle.ec_link.specs.declared.plan.PartPlan.{PartPlan}
@@ -130,7 +130,7 @@ all_none [] (q ∷ ps) e h = absurd (omega arith)
 all_none (x ∷ xs) [] e h = absurd (omega arith)
 all_none (x ∷ xs) (q ∷ ps) e h = ap (λ (o : Option KeptPart). o ∷ xs) (h 0 (omega arith)) ∙ ap (λ (os : List (Option KeptPart)). None ∷ os) (all_none xs ps (omega arith) (λ k l. h (suc k) (omega arith)))
 
-pub good_is : (p : PlanState) (k slaves : ℕ) (e : Predicted) (o : Option KeptPart) (kept : List (Option KeptPart)) (r : Bool) → slaves ≡ length p.slaves → e ≡ predicted p k → o ≡ get_or kept k o → k < length kept → r ≡ came_back_as slaves e o → r ≡ is_good p k (get_or kept k None)
+pub good_is : (p : PlanState) (k slaves : ℕ) (e : ExpectedCounters) (o : Option KeptPart) (kept : List (Option KeptPart)) (r : Bool) → slaves ≡ length p.slaves → e ≡ predicted p k → o ≡ get_or kept k o → k < length kept → r ≡ came_back_as slaves e o → r ≡ is_good p k (get_or kept k None)
 good_is p k slaves e o kept r s c at l h =
-    h ∙ (ap (λ (n : ℕ). came_back_as n e o) s ∙ (ap (λ (x : Predicted). came_back_as (length p.slaves) x o) c
+    h ∙ (ap (λ (n : ℕ). came_back_as n e o) s ∙ (ap (λ (x : ExpectedCounters). came_back_as (length p.slaves) x o) c
     ∙ ap (came_back_as (length p.slaves) (predicted p k)) (at ∙ get_or_default kept k o None l)))

@@ -8,7 +8,7 @@ use Rattle.ec_frame.specs.Building.{new_datagram}
 use Rattle.ec_frame.specs.Datagram.{Datagram, joined}
 use Rattle.ec_frame.proofs.Builds.{joined_push}
 use Rattle.ec_link.specs.declared.plan.PartPlan.{PartPlan}
-use Rattle.ec_link.specs.declared.plan.Predicted.{Predicted}
+use Rattle.ec_link.specs.declared.plan.ExpectedCounters.{ExpectedCounters}
 use Rattle.ec_cycle.specs.Closing.{KeptPart}
 use Rattle.ec_cycle.specs.Frames.{process_datagrams, returned_first}
 
@@ -31,9 +31,9 @@ split_appended old mid new part number sent content some s blank a b =
     ∙ (ap (λ (xs : List ℕ). old ++ (new_datagram Lwr (number % 256) part.address sent ∷ new_datagram Lrd (number % 256) part.address xs ∷ [])) (blank ∙ sym (if_true part.split (zeros part.bytes) sent s))
     ∙ ap (λ (ds : List Datagram). old ++ ds) (sym (if_false (part.bytes == 0) _ _ (ne_eqb part.bytes 0 some) ∙ if_true part.split _ _ s)))))
 
-abbrev pub kept_value : ℕ → ℕ → Predicted → List ℕ → Option KeptPart
+abbrev pub kept_value : ℕ → ℕ → ExpectedCounters → List ℕ → Option KeptPart
 kept_value a w p xs = Some (record { broadcast = a; al_word = w; counters = p; bytes = xs })
 
-pub made_kept : (a a2 w w2 : ℕ) (p p2 : Predicted) (xs ys : List ℕ) → a ≡ a2 → w ≡ w2 → p ≡ p2 → xs ≡ ys → kept_value a w p xs ≡ kept_value a2 w2 p2 ys
+pub made_kept : (a a2 w w2 : ℕ) (p p2 : ExpectedCounters) (xs ys : List ℕ) → a ≡ a2 → w ≡ w2 → p ≡ p2 → xs ≡ ys → kept_value a w p xs ≡ kept_value a2 w2 p2 ys
 made_kept a a2 w w2 p p2 xs ys e f g h =
-    ap (λ (z : ℕ). kept_value z w p xs) e ∙ (ap (λ (z : ℕ). kept_value a2 z p xs) f ∙ (ap (λ (z : Predicted). kept_value a2 w2 z xs) g ∙ ap (kept_value a2 w2 p2) h))
+    ap (λ (z : ℕ). kept_value z w p xs) e ∙ (ap (λ (z : ℕ). kept_value a2 z p xs) f ∙ (ap (λ (z : ExpectedCounters). kept_value a2 w2 z xs) g ∙ ap (kept_value a2 w2 p2) h))

@@ -11,7 +11,7 @@ use Rattle.ec_link.specs.declared.plan.Link.{Link}
 use Rattle.ec_link.specs.Plan.{PlanState, part_at}
 use Rattle.ec_link.specs.Meaning.{slave_at, area_at}
 use Rattle.ec_link.specs.Usable.{IsUsable, IsOutLink, IsInLink}
-use Rattle.ec_cycle.specs.declared.run.Run.{Run}
+use Rattle.ec_cycle.specs.declared.run.BitRun.{BitRun}
 use Rattle.ec_cycle.specs.declared.run.InputRun.{InputRun}
 use Rattle.ec_cycle.specs.Closing.{KeptPart, all_from, is_good, unit_taken, bytes_of, part_of_slave, inputs_closed}
 use Rattle.ec_cycle.specs.Copies.{output_run, run_copied, runs_copied, outputs_copied, is_of_part, part_runs, FitsRun, input_run, input_copied, inputs_copied, adjoin, both, inputs_adjoin, both_inputs, merged, merged_from, output_runs, input_runs}
@@ -34,13 +34,13 @@ FitsInput p kept bytes r = unit_taken p kept r.unit ≡ true → (r.part < lengt
 
 -- ---- a loop over runs
 
-pub copy_more : (src : List ℕ) (runs : List Run) (i : ℕ) (r : Run) (dst new whole : List ℕ) → i < length runs → r ≡ get_or runs i r → new ≡ copied dst r.to src r.from r.count
+pub copy_more : (src : List ℕ) (runs : List BitRun) (i : ℕ) (r : BitRun) (dst new whole : List ℕ) → i < length runs → r ≡ get_or runs i r → new ≡ copied dst r.to src r.from r.count
     → runs_copied src (drop i runs) dst ≡ whole → runs_copied src (drop (i + 1) runs) new ≡ whole
 copy_more src runs i r dst new whole l at e h =
     let cut : drop i runs ≡ r ∷ drop (i + 1) runs = drop_more runs i r l ∙ ap (λ x. x ∷ drop (i + 1) runs) (sym at) in
     ap (runs_copied src (drop (i + 1) runs)) e ∙ (sym (ap (λ rs. runs_copied src rs dst) cut) ∙ h)
 
-pub copy_all : (src : List ℕ) (runs : List Run) (i : ℕ) (dst whole : List ℕ) → length runs ≤ i → runs_copied src (drop i runs) dst ≡ whole → dst ≡ whole
+pub copy_all : (src : List ℕ) (runs : List BitRun) (i : ℕ) (dst whole : List ℕ) → length runs ≤ i → runs_copied src (drop i runs) dst ≡ whole → dst ≡ whole
 copy_all src runs i dst whole l h = sym (ap (λ rs. runs_copied src rs dst) (drop_all i runs l)) ∙ h
 
 pub ruleset copy_steps = (copy_more, copy_all)
@@ -58,21 +58,21 @@ runs_by_links p k image (l ∷ ls) dst = go (is_of_part p k l) (runs_by_links p 
 
 -- ---- runs that adjoin
 
-parts_of : (r n : Run) → adjoin r n ≡ true → (r.to + r.count ≡ n.to) × (r.from + r.count ≡ n.from)
+parts_of : (r n : BitRun) → adjoin r n ≡ true → (r.to + r.count ≡ n.to) × (r.from + r.count ≡ n.from)
 parts_of r n h =
     let a = and_parts (r.to + r.count == n.to) ((r.from + r.count == n.from) && nat_lt (r.count + n.count) (2 ^ 64)) h in
     let b = and_parts (r.from + r.count == n.from) (nat_lt (r.count + n.count) (2 ^ 64)) a.1 in
     (eqb-true (r.to + r.count) n.to a.0, eqb-true (r.from + r.count) n.from b.0)
 
 -- both in one copy what one after the other does
-both_copied : (src : List ℕ) (r n : Run) (dst : List ℕ) → adjoin r n ≡ true → run_copied src (both r n) dst ≡ run_copied src n (run_copied src r dst)
+both_copied : (src : List ℕ) (r n : BitRun) (dst : List ℕ) → adjoin r n ≡ true → run_copied src (both r n) dst ≡ run_copied src n (run_copied src r dst)
 both_copied src r n dst h =
     let e = parts_of r n h in
     sym (copied_more dst r.to src r.from r.count n.count)
     ∙ (ap (λ (to : ℕ). copied (run_copied src r dst) to src (r.from + r.count) n.count) e.0
     ∙ ap (λ (from : ℕ). copied (run_copied src r dst) n.to src from n.count) e.1)
 
-both_fit : (a b : ℕ) (r n : Run) → adjoin r n ≡ true → FitsRun a b r → FitsRun a b n → FitsRun a b (both r n)
+both_fit : (a b : ℕ) (r n : BitRun) → adjoin r n ≡ true → FitsRun a b r → FitsRun a b n → FitsRun a b (both r n)
 both_fit a b r n h x y =
     let e = parts_of r n h in
     let e0 = e.0 in
@@ -83,36 +83,36 @@ both_fit a b r n h x y =
     let y3 = y.from_fits in
     record { inside = omega arith; there = omega arith; to_fits = omega arith; from_fits = omega arith }
 
-merged_copied_from : (src : List ℕ) (r : Run) (rs : List Run) (dst : List ℕ) → runs_copied src (merged_from adjoin both r rs) dst ≡ runs_copied src rs (run_copied src r dst)
+merged_copied_from : (src : List ℕ) (r : BitRun) (rs : List BitRun) (dst : List ℕ) → runs_copied src (merged_from adjoin both r rs) dst ≡ runs_copied src rs (run_copied src r dst)
 merged_copied_from src r [] dst = refl
 merged_copied_from src r (n ∷ rs) dst = go (λ x d. merged_copied_from src x rs d) (adjoin r n) refl
   where
-    go : ((x : Run) (d : List ℕ) → runs_copied src (merged_from adjoin both x rs) d ≡ runs_copied src rs (run_copied src x d)) → (b : Bool) → adjoin r n ≡ b → runs_copied src (if b then merged_from adjoin both (both r n) rs else r ∷ merged_from adjoin both n rs) dst ≡ runs_copied src rs (run_copied src n (run_copied src r dst))
+    go : ((x : BitRun) (d : List ℕ) → runs_copied src (merged_from adjoin both x rs) d ≡ runs_copied src rs (run_copied src x d)) → (b : Bool) → adjoin r n ≡ b → runs_copied src (if b then merged_from adjoin both (both r n) rs else r ∷ merged_from adjoin both n rs) dst ≡ runs_copied src rs (run_copied src n (run_copied src r dst))
     go f true h = f (both r n) dst ∙ ap (runs_copied src rs) (both_copied src r n dst h)
     go f false h = f n (run_copied src r dst)
 
-merged_copied : (src : List ℕ) (rs : List Run) (dst : List ℕ) → runs_copied src (merged adjoin both rs) dst ≡ runs_copied src rs dst
+merged_copied : (src : List ℕ) (rs : List BitRun) (dst : List ℕ) → runs_copied src (merged adjoin both rs) dst ≡ runs_copied src rs dst
 merged_copied src [] dst = refl
 merged_copied src (r ∷ rs) dst = merged_copied_from src r rs dst
 
-merged_fit_from : (a b : ℕ) (r : Run) (rs : List Run) → FitsRun a b r → AllByRecursion (FitsRun a b) rs → AllByRecursion (FitsRun a b) (merged_from adjoin both r rs)
+merged_fit_from : (a b : ℕ) (r : BitRun) (rs : List BitRun) → FitsRun a b r → AllByRecursion (FitsRun a b) rs → AllByRecursion (FitsRun a b) (merged_from adjoin both r rs)
 merged_fit_from a b r [] x all = (x, tt)
 merged_fit_from a b r (n ∷ rs) x all = go (λ y f. merged_fit_from a b y rs f all.1) (adjoin r n) refl
   where
-    go : ((y : Run) → FitsRun a b y → AllByRecursion (FitsRun a b) (merged_from adjoin both y rs)) → (c : Bool) → adjoin r n ≡ c → AllByRecursion (FitsRun a b) (if c then merged_from adjoin both (both r n) rs else r ∷ merged_from adjoin both n rs)
+    go : ((y : BitRun) → FitsRun a b y → AllByRecursion (FitsRun a b) (merged_from adjoin both y rs)) → (c : Bool) → adjoin r n ≡ c → AllByRecursion (FitsRun a b) (if c then merged_from adjoin both (both r n) rs else r ∷ merged_from adjoin both n rs)
     go f true h = f (both r n) (both_fit a b r n h x all.0)
     go f false h = (x, f n all.0)
 
-merged_fit : (a b : ℕ) (rs : List Run) → AllByRecursion (FitsRun a b) rs → AllByRecursion (FitsRun a b) (merged adjoin both rs)
+merged_fit : (a b : ℕ) (rs : List BitRun) → AllByRecursion (FitsRun a b) rs → AllByRecursion (FitsRun a b) (merged adjoin both rs)
 merged_fit a b [] all = tt
 merged_fit a b (r ∷ rs) all = merged_fit_from a b r rs all.0 all.1
 
-pub filled : (p : PlanState) (k : ℕ) (image : List ℕ) (runs : List Run) (blank new : List ℕ) → IsUsable p → runs ≡ output_runs p k → blank ≡ zeros (part_at p.parts k).bytes → new ≡ runs_copied image runs blank → new ≡ process_bytes p k image
+pub filled : (p : PlanState) (k : ℕ) (image : List ℕ) (runs : List BitRun) (blank new : List ℕ) → IsUsable p → runs ≡ output_runs p k → blank ≡ zeros (part_at p.parts k).bytes → new ≡ runs_copied image runs blank → new ≡ process_bytes p k image
 filled p k image runs blank new usable r b e =
     e ∙ (ap (λ rs. runs_copied image rs blank) r ∙ (merged_copied image (part_runs p k) blank ∙ (ap (runs_copied image (part_runs p k)) b ∙ (runs_by_links p k image p.out_links (zeros (part_at p.parts k).bytes) ∙ process_by_links p k image usable))))
 
 -- over the process data for another image
-pub refreshed : (p : PlanState) (k : ℕ) (image : List ℕ) (runs : List Run) (old new : List ℕ) → IsUsable p → runs ≡ output_runs p k → (was : List ℕ) × (old ≡ process_bytes p k was) → new ≡ runs_copied image runs old → new ≡ process_bytes p k image
+pub refreshed : (p : PlanState) (k : ℕ) (image : List ℕ) (runs : List BitRun) (old new : List ℕ) → IsUsable p → runs ≡ output_runs p k → (was : List ℕ) × (old ≡ process_bytes p k was) → new ≡ runs_copied image runs old → new ≡ process_bytes p k image
 refreshed p k image runs old new usable r b e =
     e ∙ (ap (λ rs. runs_copied image rs old) r ∙ (merged_copied image (part_runs p k) old ∙ (ap (runs_copied image (part_runs p k)) b.1 ∙ (runs_by_links p k image p.out_links (process_bytes p k b.0) ∙ process_again p k image usable b.0))))
 
@@ -143,13 +143,13 @@ links_fit p k bytes image (l ∷ ls) usable size room few all = go (is_of_part p
     go true f h = (f refl, h)
     go false f h = h
 
-pub runs_fit : (p : PlanState) (k : ℕ) (runs : List Run) (sent image : List ℕ) → IsUsable p → runs ≡ output_runs p k → sent ≡ zeros (part_at p.parts k).bytes → length image ≡ bytes_of_bits p.out_bits → p.out_bits < 2 ^ 64 → AllByRecursion (FitsRun (length sent) (length image)) runs
+pub runs_fit : (p : PlanState) (k : ℕ) (runs : List BitRun) (sent image : List ℕ) → IsUsable p → runs ≡ output_runs p k → sent ≡ zeros (part_at p.parts k).bytes → length image ≡ bytes_of_bits p.out_bits → p.out_bits < 2 ^ 64 → AllByRecursion (FitsRun (length sent) (length image)) runs
 runs_fit p k runs sent image usable r blank room few =
     subst (λ rs. AllByRecursion (FitsRun (length sent) (length image)) rs) (sym r)
     (merged_fit (length sent) (length image) (part_runs p k)
     (links_fit p k (length sent) (length image) p.out_links usable (ap length blank ∙ length-replicate (part_at p.parts k).bytes 0) room few usable.out_links))
 
-pub runs_fit_again : (p : PlanState) (k : ℕ) (runs : List Run) (old image : List ℕ) → IsUsable p → runs ≡ output_runs p k → (was : List ℕ) × (old ≡ process_bytes p k was) → length image ≡ bytes_of_bits p.out_bits → p.out_bits < 2 ^ 64 → AllByRecursion (FitsRun (length old) (length image)) runs
+pub runs_fit_again : (p : PlanState) (k : ℕ) (runs : List BitRun) (old image : List ℕ) → IsUsable p → runs ≡ output_runs p k → (was : List ℕ) × (old ≡ process_bytes p k was) → length image ≡ bytes_of_bits p.out_bits → p.out_bits < 2 ^ 64 → AllByRecursion (FitsRun (length old) (length image)) runs
 runs_fit_again p k runs old image usable r made room few =
     subst (λ rs. AllByRecursion (FitsRun (length old) (length image)) rs) (sym r)
     (merged_fit (length old) (length image) (part_runs p k)
@@ -172,18 +172,18 @@ filter_pushed p k ls i l b at =
     ap (λ (xs : List Link). map (output_run p k) (filter (is_of_part p k) xs)) more
     ∙ (ap (map (output_run p k)) (filter-append (is_of_part p k) (take i ls) (l ∷ [])) ∙ map-append (output_run p k) (filter (is_of_part p k) (take i ls)) (filter (is_of_part p k) (l ∷ [])))
 
-pub filter_more : (p : PlanState) (k : ℕ) (ls : List Link) (i : ℕ) (l : Link) (old new : List Run) (r : Run) → i < length ls → l ≡ get_or ls i l → is_of_part p k l ≡ true
+pub filter_more : (p : PlanState) (k : ℕ) (ls : List Link) (i : ℕ) (l : Link) (old new : List BitRun) (r : BitRun) → i < length ls → l ≡ get_or ls i l → is_of_part p k l ≡ true
     → old ≡ map (output_run p k) (filter (is_of_part p k) (take i ls)) → r ≡ output_run p k l → new ≡ old ++ r ∷ [] → new ≡ map (output_run p k) (filter (is_of_part p k) (take (i + 1) ls))
 filter_more p k ls i l old new r b at own h e n =
-    n ∙ (ap (λ (xs : List Run). xs ++ r ∷ []) h ∙ (ap (λ (x : Run). map (output_run p k) (filter (is_of_part p k) (take i ls)) ++ x ∷ []) e
+    n ∙ (ap (λ (xs : List BitRun). xs ++ r ∷ []) h ∙ (ap (λ (x : BitRun). map (output_run p k) (filter (is_of_part p k) (take i ls)) ++ x ∷ []) e
     ∙ sym (filter_pushed p k ls i l b at ∙ ap (λ (c : Bool). map (output_run p k) (filter (is_of_part p k) (take i ls)) ++ map (output_run p k) (if c then l ∷ [] else [])) own)))
 
-pub filter_same : (p : PlanState) (k : ℕ) (ls : List Link) (i : ℕ) (l : Link) (old : List Run) → i < length ls → l ≡ get_or ls i l → is_of_part p k l ≡ false
+pub filter_same : (p : PlanState) (k : ℕ) (ls : List Link) (i : ℕ) (l : Link) (old : List BitRun) → i < length ls → l ≡ get_or ls i l → is_of_part p k l ≡ false
     → old ≡ map (output_run p k) (filter (is_of_part p k) (take i ls)) → old ≡ map (output_run p k) (filter (is_of_part p k) (take (i + 1) ls))
 filter_same p k ls i l old b at other h =
     h ∙ sym (filter_pushed p k ls i l b at ∙ (ap (λ (c : Bool). map (output_run p k) (filter (is_of_part p k) (take i ls)) ++ map (output_run p k) (if c then l ∷ [] else [])) other ∙ append-nil (map (output_run p k) (filter (is_of_part p k) (take i ls)))))
 
-pub filter_all : (p : PlanState) (k i : ℕ) (old : List Run) → length p.out_links ≤ i → old ≡ map (output_run p k) (filter (is_of_part p k) (take i p.out_links)) → old ≡ part_runs p k
+pub filter_all : (p : PlanState) (k i : ℕ) (old : List BitRun) → length p.out_links ≤ i → old ≡ map (output_run p k) (filter (is_of_part p k) (take i p.out_links)) → old ≡ part_runs p k
 filter_all p k i old l h = h ∙ ap (λ (xs : List Link). map (output_run p k) (filter (is_of_part p k) xs)) (take_all i p.out_links l)
 
 pub ruleset filter_steps = (filter_more, filter_same, filter_all)

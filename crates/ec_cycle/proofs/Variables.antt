@@ -12,7 +12,7 @@ use Rattle.ec_bits.proofs.AnyLaws.{if_false, within_parts}
 use Rattle.ec_link.specs.declared.image.Variable.{Variable}
 use Rattle.ec_table.specs.declared.rows.Direction.{Direction}
 use Rattle.ec_table.specs.declared.rows.Direction.TheVariants.{Out, In}
-use Rattle.ec_link.specs.Wires.{is_out}
+use Rattle.ec_link.specs.LinkRuns.{is_out}
 use Rattle.ec_link.specs.Usable.{IsUsable, IsInImage}
 use Rattle.ec_link.specs.Variables.{AreApart}
 use Rattle.ec_cycle.specs.Master.{MasterState, holds_value, value_at, variable_set, value_put}

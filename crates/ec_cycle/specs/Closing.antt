@@ -4,8 +4,8 @@ use Rattle.std.specs.Prelude.{ℕ, ◌+◌, ◌-◌, ◌*◌, ◌==◌, ◌&&◌
 use Rattle.std.specs.List.{fold}
 use Rattle.ec_bits.specs.Bits.{bit, overlay}
 use Rattle.ec_frame.specs.Datagram.{Datagram}
-use Rattle.ec_link.specs.declared.plan.Predicted.{Predicted}
-use Rattle.ec_link.specs.declared.plan.Predicted.TheVariants.{Lrw, Split}
+use Rattle.ec_link.specs.declared.plan.ExpectedCounters.{ExpectedCounters}
+use Rattle.ec_link.specs.declared.plan.ExpectedCounters.TheVariants.{Lrw, Split}
 use Rattle.ec_link.specs.Shares.{same_counters, predicted}
 use Rattle.ec_link.specs.Meaning.{Linked, area_at, slave_at, in_source}
 use Rattle.ec_link.specs.Plan.{PlanState, part_at}
@@ -31,7 +31,7 @@ all_from p k (x ∷ xs) = p k x && all_from p (k + 1) xs
 pub record KeptPart : Type 0 where
   pub broadcast : ℕ
   pub al_word : ℕ
-  pub counters : Predicted
+  pub counters : ExpectedCounters
   pub bytes : List ℕ
 
 -- the working counter of datagram n, 0 where there is none
@@ -49,7 +49,7 @@ abbrev pub input_place : Bool → ℕ
 input_place split = if split then 3 else 2
 
 -- the working counters of the process datagrams
-abbrev pub counters_by : Bool → List Datagram → Predicted
+abbrev pub counters_by : Bool → List Datagram → ExpectedCounters
 counters_by split ds = if split then Split (counter_at ds 2) (counter_at ds 3) else Lrw (counter_at ds 2)
 
 abbrev pub kept_by : Bool → List Datagram → KeptPart
@@ -71,7 +71,7 @@ bytes_of (Some q) = q.bytes
 -- ---- judging
 
 -- so many slaves answered the broadcast, and the working counters are these
-abbrev pub came_back_as : ℕ → Predicted → Option KeptPart → Bool
+abbrev pub came_back_as : ℕ → ExpectedCounters → Option KeptPart → Bool
 came_back_as slaves counters None = false
 came_back_as slaves counters (Some q) = (q.broadcast == slaves) && same_counters q.counters counters
 
@@ -125,7 +125,7 @@ pub record ReportState : Type 0 where
   -- how many parts were not kept
   pub missing : ℕ
   -- the working counters of each part that was kept
-  pub counters : List (Option Predicted)
+  pub counters : List (Option ExpectedCounters)
   pub al_word : ℕ
 
 abbrev pub report_of : PlanState → List (Option KeptPart) → ReportState

@@ -5,17 +5,17 @@ use Rattle.ec_bits.specs.Bits.{copied}
 use Rattle.ec_link.specs.declared.plan.Link.{Link}
 use Rattle.ec_link.specs.Plan.{PlanState, part_at}
 use Rattle.ec_link.specs.Meaning.{area_at}
-use Rattle.ec_cycle.specs.declared.run.Run.{Run}
+use Rattle.ec_cycle.specs.declared.run.BitRun.{BitRun}
 use Rattle.ec_cycle.specs.declared.run.InputRun.{InputRun}
 use Rattle.ec_cycle.specs.Closing.{KeptPart, unit_taken, bytes_of, part_of_slave}
 
 -- ---- outputs
 
 -- where a link's output bits stand in the data of part k, and where in the image
-abbrev pub output_run : PlanState → ℕ → Link → Run
+abbrev pub output_run : PlanState → ℕ → Link → BitRun
 output_run p k l = record { to = (area_at p l.slave).out_at + l.object_bit - 8 * (part_at p.parts k).address; from = l.image; count = l.count }
 
-abbrev pub run_copied : List ℕ → Run → List ℕ → List ℕ
+abbrev pub run_copied : List ℕ → BitRun → List ℕ → List ℕ
 run_copied src r dst = copied dst r.to src r.from r.count
 
 -- a link of outputs: its bits into the data of part k, if its slave is of the part
@@ -50,7 +50,7 @@ inputs_copied p kept (l ∷ ls) image = inputs_copied p kept ls (input_copied p 
 -- ---- what the code makes of them; no public clause cites the rest
 
 -- run after run
-abbrev pub runs_copied : List ℕ → List Run → List ℕ → List ℕ
+abbrev pub runs_copied : List ℕ → List BitRun → List ℕ → List ℕ
 runs_copied src [] dst = dst
 runs_copied src (r ∷ rs) dst = runs_copied src rs (run_copied src r dst)
 
@@ -58,21 +58,21 @@ runs_copied src (r ∷ rs) dst = runs_copied src rs (run_copied src r dst)
 abbrev pub is_of_part : PlanState → ℕ → Link → Bool
 is_of_part p k l = part_of_slave p l.slave == k
 
-abbrev pub part_runs : PlanState → ℕ → List Run
+abbrev pub part_runs : PlanState → ℕ → List BitRun
 part_runs p k = map (output_run p k) (filter (is_of_part p k) p.out_links)
 
 -- a run lies inside so many bytes of its target and so many of its source, and its ends fit a `usize`
-pub record FitsRun (to_bytes from_bytes : ℕ) (r : Run) : Type 0 where
+pub record FitsRun (to_bytes from_bytes : ℕ) (r : BitRun) : Type 0 where
   pub inside : r.to + r.count ≤ 8 * to_bytes
   pub there : r.from + r.count ≤ 8 * from_bytes
   pub to_fits : r.to + r.count < 2 ^ 64
   pub from_fits : r.from + r.count < 2 ^ 64
 
 -- the next one begins where this one ends, in the target and in the source
-abbrev pub adjoin : Run → Run → Bool
+abbrev pub adjoin : BitRun → BitRun → Bool
 adjoin r n = (r.to + r.count == n.to) && ((r.from + r.count == n.from) && nat_lt (r.count + n.count) (2 ^ 64))
 
-abbrev pub both : Run → Run → Run
+abbrev pub both : BitRun → BitRun → BitRun
 both r n = record r { count = r.count + n.count }
 
 -- the same of runs out of what the parts brought back
@@ -92,7 +92,7 @@ merged adjoins join [] = []
 merged adjoins join (x ∷ xs) = merged_from adjoins join x xs
 
 -- what is copied for the outputs of part k
-abbrev pub output_runs : PlanState → ℕ → List Run
+abbrev pub output_runs : PlanState → ℕ → List BitRun
 output_runs p k = merged adjoin both (part_runs p k)
 
 -- what is copied for the inputs

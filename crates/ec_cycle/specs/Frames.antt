@@ -12,7 +12,7 @@ use Rattle.ec_frame.specs.Building.{new_datagram}
 use Rattle.ec_link.specs.Shares.{Gave, sum_of, lwr_count, lrd_count, lrw_count}
 use Rattle.ec_link.specs.declared.plan.Link.{Link}
 use Rattle.ec_link.specs.Plan.{PlanState, part_at}
-use Rattle.ec_link.specs.declared.settings.Settings.{Settings}
+use Rattle.ec_link.specs.declared.settings.SlavePlan.{SlavePlan}
 use Rattle.ec_link.specs.declared.plan.PartPlan.{PartPlan}
 use Rattle.ec_link.specs.Meaning.{area_of, out_source}
 
@@ -20,7 +20,7 @@ use Rattle.ec_link.specs.Meaning.{area_of, out_source}
 
 -- The image bit that stands at a logical bit: the one that is linked to the output bit there, of the slaves of part k from
 -- number s on.
-abbrev pub image_bit : List Link → ℕ → ℕ → List Settings → ℕ → Option ℕ
+abbrev pub image_bit : List Link → ℕ → ℕ → List SlavePlan → ℕ → Option ℕ
 image_bit ls k s [] logical = None
 image_bit ls k s (p ∷ ps) logical =
     if (p.share.part == k) && within (area_of p).out_at p.share.outs logical

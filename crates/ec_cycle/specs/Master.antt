@@ -1,6 +1,6 @@
 -- What a master is, and what its calls do.
 use Rattle.std.specs.Prelude.{ℕ, ◌+◌, ◌-◌, ◌^◌, ◌<◌, ◌≡◌, ◌&&◌, List, [], ◌∷◌, length, map, get_or, set, Bool, true, false, if◌then◌else◌, nat_lt, Option, Some, None, is_some, Result, Ok, Err, slice_get, max}
-use Rattle.ec_link.specs.Wires.{is_out}
+use Rattle.ec_link.specs.LinkRuns.{is_out}
 use Rattle.ec_bits.specs.Bits.{with_number, bits_number, zeros, bytes_of_bits}
 use Rattle.ec_frame.specs.declared.command.Command.{Command}
 use Rattle.ec_frame.specs.Datagram.{Datagram}

@@ -1,7 +1,7 @@
 -- How a payload's datagrams are compared with those of the frame that was sent, one after another.
 use Rattle.std.specs.Prelude.{ℕ, ◌+◌, ◌*◌, ◌≡◌, ◌≢◌, ◌<◌, ◌≤◌, Bool, true, false, List, [], ◌∷◌, length, get_or, slice_get, slice_range, Option, Some, None}
-use Rattle.ec_frame.specs.declared.cursor.Span.{Span}
-use Rattle.ec_frame.specs.declared.cursor.Places.{Places}
+use Rattle.ec_frame.specs.declared.cursor.DatagramSpan.{DatagramSpan}
+use Rattle.ec_frame.specs.declared.cursor.DatagramCursor.{DatagramCursor}
 use Rattle.ec_frame.specs.Cursor.{IsAhead}
 use Rattle.ec_frame.specs.Datagram.{Datagram, IsDatagram, spelling}
 use Rattle.ec_frame.specs.Frame.{Payload, IsFrame}
@@ -24,11 +24,11 @@ SameFrom n (d ∷ ds) (e ∷ es) = SameAt n d e × SameFrom (n + 1) ds es
 
 -- ---- where the first datagrams stand
 
-abbrev pub nowhere : Span
+abbrev pub nowhere : DatagramSpan
 nowhere = record { from = 0; to = 0 }
 
 -- a datagram's spelling stands there
-pub record StandsAt (payload : List ℕ) (s : Span) (d : Datagram) : Type 0 where
+pub record StandsAt (payload : List ℕ) (s : DatagramSpan) (d : Datagram) : Type 0 where
   pub order : s.from < s.to
   pub within : s.to ≤ length payload
   pub is_datagram : IsDatagram d
@@ -36,24 +36,24 @@ pub record StandsAt (payload : List ℕ) (s : Span) (d : Datagram) : Type 0 wher
   pub spelled : slice_range payload s.from s.to ≡ spelling more d
 
 -- a datagram stands there, or there is none and no place
-abbrev pub StandsFor : List ℕ → Span → Option Datagram → Type 0
+abbrev pub StandsFor : List ℕ → DatagramSpan → Option Datagram → Type 0
 StandsFor payload s None = s ≡ nowhere
 StandsFor payload s (Some d) = StandsAt payload s d
 
 -- a step of a cursor that has these datagrams ahead: the place of the first of them, or no place
-abbrev pub StepsOn : List ℕ → Places → Span → List Datagram → Type 0
+abbrev pub StepsOn : List ℕ → DatagramCursor → DatagramSpan → List Datagram → Type 0
 StepsOn payload new s [] = (s ≡ nowhere) × IsAhead payload new []
 StepsOn payload new s (d ∷ ds) = StandsAt payload s d × IsAhead payload new ds
 
 -- the next datagrams of two frames are the same, and both cursors are past them; or not all from there on are the same
-abbrev pub NextAre : ℕ → List ℕ → Places → List ℕ → Places → List Datagram → List Datagram → Bool → Type 0
+abbrev pub NextAre : ℕ → List ℕ → DatagramCursor → List ℕ → DatagramCursor → List Datagram → List Datagram → Bool → Type 0
 NextAre n payload places sent sent_places [] es true = ⊥
 NextAre n payload places sent sent_places (d ∷ ds) [] true = ⊥
 NextAre n payload places sent sent_places (d ∷ ds) (e ∷ es) true = SameAt n d e × IsAhead payload places ds × IsAhead sent sent_places es
 NextAre n payload places sent sent_places ds es false = 0 < length ds → SameFrom n ds es → ⊥
 
 -- the places of a list's first four datagrams
-abbrev pub FirstStand : List ℕ → List Span → List Datagram → Type 0
+abbrev pub FirstStand : List ℕ → List DatagramSpan → List Datagram → Type 0
 FirstStand payload spans ds = (n : ℕ) → n < 4 → StandsFor payload (get_or spans n nowhere) (slice_get ds n)
 
 -- the part that the data of a frame's first datagram names, where there are ten bytes of it

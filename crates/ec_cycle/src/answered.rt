@@ -5,13 +5,13 @@ ghost use Rattle.ec_cycle.specs.Matching.{FirstStand, Answered};
 
 use crate::kept::{Returned, SentFrame};
 use crate::matching::{answers, named_part};
-use ec_frame::Span;
+use ec_frame::DatagramSpan;
 
 /// Which frame a payload answers, of those whose parts aren't kept yet; none where it answers none.
 pub fn answered(
     payload: &[u8],
     count: usize,
-    spans: &[Span; 4],
+    spans: &[DatagramSpan; 4],
     frames: &[SentFrame],
     kept: &[Returned],
 ) -> Option<usize>

@@ -7,12 +7,12 @@ ghost use Rattle.ec_frame.specs.Datagram.{joined};
 ghost use Rattle.ec_frame.specs.Frame.{IsFrame};
 ghost use Rattle.ec_cycle.specs.Frames.{cyclic_datagrams, process_datagrams, returned_first};
 
-use ec_frame::{Builder, Command, Frame, physical};
+use ec_frame::{Builder, Command, Frame, address_of};
 use ec_link::PartPlan;
 use ec_regs::registers;
 
 /// The most that one has which goes by an LWR and an LRD.
-const MOST_SPLIT: usize = 705;
+const MAX_SPLIT: usize = 705;
 
 /// Appends a datagram that has room.
 fn append(builder: &mut Builder, command: Command, index: u8, address: u32, content: &[u8])
@@ -34,10 +34,10 @@ fn name_of(number: u64, part: usize) -> [u8; 10]
 }
 
 /// What an LRD brings, as much as the longest has.
-fn nothing() -> [u8; MOST_SPLIT]
+fn nothing() -> [u8; MAX_SPLIT]
     ensures { result ≡ zeros 705 }
 {
-    [0; MOST_SPLIT]
+    [0; MAX_SPLIT]
 }
 
 /// Appends the process datagrams of a part, with these outputs.
@@ -87,7 +87,7 @@ pub fn build(part: &PartPlan, number: u64, place: usize, sent: &[u8]) -> Frame
         &mut builder,
         Command::Brd,
         index,
-        physical(0, registers::AL_STATUS as u16),
+        address_of(0, registers::AL_STATUS as u16),
         &[0, 0],
     );
     append_process(&mut builder, part, number, sent);

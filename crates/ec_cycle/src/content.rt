@@ -4,12 +4,12 @@ ghost use Rattle.std.specs.Prelude.{◌≡◌, ◌≤◌, [], length};
 use std::marker::Model;
 
 /// The most bytes that a part has.
-const MOST_BYTES: usize = 1422;
+const MAX_BYTES: usize = 1422;
 
 /// What a part brought back. Only as many bytes are touched as there are: what stood behind them stays.
 #[derive(Drop)]
 pub struct Content {
-    room: [u8; MOST_BYTES],
+    room: [u8; MAX_BYTES],
     count: usize,
 }
 
@@ -29,7 +29,7 @@ impl Content {
         ensures { result ≡ [] }
     {
         Content {
-            room: [0; MOST_BYTES],
+            room: [0; MAX_BYTES],
             count: 0,
         }
     }

@@ -1,8 +1,8 @@
 //! Working counters as they are kept and reported: of two bytes each, as in a frame.
 ghost use Rattle.std.specs.Prelude.{◌≡◌};
-ghost use Rattle.ec_link.specs.declared.plan.Predicted.TheVariants.{Lrw, Split};
+ghost use Rattle.ec_link.specs.declared.plan.ExpectedCounters.TheVariants.{Lrw, Split};
 
-use ec_link::Predicted;
+use ec_link::ExpectedCounters;
 use std::marker::Model;
 
 /// The working counters of a part's process datagrams.
@@ -15,10 +15,10 @@ pub struct Counters {
 
 impl Model for Counters {
     ghost use Rattle.std.specs.Prelude.{if◌then◌else◌};
-    ghost use Rattle.ec_link.specs.declared.plan.Predicted.{Predicted};
-    ghost use Rattle.ec_link.specs.declared.plan.Predicted.TheVariants.{Lrw, Split};
+    ghost use Rattle.ec_link.specs.declared.plan.ExpectedCounters.{ExpectedCounters};
+    ghost use Rattle.ec_link.specs.declared.plan.ExpectedCounters.TheVariants.{Lrw, Split};
 
-    ghost Value = { Predicted };
+    ghost Value = { ExpectedCounters };
 
     ghost view = { λ c. if c.is_split then Split c.first c.second else Lrw c.first };
 }
@@ -58,15 +58,15 @@ impl Counters {
     }
 
     /// The same, as a plan predicts them.
-    pub fn as_predicted(&self) -> Predicted
+    pub fn as_predicted(&self) -> ExpectedCounters
         ensures { result ≡ self.now }
     {
         let first = usize::from(self.first);
         if self.is_split {
             let read = usize::from(self.second);
-            Predicted::Split { write: first, read }
+            ExpectedCounters::Split { write: first, read }
         } else {
-            Predicted::Lrw(first)
+            ExpectedCounters::Lrw(first)
         }
     }
 }

@@ -4,8 +4,8 @@ ghost use Rattle.ec_bits.specs.Bits.{bytes_of_bits};
 ghost use Rattle.ec_frame.specs.Building.{bare_payload};
 ghost use Rattle.ec_frame.specs.Datagram.{Datagram};
 ghost use Rattle.ec_frame.specs.Frame.{IsFrame};
-ghost use Rattle.ec_link.specs.declared.plan.Predicted.{Predicted};
-ghost use Rattle.ec_link.specs.declared.plan.Predicted.TheVariants.{Lrw, Split};
+ghost use Rattle.ec_link.specs.declared.plan.ExpectedCounters.{ExpectedCounters};
+ghost use Rattle.ec_link.specs.declared.plan.ExpectedCounters.TheVariants.{Lrw, Split};
 ghost use Rattle.ec_link.specs.Shares.{same_counters};
 ghost use Rattle.ec_link.specs.Usable.{IsUsable};
 ghost use Rattle.ec_cycle.specs.Closing.{KeptPart, bytes_at, bytes_of, came_back_as, counters_by, input_place, kept_by, word_of_kept};
@@ -18,9 +18,9 @@ use crate::content::Content;
 use crate::counters::Counters;
 use crate::matching::{counter_at, data_at};
 use crate::renewing::renew;
-use crate::run::Run;
-use ec_frame::{Frame, Span};
-use ec_link::{Plan, Predicted};
+use crate::run::BitRun;
+use ec_frame::{DatagramSpan, Frame};
+use ec_link::{ExpectedCounters, Plan};
 use std::marker::Model;
 
 /// The frame of a part, as it was sent.
@@ -51,7 +51,7 @@ impl SentFrame {
     }
 
     /// It gets the number of a cycle, and the outputs of an image.
-    pub fn renew(&mut self, plan: &Plan, part: usize, runs: &[Run], number: u64, image: &[u8])
+    pub fn renew(&mut self, plan: &Plan, part: usize, runs: &[BitRun], number: u64, image: &[u8])
         requires usable { IsUsable plan.now }
         requires there { part < length plan.now.parts }
         requires runs { runs.now ≡ output_runs plan.now part }
@@ -85,14 +85,13 @@ impl Model for Returned {
 }
 
 /// Whether counters are the same, each by itself.
-fn same_counters(one: Predicted, other: Predicted) -> bool
+fn same_counters(one: ExpectedCounters, other: ExpectedCounters) -> bool
     ensures { result ≡ same_counters one other }
 {
     match (one, other) {
-        (Predicted::Lrw(n), Predicted::Lrw(m)) => n == m,
-        (Predicted::Split { write, read }, Predicted::Split { write: v, read: q }) => {
-            write == v && read == q
-        }
+        (ExpectedCounters::Lrw(n), ExpectedCounters::Lrw(m)) => n == m,
+        (ExpectedCounters::Split { write, read }, ExpectedCounters::Split { write: v, read: q }) =>
+            { write == v && read == q }
         _ => false,
     }
 }
@@ -108,7 +107,7 @@ fn word_of(bytes: &[u8]) -> u16
 
 /// The working counters of the process datagrams of a frame whose first datagrams stand at these places.
 #[tactic(auto, using(crate::proofs::Places::place_steps))]
-fn counters_in(split: bool, payload: &[u8], spans: &[Span; 4]) -> Counters
+fn counters_in(split: bool, payload: &[u8], spans: &[DatagramSpan; 4]) -> Counters
     requires { (ds : List Datagram) × FirstStand payload.now spans.now ds }
     ensures { (ds : List Datagram) → FirstStand payload.now spans.now ds → result ≡ counters_by split ds }
 {
@@ -122,7 +121,7 @@ fn counters_in(split: bool, payload: &[u8], spans: &[Span; 4]) -> Counters
 
 /// The data that brings the inputs, in a frame whose first datagrams stand at these places.
 #[tactic(auto, using(crate::proofs::Places::place_steps))]
-fn inputs_in<'a>(split: bool, payload: &'a [u8], spans: &[Span; 4]) -> &'a [u8]
+fn inputs_in<'a>(split: bool, payload: &'a [u8], spans: &[DatagramSpan; 4]) -> &'a [u8]
     requires { (ds : List Datagram) × FirstStand payload.now spans.now ds }
     ensures { (ds : List Datagram) → FirstStand payload.now spans.now ds → result.now ≡ bytes_at ds (input_place split) }
 {
@@ -162,7 +161,7 @@ impl Returned {
     }
 
     /// Keeps what a frame brought back, whose first datagrams stand at these places.
-    pub fn keep(&mut self, split: bool, payload: &[u8], spans: &[Span; 4])
+    pub fn keep(&mut self, split: bool, payload: &[u8], spans: &[DatagramSpan; 4])
         requires { (ds : List Datagram) × FirstStand payload.now spans.now ds × (length (bytes_at ds (input_place split)) ≤ 1422) }
         ensures { (ds : List Datagram) → FirstStand payload.now spans.now ds → self.new ≡ Some (kept_by split ds) }
     {
@@ -175,7 +174,7 @@ impl Returned {
     }
 
     /// Whether so many slaves answered the broadcast, and the working counters are these.
-    pub fn came_back_as(&self, slaves: usize, counters: Predicted) -> bool
+    pub fn came_back_as(&self, slaves: usize, counters: ExpectedCounters) -> bool
         ensures { result ≡ came_back_as slaves counters self.now }
     {
         self.is_kept

@@ -3,7 +3,7 @@ ghost use Rattle.std.specs.Prelude.{◌&&◌, nat_lt, set, if◌then◌else◌, 
 ghost use Rattle.ec_bits.specs.Bits.{zeros, bytes_of_bits};
 ghost use Rattle.ec_frame.specs.Building.{bare_payload};
 ghost use Rattle.ec_frame.specs.Frame.{IsFrame};
-ghost use Rattle.ec_link.specs.declared.plan.Predicted.{Predicted};
+ghost use Rattle.ec_link.specs.declared.plan.ExpectedCounters.{ExpectedCounters};
 ghost use Rattle.ec_link.specs.Plan.{part_at};
 ghost use Rattle.ec_link.specs.Shares.{predicted};
 ghost use Rattle.ec_link.specs.Usable.{IsUsable};
@@ -24,11 +24,11 @@ use crate::kept::{Returned, SentFrame};
 use crate::matching::first_places;
 use crate::renewing::fill;
 use crate::report::{Report, missing_of};
-use crate::run::{InputRun, Run, runs_by_part, runs_of_inputs};
+use crate::run::{BitRun, InputRun, runs_by_part, runs_of_inputs};
 use ec_bits::{copy_by_words, read_bits, write_bits};
 use ec_frame::{Frame, check};
-use ec_link::{Plan, Predicted};
-use ec_regs::Listed;
+use ec_link::{ExpectedCounters, Plan};
+use ec_listed::Listed;
 use ec_start::{Startup, Taken};
 use ec_table::Direction;
 use std::alloc::{AllocError, Global};
@@ -48,9 +48,9 @@ pub struct Master<'p> {
     outputs: Vec<u8>,
     inputs: Vec<u8>,
     // what is looked up in the plan once
-    runs: Listed<Listed<Run>>,
+    runs: Listed<Listed<BitRun>>,
     input_runs: Listed<InputRun>,
-    expected: Listed<Predicted>,
+    expected: Listed<ExpectedCounters>,
     // the number of the open cycle
     pub(crate) number: Option<u64>,
     // of each part
@@ -85,9 +85,9 @@ fn image_of(alloc: Global, bits: usize) -> Result<Vec<u8>, AllocError>
 }
 
 /// The predicted counters of each part.
-fn counters_of(alloc: Global, plan: &Plan) -> Result<Listed<Predicted>, AllocError>
+fn counters_of(alloc: Global, plan: &Plan) -> Result<Listed<ExpectedCounters>, AllocError>
     ensures count { IfOk result (λ ps. length ps ≡ length plan.now.parts) }
-    ensures each { IfOk result (λ ps. (k : ℕ) (d : Predicted) → k < length plan.now.parts → get_or ps k d ≡ predicted plan.now k) }
+    ensures each { IfOk result (λ ps. (k : ℕ) (d : ExpectedCounters) → k < length plan.now.parts → get_or ps k d ≡ predicted plan.now k) }
 {
     let mut expected = Listed::new(alloc);
     for part in 0..plan.parts().len() {
@@ -116,11 +116,11 @@ fn all_taken() -> [bool; 256]
 
 /// Whether a part was kept and is good.
 #[tactic(auto, using(crate::proofs::Judging::good_is))]
-fn is_good(plan: &Plan, expected: &[Predicted], kept: &[Returned], part: usize) -> bool
+fn is_good(plan: &Plan, expected: &[ExpectedCounters], kept: &[Returned], part: usize) -> bool
     requires there { part < length plan.now.parts }
     requires kept { length kept.now ≡ length plan.now.parts }
     requires count { length expected.now ≡ length plan.now.parts }
-    requires counters { (k : ℕ) (d : Predicted) → k < length plan.now.parts → get_or expected.now k d ≡ predicted plan.now k }
+    requires counters { (k : ℕ) (d : ExpectedCounters) → k < length plan.now.parts → get_or expected.now k d ≡ predicted plan.now k }
     ensures { result ≡ is_good plan.now part (get_or kept.now part None) }
 {
     let slaves = plan.slaves().len();
@@ -137,10 +137,10 @@ fn judge(taken: &mut [bool; 256], unit: u8, is_good: bool)
 }
 
 /// Whether each unit's parts were all kept and are good, by the number of the unit.
-fn judged(plan: &Plan, expected: &[Predicted], kept: &[Returned]) -> [bool; 256]
+fn judged(plan: &Plan, expected: &[ExpectedCounters], kept: &[Returned]) -> [bool; 256]
     requires kept { length kept.now ≡ length plan.now.parts }
     requires count { length expected.now ≡ length plan.now.parts }
-    requires counters { (k : ℕ) (d : Predicted) → k < length plan.now.parts → get_or expected.now k d ≡ predicted plan.now k }
+    requires counters { (k : ℕ) (d : ExpectedCounters) → k < length plan.now.parts → get_or expected.now k d ≡ predicted plan.now k }
     ensures size { length result ≡ 256 }
     ensures judged { (u : ℕ) → u < 256 → get_or result u false ≡ unit_taken plan.now kept.now u }
 {
@@ -205,7 +205,7 @@ fn blank() -> [u8; 1422]
 }
 
 /// The frame of a part, for an image of the outputs.
-fn frame_for(plan: &Plan, part: usize, runs: &[Run], number: u64, image: &[u8]) -> Frame
+fn frame_for(plan: &Plan, part: usize, runs: &[BitRun], number: u64, image: &[u8]) -> Frame
     requires usable { IsUsable plan.now }
     requires there { part < length plan.now.parts }
     requires runs { runs.now ≡ output_runs plan.now part }
@@ -225,7 +225,7 @@ fn frame_for(plan: &Plan, part: usize, runs: &[Run], number: u64, image: &[u8]) 
 fn frames_of(
     alloc: Global,
     plan: &Plan,
-    runs: &[Listed<Run>],
+    runs: &[Listed<BitRun>],
     image: &[u8],
 ) -> Result<Vec<SentFrame>, AllocError>
     requires usable { IsUsable plan.now }
@@ -247,7 +247,7 @@ fn frames_of(
 /// The frame of each part gets the number of a cycle, and the outputs of an image.
 fn make_frames(
     plan: &Plan,
-    runs: &[Listed<Run>],
+    runs: &[Listed<BitRun>],
     number: u64,
     image: &[u8],
     frames: &mut [SentFrame],

@@ -6,7 +6,7 @@ ghost use Rattle.ec_frame.specs.Datagram.{Datagram, IsDatagram, IsSpelling, spel
 ghost use Rattle.ec_frame.specs.Frame.{Payload, IsFrame};
 ghost use Rattle.ec_cycle.specs.Matching.{SameAt, SameFrom, StandsFor, FirstStand, StepsOn, NextAre, Names};
 
-use ec_frame::{Header, Places, Span, read_counter, read_data};
+use ec_frame::{DatagramCursor, DatagramSpan, Header, read_counter, read_data};
 
 /// Whether datagram `n` of what came in is datagram `n` of what was sent.
 fn is_same(n: usize, part: &[u8], sent: &[u8]) -> bool
@@ -24,23 +24,23 @@ fn is_same(n: usize, part: &[u8], sent: &[u8]) -> bool
 }
 
 /// The place of the next datagram; no place after the last.
-fn next_place(places: &mut Places, payload: &[u8]) -> Span
+fn next_place(places: &mut DatagramCursor, payload: &[u8]) -> DatagramSpan
     requires { (ds : List Datagram) × IsAhead payload.now places.old ds }
     ensures { (ds : List Datagram) → IsAhead payload.now places.old ds → StepsOn payload.now places.new result ds }
 {
     match places.next(payload) {
         Some(span) => span,
-        None => Span { from: 0, to: 0 },
+        None => DatagramSpan { from: 0, to: 0 },
     }
 }
 
 /// Where the first four datagrams of a frame stand.
-pub fn first_places(payload: &[u8]) -> [Span; 4]
+pub fn first_places(payload: &[u8]) -> [DatagramSpan; 4]
     requires { (p : Payload) × IsFrame payload.now p }
     ensures { (p : Payload) → IsFrame payload.now p → FirstStand payload.now result p.datagrams }
 {
-    let mut places = Places::new(payload);
-    let mut spans = [Span { from: 0, to: 0 }; 4];
+    let mut places = DatagramCursor::new(payload);
+    let mut spans = [DatagramSpan { from: 0, to: 0 }; 4];
     for n in 0..4 {
         spans[n] = next_place(&mut places, payload);
     }
@@ -50,9 +50,9 @@ pub fn first_places(payload: &[u8]) -> [Span; 4]
 /// Whether the next datagrams of two frames are the same.
 fn next_is_same(
     n: usize,
-    places: &mut Places,
+    places: &mut DatagramCursor,
     payload: &[u8],
-    sent_places: &mut Places,
+    sent_places: &mut DatagramCursor,
     sent: &[u8],
 ) -> bool
     requires payload { (ds : List Datagram) × IsAhead payload.now places.old ds }
@@ -75,8 +75,8 @@ pub fn answers(payload: &[u8], count: usize, sent: &[u8]) -> bool
     requires sent { (q : Payload) × IsFrame sent.now q }
     ensures { (p : Payload) (q : Payload) → IsFrame payload.now p → IsFrame sent.now q → (result ≡ true) ↔ SameFrom 0 p.datagrams q.datagrams }
 {
-    let mut places = Places::new(payload);
-    let mut sent_places = Places::new(sent);
+    let mut places = DatagramCursor::new(payload);
+    let mut sent_places = DatagramCursor::new(sent);
     for n in 0..count {
         if !next_is_same(n, &mut places, payload, &mut sent_places, sent) {
             return false;
@@ -86,7 +86,7 @@ pub fn answers(payload: &[u8], count: usize, sent: &[u8]) -> bool
 }
 
 /// The data of the datagram that stands at a place; none where none does.
-pub fn data_at(payload: &[u8], span: Span) -> &[u8]
+pub fn data_at(payload: &[u8], span: DatagramSpan) -> &[u8]
     requires { (o : Option Datagram) × StandsFor payload.now span o }
     ensures { (o : Option Datagram) → StandsFor payload.now span o → result.now ≡ option_map_or (λ (d : Datagram). d.data_bytes) o [] }
 {
@@ -97,7 +97,7 @@ pub fn data_at(payload: &[u8], span: Span) -> &[u8]
 }
 
 /// The working counter of the datagram that stands at a place; 0 where none does.
-pub fn counter_at(payload: &[u8], span: Span) -> u16
+pub fn counter_at(payload: &[u8], span: DatagramSpan) -> u16
     requires { (o : Option Datagram) × StandsFor payload.now span o }
     ensures { (o : Option Datagram) → StandsFor payload.now span o → result ≡ option_map_or (λ (d : Datagram). d.counter) o 0 }
 {
@@ -108,7 +108,7 @@ pub fn counter_at(payload: &[u8], span: Span) -> u16
 }
 
 /// The part that a frame's first datagram names.
-pub fn named_part(payload: &[u8], span: Span) -> Option<usize>
+pub fn named_part(payload: &[u8], span: DatagramSpan) -> Option<usize>
     requires { (o : Option Datagram) × StandsFor payload.now span o }
     ensures named { (o : Option Datagram) → StandsFor payload.now span o → Names o result }
 {

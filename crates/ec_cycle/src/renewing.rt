@@ -10,7 +10,7 @@ ghost use Rattle.ec_cycle.specs.Frames.{process_bytes, sent_datagrams};
 ghost use Rattle.ec_cycle.specs.Kept.{IsMade};
 ghost use Rattle.ec_cycle.specs.Renewing.{front_bytes, process_spelled};
 
-use crate::run::{Run, copy_runs};
+use crate::run::{BitRun, copy_runs};
 use ec_frame::field::{FRAME_HEADER_LEN, HEADER_LEN, INDEX, OVERHEAD};
 use ec_link::{PartPlan, Plan};
 
@@ -49,7 +49,7 @@ fn renumber_process(process: &mut [u8], part: &PartPlan, number: u64)
 
 /// The process data of a part, for an image of the outputs.
 #[tactic(auto, using(crate::proofs::Runs::fill_steps))]
-pub fn fill(plan: &Plan, part: usize, runs: &[Run], image: &[u8], sent: &mut [u8])
+pub fn fill(plan: &Plan, part: usize, runs: &[BitRun], image: &[u8], sent: &mut [u8])
     requires usable { IsUsable plan.now }
     requires runs { runs.now ≡ output_runs plan.now part }
     requires image { length image.now ≡ bytes_of_bits plan.now.out_bits }
@@ -62,7 +62,7 @@ pub fn fill(plan: &Plan, part: usize, runs: &[Run], image: &[u8], sent: &mut [u8
 
 /// The outputs of an image go where those of another one stand. What isn't linked is 0, and stays so.
 #[tactic(auto, using(crate::proofs::Runs::refresh_steps))]
-fn refresh(plan: &Plan, part: usize, runs: &[Run], image: &[u8], sent: &mut [u8])
+fn refresh(plan: &Plan, part: usize, runs: &[BitRun], image: &[u8], sent: &mut [u8])
     requires usable { IsUsable plan.now }
     requires runs { runs.now ≡ output_runs plan.now part }
     requires image { length image.now ≡ bytes_of_bits plan.now.out_bits }
@@ -74,7 +74,7 @@ fn refresh(plan: &Plan, part: usize, runs: &[Run], image: &[u8], sent: &mut [u8]
 }
 
 /// The outputs of an image go into the process datagrams of a part.
-fn refill(process: &mut [u8], plan: &Plan, part: usize, runs: &[Run], image: &[u8])
+fn refill(process: &mut [u8], plan: &Plan, part: usize, runs: &[BitRun], image: &[u8])
     requires usable { IsUsable plan.now }
     requires there { part < length plan.now.parts }
     requires runs { runs.now ≡ output_runs plan.now part }
@@ -93,7 +93,7 @@ fn refill(process: &mut [u8], plan: &Plan, part: usize, runs: &[Run], image: &[u
 }
 
 /// The frame of a part gets the number of a cycle and the outputs of an image.
-pub fn renew(frame: &mut [u8], plan: &Plan, part: usize, runs: &[Run], number: u64, image: &[u8])
+pub fn renew(frame: &mut [u8], plan: &Plan, part: usize, runs: &[BitRun], number: u64, image: &[u8])
     requires usable { IsUsable plan.now }
     requires there { part < length plan.now.parts }
     requires runs { runs.now ≡ output_runs plan.now part }

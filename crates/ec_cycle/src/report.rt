@@ -6,7 +6,7 @@ ghost use Rattle.ec_cycle.specs.Closing.{KeptPart, ReportState, nones, or_words}
 use crate::counters::Counters;
 use crate::kept::Returned;
 use arrayvec::ArrayVec;
-use ec_link::Predicted;
+use ec_link::ExpectedCounters;
 use std::marker::Model;
 
 /// What the closing of a cycle says.
@@ -57,7 +57,7 @@ impl Report {
     }
 
     /// The working counters of each part's process datagrams, none of a part that was not kept.
-    pub fn counters(&self) -> ArrayVec<Option<Predicted>, 32>
+    pub fn counters(&self) -> ArrayVec<Option<ExpectedCounters>, 32>
         ensures { result.items ≡ self.now.counters }
     {
         as_predicted(self.counters.as_slice())
@@ -112,7 +112,7 @@ fn counters_of(kept: &[Returned]) -> ArrayVec<Option<Counters>, 32>
 }
 
 /// The working counters of a part, as a plan predicts them.
-fn part_as_predicted(counters: &Option<Counters>) -> Option<Predicted>
+fn part_as_predicted(counters: &Option<Counters>) -> Option<ExpectedCounters>
     ensures { result ≡ counters.now }
 {
     match counters {
@@ -122,7 +122,7 @@ fn part_as_predicted(counters: &Option<Counters>) -> Option<Predicted>
 }
 
 /// The working counters of parts, as a plan predicts them.
-fn as_predicted(parts: &[Option<Counters>]) -> ArrayVec<Option<Predicted>, 32>
+fn as_predicted(parts: &[Option<Counters>]) -> ArrayVec<Option<ExpectedCounters>, 32>
     requires { length parts.now ≤ 32 }
     ensures { result.items ≡ parts.now }
 {

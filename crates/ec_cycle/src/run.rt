@@ -7,12 +7,12 @@ ghost use Rattle.ec_cycle.specs.Copies.{FitsRun, is_of_part, runs_copied, output
 
 use ec_bits::copy_by_words;
 use ec_link::{Link, Plan};
-use ec_regs::Listed;
+use ec_listed::Listed;
 use std::alloc::{AllocError, Global};
 
 /// Bits that are copied for one link: those of the source from `from` on go to `to`.
 #[derive(Clone, Copy, Drop)]
-pub struct Run {
+pub struct BitRun {
     pub to: usize,
     pub from: usize,
     pub count: usize,
@@ -25,7 +25,7 @@ pub struct InputRun {
     pub part: usize,
     /// The sync unit of that part.
     pub unit: u8,
-    pub run: Run,
+    pub run: BitRun,
 }
 
 /// What is one where the next begins where it ends.
@@ -44,19 +44,19 @@ trait Adjoining: Copy {
         ensures { result ≡ joined self next };
 }
 
-impl Adjoining for Run {
+impl Adjoining for BitRun {
     ghost adjoins = { adjoin };
 
     ghost joined = { both };
 
-    fn adjoins(self, next: Run) -> bool {
+    fn adjoins(self, next: BitRun) -> bool {
         self.to.checked_add(self.count) == Some(next.to)
             && self.from.checked_add(self.count) == Some(next.from)
             && self.count.checked_add(next.count).is_some()
     }
 
-    fn joined(self, next: Run) -> Run {
-        Run {
+    fn joined(self, next: BitRun) -> BitRun {
+        BitRun {
             to: self.to,
             from: self.from,
             count: self.count + next.count,
@@ -111,7 +111,7 @@ fn merged<R: Adjoining>(alloc: Global, runs: &[R]) -> Result<Listed<R>, AllocErr
 
 /// Copies run after run.
 #[tactic(auto, using(crate::proofs::Runs::copy_steps))]
-pub fn copy_runs(dst: &mut [u8], src: &[u8], runs: &[Run])
+pub fn copy_runs(dst: &mut [u8], src: &[u8], runs: &[BitRun])
     requires { AllByRecursion (FitsRun (length dst.old) (length src.now)) runs.now }
     ensures { dst.new ≡ runs_copied src.now runs.now dst.old }
 {
@@ -129,14 +129,14 @@ fn is_of_part(plan: &Plan, part: usize, link: &Link) -> bool
 }
 
 /// Where the output bits of a link stand in the data of its part, and where in the image.
-fn output_run(plan: &Plan, part: usize, link: &Link) -> Run
+fn output_run(plan: &Plan, part: usize, link: &Link) -> BitRun
     requires usable { IsUsable plan.now }
     requires linked { IsOutLink plan.now link.now }
     requires there { part < length plan.now.parts }
     requires own { is_of_part plan.now part link.now ≡ true }
     ensures { result ≡ output_run plan.now part link.now }
 {
-    Run {
+    BitRun {
         to: plan.settings(link.slave).from + link.object_bit
             - 8 * plan.parts()[part].address as usize,
         from: link.image,
@@ -146,7 +146,7 @@ fn output_run(plan: &Plan, part: usize, link: &Link) -> Run
 
 /// The runs of the outputs of a part, in the order of the links.
 #[tactic(auto, using(crate::proofs::Runs::filter_steps))]
-fn runs_of_part(alloc: Global, plan: &Plan, part: usize) -> Result<Listed<Run>, AllocError>
+fn runs_of_part(alloc: Global, plan: &Plan, part: usize) -> Result<Listed<BitRun>, AllocError>
     requires usable { IsUsable plan.now }
     requires there { part < length plan.now.parts }
     ensures { IfOk result (λ rs. rs ≡ part_runs plan.now part) }
@@ -161,7 +161,7 @@ fn runs_of_part(alloc: Global, plan: &Plan, part: usize) -> Result<Listed<Run>, 
 }
 
 /// What is copied for the outputs of a part.
-fn runs_of_outputs(alloc: Global, plan: &Plan, part: usize) -> Result<Listed<Run>, AllocError>
+fn runs_of_outputs(alloc: Global, plan: &Plan, part: usize) -> Result<Listed<BitRun>, AllocError>
     requires usable { IsUsable plan.now }
     requires there { part < length plan.now.parts }
     ensures { IfOk result (λ rs. rs ≡ output_runs plan.now part) }
@@ -171,7 +171,7 @@ fn runs_of_outputs(alloc: Global, plan: &Plan, part: usize) -> Result<Listed<Run
 }
 
 /// What is copied for the outputs of each part.
-pub fn runs_by_part(alloc: Global, plan: &Plan) -> Result<Listed<Listed<Run>>, AllocError>
+pub fn runs_by_part(alloc: Global, plan: &Plan) -> Result<Listed<Listed<BitRun>>, AllocError>
     requires { IsUsable plan.now }
     ensures count { IfOk result (λ rs. length rs ≡ length plan.now.parts) }
     ensures each { IfOk result (λ rs. (k : ℕ) → k < length plan.now.parts → get_or rs k [] ≡ output_runs plan.now k) }
@@ -195,7 +195,7 @@ fn input_run(plan: &Plan, link: &Link) -> InputRun
     InputRun {
         part,
         unit: place.unit,
-        run: Run {
+        run: BitRun {
             to: link.image,
             from: settings.from + link.object_bit - 8 * place.address as usize,
             count: link.count,

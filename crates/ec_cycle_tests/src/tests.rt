@@ -7,7 +7,7 @@ use self::steps::Step::{
 };
 use self::steps::expect_steps;
 use ec_cycle::CycleError;
-use ec_link::Predicted::{Lrw, Split};
+use ec_link::ExpectedCounters::{Lrw, Split};
 use std::test::Fail;
 
 /// Three slaves: 4 outputs; 4 inputs; 12 outputs and 16 inputs.

@@ -14,7 +14,7 @@ use Rattle.ec_frame.specs.Refusals.{refusal_number}
 use Rattle.byteorder.specs.Endian.{little_bytes}
 use Rattle.ec_frame.proofs.FrameLaws.{data_are_bytes}
 use Rattle.ec_frame.proofs.Steps.{joined_length}
-use Rattle.ec_decode.specs.declared.placed.Refused.{Refused}
+use Rattle.ec_decode.specs.declared.placed.PlacedFault.{PlacedFault}
 use Rattle.ec_decode.specs.Answers.{IsLineText, IsTextOf}
 use Rattle.ec_decode.specs.Faults.{IsPlaced, IsRefusedAt, StandBefore, error_name, refused_line, refused_text}
 use Rattle.ec_decode.specs.FrameText.{Text, datagram_line, datagram_lines, datagram_words, frame_text, heading_line, newline, reserved_bit_words, rest_words, spaced}
@@ -144,17 +144,17 @@ error_word BadMore = verb_word (codes "BadMore") refl
 error_word BadCommand = verb_word (codes "BadCommand") refl
 error_word TooLong = verb_word (codes "TooLong") refl
 
-abbrev refused_words : Refused → List Text
+abbrev refused_words : PlacedFault → List Text
 refused_words r = decimal (refusal_number r.error) ∷ error_name r.error ∷ codes "datagram" ∷ decimal r.whole ∷ codes "byte" ∷ decimal r.at ∷ []
 
-refused_are_words : (r : Refused) → AreWords (refused_words r)
+refused_are_words : (r : PlacedFault) → AreWords (refused_words r)
 refused_are_words r = (number_word (refusal_number r.error), (error_word r.error, (verb_word (codes "datagram") refl, (number_word r.whole, (verb_word (codes "byte") refl, (number_word r.at, tt))))))
 
-refused_line_is : (r : Refused) → refused_line r ≡ (codes "refused" ++ spaced (refused_words r)) ++ newline
+refused_line_is : (r : PlacedFault) → refused_line r ≡ (codes "refused" ++ spaced (refused_words r)) ++ newline
 unfolding refused_line
 refused_line_is r = sym (append_assoc (codes "refused") (spaced (refused_words r)) newline)
 
-refused_line_stays : (r : Refused) (rest : Text) → without_indented (refused_line r ++ rest) ≡ refused_line r ++ without_indented rest
+refused_line_stays : (r : PlacedFault) (rest : Text) → without_indented (refused_line r ++ rest) ≡ refused_line r ++ without_indented rest
 refused_line_stays r rest =
     let is = refused_line_is r in
     rw is (words_stay (codes "refused") (refused_words r) rest (verb_word (codes "refused") refl) (omega arith) (refused_are_words r))
@@ -206,7 +206,7 @@ placed_full payload BadLength ds at all (inr s) = before_full payload BadLength 
 placed_full payload BadCommand ds at all s = before_full payload BadCommand ds at all s
 placed_full payload BadMore ds at all s = before_full payload BadMore ds at all s
 
-refused_stays : (payload : List ℕ) (r : Refused) (ds : List Datagram) (rest : Text) → AllByRecursion IsByte payload → IsRefusedAt payload r ds
+refused_stays : (payload : List ℕ) (r : PlacedFault) (ds : List Datagram) (rest : Text) → AllByRecursion IsByte payload → IsRefusedAt payload r ds
     → without_indented (refused_text r ds ++ rest) ≡ refused_text r ds ++ without_indented rest
 refused_stays payload r ds rest all at =
     ap without_indented (append_assoc (datagram_lines 0 ds) (refused_line r) rest)

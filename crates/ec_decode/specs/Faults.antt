@@ -9,7 +9,7 @@ use Rattle.ec_frame.specs.Datagram.{Datagram, IsDatagram, opened, spelling}
 use Rattle.ec_frame.specs.Frame.{area, length_field}
 use Rattle.ec_frame.specs.Refusals.{FirstFault, IsRefused, refusal_number}
 use Rattle.ec_decode.specs.FrameText.{Text, datagram_lines, newline, spaced}
-use Rattle.ec_decode.specs.declared.placed.Refused.{Refused}
+use Rattle.ec_decode.specs.declared.placed.PlacedFault.{PlacedFault}
 
 -- ---- where a fault is
 
@@ -40,7 +40,7 @@ IsPlaced payload BadCommand ds at = StandBefore payload BadCommand ds at
 IsPlaced payload BadMore ds at = StandBefore payload BadMore ds at
 
 -- what is said of a payload that is no frame, with the datagrams before its fault
-pub record IsRefusedAt (payload : List ℕ) (r : Refused) (ds : List Datagram) : Type 0 where
+pub record IsRefusedAt (payload : List ℕ) (r : PlacedFault) (ds : List Datagram) : Type 0 where
   pub refused : IsRefused payload r.error
   pub placed : IsPlaced payload r.error ds r.at
   pub whole : r.whole ≡ length ds
@@ -56,11 +56,11 @@ error_name BadCommand = codes "BadCommand"
 error_name TooLong = codes "TooLong"
 
 -- the refusal's number and name, how many datagrams stand whole before the fault, and the byte where what is wrong begins
-unfoldable pub refused_line : Refused → Text
+unfoldable pub refused_line : PlacedFault → Text
 refused_line r =
     codes "refused"
     ++ (spaced (decimal (refusal_number r.error) ∷ error_name r.error ∷ codes "datagram" ∷ decimal r.whole ∷ codes "byte" ∷ decimal r.at ∷ []) ++ newline)
 
 -- the lines of the datagrams before the fault, and then that of the refusal
-abbrev pub refused_text : Refused → List Datagram → Text
+abbrev pub refused_text : PlacedFault → List Datagram → Text
 refused_text r ds = datagram_lines 0 ds ++ refused_line r

@@ -15,7 +15,7 @@ mod words;
 
 pub use crate::error::DecodeError;
 pub use crate::frame::write_frame;
-pub use crate::placed::{Refused, check_placed, error_name, write_refused};
+pub use crate::placed::{PlacedFault, check_placed, error_name, write_refused};
 pub use crate::reader::Reader;
 pub use crate::text::{Decoded, decode_line, decode_text, encode_text, payload_text};
 pub use crate::weaving::{push_indented, weave};

@@ -21,7 +21,7 @@ const MORE: u16 = 0x8000;
 
 /// Why a payload is no frame, and where.
 #[derive(Clone, Copy, Debug, PartialEq, Eq, Drop)]
-pub struct Refused {
+pub struct PlacedFault {
     /// The first fault, as `ec_frame::check` gives it.
     pub error: FrameError,
     /// How many datagrams stand whole before it.
@@ -90,18 +90,18 @@ fn area_of(payload: &[u8]) -> &[u8]
 }
 
 /// Finds the place of a fault.
-fn place(payload: &[u8], error: FrameError) -> Refused
+fn place(payload: &[u8], error: FrameError) -> PlacedFault
     requires { IsRefused payload.now error }
     ensures { (ds : List Datagram) × IsRefusedAt payload.now result ds × (result.error ≡ error) }
 {
     let area = area_of(payload);
-    let header = Refused {
+    let header = PlacedFault {
         error,
         whole: 0,
         at: 0,
     };
     match error {
-        FrameError::Short => Refused {
+        FrameError::Short => PlacedFault {
             error,
             whole: front_of(area, true).whole,
             at: payload.len(),
@@ -110,7 +110,7 @@ fn place(payload: &[u8], error: FrameError) -> Refused
         _ if area.is_empty() => header,
         _ => {
             let Front { whole, len } = front_of(area, false);
-            Refused {
+            PlacedFault {
                 error,
                 whole,
                 at: FRAME_HEADER_LEN + len,
@@ -121,7 +121,7 @@ fn place(payload: &[u8], error: FrameError) -> Refused
 
 /// Tells whether a payload is a frame, and of how many datagrams, as `ec_frame::check` does; and of
 /// one that isn't, where its first fault is.
-pub fn check_placed(payload: &[u8]) -> Result<usize, Refused>
+pub fn check_placed(payload: &[u8]) -> Result<usize, PlacedFault>
     ensures accepted { IfOk result (λ count.
         (p : Payload) × IsFrame payload.now p × (count ≡ length p.datagrams)) }
     ensures refused { IfErr result (λ refused.
@@ -146,11 +146,11 @@ pub fn error_name(error: FrameError) -> &'static str
 
 /// Adds the line of a refusal.
 #[tactic(auto, unfolding(crate::specs::Faults::refused_line))]
-fn write_line(text: &mut String, refused: Refused) -> Result<(), AllocError>
+fn write_line(text: &mut String, refused: PlacedFault) -> Result<(), AllocError>
     ensures { OnOk result
         (string_bytes text.new ≡ string_bytes text.old ++ refused_line refused) }
 {
-    let Refused { error, whole, at } = refused;
+    let PlacedFault { error, whole, at } = refused;
     let (number, name) = (error.number(), error_name(error));
     writeln!(text, "refused {number} {name} datagram {whole} byte {at}")
 }
@@ -161,7 +161,7 @@ pub fn write_refused(
     alloc: Global,
     text: &mut String,
     payload: &[u8],
-    refused: Refused,
+    refused: PlacedFault,
 ) -> Result<(), AllocError>
     requires { (ds : List Datagram) × IsRefusedAt payload.now refused ds }
     ensures { OnOk result ((ds : List Datagram) → IsRefusedAt payload.now refused ds

@@ -3,7 +3,7 @@ ghost use Rattle.std.specs.Prelude.{◌≡◌, ◌<◌, map, IfOk, IfSome, optio
 ghost use Rattle.ec_decode.specs.Words.{address_in, bits_in, bytes_in, command_in, counter_in, data_in, hex_in, number_in, physical_in, words_of};
 
 use crate::datagram::is_logical;
-use ec_frame::{Command, physical};
+use ec_frame::{Command, address_of};
 use hex::{FromHex, FromHexError};
 use std::alloc::{AllocError, Global};
 
@@ -70,7 +70,7 @@ fn physical_in(word: &str) -> Option<u32>
     ensures { result ≡ physical_in word.now }
 {
     let (adp, ado) = word.split_once(':')?;
-    Some(physical(word_in(adp)?, word_in(ado)?))
+    Some(address_of(word_in(adp)?, word_in(ado)?))
 }
 
 /// The address of a command that two words write: how it is meant, and the digits.

@@ -5,7 +5,7 @@ use Rattle.std.specs.Int.{from_bool, to_le_bytes, w16}
 use Rattle.std.specs.List.{list_any}
 use Rattle.std.specs.Option.{option_map_or}
 use Rattle.ec_bits.specs.Bits.{within, zeros}
-use Rattle.ec_regs.specs.declared.slave_type.Face.{Face}
+use Rattle.ec_device.specs.declared.slave_type.Face.{Face}
 
 pub record DataLink : Type 0 where
   -- whether the slave is full

@@ -2,7 +2,7 @@
 use Rattle.std.specs.Prelude.{◌⊎◌, is_some, ℕ, ◌+◌, ◌-◌, ◌*◌, ◌/◌, ◌%◌, ◌≡◌, ◌&&◌, List, length, Bool, true, false, slice_index, Some, if◌then◌else◌}
 use Rattle.std.specs.Int.{bit_at}
 use Rattle.ec_bits.specs.Bits.{within}
-use Rattle.ec_regs.specs.declared.slave_type.Face.{Face}
+use Rattle.ec_device.specs.declared.slave_type.Face.{Face}
 use Rattle.ec_dl.specs.DataLink.{DataLink, dl_byte, dl_keeps, dl_takes, dl_written, new_data_link, dl_status, kept_place}
 
 -- A slave without a face shows none of these registers and takes no write to them, whatever is written.

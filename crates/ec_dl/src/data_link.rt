@@ -6,7 +6,7 @@ ghost use Rattle.ec_bits.specs.Bits.{within as within_of};
 ghost use Rattle.ec_dl.specs.DataLink.{new_data_link, dl_byte, dl_takes, dl_written, byte_kept, kept_place, kept_registers, status_word};
 
 use ec_bits::within;
-use ec_regs::Face;
+use ec_device::Face;
 use std::marker::Model;
 
 /// The type of the slave controller, a byte.

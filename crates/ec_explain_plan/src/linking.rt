@@ -2,10 +2,11 @@
 use crate::areas::{Area, areas_of, first_free, first_met};
 use crate::keys::assignment_key;
 use crate::twice::tell_entry_twice;
+use ec_device::Entry;
 use ec_link::LinkFault;
-use ec_outline::{Part, Step, Telling, counted, listing};
+use ec_listed::Listed;
+use ec_outline::{MarkedPart, PathStep, Telling, counted, listing};
 use ec_regs::registers::{RAM_END, RAM_START};
-use ec_regs::{Entry, Listed};
 use ec_table::{Direction, LinkRow, SlaveRow, Table, TypeRow, VariableRow};
 use std::alloc::{AllocError, Global};
 
@@ -136,17 +137,21 @@ fn tell_wrong_direction(
         "0x{index:04X}:{subindex} is an {there} of slave {slave}, and variable {variable} an {here}"
     )?;
     telling.at(
-        &[Step::Key("link"), Step::Item(link), Step::Key("index")],
-        Part::Value,
+        &[
+            PathStep::Key("link"),
+            PathStep::Item(link),
+            PathStep::Key("index"),
+        ],
+        MarkedPart::Value,
         words,
     )?;
     let declared = [
-        Step::Key("variable"),
-        Step::Item(at.row.variable),
-        Step::Key("dir"),
+        PathStep::Key("variable"),
+        PathStep::Item(at.row.variable),
+        PathStep::Key("dir"),
     ];
     let words = format!(in alloc; "variable {variable} is made an {here} here")?;
-    telling.at(&declared, Part::Value, words)?;
+    telling.at(&declared, MarkedPart::Value, words)?;
     let key = assignment_key(other(way));
     let advice = format!(in alloc;
         "link a variable with dir = \"{key}\", or an {here} entry of the slave"
@@ -157,7 +162,7 @@ fn tell_wrong_direction(
 /// Tells of a PDO of the type that has a link's entry and isn't assigned; whether there is one.
 fn tell_unassigned(
     telling: &mut Telling<'_>,
-    way: &[Step<'_>],
+    way: &[PathStep<'_>],
     at: Linked<'_>,
 ) -> Result<bool, AllocError> {
     let alloc = telling.alloc;
@@ -170,7 +175,7 @@ fn tell_unassigned(
             let words = format!(in alloc;
                 "slave {slave} doesn't assign PDO 0x{number:04X} of its type {kind}, which has 0x{index:04X}:{subindex}"
             )?;
-            telling.at(way, Part::Value, words)?;
+            telling.at(way, MarkedPart::Value, words)?;
             let advice = format!(in alloc; "add 0x{number:04X} to `{key}` of slave {slave}")?;
             telling.advise(advice.as_str())?;
             return Ok(true);
@@ -187,7 +192,11 @@ fn tell_no_entry(
     at: Linked<'_>,
 ) -> Result<(), AllocError> {
     let alloc = telling.alloc;
-    let index_way = [Step::Key("link"), Step::Item(link), Step::Key("index")];
+    let index_way = [
+        PathStep::Key("link"),
+        PathStep::Item(link),
+        PathStep::Key("index"),
+    ];
     if tell_unassigned(telling, &index_way, at)? {
         return Ok(());
     }
@@ -198,7 +207,11 @@ fn tell_no_entry(
     let (all, slave, word) = (all.as_str(), at.slave.name.as_str(), word_of(direction));
     let is_there = entries.as_slice().iter().any(|entry| entry.index == index);
     let way = if is_there {
-        [Step::Key("link"), Step::Item(link), Step::Key("sub")]
+        [
+            PathStep::Key("link"),
+            PathStep::Item(link),
+            PathStep::Key("sub"),
+        ]
     } else {
         index_way
     };
@@ -211,17 +224,25 @@ fn tell_no_entry(
             "slave {slave} has no {word} 0x{index:04X}:{subindex}; its {word}s are {all}"
         )?
     };
-    telling.at(&way, Part::Value, words)?;
+    telling.at(&way, MarkedPart::Value, words)?;
     telling.advise("correct `index` and `sub`, or add the entry to a PDO of the type")
 }
 
 /// The key of a link where its bits are seen: `bits`, or `var` where they aren't written.
-fn bits_way<'s>(telling: &Telling<'_>, link: usize) -> [Step<'s>; 3] {
-    let written = [Step::Key("link"), Step::Item(link), Step::Key("bits")];
+fn bits_way<'s>(telling: &Telling<'_>, link: usize) -> [PathStep<'s>; 3] {
+    let written = [
+        PathStep::Key("link"),
+        PathStep::Item(link),
+        PathStep::Key("bits"),
+    ];
     if telling.has(&written) {
         written
     } else {
-        [Step::Key("link"), Step::Item(link), Step::Key("var")]
+        [
+            PathStep::Key("link"),
+            PathStep::Item(link),
+            PathStep::Key("var"),
+        ]
     }
 }
 
@@ -252,7 +273,7 @@ fn tell_outside(
         let words = format!(in alloc;
             "{linked} of 0x{index:04X}:{subindex} of slave {slave} {are} linked, and it has {has}"
         )?;
-        telling.at(&way, Part::Value, words)?;
+        telling.at(&way, MarkedPart::Value, words)?;
     } else {
         let linked = bits_text(alloc, bits.variable_bit, bits.count)?;
         let linked = linked.as_str();
@@ -261,7 +282,7 @@ fn tell_outside(
         let words = format!(in alloc;
             "{linked} of variable {variable} {are} linked, and it has {has}"
         )?;
-        telling.at(&way, Part::Value, words)?;
+        telling.at(&way, MarkedPart::Value, words)?;
     }
     let advice = format!(in alloc;
         "link fewer bits: bits = [first of the variable, first of the entry, how many]; variable {variable} has {variable_bits}, the entry {entry_bits}"
@@ -354,13 +375,13 @@ fn tell_linked_twice(
             let given = given_text(alloc, earlier)?;
             let given = given.as_str();
             let words = format!(in alloc; "link {place} gives {given}")?;
-            telling.at(&bits_way(telling, place), Part::Value, words)?;
+            telling.at(&bits_way(telling, place), MarkedPart::Value, words)?;
         }
     }
     let given = given_text(alloc, at)?;
     let given = given.as_str();
     let words = format!(in alloc; "link {link} gives {given}, too")?;
-    telling.at(&bits_way(telling, link), Part::Value, words)?;
+    telling.at(&bits_way(telling, link), MarkedPart::Value, words)?;
     telling.advise("leave one of the links out, or give them different bits")
 }
 
@@ -382,7 +403,11 @@ fn tell_too_many_bits(
             let words = format!(in alloc;
                 "slave {name} has {bits} {word} bits, gaps with them, and 2048 are the most"
             )?;
-            telling.at(&[Step::Key("slave"), Step::Item(slave)], Part::Key, words)?;
+            telling.at(
+                &[PathStep::Key("slave"), PathStep::Item(slave)],
+                MarkedPart::Key,
+                words,
+            )?;
             let advice = if kind.mailbox.is_some() {
                 format!(in alloc; "assign fewer PDOs of its type by `{key}`")?
             } else {
@@ -402,7 +427,11 @@ fn tell_too_many_slaves(telling: &mut Telling<'_>, count: usize) -> Result<(), A
     let words = format!(in alloc;
         "{count} slaves, and 64 are the most: this is the first one more"
     )?;
-    telling.at(&[Step::Key("slave"), Step::Item(64)], Part::Key, words)?;
+    telling.at(
+        &[PathStep::Key("slave"), PathStep::Item(64)],
+        MarkedPart::Key,
+        words,
+    )?;
     telling.advise("make two tables, each for a segment of its own")
 }
 
@@ -436,11 +465,15 @@ fn tell_too_many_parts(
     let alloc = telling.alloc;
     let units = units_among(table.slaves());
     if let Some(place) = unit_past(table.slaves(), 32) {
-        let way = [Step::Key("slave"), Step::Item(place), Step::Key("unit")];
+        let way = [
+            PathStep::Key("slave"),
+            PathStep::Item(place),
+            PathStep::Key("unit"),
+        ];
         let words = format!(in alloc;
             "{units} sync units, each of which has a frame of its own, and 32 frames are the most: this is the first one more"
         )?;
-        telling.at(&way, Part::Value, words)?;
+        telling.at(&way, MarkedPart::Value, words)?;
     } else {
         let words = format!(in alloc;
             "{count} frames for {units} sync units, and 32 are the most: a frame takes slaves of one unit, as many as fit"
@@ -451,13 +484,13 @@ fn tell_too_many_parts(
 }
 
 /// The way to where the start of an area stands in its type.
-fn area_way<'s>(alloc: Global, kind: usize, area: &Area) -> Result<Vec<Step<'s>>, AllocError> {
+fn area_way<'s>(alloc: Global, kind: usize, area: &Area) -> Result<Vec<PathStep<'s>>, AllocError> {
     let mut way = Vec::new(alloc);
-    way.push(Step::Key("type"))?;
-    way.push(Step::Item(kind))?;
-    way.push(Step::Key(area.key.0))?;
+    way.push(PathStep::Key("type"))?;
+    way.push(PathStep::Item(kind))?;
+    way.push(PathStep::Key(area.key.0))?;
     if let Some(item) = area.key.1 {
-        way.push(Step::Item(item))?;
+        way.push(PathStep::Item(item))?;
     }
     Ok(way)
 }
@@ -467,7 +500,7 @@ fn tell_area(telling: &mut Telling<'_>, kind: usize, area: &Area) -> Result<(), 
     let alloc = telling.alloc;
     let way = area_way(alloc, kind, area)?;
     let words = area.text(alloc)?;
-    telling.at(way.as_slice(), Part::Value, words)
+    telling.at(way.as_slice(), MarkedPart::Value, words)
 }
 
 /// Says where an area could begin.
@@ -519,7 +552,11 @@ fn tell_overlap(
     let words = format!(in alloc;
         "in slave {name} two areas of its type {kind_name} share addresses"
     )?;
-    telling.at(&[Step::Key("slave"), Step::Item(slave)], Part::Key, words)?;
+    telling.at(
+        &[PathStep::Key("slave"), PathStep::Item(slave)],
+        MarkedPart::Key,
+        words,
+    )?;
     tell_area(telling, row.type_place, &one)?;
     tell_area(telling, row.type_place, &other)?;
     advise_start(telling, areas.as_slice(), &other)
@@ -543,7 +580,11 @@ fn tell_outside_ram(
     let words = format!(in alloc;
         "in slave {name} an area of its type {kind_name} is not within 0x{RAM_START:04X} to 0x{last:04X}"
     )?;
-    telling.at(&[Step::Key("slave"), Step::Item(slave)], Part::Key, words)?;
+    telling.at(
+        &[PathStep::Key("slave"), PathStep::Item(slave)],
+        MarkedPart::Key,
+        words,
+    )?;
     tell_area(telling, row.type_place, area)?;
     advise_start(telling, areas.as_slice(), area)
 }
@@ -557,8 +598,8 @@ fn tell_split(telling: &mut Telling<'_>, table: &Table, variable: usize) -> Resu
     let name = row.name.as_str();
     let words = format!(in alloc; "input variable {name} has links from two sync units")?;
     telling.at(
-        &[Step::Key("variable"), Step::Item(variable)],
-        Part::Key,
+        &[PathStep::Key("variable"), PathStep::Item(variable)],
+        MarkedPart::Key,
         words,
     )?;
     let mut first = None;
@@ -577,8 +618,12 @@ fn tell_split(telling: &mut Telling<'_>, table: &Table, variable: usize) -> Resu
                 None => "",
             };
             let words = format!(in alloc; "link {place} joins it to slave {slave} of unit {unit}")?;
-            let way = [Step::Key("link"), Step::Item(place), Step::Key("slave")];
-            telling.at(&way, Part::Value, words)?;
+            let way = [
+                PathStep::Key("link"),
+                PathStep::Item(place),
+                PathStep::Key("slave"),
+            ];
+            telling.at(&way, MarkedPart::Value, words)?;
             if first.is_some() {
                 break;
             }

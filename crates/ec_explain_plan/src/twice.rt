@@ -1,7 +1,7 @@
 //! Why a slave assigns an entry twice: refusal 20.
 use crate::keys::{assignment_key, pdos_key};
-use ec_outline::{Part, Step, Telling};
-use ec_regs::Entry;
+use ec_device::Entry;
+use ec_outline::{MarkedPart, PathStep, Telling};
 use ec_table::{Direction, SlaveRow, TypeRow};
 use std::alloc::{AllocError, Global};
 
@@ -56,14 +56,14 @@ fn seats_twice(seats: &[Seat]) -> Option<(Seat, Seat)> {
 }
 
 /// The way to an entry of a type.
-fn entry_way<'s>(kind: usize, direction: Direction, seat: Seat) -> [Step<'s>; 6] {
+fn entry_way<'s>(kind: usize, direction: Direction, seat: Seat) -> [PathStep<'s>; 6] {
     [
-        Step::Key("type"),
-        Step::Item(kind),
-        Step::Key(pdos_key(direction)),
-        Step::Item(seat.pdo),
-        Step::Key("entries"),
-        Step::Item(seat.entry),
+        PathStep::Key("type"),
+        PathStep::Item(kind),
+        PathStep::Key(pdos_key(direction)),
+        PathStep::Item(seat.pdo),
+        PathStep::Key("entries"),
+        PathStep::Item(seat.entry),
     ]
 }
 
@@ -75,11 +75,19 @@ fn at_assigned(
     words: String,
 ) -> Result<(), AllocError> {
     let key = assignment_key(direction);
-    let written = [Step::Key("slave"), Step::Item(slave), Step::Key(key)];
+    let written = [
+        PathStep::Key("slave"),
+        PathStep::Item(slave),
+        PathStep::Key(key),
+    ];
     if telling.has(&written) {
-        telling.at(&written, Part::Value, words)
+        telling.at(&written, MarkedPart::Value, words)
     } else {
-        telling.at(&[Step::Key("slave"), Step::Item(slave)], Part::Key, words)
+        telling.at(
+            &[PathStep::Key("slave"), PathStep::Item(slave)],
+            MarkedPart::Key,
+            words,
+        )
     }
 }
 
@@ -93,7 +101,7 @@ fn at_entry(
     let alloc = telling.alloc;
     let (index, subindex, pdo) = (seat.named.index, seat.named.subindex, seat.index);
     let words = format!(in alloc; "0x{index:04X}:{subindex} in PDO 0x{pdo:04X}")?;
-    telling.at(&entry_way(kind, direction, seat), Part::Value, words)
+    telling.at(&entry_way(kind, direction, seat), MarkedPart::Value, words)
 }
 
 /// What a slave assigns that has an entry twice, in words: one PDO, or two that have it both.

@@ -4,7 +4,7 @@ use std::alloc::{AllocError, Global};
 
 /// What a word of a line stands for.
 #[derive(Clone, Copy, Debug, PartialEq, Eq)]
-pub enum Kind {
+pub enum WordKind {
     /// A variable, by its name.
     Variable,
     /// A value of a variable.
@@ -26,33 +26,33 @@ pub enum Kind {
 /// How a line is written: the words that it begins with, what the words behind these stand for, what one more may stand
 /// for, and the line for people.
 #[derive(Clone, Copy)]
-pub struct Form {
+pub struct LineForm {
     pub head: &'static str,
-    pub needs: &'static [Kind],
-    pub may: Option<Kind>,
+    pub needs: &'static [WordKind],
+    pub may: Option<WordKind>,
     pub text: &'static str,
 }
 
 /// A variable and a value of it.
-static VARIABLE_AND_VALUE: [Kind; 2] = [Kind::Variable, Kind::Value];
+static VARIABLE_AND_VALUE: [WordKind; 2] = [WordKind::Variable, WordKind::Value];
 
 /// A slave and an AL state of it.
-static SLAVE_AND_STATE: [Kind; 2] = [Kind::Slave, Kind::State];
+static SLAVE_AND_STATE: [WordKind; 2] = [WordKind::Slave, WordKind::State];
 
 /// A slave, the place of a byte and a byte.
-static SLAVE_AND_BYTE: [Kind; 3] = [Kind::Slave, Kind::Number, Kind::Byte];
+static SLAVE_AND_BYTE: [WordKind; 3] = [WordKind::Slave, WordKind::Number, WordKind::Byte];
 
 /// A slave and the place of a byte.
-static SLAVE_AND_PLACE: [Kind; 2] = [Kind::Slave, Kind::Number];
+static SLAVE_AND_PLACE: [WordKind; 2] = [WordKind::Slave, WordKind::Number];
 
 /// A slave.
-static SLAVE: [Kind; 1] = [Kind::Slave];
+static SLAVE: [WordKind; 1] = [WordKind::Slave];
 
 /// A number.
-static NUMBER: [Kind; 1] = [Kind::Number];
+static NUMBER: [WordKind; 1] = [WordKind::Number];
 
 /// Nothing.
-static NONE: [Kind; 0] = [];
+static NONE: [WordKind; 0] = [];
 
 /// The heads of the lines and the lines for people; a head of two words stands before one of its first word.
 static LINES: [(&str, &str); 23] = [
@@ -82,7 +82,7 @@ static LINES: [(&str, &str); 23] = [
 ];
 
 /// What the words behind a head stand for.
-fn needs_of(head: &str) -> &'static [Kind] {
+fn needs_of(head: &str) -> &'static [WordKind] {
     match head {
         "set" | "in" | "expect" => &VARIABLE_AND_VALUE,
         "pass" | "lose" | "return" => &NUMBER,
@@ -95,10 +95,10 @@ fn needs_of(head: &str) -> &'static [Kind] {
 }
 
 /// What one more word may stand for.
-fn may_of(head: &str) -> Option<Kind> {
+fn may_of(head: &str) -> Option<WordKind> {
     match head {
-        "expect taken" | "expect untaken" | "expect failed" => Some(Kind::Number),
-        "expect state" => Some(Kind::Code),
+        "expect taken" | "expect untaken" | "expect failed" => Some(WordKind::Number),
+        "expect state" => Some(WordKind::Code),
         _ => None,
     }
 }
@@ -120,9 +120,9 @@ fn begins(words: &[Word<'_>], head: &str) -> bool {
     true
 }
 
-impl Form {
+impl LineForm {
     /// What the word at a place behind its head stands for.
-    pub fn kind_at(&self, place: usize) -> Option<Kind> {
+    pub fn kind_at(&self, place: usize) -> Option<WordKind> {
         match self.needs.get(place) {
             Some(kind) => Some(*kind),
             None if place == self.needs.len() => self.may,
@@ -152,10 +152,10 @@ pub fn word_expected<'t>(words: &[Word<'t>]) -> Option<&'t str> {
 
 /// The form that words begin as; `is_variable` says whether a variable has the word between `expect` and the only word behind
 /// it as its name.
-pub fn form_of(words: &[Word<'_>], is_variable: bool) -> Option<Form> {
+pub fn form_of(words: &[Word<'_>], is_variable: bool) -> Option<LineForm> {
     for (head, text) in LINES {
         if begins(words, head) && !(is_variable && is_name_before_value(head)) {
-            return Some(Form {
+            return Some(LineForm {
                 head,
                 needs: needs_of(head),
                 may: may_of(head),

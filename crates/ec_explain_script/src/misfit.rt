@@ -1,5 +1,5 @@
 //! Why a word can't stand for what a line needs in its place.
-use crate::form::Kind;
+use crate::form::WordKind;
 use ec_outline::{is_among, meant, printable};
 use ec_table::Table;
 use std::alloc::{AllocError, Global};
@@ -35,14 +35,14 @@ fn is_hex(word: &str) -> bool {
 }
 
 /// What 64 bits hold, where they don't hold the number that a word writes; a byte and a number of times have bounds of their own.
-fn past_64_bits(kind: Kind, word: &str) -> Option<&'static str> {
-    if !matches!(kind, Kind::Slave | Kind::Number | Kind::Value) {
+fn past_64_bits(kind: WordKind, word: &str) -> Option<&'static str> {
+    if !matches!(kind, WordKind::Slave | WordKind::Number | WordKind::Value) {
         return None;
     }
     if has_digits(word) && !is_number(word) {
         return Some("is too large: 64 bits hold no more than 18446744073709551615");
     }
-    if kind != Kind::Value {
+    if kind != WordKind::Value {
         return None;
     }
     match (word.strip_prefix('-'), word.strip_prefix("0x")) {
@@ -136,24 +136,24 @@ fn no_slave(alloc: Global, table: &Table, word: &str) -> Result<Option<String>, 
 }
 
 /// Whether a word that names nothing fits, and what it is to be.
-fn fits(kind: Kind, word: &str) -> (bool, &'static str) {
+fn fits(kind: WordKind, word: &str) -> (bool, &'static str) {
     match kind {
-        Kind::Variable | Kind::Slave => (true, ""),
-        Kind::Value => (
+        WordKind::Variable | WordKind::Slave => (true, ""),
+        WordKind::Value => (
             is_value(word),
             "value: it is decimal, `0x` and hex digits, or `-` and decimal",
         ),
-        Kind::Number => (is_number(word), "number: it is written in decimal digits"),
-        Kind::Byte => (is_within(word, 0, 255), "byte: it is 0 to 255, in decimal"),
-        Kind::Times => (
+        WordKind::Number => (is_number(word), "number: it is written in decimal digits"),
+        WordKind::Byte => (is_within(word, 0, 255), "byte: it is 0 to 255, in decimal"),
+        WordKind::Times => (
             is_within(word, 1, 1_000_000),
             "number of times: it is 1 to 1000000, in decimal",
         ),
-        Kind::State => (
+        WordKind::State => (
             is_among(word, &STATES),
             "AL state: it is INIT, PREOP, SAFEOP or OP",
         ),
-        Kind::Code => (
+        WordKind::Code => (
             word.len() == 4 && is_hex(word),
             "AL status code: it has four hex digits",
         ),
@@ -164,12 +164,12 @@ fn fits(kind: Kind, word: &str) -> (bool, &'static str) {
 fn other_than(
     alloc: Global,
     table: Option<&Table>,
-    kind: Kind,
+    kind: WordKind,
     word: &str,
 ) -> Result<Option<String>, AllocError> {
     match (kind, table) {
-        (Kind::Variable, Some(table)) => no_variable(alloc, table, word),
-        (Kind::Slave, Some(table)) => no_slave(alloc, table, word),
+        (WordKind::Variable, Some(table)) => no_variable(alloc, table, word),
+        (WordKind::Slave, Some(table)) => no_slave(alloc, table, word),
         _ => {
             let (is_right, what) = fits(kind, word);
             if is_right {
@@ -181,21 +181,21 @@ fn other_than(
 }
 
 /// What to do about a word that is not of a kind.
-fn remedy(kind: Kind) -> &'static str {
+fn remedy(kind: WordKind) -> &'static str {
     match kind {
-        Kind::Variable => "correct the name, or add a variable of that name to the table",
-        Kind::Slave =>
+        WordKind::Variable => "correct the name, or add a variable of that name to the table",
+        WordKind::Slave =>
             "correct the name, add a slave of that name to the table, or write its number",
-        Kind::Times => "write a number from 1 to 1000000",
+        WordKind::Times => "write a number from 1 to 1000000",
         _ => "correct it; `ecat sim --help` lists the lines that a script has",
     }
 }
 
 /// What to do about a number that 64 bits don't hold.
-fn remedy_within(kind: Kind) -> &'static str {
+fn remedy_within(kind: WordKind) -> &'static str {
     match kind {
-        Kind::Slave => "write the number of a slave, the first of which is 0, or its name",
-        Kind::Value => "write a value that the variable has the bits for",
+        WordKind::Slave => "write the number of a slave, the first of which is 0, or its name",
+        WordKind::Value => "write a value that the variable has the bits for",
         _ => "write a smaller number",
     }
 }
@@ -204,7 +204,7 @@ fn remedy_within(kind: Kind) -> &'static str {
 pub fn misfit(
     alloc: Global,
     table: Option<&Table>,
-    kind: Kind,
+    kind: WordKind,
     word: &str,
 ) -> Result<Option<Wrong>, AllocError> {
     if let Some(held) = past_64_bits(kind, word) {

@@ -1,5 +1,5 @@
 //! Which line of a script stands for nothing: refusal 39; and that what lines expect isn't so: 45.
-use crate::form::{Form, Kind, form_of, verbs, word_expected};
+use crate::form::{LineForm, WordKind, form_of, verbs, word_expected};
 use crate::misfit::{misfit, names_variable};
 use crate::word::{Word, without_comment, words_of};
 use ec_outline::{Span, Telling, meant, printable};
@@ -61,7 +61,7 @@ fn tell_form(telling: &mut Telling<'_>, span: Span, form: &str) -> Result<(), Al
 fn tell_misfit(
     telling: &mut Telling<'_>,
     table: Option<&Table>,
-    form: Form,
+    form: LineForm,
     words: &[Word<'_>],
 ) -> Result<bool, AllocError> {
     let alloc = telling.alloc;
@@ -125,7 +125,7 @@ fn tell_repeat(
     let (Some(times), Some(next)) = (words.get(1), words.get(2)) else {
         return tell_form(telling, span_of(words), "repeat N LINE");
     };
-    if let Some(wrong) = misfit(alloc, None, Kind::Times, times.text)? {
+    if let Some(wrong) = misfit(alloc, None, WordKind::Times, times.text)? {
         telling.at_span(times.span(), wrong.words)?;
         return telling.advise(wrong.advice);
     }

@@ -1,9 +1,9 @@
 //! Why a start-up or a cycle failed: refusals 9, 26 to 38.
 use crate::steps::step_text;
 use ec_cycle::CycleError;
+use ec_device::{Device, Entry, FIRST_INPUT_INDEX};
 use ec_link::{Plan, compile};
-use ec_outline::{Part, Step, Telling, counted};
-use ec_regs::{Device, Entry, FIRST_INPUT_INDEX};
+use ec_outline::{MarkedPart, PathStep, Telling, counted};
 use ec_start::StartError;
 use ec_table::{Direction, Table};
 use std::alloc::{AllocError, Global};
@@ -79,7 +79,11 @@ fn name_of(table: &Table, slave: usize) -> &str {
 
 /// Marks the slave at a place.
 fn at_slave(telling: &mut Telling<'_>, slave: usize, words: String) -> Result<(), AllocError> {
-    telling.at(&[Step::Key("slave"), Step::Item(slave)], Part::Key, words)
+    telling.at(
+        &[PathStep::Key("slave"), PathStep::Item(slave)],
+        MarkedPart::Key,
+        words,
+    )
 }
 
 /// Marks what the type of a slave has under a key.
@@ -93,11 +97,11 @@ fn at_type(
     match table.slaves().get(slave) {
         Some(row) => telling.at(
             &[
-                Step::Key("type"),
-                Step::Item(row.type_place),
-                Step::Key(key),
+                PathStep::Key("type"),
+                PathStep::Item(row.type_place),
+                PathStep::Key(key),
             ],
-            Part::Value,
+            MarkedPart::Value,
             words,
         ),
         None => telling.note(words),
@@ -261,12 +265,12 @@ fn at_pdo(
             let (wanted, kind_name) = (wanted.as_str(), kind.name.as_str());
             let words = format!(in alloc; "its type {kind_name} has {wanted} there")?;
             let way = [
-                Step::Key("type"),
-                Step::Item(row.type_place),
-                Step::Key(key),
-                Step::Item(place),
+                PathStep::Key("type"),
+                PathStep::Item(row.type_place),
+                PathStep::Key(key),
+                PathStep::Item(place),
             ];
-            telling.at(&way, Part::Key, words)?;
+            telling.at(&way, MarkedPart::Key, words)?;
         }
         place = place.saturating_add(1);
     }

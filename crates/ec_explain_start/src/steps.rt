@@ -1,7 +1,7 @@
 //! The steps of a start-up in words, by their numbers in its script.
-use ec_link::{Plan, Settings};
+use ec_device::Pdo;
+use ec_link::{Plan, SlavePlan};
 use ec_outline::counted;
-use ec_regs::Pdo;
 use std::alloc::{AllocError, Global};
 
 /// How many steps there are for all slaves at once before those of each slave.
@@ -61,7 +61,7 @@ fn all_reads(pdos: &[Pdo], assigned: &[u16]) -> usize {
 }
 
 /// How many requests a slave is sent.
-fn requests_of(settings: &Settings) -> usize {
+fn requests_of(settings: &SlavePlan) -> usize {
     if settings.kind.mailbox().is_none() {
         return 0;
     }
@@ -74,7 +74,7 @@ fn requests_of(settings: &Settings) -> usize {
 }
 
 /// The names of the managers and FMMUs that the plan sets for process data, in order.
-fn mapped_of(alloc: Global, settings: &Settings) -> Result<Vec<&'static str>, AllocError> {
+fn mapped_of(alloc: Global, settings: &SlavePlan) -> Result<Vec<&'static str>, AllocError> {
     let mut names = Vec::new(alloc);
     let choices = [
         (
@@ -97,7 +97,7 @@ fn mapped_of(alloc: Global, settings: &Settings) -> Result<Vec<&'static str>, Al
 }
 
 /// How many steps a slave has in a stretch.
-fn steps_of(alloc: Global, stretch: Stretch, settings: &Settings) -> Result<usize, AllocError> {
+fn steps_of(alloc: Global, stretch: Stretch, settings: &SlavePlan) -> Result<usize, AllocError> {
     Ok(match stretch {
         Stretch::Naming => 1,
         Stretch::Identifying => 6,
@@ -187,7 +187,7 @@ fn write_text(
 }
 
 /// A request to a slave, by its place among them.
-fn request_text(alloc: Global, settings: &Settings, place: usize) -> Result<String, AllocError> {
+fn request_text(alloc: Global, settings: &SlavePlan, place: usize) -> Result<String, AllocError> {
     let (outputs, inputs) = (settings.kind.outputs(), settings.kind.inputs());
     let (out, ins) = (settings.outputs.as_slice(), settings.inputs.as_slice());
     let mut left = place;
@@ -212,7 +212,7 @@ fn request_text(alloc: Global, settings: &Settings, place: usize) -> Result<Stri
 fn share_text(
     alloc: Global,
     stretch: Stretch,
-    settings: &Settings,
+    settings: &SlavePlan,
     place: usize,
 ) -> Result<String, AllocError> {
     let state = match stretch {

@@ -1,6 +1,6 @@
 //! Why a text is no link table: refusals 11 to 15.
 use crate::rule::{Mark, Rule, keys_of, lacking, misfit, needs_of, rule_of, taken_by, word_of};
-use ec_outline::{Part, Span, Step, Telling, is_among, listing, meant, printable};
+use ec_outline::{MarkedPart, PathStep, Span, Telling, is_among, listing, meant, printable};
 use ec_table::{Fault, Place, Section};
 use std::alloc::{AllocError, Global};
 use toml::{Table, Value};
@@ -57,11 +57,11 @@ fn element_named(elements: &[Value], name: &str, before: usize) -> Option<usize>
 }
 
 /// The way to an element, or to the document.
-fn way_to<'s>(alloc: Global, place: Place) -> Result<Vec<Step<'s>>, AllocError> {
+fn way_to<'s>(alloc: Global, place: Place) -> Result<Vec<PathStep<'s>>, AllocError> {
     let mut way = Vec::new(alloc);
     if place.section != Section::Top {
-        way.push(Step::Key(word_of(place.section)))?;
-        way.push(Step::Item(place.element))?;
+        way.push(PathStep::Key(word_of(place.section)))?;
+        way.push(PathStep::Item(place.element))?;
     }
     Ok(way)
 }
@@ -111,18 +111,22 @@ fn tell_unknown_key(
     let all = listing(alloc, known)?;
     let (shown, near, all) = (shown.as_str(), near.as_str(), all.as_str());
     let mut way = way_to(alloc, place)?;
-    way.push(Step::Key(key))?;
+    way.push(PathStep::Key(key))?;
     let word = word_of(place.section);
     if place.section == Section::Slave && key == "unit" {
         let words = "`unit` is a key only where the text begins with `version = 2`";
-        telling.at(way.as_slice(), Part::Key, String::from_str(alloc, words)?)?;
+        telling.at(
+            way.as_slice(),
+            MarkedPart::Key,
+            String::from_str(alloc, words)?,
+        )?;
         return telling.advise("write `version = 2` above all tables, or leave `unit` out");
     }
     let words = match place.section {
         Section::Top => format!(in alloc; "`{shown}` is no section{near}")?,
         _ => format!(in alloc; "`{shown}` is no key of a {word}{near}")?,
     };
-    telling.at(way.as_slice(), Part::Key, words)?;
+    telling.at(way.as_slice(), MarkedPart::Key, words)?;
     let advice = format!(in alloc; "leave it out or correct it; a {word} has the keys {all}")?;
     telling.advise(advice.as_str())
 }
@@ -139,7 +143,7 @@ fn tell_missing(
     let (lacks, element) = (lacks.as_str(), element.as_str());
     let way = way_to(alloc, place)?;
     let words = format!(in alloc; "{element} lacks {lacks}")?;
-    telling.at(way.as_slice(), Part::Key, words)?;
+    telling.at(way.as_slice(), MarkedPart::Key, words)?;
     let advice = format!(in alloc; "add {lacks}")?;
     telling.advise(advice.as_str())
 }
@@ -178,7 +182,7 @@ fn tell_bad_section(
         } else {
             format!(in alloc; "a section is a list of tables")?
         };
-        telling.at(&[Step::Key(section)], Part::Key, words)?;
+        telling.at(&[PathStep::Key(section)], MarkedPart::Key, words)?;
         let advice = format!(in alloc; "write `[[{section}]]` above each table of the section")?;
         telling.advise(advice.as_str())?;
         return Ok(true);
@@ -186,7 +190,11 @@ fn tell_bad_section(
     for (place, element) in elements.as_slice().iter().enumerate() {
         if !element.is_table() {
             let words = format!(in alloc; "{section} {place} is no table")?;
-            telling.at(&[Step::Key(section), Step::Item(place)], Part::Value, words)?;
+            telling.at(
+                &[PathStep::Key(section), PathStep::Item(place)],
+                MarkedPart::Value,
+                words,
+            )?;
             telling.advise("write a table in its place, as `{ name = .. }`")?;
             return Ok(true);
         }
@@ -259,11 +267,11 @@ fn tell_fixed(
             let all = indices_text(alloc, known.as_slice())?;
             let all = all.as_str();
             let mut way = way_to(alloc, place)?;
-            way.push(Step::Key(key))?;
+            way.push(PathStep::Key(key))?;
             let words = format!(in alloc;
                 "type {kind} has no mailbox, so its slaves assign all its PDOs, in the order of its `{list}`: {all}"
             )?;
-            telling.at(way.as_slice(), Part::Key, words)?;
+            telling.at(way.as_slice(), MarkedPart::Key, words)?;
         }
     }
     telling.advise("leave `out` and `in` out, or give the type a `mailbox`")
@@ -339,14 +347,14 @@ fn tell_twice_under(
         _ => 0,
     };
     let mut way = way_to(alloc, place)?;
-    way.push(Step::Key(key))?;
-    way.push(Step::Item(first))?;
+    way.push(PathStep::Key(key))?;
+    way.push(PathStep::Item(first))?;
     let words = format!(in alloc; "PDO 0x{index:04X} stands here first")?;
-    telling.at(way.as_slice(), Part::Key, words)?;
+    telling.at(way.as_slice(), MarkedPart::Key, words)?;
     let _ = way.pop();
-    way.push(Step::Item(second))?;
+    way.push(PathStep::Item(second))?;
     let words = format!(in alloc; "PDO 0x{index:04X} stands in `{key}` once more")?;
-    telling.at(way.as_slice(), Part::Key, words)?;
+    telling.at(way.as_slice(), MarkedPart::Key, words)?;
     telling.advise("leave one of them out, or correct its index")?;
     Ok(true)
 }
@@ -369,14 +377,18 @@ fn tell_taken_name(
     };
     let shown = printable(alloc, name)?;
     let shown = shown.as_str();
-    let earlier = [Step::Key(word), Step::Item(first), Step::Key("name")];
+    let earlier = [
+        PathStep::Key(word),
+        PathStep::Item(first),
+        PathStep::Key("name"),
+    ];
     let words = format!(in alloc; "{word} {first} has the name `{shown}`")?;
-    telling.at(&earlier, Part::Value, words)?;
+    telling.at(&earlier, MarkedPart::Value, words)?;
     let mut way = way_to(alloc, place)?;
-    way.push(Step::Key("name"))?;
+    way.push(PathStep::Key("name"))?;
     let element = place.element;
     let words = format!(in alloc; "{word} {element} has the name `{shown}` too")?;
-    telling.at(way.as_slice(), Part::Value, words)?;
+    telling.at(way.as_slice(), MarkedPart::Value, words)?;
     telling.advise("change one of the names, and the references to it")?;
     Ok(true)
 }
@@ -425,9 +437,9 @@ fn tell_unknown_under(
     let near = meant(alloc, name, names.as_slice())?;
     let (shown, near) = (shown.as_str(), near.as_str());
     let mut way = way_to(alloc, place)?;
-    way.push(Step::Key(key))?;
+    way.push(PathStep::Key(key))?;
     let words = format!(in alloc; "no {section} has the name `{shown}`{near}")?;
-    telling.at(way.as_slice(), Part::Value, words)?;
+    telling.at(way.as_slice(), MarkedPart::Value, words)?;
     let advice = format!(in alloc; "correct the name, or add a {section} of that name")?;
     telling.advise(advice.as_str())?;
     Ok(true)
@@ -488,14 +500,14 @@ fn tell_unknown_pdo(
         if !known.as_slice().iter().any(|index| *index == *number) {
             let index = (*number).unwrap_or(0).max(0);
             let mut way = way_to(alloc, place)?;
-            way.push(Step::Key(keys.0))?;
-            way.push(Step::Item(item))?;
+            way.push(PathStep::Key(keys.0))?;
+            way.push(PathStep::Item(item))?;
             let all = indices_text(alloc, known.as_slice())?;
             let (all, list) = (all.as_str(), keys.1);
             let words = format!(in alloc;
                 "type {kind} has no PDO 0x{index:04X} in `{list}`; it has {all}"
             )?;
-            telling.at(way.as_slice(), Part::Value, words)?;
+            telling.at(way.as_slice(), MarkedPart::Value, words)?;
             telling.advise("correct the index, or add the PDO to the type")?;
             return Ok(true);
         }

@@ -1,6 +1,6 @@
 //! The keys of a link table, what each takes, and in words how a value doesn't fit it.
-use ec_outline::{Part, Step, is_among, listing, meant, printable};
-use ec_regs::{FIRST_INPUT_INDEX, FIRST_OUTPUT_INDEX, MAX_ENTRIES, MAX_PDOS, PDO_INDICES};
+use ec_device::{FIRST_INPUT_INDEX, FIRST_OUTPUT_INDEX, MAX_ENTRIES, MAX_PDOS, PDO_INDICES};
+use ec_outline::{MarkedPart, PathStep, is_among, listing, meant, printable};
 use ec_table::Section;
 use std::alloc::{AllocError, Global};
 use toml::Value;
@@ -29,15 +29,15 @@ pub enum Rule {
 /// Where a fault stands: at the end of a way, by the key there or by its value.
 #[derive(Drop)]
 pub struct Mark<'s> {
-    pub way: Vec<Step<'s>>,
-    pub part: Part,
+    pub way: Vec<PathStep<'s>>,
+    pub part: MarkedPart,
 }
 
 impl<'s> Mark<'s> {
     /// The value under a key of what a way leads to.
-    pub fn under(mut way: Vec<Step<'s>>, key: &'s str) -> Result<Mark<'s>, AllocError> {
-        way.push(Step::Key(key))?;
-        let part = Part::Value;
+    pub fn under(mut way: Vec<PathStep<'s>>, key: &'s str) -> Result<Mark<'s>, AllocError> {
+        way.push(PathStep::Key(key))?;
+        let part = MarkedPart::Value;
         Ok(Mark { way, part })
     }
 }
@@ -277,7 +277,7 @@ fn numbers_misfit(
     for (place, (low, high)) in ranges.iter().enumerate() {
         if let Some(item) = items.get(place) {
             if let Some(words) = number_misfit(alloc, item, *low, *high)? {
-                mark.way.push(Step::Item(place))?;
+                mark.way.push(PathStep::Item(place))?;
                 return Ok(Some(words));
             }
         }
@@ -313,7 +313,7 @@ fn entries_misfit(
         return kind_stands(alloc, value, "a list of entries");
     };
     for (place, entry) in entries.as_slice().iter().enumerate() {
-        mark.way.push(Step::Item(place))?;
+        mark.way.push(PathStep::Item(place))?;
         if let Some(words) = entry_misfit(alloc, entry, mark)? {
             return Ok(Some(words));
         }
@@ -339,8 +339,8 @@ fn pdo_keys_misfit<'s>(
             let near = meant(alloc, key.as_str(), &PDO_KEYS)?;
             let (shown, near) = (shown.as_str(), near.as_str());
             let words = format!(in alloc; "`{shown}` is no key of a PDO{near}")?;
-            mark.way.push(Step::Key(key.as_str()))?;
-            mark.part = Part::Key;
+            mark.way.push(PathStep::Key(key.as_str()))?;
+            mark.part = MarkedPart::Key;
             return Ok(Some(words));
         }
     }
@@ -368,12 +368,12 @@ fn pdo_misfit<'s>(
     }
     if let Some(index) = members.get("index") {
         if let Some(words) = index_misfit(alloc, index, first)? {
-            mark.way.push(Step::Key("index"))?;
+            mark.way.push(PathStep::Key("index"))?;
             return Ok(Some(words));
         }
     }
     if let Some(entries) = members.get("entries") {
-        mark.way.push(Step::Key("entries"))?;
+        mark.way.push(PathStep::Key("entries"))?;
         let misfit = entries_misfit(alloc, entries, mark)?;
         if misfit.is_some() {
             return Ok(misfit);
@@ -394,7 +394,7 @@ fn pdos_misfit<'s>(
         return kind_stands(alloc, value, "a list of PDOs");
     };
     for (place, pdo) in pdos.as_slice().iter().enumerate() {
-        mark.way.push(Step::Item(place))?;
+        mark.way.push(PathStep::Item(place))?;
         let misfit = pdo_misfit(alloc, pdo, first, mark)?;
         if misfit.is_some() {
             return Ok(misfit);
@@ -421,7 +421,7 @@ fn indices_misfit(
     };
     for (place, index) in indices.as_slice().iter().enumerate() {
         if let Some(words) = index_misfit(alloc, index, first)? {
-            mark.way.push(Step::Item(place))?;
+            mark.way.push(PathStep::Item(place))?;
             return Ok(Some(words));
         }
     }

@@ -19,42 +19,42 @@ use std::marker::Model;
 
 /// Logical bits from one on and below another.
 #[derive(Clone, Copy, Debug)]
-struct Stretch {
+struct LogicalRange {
     first: u64,
     end: u64,
 }
 
 /// The logical bits in the range of an FMMU.
-fn stretch_of(fmmu: &Fmmu) -> Stretch
+fn stretch_of(fmmu: &Fmmu) -> LogicalRange
     ensures { (l : ℕ) → reaches fmmu.now l ≡ true → Has result l }
 {
     let count = fmmu.bit_count();
     if count == 0 {
-        return Stretch {
+        return LogicalRange {
             first: u64::MAX,
             end: 0,
         };
     }
     let first = fmmu.first_logical();
-    Stretch {
+    LogicalRange {
         first,
         end: first + count,
     }
 }
 
 /// The bits of both, and those between them.
-fn join(one: Stretch, other: Stretch) -> Stretch
+fn join(one: LogicalRange, other: LogicalRange) -> LogicalRange
     ensures one { (l : ℕ) → Has one l → Has result l }
     ensures other { (l : ℕ) → Has other l → Has result l }
 {
-    Stretch {
+    LogicalRange {
         first: one.first.min(other.first),
         end: one.end.max(other.end),
     }
 }
 
 /// The logical bits in the ranges of four FMMUs, and those between them.
-fn around(fmmus: &[Fmmu; 4]) -> Stretch
+fn around(fmmus: &[Fmmu; 4]) -> LogicalRange
     ensures { IsAround result fmmus.now }
 {
     let low = join(stretch_of(&fmmus[0]), stretch_of(&fmmus[1]));
@@ -68,7 +68,7 @@ fn around(fmmus: &[Fmmu; 4]) -> Stretch
 #[derive(Debug, Drop)]
 pub struct FmmuTable {
     fmmus: [Fmmu; 4],
-    stretch: Stretch,
+    stretch: LogicalRange,
     is_apart: bool,
     reading: [Way; 4],
     writing: [Way; 4],
@@ -177,7 +177,7 @@ impl FmmuTable {
     /// Whether the `bits` logical bits from `from` on lie before the first range or behind the last
     /// one, so that a datagram over them neither reads nor writes. False says nothing.
     #[tactic(auto, using(crate::proofs::Missing::none_read, crate::proofs::Missing::none_brought))]
-    pub fn is_missed(&self, from: u64, bits: u64) -> bool
+    pub fn is_outside(&self, from: u64, bits: u64) -> bool
         requires { from + bits < 2 ^ 64 }
         ensures reads { OnTrue result ((i : ℕ) → i < bits → target (readers self.now) (from + i) ≡ None) }
         ensures writes { OnTrue result ((q : ℕ) → data_bit_for self.now (record { from = from; bits = bits }) q ≡ None) }

@@ -10,7 +10,7 @@ use byteorder::{ByteOrder, LittleEndian};
 
 /// Where the spelling of a datagram stands in a frame: from its first byte to before `to`.
 #[derive(Clone, Copy, Debug, PartialEq, Eq, Drop)]
-pub struct Span {
+pub struct DatagramSpan {
     /// Its first byte.
     pub from: usize,
     /// The byte behind its last one.
@@ -20,14 +20,14 @@ pub struct Span {
 /// A cursor over the places of a checked frame's datagrams, one after the other. It holds no
 /// reference: the frame stands beside it, and `pass` writes each datagram between two steps.
 #[derive(Clone, Copy, Debug, PartialEq, Eq, Drop)]
-pub struct Places {
+pub struct DatagramCursor {
     /// Where the next datagram begins.
     pub at: usize,
     /// Where the last one ends.
     pub end: usize,
 }
 
-impl Places {
+impl DatagramCursor {
     /// The places of all datagrams of a frame.
     pub fn new(frame: &[u8]) -> Self
         requires { (p : Payload) × IsFrame frame.now p }
@@ -36,14 +36,14 @@ impl Places {
         ensures end { result.end ≡ 2 + length_field frame.now }
     {
         let header = LittleEndian::read_u16(frame);
-        Places {
+        DatagramCursor {
             at: field::FRAME_HEADER_LEN,
             end: field::FRAME_HEADER_LEN + usize::from(field::length_in(header)),
         }
     }
 
     /// The place of the next datagram; none after the last.
-    pub fn next(&mut self, frame: &[u8]) -> Option<Span>
+    pub fn next(&mut self, frame: &[u8]) -> Option<DatagramSpan>
         requires { (ds : List Datagram) × IsAhead frame.now self.old ds }
         ensures steps { (ds : List Datagram) → IsAhead frame.now self.old ds
             → StepsTo self.old self.new result ds }
@@ -63,6 +63,6 @@ impl Places {
         let (_, rest) = frame.split_at(from);
         let to = from + (OVERHEAD + data_length(rest));
         self.at = to;
-        Some(Span { from, to })
+        Some(DatagramSpan { from, to })
     }
 }

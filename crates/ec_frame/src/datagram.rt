@@ -68,7 +68,7 @@ impl Header {
 
 /// The address of a physical datagram: ADP, the position or station address of the slave that is
 /// meant, the low half, and ADO, the address in its memory, the high half.
-pub fn physical(adp: u16, ado: u16) -> u32
+pub fn address_of(adp: u16, ado: u16) -> u32
     ensures { result ≡ adp + 65536 * ado }
 {
     u32::from(adp) + 65536 * u32::from(ado)

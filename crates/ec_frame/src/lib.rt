@@ -15,10 +15,10 @@ mod walk;
 pub use crate::builder::{Builder, Frame, Full, Sent, write_pair};
 pub use crate::checking::check;
 pub use crate::command::Command;
-pub use crate::cursor::{Places, Span};
+pub use crate::cursor::{DatagramCursor, DatagramSpan};
 pub use crate::datagram::{
-    Header, cut_counter, cut_heading, physical, read_counter, read_data, write_address, write_adp,
-    write_counter,
+    Header, address_of, cut_counter, cut_heading, read_counter, read_data, write_address,
+    write_adp, write_counter,
 };
 pub use crate::error::FrameError;
 pub use crate::walk::{Handler, pass};

@@ -8,9 +8,9 @@ ghost use Rattle.ec_frame.specs.Kept.{IsDatagram-with_adp, IsDatagram-with_count
 ghost use Rattle.ec_frame.specs.Kept.{IsDatagram-with_data};
 
 use ec_frame::{
-    Builder, Command, Frame, FrameError, Full, Handler, Header, Places, Sent, check, cut_counter,
-    cut_heading, pass, read_counter, read_data, write_address, write_adp, write_counter,
-    write_pair,
+    Builder, Command, DatagramCursor, Frame, FrameError, Full, Handler, Header, Sent, check,
+    cut_counter, cut_heading, pass, read_counter, read_data, write_address, write_adp,
+    write_counter, write_pair,
 };
 use std::process::Abort;
 use std::test::Fail;
@@ -240,7 +240,7 @@ fn pass_hands_each_datagram_over(rt: HostRuntime) -> Result<(), Fail> {
 fn fields_are_read_and_written(rt: HostRuntime) -> Result<(), Fail> {
     let mut frame = bytes_of(&rt, CYCLE)?;
     check(&frame)?;
-    let mut places = Places::new(&frame);
+    let mut places = DatagramCursor::new(&frame);
     let first = places.next(&frame).ok_or("no datagram")?;
     let part = &mut frame[first.from..first.to];
     let header = Header::read(part);

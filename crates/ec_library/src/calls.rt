@@ -5,7 +5,7 @@ ghost use Rattle.ec_library.specs.Calling.{AreShown, AsksNext, Begins, Closes, F
 
 use crate::done::{Done, counted, refused};
 use ec_cycle::Report;
-use ec_owned::Machine;
+use ec_owned::MachineMaster;
 
 /// Shows bytes in a room, if it has place for them, and tells how many they are.
 fn show(bytes: &[u8], room: &mut [u8]) -> Done
@@ -20,7 +20,7 @@ fn show(bytes: &[u8], room: &mut [u8]) -> Done
 }
 
 /// The next frame of the start-up.
-pub fn next(machine: &mut Machine, room: &mut [u8]) -> Done
+pub fn next(machine: &mut MachineMaster, room: &mut [u8]) -> Done
     ensures { AsksNext machine.old room.old result room.new machine.new }
 {
     let count = machine.next(room);
@@ -28,7 +28,7 @@ pub fn next(machine: &mut Machine, room: &mut [u8]) -> Done
 }
 
 /// Takes a payload.
-pub fn take(machine: &mut Machine, payload: &[u8]) -> Done
+pub fn take(machine: &mut MachineMaster, payload: &[u8]) -> Done
     ensures { Takes machine.old payload.now result machine.new }
 {
     let is_kept = machine.take(payload);
@@ -36,7 +36,7 @@ pub fn take(machine: &mut Machine, payload: &[u8]) -> Done
 }
 
 /// Where the start-up stands.
-pub fn phase(machine: &Machine) -> Done
+pub fn phase(machine: &MachineMaster) -> Done
     ensures { TellsPhase machine.now result machine.now }
 {
     match machine.outcome() {
@@ -47,14 +47,14 @@ pub fn phase(machine: &Machine) -> Done
 }
 
 /// An answer of the start-up is awaited no longer.
-pub fn give_up(machine: &mut Machine)
+pub fn give_up(machine: &mut MachineMaster)
     ensures { GivesUp machine.old machine.new }
 {
     machine.give_up();
 }
 
 /// Begins a cycle.
-pub fn begin(machine: &mut Machine) -> Done
+pub fn begin(machine: &mut MachineMaster) -> Done
     ensures { Begins machine.old result machine.new }
 {
     match machine.begin() {
@@ -64,7 +64,7 @@ pub fn begin(machine: &mut Machine) -> Done
 }
 
 /// Shows the frame of a part of the open cycle.
-pub fn show_part(machine: &Machine, part: usize, room: &mut [u8]) -> Done
+pub fn show_part(machine: &MachineMaster, part: usize, room: &mut [u8]) -> Done
     ensures { ShowsPart machine.now part room.old result room.new machine.now }
 {
     match machine.part(part) {
@@ -86,7 +86,7 @@ fn tell_report(report: &Report) -> Done
 }
 
 /// What the last report says, if there was one.
-fn tell_last(machine: &Machine) -> Done
+fn tell_last(machine: &MachineMaster) -> Done
     ensures { (r : ReportState) → machine.now.report ≡ Some r → result ≡ report_told r }
 {
     match machine.report() {
@@ -96,7 +96,7 @@ fn tell_last(machine: &Machine) -> Done
 }
 
 /// Closes the cycle.
-pub fn close(machine: &mut Machine) -> Done
+pub fn close(machine: &mut MachineMaster) -> Done
     ensures { Closes machine.old result machine.new }
 {
     match machine.close() {
@@ -106,7 +106,7 @@ pub fn close(machine: &mut Machine) -> Done
 }
 
 /// Whether a sync unit was taken in the last report.
-pub fn tell_unit(machine: &Machine, unit: u8) -> Done
+pub fn tell_unit(machine: &MachineMaster, unit: u8) -> Done
     ensures { TellsUnit machine.now unit result machine.now }
 {
     match machine.unit(unit) {
@@ -116,14 +116,14 @@ pub fn tell_unit(machine: &Machine, unit: u8) -> Done
 }
 
 /// Sets a variable of the outputs.
-pub fn set(machine: &mut Machine, variable: usize, value: u64) -> Done
+pub fn set(machine: &mut MachineMaster, variable: usize, value: u64) -> Done
     ensures { Sets machine.old variable value result machine.new }
 {
     counted(machine.set(variable, value), 0)
 }
 
 /// What a variable is.
-pub fn get(machine: &Machine, variable: usize) -> Done
+pub fn get(machine: &MachineMaster, variable: usize) -> Done
     ensures { Gets machine.now variable result machine.now }
 {
     match machine.get(variable) {
@@ -138,7 +138,7 @@ pub fn get(machine: &Machine, variable: usize) -> Done
 }
 
 /// Sets the image of all outputs.
-pub fn set_outputs(machine: &mut Machine, outputs: &[u8]) -> Done
+pub fn set_outputs(machine: &mut MachineMaster, outputs: &[u8]) -> Done
     ensures { SetsOutputs machine.old outputs.now result machine.new }
 {
     let count = machine.set_outputs(outputs);
@@ -146,14 +146,14 @@ pub fn set_outputs(machine: &mut Machine, outputs: &[u8]) -> Done
 }
 
 /// Shows the image of all inputs.
-pub fn show_inputs(machine: &Machine, room: &mut [u8]) -> Done
+pub fn show_inputs(machine: &MachineMaster, room: &mut [u8]) -> Done
     ensures { ShowsInputs machine.now room.old result room.new machine.now }
 {
     show(machine.inputs(), room)
 }
 
 /// The number of the variable with a name.
-pub fn find(machine: &Machine, name: &[u8]) -> Done
+pub fn find(machine: &MachineMaster, name: &[u8]) -> Done
     ensures { Finds machine.now name.now result machine.now }
 {
     let Ok(name) = str::from_utf8(name) else {

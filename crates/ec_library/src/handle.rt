@@ -5,7 +5,7 @@ ghost use Rattle.ec_slave.specs.State.{SlaveState};
 ghost use Rattle.ec_library.specs.Owning.{owns_machine, owns_slaves};
 
 use ec_kept::Kept;
-use ec_owned::Machine;
+use ec_owned::MachineMaster;
 use ec_ring::Ring;
 use std::marker::Model;
 
@@ -41,7 +41,7 @@ impl Model for SegmentHandle {
 }
 
 /// The handle of a machine.
-pub fn conceal_master(kept: Kept<Machine>) -> MasterHandle
+pub fn conceal_master(kept: Kept<MachineMaster>) -> MasterHandle
     ensures { result.machine ≡ Some kept.value }
 {
     let Kept { at } = kept;
@@ -51,13 +51,13 @@ pub fn conceal_master(kept: Kept<Machine>) -> MasterHandle
 }
 
 /// The machine of a handle.
-pub fn reveal_master(handle: MasterHandle) -> Kept<Machine>
+pub fn reveal_master(handle: MasterHandle) -> Kept<MachineMaster>
     requires { is_some handle.machine ≡ true }
     ensures { Some result.value ≡ handle.machine }
 {
     let MasterHandle { at } = handle;
     Kept {
-        at: at as *mut Machine,
+        at: at as *mut MachineMaster,
     }
 }
 

@@ -24,7 +24,7 @@ use crate::done::Done;
 use crate::handle::{
     MasterHandle, SegmentHandle, conceal_master, conceal_segment, reveal_master, reveal_segment,
 };
-use crate::opening::{Refused, boxed_machine, boxed_slaves, opened, tell_refusal};
+use crate::opening::{NotOpened, boxed_machine, boxed_slaves, opened, tell_refusal};
 use ec_kept::Kept;
 use std::alloc::Global;
 
@@ -35,7 +35,7 @@ pub extern "C" fn ecat_c_open(
     alloc: Global,
     table: &[u8],
     name: &mut [u8],
-    told: &mut Refused,
+    told: &mut NotOpened,
     out: &mut MasterHandle,
 )
     ensures { HasOpened (IsOpened table.now) table.now told.new out.new.machine out.old out.new }
@@ -292,7 +292,7 @@ pub extern "C" fn ecat_c_segment_open(
     table: &[u8],
     full: bool,
     name: &mut [u8],
-    told: &mut Refused,
+    told: &mut NotOpened,
     out: &mut SegmentHandle,
 )
     ensures { HasOpened (AreOpened full table.now) table.now told.new out.new.slaves out.old out.new }

@@ -3,7 +3,7 @@ ghost use Rattle.std.specs.Prelude.{◌≡◌, ◌≤◌, length, take, IfOk, If
 ghost use Rattle.ec_owned.specs.Opening.{AreOpened, IsOpenFault, IsOpened, listed};
 ghost use Rattle.ec_library.specs.Refusing.{TellsRefusal, no_refusal, with_values};
 
-use ec_owned::{Machine, OpenError, Values, open_machine, open_slaves};
+use ec_owned::{MachineMaster, OpenError, Values, open_machine, open_slaves};
 use ec_ring::Ring;
 use std::alloc::Global;
 
@@ -11,7 +11,7 @@ use std::alloc::Global;
 /// values there are, and these.
 #[repr(C)]
 #[derive(Clone, Copy, Drop)]
-pub struct Refused {
+pub struct NotOpened {
     pub is_open: bool,
     pub number: u8,
     pub name: usize,
@@ -21,10 +21,10 @@ pub struct Refused {
 }
 
 /// It is open.
-pub fn opened() -> Refused
+pub fn opened() -> NotOpened
     ensures { result ≡ no_refusal }
 {
-    Refused {
+    NotOpened {
         is_open: true,
         number: 0,
         name: 0,
@@ -57,11 +57,11 @@ fn write_name(name: &str, room: &mut [u8]) -> usize
 }
 
 /// Tells a refusal, and writes its name.
-pub fn tell_refusal(error: OpenError, room: &mut [u8]) -> Refused
+pub fn tell_refusal(error: OpenError, room: &mut [u8]) -> NotOpened
     ensures { TellsRefusal error result }
 {
     let (count, first, second) = spread(error.values());
-    Refused {
+    NotOpened {
         is_open: false,
         number: error.number(),
         name: write_name(error.name(), room),
@@ -72,7 +72,7 @@ pub fn tell_refusal(error: OpenError, room: &mut [u8]) -> Refused
 }
 
 /// The box of the machine of the table that bytes state.
-pub fn boxed_machine(alloc: Global, table: &[u8]) -> Result<Box<Machine>, OpenError>
+pub fn boxed_machine(alloc: Global, table: &[u8]) -> Result<Box<MachineMaster>, OpenError>
     ensures opened { IfOk result (λ boxed. IsOpened table.now boxed.value) }
     ensures refused { IfErr result (IsOpenFault table.now) }
 {

@@ -7,8 +7,8 @@ use Rattle.std.specs.Str.Lines.{strip_carriage_return}
 use Rattle.std.proofs.lemmas.Bool.Decides.{nat_tests}
 use Rattle.std.proofs.lemmas.Str.{IsUtf8-from_is_utf8, is_utf8-from_IsUtf8}
 use Rattle.std.proofs.lemmas.Bool.{cases_lt}
-use Rattle.ec_lines.specs.declared.lines.Taken.{Taken}
-use Rattle.ec_lines.specs.declared.lines.Taken.TheVariants as taken
+use Rattle.ec_lines.specs.declared.lines.NextLine.{NextLine}
+use Rattle.ec_lines.specs.declared.lines.NextLine.TheVariants as taken
 use Rattle.ec_lines.specs.declared.error.LinesError.{LinesError}
 use Rattle.ec_lines.specs.declared.error.LinesError.TheVariants.{Memory, Unread, TooLong, NoText}
 use Rattle.ec_lines.specs.Kept.{IsAddFault, RefusesLines, TakesKept, is_last}
@@ -70,10 +70,10 @@ too_long : (line : List ℕ) → 2 ^ 20 + 3 ≤ length line → is_text_line lin
 too_long line beyond = long_is (without_end line) (omega (arith, end_length line))
 
 -- so what is kept is taken as what all of it is
-kept_whole : (most : ℕ) (kept line : List ℕ) (taken : Taken) → kept ≡ take most line → length kept < most → IsTaken kept taken → IsTaken line taken
+kept_whole : (most : ℕ) (kept line : List ℕ) (taken : NextLine) → kept ≡ take most line → length kept < most → IsTaken kept taken → IsTaken line taken
 kept_whole most kept line taken is short h = subst (λ (l : List ℕ). IsTaken l taken) (is ∙ short_whole most line (subst (λ (l : List ℕ). length l < most) is short)) h
 
-kept_long : (kept line : List ℕ) (taken : Taken) → 2 ^ 20 + 3 ≤ length kept → 2 ^ 20 + 3 ≤ length line → IsTaken kept taken → IsTaken line taken
+kept_long : (kept line : List ℕ) (taken : NextLine) → 2 ^ 20 + 3 ≤ length kept → 2 ^ 20 + 3 ≤ length line → IsTaken kept taken → IsTaken line taken
 kept_long kept line taken.End long_kept long h = absurd (let none : length kept ≡ 0 = ap length h in omega (arith, none))
 kept_long kept line (taken.Text text) long_kept long (some, is, same) = let e : true ≡ false = sym is ∙ too_long kept long_kept in cc
 kept_long kept line taken.NoText long_kept long (some, is) = (omega arith, too_long line long)
@@ -81,13 +81,13 @@ kept_long kept line taken.NoText long_kept long (some, is) = (omega arith, too_l
 kept_beyond : (most : ℕ) (kept line : List ℕ) → kept ≡ take most line → most ≤ length kept → most ≤ length line
 kept_beyond most kept line is beyond = omega (arith, take_length most line, ap length is)
 
-pub taken_of_kept : (kept line : List ℕ) (taken : Taken) → kept ≡ take 1048579 line → IsTaken kept taken → IsTaken line taken
+pub taken_of_kept : (kept line : List ℕ) (taken : NextLine) → kept ≡ take 1048579 line → IsTaken kept taken → IsTaken line taken
 taken_of_kept kept line taken is h = elim (cases_lt (length kept) 1048579) [
   | inl short ↦ kept_whole 1048579 kept line taken is short h
   | inr beyond ↦ kept_long kept line taken beyond (kept_beyond 1048579 kept line is beyond) h
 ]
 
-pub taken_line : (old new : Option (List ℕ)) (kept : List ℕ) (taken : Taken) → TakesKept old new 1048579 kept → IsTaken kept taken
+pub taken_line : (old new : Option (List ℕ)) (kept : List ℕ) (taken : NextLine) → TakesKept old new 1048579 kept → IsTaken kept taken
     → (line : List ℕ) × TakesLine old new line × IsTaken line taken
 taken_line old new kept taken (line, takes, is) h = (line, takes, taken_of_kept kept line taken is h)
 

@@ -5,8 +5,8 @@ use Rattle.std.specs.Str.{IsUtf8, bytes_eq, is_utf8}
 use Rattle.std.specs.Str.Lines.{strip_carriage_return}
 use Rattle.ec_lines.specs.declared.error.LinesError.{LinesError}
 use Rattle.ec_lines.specs.declared.error.LinesError.TheVariants.{Memory, Unread, TooLong, NoText}
-use Rattle.ec_lines.specs.declared.lines.Taken.{Taken}
-use Rattle.ec_lines.specs.declared.lines.Taken.TheVariants as taken
+use Rattle.ec_lines.specs.declared.lines.NextLine.{NextLine}
+use Rattle.ec_lines.specs.declared.lines.NextLine.TheVariants as taken
 
 -- ---- lines
 
@@ -29,7 +29,7 @@ abbrev pub is_text_line : List ℕ → Bool
 is_text_line line = is_text (without_end line)
 
 -- as what a line is taken; where it is nothing, the input has ended
-abbrev pub IsTaken : List ℕ → Taken → Type 0
+abbrev pub IsTaken : List ℕ → NextLine → Type 0
 IsTaken line taken.End = line ≡ []
 IsTaken line (taken.Text text) = (0 < length line) × (is_text_line line ≡ true) × (string_bytes text ≡ without_end line)
 IsTaken line taken.NoText = (0 < length line) × (is_text_line line ≡ false)

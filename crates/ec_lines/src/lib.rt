@@ -5,4 +5,4 @@ mod error;
 mod lines;
 
 pub use crate::error::LinesError;
-pub use crate::lines::{MAX_BYTES, Taken, take_line, take_text};
+pub use crate::lines::{MAX_BYTES, NextLine, take_line, take_text};

@@ -16,7 +16,7 @@ const MAX_KEPT: usize = MAX_BYTES + 3;
 
 /// What is taken of an input as its next line.
 #[derive(Debug, PartialEq, Eq, Drop)]
-pub enum Taken {
+pub enum NextLine {
     /// The input has ended.
     End,
     /// A line of text, without its end.
@@ -72,19 +72,19 @@ fn without_end(line: &[u8]) -> &[u8]
 }
 
 /// What bytes are as a line, with its end.
-fn taken_of(alloc: Global, line: &[u8]) -> Result<Taken, AllocError>
+fn taken_of(alloc: Global, line: &[u8]) -> Result<NextLine, AllocError>
     ensures { IfOk result (IsTaken line.now) }
 {
     if line.is_empty() {
-        return Ok(Taken::End);
+        return Ok(NextLine::End);
     }
     let line = without_end(line);
     if line.len() > MAX_BYTES {
-        return Ok(Taken::NoText);
+        return Ok(NextLine::NoText);
     }
     match str::from_utf8(line) {
-        Ok(text) => Ok(Taken::Text(String::from_str(alloc, text)?)),
-        Err(_) => Ok(Taken::NoText),
+        Ok(text) => Ok(NextLine::Text(String::from_str(alloc, text)?)),
+        Err(_) => Ok(NextLine::NoText),
     }
 }
 
@@ -94,7 +94,7 @@ fn taken_of(alloc: Global, line: &[u8]) -> Result<Taken, AllocError>
 /// # Errors
 ///
 /// `LinesError::Unread` where a read is refused, and `Memory`; some bytes of the line may be taken by then.
-pub fn take_line<R: Read>(alloc: Global, input: &mut R) -> Result<Taken, LinesError>
+pub fn take_line<R: Read>(alloc: Global, input: &mut R) -> Result<NextLine, LinesError>
     ensures taken { IfOk result (λ taken. (line : List ℕ)
         × TakesLine (R.remaining input.old) (R.remaining input.new) line × IsTaken line taken) }
     ensures refused { IfErr result IsReadFault }

@@ -1,5 +1,5 @@
 //! What is taken of an input, and what is left of it.
-use ec_lines::{LinesError, MAX_BYTES, Taken, take_line, take_text};
+use ec_lines::{LinesError, MAX_BYTES, NextLine, take_line, take_text};
 use std::io;
 use std::io::{ErrorKind, Read};
 use std::process::Abort;
@@ -12,13 +12,13 @@ type Expected<'a> = Option<&'a str>;
 fn expect_lines<H: AllocGlobal + Abort, R: Read>(rt: &H, input: &mut R, lines: &[Expected<'_>]) {
     for line in lines {
         match (take_line(rt.alloc(), input), *line) {
-            (Ok(Taken::Text(text)), Some(expected)) => assert_eq!(rt; text.as_str(), expected),
-            (Ok(Taken::NoText), None) => {}
-            (taken, _) => assert_eq!(rt; taken, Ok(Taken::End)),
+            (Ok(NextLine::Text(text)), Some(expected)) => assert_eq!(rt; text.as_str(), expected),
+            (Ok(NextLine::NoText), None) => {}
+            (taken, _) => assert_eq!(rt; taken, Ok(NextLine::End)),
         }
     }
-    assert_eq!(rt; take_line(rt.alloc(), input), Ok(Taken::End));
-    assert_eq!(rt; take_line(rt.alloc(), input), Ok(Taken::End));
+    assert_eq!(rt; take_line(rt.alloc(), input), Ok(NextLine::End));
+    assert_eq!(rt; take_line(rt.alloc(), input), Ok(NextLine::End));
 }
 
 /// Lines end in a newline, with a carriage return before it or not; the last one needs no end, and one that is empty is a line.
@@ -103,7 +103,7 @@ fn reads_again(rt: HostRuntime) {
     let text = take_text(rt.alloc(), &mut input);
     assert!(rt; matches!(&text, Ok(text) if text.as_str() == "a\n"));
     assert!(rt;
-        matches!(take_line(rt.alloc(), &mut input), Ok(Taken::Text(text)) if text.as_str() == "b")
+        matches!(take_line(rt.alloc(), &mut input), Ok(NextLine::Text(text)) if text.as_str() == "b")
     );
     assert_eq!(rt; take_line(rt.alloc(), &mut input), Err(LinesError::Unread));
     assert_eq!(rt; take_line(rt.alloc(), &mut input), Err(LinesError::Unread));

@@ -7,19 +7,19 @@ use Rattle.std.specs.Ordering.{nat_cmp}
 use Rattle.std.proofs.lemmas.Bool.{cases_Bool, cases_eq}
 use Rattle.std.proofs.lemmas.Bool.Decides.{nat_tests}
 use Rattle.std.proofs.lemmas.List.Sums.{sum_by-cons}
-use Rattle.ec_regs.specs.declared.slave_type.Entry.{Entry}
-use Rattle.ec_regs.specs.Objects.{bits_of}
-use Rattle.ec_link.specs.declared.entries.Run.{Run}
+use Rattle.ec_device.specs.declared.slave_type.Entry.{Entry}
+use Rattle.ec_device.specs.Objects.{bits_of}
+use Rattle.ec_link.specs.declared.entries.EntryRun.{EntryRun}
 use Rattle.ec_link.specs.Entries.{is_named, behind, entry_run, names_twice}
 use Rattle.ec_link.specs.Objects.{entry_key, HasRuns}
 use Rattle.ec_link.specs.Faults.{◌orelse◌}
 use Rattle.ec_link.proofs.Basics.{or_false}
 
 -- the bits of an entry behind others, if it has the name
-abbrev last_run : List Entry → Entry → ℕ → ℕ → Option Run
+abbrev last_run : List Entry → Entry → ℕ → ℕ → Option EntryRun
 last_run es e index subindex = cond (is_named index subindex e) (Some (record { from = bits_of es; bits = e.bits })) None
 
-behind_orelse : (n : ℕ) (o p : Option Run) → option_map (behind n) (o orelse p) ≡ option_map (behind n) o orelse option_map (behind n) p
+behind_orelse : (n : ℕ) (o p : Option EntryRun) → option_map (behind n) (o orelse p) ≡ option_map (behind n) o orelse option_map (behind n) p
 behind_orelse n None p = refl
 behind_orelse n (Some r) p = refl
 
@@ -37,7 +37,7 @@ run_more (x ∷ xs) e index subindex = elim (cases_Bool (is_named index subindex
 ]
 
 -- an entry is found where one has the name
-some_behind : (n : ℕ) (o : Option Run) → is_some (option_map (behind n) o) ≡ is_some o
+some_behind : (n : ℕ) (o : Option EntryRun) → is_some (option_map (behind n) o) ≡ is_some o
 some_behind n None = refl
 some_behind n (Some r) = refl
 
@@ -104,7 +104,7 @@ twice_more (x ∷ xs) e =
 apart : (k q : ℕ) → k ≢ q → is_at (nat_cmp k) q ≡ false
 apart k q ne = grind (arith, nat_tests, ne)
 
-pub no_runs : (m : BTreeMap ℕ Run) → IsEmpty m → HasRuns m []
+pub no_runs : (m : BTreeMap ℕ EntryRun) → IsEmpty m → HasRuns m []
 no_runs m e = record { each = λ index subindex low. rw e refl }
 
 same_key : (index subindex j k : ℕ) → subindex ≤ 255 → k ≤ 255 → entry_key j k ≡ entry_key index subindex → (j ≡ index) × (k ≡ subindex)
@@ -122,16 +122,16 @@ not_named e index subindex low small ne = elim (cases_eq e.index index) [
 is_named_itself : (e : Entry) → is_named e.index e.subindex e ≡ true
 is_named_itself e = let p : eqb e.index e.index ≡ true = grind (arith, nat_tests) in let q : eqb e.subindex e.subindex ≡ true = grind (arith, nat_tests) in rw (p, q) refl
 
-orelse_some : (o p : Option Run) → is_some o ≡ true → o orelse p ≡ o
+orelse_some : (o p : Option EntryRun) → is_some o ≡ true → o orelse p ≡ o
 orelse_some (Some r) p h = refl
 orelse_some None p h = cc
 
-orelse_none : (o : Option Run) → o orelse None ≡ o
+orelse_none : (o : Option EntryRun) → o orelse None ≡ o
 orelse_none (Some r) = refl
 orelse_none None = refl
 
 -- an entry whose name is known changes nothing
-pub runs_stay : (m : BTreeMap ℕ Run) (es : List Entry) (e : Entry) → HasRuns m es → e.subindex ≤ 255 → is_some (get nat_cmp m (entry_key e.index e.subindex)) ≡ true → HasRuns m (es ++ e ∷ [])
+pub runs_stay : (m : BTreeMap ℕ EntryRun) (es : List Entry) (e : Entry) → HasRuns m es → e.subindex ≤ 255 → is_some (get nat_cmp m (entry_key e.index e.subindex)) ≡ true → HasRuns m (es ++ e ∷ [])
 runs_stay m es e h small some = record {
   each = λ index subindex low. h.each index subindex low ∙ sym (run_more es e index subindex ∙ elim (cases_eq (entry_key e.index e.subindex) (entry_key index subindex)) [
     | inr ne ↦ rw (not_named e index subindex low small ne) (orelse_none (entry_run es index subindex))
@@ -140,7 +140,7 @@ runs_stay m es e h small some = record {
 }
 
 -- an entry whose name is known takes the place of the first one, and gives it back
-pub runs_kept : (m a b : BTreeMap ℕ Run) (es : List Entry) (e : Entry) (r f : Run) → HasRuns m es → e.subindex ≤ 255 → get nat_cmp m (entry_key e.index e.subindex) ≡ Some f
+pub runs_kept : (m a b : BTreeMap ℕ EntryRun) (es : List Entry) (e : Entry) (r f : EntryRun) → HasRuns m es → e.subindex ≤ 255 → get nat_cmp m (entry_key e.index e.subindex) ≡ Some f
     → Updates nat_cmp m a (entry_key e.index e.subindex) (Some r) → Updates nat_cmp a b (entry_key e.index e.subindex) (Some f) → HasRuns b (es ++ e ∷ [])
 runs_kept m a b es e r f h small is u v = record {
   each = λ index subindex low.
@@ -153,12 +153,12 @@ runs_kept m a b es e r f h small is u v = record {
       same ∙ (runs_stay m es e h small (ap is_some is)).each index subindex low;
 }
 
-none_of : (o : Option Run) → is_some o ≡ false → o ≡ None
+none_of : (o : Option EntryRun) → is_some o ≡ false → o ≡ None
 none_of None h = refl
 none_of (Some r) h = cc
 
 -- an entry with a new name has its bits behind the others
-pub runs_grow : (m n : BTreeMap ℕ Run) (es : List Entry) (e : Entry) (r : Run) → HasRuns m es → e.subindex ≤ 255 → is_some (get nat_cmp m (entry_key e.index e.subindex)) ≡ false
+pub runs_grow : (m n : BTreeMap ℕ EntryRun) (es : List Entry) (e : Entry) (r : EntryRun) → HasRuns m es → e.subindex ≤ 255 → is_some (get nat_cmp m (entry_key e.index e.subindex)) ≡ false
     → r ≡ record { from = bits_of es; bits = e.bits } → Updates nat_cmp m n (entry_key e.index e.subindex) (Some r) → HasRuns n (es ++ e ∷ [])
 runs_grow m n es e r h small new is u = record {
   each = λ index subindex low. elim (cases_eq (entry_key e.index e.subindex) (entry_key index subindex)) [
@@ -175,7 +175,7 @@ runs_grow m n es e r h small new is u = record {
 
 -- ---- the test
 
-any_is : (m : BTreeMap ℕ Run) (es : List Entry) (e : Entry) → HasRuns m es → e.subindex ≤ 255 → list_any (is_named e.index e.subindex) es ≡ is_some (get nat_cmp m (entry_key e.index e.subindex))
+any_is : (m : BTreeMap ℕ EntryRun) (es : List Entry) (e : Entry) → HasRuns m es → e.subindex ≤ 255 → list_any (is_named e.index e.subindex) es ≡ is_some (get nat_cmp m (entry_key e.index e.subindex))
 any_is m es e h small = sym (run_any es e.index e.subindex) ∙ ap is_some (sym (h.each e.index e.subindex small))
 
 and_true : (a : Bool) → (a && true) ≡ a
@@ -186,10 +186,10 @@ and_false : (a : Bool) → (a && false) ≡ false
 and_false true = refl
 and_false false = refl
 
-pub twice_known : (m : BTreeMap ℕ Run) (es : List Entry) (e : Entry) (before : Bool) → HasRuns m es → e.subindex ≤ 255 → is_some (get nat_cmp m (entry_key e.index e.subindex)) ≡ true → before ≡ names_twice es
+pub twice_known : (m : BTreeMap ℕ EntryRun) (es : List Entry) (e : Entry) (before : Bool) → HasRuns m es → e.subindex ≤ 255 → is_some (get nat_cmp m (entry_key e.index e.subindex)) ≡ true → before ≡ names_twice es
     → (before || not (eqb e.index 0)) ≡ names_twice (es ++ e ∷ [])
 twice_known m es e before h small some is = ap (λ (b : Bool). b || not (eqb e.index 0)) is ∙ sym (twice_more es e ∙ rw (any_is m es e h small ∙ some, and_true (not (eqb e.index 0))) refl)
 
-pub twice_new : (m : BTreeMap ℕ Run) (es : List Entry) (e : Entry) (before : Bool) → HasRuns m es → e.subindex ≤ 255 → is_some (get nat_cmp m (entry_key e.index e.subindex)) ≡ false → before ≡ names_twice es
+pub twice_new : (m : BTreeMap ℕ EntryRun) (es : List Entry) (e : Entry) (before : Bool) → HasRuns m es → e.subindex ≤ 255 → is_some (get nat_cmp m (entry_key e.index e.subindex)) ≡ false → before ≡ names_twice es
     → before ≡ names_twice (es ++ e ∷ [])
 twice_new m es e before h small none is = is ∙ sym (twice_more es e ∙ rw (any_is m es e h small ∙ none, and_false (not (eqb e.index 0))) (or_false (names_twice es)))

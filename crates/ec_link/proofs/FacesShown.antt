@@ -1,7 +1,7 @@
 -- A table shown in full has the table's faults, and its plan with faces.
 use Rattle.std.proofs.Common.{◌≡◌, ℕ, ◌+◌, List, [], ◌∷◌, Option, Some, None, option_map, unwrap_or, refl, ap, ◌∙◌}
-use Rattle.ec_regs.specs.Types.{SlaveKind, plain_kind}
-use Rattle.ec_regs.specs.Objects.{bits_of}
+use Rattle.ec_device.specs.Types.{SlaveKind, plain_kind}
+use Rattle.ec_device.specs.Objects.{bits_of}
 use Rattle.ec_table.specs.declared.rows.Direction.TheVariants.{Out, In}
 use Rattle.ec_table.specs.declared.rows.SlaveRow.{SlaveRow}
 use Rattle.ec_table.specs.declared.rows.TypeRow.{TypeRow}
@@ -9,17 +9,17 @@ use Rattle.ec_table.specs.Contents.{Contents, shown_full}
 use Rattle.ec_table.specs.Objects.{type_of, face_of, kind_at, entries_of}
 use Rattle.ec_link.specs.declared.layout.Seat.{Seat}
 use Rattle.ec_link.specs.declared.plan.PartPlan.{PartPlan}
-use Rattle.ec_link.specs.declared.settings.Settings.{Settings}
+use Rattle.ec_link.specs.declared.settings.SlavePlan.{SlavePlan}
 use Rattle.ec_link.specs.Layout.{seat_at, layout}
-use Rattle.ec_link.specs.Settings.{managers_of, fmmus_of}
+use Rattle.ec_link.specs.SlavePlan.{managers_of, fmmus_of}
 use Rattle.ec_link.specs.Sizes.{each_from, table_sizes}
-use Rattle.ec_link.specs.Wires.{run_of, wire_of}
+use Rattle.ec_link.specs.LinkRuns.{run_of, link_run_of}
 use Rattle.ec_link.specs.Faults.{managers_at, link_fault, slave_fault, part_fault, memory_fault, variable_fault, compile_fault}
 use Rattle.ec_link.specs.Plan.{logical_from, settings_at, part_plans, plan_of}
 use Rattle.ec_link.specs.ShownFull.{with_face, with_faces, ShownFullGivesFaces}
 
 same_fault : (t : Contents) → compile_fault (shown_full t) ≡ compile_fault t
-unfolding entries_of run_of wire_of managers_at link_fault slave_fault part_fault memory_fault variable_fault compile_fault
+unfolding entries_of run_of link_run_of managers_at link_fault slave_fault part_fault memory_fault variable_fault compile_fault
 same_fault t = refl
 
 -- the kind of a slave of that type, or of none
@@ -27,7 +27,7 @@ abbrev kind_from : Contents → ℕ → Option TypeRow → SlaveKind
 kind_from t s o = unwrap_or (option_map (kind_at t s) o) plain_kind
 
 -- the settings of a slave of that kind, with so many bits
-abbrev made : List PartPlan → List Seat → ℕ → SlaveRow → (outs ins : ℕ) → SlaveKind → Settings
+abbrev made : List PartPlan → List Seat → ℕ → SlaveRow → (outs ins : ℕ) → SlaveKind → SlavePlan
 made ps qs s r outs ins kind = record {
   kind = kind;
   outputs = r.outputs;
@@ -50,12 +50,12 @@ slave_faced t ps qs s r = made_faced t ps qs s r (bits_of (entries_of t s Out)) 
 slaves_faced : (t : Contents) (ps : List PartPlan) (qs : List Seat) (n : ℕ) (rs : List SlaveRow) → each_from (settings_at (shown_full t) ps qs) n rs ≡ each_from (with_face t) n (each_from (settings_at t ps qs) n rs)
 slaves_faced t ps qs n [] = refl
 slaves_faced t ps qs n (r ∷ rs) =
-    ap (λ (x : Settings). x ∷ each_from (settings_at (shown_full t) ps qs) (n + 1) rs) (slave_faced t ps qs n r)
-    ∙ ap (λ (xs : List Settings). with_face t n (settings_at t ps qs n r) ∷ xs) (slaves_faced t ps qs (n + 1) rs)
+    ap (λ (x : SlavePlan). x ∷ each_from (settings_at (shown_full t) ps qs) (n + 1) rs) (slave_faced t ps qs n r)
+    ∙ ap (λ (xs : List SlavePlan). with_face t n (settings_at t ps qs n r) ∷ xs) (slaves_faced t ps qs (n + 1) rs)
 
 plan_faced : (t : Contents) → plan_of (shown_full t) ≡ with_faces t (plan_of t)
-unfolding entries_of run_of wire_of plan_of
-plan_faced t = ap (λ (xs : List Settings). record (plan_of t) { slaves = xs }) (slaves_faced t (part_plans t) (layout (table_sizes t)).seats 0 t.slaves)
+unfolding entries_of run_of link_run_of plan_of
+plan_faced t = ap (λ (xs : List SlavePlan). record (plan_of t) { slaves = xs }) (slaves_faced t (part_plans t) (layout (table_sizes t)).seats 0 t.slaves)
 
 pub faces : ShownFullGivesFaces
 faces = record { fault = same_fault; plan = plan_faced }

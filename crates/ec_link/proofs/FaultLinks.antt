@@ -4,18 +4,18 @@ use Rattle.std.proofs.lemmas.Option.{slice_get-map, slice_get_within, get_or_fro
 use Rattle.std.proofs.lemmas.Map.Keys.{any_passes_from_place}
 use Rattle.std.proofs.lemmas.Bool.{cases_Bool, cases_eq, false≢true, eqb-true, eq-eqb, ltb-true, lt-ltb, and_parts, and_from, or_cases, or_left, or_right}
 use Rattle.ec_bits.proofs.AnyLaws.{within_true, within_parts}
-use Rattle.ec_regs.specs.declared.slave_type.Entry.{Entry}
+use Rattle.ec_device.specs.declared.slave_type.Entry.{Entry}
 use Rattle.ec_table.specs.declared.rows.Direction.{Direction}
 use Rattle.ec_table.specs.declared.rows.Direction.TheVariants.{Out, In}
 use Rattle.ec_table.specs.declared.rows.LinkRow.{LinkRow}
 use Rattle.ec_table.specs.Contents.{Contents}
 use Rattle.ec_table.specs.Objects.{entries_of}
 use Rattle.ec_table.specs.Sound as table
-use Rattle.ec_link.specs.declared.entries.Run.{Run}
-use Rattle.ec_link.specs.declared.wires.Wire.{Wire}
+use Rattle.ec_link.specs.declared.entries.EntryRun.{EntryRun}
+use Rattle.ec_link.specs.declared.link_runs.LinkRun.{LinkRun}
 use Rattle.ec_link.specs.declared.fault.LinkFault.TheVariants.{NoEntry, OutsideEntry}
 use Rattle.ec_link.specs.Entries.{entry_run}
-use Rattle.ec_link.specs.Wires.{is_out, other, direction_of, variable_bits, run_toward, run_of, run_from, run_bits, wire_of, table_wires, runs_meet, give_one_bit, linked_twice}
+use Rattle.ec_link.specs.LinkRuns.{is_out, other, direction_of, variable_bits, run_toward, run_of, run_from, run_bits, link_run_of, table_link_runs, runs_meet, give_one_bit, linked_twice}
 use Rattle.ec_link.specs.Faults.{wrong_direction, no_entry, outside_entry}
 use Rattle.ec_link.specs.FaultLaw.{HasEntry, IsOutsideEntry, GiveOneOutput, GiveOneInput}
 use Rattle.ec_link.proofs.FaultSteps.{Clean, Tells}
@@ -25,19 +25,19 @@ use Rattle.ec_link.proofs.Lines.{Share, Apart, meets}
 
 -- ---- there or not
 
-has_of : (t : Contents) (d : Direction) (l : LinkRow) (o : Option Run) → run_toward t d l ≡ o → is_some o ≡ true → HasEntry t d l
+has_of : (t : Contents) (d : Direction) (l : LinkRow) (o : Option EntryRun) → run_toward t d l ≡ o → is_some o ≡ true → HasEntry t d l
 has_of t d l None is h = cc
 has_of t d l (Some r) is h = let f = run_found (entries_of t l.slave d) l.index l.subindex r is in record { place = f.place; entry = f.entry; names = f.names }
 
-not_of : (t : Contents) (d : Direction) (l : LinkRow) (o : Option Run) → run_toward t d l ≡ o → is_none o ≡ true → HasEntry t d l → ⊥
+not_of : (t : Contents) (d : Direction) (l : LinkRow) (o : Option EntryRun) → run_toward t d l ≡ o → is_none o ≡ true → HasEntry t d l → ⊥
 not_of t d l None is h e = none_named (entries_of t l.slave d) l.index l.subindex is e.place e.entry e.names
 not_of t d l (Some r) is h e = cc
 
-some_of : (t : Contents) (d : Direction) (l : LinkRow) → HasEntry t d l → (o : Option Run) → run_toward t d l ≡ o → is_some o ≡ true
+some_of : (t : Contents) (d : Direction) (l : LinkRow) → HasEntry t d l → (o : Option EntryRun) → run_toward t d l ≡ o → is_some o ≡ true
 some_of t d l e None is = absurd (none_named (entries_of t l.slave d) l.index l.subindex is e.place e.entry e.names)
 some_of t d l e (Some r) is = refl
 
-none_of : (t : Contents) (d : Direction) (l : LinkRow) → (HasEntry t d l → ⊥) → (o : Option Run) → run_toward t d l ≡ o → is_none o ≡ true
+none_of : (t : Contents) (d : Direction) (l : LinkRow) → (HasEntry t d l → ⊥) → (o : Option EntryRun) → run_toward t d l ≡ o → is_none o ≡ true
 none_of t d l off None is = refl
 none_of t d l off (Some r) is = absurd (off (has_of t d l (Some r) is refl))
 
@@ -80,7 +80,7 @@ entry_there t n le clean k l there = elim (cases_Bool (no_entry t l)) [
   | inr on ↦ on
 ]
 
-outside_is : (t : Contents) (l : LinkRow) (o : Option Run) → run_toward t (direction_of t l) l ≡ o → is_none o ≡ false
+outside_is : (t : Contents) (l : LinkRow) (o : Option EntryRun) → run_toward t (direction_of t l) l ≡ o → is_none o ≡ false
     → (nat_lt (run_bits o) (l.bits.entry_bit + l.bits.count) || nat_lt (variable_bits t l) (l.bits.variable_bit + l.bits.count)) ≡ true → IsOutsideEntry t l
 outside_is t l None is off h = cc
 outside_is t l (Some r) is off h =
@@ -137,21 +137,21 @@ take_from (suc k) [] j x lt h = absurd (omega (arith, slice_get_within [] j x h)
 take_from (suc k) (y ∷ xs) zero x lt h = h
 take_from (suc k) (y ∷ xs) (suc j) x lt h = take_from k xs j x (omega arith) h
 
--- the link of a wire
-record LinkOf (t : Contents) (k : ℕ) (w : Wire) : Type 0 where
+-- the link of a link run
+record LinkOf (t : Contents) (k : ℕ) (w : LinkRun) : Type 0 where
   link : LinkRow
   there : slice_get t.links k ≡ Some link
-  is : w ≡ wire_of t link
+  is : w ≡ link_run_of t link
 
-map_some : (t : Contents) (k : ℕ) (w : Wire) (o : Option LinkRow) → slice_get t.links k ≡ o → option_map (wire_of t) o ≡ Some w → LinkOf t k w
+map_some : (t : Contents) (k : ℕ) (w : LinkRun) (o : Option LinkRow) → slice_get t.links k ≡ o → option_map (link_run_of t) o ≡ Some w → LinkOf t k w
 map_some t k w None at h = cc
-map_some t k w (Some l) at h = let e : w ≡ wire_of t l = cc in record { link = l; there = at; is = e }
+map_some t k w (Some l) at h = let e : w ≡ link_run_of t l = cc in record { link = l; there = at; is = e }
 
-link_of_wire : (t : Contents) (k : ℕ) (w : Wire) → slice_get (table_wires t) k ≡ Some w → LinkOf t k w
-link_of_wire t k w h = map_some t k w (slice_get t.links k) refl (sym (slice_get-map (wire_of t) t.links k) ∙ h)
+link_of_run : (t : Contents) (k : ℕ) (w : LinkRun) → slice_get (table_link_runs t) k ≡ Some w → LinkOf t k w
+link_of_run t k w h = map_some t k w (slice_get t.links k) refl (sym (slice_get-map (link_run_of t) t.links k) ∙ h)
 
-wire_there : (t : Contents) (k : ℕ) (l : LinkRow) → slice_get t.links k ≡ Some l → slice_get (table_wires t) k ≡ Some (wire_of t l)
-wire_there t k l h = slice_get-map (wire_of t) t.links k ∙ ap (option_map (wire_of t)) h
+link_run_there : (t : Contents) (k : ℕ) (l : LinkRow) → slice_get t.links k ≡ Some l → slice_get (table_link_runs t) k ≡ Some (link_run_of t l)
+link_run_there t k l h = slice_get-map (link_run_of t) t.links k ∙ ap (option_map (link_run_of t)) h
 
 out_of : (d : Direction) → is_out d ≡ true → d ≡ Out
 out_of Out h = refl
@@ -179,27 +179,27 @@ runs_share : (a n b m x : ℕ) → a ≤ x → x < a + n → b ≤ x → x < b +
 runs_share a n b m x p q r s = and_from (nat_lt a (b + m)) (nat_lt b (a + n)) (lt-ltb a (b + m) (omega arith)) (lt-ltb b (a + n) (omega arith))
 
 -- the bits of two entries of one name are the same, and those of two names have none in common
-one_name : (es : List Entry) (k l : LinkRow) (r q : Run) → entry_run es k.index k.subindex ≡ Some r → entry_run es l.index l.subindex ≡ Some q → (x : ℕ) → r.from ≤ x → x < r.from + r.bits → q.from ≤ x → x < q.from + q.bits
+one_name : (es : List Entry) (k l : LinkRow) (r q : EntryRun) → entry_run es k.index k.subindex ≡ Some r → entry_run es l.index l.subindex ≡ Some q → (x : ℕ) → r.from ≤ x → x < r.from + r.bits → q.from ≤ x → x < q.from + q.bits
     → ((k.index ≡ l.index) × (k.subindex ≡ l.subindex)) × (r.from ≡ q.from)
 one_name es k l r q h g x a b c d = elim (cases_eq k.index l.index) [
   | inl index ↦ elim (cases_eq k.subindex l.subindex) [
     | inl subindex ↦
         let same : entry_run es k.index k.subindex ≡ entry_run es l.index l.subindex = ap (λ i. entry_run es i k.subindex) index ∙ ap (entry_run es l.index) subindex in
         let one : r ≡ q = cc in
-        ((index, subindex), ap (λ (y : Run). y.from) one)
+        ((index, subindex), ap (λ (y : EntryRun). y.from) one)
     | inr off ↦ absurd (elim (runs_apart es k.index k.subindex l.index l.subindex r q h g (λ e. off e.1)) [ inl y ↦ omega arith | inr y ↦ omega arith ])
   ]
   | inr off ↦ absurd (elim (runs_apart es k.index k.subindex l.index l.subindex r q h g (λ e. off e.0)) [ inl y ↦ omega arith | inr y ↦ omega arith ])
 ]
 
 -- the run of a link toward a direction, among the entries of a slave that is its own
-run_among : (t : Contents) (l : LinkRow) (s : ℕ) (d : Direction) (r : Run) → run_of t l ≡ Some r → direction_of t l ≡ d → l.slave ≡ s → entry_run (entries_of t s d) l.index l.subindex ≡ Some r
+run_among : (t : Contents) (l : LinkRow) (s : ℕ) (d : Direction) (r : EntryRun) → run_of t l ≡ Some r → direction_of t l ≡ d → l.slave ≡ s → entry_run (entries_of t s d) l.index l.subindex ≡ Some r
 unfolding run_of
 run_among t l s d r is way slave = subst (λ n. entry_run (entries_of t n d) l.index l.subindex ≡ Some r) slave (subst (λ e. entry_run (entries_of t l.slave e) l.index l.subindex ≡ Some r) way is)
 
 output_is : (t : Contents) (k l : LinkRow) → LinkFits t k → LinkFits t l → 0 < k.bits.count → 0 < l.bits.count → direction_of t k ≡ Out → direction_of t l ≡ Out → k.slave ≡ l.slave
-    → runs_meet (wire_of t k).object_bit k.bits.count (wire_of t l).object_bit l.bits.count ≡ true → GiveOneOutput t k l
-unfolding wire_of
+    → runs_meet (link_run_of t k).object_bit k.bits.count (link_run_of t l).object_bit l.bits.count ≡ true → GiveOneOutput t k l
+unfolding link_run_of
 output_is t k l f g some some_too way way_too slave h =
     let a : run_from (run_of t k) ≡ f.run.from = ap run_from f.is in
     let b : run_from (run_of t l) ≡ g.run.from = ap run_from g.is in
@@ -231,10 +231,10 @@ input_is t k l some some_too way way_too variable h =
       there = within_true l.bits.variable_bit l.bits.count m.x m.low_too m.high_too;
     }
 
-one_bit_is : (t : Contents) (k l : LinkRow) → LinkFits t k → LinkFits t l → 0 < k.bits.count → 0 < l.bits.count → give_one_bit (wire_of t k) (wire_of t l) ≡ true → GiveOneOutput t k l ⊎ GiveOneInput t k l
-unfolding wire_of
+one_bit_is : (t : Contents) (k l : LinkRow) → LinkFits t k → LinkFits t l → 0 < k.bits.count → 0 < l.bits.count → give_one_bit (link_run_of t k) (link_run_of t l) ≡ true → GiveOneOutput t k l ⊎ GiveOneInput t k l
+unfolding link_run_of
 one_bit_is t k l f g some some_too h =
-    let object = runs_meet (wire_of t k).object_bit k.bits.count (wire_of t l).object_bit l.bits.count in
+    let object = runs_meet (link_run_of t k).object_bit k.bits.count (link_run_of t l).object_bit l.bits.count in
     let bits = runs_meet k.bits.variable_bit k.bits.count l.bits.variable_bit l.bits.count in
     elim (or_cases ((is_out (direction_of t k) && is_out (direction_of t l)) && ((k.slave == l.slave) && object)) ((not (is_out (direction_of t k)) && not (is_out (direction_of t l))) && ((k.variable == l.variable) && bits)) h) [
       | inl out ↦
@@ -257,8 +257,8 @@ same_run t k l g =
     ∙ ap (λ i. entry_run (entries_of t l.slave (direction_of t l)) i k.subindex) g.index
     ∙ ap (entry_run (entries_of t l.slave (direction_of t l)) l.index) g.subindex
 
-output_was : (t : Contents) (k l : LinkRow) → GiveOneOutput t k l → give_one_bit (wire_of t k) (wire_of t l) ≡ true
-unfolding wire_of
+output_was : (t : Contents) (k l : LinkRow) → GiveOneOutput t k l → give_one_bit (link_run_of t k) (link_run_of t l) ≡ true
+unfolding link_run_of
 output_was t k l g =
     let p = within_parts k.bits.entry_bit k.bits.count g.bit g.here in
     let q = within_parts l.bits.entry_bit l.bits.count g.bit g.there in
@@ -267,8 +267,8 @@ output_was t k l g =
     (omega (arith, p.0)) (omega (arith, p.1)) (omega (arith, q.0, from)) (omega (arith, q.1, from)) in
     or_left _ _ (and_from _ _ (and_from _ _ (ap is_out g.out) (ap is_out g.out_too)) (and_from _ _ (eq-eqb k.slave l.slave g.slave) meet))
 
-input_was : (t : Contents) (k l : LinkRow) → GiveOneInput t k l → give_one_bit (wire_of t k) (wire_of t l) ≡ true
-unfolding wire_of
+input_was : (t : Contents) (k l : LinkRow) → GiveOneInput t k l → give_one_bit (link_run_of t k) (link_run_of t l) ≡ true
+unfolding link_run_of
 input_was t k l g =
     let p = within_parts k.bits.variable_bit k.bits.count g.bit g.here in
     let q = within_parts l.bits.variable_bit l.bits.count g.bit g.there in
@@ -281,14 +281,14 @@ some_bits t sound k l at =
     let link : table.IsLink t.slaves t.variables l = subst (table.IsLink t.slaves t.variables) (get_or_from_slice_get t.links k l l at) (sound.links k l lt) in
     omega (arith, link.bits.least)
 
-pub linked_tells : (t : Contents) → table.IsSound t → Tells t 19 (table_wires t) (linked_twice (table_wires t))
+pub linked_tells : (t : Contents) → table.IsSound t → Tells t 19 (table_link_runs t) (linked_twice (table_link_runs t))
 linked_tells t sound = record {
   is = λ clean k w there h.
-      let own = link_of_wire t k w there in
-      let any = any_at (give_one_bit w) (take k (table_wires t)) h in
-      let at = take_there k (table_wires t) any.place any.row any.there in
-      let its = link_of_wire t any.place any.row at.1 in
-      let gives : give_one_bit (wire_of t own.link) (wire_of t its.link) ≡ true = ap (λ v. give_one_bit v (wire_of t its.link)) (sym own.is) ∙ ap (give_one_bit w) (sym its.is) ∙ any.hit in
+      let own = link_of_run t k w there in
+      let any = any_at (give_one_bit w) (take k (table_link_runs t)) h in
+      let at = take_there k (table_link_runs t) any.place any.row any.there in
+      let its = link_of_run t any.place any.row at.1 in
+      let gives : give_one_bit (link_run_of t own.link) (link_run_of t its.link) ≡ true = ap (λ v. give_one_bit v (link_run_of t its.link)) (sym own.is) ∙ ap (give_one_bit w) (sym its.is) ∙ any.hit in
       record {
         row = own.link;
         there = own.there;
@@ -302,10 +302,10 @@ linked_tells t sound = record {
       };
   was = λ clean k at.
       let s = at.has in
-      let gives : give_one_bit (wire_of t at.row) (wire_of t s.other_link) ≡ true = elim s.one_bit [ inl out ↦ output_was t at.row s.other_link out | inr ins ↦ input_was t at.row s.other_link ins ] in
+      let gives : give_one_bit (link_run_of t at.row) (link_run_of t s.other_link) ≡ true = elim s.one_bit [ inl out ↦ output_was t at.row s.other_link out | inr ins ↦ input_was t at.row s.other_link ins ] in
       record {
-        row = wire_of t at.row;
-        there = wire_there t k at.row at.there;
-        hit = any_passes_from_place (give_one_bit (wire_of t at.row)) (take k (table_wires t)) s.earlier (wire_of t s.other_link) (take_from k (table_wires t) s.earlier (wire_of t s.other_link) s.before (wire_there t s.earlier s.other_link s.there)) gives;
+        row = link_run_of t at.row;
+        there = link_run_there t k at.row at.there;
+        hit = any_passes_from_place (give_one_bit (link_run_of t at.row)) (take k (table_link_runs t)) s.earlier (link_run_of t s.other_link) (take_from k (table_link_runs t) s.earlier (link_run_of t s.other_link) s.before (link_run_there t s.earlier s.other_link s.there)) gives;
       };
 }

@@ -4,8 +4,8 @@ use Rattle.std.specs.List.{list_any}
 use Rattle.std.proofs.lemmas.Option.{slice_get_within}
 use Rattle.std.proofs.lemmas.Map.Keys.{any_passes_from_place}
 use Rattle.std.proofs.lemmas.Bool.{cases_Bool, false≢true, eqb-true, eqb-false, eq-eqb, ne_eqb, and_parts, and_from, or_cases, or_left, or_right, not-true, not_from_false}
-use Rattle.ec_regs.specs.declared.slave_type.Entry.{Entry}
-use Rattle.ec_link.specs.declared.entries.Run.{Run}
+use Rattle.ec_device.specs.declared.slave_type.Entry.{Entry}
+use Rattle.ec_link.specs.declared.entries.EntryRun.{EntryRun}
 use Rattle.ec_link.specs.Entries.{is_named, behind, entry_run, names_twice}
 use Rattle.ec_link.specs.FaultLaw.{IsNamed}
 use Rattle.ec_link.proofs.EntryLists.{run_any}
@@ -54,24 +54,24 @@ first_next e es index subindex place off w zero x n =
 first_next e es index subindex place off w (suc k) x n = let le : place ≤ k = w k x (record { there = n.there; index_is = n.index_is; subindex_is = n.subindex_is }) in omega arith
 
 -- what stands behind other bits
-pub record Behind (n : ℕ) (o : Option Run) (r : Run) : Type 0 where
-  pub run : Run
+pub record Behind (n : ℕ) (o : Option EntryRun) (r : EntryRun) : Type 0 where
+  pub run : EntryRun
   pub is : o ≡ Some run
   pub from : r.from ≡ n + run.from
   pub bits : r.bits ≡ run.bits
 
-behind_some : (n : ℕ) (o : Option Run) (r : Run) → option_map (behind n) o ≡ Some r → Behind n o r
+behind_some : (n : ℕ) (o : Option EntryRun) (r : EntryRun) → option_map (behind n) o ≡ Some r → Behind n o r
 behind_some n None r h = cc
-behind_some n (Some q) r h = let e : r ≡ behind n q = cc in record { run = q; is = refl; from = ap (λ (x : Run). x.from) e; bits = ap (λ (x : Run). x.bits) e }
+behind_some n (Some q) r h = let e : r ≡ behind n q = cc in record { run = q; is = refl; from = ap (λ (x : EntryRun). x.from) e; bits = ap (λ (x : EntryRun). x.bits) e }
 
-pub run_found : (es : List Entry) (index subindex : ℕ) (r : Run) → entry_run es index subindex ≡ Some r → FirstNamed es index subindex r.bits
+pub run_found : (es : List Entry) (index subindex : ℕ) (r : EntryRun) → entry_run es index subindex ≡ Some r → FirstNamed es index subindex r.bits
 run_found [] index subindex r h = cc
 run_found (e ∷ es) index subindex r h = elim (cases_Bool (is_named index subindex e)) [
   | inl on ↦
       let f = rw on at h in
       let is : record { from = 0; bits = e.bits } ≡ r = cc in
       let n = named_parts index subindex e on in
-      record { place = 0; entry = e; names = record { there = refl; index_is = n.0; subindex_is = n.1 }; first = λ k x m. omega arith; bits_is = ap (λ (x : Run). x.bits) is }
+      record { place = 0; entry = e; names = record { there = refl; index_is = n.0; subindex_is = n.1 }; first = λ k x m. omega arith; bits_is = ap (λ (x : EntryRun). x.bits) is }
   | inr off ↦
       let f = rw off at h in
       let b = behind_some e.bits (entry_run es index subindex) r f in
@@ -87,11 +87,11 @@ run_found (e ∷ es) index subindex r h = elim (cases_Bool (is_named index subin
 
 -- the first with a name is the one whose bits are meant
 pub record RunOfFirst (es : List Entry) (index subindex : ℕ) (e : Entry) : Type 0 where
-  pub run : Run
+  pub run : EntryRun
   pub is : entry_run es index subindex ≡ Some run
   pub bits : run.bits ≡ e.bits
 
-run_of_first : (es : List Entry) (index subindex place : ℕ) (e : Entry) → IsNamed es index subindex place e → ((k : ℕ) (x : Entry) → IsNamed es index subindex k x → place ≤ k) → (o : Option Run) → entry_run es index subindex ≡ o → RunOfFirst es index subindex e
+run_of_first : (es : List Entry) (index subindex place : ℕ) (e : Entry) → IsNamed es index subindex place e → ((k : ℕ) (x : Entry) → IsNamed es index subindex k x → place ≤ k) → (o : Option EntryRun) → entry_run es index subindex ≡ o → RunOfFirst es index subindex e
 run_of_first es index subindex place e n first None is = absurd (none_named es index subindex is place e n)
 run_of_first es index subindex place e n first (Some r) is =
     let f = run_found es index subindex r is in
@@ -107,13 +107,13 @@ first_run es index subindex place e n first = run_of_first es index subindex pla
 
 -- ---- two names have no bit in common
 
-apart_first : (e : Entry) (es : List Entry) (index subindex : ℕ) (r q : Run) → Some (record { from = 0; bits = e.bits }) ≡ Some r → option_map (behind e.bits) (entry_run es index subindex) ≡ Some q → r.from + r.bits ≤ q.from
+apart_first : (e : Entry) (es : List Entry) (index subindex : ℕ) (r q : EntryRun) → Some (record { from = 0; bits = e.bits }) ≡ Some r → option_map (behind e.bits) (entry_run es index subindex) ≡ Some q → r.from + r.bits ≤ q.from
 apart_first e es index subindex r q h g =
     let is : record { from = 0; bits = e.bits } ≡ r = cc in
     let b = behind_some e.bits (entry_run es index subindex) q g in
-    omega (arith, ap (λ (x : Run). x.from) is, ap (λ (x : Run). x.bits) is, b.from)
+    omega (arith, ap (λ (x : EntryRun). x.from) is, ap (λ (x : EntryRun). x.bits) is, b.from)
 
-pub runs_apart : (es : List Entry) (i s j u : ℕ) (r q : Run) → entry_run es i s ≡ Some r → entry_run es j u ≡ Some q → ((i ≡ j) × (s ≡ u) → ⊥) → (r.from + r.bits ≤ q.from) ⊎ (q.from + q.bits ≤ r.from)
+pub runs_apart : (es : List Entry) (i s j u : ℕ) (r q : EntryRun) → entry_run es i s ≡ Some r → entry_run es j u ≡ Some q → ((i ≡ j) × (s ≡ u) → ⊥) → (r.from + r.bits ≤ q.from) ⊎ (q.from + q.bits ≤ r.from)
 runs_apart [] i s j u r q h g ne = cc
 runs_apart (e ∷ es) i s j u r q h g ne = elim (cases_Bool (is_named i s e)) [
   | inl on ↦ elim (cases_Bool (is_named j u e)) [

@@ -7,12 +7,12 @@ use Rattle.std.proofs.lemmas.Map.Keys.{any_passes_from_place}
 use Rattle.std.proofs.lemmas.Bool.{cases_Bool, cases_eq, cases_lt, eqb-true, eqb-false, eq-eqb, ne_eqb, ltb-true, lt-ltb, and_parts, and_from, or_cases, or_left, or_right, not-true, not_from_false}
 use Rattle.ec_bits.specs.Bits.{within}
 use Rattle.ec_bits.proofs.AnyLaws.{within_true, within_parts}
-use Rattle.ec_regs.specs.declared.slave_type.Mailbox.{Mailbox}
-use Rattle.ec_regs.specs.declared.manager.ManagerSettings.{ManagerSettings}
+use Rattle.ec_device.specs.declared.slave_type.Mailbox.{Mailbox}
+use Rattle.ec_regs.specs.declared.manager.SyncManagerSettings.{SyncManagerSettings}
 use Rattle.ec_regs.specs.Managers.{span}
 use Rattle.ec_regs.specs.Memory.{ram_start, ram_end}
-use Rattle.ec_regs.specs.Objects.{bits_of}
-use Rattle.ec_regs.specs.Types.{IsMailbox}
+use Rattle.ec_device.specs.Objects.{bits_of}
+use Rattle.ec_device.specs.Types.{IsMailbox}
 use Rattle.ec_table.specs.declared.rows.Direction.{Direction}
 use Rattle.ec_table.specs.declared.rows.Direction.TheVariants.{Out, In}
 use Rattle.ec_table.specs.declared.rows.LinkRow.{LinkRow}
@@ -20,8 +20,8 @@ use Rattle.ec_table.specs.declared.rows.SlaveRow.{SlaveRow}
 use Rattle.ec_table.specs.Contents.{Contents}
 use Rattle.ec_table.specs.Objects.{entries_of}
 use Rattle.ec_table.specs.Sound as table
-use Rattle.ec_link.specs.Wires.{is_out}
-use Rattle.ec_link.specs.Settings.{receive_manager, send_manager, process_manager, managers_of, meet, some_meet, leaves_ram}
+use Rattle.ec_link.specs.LinkRuns.{is_out}
+use Rattle.ec_link.specs.SlavePlan.{receive_manager, send_manager, process_manager, managers_of, meet, some_meet, leaves_ram}
 use Rattle.ec_link.specs.Faults.{in_either, entry_twice, too_many_bits, managers_at, areas_overlap, outside_ram, unit_of_link, differ, units_of_variable, split_variable}
 use Rattle.ec_link.specs.Entries.{names_twice}
 use Rattle.ec_link.specs.FaultLaw.{JoinsUnit}
@@ -89,27 +89,27 @@ bits_tells t = record {
 -- ---- of its managers
 
 -- a manager without a span begins at 0
-StartsLow : ManagerSettings → Type 0
+StartsLow : SyncManagerSettings → Type 0
 StartsLow m = span m ≡ 0 → m.start ≡ 0
 
-record TwoMeet (ms : List ManagerSettings) : Type 0 where
+record TwoMeet (ms : List SyncManagerSettings) : Type 0 where
   first : ℕ
   second : ℕ
   before : first < second
-  one : ManagerSettings
-  two : ManagerSettings
+  one : SyncManagerSettings
+  two : SyncManagerSettings
   there : slice_get ms first ≡ Some one
   there_too : slice_get ms second ≡ Some two
   meets : meet one two ≡ true
 
-meets_found : (ms : List ManagerSettings) → some_meet ms ≡ true → TwoMeet ms
+meets_found : (ms : List SyncManagerSettings) → some_meet ms ≡ true → TwoMeet ms
 meets_found [] h = cc
 meets_found (m ∷ ms) h = elim (or_cases (list_any (meet m) ms) (some_meet ms) h) [
   | inl here ↦ let r = any_at (meet m) ms here in record { first = 0; second = r.place + 1; before = omega arith; one = m; two = r.row; there = refl; there_too = rw add-one r.there; meets = r.hit }
   | inr later ↦ let r = meets_found ms later in record { first = r.first + 1; second = r.second + 1; before = omega (arith, r.before); one = r.one; two = r.two; there = rw add-one r.there; there_too = rw add-one r.there_too; meets = r.meets }
 ]
 
-meets_from : (ms : List ManagerSettings) (i j : ℕ) (a b : ManagerSettings) → i < j → slice_get ms i ≡ Some a → slice_get ms j ≡ Some b → meet a b ≡ true → some_meet ms ≡ true
+meets_from : (ms : List SyncManagerSettings) (i j : ℕ) (a b : SyncManagerSettings) → i < j → slice_get ms i ≡ Some a → slice_get ms j ≡ Some b → meet a b ≡ true → some_meet ms ≡ true
 meets_from [] i j a b lt x y h = absurd (omega (arith, slice_get_within [] i a x))
 meets_from (m ∷ ms) i zero a b lt x y h = absurd (omega arith)
 meets_from (m ∷ ms) zero (suc j) a b lt x y h =
@@ -117,12 +117,12 @@ meets_from (m ∷ ms) zero (suc j) a b lt x y h =
     or_left (list_any (meet m) ms) (some_meet ms) (any_passes_from_place (meet m) ms j b y (subst (λ n. meet n b ≡ true) is h))
 meets_from (m ∷ ms) (suc i) (suc j) a b lt x y h = or_right (list_any (meet m) ms) (some_meet ms) (meets_from ms i j a b (omega arith) x y h)
 
-record Shared (m n : ManagerSettings) : Type 0 where
+record Shared (m n : SyncManagerSettings) : Type 0 where
   address : ℕ
   covers : within m.start (span m) address ≡ true
   covers_too : within n.start (span n) address ≡ true
 
-shared : (m n : ManagerSettings) → (span m ≡ 0 → m.start ≡ 0) → (span n ≡ 0 → n.start ≡ 0) → meet m n ≡ true → Shared m n
+shared : (m n : SyncManagerSettings) → (span m ≡ 0 → m.start ≡ 0) → (span n ≡ 0 → n.start ≡ 0) → meet m n ≡ true → Shared m n
 shared m n low low_too h =
     let both = and_parts (nat_lt m.start (n.start + span n)) (nat_lt n.start (m.start + span m)) h in
     let a : m.start < n.start + span n = ltb-true m.start (n.start + span n) both.0 in
@@ -138,25 +138,25 @@ shared m n low low_too h =
       ]
     ]
 
-meet_from : (m n : ManagerSettings) (a : ℕ) → within m.start (span m) a ≡ true → within n.start (span n) a ≡ true → meet m n ≡ true
+meet_from : (m n : SyncManagerSettings) (a : ℕ) → within m.start (span m) a ≡ true → within n.start (span n) a ≡ true → meet m n ≡ true
 meet_from m n a x y =
     let p = within_parts m.start (span m) a x in
     let q = within_parts n.start (span n) a y in
     and_from (nat_lt m.start (n.start + span n)) (nat_lt n.start (m.start + span m)) (lt-ltb m.start (n.start + span n) (omega (arith, p.0, q.1))) (lt-ltb n.start (m.start + span m) (omega (arith, p.1, q.0)))
 
 -- each manager of a list
-record AllLow (ms : List ManagerSettings) : Type 0 where
-  each : (k : ℕ) (m : ManagerSettings) → slice_get ms k ≡ Some m → span m ≡ 0 → m.start ≡ 0
+record AllLow (ms : List SyncManagerSettings) : Type 0 where
+  each : (k : ℕ) (m : SyncManagerSettings) → slice_get ms k ≡ Some m → span m ≡ 0 → m.start ≡ 0
 
 no_more : AllLow []
 no_more = record { each = λ k m at. absurd (omega (arith, slice_get_within [] k m at)) }
 
-low_cons : (x : ManagerSettings) (ms : List ManagerSettings) → StartsLow x → AllLow ms → (k : ℕ) (m : ManagerSettings) → slice_get (x ∷ ms) k ≡ Some m → StartsLow m
+low_cons : (x : SyncManagerSettings) (ms : List SyncManagerSettings) → StartsLow x → AllLow ms → (k : ℕ) (m : SyncManagerSettings) → slice_get (x ∷ ms) k ≡ Some m → StartsLow m
 unfolding StartsLow
-low_cons x ms h w zero m at = let is : x ≡ m = cc in subst (λ (n : ManagerSettings). span n ≡ 0 → n.start ≡ 0) is h
+low_cons x ms h w zero m at = let is : x ≡ m = cc in subst (λ (n : SyncManagerSettings). span n ≡ 0 → n.start ≡ 0) is h
 low_cons x ms h w (suc k) m at = w.each k m at
 
-all_cons : (x : ManagerSettings) (ms : List ManagerSettings) → StartsLow x → AllLow ms → AllLow (x ∷ ms)
+all_cons : (x : SyncManagerSettings) (ms : List SyncManagerSettings) → StartsLow x → AllLow ms → AllLow (x ∷ ms)
 unfolding StartsLow
 all_cons x ms h w = record { each = low_cons x ms h w }
 
@@ -228,7 +228,7 @@ overlap_tells t sound = record {
       };
 }
 
-leaves_is : (m : ManagerSettings) → leaves_ram m ≡ true → (0 < m.length) × ((m.start < ram_start) ⊎ (ram_end < m.start + span m))
+leaves_is : (m : SyncManagerSettings) → leaves_ram m ≡ true → (0 < m.length) × ((m.start < ram_start) ⊎ (ram_end < m.start + span m))
 leaves_is m h =
     let both = and_parts (nat_lt 0 m.length) (nat_lt m.start ram_start || nat_lt ram_end (m.start + span m)) h in (
       ltb-true 0 m.length both.0,
@@ -238,7 +238,7 @@ leaves_is m h =
       ],
     )
 
-leaves_from : (m : ManagerSettings) → 0 < m.length → ((m.start < ram_start) ⊎ (ram_end < m.start + span m)) → leaves_ram m ≡ true
+leaves_from : (m : SyncManagerSettings) → 0 < m.length → ((m.start < ram_start) ⊎ (ram_end < m.start + span m)) → leaves_ram m ≡ true
 leaves_from m some past =
     and_from (nat_lt 0 m.length) (nat_lt m.start ram_start || nat_lt ram_end (m.start + span m)) (lt-ltb 0 m.length some) (elim past [
       | inl below ↦ or_left (nat_lt m.start ram_start) (nat_lt ram_end (m.start + span m)) (lt-ltb m.start ram_start below)

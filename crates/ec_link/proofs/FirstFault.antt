@@ -5,7 +5,7 @@ use Rattle.ec_table.specs.Contents.{Contents}
 use Rattle.ec_table.specs.Sound as table
 use Rattle.ec_link.specs.Sizes.{table_sizes}
 use Rattle.ec_link.specs.Layout.{layout}
-use Rattle.ec_link.specs.Wires.{table_wires, linked_twice}
+use Rattle.ec_link.specs.LinkRuns.{table_link_runs, linked_twice}
 use Rattle.ec_link.specs.Faults.{wrong_direction, no_entry, outside_entry, entry_twice, too_many_bits, areas_overlap, outside_ram, split_variable, link_fault, slave_fault, part_fault, memory_fault, variable_fault, compile_fault}
 use Rattle.ec_link.specs.FaultLaw.{FirstLinkFault}
 use Rattle.ec_link.proofs.FaultSteps.{Step, join, step_at, count_step, over_the_gap, told_first, told_none}
@@ -18,7 +18,7 @@ links t sound =
     join t 16 17 20 _ _ (step_at t 16 t.links (λ n l. wrong_direction t l) (record { number = λ k. refl; value = λ k. refl }) (wrong_tells t))
     (join t 17 18 20 _ _ (step_at t 17 t.links (λ n l. no_entry t l) (record { number = λ k. refl; value = λ k. refl }) (no_entry_tells t))
     (join t 18 19 20 _ _ (step_at t 18 t.links (λ n l. outside_entry t l) (record { number = λ k. refl; value = λ k. refl }) (outside_tells t))
-    (step_at t 19 (table_wires t) (linked_twice (table_wires t)) (record { number = λ k. refl; value = λ k. refl }) (linked_tells t sound))))
+    (step_at t 19 (table_link_runs t) (linked_twice (table_link_runs t)) (record { number = λ k. refl; value = λ k. refl }) (linked_tells t sound))))
 
 slaves : (t : Contents) → Step t 20 23 (slave_fault t)
 unfolding slave_fault

@@ -8,9 +8,9 @@ use Rattle.std.proofs.lemmas.List.Folds.{list_any-append}
 use Rattle.std.proofs.lemmas.List.Elements.{filter-append}
 use Rattle.ec_table.specs.declared.rows.LinkRow.{LinkRow}
 use Rattle.ec_table.specs.Contents.{Contents}
-use Rattle.ec_link.specs.declared.split.Seen.{Seen}
+use Rattle.ec_link.specs.declared.split.VariableUse.{VariableUse}
 use Rattle.ec_link.specs.Faults.{unit_of_link, differ, units_of_variable}
-use Rattle.ec_link.specs.Seen.{nothing_seen, seen_more, seen_of, AreSeen}
+use Rattle.ec_link.specs.VariableUse.{nothing_seen, seen_more, seen_of, AreSeen}
 use Rattle.ec_link.proofs.Basics.{or_false}
 
 more_seen : (us : List ℕ) (u : ℕ) → seen_more (seen_of us) u ≡ seen_of (us ++ u ∷ [])
@@ -20,20 +20,20 @@ more_seen (x ∷ xs) u = ap (λ (b : Bool). record { unit = Some x; differs = b 
 units_append : (t : Contents) (v : ℕ) (ls : List LinkRow) (l : LinkRow) → units_of_variable t v (ls ++ l ∷ []) ≡ units_of_variable t v ls ++ units_of_variable t v (l ∷ [])
 units_append t v ls l = ap (map (unit_of_link t)) (filter-append (λ (k : LinkRow). eqb k.variable v) ls (l ∷ [])) ∙ map-append (unit_of_link t) (filter (λ (k : LinkRow). eqb k.variable v) ls) (filter (λ (k : LinkRow). eqb k.variable v) (l ∷ []))
 
-pub seen_none : (t : Contents) (seen : List Seen) → length seen ≡ length t.variables → ((v : ℕ) (d : Seen) → v < length seen → get_or seen v d ≡ nothing_seen) → AreSeen t [] seen
+pub seen_none : (t : Contents) (seen : List VariableUse) → length seen ≡ length t.variables → ((v : ℕ) (d : VariableUse) → v < length seen → get_or seen v d ≡ nothing_seen) → AreSeen t [] seen
 seen_none t seen many fresh = record { as_many = many; each = λ v d lt. fresh v d (omega (arith, many)) }
 
-here_or_not : (t : Contents) (ls : List LinkRow) (l : LinkRow) (v : ℕ) (us : List ℕ) → us ≡ units_of_variable t v ls → (s : Seen) → s ≡ seen_of us → l.variable ≡ v → seen_more s (unit_of_link t l) ≡ seen_of (units_of_variable t v (ls ++ l ∷ []))
+here_or_not : (t : Contents) (ls : List LinkRow) (l : LinkRow) (v : ℕ) (us : List ℕ) → us ≡ units_of_variable t v ls → (s : VariableUse) → s ≡ seen_of us → l.variable ≡ v → seen_more s (unit_of_link t l) ≡ seen_of (units_of_variable t v (ls ++ l ∷ []))
 here_or_not t ls l v us is s seen same =
     let e : eqb l.variable v ≡ true = grind (arith, nat_tests, same) in
     let one : units_of_variable t v (l ∷ []) ≡ unit_of_link t l ∷ [] = rw e refl in
-    ap (λ (x : Seen). seen_more x (unit_of_link t l)) seen ∙ more_seen us (unit_of_link t l) ∙ ap seen_of (sym (units_append t v ls l ∙ ap (λ xs. units_of_variable t v ls ++ xs) one ∙ ap (λ xs. xs ++ unit_of_link t l ∷ []) (sym is)))
+    ap (λ (x : VariableUse). seen_more x (unit_of_link t l)) seen ∙ more_seen us (unit_of_link t l) ∙ ap seen_of (sym (units_append t v ls l ∙ ap (λ xs. units_of_variable t v ls ++ xs) one ∙ ap (λ xs. xs ++ unit_of_link t l ∷ []) (sym is)))
 
 append_nothing : (xs : List ℕ) → xs ++ [] ≡ xs
 append_nothing [] = refl
 append_nothing (x ∷ xs) = ap (λ ys. x ∷ ys) (append_nothing xs)
 
-pub seen_more_at : (t : Contents) (ls : List LinkRow) (l : LinkRow) (old new : List Seen) (d : Seen) → AreSeen t ls old → l.variable < length t.variables → new ≡ slice_set old l.variable (seen_more (get_or old l.variable d) (unit_of_link t l)) → length new ≡ length old → AreSeen t (ls ++ l ∷ []) new
+pub seen_more_at : (t : Contents) (ls : List LinkRow) (l : LinkRow) (old new : List VariableUse) (d : VariableUse) → AreSeen t ls old → l.variable < length t.variables → new ≡ slice_set old l.variable (seen_more (get_or old l.variable d) (unit_of_link t l)) → length new ≡ length old → AreSeen t (ls ++ l ∷ []) new
 seen_more_at t ls l old new d h there is many = record {
   as_many = many ∙ h.as_many;
   each = λ v e lt. elim (cases_eq l.variable v) [
@@ -50,30 +50,30 @@ seen_more_at t ls l old new d h there is many = record {
 }
 
 -- the loop's step
-pub seen_step : (t : Contents) (i : ℕ) (l : LinkRow) (old new : List Seen) (d : Seen) → AreSeen t (take i t.links) old → i < length t.links → l ≡ get_or t.links i l → l.variable < length t.variables
+pub seen_step : (t : Contents) (i : ℕ) (l : LinkRow) (old new : List VariableUse) (d : VariableUse) → AreSeen t (take i t.links) old → i < length t.links → l ≡ get_or t.links i l → l.variable < length t.variables
     → new ≡ slice_set old l.variable (seen_more (get_or old l.variable d) (unit_of_link t l)) → length new ≡ length old → AreSeen t (take (i + 1) t.links) new
 seen_step t i l old new d h lt is there set many =
     subst (λ (ls : List LinkRow). AreSeen t ls new) (sym (take_more t.links i l lt ∙ ap (λ (k : LinkRow). take i t.links ++ k ∷ []) (sym is))) (seen_more_at t (take i t.links) l old new d h there set many)
 
-pub seen_all : (t : Contents) (i : ℕ) (seen : List Seen) → AreSeen t (take i t.links) seen → length t.links ≤ i → AreSeen t t.links seen
+pub seen_all : (t : Contents) (i : ℕ) (seen : List VariableUse) → AreSeen t (take i t.links) seen → length t.links ≤ i → AreSeen t t.links seen
 seen_all t i seen h most = subst (λ (ls : List LinkRow). AreSeen t ls seen) (take_all i t.links most) h
 
 pub ruleset seen_steps = (seen_none, seen_step, seen_all)
 
-pub seen_at : (t : Contents) (seen : List Seen) (v : ℕ) (s : Seen) → AreSeen t t.links seen → v < length t.variables → s ≡ get_or seen v s → s.differs ≡ differ (units_of_variable t v t.links)
-seen_at t seen v s h lt is = ap (λ (x : Seen). x.differs) (is ∙ h.each v s lt)
+pub seen_at : (t : Contents) (seen : List VariableUse) (v : ℕ) (s : VariableUse) → AreSeen t t.links seen → v < length t.variables → s ≡ get_or seen v s → s.differs ≡ differ (units_of_variable t v t.links)
+seen_at t seen v s h lt is = ap (λ (x : VariableUse). x.differs) (is ∙ h.each v s lt)
 
-pub seen_count : (t : Contents) (seen : List Seen) → AreSeen t t.links seen → length seen ≡ length t.variables
+pub seen_count : (t : Contents) (seen : List VariableUse) → AreSeen t t.links seen → length seen ≡ length t.variables
 seen_count t seen h = h.as_many
 
 pub ruleset seen_read = (seen_at, seen_count)
 
 -- ---- the list that is made first
 
-pub fresh_count : (t : Contents) (n : ℕ) (seen : List Seen) (s : Seen) → seen ≡ replicate n s → n ≡ length t.variables → length seen ≡ length t.variables
+pub fresh_count : (t : Contents) (n : ℕ) (seen : List VariableUse) (s : VariableUse) → seen ≡ replicate n s → n ≡ length t.variables → length seen ≡ length t.variables
 fresh_count t n seen s e is = ap length e ∙ length-replicate n s ∙ is
 
-pub fresh_at : (n : ℕ) (seen : List Seen) (s : Seen) → seen ≡ replicate n s → s ≡ nothing_seen → (v : ℕ) (d : Seen) → v < length seen → get_or seen v d ≡ nothing_seen
-fresh_at n seen s e is v d lt = ap (λ (xs : List Seen). get_or xs v d) e ∙ get_or-replicate n v s d (omega (arith, ap length e, length-replicate n s)) ∙ is
+pub fresh_at : (n : ℕ) (seen : List VariableUse) (s : VariableUse) → seen ≡ replicate n s → s ≡ nothing_seen → (v : ℕ) (d : VariableUse) → v < length seen → get_or seen v d ≡ nothing_seen
+fresh_at n seen s e is v d lt = ap (λ (xs : List VariableUse). get_or xs v d) e ∙ get_or-replicate n v s d (omega (arith, ap length e, length-replicate n s)) ∙ is
 
 pub ruleset fresh_seen = (fresh_count, fresh_at)

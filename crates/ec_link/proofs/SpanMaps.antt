@@ -1,4 +1,4 @@
--- Two wires give one bit exactly where their spans share a number; and the spans of the wires so far, in a map.
+-- Two link runs give one bit exactly where their spans share a number; and the spans of the link runs so far, in a map.
 use Rattle.std.proofs.Common.{◌≡◌, ◌≢◌, ℕ, ◌+◌, ◌*◌, ◌<◌, ◌≤◌, eqb, ltb, true, false, cond, List, ◌∷◌, length, get_or, take, drop, refl, sym, ap, ◌∙◌, subst, arith, inl, inr, Some, None, get_or-take, length-take}
 use Rattle.std.specs.BTreeMap.{BTreeMap, get, Updates, IsEmpty, is_at}
 use Rattle.std.specs.Ordering.{nat_cmp, is_lt}
@@ -10,21 +10,21 @@ use Rattle.std.proofs.lemmas.List.{drop_more, drop_all, get_or_default}
 use Rattle.std.proofs.lemmas.List.Folds.{list_any_at, list_any_none}
 use Rattle.std.proofs.lemmas.Bool.{cases_Bool, cases_lt, cases_eq}
 use Rattle.std.proofs.lemmas.Bool.Decides.{nat_tests}
-use Rattle.ec_link.specs.declared.wires.Wire.{Wire}
-use Rattle.ec_link.specs.Wires.{is_out, runs_meet, give_one_bit, linked_twice}
+use Rattle.ec_link.specs.declared.link_runs.LinkRun.{LinkRun}
+use Rattle.ec_link.specs.LinkRuns.{is_out, runs_meet, give_one_bit, linked_twice}
 use Rattle.ec_link.specs.Faults.{first_at}
-use Rattle.ec_link.specs.Limits.{IsShortWire}
+use Rattle.ec_link.specs.Limits.{IsShortRun}
 use Rattle.ec_link.specs.Spans.{span_from, AreApart, IsMet, IsSpanOf}
 use Rattle.ec_link.proofs.Basics.{or_false}
 use Rattle.ec_link.proofs.Lines.{same_meet, far_meet, far_meet_back}
 
-out_from : (w : Wire) → is_out w.direction ≡ true → span_from w ≡ 262144 * w.slave + w.object_bit
+out_from : (w : LinkRun) → is_out w.direction ≡ true → span_from w ≡ 262144 * w.slave + w.object_bit
 out_from w h = rw h refl
 
-in_from : (w : Wire) → is_out w.direction ≡ false → span_from w ≡ 262144 * w.variable + 131072 + w.variable_bit
+in_from : (w : LinkRun) → is_out w.direction ≡ false → span_from w ≡ 262144 * w.variable + 131072 + w.variable_bit
 in_from w h = rw h (omega arith)
 
-pub span_meets : (w v : Wire) → IsShortWire w → IsShortWire v → give_one_bit w v ≡ runs_meet (span_from w) w.count (span_from v) v.count
+pub span_meets : (w v : LinkRun) → IsShortRun w → IsShortRun v → give_one_bit w v ≡ runs_meet (span_from w) w.count (span_from v) v.count
 span_meets w v p q =
     elim (cases_Bool (is_out w.direction)) [
       | inl wo ↦ elim (cases_Bool (is_out v.direction)) [
@@ -75,17 +75,17 @@ span_meets w v p q =
 
 -- ---- the loop
 
--- after i wires, none of which gives a bit that an earlier one gives
-pub record Spanned (ws : List Wire) (ends : BTreeMap ℕ ℕ) (i : ℕ) : Type 0 where
+-- after i link runs, none of which gives a bit that an earlier one gives
+pub record Spanned (ws : List LinkRun) (ends : BTreeMap ℕ ℕ) (i : ℕ) : Type 0 where
   pub apart : AreApart ends
-  pub kept : (k : ℕ) (d : Wire) → k < i → get nat_cmp ends (span_from (get_or ws k d)) ≡ Some (span_from (get_or ws k d) + (get_or ws k d).count)
+  pub kept : (k : ℕ) (d : LinkRun) → k < i → get nat_cmp ends (span_from (get_or ws k d)) ≡ Some (span_from (get_or ws k d) + (get_or ws k d).count)
   pub only : (a b : ℕ) → get nat_cmp ends a ≡ Some b → IsSpanOf ws i a b
   pub rest : first_at (linked_twice ws) i (drop i ws) ≡ first_at (linked_twice ws) 0 ws
 
 none_there : (m : BTreeMap ℕ ℕ) (a b : ℕ) → IsEmpty m → get nat_cmp m a ≡ Some b → ⊥
 none_there m a b e h = let f = rw e at h in grind (arith, f)
 
-pub spanned_none : (ws : List Wire) (ends : BTreeMap ℕ ℕ) → IsEmpty ends → Spanned ws ends 0
+pub spanned_none : (ws : List LinkRun) (ends : BTreeMap ℕ ℕ) → IsEmpty ends → Spanned ws ends 0
 spanned_none ws ends e = record {
   apart = record { some = λ a b h. absurd (none_there ends a b e h); apart = λ a b c d h g lt. absurd (none_there ends a b e h) };
   kept = λ k d lt. absurd (omega arith);
@@ -93,22 +93,22 @@ spanned_none ws ends e = record {
   rest = refl;
 }
 
-pub spanned_all : (ws : List Wire) (ends : BTreeMap ℕ ℕ) (i : ℕ) → length ws ≤ i → Spanned ws ends i → first_at (linked_twice ws) 0 ws ≡ None
+pub spanned_all : (ws : List LinkRun) (ends : BTreeMap ℕ ℕ) (i : ℕ) → length ws ≤ i → Spanned ws ends i → first_at (linked_twice ws) 0 ws ≡ None
 spanned_all ws ends i h l = sym l.rest ∙ ap (first_at (linked_twice ws) i) (drop_all i ws h)
 
-rest_step : (ws : List Wire) (i : ℕ) (w : Wire) → drop i ws ≡ w ∷ drop (i + 1) ws → first_at (linked_twice ws) i (drop i ws) ≡ cond (linked_twice ws i w) (Some i) (first_at (linked_twice ws) (i + 1) (drop (i + 1) ws))
+rest_step : (ws : List LinkRun) (i : ℕ) (w : LinkRun) → drop i ws ≡ w ∷ drop (i + 1) ws → first_at (linked_twice ws) i (drop i ws) ≡ cond (linked_twice ws i w) (Some i) (first_at (linked_twice ws) (i + 1) (drop (i + 1) ws))
 rest_step ws i w d = ap (first_at (linked_twice ws) i) d
 
-here : (ws : List Wire) (i : ℕ) (e w : Wire) → i < length ws → w ≡ get_or ws i e → drop i ws ≡ w ∷ drop (i + 1) ws
+here : (ws : List LinkRun) (i : ℕ) (e w : LinkRun) → i < length ws → w ≡ get_or ws i e → drop i ws ≡ w ∷ drop (i + 1) ws
 here ws i e w lt is = drop_more ws i e lt ∙ ap (λ v. v ∷ drop (i + 1) ws) (sym is)
 
--- a wire whose span is met
-pub spanned_hit : (ws : List Wire) (ends : BTreeMap ℕ ℕ) (i : ℕ) (e w : Wire) (from end : ℕ) → i < length ws → w ≡ get_or ws i e → ((k : ℕ) (d : Wire) → k < length ws → IsShortWire (get_or ws k d))
+-- a link run whose span is met
+pub spanned_hit : (ws : List LinkRun) (ends : BTreeMap ℕ ℕ) (i : ℕ) (e w : LinkRun) (from end : ℕ) → i < length ws → w ≡ get_or ws i e → ((k : ℕ) (d : LinkRun) → k < length ws → IsShortRun (get_or ws k d))
     → from ≡ span_from w → end ≡ from + w.count → IsMet ends from end → Spanned ws ends i → first_at (linked_twice ws) 0 ws ≡ Some i
 spanned_hit ws ends i e w from end lt is short fi ei met l =
     let s : IsSpanOf ws i met.a met.b = l.only met.a met.b met.there in
-    let v : Wire = get_or ws s.k e in
-    let own : IsShortWire w = subst IsShortWire (sym is) (short i e lt) in
+    let v : LinkRun = get_or ws s.k e in
+    let own : IsShortRun w = subst IsShortRun (sym is) (short i e lt) in
     let below : s.k < i = s.below in
     let at : get_or (take i ws) s.k e ≡ v = get_or-take i ws s.k e below in
     let a : met.a ≡ span_from v = s.from e in
@@ -184,15 +184,15 @@ apart_more m n from end lt miss u p = record {
 }
 
 -- and one whose span is not
-pub spanned_more : (ws : List Wire) (ends more : BTreeMap ℕ ℕ) (i : ℕ) (e w : Wire) (from end : ℕ) → i < length ws → w ≡ get_or ws i e → ((k : ℕ) (d : Wire) → k < length ws → IsShortWire (get_or ws k d))
+pub spanned_more : (ws : List LinkRun) (ends more : BTreeMap ℕ ℕ) (i : ℕ) (e w : LinkRun) (from end : ℕ) → i < length ws → w ≡ get_or ws i e → ((k : ℕ) (d : LinkRun) → k < length ws → IsShortRun (get_or ws k d))
     → from ≡ span_from w → end ≡ from + w.count → ((a b : ℕ) → get nat_cmp ends a ≡ Some b → a < end → b ≤ from) → Updates nat_cmp ends more from (Some end) → Spanned ws ends i → Spanned ws more (i + 1)
 spanned_more ws ends more i e w from end lt is short fi ei miss u l =
-    let own : IsShortWire w = subst IsShortWire (sym is) (short i e lt) in
+    let own : IsShortRun w = subst IsShortRun (sym is) (short i e lt) in
     let some : 0 < w.count = own.some in
     let grows : from < end = omega (arith, some, ei) in
-    let same : (d : Wire) → get_or ws i d ≡ w = λ d. get_or_default ws i d e lt ∙ sym is in
-    -- no earlier wire meets it
-    let past : (k : ℕ) (d : Wire) → k < i → span_from (get_or ws k d) < end → span_from (get_or ws k d) + (get_or ws k d).count ≤ from
+    let same : (d : LinkRun) → get_or ws i d ≡ w = λ d. get_or_default ws i d e lt ∙ sym is in
+    -- no earlier link run meets it
+    let past : (k : ℕ) (d : LinkRun) → k < i → span_from (get_or ws k d) < end → span_from (get_or ws k d) + (get_or ws k d).count ≤ from
     = λ k d b near. miss (span_from (get_or ws k d)) (span_from (get_or ws k d) + (get_or ws k d).count) (l.kept k d b) near in
     let no : linked_twice ws i w ≡ false = list_any_none (give_one_bit w) (take i ws) (λ k d b.
     let c : k < i = omega (arith, b, length-take i ws) in
@@ -209,14 +209,14 @@ spanned_more ws ends more i e w from end lt is short fi ei miss u l =
         | inr new ↦
             let k_is : k ≡ i = omega (arith, b, new) in
             let v : get_or ws k d ≡ w = ap (λ (j : ℕ). get_or ws j d) k_is ∙ same d in
-            ap (λ (x : Wire). get nat_cmp more (span_from x)) v ∙ ap (get nat_cmp more) (sym fi) ∙ put_same ends more from end u ∙ ap Some (ei ∙ ap (λ (n : ℕ). n + w.count) fi ∙ sym (ap (λ (x : Wire). span_from x + x.count) v))
+            ap (λ (x : LinkRun). get nat_cmp more (span_from x)) v ∙ ap (get nat_cmp more) (sym fi) ∙ put_same ends more from end u ∙ ap Some (ei ∙ ap (λ (n : ℕ). n + w.count) fi ∙ sym (ap (λ (x : LinkRun). span_from x + x.count) v))
       ];
       only = λ a b h. elim (was ends more from end a b u h) [
         | New x y ↦ record {
           k = i;
           below = omega arith;
           from = λ d. x ∙ fi ∙ sym (ap span_from (same d));
-          end = λ d. y ∙ ei ∙ ap (λ (n : ℕ). n + w.count) (sym x) ∙ sym (ap (λ (v : Wire). a + v.count) (same d));
+          end = λ d. y ∙ ei ∙ ap (λ (n : ℕ). n + w.count) (sym x) ∙ sym (ap (λ (v : LinkRun). a + v.count) (same d));
         }
         | Old g ↦ let s = l.only a b g in record { k = s.k; below = let t = s.below in omega arith; from = s.from; end = s.end }
       ];

@@ -2,11 +2,11 @@
 -- the first that the table has. Nothing here says how a fault is looked for.
 use Rattle.std.specs.Prelude.{ℕ, ◌+◌, ◌<◌, ◌≤◌, ◌≡◌, ◌≢◌, ◌⊎◌, List, length, true, Some, None, slice_get}
 use Rattle.ec_bits.specs.Bits.{within}
-use Rattle.ec_regs.specs.declared.slave_type.Entry.{Entry}
-use Rattle.ec_regs.specs.declared.manager.ManagerSettings.{ManagerSettings}
+use Rattle.ec_device.specs.declared.slave_type.Entry.{Entry}
+use Rattle.ec_regs.specs.declared.manager.SyncManagerSettings.{SyncManagerSettings}
 use Rattle.ec_regs.specs.Managers.{span}
 use Rattle.ec_regs.specs.Memory.{ram_start, ram_end}
-use Rattle.ec_regs.specs.Objects.{bits_of}
+use Rattle.ec_device.specs.Objects.{bits_of}
 use Rattle.ec_table.specs.declared.rows.Direction.{Direction}
 use Rattle.ec_table.specs.declared.rows.Direction.TheVariants.{Out, In}
 use Rattle.ec_table.specs.declared.rows.LinkRow.{LinkRow}
@@ -17,7 +17,7 @@ use Rattle.ec_table.specs.Objects.{entries_of}
 use Rattle.ec_table.specs.Sound.{IsSound}
 use Rattle.ec_link.specs.declared.fault.LinkFault.{LinkFault}
 use Rattle.ec_link.specs.declared.fault.LinkFault.TheVariants.{WrongDirection, NoEntry, OutsideEntry, LinkedTwice, EntryTwice, TooManyBits, TooManySlaves, TooManyParts, AreasOverlap, OutsideRam, SplitVariable}
-use Rattle.ec_link.specs.Wires.{other, direction_of, variable_bits}
+use Rattle.ec_link.specs.LinkRuns.{other, direction_of, variable_bits}
 use Rattle.ec_link.specs.Sizes.{table_sizes}
 use Rattle.ec_link.specs.Layout.{layout}
 use Rattle.ec_link.specs.Faults.{managers_at, compile_fault, fault_number, fault_value}
@@ -110,8 +110,8 @@ pub record HaveOneByte (t : Contents) (slave : ℕ) : Type 0 where
   pub first : ℕ
   pub second : ℕ
   pub before : first < second
-  pub one : ManagerSettings
-  pub two : ManagerSettings
+  pub one : SyncManagerSettings
+  pub two : SyncManagerSettings
   pub there : slice_get (managers_at t slave) first ≡ Some one
   pub there_too : slice_get (managers_at t slave) second ≡ Some two
   pub address : ℕ
@@ -121,7 +121,7 @@ pub record HaveOneByte (t : Contents) (slave : ℕ) : Type 0 where
 -- one of the managers that a plan sets in it covers a byte outside the RAM
 pub record LeavesRam (t : Contents) (slave : ℕ) : Type 0 where
   pub place : ℕ
-  pub manager : ManagerSettings
+  pub manager : SyncManagerSettings
   pub there : slice_get (managers_at t slave) place ≡ Some manager
   pub some : 0 < manager.length
   pub past : (manager.start < ram_start) ⊎ (ram_end < manager.start + span manager)

@@ -10,9 +10,9 @@ use Rattle.ec_table.specs.declared.rows.SlaveRow.{SlaveRow}
 use Rattle.ec_table.specs.declared.rows.VariableRow.{VariableRow}
 use Rattle.ec_table.specs.declared.rows.LinkRow.{LinkRow}
 use Rattle.ec_table.specs.Contents.{Contents}
-use Rattle.ec_regs.specs.Objects.{bits_of}
+use Rattle.ec_device.specs.Objects.{bits_of}
 use Rattle.ec_table.specs.Objects.{type_of, entries_of}
-use Rattle.ec_regs.specs.declared.manager.ManagerSettings.{ManagerSettings}
+use Rattle.ec_regs.specs.declared.manager.SyncManagerSettings.{SyncManagerSettings}
 use Rattle.ec_link.specs.declared.fault.LinkFault.{LinkFault}
 use Rattle.ec_link.specs.declared.fault.LinkFault.TheVariants.{WrongDirection, NoEntry, OutsideEntry, LinkedTwice, EntryTwice, TooManyBits, TooManySlaves, TooManyParts, AreasOverlap, OutsideRam, SplitVariable}
 use Rattle.ec_link.specs.declared.fault.LinkError.{LinkError}
@@ -20,8 +20,8 @@ use Rattle.ec_link.specs.declared.fault.LinkError.TheVariants.{Memory, Refused}
 use Rattle.ec_link.specs.Entries.{names_twice}
 use Rattle.ec_link.specs.Sizes.{table_sizes}
 use Rattle.ec_link.specs.Layout.{layout}
-use Rattle.ec_link.specs.Settings.{managers_of, some_meet, leaves_ram}
-use Rattle.ec_link.specs.Wires.{is_out, other, direction_of, variable_bits, run_toward, run_of, run_bits, table_wires, linked_twice}
+use Rattle.ec_link.specs.SlavePlan.{managers_of, some_meet, leaves_ram}
+use Rattle.ec_link.specs.LinkRuns.{is_out, other, direction_of, variable_bits, run_toward, run_of, run_bits, table_link_runs, linked_twice}
 
 -- the place of the first element at which a test holds; the test sees the place
 abbrev pub first_at : {X : Type 0} → (ℕ → X → Bool) → ℕ → List X → Option ℕ
@@ -58,7 +58,7 @@ abbrev pub too_many_bits : Contents → ℕ → Bool
 too_many_bits t s = in_either (λ d. nat_lt 2048 (bits_of (entries_of t s d)))
 
 -- the managers that a plan sets in slave s
-unfoldable pub managers_at : Contents → ℕ → List ManagerSettings
+unfoldable pub managers_at : Contents → ℕ → List SyncManagerSettings
 managers_at t s = option_map_or (λ (r : TypeRow). managers_of r.mailbox r.process.out_start r.process.in_start (bits_of (entries_of t s Out)) (bits_of (entries_of t s In))) (type_of t s) []
 
 abbrev pub areas_overlap : Contents → ℕ → Bool
@@ -101,7 +101,7 @@ link_fault t =
     each_link t (wrong_direction t) WrongDirection
     orelse each_link t (no_entry t) NoEntry
     orelse each_link t (outside_entry t) OutsideEntry
-    orelse option_map LinkedTwice (first_at (linked_twice (table_wires t)) 0 (table_wires t))
+    orelse option_map LinkedTwice (first_at (linked_twice (table_link_runs t)) 0 (table_link_runs t))
 
 -- faults of what slaves assign, and of how many there are
 unfoldable pub slave_fault : Contents → Option LinkFault

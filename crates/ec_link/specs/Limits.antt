@@ -2,11 +2,11 @@
 use Rattle.std.specs.Prelude.{ℕ, ◌+◌, ◌≡◌, ◌<◌, ◌≤◌, ◌^◌, Bool, false, List, length, get_or, All, Option, Some, None, Result, Ok, Err}
 use Rattle.ec_table.specs.declared.rows.VariableRow.{VariableRow}
 use Rattle.ec_table.specs.Contents.{Contents}
-use Rattle.ec_link.specs.declared.entries.Run.{Run}
-use Rattle.ec_link.specs.declared.sizes.Size.{Size}
+use Rattle.ec_link.specs.declared.entries.EntryRun.{EntryRun}
+use Rattle.ec_link.specs.declared.sizes.SlaveSize.{SlaveSize}
 use Rattle.ec_link.specs.declared.layout.Part.{Part}
 use Rattle.ec_link.specs.declared.layout.Seat.{Seat}
-use Rattle.ec_link.specs.declared.wires.Wire.{Wire}
+use Rattle.ec_link.specs.declared.link_runs.LinkRun.{LinkRun}
 use Rattle.ec_link.specs.declared.image.Variable.{Variable}
 use Rattle.ec_link.specs.declared.plan.PartPlan.{PartPlan}
 use Rattle.ec_link.specs.declared.fault.LinkFault.{LinkFault}
@@ -18,11 +18,11 @@ use Rattle.ec_link.specs.Plan.{logical_from}
 use Rattle.ec_link.specs.Faults.{◌orelse◌, slave_fault, part_fault, memory_fault, variable_fault}
 
 -- within what a slave can have
-pub record IsShort (r : Run) : Type 0 where
+pub record IsShort (r : EntryRun) : Type 0 where
   pub low : r.from + r.bits ≤ 65536
 
 -- at most 2048 bits in each direction, and one of the 64 units
-pub record IsSize (z : Size) : Type 0 where
+pub record IsSize (z : SlaveSize) : Type 0 where
   pub outs : z.outs ≤ 2048
   pub ins : z.ins ≤ 2048
   pub unit : z.unit ≤ 63
@@ -46,17 +46,17 @@ abbrev pub IsPlacedLow : Variable → Type 0
 IsPlacedLow v = v.from + 63 < 2 ^ 64
 
 -- it has a bit, and its bits are counted without overflow
-pub record IsShortWire (w : Wire) : Type 0 where
+pub record IsShortRun (w : LinkRun) : Type 0 where
   pub variable_bit : w.variable_bit ≤ 63
   pub object_bit : w.object_bit ≤ 65791
   pub some : 0 < w.count
   pub count : w.count ≤ 255
 
--- the variables of the wires are there
-pub record HasVariable (ws : List VariableRow) (w : Wire) : Type 0 where
+-- the variables of the link runs are there
+pub record HasVariable (ws : List VariableRow) (w : LinkRun) : Type 0 where
   pub there : w.variable < length ws
 
-abbrev pub HaveVariables : List VariableRow → List Wire → Type 0
+abbrev pub HaveVariables : List VariableRow → List LinkRun → Type 0
 HaveVariables ws xs = All (HasVariable ws) xs
 
 abbrev pub IsMemory : LinkError → Type 0
@@ -68,7 +68,7 @@ Tested (Ok x) f = f ≡ None
 Tested (Err g) f = f ≡ Some g
 
 -- of each of the 64 units it is told whether some slave has it
-pub record AreUsedUnits (zs : List Size) (used : List Bool) : Type 0 where
+pub record AreUsedUnits (zs : List SlaveSize) (used : List Bool) : Type 0 where
   pub as_many : length used ≡ 64
   pub each : (unit : ℕ) → unit < 64 → get_or used unit false ≡ is_unit_of zs unit
 

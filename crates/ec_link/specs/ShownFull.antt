@@ -2,13 +2,13 @@
 use Rattle.std.specs.Prelude.{◌≡◌, ℕ, option_map}
 use Rattle.ec_table.specs.Contents.{Contents, shown_full}
 use Rattle.ec_table.specs.Objects.{type_of, face_of}
-use Rattle.ec_link.specs.declared.settings.Settings.{Settings}
+use Rattle.ec_link.specs.declared.settings.SlavePlan.{SlavePlan}
 use Rattle.ec_link.specs.Sizes.{each_from}
 use Rattle.ec_link.specs.Faults.{compile_fault}
 use Rattle.ec_link.specs.Plan.{PlanState, plan_of}
 
 -- the settings of slave s, whose kind has the face that the table gives it
-abbrev pub with_face : Contents → ℕ → Settings → Settings
+abbrev pub with_face : Contents → ℕ → SlavePlan → SlavePlan
 with_face t s x = record x { kind = record x.kind { face = option_map (face_of t s) (type_of t s) } }
 
 -- a plan whose slaves have the faces that the table gives them

@@ -1,12 +1,12 @@
--- Wires as spans of one line of numbers, 2^17 for the output bits of each slave and as many for each variable, and a map from
+-- Link runs as spans of one line of numbers, 2^17 for the output bits of each slave and as many for each variable, and a map from
 -- where each span begins to where it ends: helpers of private code.
 use Rattle.std.specs.Prelude.{ℕ, ◌+◌, ◌*◌, ◌^◌, ◌<◌, ◌≤◌, ◌≡◌, if◌then◌else◌, List, get_or, Some}
 use Rattle.std.specs.BTreeMap.{BTreeMap, get}
 use Rattle.std.specs.Ordering.{nat_cmp}
-use Rattle.ec_link.specs.declared.wires.Wire.{Wire}
-use Rattle.ec_link.specs.Wires.{is_out}
+use Rattle.ec_link.specs.declared.link_runs.LinkRun.{LinkRun}
+use Rattle.ec_link.specs.LinkRuns.{is_out}
 
-abbrev pub span_from : Wire → ℕ
+abbrev pub span_from : LinkRun → ℕ
 span_from w = if is_out w.direction then 2 ^ 18 * w.slave + w.object_bit else 2 ^ 18 * w.variable + (2 ^ 17 + w.variable_bit)
 
 -- none is empty, and no two share a number
@@ -22,9 +22,9 @@ pub record IsMet (ends : BTreeMap ℕ ℕ) (from end : ℕ) : Type 0 where
   pub before : a < end
   pub past : from < b
 
--- the span from a to before b is one of the first n wires'
-pub record IsSpanOf (ws : List Wire) (n a b : ℕ) : Type 0 where
+-- the span from a to before b is one of the first n link runs'
+pub record IsSpanOf (ws : List LinkRun) (n a b : ℕ) : Type 0 where
   pub k : ℕ
   pub below : k < n
-  pub from : (d : Wire) → a ≡ span_from (get_or ws k d)
-  pub end : (d : Wire) → b ≡ a + (get_or ws k d).count
+  pub from : (d : LinkRun) → a ≡ span_from (get_or ws k d)
+  pub end : (d : LinkRun) → b ≡ a + (get_or ws k d).count

@@ -2,25 +2,25 @@
 ghost use Rattle.std.specs.Prelude.{◌≡◌, ◌+◌, ◌<◌, ◌≤◌, ◌^◌, ℕ, true, false, All, IfOk, Some};
 ghost use Rattle.std.specs.BTreeMap.{get};
 ghost use Rattle.std.specs.Ordering.{nat_cmp};
-ghost use Rattle.ec_link.specs.Wires.{linked_twice};
+ghost use Rattle.ec_link.specs.LinkRuns.{linked_twice};
 ghost use Rattle.ec_link.specs.Spans.{span_from, AreApart, IsMet};
 ghost use Rattle.ec_link.specs.Faults.{first_at};
-ghost use Rattle.ec_link.specs.Limits.{IsShortWire};
+ghost use Rattle.ec_link.specs.Limits.{IsShortRun};
 
-use crate::wires::{Wire, is_out};
+use crate::link_runs::{LinkRun, is_out};
 use std::alloc::{AllocError, Global};
 use std::collections::BTreeMap;
 
-/// Where a wire begins on the line that has 2^17 numbers for the outputs of each slave and as many for each variable.
-fn span_from(wire: &Wire) -> u128
-    requires { IsShortWire wire.now }
-    ensures value { result ≡ span_from wire.now }
+/// Where a link run begins on the line that has 2^17 numbers for the outputs of each slave and as many for each variable.
+fn span_from(link_run: &LinkRun) -> u128
+    requires { IsShortRun link_run.now }
+    ensures value { result ≡ span_from link_run.now }
     ensures low { result < 2 ^ 100 }
 {
-    if is_out(wire.direction) {
-        (1 << 18) * wire.slave as u128 + wire.object_bit as u128
+    if is_out(link_run.direction) {
+        (1 << 18) * link_run.slave as u128 + link_run.object_bit as u128
     } else {
-        (1 << 18) * wire.variable as u128 + ((1 << 17) + wire.variable_bit as u128)
+        (1 << 18) * link_run.variable as u128 + ((1 << 17) + link_run.variable_bit as u128)
     }
 }
 
@@ -37,15 +37,15 @@ fn is_met(ends: &BTreeMap<u128, u128>, from: u128, end: u128) -> bool
     }
 }
 
-/// The first wire that gives a bit which an earlier one gives, in a turn for each wire, by a map of those so far.
-pub fn first_met(alloc: Global, wires: &[Wire]) -> Result<Option<usize>, AllocError>
-    requires { All IsShortWire wires.now }
-    ensures { IfOk result (λ o. o ≡ first_at (linked_twice wires.now) 0 wires.now) }
+/// The first link run that gives a bit which an earlier one gives, in a turn for each link run, by a map of those so far.
+pub fn first_met(alloc: Global, link_runs: &[LinkRun]) -> Result<Option<usize>, AllocError>
+    requires { All IsShortRun link_runs.now }
+    ensures { IfOk result (λ o. o ≡ first_at (linked_twice link_runs.now) 0 link_runs.now) }
 {
     let mut ends = BTreeMap::new(alloc);
-    for (place, wire) in wires.iter().enumerate() {
-        let from = span_from(wire);
-        let end = from + wire.count as u128;
+    for (place, link_run) in link_runs.iter().enumerate() {
+        let from = span_from(link_run);
+        let end = from + link_run.count as u128;
         if is_met(&ends, from, end) {
             return Ok(Some(place));
         }

@@ -2,16 +2,16 @@
 ghost use Rattle.std.specs.Prelude.{◌≡◌, ◌<◌, ℕ, IfOk, length, map, get_or};
 ghost use Rattle.ec_table.specs.Sound.{IsLink};
 ghost use Rattle.ec_link.specs.Faults.{first_at, unit_of_link, split_variable, variable_fault};
-ghost use Rattle.ec_link.specs.Seen.{nothing_seen, seen_more, AreSeen};
+ghost use Rattle.ec_link.specs.VariableUse.{nothing_seen, seen_more, AreSeen};
 
 use crate::fault::LinkFault;
-use crate::wires::is_out;
+use crate::link_runs::is_out;
 use ec_table::{LinkRow, Table};
 use std::alloc::{AllocError, Global};
 
 /// What the links so far say of a variable: the sync unit of the first one's slave, and whether a later one's is another.
 #[derive(Clone, Copy)]
-pub struct Seen {
+pub struct VariableUse {
     pub unit: Option<u8>,
     pub differs: bool,
 }
@@ -26,15 +26,15 @@ fn unit_of_link(table: &Table, link: &LinkRow) -> u8
 }
 
 /// With one link more.
-fn seen_more(seen: Seen, unit: u8) -> Seen
+fn seen_more(seen: VariableUse, unit: u8) -> VariableUse
     ensures { result ≡ seen_more seen unit }
 {
     match seen.unit {
-        None => Seen {
+        None => VariableUse {
             unit: Some(unit),
             differs: seen.differs,
         },
-        Some(first) => Seen {
+        Some(first) => VariableUse {
             unit: Some(first),
             differs: seen.differs || unit != first,
         },
@@ -43,9 +43,9 @@ fn seen_more(seen: Seen, unit: u8) -> Seen
 
 /// Looks at all links once.
 #[tactic(auto, using(crate::proofs::SeenLinks::seen_steps))]
-fn see_links(table: &Table, seen: &mut [Seen])
+fn see_links(table: &Table, seen: &mut [VariableUse])
     requires as_many { length seen.old ≡ length table.now.variables }
-    requires fresh { (v : ℕ) (d : Seen) → v < length seen.old → get_or seen.old v d ≡ nothing_seen }
+    requires fresh { (v : ℕ) (d : VariableUse) → v < length seen.old → get_or seen.old v d ≡ nothing_seen }
     ensures { AreSeen table.now table.now.links seen.new }
 {
     for link in table.links() {
@@ -58,7 +58,7 @@ fn see_links(table: &Table, seen: &mut [Seen])
 
 /// The first input variable with links from two units.
 #[tactic(auto, using(crate::proofs::SeenLinks::seen_read))]
-fn first_split(table: &Table, seen: &[Seen]) -> Option<usize>
+fn first_split(table: &Table, seen: &[VariableUse]) -> Option<usize>
     requires { AreSeen table.now table.now.links seen.now }
     ensures { result ≡ first_at (split_variable table.now) 0 table.now.variables }
 {
@@ -75,7 +75,7 @@ fn first_split(table: &Table, seen: &[Seen]) -> Option<usize>
 pub fn variable_fault(alloc: Global, table: &Table) -> Result<Option<LinkFault>, AllocError>
     ensures { IfOk result (λ f. f ≡ variable_fault table.now) }
 {
-    let fresh = Seen {
+    let fresh = VariableUse {
         unit: None,
         differs: false,
     };

@@ -14,8 +14,8 @@ use Rattle.ec_console.specs.Given.{lines_refusal}
 use Rattle.std.specs.Result.{IsErrAnd}
 use Rattle.ec_live.specs.Living.{IsLiveLate, LiveSays, RunsLive, RunsLiveTable, LivesOn, LivesOut, LivesPart, SaysPart, SaysReading, live_reading}
 use Rattle.ec_live.specs.Stages.{taken_reading}
-use Rattle.ec_lines.specs.declared.lines.Taken.{Taken}
-use Rattle.ec_lines.specs.declared.lines.Taken.TheVariants as taken
+use Rattle.ec_lines.specs.declared.lines.NextLine.{NextLine}
+use Rattle.ec_lines.specs.declared.lines.NextLine.TheVariants as taken
 use Rattle.ec_lines.specs.declared.error.LinesError.{LinesError}
 use Rattle.ec_lines.specs.Taking.{IsTaken, RefusesText, TakesLine}
 use Rattle.ec_lines.proofs.TakeLemmas.{takes_push}
@@ -25,12 +25,12 @@ use Rattle.ec_console.proofs.PrintLemmas.{appends_more, appends_nothing}
 
 -- ---- what is taken as a line
 
-pub taken_is : (t : Contents) (n : ℕ) (line : List ℕ) (taken : Taken) → IsTaken line taken → 0 < length line → taken_reading t n taken ≡ live_reading t n line
+pub taken_is : (t : Contents) (n : ℕ) (line : List ℕ) (taken : NextLine) → IsTaken line taken → 0 < length line → taken_reading t n taken ≡ live_reading t n line
 taken_is t n line taken.End none some = absurd (let z : length line ≡ 0 = ap length none in omega (arith, z))
 taken_is t n line (taken.Text text) (_, is, same) some = rw is (ap (λ (l : List ℕ). reading_of t n l) same)
 taken_is t n line taken.NoText (_, is) some = rw is refl
 
-pub some_taken : (line : List ℕ) (x : Taken) → IsTaken line x → (x ≡ taken.End → ⊥) → 0 < length line
+pub some_taken : (line : List ℕ) (x : NextLine) → IsTaken line x → (x ≡ taken.End → ⊥) → 0 < length line
 some_taken line taken.End h other = absurd (other refl)
 some_taken line (taken.Text text) h other = h.0
 some_taken line taken.NoText h other = h.0
@@ -98,7 +98,7 @@ lived_on reasons t w now new given left after place line count more total old ha
   plan = plan ∙ h.plan;
 }
 
-pub lived_next : (reasons : Reasons) (t : Contents) (w now new : WorldState) (given left after : Option (List ℕ)) (place : ℕ) (x : Taken) (r : Reading) (count more total : ℕ) (old half whole : Option (List ℕ))
+pub lived_next : (reasons : Reasons) (t : Contents) (w now new : WorldState) (given left after : Option (List ℕ)) (place : ℕ) (x : NextLine) (r : Reading) (count more total : ℕ) (old half whole : Option (List ℕ))
     → AreLived reasons t w given left place now count old half → (line : List ℕ) × TakesLine left after line × IsTaken line x → (x ≡ taken.End → ⊥) → r ≡ taken_reading t (place + 1) x
     → (unmet : ℕ) × (more ≡ counted unmet) × (text : List ℕ) × SaysReading reasons t now (place + 1) r new text unmet × Appends half whole text
     → new.plan ≡ now.plan → total ≡ min (count + more) (2 ^ 64 - 1) → AreLived reasons t w given after (place + 1) new total old whole

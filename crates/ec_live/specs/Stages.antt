@@ -5,8 +5,8 @@ use Rattle.ec_link.specs.Faults.{compile_fault}
 use Rattle.ec_console.specs.declared.refusal.Refusal.{Refusal}
 use Rattle.ec_console.specs.Given.{IsLinkRefusal, IsTableRefusal}
 use Rattle.ec_table.specs.Reading.{table_of}
-use Rattle.ec_lines.specs.declared.lines.Taken.{Taken}
-use Rattle.ec_lines.specs.declared.lines.Taken.TheVariants as taken
+use Rattle.ec_lines.specs.declared.lines.NextLine.{NextLine}
+use Rattle.ec_lines.specs.declared.lines.NextLine.TheVariants as taken
 use Rattle.ec_script.specs.declared.read.Reading.{Reading}
 use Rattle.ec_script.specs.declared.read.Reading.TheVariants as reading
 use Rattle.ec_script.specs.Scripts.{reading_of}
@@ -26,7 +26,7 @@ RunsLiveText reasons text given old new ended =
     ⊎ ((refusal : Refusal) × (ended ≡ Err refusal) × IsTableRefusal text refusal × (new ≡ old))
 
 -- what is taken as line n is
-abbrev pub taken_reading : Contents → ℕ → Taken → Reading
+abbrev pub taken_reading : Contents → ℕ → NextLine → Reading
 taken_reading t n taken.End = reading.Empty
 taken_reading t n (taken.Text text) = reading_of t n (string_bytes text)
 taken_reading t n taken.NoText = reading.Bad

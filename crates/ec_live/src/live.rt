@@ -12,11 +12,11 @@ ghost use Rattle.ec_console.specs.Printing.{AppendsPart};
 ghost use Rattle.ec_sim.specs.Simulating.{IsLate, counted};
 ghost use Rattle.ec_live.specs.Stages.{RunsLiveRead, RunsLiveText, taken_reading};
 
+use ec_bringup::identities_of;
 use ec_captured::{Recording, finish_recording, open_segment};
 use ec_console::{Explanation, Refusal, print_text};
-use ec_lines::{Taken, take_line, take_text};
+use ec_lines::{NextLine, take_line, take_text};
 use ec_link::{Plan, compile};
-use ec_rise::identities_of;
 use ec_script::{Reading, read_line};
 use ec_sim::{end_of, print_line};
 use ec_table::{Table, read_table};
@@ -32,14 +32,14 @@ fn reading_of(
     alloc: Global,
     table: &Table,
     number: usize,
-    taken: &Taken,
+    taken: &NextLine,
 ) -> Result<Reading, AllocError>
     ensures { IfOk result (λ reading. reading ≡ taken_reading table.now number taken.now) }
 {
     match taken {
-        Taken::Text(text) => read_line(alloc, table, number, text.as_str()),
-        Taken::NoText => Ok(Reading::Bad),
-        Taken::End => Ok(Reading::Empty),
+        NextLine::Text(text) => read_line(alloc, table, number, text.as_str()),
+        NextLine::NoText => Ok(Reading::Bad),
+        NextLine::End => Ok(Reading::Empty),
     }
 }
 
@@ -107,7 +107,7 @@ fn print_live_lines<S: Watcher, R: Read, W: Write>(
     let mut unmet: u64 = 0;
     for place in 0..usize::MAX {
         let taken = take_line(alloc, input)?;
-        if matches!(taken, Taken::End) {
+        if matches!(taken, NextLine::End) {
             return Ok(unmet);
         }
         let number = place + 1;

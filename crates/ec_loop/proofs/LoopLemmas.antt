@@ -15,7 +15,7 @@ use Rattle.ec_table.specs.declared.rows.Direction.{Direction}
 use Rattle.ec_table.specs.declared.rows.Direction.TheVariants.{Out, In}
 use Rattle.ec_link.specs.declared.image.Variable.{Variable}
 use Rattle.ec_table.specs.Reading.{table_of}
-use Rattle.ec_link.specs.Wires.{is_out}
+use Rattle.ec_link.specs.LinkRuns.{is_out}
 use Rattle.ec_link.specs.Plan.{PlanState, plan_of}
 use Rattle.ec_start.specs.declared.phase.Phase.{Phase}
 use Rattle.ec_start.specs.declared.phase.Phase.TheVariants.{Idle, Sent, Ready, Failed}
@@ -29,7 +29,7 @@ use Rattle.ec_cycle.specs.declared.error.CycleError.{CycleError}
 use Rattle.ec_cycle.specs.declared.error.CycleError.TheVariants.{NumbersSpent}
 use Rattle.ec_wire.specs.Wires.{Ports, WireState, silent}
 use Rattle.ec_slave.specs.State.{SlaveState}
-use Rattle.ec_rise.specs.SwitchedOn.{AreSlavesOf}
+use Rattle.ec_bringup.specs.SwitchedOn.{AreSlavesOf}
 use Rattle.ec_wire.specs.Running.{AreTaken, IsEnded, IsRun}
 use Rattle.ec_wire.proofs.Taking.{tests_stay}
 use Rattle.ec_wire.specs.declared.error.RunError.{RunError}

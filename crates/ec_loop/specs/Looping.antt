@@ -10,7 +10,7 @@ use Rattle.ec_table.specs.declared.rows.Direction.TheVariants.{Out, In}
 use Rattle.ec_table.specs.declared.rows.VariableRow.{VariableRow}
 use Rattle.ec_link.specs.Faults.{compile_fault}
 use Rattle.ec_link.specs.declared.image.Variable.{Variable}
-use Rattle.ec_link.specs.Wires.{is_out}
+use Rattle.ec_link.specs.LinkRuns.{is_out}
 use Rattle.ec_link.specs.Plan.{PlanState, plan_of}
 use Rattle.ec_cycle.specs.Closing.{ReportState}
 use Rattle.ec_cycle.specs.Master.{MasterState, cycle_limit, new_master, readied, value_at, value_put}
@@ -18,7 +18,7 @@ use Rattle.ec_cycle.specs.declared.error.CycleError.TheVariants.{NumbersSpent}
 use Rattle.ec_start.specs.declared.error.StartError.{StartError}
 use Rattle.ec_start.specs.declared.phase.Phase.TheVariants.{Ready, Failed}
 use Rattle.ec_start.specs.Running.{StartState, begun}
-use Rattle.ec_rise.specs.SwitchedOn.{AreSlavesOf}
+use Rattle.ec_bringup.specs.SwitchedOn.{AreSlavesOf}
 use Rattle.ec_wire.specs.Wires.{Ports, WireState, silent}
 use Rattle.ec_wire.specs.BringingUp.{IsBroughtUp}
 use Rattle.ec_slave.specs.State.{SlaveState}

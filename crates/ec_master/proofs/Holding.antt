@@ -2,7 +2,7 @@
 use Rattle.std.proofs.Common.{max, ◌≡◌, ◌∙◌, ℕ, ◌+◌, List, [], ◌∷◌, All, Bool, true, false, nat_lt, Option, None, Some, slice_get, refl, sym, ap, subst, Result, Ok, Err}
 use Rattle.ec_frame.specs.Frame.{Payload}
 use Rattle.ec_link.specs.Plan.{PlanState}
-use Rattle.ec_link.specs.declared.settings.Settings.{Settings}
+use Rattle.ec_link.specs.declared.settings.SlavePlan.{SlavePlan}
 use Rattle.ec_start.specs.Planned.{HasFewAssigned}
 use Rattle.ec_start.specs.Running.{StartState, begun, outcome_of}
 use Rattle.ec_cycle.specs.Closing.{ReportState}
@@ -131,7 +131,7 @@ unfolding new_control
 new_is plan start m first new =
     ap (λ (s : StartState). state_of s m None) first ∙ ap (λ (x : MasterState). state_of (begun plan.slaves 0) x None) new
 
-begun_plan : (slaves : List Settings) (number : ℕ) → (begun slaves number).plan ≡ slaves
+begun_plan : (slaves : List SlavePlan) (number : ℕ) → (begun slaves number).plan ≡ slaves
 unfolding begun
 begun_plan slaves number = refl
 

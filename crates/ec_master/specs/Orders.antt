@@ -9,8 +9,8 @@ use Rattle.ec_world.specs.declared.event.Event.{Event}
 use Rattle.ec_world.specs.declared.event.Event.TheVariants as event
 use Rattle.ec_script.specs.declared.expectation.Expectation.{Expectation}
 use Rattle.ec_script.specs.declared.expectation.Expectation.TheVariants as expects
-use Rattle.ec_script.specs.declared.line.Act.{Act}
-use Rattle.ec_script.specs.declared.line.Act.TheVariants as act
+use Rattle.ec_script.specs.declared.line.LineAction.{LineAction}
+use Rattle.ec_script.specs.declared.line.LineAction.TheVariants as act
 use Rattle.ec_script.specs.declared.read.Reading.{Reading}
 use Rattle.ec_script.specs.declared.read.Reading.TheVariants as reading
 use Rattle.ec_script.specs.Scripts.{reading_of}
@@ -45,7 +45,7 @@ order_of_event (event.Set v x) = Set v x
 order_of_event _ = Bad
 
 -- what an act of a script is for a master: single events but `set`, and `in`, are none
-abbrev pub order_of : List VariableRow → Act → Order
+abbrev pub order_of : List VariableRow → LineAction → Order
 order_of rows (act.One e) = order_of_event e
 order_of rows (act.Input v x) = Bad
 order_of rows (act.Never v) = Never v
@@ -62,7 +62,7 @@ with_show [] = []
 with_show (c ∷ cs) = if bytes_eq (take 6 (c ∷ cs)) (codes "report") then codes "show" ++ drop 6 (c ∷ cs) else c ∷ with_show cs
 
 -- how often an act shows the inputs
-abbrev pub times_of_show : Act → ℕ → Option ℕ
+abbrev pub times_of_show : LineAction → ℕ → Option ℕ
 times_of_show act.Show times = Some times
 times_of_show _ times = None
 

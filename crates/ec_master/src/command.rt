@@ -29,7 +29,7 @@ use std::time::{Clock, Duration};
 
 /// Where a master's frames go, and how long it waits for an answer, in milliseconds.
 #[derive(Clone, Copy, Debug, PartialEq, Eq, Drop)]
-pub struct Way<'a> {
+pub struct Connection<'a> {
     /// The address and the port of a segment, as `127.0.0.1:34980`.
     pub to: &'a str,
     /// The descriptor of a card's raw socket, in the place of the address.
@@ -95,7 +95,7 @@ fn run_tapped<H: AllocGlobal + Files + Clock, W: Wire + Drop, R: Read, O: Write>
 }
 
 /// A socket that is connected with the segment at an address.
-fn connect<R: Net>(rt: &R, way: Way<'_>) -> Result<UdpWire, SocketFault>
+fn connect<R: Net>(rt: &R, way: Connection<'_>) -> Result<UdpWire, SocketFault>
     ensures { IfOk result (λ w. w.failed ≡ 0) }
 {
     match way.to.parse::<SocketAddrV4>() {
@@ -105,7 +105,7 @@ fn connect<R: Net>(rt: &R, way: Way<'_>) -> Result<UdpWire, SocketFault>
 }
 
 /// How long a card waits for a frame.
-fn patience_of(way: Way<'_>) -> Patience {
+fn patience_of(way: Connection<'_>) -> Patience {
     Patience::For(Duration::from_millis(u64::from(way.patience)))
 }
 
@@ -115,7 +115,7 @@ fn run_plan<H: AllocGlobal + Net + Files + Clock, R: Read, O: Write>(
     table: &Table,
     reasons: Reasons,
     plan: &Plan,
-    way: Way<'_>,
+    way: Connection<'_>,
     capture: &mut Capture<H::File>,
     input: &mut R,
     output: &mut O,
@@ -142,7 +142,7 @@ fn run_table<H: AllocGlobal + Net + Files + Clock, R: Read, O: Write>(
     rt: &H,
     table: &Table,
     reasons: Reasons,
-    way: Way<'_>,
+    way: Connection<'_>,
     capture: &mut Capture<H::File>,
     input: &mut R,
     output: &mut O,
@@ -158,7 +158,7 @@ fn run_text<H: AllocGlobal + Net + Files + Clock, R: Read, O: Write>(
     rt: &H,
     text: &str,
     reasons: Reasons,
-    way: Way<'_>,
+    way: Connection<'_>,
     capture: &mut Capture<H::File>,
     input: &mut R,
     output: &mut O,
@@ -173,7 +173,7 @@ fn run_text<H: AllocGlobal + Net + Files + Clock, R: Read, O: Write>(
 fn run_input<H: AllocGlobal + Net + Files + Clock, R: Read, O: Write>(
     rt: &H,
     reasons: Reasons,
-    way: Way<'_>,
+    way: Connection<'_>,
     capture: &mut Capture<H::File>,
     input: &mut R,
     output: &mut O,
@@ -202,7 +202,7 @@ fn run_input<H: AllocGlobal + Net + Files + Clock, R: Read, O: Write>(
 pub fn print_master<H: AllocGlobal + Net + Files + Clock, R: Read, O: Write>(
     rt: &H,
     reasons: Reasons,
-    way: Way<'_>,
+    way: Connection<'_>,
     input: &mut R,
     output: &mut O,
     behind: &mut Explanation,
@@ -217,7 +217,7 @@ pub fn print_master<H: AllocGlobal + Net + Files + Clock, R: Read, O: Write>(
 fn run_captured<H: AllocGlobal + Net + Files + Clock, R: Read, O: Write>(
     rt: &H,
     reasons: Reasons,
-    way: Way<'_>,
+    way: Connection<'_>,
     capture: Capture<H::File>,
     input: &mut R,
     output: &mut O,
@@ -242,7 +242,7 @@ fn run_captured<H: AllocGlobal + Net + Files + Clock, R: Read, O: Write>(
 pub fn capture_master<H: AllocGlobal + Net + Files + Clock, R: Read, O: Write>(
     rt: &H,
     reasons: Reasons,
-    way: Way<'_>,
+    way: Connection<'_>,
     file: &str,
     input: &mut R,
     output: &mut O,

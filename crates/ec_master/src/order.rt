@@ -5,7 +5,7 @@ ghost use Rattle.ec_script.specs.Scripts.{reading_of};
 ghost use Rattle.ec_master.specs.Held.{IsShown};
 ghost use Rattle.ec_master.specs.Orders.{is_input, is_seen, order_of, task_for, task_of, task_reported, times_reported, times_shown};
 
-use ec_script::{Act, Expectation, Line, Reading, read_line};
+use ec_script::{Expectation, Line, LineAction, Reading, read_line};
 use ec_table::{Direction, Table};
 use ec_world::Event;
 use std::alloc::{AllocError, Global};
@@ -69,17 +69,17 @@ fn is_seen(table: &Table, expected: Expectation) -> bool
 }
 
 /// What an act of a script is for a master.
-fn order_of(table: &Table, act: Act) -> Order
+fn order_of(table: &Table, act: LineAction) -> Order
     ensures { result ≡ order_of table.now.variables act }
 {
     match act {
-        Act::One(Event::Set(variable, value)) => Order::Set(variable, value),
-        Act::Never(variable) => Order::Never(variable),
-        Act::Expect(expected) if is_seen(table, expected) => Order::Expect(expected),
-        Act::Ready => Order::Ready,
-        Act::Cycle => Order::Cycle,
-        Act::Show => Order::Show,
-        Act::One(_) | Act::Input(_, _) | Act::Expect(_) => Order::Bad,
+        LineAction::One(Event::Set(variable, value)) => Order::Set(variable, value),
+        LineAction::Never(variable) => Order::Never(variable),
+        LineAction::Expect(expected) if is_seen(table, expected) => Order::Expect(expected),
+        LineAction::Ready => Order::Ready,
+        LineAction::Cycle => Order::Cycle,
+        LineAction::Show => Order::Show,
+        LineAction::One(_) | LineAction::Input(_, _) | LineAction::Expect(_) => Order::Bad,
     }
 }
 
@@ -92,7 +92,7 @@ fn times_shown(reading: Reading) -> Option<u32>
             Line {
                 number: _,
                 times,
-                act: Act::Show,
+                act: LineAction::Show,
             },
         ) => Some(times),
         _ => None,

@@ -8,7 +8,7 @@ use crate::control::Control;
 use crate::order::{Order, Task, read_task};
 use crate::why::told_text;
 use ec_console::{Refusal, print_text};
-use ec_lines::{Taken, take_line};
+use ec_lines::{NextLine, take_line};
 use ec_table::Table;
 use ec_why::Reasons;
 use ec_wire::Wire;
@@ -76,9 +76,9 @@ fn next_task<R: Read>(
     ensures late { IfErr result IsLate }
 {
     match take_line(alloc, input)? {
-        Taken::End => Ok(None),
-        Taken::Text(line) => Ok(Some(read_task(alloc, table, number, line.as_str())?)),
-        Taken::NoText => Ok(Some(Some(Task {
+        NextLine::End => Ok(None),
+        NextLine::Text(line) => Ok(Some(read_task(alloc, table, number, line.as_str())?)),
+        NextLine::NoText => Ok(Some(Some(Task {
             number,
             times: 1,
             order: Order::Bad,

@@ -9,8 +9,8 @@ mod telling;
 mod token;
 mod words;
 
-pub use crate::outline::{Found, Outline, Step};
+pub use crate::outline::{Found, Outline, PathStep};
 pub use crate::remark::{Remark, Remarks};
 pub use crate::spot::{Span, Spot, spot_of};
-pub use crate::telling::{Part, Telling};
+pub use crate::telling::{MarkedPart, Telling};
 pub use crate::words::{counted, is_among, listing, meant, printable};

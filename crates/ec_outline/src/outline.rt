@@ -1,11 +1,11 @@
 //! Where the tables, keys and values of a TOML text stand, found by their tokens alone.
 use crate::spot::Span;
-use crate::token::{Kind, Token, tokens_of};
+use crate::token::{Token, TokenKind, tokens_of};
 use std::alloc::{AllocError, Global};
 
 /// A step on the way to a value.
 #[derive(Clone, Copy, Debug, PartialEq, Eq)]
-pub enum Step<'a> {
+pub enum PathStep<'a> {
     /// To what stands under a key of a table.
     Key(&'a str),
     /// To an item of an array, counted from 0.
@@ -69,7 +69,7 @@ fn statements_of(alloc: Global, tokens: &[Token]) -> Result<Vec<Span>, AllocErro
     let mut start = 0;
     let mut depth = 0;
     for (place, token) in tokens.iter().enumerate() {
-        if token.kind == Kind::LineEnd && depth == 0 {
+        if token.kind == TokenKind::LineEnd && depth == 0 {
             if start < place {
                 statements.push(Span { start, end: place })?;
             }
@@ -132,7 +132,7 @@ impl<'a> Outline<'a> {
     /// The bytes of a key, without quotes.
     fn name_of(&self, token: Token) -> &[u8] {
         let span = match token.kind {
-            Kind::Quoted => Span {
+            TokenKind::Quoted => Span {
                 start: token.span.start.saturating_add(1),
                 end: token.span.end.saturating_sub(1),
             },
@@ -157,7 +157,7 @@ impl<'a> Outline<'a> {
     fn part(&self, statement: Span, number: usize) -> Option<Token> {
         let mut left = number;
         for token in self.tokens_in(statement) {
-            if token.kind == Kind::Equals {
+            if token.kind == TokenKind::Equals {
                 return None;
             }
             if token.is_name() {
@@ -174,7 +174,7 @@ impl<'a> Outline<'a> {
     fn parts(&self, statement: Span) -> usize {
         let mut count: usize = 0;
         for token in self.tokens_in(statement) {
-            if token.kind == Kind::Equals {
+            if token.kind == TokenKind::Equals {
                 return count;
             }
             if token.is_name() {
@@ -186,7 +186,7 @@ impl<'a> Outline<'a> {
 
     fn is_header(&self, statement: Span) -> bool {
         match self.token(statement.start) {
-            Some(token) => token.kind == Kind::Open,
+            Some(token) => token.kind == TokenKind::Open,
             None => false,
         }
     }
@@ -195,7 +195,7 @@ impl<'a> Outline<'a> {
     fn is_item_header(&self, statement: Span) -> bool {
         let second = statement.start.saturating_add(1);
         match self.token(second) {
-            Some(token) => self.is_header(statement) && token.kind == Kind::Open,
+            Some(token) => self.is_header(statement) && token.kind == TokenKind::Open,
             None => false,
         }
     }
@@ -239,7 +239,8 @@ impl<'a> Outline<'a> {
         };
         let mut depth = 0;
         for token in tokens_from(self.tokens.as_slice(), first) {
-            let is_end = matches!(token.kind, Kind::Comma | Kind::LineEnd) || token.is_closing();
+            let is_end = matches!(token.kind, TokenKind::Comma | TokenKind::LineEnd)
+                || token.is_closing();
             if depth == 0 && is_end {
                 return span;
             }
@@ -257,7 +258,7 @@ impl<'a> Outline<'a> {
         let mut place = key;
         for token in tokens_from(self.tokens.as_slice(), key) {
             place = place.saturating_add(1);
-            if token.kind == Kind::Equals {
+            if token.kind == TokenKind::Equals {
                 return Some(Next {
                     key: self.token(key)?.span,
                     value: self.value_bytes(place),
@@ -281,8 +282,9 @@ impl<'a> Outline<'a> {
             if depth == 1 && is_key && self.is_named(*token, key) {
                 return self.value_behind(place);
             }
-            if token.kind != Kind::LineEnd {
-                is_key = depth == 1 && matches!(token.kind, Kind::OpenBrace | Kind::Comma);
+            if token.kind != TokenKind::LineEnd {
+                is_key = depth == 1
+                    && matches!(token.kind, TokenKind::OpenBrace | TokenKind::Comma);
             }
             place = place.saturating_add(1);
         }
@@ -297,7 +299,7 @@ impl<'a> Outline<'a> {
         let mut place = first;
         for token in tokens_from(self.tokens.as_slice(), first) {
             let begins = is_item && depth == 1 && !token.is_closing();
-            if begins && token.kind != Kind::LineEnd {
+            if begins && token.kind != TokenKind::LineEnd {
                 if left == 0 {
                     let value = self.value_bytes(place);
                     let node = Node::Value(place);
@@ -313,8 +315,8 @@ impl<'a> Outline<'a> {
             if depth == 0 {
                 return None;
             }
-            if token.kind != Kind::LineEnd {
-                is_item = depth == 1 && matches!(token.kind, Kind::Open | Kind::Comma);
+            if token.kind != TokenKind::LineEnd {
+                is_item = depth == 1 && matches!(token.kind, TokenKind::Open | TokenKind::Comma);
             }
             place = place.saturating_add(1);
         }
@@ -406,28 +408,28 @@ impl<'a> Outline<'a> {
     }
 
     /// What a step leads to.
-    fn next(&self, node: Node, step: Step<'_>) -> Option<Next> {
+    fn next(&self, node: Node, step: PathStep<'_>) -> Option<Next> {
         match (node, step) {
-            (Node::Document, Step::Key(key)) => match self.in_pairs(0, key) {
+            (Node::Document, PathStep::Key(key)) => match self.in_pairs(0, key) {
                 Some(next) => Some(next),
                 None => self.in_headers(0, None, key),
             },
-            (Node::Headed(place), Step::Key(key)) => {
+            (Node::Headed(place), PathStep::Key(key)) => {
                 let behind = place.saturating_add(1);
                 match self.in_pairs(behind, key) {
                     Some(next) => Some(next),
                     None => self.in_headers(behind, self.statement(place), key),
                 }
             }
-            (Node::Value(first), Step::Key(key)) => self.in_braces(first, key),
-            (Node::Value(first), Step::Item(item)) => self.in_brackets(first, item),
-            (Node::Headers(first), Step::Item(item)) => self.in_item_headers(first, item),
+            (Node::Value(first), PathStep::Key(key)) => self.in_braces(first, key),
+            (Node::Value(first), PathStep::Item(item)) => self.in_brackets(first, item),
+            (Node::Headers(first), PathStep::Item(item)) => self.in_item_headers(first, item),
             _ => None,
         }
     }
 
     /// As much of a way through the text as is found.
-    pub fn find(&self, way: &[Step<'_>]) -> Found {
+    pub fn find(&self, way: &[PathStep<'_>]) -> Found {
         let nothing = Span { start: 0, end: 0 };
         let mut found = Found {
             key: nothing,

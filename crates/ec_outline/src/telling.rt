@@ -1,14 +1,14 @@
 //! What is being told of a text: remarks at the ends of ways through it.
 ghost use Rattle.std.specs.Prelude.{◌≡◌, IfOk};
 
-use crate::outline::{Outline, Step};
+use crate::outline::{Outline, PathStep};
 use crate::remark::Remarks;
 use crate::spot::{Span, spot_of};
 use std::alloc::{AllocError, Global};
 
 /// Which bytes at the end of a way are marked.
 #[derive(Clone, Copy, PartialEq, Eq)]
-pub enum Part {
+pub enum MarkedPart {
     /// The key.
     Key,
     /// The value.
@@ -96,14 +96,14 @@ impl<'a> Telling<'a> {
     }
 
     /// Says which element a way goes through, where that stands in another line than its end.
-    fn say_element(&mut self, way: &[Step<'_>], start: usize) -> Result<(), AllocError> {
-        let [Step::Key(section), Step::Item(element), _, ..] = way else {
+    fn say_element(&mut self, way: &[PathStep<'_>], start: usize) -> Result<(), AllocError> {
+        let [PathStep::Key(section), PathStep::Item(element), _, ..] = way else {
             return Ok(());
         };
         let (section, element) = (*section, *element);
         let found = self
             .outline
-            .find(&[Step::Key(section), Step::Item(element)]);
+            .find(&[PathStep::Key(section), PathStep::Item(element)]);
         let here = spot_of(self.text, found.key.start);
         let is_elsewhere = here.line != spot_of(self.text, start).line;
         if found.steps == 2 && is_elsewhere && self.element != Some(found.key.start) {
@@ -117,7 +117,12 @@ impl<'a> Telling<'a> {
 
     /// Says something of what stands at the end of a way, in whose element it is, and marks it. Where
     /// a part of the way isn't found, the last that is found is marked, and where none is, that is said.
-    pub fn at(&mut self, way: &[Step<'_>], part: Part, words: String) -> Result<(), AllocError> {
+    pub fn at(
+        &mut self,
+        way: &[PathStep<'_>],
+        part: MarkedPart,
+        words: String,
+    ) -> Result<(), AllocError> {
         let alloc = self.alloc;
         let found = self.outline.find(way);
         if found.steps == 0 {
@@ -126,7 +131,7 @@ impl<'a> Telling<'a> {
             return self.note(words);
         }
         let is_whole = found.steps == way.len();
-        let span = if is_whole && part == Part::Value {
+        let span = if is_whole && part == MarkedPart::Value {
             found.value
         } else {
             found.key
@@ -141,7 +146,7 @@ impl<'a> Telling<'a> {
     }
 
     /// Whether a way is found in the text as a whole.
-    pub fn has(&self, way: &[Step<'_>]) -> bool {
+    pub fn has(&self, way: &[PathStep<'_>]) -> bool {
         self.outline.find(way).steps == way.len()
     }
 }

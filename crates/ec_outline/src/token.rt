@@ -4,7 +4,7 @@ use std::alloc::{AllocError, Global};
 
 /// What a token is.
 #[derive(Clone, Copy, Debug, PartialEq, Eq)]
-pub enum Kind {
+pub enum TokenKind {
     /// Bytes without quotes: a bare key, or a piece of a number, a truth value or a date.
     Word,
     /// A text in quotes of any kind.
@@ -31,7 +31,7 @@ pub enum Kind {
 #[derive(Clone, Copy, Debug, PartialEq, Eq)]
 pub struct Token {
     /// What it is.
-    pub kind: Kind,
+    pub kind: TokenKind,
     /// Where it stands, quotes with it.
     pub span: Span,
 }
@@ -39,31 +39,31 @@ pub struct Token {
 impl Token {
     /// Whether it may be a key.
     pub fn is_name(self) -> bool {
-        matches!(self.kind, Kind::Word | Kind::Quoted)
+        matches!(self.kind, TokenKind::Word | TokenKind::Quoted)
     }
 
     /// Whether it begins an array or a table.
     pub fn is_opening(self) -> bool {
-        matches!(self.kind, Kind::Open | Kind::OpenBrace)
+        matches!(self.kind, TokenKind::Open | TokenKind::OpenBrace)
     }
 
     /// Whether it ends one.
     pub fn is_closing(self) -> bool {
-        matches!(self.kind, Kind::Close | Kind::CloseBrace)
+        matches!(self.kind, TokenKind::Close | TokenKind::CloseBrace)
     }
 }
 
 /// The kind of a token of one byte.
-fn kind_of(byte: u8) -> Option<Kind> {
+fn kind_of(byte: u8) -> Option<TokenKind> {
     match byte {
-        b'[' => Some(Kind::Open),
-        b']' => Some(Kind::Close),
-        b'{' => Some(Kind::OpenBrace),
-        b'}' => Some(Kind::CloseBrace),
-        b'=' => Some(Kind::Equals),
-        b',' => Some(Kind::Comma),
-        b'.' => Some(Kind::Dot),
-        b'\n' => Some(Kind::LineEnd),
+        b'[' => Some(TokenKind::Open),
+        b']' => Some(TokenKind::Close),
+        b'{' => Some(TokenKind::OpenBrace),
+        b'}' => Some(TokenKind::CloseBrace),
+        b'=' => Some(TokenKind::Equals),
+        b',' => Some(TokenKind::Comma),
+        b'.' => Some(TokenKind::Dot),
+        b'\n' => Some(TokenKind::LineEnd),
         _ => None,
     }
 }
@@ -149,15 +149,15 @@ fn end_of_line(bytes: &[u8], start: usize) -> usize {
 }
 
 /// The token that begins at a place, if one does, and where the next may begin.
-fn token_at(bytes: &[u8], start: usize, first: u8) -> (Option<Kind>, usize) {
+fn token_at(bytes: &[u8], start: usize, first: u8) -> (Option<TokenKind>, usize) {
     if let Some(kind) = kind_of(first) {
         return (Some(kind), start.saturating_add(1));
     }
     match first {
         b' ' | b'\t' | b'\r' => (None, start.saturating_add(1)),
         b'#' => (None, end_of_line(bytes, start)),
-        b'"' | b'\'' => (Some(Kind::Quoted), end_of_quoted(bytes, start, first)),
-        _ => (Some(Kind::Word), end_of_word(bytes, start)),
+        b'"' | b'\'' => (Some(TokenKind::Quoted), end_of_quoted(bytes, start, first)),
+        _ => (Some(TokenKind::Word), end_of_word(bytes, start)),
     }
 }
 

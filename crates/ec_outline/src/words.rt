@@ -3,7 +3,7 @@ use std::alloc::{AllocError, Global};
 use strsim::osa_distance;
 
 /// Words with more bytes than this are near no name.
-const LONGEST: usize = 64;
+const MAX_WORD: usize = 64;
 
 /// The first of the names that are nearest to a word, if it is near: a third of the word's bytes at
 /// most are to be changed, or one.
@@ -12,7 +12,7 @@ pub fn nearest<'n>(
     word: &str,
     names: &[&'n str],
 ) -> Result<Option<&'n str>, AllocError> {
-    if word.len() > LONGEST {
+    if word.len() > MAX_WORD {
         return Ok(None);
     }
     let mut least = (word.len() / 3).max(1);

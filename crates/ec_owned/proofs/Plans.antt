@@ -13,8 +13,8 @@ use Rattle.ec_start.proofs.Assigned.{has_few}
 use Rattle.ec_start.proofs.LawLemmas.{plans_stay}
 use Rattle.ec_start.specs.Running.{IsStartTaken, StartState, asked, has_failed, restarted}
 use Rattle.ec_owned.specs.Machines.{resumed}
-use Rattle.ec_rise.specs.Starting.{no_plan}
-use Rattle.ec_rise.proofs.StartableLaws.{slave_startable}
+use Rattle.ec_bringup.specs.Starting.{no_plan}
+use Rattle.ec_bringup.proofs.StartableLaws.{slave_startable}
 
 pub can_be_used : (t : Contents) (plan : PlanState) → table.IsSound t → compile_fault t ≡ None → plan ≡ plan_of t → IsUsable plan
 can_be_used t plan sound free is = subst IsUsable (sym is) (plan_usable t sound free)

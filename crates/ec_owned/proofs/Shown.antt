@@ -6,7 +6,7 @@ use Rattle.ec_table.specs.Contents.{Contents, shown_as}
 use Rattle.ec_table.specs.Reading.{table_of}
 use Rattle.ec_link.specs.Faults.{Fails as LinkFails, compile_fault}
 use Rattle.ec_link.proofs.FacesShown.{faces}
-use Rattle.ec_rise.specs.SwitchedOn.{AreSlavesOf}
+use Rattle.ec_bringup.specs.SwitchedOn.{AreSlavesOf}
 use Rattle.ec_owned.specs.declared.error.OpenError.{OpenError}
 use Rattle.ec_owned.specs.declared.error.OpenError.TheVariants as fault
 use Rattle.ec_owned.specs.Opening.{AreOpened, IsLinkFault, IsOpenFault}

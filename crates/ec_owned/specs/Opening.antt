@@ -7,7 +7,7 @@ use Rattle.ec_table.specs.Faults.{error_name as table_name, error_number as tabl
 use Rattle.ec_table.specs.Reading.{table_of}
 use Rattle.ec_table.specs.declared.fault.Place.{Place}
 use Rattle.ec_link.specs.Faults.{Fails as LinkFails, compile_fault, error_name as link_name, error_number as link_number, error_value}
-use Rattle.ec_rise.specs.SwitchedOn.{AreSlavesOf}
+use Rattle.ec_bringup.specs.SwitchedOn.{AreSlavesOf}
 use Rattle.ec_owned.specs.declared.error.OpenError.{OpenError}
 use Rattle.ec_owned.specs.declared.error.OpenError.TheVariants.{Memory, Text, Table, Link}
 use Rattle.ec_owned.specs.declared.error.Values.{Values}

@@ -7,5 +7,5 @@ mod machine;
 mod opening;
 
 pub use crate::error::{OpenError, Values};
-pub use crate::machine::Machine;
+pub use crate::machine::MachineMaster;
 pub use crate::opening::{open_machine, open_slaves};

@@ -21,14 +21,14 @@ use std::marker::Model;
 /// A master of a link table, with its start-up, its plan and the table's names: it needs nothing lent, and frees all of it
 /// when it is dropped. Whoever has it carries the frames.
 #[derive(Drop)]
-pub struct Machine {
+pub struct MachineMaster {
     table: Table,
     startup: Startup,
     master: OwnMaster,
     report: Option<Report>,
 }
 
-impl Model for Machine {
+impl Model for MachineMaster {
     ghost use Rattle.std.specs.Prelude.{◌≡◌};
     ghost use Rattle.ec_owned.specs.Machines.{MachineState};
 
@@ -119,14 +119,14 @@ fn make_ready(master: &mut OwnMaster, startup: &Startup)
     }
 }
 
-impl Machine {
+impl MachineMaster {
     /// The machine of a table and of the plan that `compile` makes of it. No later call takes memory.
     ///
     /// # Errors
     ///
     /// `AllocError` where memory was refused.
     #[tactic(auto, unfolding(ec_start::specs::Running::begun))]
-    pub(crate) fn new(alloc: Global, table: Table, plan: Plan) -> Result<Machine, AllocError>
+    pub(crate) fn new(alloc: Global, table: Table, plan: Plan) -> Result<MachineMaster, AllocError>
         requires accepted { compile_fault table ≡ None }
         requires plan { plan ≡ plan_of table }
         ensures { IfOk result (λ m. m ≡ new_machine table) }
@@ -134,7 +134,7 @@ impl Machine {
         let _version = table.version();
         let startup = Startup::new(alloc, &plan, 0)?;
         let master = OwnMaster::new(alloc, plan)?;
-        Ok(Machine {
+        Ok(MachineMaster {
             table,
             startup,
             master,

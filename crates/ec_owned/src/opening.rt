@@ -1,16 +1,16 @@
 //! From a text to what it states.
 ghost use Rattle.std.specs.Prelude.{◌≡◌, None, Ok, IfOk, IfErr, IsUtf8};
 ghost use Rattle.ec_link.specs.Faults.{compile_fault};
-ghost use Rattle.ec_rise.specs.SwitchedOn.{AreSlavesOf};
+ghost use Rattle.ec_bringup.specs.SwitchedOn.{AreSlavesOf};
 ghost use Rattle.ec_table.specs.Reading.{table_of};
 ghost use Rattle.ec_owned.specs.Machines.{new_machine};
 ghost use Rattle.ec_owned.specs.Opening.{AreOpened, IsLinkFault, IsOpenFault, IsOpened};
 
 use crate::error::OpenError;
-use crate::machine::Machine;
+use crate::machine::MachineMaster;
+use ec_bringup::slaves_of;
 use ec_link::compile;
 use ec_ring::Ring;
-use ec_rise::slaves_of;
 use ec_table::{Table, read_table};
 use std::alloc::Global;
 
@@ -27,13 +27,13 @@ fn table_in(alloc: Global, text: &[u8]) -> Result<Table, OpenError>
 }
 
 /// The machine of a table.
-fn machine_of(alloc: Global, table: Table) -> Result<Machine, OpenError>
+fn machine_of(alloc: Global, table: Table) -> Result<MachineMaster, OpenError>
     ensures accepted { IfOk result (λ m. compile_fault table ≡ None) }
     ensures new { IfOk result (λ m. m ≡ new_machine table) }
     ensures refused { IfErr result (IsLinkFault table) }
 {
     let plan = compile(alloc, &table)?;
-    Ok(Machine::new(alloc, table, plan)?)
+    Ok(MachineMaster::new(alloc, table, plan)?)
 }
 
 /// The machine of the table that bytes state.
@@ -41,7 +41,7 @@ fn machine_of(alloc: Global, table: Table) -> Result<Machine, OpenError>
 /// # Errors
 ///
 /// `Text` where they are no text, and the first fault of the text or of its table; `Memory` where that was refused.
-pub fn open_machine(alloc: Global, text: &[u8]) -> Result<Machine, OpenError>
+pub fn open_machine(alloc: Global, text: &[u8]) -> Result<MachineMaster, OpenError>
     ensures opened { IfOk result (IsOpened text.now) }
     ensures refused { IfErr result (IsOpenFault text.now) }
 {

@@ -4,7 +4,7 @@ ghost use Rattle.ec_regs.specs.Memory.{AccessIsTheTable};
 ghost use Rattle.ec_regs.specs.Constants.{ConstantsAreTheRegisters, ConstantsAreTheControls, ConstantsAreTheLimits};
 ghost use Rattle.ec_regs.specs.Managers.{ManagerIsReadBack, UsualAreasAreSet};
 ghost use Rattle.ec_regs.specs.Fmmus.{FmmuIsReadBack};
-ghost use Rattle.ec_regs.specs.Objects.{BitsAssignedAreOfEntries};
+ghost use Rattle.ec_device.specs.Objects.{BitsAssignedAreOfEntries};
 ghost use Rattle.ec_regs.specs.Words.{AlIsReadBack, SiiIsReadBack};
 
 /// Which register bytes take writes, as a table.

@@ -14,7 +14,7 @@ pub use crate::access::{is_stored, takes_writes};
 pub use crate::fmmu::{FmmuSettings, decode_fmmu, encode_fmmu};
 pub use crate::listed::Listed;
 pub use crate::manager::{
-    CONTROL_INPUTS, CONTROL_MAILBOX_IN, CONTROL_MAILBOX_OUT, CONTROL_OUTPUTS, ManagerSettings,
+    CONTROL_INPUTS, CONTROL_MAILBOX_IN, CONTROL_MAILBOX_OUT, CONTROL_OUTPUTS, SyncManagerSettings,
     decode_manager, encode_manager,
 };
 pub use crate::slave_type::{

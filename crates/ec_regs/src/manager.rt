@@ -1,6 +1,6 @@
 //! The record of a sync manager.
 ghost use Rattle.std.specs.Prelude.{◌≡◌, slice_index};
-ghost use Rattle.ec_regs.specs.Managers.{no_settings, area_settings, settings_of, manager_bytes, is_mailbox, is_buffered, is_ring_written, is_ring_read, span, is_set};
+ghost use Rattle.ec_regs.specs.Managers.{no_settings, area_settings, settings_of, manager_bytes, is_mailbox, is_buffered, is_master_written, is_master_read, span, is_set};
 
 use crate::registers::{RAM_END, RAM_START};
 use byteorder::{ByteOrder, LittleEndian};
@@ -16,7 +16,7 @@ pub const CONTROL_INPUTS: u8 = 0x20;
 
 /// The bytes of a sync manager that the ring writes: 0 to 4 and 6 of its eight.
 #[derive(Clone, Copy, Debug, PartialEq, Eq)]
-pub struct ManagerSettings {
+pub struct SyncManagerSettings {
     /// The physical start address.
     pub start: u16,
     /// The length in bytes.
@@ -27,12 +27,12 @@ pub struct ManagerSettings {
     pub activate: u8,
 }
 
-impl ManagerSettings {
+impl SyncManagerSettings {
     /// Those of a manager that isn't there: all 0.
     pub fn none() -> Self
         ensures { result ≡ no_settings }
     {
-        ManagerSettings {
+        SyncManagerSettings {
             start: 0,
             length: 0,
             control: 0,
@@ -45,7 +45,7 @@ impl ManagerSettings {
     pub fn of_area(start: u16, length: u16, control: u8) -> Self
         ensures { result ≡ area_settings start length control }
     {
-        ManagerSettings {
+        SyncManagerSettings {
             start,
             length,
             control,
@@ -68,15 +68,15 @@ impl ManagerSettings {
     }
 
     /// Whether the ring writes and the slave reads: 01 in bits 2 and 3 of the control byte.
-    pub fn is_ring_written(&self) -> bool
-        ensures { result ≡ is_ring_written self.now }
+    pub fn is_master_written(&self) -> bool
+        ensures { result ≡ is_master_written self.now }
     {
         self.control / 4 % 4 == 0b01
     }
 
     /// Whether the ring reads and the slave writes: 00 in bits 2 and 3 of the control byte.
-    pub fn is_ring_read(&self) -> bool
-        ensures { result ≡ is_ring_read self.now }
+    pub fn is_master_read(&self) -> bool
+        ensures { result ≡ is_master_read self.now }
     {
         self.control / 4 % 4 == 0b00
     }
@@ -100,7 +100,7 @@ impl ManagerSettings {
     {
         self.activate % 2 == 1
             && (self.is_mailbox() || self.is_buffered())
-            && (self.is_ring_written() || self.is_ring_read())
+            && (self.is_master_written() || self.is_master_read())
             && self.length > 0
             && self.start as usize >= RAM_START
             && self.start as usize + self.span() <= RAM_END
@@ -109,10 +109,10 @@ impl ManagerSettings {
 
 /// The settings in a sync manager's eight bytes; byte 5, the status, and byte 7, the slave's side,
 /// are no settings.
-pub fn decode_manager(bytes: &[u8; 8]) -> ManagerSettings
+pub fn decode_manager(bytes: &[u8; 8]) -> SyncManagerSettings
     ensures { result ≡ settings_of (slice_index bytes.now) }
 {
-    ManagerSettings {
+    SyncManagerSettings {
         start: LittleEndian::read_u16(&bytes[0..2]),
         length: LittleEndian::read_u16(&bytes[2..4]),
         control: bytes[4],
@@ -121,10 +121,10 @@ pub fn decode_manager(bytes: &[u8; 8]) -> ManagerSettings
 }
 
 /// The eight bytes of a sync manager with these settings, 0 in bytes 5 and 7.
-pub fn encode_manager(settings: &ManagerSettings) -> [u8; 8]
+pub fn encode_manager(settings: &SyncManagerSettings) -> [u8; 8]
     ensures { result ≡ manager_bytes settings.now }
 {
-    let ManagerSettings {
+    let SyncManagerSettings {
         start,
         length,
         control,

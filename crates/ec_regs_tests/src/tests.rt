@@ -1,11 +1,12 @@
+use ec_device::{Device, Entry, Mailbox, Pdo, SlaveType};
+use ec_listed::Listed;
 use ec_regs::registers::{
     AL_CONTROL, AL_STATUS, AL_STATUS_CODE, SII_ADDRESS, SII_CONTROL, SII_DATA, STATION_ADDRESS,
     fmmu_address, manager_address,
 };
 use ec_regs::{
-    AlWord, CONTROL_OUTPUTS, Device, Entry, FmmuSettings, Listed, Mailbox, ManagerSettings, Pdo,
-    SiiControl, SlaveType, decode_fmmu, decode_manager, encode_fmmu, encode_manager, is_stored,
-    takes_writes,
+    AlWord, CONTROL_OUTPUTS, FmmuSettings, SiiControl, SyncManagerSettings, decode_fmmu,
+    decode_manager, encode_fmmu, encode_manager, is_stored, takes_writes,
 };
 use std::alloc::Global;
 use std::process::Abort;
@@ -18,11 +19,11 @@ fn output_manager(rt: HostRuntime) {
     let settings = decode_manager(&bytes);
     assert_eq!(rt;
         settings,
-        ManagerSettings::of_area(0x1100, 2, CONTROL_OUTPUTS)
+        SyncManagerSettings::of_area(0x1100, 2, CONTROL_OUTPUTS)
     );
     assert!(rt; settings.is_set());
     assert!(rt; settings.is_buffered());
-    assert!(rt; settings.is_ring_written());
+    assert!(rt; settings.is_master_written());
     assert_eq!(rt; settings.span(), 6);
     assert!(rt; encode_manager(&settings) == bytes);
 }
@@ -61,7 +62,7 @@ fn spans_at_the_end_of_the_ram(rt: HostRuntime) {
     let longest = decode_manager(&[0x00, 0x10, 0xFF, 0xFF, 0x24, 0x00, 0x01, 0x00]);
     assert!(rt; !longest.is_set());
     let input = decode_manager(&[0x00, 0x14, 0x02, 0x00, 0x20, 0x00, 0x01, 0x00]);
-    assert!(rt; input.is_ring_read());
+    assert!(rt; input.is_master_read());
     assert!(rt; input.is_set());
 }
 
@@ -224,7 +225,7 @@ fn types_out_of_limits(rt: HostRuntime) -> Result<(), Fail> {
 
 #[test]
 fn a_type_without_objects(rt: HostRuntime) {
-    let plain = SlaveType::plain(rt.alloc());
+    let plain = SlaveType::without_pdos(rt.alloc());
     assert_eq!(rt; plain.mailbox(), None);
     assert!(rt; plain.outputs().is_empty());
     assert_eq!(rt; plain.output_bits(), 0);

@@ -1,7 +1,7 @@
 //! What a mailbox message says.
 
 use crate::abort::abort_text;
-use ec_coe::{Command, Message, Service, Value};
+use ec_coe::{Message, SdoCommand, SdoValue, Service};
 use std::alloc::AllocError;
 use std::fmt::Write as _;
 
@@ -9,30 +9,30 @@ use std::fmt::Write as _;
 fn write_transfer(text: &mut String, message: &Message) -> Result<(), AllocError> {
     let (index, subindex, number) = (message.index, message.subindex, message.value);
     match message.command {
-        Command::DownloadRequest(size) => {
-            let (bytes, value) = (size.number(), Value::of(size, number).number);
+        SdoCommand::DownloadRequest(size) => {
+            let (bytes, value) = (size.number(), SdoValue::of(size, number).number);
             writeln!(
                 text,
                 "download {index:04x}:{subindex:02x} = {value:x} ({bytes} bytes)"
             )
         }
-        Command::DownloadResponse => writeln!(text, "downloaded {index:04x}:{subindex:02x}"),
-        Command::UploadRequest => writeln!(text, "upload {index:04x}:{subindex:02x}"),
-        Command::UploadResponse(size) => {
-            let (bytes, value) = (size.number(), Value::of(size, number).number);
+        SdoCommand::DownloadResponse => writeln!(text, "downloaded {index:04x}:{subindex:02x}"),
+        SdoCommand::UploadRequest => writeln!(text, "upload {index:04x}:{subindex:02x}"),
+        SdoCommand::UploadResponse(size) => {
+            let (bytes, value) = (size.number(), SdoValue::of(size, number).number);
             writeln!(
                 text,
                 "uploaded {index:04x}:{subindex:02x} = {value:x} ({bytes} bytes)"
             )
         }
-        Command::Abort => {
+        SdoCommand::Abort => {
             let why = abort_text(number);
             writeln!(
                 text,
                 "abort {index:04x}:{subindex:02x}, code {number:08x}: {why}"
             )
         }
-        Command::Other(command) => {
+        SdoCommand::Other(command) => {
             writeln!(text, "command {command:02x} of {index:04x}:{subindex:02x}")
         }
     }

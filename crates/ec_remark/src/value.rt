@@ -3,7 +3,7 @@
 use crate::register::Register;
 use crate::sii::sii_text;
 use crate::state::{state_name, status_text};
-use ec_regs::{AlWord, FmmuSettings, ManagerSettings, SiiControl, decode_fmmu, decode_manager};
+use ec_regs::{AlWord, FmmuSettings, SiiControl, SyncManagerSettings, decode_fmmu, decode_manager};
 use std::alloc::AllocError;
 use std::fmt::Write as _;
 
@@ -42,7 +42,7 @@ fn write_fmmu(text: &mut String, settings: FmmuSettings) -> Result<(), AllocErro
 /// Adds what is set in a sync manager.
 fn write_manager(
     text: &mut String,
-    settings: ManagerSettings,
+    settings: SyncManagerSettings,
     status: u8,
 ) -> Result<(), AllocError> {
     let is = if settings.activate % 2 == 1 {
@@ -57,9 +57,9 @@ fn write_manager(
     } else {
         "no mode"
     };
-    let way = if settings.is_ring_written() {
+    let way = if settings.is_master_written() {
         "the master writes"
-    } else if settings.is_ring_read() {
+    } else if settings.is_master_read() {
         "the master reads"
     } else {
         "no direction"

@@ -1,5 +1,5 @@
 //! Frames past rings of slaves that were just switched on.
-use ec_regs::{Identity, SlaveType};
+use ec_device::{Identity, SlaveType};
 use ec_ring::{NotAFrame, Ring};
 use ec_slave::Slave;
 use std::alloc::{AllocError, Global};
@@ -19,7 +19,7 @@ fn ring_of(alloc: Global, count: usize) -> Result<Ring, AllocError> {
             revision: 0,
             serial: 0,
         };
-        slaves.push(Slave::new(alloc, SlaveType::plain(alloc), identity)?)?;
+        slaves.push(Slave::new(alloc, SlaveType::without_pdos(alloc), identity)?)?;
     }
     Ok(Ring::new(slaves))
 }

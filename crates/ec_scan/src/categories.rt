@@ -3,7 +3,7 @@ use crate::bytes::{byte_at, part_of};
 use crate::eeprom::{Eeprom, FoundPdo};
 use crate::error::ScanError;
 use crate::expected::{expect_bytes, expect_count, expect_number};
-use crate::link::Link;
+use crate::link::Carrier;
 use crate::master::Master;
 use crate::rows::{EntryRow, MailboxRow, PdoRow, SlaveRow};
 use std::alloc::Global;
@@ -259,7 +259,7 @@ pub fn expect_eeprom(alloc: Global, eeprom: &Eeprom, row: &SlaveRow) -> Result<(
 }
 
 /// A word address of an SII has these two words.
-fn expect_read<L: Link + Drop>(
+fn expect_read<L: Carrier + Drop>(
     master: &mut Master<L>,
     station: u16,
     address: u32,
@@ -278,7 +278,7 @@ fn expect_read<L: Link + Drop>(
 }
 
 /// A word address can't be read, and the port shows the error bit alone.
-fn expect_unread<L: Link + Drop>(
+fn expect_unread<L: Carrier + Drop>(
     master: &mut Master<L>,
     station: u16,
     address: u32,
@@ -300,7 +300,7 @@ fn words_of(number: u32) -> (u16, u16) {
 }
 
 /// Behind the mark all is as the mark, up to the end of the image; past it a read ends with the error bit, and the port works on.
-pub fn expect_edge<L: Link + Drop>(
+pub fn expect_edge<L: Carrier + Drop>(
     master: &mut Master<L>,
     station: u16,
     row: &SlaveRow,

@@ -2,8 +2,8 @@
 //! area").
 use crate::bytes::{byte_at, bytes_of, word_at};
 use crate::error::ScanError;
-use crate::link::Link;
-use crate::master::{MOST_POLLS, Master};
+use crate::link::Carrier;
+use crate::master::{MAX_POLLS, Master};
 use std::alloc::{AllocError, Global};
 
 /// SII control and status; the word address follows it, and the data follow that.
@@ -22,7 +22,7 @@ const CATEGORIES: u32 = 0x40;
 const END_MARK: u16 = 0xFFFF;
 
 /// So many categories are read at most.
-const MOST_CATEGORIES: usize = 32;
+const MAX_CATEGORIES: usize = 32;
 
 /// A category.
 #[derive(Debug, Drop)]
@@ -135,10 +135,10 @@ impl Eeprom {
     }
 }
 
-impl<L: Link + Drop> Master<L> {
+impl<L: Carrier + Drop> Master<L> {
     /// Waits until the port isn't busy. Its status word.
     fn await_port(&mut self, station: u16) -> Result<u16, ScanError> {
-        for _ in 0..MOST_POLLS {
+        for _ in 0..MAX_POLLS {
             let status = self.port_status(station)?;
             if status & BUSY == 0 {
                 return Ok(status);
@@ -175,7 +175,7 @@ impl<L: Link + Drop> Master<L> {
     pub fn words_at_once(&mut self, station: u16, address: u16) -> Result<(u16, u16), ScanError> {
         let [low, high] = address.to_le_bytes();
         self.set(station, SII_CONTROL, &[0x80, 0x01, low, high])?;
-        for _ in 0..MOST_POLLS {
+        for _ in 0..MAX_POLLS {
             let shown = self.get(station, SII_CONTROL, 10)?;
             if byte_at(&shown, 1) & 0x81 == 0 {
                 return Ok((word_at(&shown, 6), word_at(&shown, 8)));
@@ -206,7 +206,7 @@ impl<L: Link + Drop> Master<L> {
 
     /// Goes from category to category up to the end mark.
     fn crawl(&mut self, station: u16, eeprom: &mut Eeprom) -> Result<(), ScanError> {
-        for _ in 0..MOST_CATEGORIES {
+        for _ in 0..MAX_CATEGORIES {
             let Some((number, count)) = self.words_at(station, eeprom.end)? else {
                 return Err(ScanError::NoWords(eeprom.end));
             };

@@ -27,7 +27,7 @@ pub enum ScanError {
     Frame(#[from] NotAFrame),
     /// The socket or the card is at fault, or a frame didn't come back.
     #[error("no frame came back")]
-    Link(#[from] SocketFault),
+    Carrier(#[from] SocketFault),
     /// A frame came back with another length.
     #[error("a frame came back with {0} bytes")]
     Length(usize),

@@ -8,7 +8,7 @@ use std::net::{Net, SocketAddrV4};
 use std::time::Duration;
 
 /// The most bytes of outputs that an application here looks at.
-const MOST_OUTPUTS: usize = 256;
+const MAX_OUTPUTS: usize = 256;
 
 /// An answer is awaited so many milliseconds.
 const PATIENCE: u16 = 5000;
@@ -41,7 +41,7 @@ impl Applications {
 }
 
 /// What carries frames past a segment.
-pub trait Link {
+pub trait Carrier {
     /// A frame goes out, and the one that comes back takes its place.
     fn exchange(&mut self, frame: &mut [u8]) -> Result<(), ScanError>;
 
@@ -51,14 +51,14 @@ pub trait Link {
 
 /// A ring in memory. Behind each frame that passed it each slave's firmware steps, and then its application.
 #[derive(Drop)]
-pub struct MemoryLink {
+pub struct MemoryCarrier {
     ring: Ring,
 }
 
-impl MemoryLink {
+impl MemoryCarrier {
     /// A link to these slaves.
-    pub fn new(ring: Ring) -> MemoryLink {
-        MemoryLink { ring }
+    pub fn new(ring: Ring) -> MemoryCarrier {
+        MemoryCarrier { ring }
     }
 
     /// The slaves, with what was done to them.
@@ -70,11 +70,11 @@ impl MemoryLink {
 /// The application reads its outputs, as many as there are now, and writes its inputs.
 fn step_application(slave: &mut Slave) {
     let (output_count, input_count) = slave.app_sizes();
-    let mut outputs = [0; MOST_OUTPUTS];
+    let mut outputs = [0; MAX_OUTPUTS];
     for (place, output) in outputs.iter_mut().enumerate().take(output_count) {
         *output = slave.app_get(place).unwrap_or(0);
     }
-    let seen = &outputs[..output_count.min(MOST_OUTPUTS)];
+    let seen = &outputs[..output_count.min(MAX_OUTPUTS)];
     for place in 0..input_count {
         let _ = slave.app_put(place, Applications::Complement.input(seen, place));
     }
@@ -89,7 +89,7 @@ fn step_slave(ring: &mut Ring, place: usize) {
     }
 }
 
-impl Link for MemoryLink {
+impl Carrier for MemoryCarrier {
     fn exchange(&mut self, frame: &mut [u8]) -> Result<(), ScanError> {
         self.ring.pass_all(frame)?;
         for place in 0..self.ring.len() {
@@ -105,29 +105,29 @@ impl Link for MemoryLink {
 
 /// A wire to a segment of another process, as `ecat segment` is one.
 #[derive(Drop)]
-pub struct WireLink<W: Wire + Drop> {
+pub struct WireCarrier<W: Wire + Drop> {
     wire: W,
     // a frame comes back with so many bytes at least, zeros behind its own
     least: usize,
 }
 
 /// A link to the segment at an address.
-pub fn link_to<R: Net>(rt: &R, peer: SocketAddrV4) -> Result<WireLink<UdpWire>, SocketFault> {
+pub fn link_to<R: Net>(rt: &R, peer: SocketAddrV4) -> Result<WireCarrier<UdpWire>, SocketFault> {
     let wire = UdpWire::connect_patient(rt, peer, PATIENCE)?;
-    Ok(WireLink { wire, least: 0 })
+    Ok(WireCarrier { wire, least: 0 })
 }
 
 /// A link to the segment behind the network card whose raw socket has a descriptor.
-pub fn link_over(descriptor: u16) -> Result<WireLink<CardWire>, SocketFault> {
+pub fn link_over(descriptor: u16) -> Result<WireCarrier<CardWire>, SocketFault> {
     let patience = Patience::For(Duration::from_millis(u64::from(PATIENCE)));
     let wire = CardWire::of_descriptor(i32::from(descriptor), Sender::Master, patience)?;
-    Ok(WireLink {
+    Ok(WireCarrier {
         wire,
         least: LEAST_PAYLOAD,
     })
 }
 
-impl<W: Wire + Drop> WireLink<W> {
+impl<W: Wire + Drop> WireCarrier<W> {
     /// A payload of so many bytes goes out, and the answer takes its place in the buffer. How many bytes came.
     fn carry(&mut self, payload: &[u8], buffer: &mut [u8]) -> Result<usize, SocketFault> {
         if !send_on(&mut self.wire, payload) {
@@ -137,7 +137,7 @@ impl<W: Wire + Drop> WireLink<W> {
     }
 }
 
-impl<W: Wire + Drop> Link for WireLink<W> {
+impl<W: Wire + Drop> Carrier for WireCarrier<W> {
     fn exchange(&mut self, frame: &mut [u8]) -> Result<(), ScanError> {
         let length = frame.len();
         let mut buffer = [0; ROOM];

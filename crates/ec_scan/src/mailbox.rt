@@ -3,8 +3,8 @@ use crate::bytes::{byte_at, part_of};
 use crate::eeprom::Eeprom;
 use crate::error::ScanError;
 use crate::expected::expect_bytes;
-use crate::link::Link;
-use crate::master::{MOST_POLLS, Master};
+use crate::link::Carrier;
+use crate::master::{MAX_POLLS, Master};
 use std::alloc::{AllocError, Global};
 
 /// The status of sync manager 1.
@@ -63,7 +63,7 @@ fn message_of(alloc: Global, kind: u8, counter: u8, body: &[u8]) -> Result<Vec<u
     Ok(message)
 }
 
-impl<L: Link + Drop> Master<L> {
+impl<L: Carrier + Drop> Master<L> {
     /// A message goes into the mailbox of a slave, which is written whole.
     fn send(&mut self, mailbox: &mut Mailbox, kind: u8, body: &[u8]) -> Result<(), ScanError> {
         mailbox.sent = next_counter(mailbox.sent);
@@ -75,7 +75,7 @@ impl<L: Link + Drop> Master<L> {
 
     /// Waits for a message from a slave, and reads its mailbox whole. None where none comes.
     fn receive(&mut self, mailbox: &Mailbox) -> Result<Option<Vec<u8>>, ScanError> {
-        for _ in 0..MOST_POLLS {
+        for _ in 0..MAX_POLLS {
             let status = self.get(mailbox.station, SEND_STATUS, 2)?;
             if byte_at(&status, 0) & 0x08 != 0 {
                 let size = usize::from(mailbox.send_size);
@@ -98,7 +98,7 @@ impl<L: Link + Drop> Master<L> {
 }
 
 /// A message is answered by one of this type, with this behind its header, with the counter that follows and zeros behind.
-pub fn expect_answer<L: Link + Drop>(
+pub fn expect_answer<L: Carrier + Drop>(
     master: &mut Master<L>,
     mailbox: &mut Mailbox,
     asked: (u8, &[u8]),
@@ -150,7 +150,7 @@ fn upload_response(alloc: Global, object: Object, value: &[u8]) -> Result<Vec<u8
 }
 
 /// An upload gives these bytes.
-pub fn expect_upload<L: Link + Drop>(
+pub fn expect_upload<L: Carrier + Drop>(
     master: &mut Master<L>,
     mailbox: &mut Mailbox,
     object: Object,
@@ -162,7 +162,7 @@ pub fn expect_upload<L: Link + Drop>(
 }
 
 /// A download of these bytes is taken.
-pub fn expect_download<L: Link + Drop>(
+pub fn expect_download<L: Carrier + Drop>(
     master: &mut Master<L>,
     mailbox: &mut Mailbox,
     object: Object,
@@ -175,7 +175,7 @@ pub fn expect_download<L: Link + Drop>(
 }
 
 /// A request with this command and these bytes is aborted with this code.
-pub fn expect_abort<L: Link + Drop>(
+pub fn expect_abort<L: Carrier + Drop>(
     master: &mut Master<L>,
     mailbox: &mut Mailbox,
     request: (u8, Object, &[u8]),

@@ -2,7 +2,7 @@
 use crate::bytes::word_at;
 use crate::error::ScanError;
 use crate::frames::{Datagram, frame_of, take_back};
-use crate::link::{Applications, Link};
+use crate::link::{Applications, Carrier};
 use std::alloc::Global;
 
 // the numbers of the commands
@@ -27,7 +27,7 @@ const AL_CONTROL: u16 = 0x0120;
 const AL_STATUS: u16 = 0x0130;
 
 /// So often a change of a slave is waited for.
-pub const MOST_POLLS: usize = 10;
+pub const MAX_POLLS: usize = 10;
 
 /// The station address of the slave at a place.
 pub fn station_of(place: usize) -> Result<u16, ScanError> {
@@ -46,14 +46,14 @@ fn position_of(place: usize) -> Result<u16, ScanError> {
 
 /// A master at one end of a link.
 #[derive(Drop)]
-pub struct Master<L: Link + Drop> {
+pub struct Master<L: Carrier + Drop> {
     link: L,
     alloc: Global,
     // of the last frame
     index: u8,
 }
 
-impl<L: Link + Drop> Master<L> {
+impl<L: Carrier + Drop> Master<L> {
     /// A master over a link.
     pub fn new(alloc: Global, link: L) -> Master<L> {
         Master {
@@ -180,7 +180,7 @@ impl<L: Link + Drop> Master<L> {
     pub fn change_state(&mut self, station: u16, state: u8) -> Result<(u16, u16), ScanError> {
         self.set(station, AL_CONTROL, &[state | 0x10, 0])?;
         let mut seen = (0, 0);
-        for _ in 0..MOST_POLLS {
+        for _ in 0..MAX_POLLS {
             let bytes = self.get(station, AL_STATUS, 6)?;
             seen = (word_at(&bytes, 0), word_at(&bytes, 4));
             if seen.0 == u16::from(state) {

@@ -1,7 +1,7 @@
 //! What a slave's objects must be by its table, and what it refuses.
 use crate::eeprom::FoundPdo;
 use crate::error::ScanError;
-use crate::link::Link;
+use crate::link::Carrier;
 use crate::mailbox::{
     COE, ERROR, Mailbox, expect_abort, expect_answer, expect_download, expect_upload,
 };
@@ -32,7 +32,7 @@ fn next_subindex(place: usize) -> Result<u8, ScanError> {
 }
 
 /// Device type 0, the name, both versions "1", the identity, and what the managers are for.
-fn expect_device<L: Link + Drop>(
+fn expect_device<L: Carrier + Drop>(
     master: &mut Master<L>,
     mailbox: &mut Mailbox,
     row: &SlaveRow,
@@ -53,7 +53,7 @@ fn expect_device<L: Link + Drop>(
 }
 
 /// The entries of an object as its mapping says them: index, subindex and bits, from the highest byte down.
-fn expect_mapping<L: Link + Drop>(
+fn expect_mapping<L: Carrier + Drop>(
     master: &mut Master<L>,
     mailbox: &mut Mailbox,
     row: &PdoRow,
@@ -69,7 +69,7 @@ fn expect_mapping<L: Link + Drop>(
 }
 
 /// All objects of a direction are assigned, and each has its mapping; where there are none there is no assignment.
-fn expect_assigned<L: Link + Drop>(
+fn expect_assigned<L: Carrier + Drop>(
     master: &mut Master<L>,
     mailbox: &mut Mailbox,
     index: u16,
@@ -136,7 +136,7 @@ const REFUSALS: [Refused; 5] = [
 ];
 
 /// What isn't there is aborted, and an upload after each abort is answered as ever.
-fn expect_aborts<L: Link + Drop>(
+fn expect_aborts<L: Carrier + Drop>(
     master: &mut Master<L>,
     mailbox: &mut Mailbox,
 ) -> Result<(), ScanError> {
@@ -148,7 +148,7 @@ fn expect_aborts<L: Link + Drop>(
 }
 
 /// What isn't spoken is refused, and an upload after each refusal is answered as ever.
-fn expect_refusals<L: Link + Drop>(
+fn expect_refusals<L: Carrier + Drop>(
     master: &mut Master<L>,
     mailbox: &mut Mailbox,
 ) -> Result<(), ScanError> {
@@ -160,7 +160,7 @@ fn expect_refusals<L: Link + Drop>(
 }
 
 /// The objects of a slave are as its row says.
-pub fn expect_objects<L: Link + Drop>(
+pub fn expect_objects<L: Carrier + Drop>(
     master: &mut Master<L>,
     mailbox: &mut Mailbox,
     row: &SlaveRow,
@@ -173,7 +173,7 @@ pub fn expect_objects<L: Link + Drop>(
 }
 
 /// The assignment of a direction is written anew: no object, each of these, their count.
-pub fn assign<L: Link + Drop>(
+pub fn assign<L: Carrier + Drop>(
     master: &mut Master<L>,
     mailbox: &mut Mailbox,
     index: u16,

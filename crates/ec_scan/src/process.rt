@@ -4,7 +4,7 @@ use crate::bytes::{byte_at, part_of};
 use crate::error::ScanError;
 use crate::expected::expect_number;
 use crate::frames::Datagram;
-use crate::link::{Applications, Link};
+use crate::link::{Applications, Carrier};
 use crate::master::Master;
 use std::alloc::Global;
 
@@ -256,7 +256,7 @@ fn expect_counters(datagrams: &[Datagram], counters: &[u16]) -> Result<(), ScanE
 }
 
 /// The runs go out in one frame with these outputs, and come back with their counters.
-fn exchange_cycle<L: Link + Drop>(
+fn exchange_cycle<L: Carrier + Drop>(
     master: &mut Master<L>,
     runs: &[Run],
     outputs: &[u8],
@@ -272,7 +272,7 @@ fn exchange_cycle<L: Link + Drop>(
 }
 
 /// A cycle carries these outputs, and brings what the applications made of the outputs before.
-fn expect_cycle<L: Link + Drop>(
+fn expect_cycle<L: Carrier + Drop>(
     master: &mut Master<L>,
     process: &Process,
     joint: bool,
@@ -289,7 +289,7 @@ fn expect_cycle<L: Link + Drop>(
 }
 
 /// Cycles with other outputs in each, by LRW as far as the slaves take part in it; and two by LWR and LRD alone.
-pub fn expect_cycles<L: Link + Drop>(
+pub fn expect_cycles<L: Carrier + Drop>(
     master: &mut Master<L>,
     process: &Process,
 ) -> Result<(), ScanError> {

@@ -5,7 +5,7 @@ use crate::eeprom::{Eeprom, bytes_together};
 use crate::error::ScanError;
 use crate::expected::expect_number;
 use crate::found::Found;
-use crate::link::Link;
+use crate::link::Carrier;
 use crate::mailbox::Mailbox;
 use crate::master::{Master, station_of};
 use crate::objects::{INPUTS_ASSIGNED, OUTPUTS_ASSIGNED, assign, expect_objects};
@@ -46,7 +46,7 @@ fn manager_page(managers: &[u8], number: u16, length: u16) -> [u8; 8] {
 }
 
 /// Writes the registers of a manager.
-fn set_manager<L: Link + Drop>(
+fn set_manager<L: Carrier + Drop>(
     master: &mut Master<L>,
     station: u16,
     managers: &[u8],
@@ -58,7 +58,7 @@ fn set_manager<L: Link + Drop>(
 }
 
 /// A slave enters a state.
-fn expect_state<L: Link + Drop>(
+fn expect_state<L: Carrier + Drop>(
     master: &mut Master<L>,
     station: u16,
     state: u8,
@@ -74,7 +74,7 @@ fn expect_state<L: Link + Drop>(
 }
 
 /// Managers 0 and 1 get what the SII says, both by one datagram, and PREOP is entered.
-fn expect_preop<L: Link + Drop>(
+fn expect_preop<L: Carrier + Drop>(
     master: &mut Master<L>,
     station: u16,
     managers: &[u8],
@@ -105,7 +105,7 @@ fn seat_of(
 }
 
 /// Managers 2 and 3 and an FMMU for each direction with bytes are set.
-fn set_process_data<L: Link + Drop>(
+fn set_process_data<L: Carrier + Drop>(
     master: &mut Master<L>,
     station: u16,
     managers: &[u8],
@@ -123,7 +123,7 @@ fn set_process_data<L: Link + Drop>(
 }
 
 /// The objects of a slave with mailboxes are as its row says, and all of its process data objects are assigned anew.
-fn expect_mailbox<L: Link + Drop>(
+fn expect_mailbox<L: Carrier + Drop>(
     master: &mut Master<L>,
     station: u16,
     eeprom: &Eeprom,
@@ -140,7 +140,7 @@ fn expect_mailbox<L: Link + Drop>(
 }
 
 /// The slave at a place says what its row does, and is set up to SAFEOP. What was found of it.
-fn expect_slave<L: Link + Drop>(
+fn expect_slave<L: Carrier + Drop>(
     master: &mut Master<L>,
     process: &mut Process,
     place: usize,
@@ -160,7 +160,7 @@ fn expect_slave<L: Link + Drop>(
 }
 
 /// All slaves of a segment enter a state.
-pub fn expect_states<L: Link + Drop>(
+pub fn expect_states<L: Carrier + Drop>(
     master: &mut Master<L>,
     count: usize,
     state: u8,
@@ -173,7 +173,7 @@ pub fn expect_states<L: Link + Drop>(
 
 /// The slaves of a segment are counted, read, set up and run, and are as their rows say. What is found of each is added to
 /// `found`, also where a slave behind it isn't as its row says.
-pub fn expect_scan<L: Link + Drop>(
+pub fn expect_scan<L: Carrier + Drop>(
     master: &mut Master<L>,
     rows: &[SlaveRow],
     found: &mut Vec<Found>,
@@ -188,6 +188,9 @@ pub fn expect_scan<L: Link + Drop>(
 }
 
 /// All slaves go back to INIT.
-pub fn expect_init<L: Link + Drop>(master: &mut Master<L>, count: usize) -> Result<(), ScanError> {
+pub fn expect_init<L: Carrier + Drop>(
+    master: &mut Master<L>,
+    count: usize,
+) -> Result<(), ScanError> {
     expect_states(master, count, INIT)
 }

@@ -1,8 +1,8 @@
 //! Segments of tables: their slaves as they are switched on.
 use crate::error::ScanError;
+use ec_bringup::slaves_of;
 use ec_link::compile;
 use ec_ring::Ring;
-use ec_rise::slaves_of;
 use ec_table::{Table, read_table};
 use std::alloc::Global;
 

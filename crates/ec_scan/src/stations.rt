@@ -1,7 +1,7 @@
 //! How many slaves there are, what all of them take by default, and where each of them is.
 use crate::error::ScanError;
 use crate::expected::{expect_bytes, expect_count, expect_number};
-use crate::link::Link;
+use crate::link::Carrier;
 use crate::master::{Master, station_of};
 
 /// A write to a register of all slaves, and whether they take it.
@@ -35,7 +35,7 @@ const FOLLOWED: [u8; 2] = [0x31, 0x5A];
 const LAST: [u8; 2] = [0x11, 0x56];
 
 /// Counts the slaves, and writes what all of them take.
-fn expect_defaults<L: Link + Drop>(master: &mut Master<L>, count: u16) -> Result<(), ScanError> {
+fn expect_defaults<L: Carrier + Drop>(master: &mut Master<L>, count: u16) -> Result<(), ScanError> {
     let types = master.read_all(0x0000, 1)?;
     expect_count("slaves", usize::from(types.counter), usize::from(count))?;
     expect_bytes("register", 0x0000, &types.bytes, &[0x11])?;
@@ -53,7 +53,7 @@ fn expect_defaults<L: Link + Drop>(master: &mut Master<L>, count: u16) -> Result
 }
 
 /// A register of a slave shows these bytes.
-fn expect_shown<L: Link + Drop>(
+fn expect_shown<L: Carrier + Drop>(
     master: &mut Master<L>,
     station: u16,
     register: u16,
@@ -65,7 +65,7 @@ fn expect_shown<L: Link + Drop>(
 }
 
 /// A register of a slave takes these bytes and keeps them.
-fn expect_kept<L: Link + Drop>(
+fn expect_kept<L: Carrier + Drop>(
     master: &mut Master<L>,
     station: u16,
     register: u16,
@@ -76,7 +76,10 @@ fn expect_kept<L: Link + Drop>(
 }
 
 /// The slave at a place gets its station address.
-fn expect_address<L: Link + Drop>(master: &mut Master<L>, place: usize) -> Result<u16, ScanError> {
+fn expect_address<L: Carrier + Drop>(
+    master: &mut Master<L>,
+    place: usize,
+) -> Result<u16, ScanError> {
     let station = station_of(place)?;
     let interface = master.read_place(place, 0x0140, 2)?;
     expect_number("read of", 0x0140, u32::from(interface.counter), 1)?;
@@ -90,7 +93,7 @@ fn expect_address<L: Link + Drop>(master: &mut Master<L>, place: usize) -> Resul
 }
 
 /// What the slave at a place shows and keeps, which has its address from now on.
-fn expect_station<L: Link + Drop>(
+fn expect_station<L: Carrier + Drop>(
     master: &mut Master<L>,
     place: usize,
     is_last: bool,
@@ -112,7 +115,7 @@ fn expect_station<L: Link + Drop>(
 }
 
 /// The slaves of a segment of so many are counted, and each gets its address.
-pub fn expect_stations<L: Link + Drop>(
+pub fn expect_stations<L: Carrier + Drop>(
     master: &mut Master<L>,
     count: usize,
 ) -> Result<(), ScanError> {

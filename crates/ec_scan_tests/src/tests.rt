@@ -9,7 +9,7 @@ use crate::tests::machine::{LAMPS_WORDS, SLAVES, TABLE};
 use crate::tests::sockets::UdpLink;
 use ec_scan::examples::{drive, line, small_machine, terminals};
 use ec_scan::{
-    Found, Link, Master, MemoryLink, SlaveRow, expect_scan, expect_stations, slaves_of_text,
+    Carrier, Found, Master, MemoryCarrier, SlaveRow, expect_scan, expect_stations, slaves_of_text,
     station_of,
 };
 use std::process::Abort;
@@ -26,7 +26,7 @@ fn expect_found(rt: &impl Abort, found: &Found, row: &SlaveRow) {
 }
 
 /// The slaves of a segment are as these rows say to a master that scans them, and each is found.
-fn expect_rows<L: Link + Drop>(
+fn expect_rows<L: Carrier + Drop>(
     rt: &(impl AllocGlobal + Abort),
     link: L,
     rows: &[SlaveRow],
@@ -48,7 +48,7 @@ fn expect_full(
     rows: &[SlaveRow],
 ) -> Result<(), Fail> {
     let ring = slaves_of_text(rt.alloc(), table, true)?;
-    expect_rows(rt, MemoryLink::new(ring), rows)
+    expect_rows(rt, MemoryCarrier::new(ring), rows)
 }
 
 #[test]
@@ -86,7 +86,7 @@ fn scans_over_sockets(rt: HostRuntime) -> Result<(), Fail> {
 #[test]
 fn reads_words_of_categories(rt: HostRuntime) -> Result<(), Fail> {
     let ring = slaves_of_text(rt.alloc(), TABLE, true)?;
-    let mut master = Master::new(rt.alloc(), MemoryLink::new(ring));
+    let mut master = Master::new(rt.alloc(), MemoryCarrier::new(ring));
     expect_stations(&mut master, SLAVES.len())?;
     let station = station_of(1)?;
     for (place, word) in LAMPS_WORDS.iter().enumerate() {

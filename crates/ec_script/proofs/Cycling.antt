@@ -16,15 +16,15 @@ use Rattle.ec_world.specs.declared.event.Event.{Event}
 use Rattle.ec_world.specs.declared.event.Event.TheVariants.{StartNext, Set, Begin, Pass, Lose, Return, Close, Serve, AppPut, AppGet, Fault, Reset}
 use Rattle.ec_world.specs.Plain.{filled}
 use Rattle.ec_world.specs.World.{Flight, WorldState, IsStep, awaits, phase_awaits, phase_ready, flights_from, ByStart, Returns, StartReturns, GivesUp, Closes}
-use Rattle.ec_script.specs.declared.said.Said.{Said}
-use Rattle.ec_script.specs.declared.said.Said.TheVariants as said
+use Rattle.ec_script.specs.declared.said.LineOutput.{LineOutput}
+use Rattle.ec_script.specs.declared.said.LineOutput.TheVariants as said
 use Rattle.ec_script.specs.Events.{cycle_events, newest_slots, slots_sent}
 use Rattle.ec_script.specs.Rounds.{greatest, rounds, rounds_found, slots_with}
 use Rattle.ec_script.specs.Work.{MakesAll, RunsCycle, ends, is_done, said_of}
 use Rattle.ec_script.proofs.Goes.{Goes, done_as_made}
 use Rattle.ec_script.proofs.Readying.{to_world, run_of, ready_law, AllOf, all_both, all_passes, on_done, told_done, last_of}
 use Rattle.ec_script.proofs.SlotsSent.{none_with, filled_none, cycle_found}
-use Rattle.ec_regs.specs.declared.slave_type.Identity.{Identity}
+use Rattle.ec_device.specs.declared.slave_type.Identity.{Identity}
 use Rattle.ec_table.specs.Contents.{Contents}
 use Rattle.ec_link.specs.Plan.{PlanState, plan_of}
 use Rattle.ec_link.proofs.Soundness.{plan_sound}
@@ -136,7 +136,7 @@ rounds_of_cycle n j (suc count) =
     all_both OfCycle (round_of n j) (rounds_of n (j + 1) count) (all_both OfCycle (replicate n (Pass j)) (Return j ∷ []) (all_passes OfCycle j n tt) (tt, tt)) (rounds_of_cycle n (j + 1) count)
 
 -- what a cycle says that was made, and what was closed
-pub record HasClosed (new : WorldState) (word : Said) : Type 0 where
+pub record HasClosed (new : WorldState) (word : LineOutput) : Type 0 where
   pub says : word ≡ said.Report
   pub plan : PlanState
   pub kept : List (Option KeptPart)
@@ -146,7 +146,7 @@ closed_report : (b : Bool) (w v : WorldState) → b ≡ false → ByStart b (Giv
 closed_report true w v e h = absurd (true_false e)
 closed_report false w v e h = (w.master.plan, h.cycle.kept, ap (λ (x : WorldState). x.report) h.is)
 
-pub cycle_says : (old new : WorldState) (word : Said) (n count : ℕ) → RunsCycle old new word → is_done word ≡ true → old.start.phase ≡ IsUp
+pub cycle_says : (old new : WorldState) (word : LineOutput) (n count : ℕ) → RunsCycle old new word → is_done word ≡ true → old.start.phase ≡ IsUp
     → ((mid : WorldState) → IsStep old Begin mid true → rounds_found false mid ≡ rounds_of n 0 count) → HasClosed new word
 cycle_says old new word n count r done up found =
     let first : r.begins.made ≡ true = sym (done_as_made Begin old r.mid r.told r.begins) ∙ begun in
@@ -178,7 +178,7 @@ up_phase (Sent n) e = absurd (true_false (sym e))
 up_phase IsUp e = refl
 up_phase (Failed f) e = absurd (true_false (sym e))
 
-both : (t : Contents) (ids : List Identity) (old new : WorldState) (word : Said) → Rests t ids old → RunsCycle old new word → HasClosed new word × IsExchanged t old new (length (cycle_of t))
+both : (t : Contents) (ids : List Identity) (old new : WorldState) (word : LineOutput) → Rests t ids old → RunsCycle old new word → HasClosed new word × IsExchanged t old new (length (cycle_of t))
 both t ids old new word r h =
     let k = length (plan_of t).parts in
     let f = free_there t ids old r in

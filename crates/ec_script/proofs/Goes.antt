@@ -3,8 +3,8 @@ use Rattle.std.proofs.Common.{◌≡◌, ◌∙◌, suc, ◌<◌, ◌≤◌, Lis
 use Rattle.ec_world.specs.declared.event.Event.{Event}
 use Rattle.ec_world.specs.declared.event.Event.TheVariants.{StartNext, Set, Begin, Pass, Lose, Return, Close, Serve, AppPut, AppGet, Fault, Reset}
 use Rattle.ec_world.specs.World.{WorldState, IsStep, can_happen}
-use Rattle.ec_script.specs.declared.said.Said.{Said}
-use Rattle.ec_script.specs.declared.said.Said.TheVariants as said
+use Rattle.ec_script.specs.declared.said.LineOutput.{LineOutput}
+use Rattle.ec_script.specs.declared.said.LineOutput.TheVariants as said
 use Rattle.ec_script.specs.Events.{AreMade}
 use Rattle.ec_script.specs.Work.{Makes, MakesAll, Onward, ends, is_done, said_else, said_of}
 
@@ -89,7 +89,7 @@ done_if : (e : Event) (old new : WorldState) (made : Bool) → is_done (said_of 
 done_if e old new true = done_said (ends old new) e
 done_if e old new false = refl
 
-pub done_as_made : (e : Event) (old new : WorldState) (word : Said) (h : Makes e old new word) → is_done word ≡ h.made
+pub done_as_made : (e : Event) (old new : WorldState) (word : LineOutput) (h : Makes e old new word) → is_done word ≡ h.made
 done_as_made e old new word h = ap is_done h.says ∙ done_if e old new h.made
 
 -- ---- the words of lines
@@ -98,23 +98,23 @@ last_one : (one all : Bool) (new : WorldState) → all ≡ one → Onward one ((
 last_one true all new e = (refl, e)
 last_one false all new e = (refl, e)
 
-pub goes_one : (e : Event) (old new : WorldState) (word : Said) → Makes e old new word → Goes (e ∷ []) old new (is_done word)
+pub goes_one : (e : Event) (old new : WorldState) (word : LineOutput) → Makes e old new word → Goes (e ∷ []) old new (is_done word)
 goes_one e old new word h = (new, h.made, h.step, last_one h.made (is_done word) new (done_as_made e old new word h))
 
-on_by : {X Y : Type 0} (one : Bool) (first new : WorldState) (told word : Said) → is_done told ≡ one → (one ≡ true → X → Y)
+on_by : {X Y : Type 0} (one : Bool) (first new : WorldState) (told word : LineOutput) → is_done told ≡ one → (one ≡ true → X → Y)
     → Onward one X ((new ≡ first) × (word ≡ told)) → Onward one Y ((new ≡ first) × (is_done word ≡ false))
 on_by true first new told word e f h = f refl h
 on_by false first new told word e f h = (h.0, ap is_done h.1 ∙ e)
 
 -- an event is made, and then what follows
-pub goes_then : {X : Type 0} (e : Event) (es : List Event) (old mid new : WorldState) (told word : Said) (h : Makes e old mid told)
+pub goes_then : {X : Type 0} (e : Event) (es : List Event) (old mid new : WorldState) (told word : LineOutput) (h : Makes e old mid told)
     → Onward (is_done told) X ((new ≡ mid) × (word ≡ told)) → (h.made ≡ true → X → Goes es mid new (is_done word)) → Goes (e ∷ es) old new (is_done word)
 goes_then {X} e es old mid new told word h rest f =
     let done = done_as_made e old mid told h in
     let on : Onward h.made X ((new ≡ mid) × (word ≡ told)) = subst (λ b. Onward b X ((new ≡ mid) × (word ≡ told))) done rest in
     (mid, h.made, h.step, on_by h.made mid new told word done f on)
 
-pub goes_all : (es : List Event) (old new : WorldState) (word : Said) → MakesAll es old new word → Goes es old new (is_done word)
+pub goes_all : (es : List Event) (old new : WorldState) (word : LineOutput) → MakesAll es old new word → Goes es old new (is_done word)
 goes_all [] old new word h = (h.0, ap is_done h.1)
 goes_all (e ∷ []) old new word h = goes_one e old new word h
 goes_all (e ∷ f ∷ es) old new word h = goes_then e (f ∷ es) old h.mid new h.told word h.begins h.goes_on (λ one x. goes_all (f ∷ es) h.mid new word x)

@@ -5,8 +5,8 @@ use Rattle.ec_world.specs.declared.event.Event.{Event}
 use Rattle.ec_world.specs.declared.event.Event.TheVariants.{StartNext, Set, Begin, Pass, Lose, Return, Close, Serve, AppPut, AppGet, Fault, Reset}
 use Rattle.ec_world.specs.NewWorld.{servings}
 use Rattle.ec_world.specs.World.{WorldState, Flight, IsStep, ByStart, Passes, Returns, StartReturns, awaits}
-use Rattle.ec_script.specs.declared.said.Said.{Said}
-use Rattle.ec_script.specs.declared.said.Said.TheVariants.{Nothing}
+use Rattle.ec_script.specs.declared.said.LineOutput.{LineOutput}
+use Rattle.ec_script.specs.declared.said.LineOutput.TheVariants.{Nothing}
 use Rattle.ec_script.specs.Rounds.{greatest, has_number, round_events, rounds, slots_with}
 use Rattle.ec_script.specs.Work.{MakesAll, Onward, is_done}
 use Rattle.ec_script.proofs.Making.{nonempty, stopped, then_on}
@@ -99,12 +99,12 @@ step_behind : (k : ℕ) (e : Event) (old new : WorldState) (made : Bool) → Tou
 step_behind k e old new true t h = made_behind k e old new t h
 step_behind k e old new false t h = ap (λ w. drop (k + 1) w.slots) (h.refused refl)
 
-onward_behind : {X : Type 0} (b : Bool) (k : ℕ) (first new : WorldState) (word told : Said) → Onward b X ((new ≡ first) × (word ≡ told))
+onward_behind : {X : Type 0} (b : Bool) (k : ℕ) (first new : WorldState) (word told : LineOutput) → Onward b X ((new ≡ first) × (word ≡ told))
     → (X → drop (k + 1) new.slots ≡ drop (k + 1) first.slots) → drop (k + 1) new.slots ≡ drop (k + 1) first.slots
 onward_behind true k first new word told h f = f h
 onward_behind false k first new word told h f = ap (λ w. drop (k + 1) w.slots) h.0
 
-all_behind : (k : ℕ) (es : List Event) (old new : WorldState) (word : Said) → AllTouch k es → MakesAll es old new word → drop (k + 1) new.slots ≡ drop (k + 1) old.slots
+all_behind : (k : ℕ) (es : List Event) (old new : WorldState) (word : LineOutput) → AllTouch k es → MakesAll es old new word → drop (k + 1) new.slots ≡ drop (k + 1) old.slots
 all_behind k [] old new word t h = ap (λ w. drop (k + 1) w.slots) h.0
 all_behind k (e ∷ []) old new word t h = step_behind k e old new h.made t.0 h.step
 all_behind k (e ∷ f ∷ es) old new word t h =
@@ -113,7 +113,7 @@ all_behind k (e ∷ f ∷ es) old new word t h =
 -- ---- slot after slot
 
 -- the frames in the slots below i went round, and those from i on are where they were
-pub record AreGone (n : ℕ) (serving : Bool) (number : ℕ) (old : WorldState) (i : ℕ) (now : WorldState) (word : Said) : Type 0 where
+pub record AreGone (n : ℕ) (serving : Bool) (number : ℕ) (old : WorldState) (i : ℕ) (now : WorldState) (word : LineOutput) : Type 0 where
   pub gone : List Event
   pub went : MakesAll gone old now word
   pub going : is_done word ≡ true
@@ -146,7 +146,7 @@ found_as : (number i : ℕ) (slots : List (Option Flight)) (b : Bool) → i < le
 found_as number i slots b lt is =
     found number i slots lt ∙ ap (λ c. if c then i ∷ slots_with number (i + 1) (drop (i + 1) slots) else slots_with number (i + 1) (drop (i + 1) slots)) is
 
-module _ (n : ℕ) (serving : Bool) (number : ℕ) (old : WorldState) (i : ℕ) (now : WorldState) (told : Said) (h : AreGone n serving number old i now told) where
+module _ (n : ℕ) (serving : Bool) (number : ℕ) (old : WorldState) (i : ℕ) (now : WorldState) (told : LineOutput) (h : AreGone n serving number old i now told) where
   held_before : (b : Bool) → has_number number (get_or now.slots i None) ≡ b → has_number number (get_or old.slots i None) ≡ b
   held_before b is = ap (has_number number) (sym (same_at i now.slots old.slots h.kept)) ∙ is
 
@@ -169,10 +169,10 @@ module _ (n : ℕ) (serving : Bool) (number : ℕ) (old : WorldState) (i : ℕ) 
   round_nonempty = subst (λ (es : List Event). 0 < length es) (append_assoc (replicate n (Pass i)) (if serving then servings 0 n else []) (Return i ∷ []))
       (nonempty (replicate n (Pass i) ++ (if serving then servings 0 n else [])) (Return i) [])
 
-  went_too : (new : WorldState) (word : Said) → MakesAll (round_events n serving i) now new word → MakesAll (h.gone ++ round_events n serving i) old new word
+  went_too : (new : WorldState) (word : LineOutput) → MakesAll (round_events n serving i) now new word → MakesAll (h.gone ++ round_events n serving i) old new word
   went_too new word round = then_on h.gone (round_events n serving i) old now new told word round_nonempty h.went h.going round
 
-  pub gone_on : (new : WorldState) (word : Said) → i < length old.slots → has_number number (get_or now.slots i None) ≡ true
+  pub gone_on : (new : WorldState) (word : LineOutput) → i < length old.slots → has_number number (get_or now.slots i None) ≡ true
       → MakesAll (round_events n serving i) now new word → is_done word ≡ true → AreGone n serving number old (i + 1) new word
   gone_on new word lt is round done = record {
     gone = h.gone ++ round_events n serving i;
@@ -182,7 +182,7 @@ module _ (n : ℕ) (serving : Bool) (number : ℕ) (old : WorldState) (i : ℕ) 
     kept = all_behind i (round_events n serving i) now new word (round_touches n serving i) round ∙ next_same i now.slots old.slots h.kept;
   }
 
-  pub gone_wrong : (new : WorldState) (word : Said) → i < length old.slots → has_number number (get_or now.slots i None) ≡ true
+  pub gone_wrong : (new : WorldState) (word : LineOutput) → i < length old.slots → has_number number (get_or now.slots i None) ≡ true
       → MakesAll (round_events n serving i) now new word → is_done word ≡ false → MakesAll (rounds n serving (slots_with number 0 old.slots)) old new word
   gone_wrong new word lt is round stop =
       subst (λ es. MakesAll es old new word) (split lt is)

@@ -13,8 +13,8 @@ use Rattle.ec_start.specs.Running.{outcome_of}
 use Rattle.ec_world.specs.declared.event.Event.{Event}
 use Rattle.ec_world.specs.declared.event.Event.TheVariants.{AppPut}
 use Rattle.ec_world.specs.World.{WorldState, IsStep, Puts, slave_of}
-use Rattle.ec_script.specs.declared.said.Said.{Said}
-use Rattle.ec_script.specs.declared.said.Said.TheVariants as said
+use Rattle.ec_script.specs.declared.said.LineOutput.{LineOutput}
+use Rattle.ec_script.specs.declared.said.LineOutput.TheVariants as said
 use Rattle.ec_script.specs.Inputs.{bytes_from, inputs_read, is_to, puts, puts_from, slave_byte, slave_puts, value_bytes, with_link, with_links}
 use Rattle.ec_script.specs.Work.{Makes, MakesAll, Onward, ends, is_done, said_of}
 use Rattle.ec_script.proofs.Making.{stopped, then_on}
@@ -95,13 +95,13 @@ puts_split s bs i lt =
 pub none_yet : (s : ℕ) (bs : List ℕ) (w : WorldState) → MakesAll (puts s 0 (take 0 bs)) w w said.Nothing
 none_yet s bs w = subst (λ es. MakesAll es w w said.Nothing) (sym (none_put s 0)) (refl, refl)
 
-pub put_more : (s : ℕ) (bs : List ℕ) (i : ℕ) (old mid new : WorldState) (told word : Said) → i < length bs → MakesAll (puts s 0 (take i bs)) old mid told → is_done told ≡ true
+pub put_more : (s : ℕ) (bs : List ℕ) (i : ℕ) (old mid new : WorldState) (told word : LineOutput) → i < length bs → MakesAll (puts s 0 (take i bs)) old mid told → is_done told ≡ true
     → Makes (AppPut s i (get_or bs i 0)) mid new word → MakesAll (puts s 0 (take (i + 1) bs)) old new word
 put_more s bs i old mid new told word lt h done one =
     let some : 0 < length (AppPut s i (get_or bs i 0) ∷ []) = omega arith in
     subst (λ es. MakesAll es old new word) (sym (puts_split s bs i lt)) (then_on (puts s 0 (take i bs)) (AppPut s i (get_or bs i 0) ∷ []) old mid new told word some h done one)
 
-pub put_stopped : (s : ℕ) (bs : List ℕ) (i : ℕ) (old mid new : WorldState) (told word : Said) → i < length bs → MakesAll (puts s 0 (take i bs)) old mid told → is_done told ≡ true
+pub put_stopped : (s : ℕ) (bs : List ℕ) (i : ℕ) (old mid new : WorldState) (told word : LineOutput) → i < length bs → MakesAll (puts s 0 (take i bs)) old mid told → is_done told ≡ true
     → Makes (AppPut s i (get_or bs i 0)) mid new word → is_done word ≡ false → MakesAll (puts s 0 bs) old new word
 put_stopped s bs i old mid new told word lt h done one stop =
     let here = put_more s bs i old mid new told word lt h done one in
@@ -109,14 +109,14 @@ put_stopped s bs i old mid new told word lt h done one stop =
     sym (puts-append s 0 (take (i + 1) bs) (drop (i + 1) bs)) ∙ ap (puts s 0) (take-append-drop (i + 1) bs) in
     subst (λ es. MakesAll es old new word) whole (stopped (puts s 0 (take (i + 1) bs)) (puts s (0 + length (take (i + 1) bs)) (drop (i + 1) bs)) old new word here stop)
 
-pub put_all : (s : ℕ) (bs : List ℕ) (i : ℕ) (old new : WorldState) (word : Said) → length bs ≤ i → MakesAll (puts s 0 (take i bs)) old new word → MakesAll (puts s 0 bs) old new word
+pub put_all : (s : ℕ) (bs : List ℕ) (i : ℕ) (old new : WorldState) (word : LineOutput) → length bs ≤ i → MakesAll (puts s 0 (take i bs)) old new word → MakesAll (puts s 0 bs) old new word
 put_all s bs i old new word le h =
     let whole : take i bs ≡ bs = sym (append-nil (take i bs)) ∙ (ap (λ xs. take i bs ++ xs) (sym (drop_all i bs le)) ∙ take-append-drop i bs) in
     subst (λ xs. MakesAll (puts s 0 xs) old new word) whole h
 
 -- ---- what it leaves alone, and says
 
-pub record Leaves (s : ℕ) (old new : WorldState) (word : Said) : Type 0 where
+pub record Leaves (s : ℕ) (old new : WorldState) (word : LineOutput) : Type 0 where
   pub plan : new.plan ≡ old.plan
   pub count : length new.slaves ≡ length old.slaves
   pub others : (k : ℕ) → k ≢ s → slave_of new k ≡ slave_of old k
@@ -127,7 +127,7 @@ none_ends : {X : Type 0} (o : Option X) → (is_none o && is_some o) ≡ false
 none_ends None = refl
 none_ends (Some x) = refl
 
-leaves_made : (s i x : ℕ) (old new : WorldState) (word : Said) (b : Bool) → IsStep old (AppPut s i x) new b → word ≡ said_of old (AppPut s i x) new b → Leaves s old new word
+leaves_made : (s i x : ℕ) (old new : WorldState) (word : LineOutput) (b : Bool) → IsStep old (AppPut s i x) new b → word ≡ said_of old (AppPut s i x) new b → Leaves s old new word
 leaves_made s i x old new word false step says = record {
   plan = ap (λ (w : WorldState). w.plan) (step.refused refl);
   count = ap (λ (w : WorldState). length w.slaves) (step.refused refl);
@@ -144,10 +144,10 @@ leaves_made s i x old new word true step says =
       says = λ done. says ∙ ap (λ (b : Bool). if b then said.Ended else said.Nothing) starts;
     }
 
-leaves_one : (s i x : ℕ) (old new : WorldState) (word : Said) → Makes (AppPut s i x) old new word → Leaves s old new word
+leaves_one : (s i x : ℕ) (old new : WorldState) (word : LineOutput) → Makes (AppPut s i x) old new word → Leaves s old new word
 leaves_one s i x old new word h = leaves_made s i x old new word h.made h.step h.says
 
-leaves_then : {X : Type 0} (s : ℕ) (b : Bool) (old mid new : WorldState) (told word : Said) → is_done told ≡ b → Leaves s old mid told → Onward b X ((new ≡ mid) × (word ≡ told)) → (X → Leaves s mid new word)
+leaves_then : {X : Type 0} (s : ℕ) (b : Bool) (old mid new : WorldState) (told word : LineOutput) → is_done told ≡ b → Leaves s old mid told → Onward b X ((new ≡ mid) × (word ≡ told)) → (X → Leaves s mid new word)
     → Leaves s old new word
 leaves_then s true old mid new told word is first h rest =
     let r = rest h in
@@ -159,7 +159,7 @@ leaves_then s false old mid new told word is first h rest = record {
   says = λ done. absurd (let bad : true ≡ false = sym done ∙ (ap is_done h.1 ∙ is) in cc);
 }
 
-leaves_none : (s : ℕ) (old new : WorldState) (word : Said) → (new ≡ old) × (word ≡ said.Nothing) → Leaves s old new word
+leaves_none : (s : ℕ) (old new : WorldState) (word : LineOutput) → (new ≡ old) × (word ≡ said.Nothing) → Leaves s old new word
 leaves_none s old new word h = record {
   plan = ap (λ (w : WorldState). w.plan) h.0;
   count = ap (λ (w : WorldState). length w.slaves) h.0;
@@ -167,18 +167,18 @@ leaves_none s old new word h = record {
   says = λ done. h.1;
 }
 
-leaves_all : (s i : ℕ) (bs : List ℕ) (old new : WorldState) (word : Said) → MakesAll (puts s i bs) old new word → Leaves s old new word
+leaves_all : (s i : ℕ) (bs : List ℕ) (old new : WorldState) (word : LineOutput) → MakesAll (puts s i bs) old new word → Leaves s old new word
 unfolding puts
 leaves_all s i [] old new word h = leaves_none s old new word h
 leaves_all s i (b ∷ []) old new word h = leaves_one s i b old new word h
 leaves_all s i (b ∷ c ∷ bs) old new word h =
     leaves_then s (is_done h.told) old h.mid new h.told word refl (leaves_one s i b old h.mid h.told h.begins) h.goes_on (λ rest. leaves_all s (i + 1) (c ∷ bs) h.mid new word rest)
 
-leaves_if : (b : Bool) (s : ℕ) (bs : List ℕ) (old new : WorldState) (word : Said) → MakesAll (if b then puts s 0 bs else []) old new word → Leaves s old new word
+leaves_if : (b : Bool) (s : ℕ) (bs : List ℕ) (old new : WorldState) (word : LineOutput) → MakesAll (if b then puts s 0 bs else []) old new word → Leaves s old new word
 leaves_if true s bs old new word h = leaves_all s 0 bs old new word h
 leaves_if false s bs old new word h = leaves_none s old new word h
 
-leaves_slave : (v : Variable) (x s : ℕ) (old new : WorldState) (word : Said) → MakesAll (slave_puts old v x s) old new word → Leaves s old new word
+leaves_slave : (v : Variable) (x s : ℕ) (old new : WorldState) (word : LineOutput) → MakesAll (slave_puts old v x s) old new word → Leaves s old new word
 leaves_slave v x s old new word h = leaves_if (list_any (is_to v s) old.plan.in_links) s _ old new word h
 
 -- ---- one slave after another
@@ -228,30 +228,30 @@ pub none_written : (v : Variable) (x : ℕ) (w : WorldState) → AreWritten v x 
 unfolding puts_from
 none_written v x w = record { made = (refl, refl); plan = refl; count = refl; ahead = λ k le. refl }
 
-and_then : (xs ys : List Event) (old mid new : WorldState) (word : Said) → MakesAll xs old mid said.Nothing → MakesAll ys mid new word → MakesAll (xs ++ ys) old new word
+and_then : (xs ys : List Event) (old mid new : WorldState) (word : LineOutput) → MakesAll xs old mid said.Nothing → MakesAll ys mid new word → MakesAll (xs ++ ys) old new word
 and_then xs [] old mid new word h rest =
-    subst (λ es. MakesAll es old new word) (sym (append-nil xs)) (subst (λ (w : WorldState). MakesAll xs old w word) (sym rest.0) (subst (λ (t : Said). MakesAll xs old mid t) (sym rest.1) h))
+    subst (λ es. MakesAll es old new word) (sym (append-nil xs)) (subst (λ (w : WorldState). MakesAll xs old w word) (sym rest.0) (subst (λ (t : LineOutput). MakesAll xs old mid t) (sym rest.1) h))
 and_then xs (y ∷ ys) old mid new word h rest = let some : 0 < length (y ∷ ys) = omega arith in then_on xs (y ∷ ys) old mid new said.Nothing word some h refl rest
 
-here_made : (v : Variable) (x : ℕ) (old : WorldState) (s : ℕ) (now new : WorldState) (word : Said) → AreWritten v x old s now → MakesAll (slave_puts now v x s) now new word
+here_made : (v : Variable) (x : ℕ) (old : WorldState) (s : ℕ) (now new : WorldState) (word : LineOutput) → AreWritten v x old s now → MakesAll (slave_puts now v x s) now new word
     → MakesAll (puts_from old v x 0 (s + 1)) old new word
 here_made v x old s now new word h step =
     let same = same_puts v x s old now h.plan h.count (h.ahead s (omega arith)) in
     subst (λ es. MakesAll es old new word) (sym (next_from old v x s))
     (and_then (puts_from old v x 0 s) (slave_puts old v x s) old now new word h.made (subst (λ es. MakesAll es now new word) same step))
 
-pub next_written : (v : Variable) (x : ℕ) (old : WorldState) (s : ℕ) (now new : WorldState) (word : Said) → AreWritten v x old s now → MakesAll (slave_puts now v x s) now new word
+pub next_written : (v : Variable) (x : ℕ) (old : WorldState) (s : ℕ) (now new : WorldState) (word : LineOutput) → AreWritten v x old s now → MakesAll (slave_puts now v x s) now new word
     → is_done word ≡ true → AreWritten v x old (s + 1) new
 next_written v x old s now new word h step done =
     let leaves = leaves_slave v x s now new word step in
     record {
-      made = subst (λ (t : Said). MakesAll (puts_from old v x 0 (s + 1)) old new t) (leaves.says done) (here_made v x old s now new word h step);
+      made = subst (λ (t : LineOutput). MakesAll (puts_from old v x 0 (s + 1)) old new t) (leaves.says done) (here_made v x old s now new word h step);
       plan = leaves.plan ∙ h.plan;
       count = leaves.count ∙ h.count;
       ahead = λ k le. leaves.others k (let other : k ≢ s = omega arith in other) ∙ h.ahead k (omega arith);
     }
 
-pub written_stopped : (v : Variable) (x : ℕ) (old : WorldState) (n s : ℕ) (now new : WorldState) (word : Said) → AreWritten v x old s now → s < n → MakesAll (slave_puts now v x s) now new word
+pub written_stopped : (v : Variable) (x : ℕ) (old : WorldState) (n s : ℕ) (now new : WorldState) (word : LineOutput) → AreWritten v x old s now → s < n → MakesAll (slave_puts now v x s) now new word
     → is_done word ≡ false → MakesAll (puts_from old v x 0 n) old new word
 written_stopped v x old n s now new word h lt step stop =
     let all : s + 1 + (n - (s + 1)) ≡ n = omega arith in
@@ -279,7 +279,7 @@ links_more v x s links i d bytes new whole lt h is = ap (with_links v x s (drop 
 pub slave_none : (w : WorldState) (v : Variable) (x s : ℕ) → list_any (is_to v s) w.plan.in_links ≡ false → MakesAll (slave_puts w v x s) w w said.Nothing
 slave_none w v x s none = rw none (refl, refl)
 
-pub slave_made : (w new : WorldState) (v : Variable) (x s : ℕ) (word : Said) (base bytes : List ℕ) → list_any (is_to v s) w.plan.in_links ≡ true → base ≡ inputs_read w s
+pub slave_made : (w new : WorldState) (v : Variable) (x s : ℕ) (word : LineOutput) (base bytes : List ℕ) → list_any (is_to v s) w.plan.in_links ≡ true → base ≡ inputs_read w s
     → bytes ≡ with_links v x s w.plan.in_links base → MakesAll (puts s 0 bytes) w new word → MakesAll (slave_puts w v x s) w new word
 slave_made w new v x s word base bytes some read changed h =
     let e : bytes ≡ with_links v x s w.plan.in_links (inputs_read w s) = changed ∙ ap (with_links v x s w.plan.in_links) read in

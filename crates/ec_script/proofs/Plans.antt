@@ -3,10 +3,10 @@ use Rattle.std.proofs.Common.{◌≡◌, ◌∙◌, ℕ, zero, suc, ◌&&◌, Li
 use Rattle.ec_world.specs.declared.event.Event.{Event}
 use Rattle.ec_world.specs.declared.event.Event.TheVariants.{StartNext, Set, Begin, Pass, Lose, Return, Close, Serve, AppPut, AppGet, Fault, Reset}
 use Rattle.ec_world.specs.World.{WorldState, IsStep, ByStart, Sends, Begins, Passes, Returns, StartReturns, GivesUp, Closes, Puts, Gets, awaits}
-use Rattle.ec_script.specs.declared.line.Act.{Act}
-use Rattle.ec_script.specs.declared.line.Act.TheVariants.{One, Input, Never, Expect, Ready, Cycle, Show}
-use Rattle.ec_script.specs.declared.said.Said.{Said}
-use Rattle.ec_script.specs.declared.said.Said.TheVariants.{No}
+use Rattle.ec_script.specs.declared.line.LineAction.{LineAction}
+use Rattle.ec_script.specs.declared.line.LineAction.TheVariants.{One, Input, Never, Expect, Ready, Cycle, Show}
+use Rattle.ec_script.specs.declared.said.LineOutput.{LineOutput}
+use Rattle.ec_script.specs.declared.said.LineOutput.TheVariants.{No}
 use Rattle.ec_script.specs.Inputs.{input_events, is_input_of}
 use Rattle.ec_script.specs.Rounds.{rounds_found}
 use Rattle.ec_script.specs.Work.{Does, Makes, MakesAll, Onward, RunsTurn, Starts, is_done, is_starting, last_turn}
@@ -40,31 +40,31 @@ step : (e : Event) (old new : WorldState) (b : Bool) → IsStep old e new b → 
 step e old new true h = made e old new h
 step e old new false h = ap (λ w. w.plan) (h.refused refl)
 
-one : (e : Event) (old new : WorldState) (word : Said) → Makes e old new word → Keeps old new
+one : (e : Event) (old new : WorldState) (word : LineOutput) → Makes e old new word → Keeps old new
 one e old new word h = step e old new h.made h.step
 
-onward : {X : Type 0} (b : Bool) (old mid new : WorldState) (word told : Said) → Keeps old mid → Onward b X ((new ≡ mid) × (word ≡ told)) → (X → Keeps mid new) → Keeps old new
+onward : {X : Type 0} (b : Bool) (old mid new : WorldState) (word told : LineOutput) → Keeps old mid → Onward b X ((new ≡ mid) × (word ≡ told)) → (X → Keeps mid new) → Keeps old new
 onward true old mid new word told first h f = f h ∙ first
 onward false old mid new word told first h f = ap (λ w. w.plan) h.0 ∙ first
 
-pub all : (es : List Event) (old new : WorldState) (word : Said) → MakesAll es old new word → Keeps old new
+pub all : (es : List Event) (old new : WorldState) (word : LineOutput) → MakesAll es old new word → Keeps old new
 all [] old new word h = ap (λ w. w.plan) h.0
 all (e ∷ []) old new word h = one e old new word h
 all (e ∷ f ∷ es) old new word h = onward (is_done h.told) old h.mid new word h.told (one e old h.mid h.told h.begins) h.goes_on (all (f ∷ es) h.mid new word)
 
-turn : (old new : WorldState) (word : Said) → RunsTurn old new word → Keeps old new
+turn : (old new : WorldState) (word : LineOutput) → RunsTurn old new word → Keeps old new
 turn old new word h = onward (is_done h.told) old h.mid new word h.told (one StartNext old h.mid h.told h.begins) h.goes_on (all (rounds_found true h.mid) h.mid new word)
 
-starts : (n : ℕ) (old new : WorldState) (word : Said) → Starts n old new word → Keeps old new
+starts : (n : ℕ) (old new : WorldState) (word : LineOutput) → Starts n old new word → Keeps old new
 unfolding Starts
 starts zero old new word h = ap (λ w. w.plan) h.0
 starts (suc n) old new word h = onward (is_starting h.mid && is_done h.told) old h.mid new word h.told (turn old h.mid h.told h.begins) h.goes_on (starts n h.mid new word)
 
-put_in : (b : Bool) (es : List Event) (old new : WorldState) (word : Said) → Onward b (MakesAll es old new word) ((new ≡ old) × (word ≡ No)) → Keeps old new
+put_in : (b : Bool) (es : List Event) (old new : WorldState) (word : LineOutput) → Onward b (MakesAll es old new word) ((new ≡ old) × (word ≡ No)) → Keeps old new
 put_in true es old new word h = all es old new word h
 put_in false es old new word h = ap (λ w. w.plan) h.0
 
-pub act_keeps : (act : Act) (old new : WorldState) (word : Said) → Does act old new word → new.plan ≡ old.plan
+pub act_keeps : (act : LineAction) (old new : WorldState) (word : LineOutput) → Does act old new word → new.plan ≡ old.plan
 act_keeps (One e) old new word h = one e old new word h
 act_keeps (Input v x) old new word h = put_in (is_input_of x (slice_get old.plan.variables v)) (input_events old v x) old new word h
 act_keeps (Never v) old new word h = ap (λ w. w.plan) h.0

@@ -24,12 +24,12 @@ use Rattle.ec_world.specs.declared.event.Event.{Event}
 use Rattle.ec_world.specs.declared.event.Event.TheVariants.{StartNext, Set, Begin, Pass, Lose, Return, Close, Serve, AppPut, AppGet, Fault, Reset}
 use Rattle.ec_script.specs.declared.expectation.Expectation.{Expectation}
 use Rattle.ec_script.specs.declared.expectation.Expectation.TheVariants as expects
-use Rattle.ec_script.specs.declared.line.Act.{Act}
-use Rattle.ec_script.specs.declared.line.Act.TheVariants.{One, Input, Never, Expect, Ready, Cycle, Show}
+use Rattle.ec_script.specs.declared.line.LineAction.{LineAction}
+use Rattle.ec_script.specs.declared.line.LineAction.TheVariants.{One, Input, Never, Expect, Ready, Cycle, Show}
 use Rattle.ec_script.specs.declared.line.Line.{Line}
 use Rattle.ec_script.specs.declared.read.Reading.TheVariants as reading
-use Rattle.ec_script.specs.declared.value.Value.{Value}
-use Rattle.ec_script.specs.declared.value.Value.TheVariants.{Number, Outside}
+use Rattle.ec_script.specs.declared.value.WrittenValue.{WrittenValue}
+use Rattle.ec_script.specs.declared.value.WrittenValue.TheVariants.{Number, Outside}
 use Rattle.ec_script.specs.Acts.{act_of_one, act_of_two, act_of_three, act_of_four, act_of_five, act_of_words, expected_by_one, expected_by_two, expected_by_three, expected_by_four, input_act, is_act, set_act, slave_in, state_named, value_expected, value_for, variable_named}
 use Rattle.ec_script.specs.Scripts.{found_line, line_of_words, line_on, reading_of, reading_without}
 use Rattle.ec_script.specs.Words.{Text, byte_of, code_of, hex_of, is_number, number_of, plain_of, times_of, uncommented, value_of, words_of}
@@ -274,7 +274,7 @@ below_for_back t v r = rw r.at (below_back r.row.bits r.few)
 
 -- ---- what can be read back
 
-record IsBack (t : Contents) (act : Act) (words : List Text) : Type 0 where
+record IsBack (t : Contents) (act : LineAction) (words : List Text) : Type 0 where
   verb : Text
   rest : List Text
   are : words ≡ verb ∷ rest
@@ -283,7 +283,7 @@ record IsBack (t : Contents) (act : Act) (words : List Text) : Type 0 where
   plain : are_words (verb ∷ rest) ≡ true
   reads : act_of_words t (verb ∷ rest) ≡ Some act
 
-one_back : (t : Contents) (verb : Text) (act : Act) → nat_lt 0 (length verb) ≡ true → bytes_eq verb (codes "repeat") ≡ false → is_word verb ≡ true
+one_back : (t : Contents) (verb : Text) (act : LineAction) → nat_lt 0 (length verb) ≡ true → bytes_eq verb (codes "repeat") ≡ false → is_word verb ≡ true
     → act_of_one verb ≡ Some act → IsBack t act (verb ∷ [])
 one_back t verb act some other plain reads =
     record { verb = verb; rest = []; are = refl; some = some; other = other; plain = and _ _ plain refl; reads = reads }
@@ -294,24 +294,24 @@ slave_back t s h = rw (number_digits s h, number_back s h) refl
 
 -- ---- one more word
 
-two_back : (t : Contents) (verb word : Text) (act : Act) → nat_lt 0 (length verb) ≡ true → bytes_eq verb (codes "repeat") ≡ false → is_word verb ≡ true
+two_back : (t : Contents) (verb word : Text) (act : LineAction) → nat_lt 0 (length verb) ≡ true → bytes_eq verb (codes "repeat") ≡ false → is_word verb ≡ true
     → is_word word ≡ true → act_of_two t verb word ≡ Some act → IsBack t act (verb ∷ word ∷ [])
 two_back t verb word act some other plain word_plain reads =
     record { verb = verb; rest = word ∷ []; are = refl; some = some; other = other; plain = and _ _ plain (and _ _ word_plain refl); reads = reads }
 
-place_back : (t : Contents) (verb : Text) (n : ℕ) (act : ℕ → Act) → nat_lt 0 (length verb) ≡ true → bytes_eq verb (codes "repeat") ≡ false → is_word verb ≡ true
+place_back : (t : Contents) (verb : Text) (n : ℕ) (act : ℕ → LineAction) → nat_lt 0 (length verb) ≡ true → bytes_eq verb (codes "repeat") ≡ false → is_word verb ≡ true
     → n < 2 ^ 64 → act_of_two t verb (decimal n) ≡ option_and_then (λ k. Some (act k)) (number_of (decimal n)) → IsBack t (act n) (verb ∷ decimal n ∷ [])
 place_back t verb n act some other plain h e =
     two_back t verb (decimal n) (act n) some other plain (number_word n h) (e ∙ ap (option_and_then (λ k. Some (act k))) (number_back n h))
 
-by_slave : (t : Contents) (verb : Text) (n : ℕ) (act : ℕ → Act) → nat_lt 0 (length verb) ≡ true → bytes_eq verb (codes "repeat") ≡ false → is_word verb ≡ true
+by_slave : (t : Contents) (verb : Text) (n : ℕ) (act : ℕ → LineAction) → nat_lt 0 (length verb) ≡ true → bytes_eq verb (codes "repeat") ≡ false → is_word verb ≡ true
     → n < 2 ^ 64 → act_of_two t verb (decimal n) ≡ option_and_then (λ k. Some (act k)) (slave_in t (decimal n)) → IsBack t (act n) (verb ∷ decimal n ∷ [])
 by_slave t verb n act some other plain h e =
     two_back t verb (decimal n) (act n) some other plain (number_word n h) (e ∙ ap (option_and_then (λ k. Some (act k))) (slave_back t n h))
 
 -- ---- two more words
 
-three_back : (t : Contents) (verb a b : Text) (act : Act) → nat_lt 0 (length verb) ≡ true → bytes_eq verb (codes "repeat") ≡ false → is_word verb ≡ true
+three_back : (t : Contents) (verb a b : Text) (act : LineAction) → nat_lt 0 (length verb) ≡ true → bytes_eq verb (codes "repeat") ≡ false → is_word verb ≡ true
     → is_word a ≡ true → is_word b ≡ true → act_of_three t verb a b ≡ Some act → IsBack t act (verb ∷ a ∷ b ∷ [])
 three_back t verb a b act some other plain pa pb reads =
     record { verb = verb; rest = a ∷ b ∷ []; are = refl; some = some; other = other; plain = and _ _ plain (and _ _ pa (and _ _ pb refl)); reads = reads }
@@ -386,7 +386,7 @@ expect_two : (t : Contents) (a b : Text) (e : Expectation) → is_word a ≡ tru
 unfolding act_of_three
 expect_two t a b e pa pb reads = three_back t (codes "expect") a b (Expect e) refl refl refl pa pb (ap (option_and_then (λ x. Some (Expect x))) reads)
 
-value_of_name : (t : Contents) (v : ℕ) (word : Text) (value : Value) → Row t v → IsOtherWord (row_name (slice_get t.variables v)) → is_word word ≡ true
+value_of_name : (t : Contents) (v : ℕ) (word : Text) (value : WrittenValue) → Row t v → IsOtherWord (row_name (slice_get t.variables v)) → is_word word ≡ true
     → value_for t.variables v word ≡ Some value → IsBack t (Expect (is_act v value)) (codes "expect" ∷ row_name (slice_get t.variables v) ∷ word ∷ [])
 unfolding expected_by_two value_expected
 value_of_name t v word value r free plain is =
@@ -506,7 +506,7 @@ expectation_back t (expects.Failed number) sound h = failed_back t number h
 
 -- ---- acts and lines
 
-act_back : (t : Contents) (act : Act) → table.IsSound t → IsActOf t.variables act → IsBack t act (words_for t.variables act)
+act_back : (t : Contents) (act : LineAction) → table.IsSound t → IsActOf t.variables act → IsBack t act (words_for t.variables act)
 unfolding act_of_one
 act_back t (One e) sound h = event_back t e sound h
 act_back t (Input v x) sound h = input_back t v x (row_at t v sound h.0) h.1

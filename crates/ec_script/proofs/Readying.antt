@@ -17,13 +17,13 @@ use Rattle.ec_world.proofs.TurnLaws.{turn_law}
 use Rattle.ec_world.proofs.Turns.{HasTurned, turn_goes}
 use Rattle.ec_world.proofs.Turns as world
 use Rattle.ec_world.proofs.ComingUp.{MayTurn, turned_on, turned_idle, turned_many, turned_up, IsBeginning, beginning, comes_up}
-use Rattle.ec_script.specs.declared.said.Said.{Said}
-use Rattle.ec_script.specs.declared.said.Said.TheVariants as said
+use Rattle.ec_script.specs.declared.said.LineOutput.{LineOutput}
+use Rattle.ec_script.specs.declared.said.LineOutput.TheVariants as said
 use Rattle.ec_script.specs.Events.{lowest_slot, turn_events}
 use Rattle.ec_script.specs.Promised.{ReadyLaw}
 use Rattle.ec_script.specs.Rounds.{rounds, rounds_found}
-use Rattle.ec_script.specs.declared.line.Act.TheVariants.{Ready}
-use Rattle.ec_script.specs.Texts.{outcome_text, said_text}
+use Rattle.ec_script.specs.declared.line.LineAction.TheVariants.{Ready}
+use Rattle.ec_script.specs.Texts.{outcome_text, output_text}
 use Rattle.ec_script.specs.Work.{Does, Makes, MakesAll, Onward, RunsTurn, Starts, ends, has_ended, is_done, is_starting, said_of, last_turn}
 use Rattle.ec_script.proofs.Goes.{Goes, are_made, done_as_made}
 use Rattle.ec_script.proofs.Running.{free_at, turn_goes as turn_made}
@@ -88,23 +88,23 @@ servings_leave s zero = tt
 servings_leave s (suc n) = (tt, servings_leave (s + 1) n)
 
 -- what goes on where all was done
-pub on_done : {X : Type 0} (mid new : WorldState) (told word : Said) (b : Bool) → is_done told ≡ b → Onward b X ((new ≡ mid) × (word ≡ told)) → is_done word ≡ true → X
+pub on_done : {X : Type 0} (mid new : WorldState) (told word : LineOutput) (b : Bool) → is_done told ≡ b → Onward b X ((new ≡ mid) × (word ≡ told)) → is_done word ≡ true → X
 on_done mid new told word true e h done = h
 on_done mid new told word false e h done = absurd (true_false (sym done ∙ (ap is_done h.1 ∙ e)))
 
 -- and the first of it was done too
-pub told_done : (X : Type 0) (mid new : WorldState) (told word : Said) (b : Bool) → is_done told ≡ b → Onward b X ((new ≡ mid) × (word ≡ told)) → is_done word ≡ true → is_done told ≡ true
+pub told_done : (X : Type 0) (mid new : WorldState) (told word : LineOutput) (b : Bool) → is_done told ≡ b → Onward b X ((new ≡ mid) × (word ≡ told)) → is_done word ≡ true → is_done told ≡ true
 told_done X mid new told word true e h done = e
 told_done X mid new told word false e h done = absurd (true_false (sym done ∙ (ap is_done h.1 ∙ e)))
 
 -- the last of some events, where those before it keep what holds at first
-pub record IsLast (P : WorldState → Type 0) (e : Event) (new : WorldState) (word : Said) : Type 0 where
+pub record IsLast (P : WorldState → Type 0) (e : Event) (new : WorldState) (word : LineOutput) : Type 0 where
   pub at : WorldState
   pub kept : P at
   pub last : Makes e at new word
 
 pub last_of : (P : WorldState → Type 0) (Q : Event → Type 0) → ((e : Event) (w v : WorldState) (one : Bool) → Q e → P w → IsStep w e v one → P v)
-    → (xs : List Event) (e : Event) (old new : WorldState) (word : Said) → AllOf Q xs → P old → MakesAll (xs ++ (e ∷ [])) old new word → is_done word ≡ true → IsLast P e new word
+    → (xs : List Event) (e : Event) (old new : WorldState) (word : LineOutput) → AllOf Q xs → P old → MakesAll (xs ++ (e ∷ [])) old new word → is_done word ≡ true → IsLast P e new word
 last_of P Q keep [] e old new word q p h done = record { at = old; kept = p; last = h }
 last_of P Q keep (x ∷ []) e old new word q p h done = record {
   at = h.mid;
@@ -128,19 +128,19 @@ turn_is w e =
     ap (λ (ks : List ℕ). StartNext ∷ rounds (length w.slaves) true ks) (lowest w.slots e)
     ∙ ap (λ (es : List Event). StartNext ∷ es) (append-nil (replicate (length w.slaves) (Pass 0) ++ (servings 0 (length w.slaves) ++ (Return 0 ∷ []))))
 
-record OneTurn (s : StartState) (old mid : WorldState) (told : Said) : Type 0 where
+record OneTurn (s : StartState) (old mid : WorldState) (told : LineOutput) : Type 0 where
   done : is_done told ≡ true
   turned : HasTurned 63 old s mid
   run : IsRun old (turn_of (length old.slaves)) mid (length (turn_of (length old.slaves)))
 
-one_turn : (k : ℕ) (s : StartState) (old mid : WorldState) (told : Said) → MayTurn k 63 old s → RunsTurn old mid told → OneTurn s old mid told
+one_turn : (k : ℕ) (s : StartState) (old mid : WorldState) (told : LineOutput) → MayTurn k 63 old s → RunsTurn old mid told → OneTurn s old mid told
 one_turn k s old mid told h r =
     let g : Goes (turn_of (length old.slaves)) old mid (is_done told) = subst (λ (es : List Event). Goes es old mid (is_done told)) (turn_is old h.free) (turn_made old mid told r) in
     let o = turn_goes 63 old s (turn_of (length old.slaves)) mid (is_done told) h.can h.free (turn_law (length old.slaves)) (to_world (turn_of (length old.slaves)) old mid (is_done told) g) in
     record { done = o.0; turned = o.1; run = run_of (turn_of (length old.slaves)) old mid (is_done told) g o.0 }
 
 -- the last turn says how the start-up ended
-ends_turn : (old mid : WorldState) (told : Said) → old.slots ≡ None ∷ replicate 63 None → RunsTurn old mid told → is_done told ≡ true → mid.start.phase ≡ IsUp → told ≡ said.Ended
+ends_turn : (old mid : WorldState) (told : LineOutput) → old.slots ≡ None ∷ replicate 63 None → RunsTurn old mid told → is_done told ≡ true → mid.start.phase ≡ IsUp → told ≡ said.Ended
 ends_turn old mid told free r done up =
     let first : r.begins.made ≡ true = sym (done_as_made StartNext old r.mid r.told r.begins) ∙ first_done in
     let sends = r.begins.step.happens first in
@@ -166,7 +166,7 @@ ends_turn old mid told free r done up =
 
 -- ---- turn after turn
 
-record AllTurned (k : ℕ) (old new : WorldState) (word : Said) : Type 0 where
+record AllTurned (k : ℕ) (old new : WorldState) (word : LineOutput) : Type 0 where
   says : word ≡ said.Ended
   events : List Event
   turns : AreTurns (length old.slaves) (suc k) events
@@ -181,7 +181,7 @@ onward_off : {Y : Type 0} (X : Type 0) (a b : Bool) → a ≡ false → Onward (
 onward_off X true b e h = absurd (true_false e)
 onward_off X false b e h = h
 
-starts_up : (n k : ℕ) (s : StartState) (old new : WorldState) (word : Said) → MayTurn k 63 old s → suc k ≤ n → Starts n old new word → AllTurned k old new word
+starts_up : (n k : ℕ) (s : StartState) (old new : WorldState) (word : LineOutput) → MayTurn k 63 old s → suc k ≤ n → Starts n old new word → AllTurned k old new word
 unfolding Starts
 starts_up zero k s old new word h l r = absurd (omega (arith, l))
 starts_up (suc n) zero s old new word h l r =
@@ -219,7 +219,7 @@ ready_law t old new word from does =
     )
 
 -- and what is printed of it
-pub says_ready : (t : Contents) (old new : WorldState) (n : ℕ) (word : Said) → IsToStart t old → Does Ready old new word → said_text t n new word ≡ codes "ready" ++ newline
+pub says_ready : (t : Contents) (old new : WorldState) (n : ℕ) (word : LineOutput) → IsToStart t old → Does Ready old new word → output_text t n new word ≡ codes "ready" ++ newline
 says_ready t old new n word from does =
     let r = ready_law t old new word from does in
-    ap (λ (x : Said). said_text t n new x) r.0 ∙ ap (λ (p : Phase). outcome_text (outcome_of p)) r.1.up.works.ready
+    ap (λ (x : LineOutput). output_text t n new x) r.0 ∙ ap (λ (p : Phase). outcome_text (outcome_of p)) r.1.up.works.ready

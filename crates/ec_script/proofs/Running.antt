@@ -8,11 +8,11 @@ use Rattle.ec_world.specs.declared.event.Event.TheVariants.{StartNext, Begin, Cl
 use Rattle.ec_world.specs.Laws.{IsRun}
 use Rattle.ec_world.specs.World.{WorldState, IsStep, awaits, is_up}
 use Rattle.ec_world.proofs.Runs.{runs_join}
-use Rattle.ec_script.specs.declared.line.Act.{Act}
-use Rattle.ec_script.specs.declared.line.Act.TheVariants.{One, Input, Never, Expect, Ready, Cycle, Show}
-use Rattle.ec_script.specs.declared.said.Said.{Said}
+use Rattle.ec_script.specs.declared.line.LineAction.{LineAction}
+use Rattle.ec_script.specs.declared.line.LineAction.TheVariants.{One, Input, Never, Expect, Ready, Cycle, Show}
+use Rattle.ec_script.specs.declared.said.LineOutput.{LineOutput}
 use Rattle.ec_script.specs.declared.line.Line.{Line}
-use Rattle.ec_script.specs.declared.said.Said.TheVariants as said
+use Rattle.ec_script.specs.declared.said.LineOutput.TheVariants as said
 use Rattle.ec_script.specs.Expecting.{is_met}
 use Rattle.ec_script.specs.Inputs.{input_events, is_input_of}
 use Rattle.ec_script.specs.Scripts.{repeated}
@@ -25,7 +25,7 @@ use Rattle.ec_script.proofs.SlotsSent.{cycle_found, starts_free, turn_found}
 
 -- ---- a cycle
 
-pub cycle_goes : (old new : WorldState) (word : Said) → RunsCycle old new word → Goes (cycle_events old) old new (is_done word)
+pub cycle_goes : (old new : WorldState) (word : LineOutput) → RunsCycle old new word → Goes (cycle_events old) old new (is_done word)
 cycle_goes old new word h = goes_then Begin _ old h.mid new h.told word h.begins h.goes_on (λ one x.
     let found = cycle_found old h.mid (h.begins.step.happens one) in
     subst (λ es. Goes (es ++ (Close ∷ [])) h.mid new (is_done word)) found (goes_all (rounds_found false h.mid ++ (Close ∷ [])) h.mid new word x))
@@ -35,7 +35,7 @@ cycle_goes old new word h = goes_then Begin _ old h.mid new h.told word h.begins
 pub free_at : (old mid : WorldState) (one : Bool) → IsStep old StartNext mid one → one ≡ true → nones old.slots ≡ length old.slots
 free_at old mid one step is = starts_free (is_up old.start) (awaits old.start) (nones old.slots) (length old.slots) _ (sym step.can ∙ is)
 
-pub turn_goes : (old new : WorldState) (word : Said) → RunsTurn old new word → Goes (turn_events old) old new (is_done word)
+pub turn_goes : (old new : WorldState) (word : LineOutput) → RunsTurn old new word → Goes (turn_events old) old new (is_done word)
 turn_goes old new word h = goes_then StartNext _ old h.mid new h.told word h.begins h.goes_on (λ one x.
     let found = turn_found old h.mid (h.begins.step.happens one) (free_at old h.mid h.begins.made h.begins.step one) in
     subst (λ es. Goes es h.mid new (is_done word)) found (goes_all (rounds_found true h.mid) h.mid new word x))
@@ -122,7 +122,7 @@ more_turns n old mid new all turn going r =
     ends (inl e) = inl e
     ends (inr e) = inr (ap suc e)
 
-next_turn : (n : ℕ) (old mid new : WorldState) (told word : Said) (starting done : Bool) → is_starting mid ≡ starting → is_done told ≡ done
+next_turn : (n : ℕ) (old mid new : WorldState) (told word : LineOutput) (starting done : Bool) → is_starting mid ≡ starting → is_done told ≡ done
     → RunsTurn old mid told → Onward (starting && done) (Turned n mid new (is_done word)) ((new ≡ mid) × (word ≡ told)) → Turned (suc n) old new (is_done word)
 next_turn n old mid new told word true true starts is turn r =
     more_turns n old mid new (is_done word) (subst (λ b. Goes (turn_events old) old mid b) is (turn_goes old mid told turn)) (some_flip (outcome_of mid.start.phase) true starts) r
@@ -139,7 +139,7 @@ onward_to : {X Y : Type 0} (Z : Type 0) (b : Bool) → (X → Y) → Onward b X 
 onward_to Z true f h = f h
 onward_to Z false f h = h
 
-starts_goes : (n : ℕ) (old new : WorldState) (word : Said) → Starts n old new word → Turned n old new (is_done word)
+starts_goes : (n : ℕ) (old new : WorldState) (word : LineOutput) → Starts n old new word → Turned n old new (is_done word)
 unfolding Starts
 starts_goes zero old new word h = record {
   turns = 0;
@@ -170,7 +170,7 @@ said_done : (b : Bool) → is_done (said_if b) ≡ true
 said_done true = refl
 said_done false = refl
 
-input_made : (b : Bool) (es : List Event) (old new : WorldState) (word : Said) → Onward b (MakesAll es old new word) ((new ≡ old) × (word ≡ said.No))
+input_made : (b : Bool) (es : List Event) (old new : WorldState) (word : LineOutput) → Onward b (MakesAll es old new word) ((new ≡ old) × (word ≡ said.No))
     → Onward b (AreMade es old new (is_done word)) ((new ≡ old) × (is_done word ≡ false))
 input_made true es old new word h = are_made es old new (is_done word) (goes_all es old new word h)
 input_made false es old new word h = (h.0, ap is_done h.1)
@@ -197,7 +197,7 @@ input_run : (b : Bool) (es : List Event) (old new : WorldState) (all : Bool) →
 input_run true es old new all h = made_run es old new all h
 input_run false es old new all h = none_run old new h.0
 
-line_run : (act : Act) (old new : WorldState) (all : Bool) → RunsLine act old new all → HasRun old new
+line_run : (act : LineAction) (old new : WorldState) (all : Bool) → RunsLine act old new all → HasRun old new
 line_run (One e) old new all h = made_run (e ∷ []) old new all h
 line_run (Input v x) old new all h = input_run (is_input_of x (slice_get old.plan.variables v)) (input_events old v x) old new all h
 line_run (Never v) old new all h = none_run old new h.0

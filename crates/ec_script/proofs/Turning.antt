@@ -2,8 +2,8 @@
 use Rattle.std.proofs.Common.{◌≡◌, ℕ, suc, ◌+◌, ◌-◌, ◌<◌, ◌≤◌, ◌&&◌, Bool, true, false, Option, Some, None, is_some, is_none, if◌then◌else◌, refl, sym, subst, arith}
 use Rattle.ec_start.specs.Running.{outcome_of}
 use Rattle.ec_world.specs.World.{WorldState}
-use Rattle.ec_script.specs.declared.said.Said.{Said}
-use Rattle.ec_script.specs.declared.said.Said.TheVariants.{Nothing}
+use Rattle.ec_script.specs.declared.said.LineOutput.{LineOutput}
+use Rattle.ec_script.specs.declared.said.LineOutput.TheVariants.{Nothing}
 use Rattle.ec_script.specs.Work.{Onward, RunsTurn, Starts, is_done, is_starting}
 
 none_of : {X : Type 0} (o : Option X) (b : Bool) → is_some o ≡ b → is_none o ≡ (if b then false else true)
@@ -29,7 +29,7 @@ first_false true b h = let bad : true ≡ false = h in cc
 first_false false b h = refl
 
 -- a turn, and turns ahead
-pub turned : (n : ℕ) (old mid new : WorldState) (told word : Said) → RunsTurn old mid told → is_done told ≡ true → is_some (outcome_of mid.start.phase) ≡ false
+pub turned : (n : ℕ) (old mid new : WorldState) (told word : LineOutput) → RunsTurn old mid told → is_done told ≡ true → is_some (outcome_of mid.start.phase) ≡ false
     → Starts n mid new word → Starts (suc n) old new word
 unfolding Starts
 turned n old mid new told word turn done going rest = record {
@@ -40,7 +40,7 @@ turned n old mid new told word turn done going rest = record {
 }
 
 -- the last turn
-pub stopped_turn : (n : ℕ) (old new : WorldState) (word : Said) → RunsTurn old new word → is_done word ≡ false → Starts (suc n) old new word
+pub stopped_turn : (n : ℕ) (old new : WorldState) (word : LineOutput) → RunsTurn old new word → is_done word ≡ false → Starts (suc n) old new word
 unfolding Starts
 stopped_turn n old new word turn stop = record {
   mid = new;
@@ -49,7 +49,7 @@ stopped_turn n old new word turn stop = record {
   goes_on = onward_as _ _ (is_starting new && is_done word) false (second_false _ _ stop) (refl, refl);
 }
 
-pub ended_turn : (n : ℕ) (old new : WorldState) (word : Said) → RunsTurn old new word → is_some (outcome_of new.start.phase) ≡ true → Starts (suc n) old new word
+pub ended_turn : (n : ℕ) (old new : WorldState) (word : LineOutput) → RunsTurn old new word → is_some (outcome_of new.start.phase) ≡ true → Starts (suc n) old new word
 unfolding Starts
 ended_turn n old new word turn ended = record {
   mid = new;

@@ -12,10 +12,10 @@ use Rattle.ec_table.specs.Names.{place_named}
 use Rattle.ec_world.specs.declared.event.Event.TheVariants.{StartNext, Set, Begin, Pass, Lose, Return, Close, Serve, AppPut, AppGet, Fault, Reset}
 use Rattle.ec_script.specs.declared.expectation.Expectation.{Expectation}
 use Rattle.ec_script.specs.declared.expectation.Expectation.TheVariants as expects
-use Rattle.ec_script.specs.declared.line.Act.{Act}
-use Rattle.ec_script.specs.declared.line.Act.TheVariants.{One, Input, Never, Expect, Ready, Cycle, Show}
-use Rattle.ec_script.specs.declared.value.Value.{Value}
-use Rattle.ec_script.specs.declared.value.Value.TheVariants.{Number, Outside}
+use Rattle.ec_script.specs.declared.line.LineAction.{LineAction}
+use Rattle.ec_script.specs.declared.line.LineAction.TheVariants.{One, Input, Never, Expect, Ready, Cycle, Show}
+use Rattle.ec_script.specs.declared.value.WrittenValue.{WrittenValue}
+use Rattle.ec_script.specs.declared.value.WrittenValue.TheVariants.{Number, Outside}
 use Rattle.ec_script.specs.Words.{Text, number_of, byte_of, code_of, value_of}
 
 infixl 10 ◌>>=◌
@@ -38,25 +38,25 @@ slave_in t word = if list_all is_ascii_digit word then number_of word else slave
 
 -- ---- values
 
-abbrev pub row_value : Text → Option VariableRow → Option Value
+abbrev pub row_value : Text → Option VariableRow → Option WrittenValue
 row_value word None = None
 row_value word (Some row) = value_of row.bits word
 
 -- the value that a word writes for the variable at a place
-abbrev pub value_for : List VariableRow → ℕ → Text → Option Value
+abbrev pub value_for : List VariableRow → ℕ → Text → Option WrittenValue
 value_for variables v word = row_value word (slice_get variables v)
 
-abbrev pub set_act : ℕ → Value → Act
+abbrev pub set_act : ℕ → WrittenValue → LineAction
 set_act v (Number x) = One (Set v x)
 set_act v Outside = Never v
 
-abbrev pub input_act : ℕ → Value → Act
+abbrev pub input_act : ℕ → WrittenValue → LineAction
 input_act v (Number x) = Input v x
 input_act v Outside = Never v
 
 -- ---- what is expected
 
-abbrev pub is_act : ℕ → Value → Expectation
+abbrev pub is_act : ℕ → WrittenValue → Expectation
 is_act v (Number x) = expects.Is v x
 is_act v Outside = expects.Never v
 
@@ -99,7 +99,7 @@ expected_by_four t first slave state code =
 
 -- ---- acts
 
-unfoldable pub act_of_one : Text → Option Act
+unfoldable pub act_of_one : Text → Option LineAction
 act_of_one verb =
     if bytes_eq verb (codes "start") then Some (One StartNext) else
     (if bytes_eq verb (codes "begin") then Some (One Begin) else
@@ -109,7 +109,7 @@ act_of_one verb =
     (if bytes_eq verb (codes "show") then Some Show else None)))))
 
 -- a frame by its slot, or a slave
-unfoldable pub act_of_two : Contents → Text → Text → Option Act
+unfoldable pub act_of_two : Contents → Text → Text → Option LineAction
 act_of_two t verb word =
     if bytes_eq verb (codes "pass") then number_of word >>= (λ k. Some (One (Pass k))) else
     (if bytes_eq verb (codes "lose") then number_of word >>= (λ k. Some (One (Lose k))) else
@@ -120,7 +120,7 @@ act_of_two t verb word =
     (if bytes_eq verb (codes "expect") then expected_by_one word >>= (λ e. Some (Expect e)) else None))))))
 
 -- a variable by its name and its value; a slave and a place among its bytes
-unfoldable pub act_of_three : Contents → Text → Text → Text → Option Act
+unfoldable pub act_of_three : Contents → Text → Text → Text → Option LineAction
 act_of_three t verb first second =
     if bytes_eq verb (codes "set")
     then variable_named t.variables first >>= (λ v. value_for t.variables v second >>= (λ x. Some (set_act v x)))
@@ -134,17 +134,17 @@ act_of_three t verb first second =
     (if bytes_eq verb (codes "expect") then expected_by_two t first second >>= (λ e. Some (Expect e)) else None)))
 
 -- a slave, a place among its bytes, and a byte
-unfoldable pub act_of_four : Contents → Text → Text → Text → Text → Option Act
+unfoldable pub act_of_four : Contents → Text → Text → Text → Text → Option LineAction
 act_of_four t verb first second third =
     if bytes_eq verb (codes "put")
     then slave_in t first >>= (λ s. number_of second >>= (λ i. byte_of third >>= (λ x. Some (One (AppPut s i x)))))
     else
     (if bytes_eq verb (codes "expect") then expected_by_three t first second third >>= (λ e. Some (Expect e)) else None)
 
-unfoldable pub act_of_five : Contents → Text → Text → Text → Text → Text → Option Act
+unfoldable pub act_of_five : Contents → Text → Text → Text → Text → Text → Option LineAction
 act_of_five t verb a b c d = if bytes_eq verb (codes "expect") then expected_by_four t a b c d >>= (λ e. Some (Expect e)) else None
 
-abbrev pub act_of_words : Contents → List Text → Option Act
+abbrev pub act_of_words : Contents → List Text → Option LineAction
 act_of_words t [] = None
 act_of_words t (verb ∷ []) = act_of_one verb
 act_of_words t (verb ∷ a ∷ []) = act_of_two t verb a

@@ -6,10 +6,10 @@ use Rattle.ec_world.specs.declared.event.Event.TheVariants.{StartNext, Begin, Cl
 use Rattle.ec_world.specs.Laws.{IsRun}
 use Rattle.ec_world.specs.Plain.{filled}
 use Rattle.ec_world.specs.World.{Flight, WorldState, can_happen, flights_from}
-use Rattle.ec_script.specs.declared.line.Act.{Act}
-use Rattle.ec_script.specs.declared.line.Act.TheVariants.{One, Input, Never, Expect, Ready, Cycle, Show}
+use Rattle.ec_script.specs.declared.line.LineAction.{LineAction}
+use Rattle.ec_script.specs.declared.line.LineAction.TheVariants.{One, Input, Never, Expect, Ready, Cycle, Show}
 use Rattle.ec_script.specs.declared.line.Line.{Line}
-use Rattle.ec_script.specs.declared.said.Said.{Said}
+use Rattle.ec_script.specs.declared.said.LineOutput.{LineOutput}
 use Rattle.ec_script.specs.Inputs.{input_events, is_input_of}
 use Rattle.ec_script.specs.Rounds.{greatest, rounds, slots_with}
 use Rattle.ec_script.specs.Scripts.{repeated}
@@ -74,7 +74,7 @@ pub record RunsReady (old new : WorldState) (all : Bool) : Type 0 where
 
 -- Whether all of its events could be made. What expects something, or shows it, has none; a variable that can't be given a
 -- value has none either, and that can't be done.
-abbrev pub RunsLine : Act → WorldState → WorldState → Bool → Type 0
+abbrev pub RunsLine : LineAction → WorldState → WorldState → Bool → Type 0
 RunsLine (One e) old new all = AreMade (e ∷ []) old new all
 RunsLine (Input v x) old new all = Onward (is_input_of x (slice_get old.plan.variables v)) (AreMade (input_events old v x) old new all) ((new ≡ old) × (all ≡ false))
 RunsLine (Never v) old new all = (new ≡ old) × (all ≡ false)
@@ -85,14 +85,14 @@ RunsLine Show old new all = AreMade [] old new all
 
 -- What a line does is a run of its events; it says no exactly where one can't be made.
 abbrev pub LinesRun : Type 0
-LinesRun = (act : Act) (old new : WorldState) (word : Said) → Does act old new word → RunsLine act old new (is_done word)
+LinesRun = (act : LineAction) (old new : WorldState) (word : LineOutput) → Does act old new word → RunsLine act old new (is_done word)
 
 -- ---- a script
 
 -- lines one after another
 abbrev pub DoesAll : List Line → WorldState → WorldState → Type 0
 DoesAll [] old new = new ≡ old
-DoesAll (line ∷ lines) old new = (mid : WorldState) × (word : Said) × Does line.act old mid word × DoesAll lines mid new
+DoesAll (line ∷ lines) old new = (mid : WorldState) × (word : LineOutput) × Does line.act old mid word × DoesAll lines mid new
 
 -- Whatever a script does to a world, with each line as often as it is done, a run of events does it.
 abbrev pub ScriptsRun : Type 0

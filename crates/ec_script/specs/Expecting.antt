@@ -8,7 +8,7 @@ use Rattle.ec_cycle.specs.Closing.{ReportState}
 use Rattle.ec_cycle.specs.Master.{value_at}
 use Rattle.ec_link.specs.declared.image.Variable.{Variable}
 use Rattle.ec_link.specs.declared.plan.Link.{Link}
-use Rattle.ec_link.specs.Wires.{is_out}
+use Rattle.ec_link.specs.LinkRuns.{is_out}
 use Rattle.ec_slave.specs.Application.{outputs_shown}
 use Rattle.ec_start.specs.declared.error.StartError.{StartError}
 use Rattle.ec_start.specs.Errors.{error_number}

@@ -7,7 +7,7 @@ use Rattle.ec_regs.specs.Memory.{ram_end}
 use Rattle.ec_link.specs.declared.image.Variable.{Variable}
 use Rattle.ec_link.specs.declared.plan.Link.{Link}
 use Rattle.ec_link.specs.Meaning.{slave_at}
-use Rattle.ec_link.specs.Wires.{is_out}
+use Rattle.ec_link.specs.LinkRuns.{is_out}
 use Rattle.ec_slave.specs.Physical.{byte_at}
 use Rattle.ec_world.specs.declared.event.Event.{Event}
 use Rattle.ec_world.specs.declared.event.Event.TheVariants.{AppPut}

@@ -1,7 +1,7 @@
 -- What a script's `ready` does where nothing disturbs it, and then its `cycle`.
 use Rattle.std.specs.Prelude.{ℕ, ◌≡◌, ◌++◌, List, length, Some, codes}
 use Rattle.std.specs.Fmt.{decimal}
-use Rattle.ec_regs.specs.declared.slave_type.Identity.{Identity}
+use Rattle.ec_device.specs.declared.slave_type.Identity.{Identity}
 use Rattle.ec_table.specs.Contents.{Contents}
 use Rattle.ec_table.specs.declared.rows.Version.{Version}
 use Rattle.ec_table.specs.declared.rows.Version.TheVariants as version
@@ -13,9 +13,9 @@ use Rattle.ec_world.specs.Laws.{IsRun}
 use Rattle.ec_world.specs.Whole.{IsNew}
 use Rattle.ec_world.specs.NewWorld.{AreOfTypes, BringUp, IsToStart, IsBroughtUp}
 use Rattle.ec_world.specs.Undisturbed.{Rests, IsExchanged, cycle_of}
-use Rattle.ec_script.specs.declared.line.Act.TheVariants.{Ready, Cycle}
-use Rattle.ec_script.specs.declared.said.Said.{Said}
-use Rattle.ec_script.specs.declared.said.Said.TheVariants as said
+use Rattle.ec_script.specs.declared.line.LineAction.TheVariants.{Ready, Cycle}
+use Rattle.ec_script.specs.declared.said.LineOutput.{LineOutput}
+use Rattle.ec_script.specs.declared.said.LineOutput.TheVariants as said
 use Rattle.ec_script.specs.Texts.{units_text}
 use Rattle.ec_script.specs.Work.{Does}
 
@@ -29,14 +29,14 @@ pub record IsReadied (t : Contents) (old new : WorldState) : Type 0 where
 
 -- Of a new world of devices, and of one whose last start-up failed: `ready` brings it up, and how it ended is said.
 abbrev pub ReadyLaw : Type 0
-ReadyLaw = (t : Contents) (old new : WorldState) (word : Said) → IsToStart t old → Does Ready old new word → (word ≡ said.Ended) × IsReadied t old new
+ReadyLaw = (t : Contents) (old new : WorldState) (word : LineOutput) → IsToStart t old → Does Ready old new word → (word ≡ said.Ended) × IsReadied t old new
 
 -- ---- a cycle
 
 -- Of a world that is Ready and at rest: `cycle` is taken in every unit, and its report is said.
 abbrev pub CycleLaw : Type 0
 CycleLaw =
-    (t : Contents) (identities : List Identity) (old new : WorldState) (word : Said) → Rests t identities old → Does Cycle old new word
+    (t : Contents) (identities : List Identity) (old new : WorldState) (word : LineOutput) → Rests t identities old → Does Cycle old new word
     → (word ≡ said.Report) × IsExchanged t old new (length (cycle_of t))
 
 -- the n-th unit, as taken
@@ -51,12 +51,12 @@ taken_units version.Two units = lines_from taken_unit 0 units
 -- So what is printed of it says "taken" of each unit.
 abbrev pub TakenTextLaw : Type 0
 TakenTextLaw =
-    (t : Contents) (identities : List Identity) (old new : WorldState) (word : Said) → Rests t identities old → Does Cycle old new word
+    (t : Contents) (identities : List Identity) (old new : WorldState) (word : LineOutput) → Rests t identities old → Does Cycle old new word
     → (r : ReportState) → new.report ≡ Some r → units_text t.version r ≡ taken_units t.version r.units
 
 -- `ready` and then `cycle` on a new world of devices: the start-up ends Ready, and the cycle is taken in every unit.
 abbrev pub ReadyCycleLaw : Type 0
 ReadyCycleLaw =
-    (t : Contents) (identities : List Identity) (old mid new : WorldState) (first second : Said) → IsNew t identities old → AreOfTypes t identities
+    (t : Contents) (identities : List Identity) (old mid new : WorldState) (first second : LineOutput) → IsNew t identities old → AreOfTypes t identities
     → Does Ready old mid first → Does Cycle mid new second
     → (first ≡ said.Ended) × IsReadied t old mid × (second ≡ said.Report) × IsExchanged t mid new (length (cycle_of t))

@@ -4,7 +4,7 @@ use Rattle.std.specs.Prelude.{◌≡◌, ℕ, ◌+◌, List, [], ◌∷◌, ◌+
 use Rattle.std.specs.Str.{bytes_eq}
 use Rattle.std.specs.Str.Lines.{lines}
 use Rattle.ec_table.specs.Contents.{Contents}
-use Rattle.ec_script.specs.declared.line.Act.{Act}
+use Rattle.ec_script.specs.declared.line.LineAction.{LineAction}
 use Rattle.ec_script.specs.declared.line.Line.{Line}
 use Rattle.ec_script.specs.declared.read.Reading.{Reading}
 use Rattle.ec_script.specs.declared.read.Reading.TheVariants as reading
@@ -30,7 +30,7 @@ error_line (BadScript n) = Some n
 -- ---- lines
 
 -- line n, whose act is done so often
-abbrev pub done_times : ℕ → ℕ → Option Act → Option Line
+abbrev pub done_times : ℕ → ℕ → Option LineAction → Option Line
 done_times n times act = option_map (λ a. record { number = n; times = times; act = a }) act
 
 -- behind `repeat` stand a number and the words of an act

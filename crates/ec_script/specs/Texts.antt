@@ -10,7 +10,7 @@ use Rattle.ec_table.specs.declared.rows.Version.TheVariants as version
 use Rattle.ec_table.specs.declared.rows.VariableRow.{VariableRow}
 use Rattle.ec_table.specs.Contents.{Contents}
 use Rattle.ec_link.specs.declared.plan.PartPlan.{PartPlan}
-use Rattle.ec_link.specs.declared.plan.Predicted.{Predicted}
+use Rattle.ec_link.specs.declared.plan.ExpectedCounters.{ExpectedCounters}
 use Rattle.ec_start.specs.declared.error.StartError.{StartError}
 use Rattle.ec_start.specs.Errors.{error_number}
 use Rattle.ec_start.specs.Running.{outcome_of}
@@ -18,8 +18,8 @@ use Rattle.ec_cycle.specs.Closing.{ReportState}
 use Rattle.ec_cycle.specs.Master.{value_at}
 use Rattle.ec_world.specs.World.{WorldState}
 use Rattle.ec_text.specs.PlanText.{counter_text, lines_from, newline}
-use Rattle.ec_script.specs.declared.said.Said.{Said}
-use Rattle.ec_script.specs.declared.said.Said.TheVariants.{Nothing, No, Unmet, Byte, Ended, Report, Values}
+use Rattle.ec_script.specs.declared.said.LineOutput.{LineOutput}
+use Rattle.ec_script.specs.declared.said.LineOutput.TheVariants.{Nothing, No, Unmet, Byte, Ended, Report, Values}
 
 -- ---- reports
 
@@ -36,12 +36,12 @@ units_text version.One r = taken_text (list_all (λ (t : Bool). t) r.taken)
 units_text version.Two r = lines_from (unit_at r.taken) 0 r.units
 
 -- the working counters of a part that was kept
-abbrev pub kept_text : PartPlan → Option Predicted → List ℕ
+abbrev pub kept_text : PartPlan → Option ExpectedCounters → List ℕ
 kept_text part None = codes "-"
 kept_text part (Some counters) = counter_text part counters
 
 -- the n-th part
-abbrev pub counter_at : List (Option Predicted) → ℕ → PartPlan → List ℕ
+abbrev pub counter_at : List (Option ExpectedCounters) → ℕ → PartPlan → List ℕ
 counter_at counters n part = codes " " ++ kept_text part (get_or counters n None)
 
 -- four hex digits
@@ -85,11 +85,11 @@ last_report_text v w = report_if v w.plan.parts w.report
 -- ---- what a line says
 
 -- what is printed where line n has this to say of a world of the table
-abbrev pub said_text : Contents → ℕ → WorldState → Said → List ℕ
-said_text t n w Nothing = []
-said_text t n w No = codes "no " ++ decimal n ++ newline
-said_text t n w Unmet = codes "unmet " ++ decimal n ++ newline
-said_text t n w Byte = byte_text w.got
-said_text t n w Ended = outcome_text (outcome_of w.start.phase)
-said_text t n w Report = last_report_text t.version w
-said_text t n w Values = lines_from (value_line w) 0 t.variables
+abbrev pub output_text : Contents → ℕ → WorldState → LineOutput → List ℕ
+output_text t n w Nothing = []
+output_text t n w No = codes "no " ++ decimal n ++ newline
+output_text t n w Unmet = codes "unmet " ++ decimal n ++ newline
+output_text t n w Byte = byte_text w.got
+output_text t n w Ended = outcome_text (outcome_of w.start.phase)
+output_text t n w Report = last_report_text t.version w
+output_text t n w Values = lines_from (value_line w) 0 t.variables

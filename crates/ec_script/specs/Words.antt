@@ -4,8 +4,8 @@ use Rattle.std.specs.Char.{digit_value}
 use Rattle.std.specs.List.{slice_split}
 use Rattle.std.specs.Str.{all_ascii_digits, bytes_eq}
 use Rattle.std.specs.Str.Parse.{digits_value}
-use Rattle.ec_script.specs.declared.value.Value.{Value}
-use Rattle.ec_script.specs.declared.value.Value.TheVariants.{Number, Outside}
+use Rattle.ec_script.specs.declared.value.WrittenValue.{WrittenValue}
+use Rattle.ec_script.specs.declared.value.WrittenValue.TheVariants.{Number, Outside}
 
 abbrev pub Text : Type 0
 Text = List ℕ
@@ -74,9 +74,9 @@ unfoldable pub plain_of : Text → Option ℕ
 plain_of word = if bytes_eq (take 2 word) (codes "0x") then hex_of (drop 2 word) else number_of word
 
 -- a number below 0 by its two's complement in so many bits, where they have one
-abbrev pub negative_of : ℕ → ℕ → Value
+abbrev pub negative_of : ℕ → ℕ → WrittenValue
 negative_of bits n = if n == 0 then Number 0 else (if nat_le n (2 ^ (bits - 1)) then Number (2 ^ bits - n) else Outside)
 
 -- the value that a word writes for so many bits
-unfoldable pub value_of : ℕ → Text → Option Value
+unfoldable pub value_of : ℕ → Text → Option WrittenValue
 value_of bits word = if slice_index word 0 == 45 then option_map (negative_of bits) (number_of (drop 1 word)) else option_map Number (plain_of word)

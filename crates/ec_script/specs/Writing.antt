@@ -11,8 +11,8 @@ use Rattle.ec_world.specs.declared.event.Event.{Event}
 use Rattle.ec_world.specs.declared.event.Event.TheVariants.{StartNext, Set, Begin, Pass, Lose, Return, Close, Serve, AppPut, AppGet, Fault, Reset}
 use Rattle.ec_script.specs.declared.expectation.Expectation.{Expectation}
 use Rattle.ec_script.specs.declared.expectation.Expectation.TheVariants as expects
-use Rattle.ec_script.specs.declared.line.Act.{Act}
-use Rattle.ec_script.specs.declared.line.Act.TheVariants.{One, Input, Never, Expect, Ready, Cycle, Show}
+use Rattle.ec_script.specs.declared.line.LineAction.{LineAction}
+use Rattle.ec_script.specs.declared.line.LineAction.TheVariants.{One, Input, Never, Expect, Ready, Cycle, Show}
 use Rattle.ec_script.specs.declared.line.Line.{Line}
 use Rattle.ec_script.specs.declared.read.Reading.TheVariants as reading
 use Rattle.ec_script.specs.Words.{Text}
@@ -73,7 +73,7 @@ words_expecting variables (expects.State s state code) = codes "state" ∷ decim
 words_expecting variables expects.Ready = codes "ready" ∷ []
 words_expecting variables (expects.Failed number) = codes "failed" ∷ number_words number
 
-abbrev pub words_for : List VariableRow → Act → List Text
+abbrev pub words_for : List VariableRow → LineAction → List Text
 words_for variables (One e) = words_for_event variables e
 words_for variables (Input v x) = codes "in" ∷ row_name (slice_get variables v) ∷ decimal x ∷ []
 words_for variables (Never v) = codes "set" ∷ row_name (slice_get variables v) ∷ below_all ∷ []
@@ -138,7 +138,7 @@ IsExpectationOf variables (expects.State s state code) = IsWord64 s × IsCode co
 IsExpectationOf variables expects.Ready = Unit {0}
 IsExpectationOf variables (expects.Failed number) = IsNumber number
 
-abbrev pub IsActOf : List VariableRow → Act → Type 0
+abbrev pub IsActOf : List VariableRow → LineAction → Type 0
 IsActOf variables (One e) = IsEventOf variables e
 IsActOf variables (Input v x) = (v < length variables) × IsWord64 x
 IsActOf variables (Never v) = v < length variables

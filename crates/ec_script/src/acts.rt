@@ -5,8 +5,8 @@ ghost use Rattle.std.specs.List.{list_all};
 ghost use Rattle.ec_script.specs.Acts.{act_of_one, act_of_two, act_of_three, act_of_four, act_of_five, act_of_words, input_act, set_act, slave_in, slave_named, value_for, variable_named};
 
 use crate::expecting::{expected_by_four, expected_by_one, expected_by_three, expected_by_two};
-use crate::line::Act;
-use crate::value::{Value, value_of};
+use crate::line::LineAction;
+use crate::value::{WrittenValue, value_of};
 use crate::words::{byte_of, number_of};
 use ec_table::{SlaveRow, Table, VariableRow};
 use ec_world::Event;
@@ -48,7 +48,7 @@ pub fn slave_in(table: &Table, word: &str) -> Option<usize>
 }
 
 /// The value that a word writes for the variable at a place.
-pub fn value_for(table: &Table, variable: usize, word: &str) -> Option<Value>
+pub fn value_for(table: &Table, variable: usize, word: &str) -> Option<WrittenValue>
     requires { variable < length table.now.variables }
     ensures { result ≡ value_for table.now.variables variable word.now }
 {
@@ -56,61 +56,61 @@ pub fn value_for(table: &Table, variable: usize, word: &str) -> Option<Value>
 }
 
 /// A variable of the outputs becomes a value.
-fn set_act(variable: usize, value: Value) -> Act
+fn set_act(variable: usize, value: WrittenValue) -> LineAction
     ensures { result ≡ set_act variable value }
 {
     match value {
-        Value::Number(value) => Act::One(Event::Set(variable, value)),
-        Value::Outside => Act::Never(variable),
+        WrittenValue::Number(value) => LineAction::One(Event::Set(variable, value)),
+        WrittenValue::Outside => LineAction::Never(variable),
     }
 }
 
 /// A variable of the inputs becomes a value.
-fn input_act(variable: usize, value: Value) -> Act
+fn input_act(variable: usize, value: WrittenValue) -> LineAction
     ensures { result ≡ input_act variable value }
 {
     match value {
-        Value::Number(value) => Act::Input(variable, value),
-        Value::Outside => Act::Never(variable),
+        WrittenValue::Number(value) => LineAction::Input(variable, value),
+        WrittenValue::Outside => LineAction::Never(variable),
     }
 }
 
 /// What one word stands for.
 #[tactic(auto, unfolding(crate::specs::Acts::act_of_one))]
-fn act_of_one(verb: &str) -> Option<Act>
+fn act_of_one(verb: &str) -> Option<LineAction>
     ensures { result ≡ act_of_one verb.now }
 {
     match verb {
-        "start" => Some(Act::One(Event::StartNext)),
-        "begin" => Some(Act::One(Event::Begin)),
-        "close" => Some(Act::One(Event::Close)),
-        "ready" => Some(Act::Ready),
-        "cycle" => Some(Act::Cycle),
-        "show" => Some(Act::Show),
+        "start" => Some(LineAction::One(Event::StartNext)),
+        "begin" => Some(LineAction::One(Event::Begin)),
+        "close" => Some(LineAction::One(Event::Close)),
+        "ready" => Some(LineAction::Ready),
+        "cycle" => Some(LineAction::Cycle),
+        "show" => Some(LineAction::Show),
         _ => None,
     }
 }
 
 /// What a word and one more stand for.
 #[tactic(auto, unfolding(crate::specs::Acts::act_of_two))]
-fn act_of_two(table: &Table, verb: &str, word: &str) -> Option<Act>
+fn act_of_two(table: &Table, verb: &str, word: &str) -> Option<LineAction>
     ensures { result ≡ act_of_two table.now verb.now word.now }
 {
     match verb {
-        "pass" => Some(Act::One(Event::Pass(number_of(word)? as usize))),
-        "lose" => Some(Act::One(Event::Lose(number_of(word)? as usize))),
-        "return" => Some(Act::One(Event::Return(number_of(word)? as usize))),
-        "serve" => Some(Act::One(Event::Serve(slave_in(table, word)?))),
-        "fault" => Some(Act::One(Event::Fault(slave_in(table, word)?))),
-        "reset" => Some(Act::One(Event::Reset(slave_in(table, word)?))),
-        "expect" => Some(Act::Expect(expected_by_one(word)?)),
+        "pass" => Some(LineAction::One(Event::Pass(number_of(word)? as usize))),
+        "lose" => Some(LineAction::One(Event::Lose(number_of(word)? as usize))),
+        "return" => Some(LineAction::One(Event::Return(number_of(word)? as usize))),
+        "serve" => Some(LineAction::One(Event::Serve(slave_in(table, word)?))),
+        "fault" => Some(LineAction::One(Event::Fault(slave_in(table, word)?))),
+        "reset" => Some(LineAction::One(Event::Reset(slave_in(table, word)?))),
+        "expect" => Some(LineAction::Expect(expected_by_one(word)?)),
         _ => None,
     }
 }
 
 /// What a word and two more stand for.
 #[tactic(auto, unfolding(crate::specs::Acts::act_of_three))]
-fn act_of_three(table: &Table, verb: &str, first: &str, second: &str) -> Option<Act>
+fn act_of_three(table: &Table, verb: &str, first: &str, second: &str) -> Option<LineAction>
     ensures { result ≡ act_of_three table.now verb.now first.now second.now }
 {
     match verb {
@@ -124,42 +124,48 @@ fn act_of_three(table: &Table, verb: &str, first: &str, second: &str) -> Option<
         }
         "get" => {
             let slave = slave_in(table, first)?;
-            Some(Act::One(Event::AppGet(slave, number_of(second)? as usize)))
+            Some(LineAction::One(Event::AppGet(slave, number_of(second)? as usize)))
         }
-        "expect" => Some(Act::Expect(expected_by_two(table, first, second)?)),
+        "expect" => Some(LineAction::Expect(expected_by_two(table, first, second)?)),
         _ => None,
     }
 }
 
 /// What a word and three more stand for.
 #[tactic(auto, unfolding(crate::specs::Acts::act_of_four))]
-fn act_of_four(table: &Table, verb: &str, first: &str, second: &str, third: &str) -> Option<Act>
+fn act_of_four(
+    table: &Table,
+    verb: &str,
+    first: &str,
+    second: &str,
+    third: &str,
+) -> Option<LineAction>
     ensures { result ≡ act_of_four table.now verb.now first.now second.now third.now }
 {
     match verb {
         "put" => {
             let slave = slave_in(table, first)?;
             let place = number_of(second)? as usize;
-            Some(Act::One(Event::AppPut(slave, place, byte_of(third)?)))
+            Some(LineAction::One(Event::AppPut(slave, place, byte_of(third)?)))
         }
-        "expect" => Some(Act::Expect(expected_by_three(table, first, second, third)?)),
+        "expect" => Some(LineAction::Expect(expected_by_three(table, first, second, third)?)),
         _ => None,
     }
 }
 
 /// What a word and four more stand for.
 #[tactic(auto, unfolding(crate::specs::Acts::act_of_five))]
-fn act_of_five(table: &Table, verb: &str, a: &str, b: &str, c: &str, d: &str) -> Option<Act>
+fn act_of_five(table: &Table, verb: &str, a: &str, b: &str, c: &str, d: &str) -> Option<LineAction>
     ensures { result ≡ act_of_five table.now verb.now a.now b.now c.now d.now }
 {
     match verb {
-        "expect" => Some(Act::Expect(expected_by_four(table, a, b, c, d)?)),
+        "expect" => Some(LineAction::Expect(expected_by_four(table, a, b, c, d)?)),
         _ => None,
     }
 }
 
 /// What the words of a line stand for.
-pub fn act_of_words(table: &Table, words: &[&str]) -> Option<Act>
+pub fn act_of_words(table: &Table, words: &[&str]) -> Option<LineAction>
     ensures { result ≡ act_of_words table.now (map (λ x. x.now) words.now) }
 {
     match words {

@@ -4,18 +4,18 @@ ghost use Rattle.ec_script.specs.Acts.{expected_by_four, expected_by_one, expect
 
 use crate::acts::{slave_in, value_for, variable_named};
 use crate::expectation::Expectation;
-use crate::value::Value;
+use crate::value::WrittenValue;
 use crate::words::{code_of, number_of};
 use ec_al::State;
 use ec_table::Table;
 
 /// A variable is a value.
-fn is_act(variable: usize, value: Value) -> Expectation
+fn is_act(variable: usize, value: WrittenValue) -> Expectation
     ensures { result ≡ is_act variable value }
 {
     match value {
-        Value::Number(value) => Expectation::Is(variable, value),
-        Value::Outside => Expectation::Never(variable),
+        WrittenValue::Number(value) => Expectation::Is(variable, value),
+        WrittenValue::Outside => Expectation::Never(variable),
     }
 }
 

@@ -9,14 +9,14 @@ ghost use Rattle.ec_script.specs.Seeing.{Sees};
 ghost use Rattle.ec_script.specs.Work.{MakesAll, RunsInput};
 
 use crate::rounds::make;
-use crate::said::Said;
+use crate::said::LineOutput;
 use ec_bits::copy_bits;
 use ec_link::{Link, Plan, Variable};
 use ec_table::Direction;
 use ec_world::{Event, Watcher, World};
 
 /// More bytes than a slave has inputs.
-const MOST_BYTES: usize = 0x1000;
+const MAX_BYTES: usize = 0x1000;
 
 /// Whether a number has at most so many bits.
 pub fn is_short(bits: u8, value: u64) -> bool
@@ -91,11 +91,16 @@ fn change_bits(links: &[Link], variable: Variable, value: u64, slave: usize, byt
 
 /// The application of a slave writes bytes of its inputs, one after another.
 #[tactic(auto, using(crate::proofs::Seeing::sees_none, crate::proofs::Seeing::sees_then))]
-fn put_bytes<S: Watcher>(world: &mut World<'_>, watcher: &mut S, slave: usize, bytes: &[u8]) -> Said
+fn put_bytes<S: Watcher>(
+    world: &mut World<'_>,
+    watcher: &mut S,
+    slave: usize,
+    bytes: &[u8],
+) -> LineOutput
     ensures made { MakesAll (puts slave 0 bytes.now) world.old world.new result }
     ensures seen { Sees S.saw watcher.old world.old world.new watcher.new }
 {
-    let mut said = Said::Nothing;
+    let mut said = LineOutput::Nothing;
     for (place, byte) in bytes.iter().enumerate() {
         said = make(world, watcher, Event::AppPut(slave, place, *byte));
         if !said.is_done() {
@@ -130,7 +135,7 @@ fn put_slave<S: Watcher>(
     variable: Variable,
     value: u64,
     slave: usize,
-) -> Said
+) -> LineOutput
     requires there { slave < length world.old.plan.slaves }
     requires few { variable.bits ≤ 64 }
     ensures made { MakesAll (slave_puts world.old variable value slave) world.old world.new result }
@@ -139,10 +144,10 @@ fn put_slave<S: Watcher>(
     let plan = world.plan();
     let links = plan.in_links();
     if !is_linked(links, variable, slave) {
-        return Said::Nothing;
+        return LineOutput::Nothing;
     }
     let count = input_count(plan, slave);
-    let mut inputs = [0; MOST_BYTES];
+    let mut inputs = [0; MAX_BYTES];
     let bytes = &mut inputs[..count];
     read_bytes(world, slave, plan.settings(slave).kind.in_start(), bytes);
     change_bits(links, variable, value, slave, bytes);
@@ -156,7 +161,7 @@ fn put_slaves<S: Watcher>(
     watcher: &mut S,
     variable: Variable,
     value: u64,
-) -> Said
+) -> LineOutput
     requires { variable.bits ≤ 64 }
     ensures made { MakesAll (puts_from world.old variable value 0 (length world.old.plan.slaves))
         world.old world.new result }
@@ -169,7 +174,7 @@ fn put_slaves<S: Watcher>(
             return said;
         }
     }
-    Said::Nothing
+    LineOutput::Nothing
 }
 
 /// Whether a variable is an input that holds a value.
@@ -195,13 +200,13 @@ pub fn put_input<S: Watcher>(
     watcher: &mut S,
     variable: usize,
     value: u64,
-) -> Said
+) -> LineOutput
     ensures made { RunsInput variable value world.old world.new result }
     ensures seen { Sees S.saw watcher.old world.old world.new watcher.new }
 {
     let plan = world.plan();
     if !is_input_of(plan, variable, value) {
-        return Said::No;
+        return LineOutput::No;
     }
     put_slaves(world, watcher, plan.variables()[variable], value)
 }

@@ -4,7 +4,7 @@ use ec_world::Event;
 
 /// What a line of a script asks for.
 #[derive(Clone, Copy, Debug, PartialEq, Eq, Drop)]
-pub enum Act {
+pub enum LineAction {
     /// One event.
     One(Event),
     /// A variable of the inputs, by its place, becomes this value in the slaves that have bits of it.
@@ -28,5 +28,5 @@ pub struct Line {
     pub number: usize,
     /// How often its act is done, one time after another; 1 without `repeat`.
     pub times: u32,
-    pub act: Act,
+    pub act: LineAction,
 }

@@ -17,7 +17,7 @@ use ec_table::Direction;
 use ec_world::World;
 
 /// More bits than the memory of a slave has room for.
-const MOST_BITS: usize = 0x10000;
+const MAX_BITS: usize = 0x10000;
 
 /// Whether published outputs have the bits of a link of a variable, and they are those of a value.
 fn has_bits(variable: Variable, value: u64, link: &Link, outputs: &[u8]) -> bool
@@ -25,7 +25,7 @@ fn has_bits(variable: Variable, value: u64, link: &Link, outputs: &[u8]) -> bool
     requires linked { is_of variable link.now ≡ true }
     ensures { result ≡ has_bits variable value link.now outputs.now }
 {
-    if link.object_bit > MOST_BITS || link.count > MOST_BITS - link.object_bit {
+    if link.object_bit > MAX_BITS || link.count > MAX_BITS - link.object_bit {
         return false;
     }
     let bytes = (link.object_bit + link.count + 7) / 8;

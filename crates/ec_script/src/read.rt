@@ -6,7 +6,7 @@ use crate::acts::act_of_words;
 use crate::error::ScriptError;
 use crate::line::Line;
 use crate::words::{lines_of, times_of, uncommented, words_of};
-use ec_regs::Listed;
+use ec_listed::Listed;
 use ec_table::Table;
 use std::alloc::{AllocError, Global};
 

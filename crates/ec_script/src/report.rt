@@ -4,7 +4,7 @@ ghost use Rattle.ec_text.specs.PlanText.{lines_from};
 ghost use Rattle.ec_script.specs.Texts.{counter_at, kept_text, report_text, taken_text, unit_at, units_text, word_text};
 
 use ec_cycle::Report;
-use ec_link::{PartPlan, Predicted};
+use ec_link::{ExpectedCounters, PartPlan};
 use ec_table::Version;
 use ec_text::write_counter;
 use std::alloc::{AllocError, Global};
@@ -57,7 +57,7 @@ fn write_units(text: &mut String, version: Version, report: &Report) -> Result<(
 fn write_kept(
     text: &mut String,
     part: &PartPlan,
-    counters: Option<Predicted>,
+    counters: Option<ExpectedCounters>,
 ) -> Result<(), AllocError>
     ensures { OnOk result
         (string_bytes text.new ≡ string_bytes text.old ++ kept_text part.now counters) }
@@ -71,7 +71,7 @@ fn write_kept(
 /// Adds a blank and the working counters of a part.
 fn write_part(
     text: &mut String,
-    counters: &[Option<Predicted>],
+    counters: &[Option<ExpectedCounters>],
     place: usize,
     part: &PartPlan,
 ) -> Result<(), AllocError>
@@ -87,7 +87,7 @@ fn write_part(
 fn write_counters(
     text: &mut String,
     parts: &[PartPlan],
-    counters: &[Option<Predicted>],
+    counters: &[Option<ExpectedCounters>],
 ) -> Result<(), AllocError>
     ensures { OnOk result (string_bytes text.new
         ≡ string_bytes text.old ++ lines_from (counter_at counters.now) 0 parts.now) }

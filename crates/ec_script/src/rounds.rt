@@ -6,26 +6,26 @@ ghost use Rattle.ec_script.specs.Seeing.{Sees};
 ghost use Rattle.ec_script.specs.Work.{Makes, MakesAll, Starts, RunsTurn, RunsCycle, last_turn};
 ghost use Rattle.ec_script.specs.Rounds.{greatest, has_number, round_events, rounds_found};
 
-use crate::said::Said;
+use crate::said::LineOutput;
 use ec_world::{Event, Watcher, World};
 
 /// Makes an event, if it can be made, and answers what there is to say of it.
 #[tactic(auto, using(crate::proofs::Seeing::sees_none, crate::proofs::Seeing::sees_made, crate::proofs::Seeing::sees_then))]
-pub fn make<S: Watcher>(world: &mut World<'_>, watcher: &mut S, event: Event) -> Said
+pub fn make<S: Watcher>(world: &mut World<'_>, watcher: &mut S, event: Event) -> LineOutput
     ensures made { Makes event world.old world.new result }
     ensures seen { Sees S.saw watcher.old world.old world.new watcher.new }
 {
     let starting = world.outcome().is_none();
     if !watcher.step(world, event) {
-        return Said::No;
+        return LineOutput::No;
     }
     if starting && world.outcome().is_some() {
-        return Said::Ended;
+        return LineOutput::Ended;
     }
     match event {
-        Event::AppGet(_, _) => Said::Byte,
-        Event::Close => Said::Report,
-        _ => Said::Nothing,
+        Event::AppGet(_, _) => LineOutput::Byte,
+        Event::Close => LineOutput::Report,
+        _ => LineOutput::Nothing,
     }
 }
 
@@ -57,11 +57,11 @@ fn pass_slaves<S: Watcher>(
     watcher: &mut S,
     slot: usize,
     slaves: usize,
-) -> Said
+) -> LineOutput
     ensures made { MakesAll (replicate slaves (Event.Pass slot)) world.old world.new result }
     ensures seen { Sees S.saw watcher.old world.old world.new watcher.new }
 {
-    let mut said = Said::Nothing;
+    let mut said = LineOutput::Nothing;
     for _ in 0..slaves {
         said = make(world, watcher, Event::Pass(slot));
         if !said.is_done() {
@@ -73,11 +73,11 @@ fn pass_slaves<S: Watcher>(
 
 /// So many slaves make a firmware step, each in its turn.
 #[tactic(auto, using(crate::proofs::Seeing::sees_none, crate::proofs::Seeing::sees_made, crate::proofs::Seeing::sees_then))]
-fn serve_slaves<S: Watcher>(world: &mut World<'_>, watcher: &mut S, slaves: usize) -> Said
+fn serve_slaves<S: Watcher>(world: &mut World<'_>, watcher: &mut S, slaves: usize) -> LineOutput
     ensures made { MakesAll (servings 0 slaves) world.old world.new result }
     ensures seen { Sees S.saw watcher.old world.old world.new watcher.new }
 {
-    let mut said = Said::Nothing;
+    let mut said = LineOutput::Nothing;
     for slave in 0..slaves {
         said = make(world, watcher, Event::Serve(slave));
         if !said.is_done() {
@@ -94,14 +94,14 @@ fn serve_if<S: Watcher>(
     watcher: &mut S,
     slaves: usize,
     serving: bool,
-) -> Said
+) -> LineOutput
     ensures made { MakesAll (if serving then servings 0 slaves else []) world.old world.new result }
     ensures seen { Sees S.saw watcher.old world.old world.new watcher.new }
 {
     if serving {
         serve_slaves(world, watcher, slaves)
     } else {
-        Said::Nothing
+        LineOutput::Nothing
     }
 }
 
@@ -113,7 +113,7 @@ fn go_round<S: Watcher>(
     slot: usize,
     slaves: usize,
     serving: bool,
-) -> Said
+) -> LineOutput
     ensures made { MakesAll (round_events slaves serving slot) world.old world.new result }
     ensures seen { Sees S.saw watcher.old world.old world.new watcher.new }
 {
@@ -130,13 +130,13 @@ fn go_round<S: Watcher>(
 
 /// The newest frames go round, one after another in the order of their slots.
 #[tactic(auto, using(crate::proofs::Seeing::sees_none, crate::proofs::Seeing::sees_made, crate::proofs::Seeing::sees_then))]
-fn go_rounds<S: Watcher>(world: &mut World<'_>, watcher: &mut S, serving: bool) -> Said
+fn go_rounds<S: Watcher>(world: &mut World<'_>, watcher: &mut S, serving: bool) -> LineOutput
     ensures made { MakesAll (rounds_found serving world.old) world.old world.new result }
     ensures seen { Sees S.saw watcher.old world.old world.new watcher.new }
 {
     let slaves = world.slaves();
     let number = newest(world);
-    let mut said = Said::Nothing;
+    let mut said = LineOutput::Nothing;
     for slot in 0..world.slots() {
         if holds(world, slot, number) {
             said = go_round(world, watcher, slot, slaves, serving);
@@ -150,7 +150,7 @@ fn go_rounds<S: Watcher>(world: &mut World<'_>, watcher: &mut S, serving: bool) 
 
 /// One frame of a start-up is sent and goes round.
 #[tactic(auto, using(crate::proofs::Seeing::sees_none, crate::proofs::Seeing::sees_made, crate::proofs::Seeing::sees_then))]
-fn take_turn<S: Watcher>(world: &mut World<'_>, watcher: &mut S) -> Said
+fn take_turn<S: Watcher>(world: &mut World<'_>, watcher: &mut S) -> LineOutput
     ensures made { RunsTurn world.old world.new result }
     ensures seen { Sees S.saw watcher.old world.old world.new watcher.new }
 {
@@ -163,7 +163,7 @@ fn take_turn<S: Watcher>(world: &mut World<'_>, watcher: &mut S) -> Said
 
 /// Frames of a start-up are sent and go round, until it has ended.
 #[tactic(auto, using(crate::proofs::Seeing::sees_none, crate::proofs::Seeing::sees_made, crate::proofs::Seeing::sees_then))]
-pub fn start_up<S: Watcher>(world: &mut World<'_>, watcher: &mut S) -> Said
+pub fn start_up<S: Watcher>(world: &mut World<'_>, watcher: &mut S) -> LineOutput
     ensures made { Starts last_turn world.old world.new result }
     ensures seen { Sees S.saw watcher.old world.old world.new watcher.new }
 {
@@ -176,12 +176,12 @@ pub fn start_up<S: Watcher>(world: &mut World<'_>, watcher: &mut S) -> Said
             return said;
         }
     }
-    Said::Nothing
+    LineOutput::Nothing
 }
 
 /// A cycle begins, its frames go round, and it is closed.
 #[tactic(auto, using(crate::proofs::Seeing::sees_none, crate::proofs::Seeing::sees_made, crate::proofs::Seeing::sees_then))]
-pub fn run_cycle<S: Watcher>(world: &mut World<'_>, watcher: &mut S) -> Said
+pub fn run_cycle<S: Watcher>(world: &mut World<'_>, watcher: &mut S) -> LineOutput
     ensures made { RunsCycle world.old world.new result }
     ensures seen { Sees S.saw watcher.old world.old world.new watcher.new }
 {

@@ -4,58 +4,58 @@ ghost use Rattle.std.specs.Result.{IfOk};
 ghost use Rattle.ec_link.specs.Plan.{plan_of};
 ghost use Rattle.ec_text.specs.PlanText.{newline};
 ghost use Rattle.ec_world.specs.NewWorld.{IsToStart};
-ghost use Rattle.ec_script.specs.declared.line.Act.TheVariants.{Ready};
-ghost use Rattle.ec_script.specs.declared.said.Said.{Said};
+ghost use Rattle.ec_script.specs.declared.line.LineAction.TheVariants.{Ready};
+ghost use Rattle.ec_script.specs.declared.said.LineOutput.{LineOutput};
 ghost use Rattle.ec_script.specs.Work.{Does, is_done, said_if};
 ghost use Rattle.ec_script.specs.Expecting.{is_met};
 ghost use Rattle.ec_script.specs.Events.{RunsLine};
 ghost use Rattle.ec_script.specs.Promised.{IsReadied};
 ghost use Rattle.ec_script.specs.Seeing.{Sees};
-ghost use Rattle.ec_script.specs.Texts.{said_text};
+ghost use Rattle.ec_script.specs.Texts.{output_text};
 
 use crate::expectation::Expectation;
 use crate::inputs::put_input;
-use crate::line::{Act, Line};
+use crate::line::{Line, LineAction};
 use crate::met::is_met;
 use crate::rounds::{make, run_cycle, start_up};
-use crate::said::{Said, said_text};
+use crate::said::{LineOutput, output_text};
 use ec_table::Table;
 use ec_world::{Unwatched, Watcher, World};
 use std::alloc::{AllocError, Global};
 
 /// What there is to say where something is expected of a world.
-fn expect(world: &World<'_>, expected: Expectation) -> Said
+fn expect(world: &World<'_>, expected: Expectation) -> LineOutput
     ensures { result ≡ said_if (is_met expected world.now) }
 {
     if is_met(world, expected) {
-        Said::Nothing
+        LineOutput::Nothing
     } else {
-        Said::Unmet
+        LineOutput::Unmet
     }
 }
 
 /// Does what a line asks for, as [`do_act`] does; its events are made by a watcher, which may keep what it sees of them.
 #[tactic(auto, using(crate::proofs::Plans::act_keeps, crate::proofs::Running::lines_run, crate::proofs::Seeing::sees_none))]
-pub fn watch_act<S: Watcher>(world: &mut World<'_>, watcher: &mut S, act: Act) -> Said
+pub fn watch_act<S: Watcher>(world: &mut World<'_>, watcher: &mut S, act: LineAction) -> LineOutput
     ensures does { Does act world.old world.new result }
     ensures run { RunsLine act world.old world.new (is_done result) }
     ensures plan { world.new.plan ≡ world.old.plan }
     ensures seen { Sees S.saw watcher.old world.old world.new watcher.new }
 {
     match act {
-        Act::One(event) => make(world, watcher, event),
-        Act::Input(variable, value) => put_input(world, watcher, variable, value),
-        Act::Never(_) => Said::No,
-        Act::Expect(expected) => expect(world, expected),
-        Act::Ready => start_up(world, watcher),
-        Act::Cycle => run_cycle(world, watcher),
-        Act::Show => Said::Values,
+        LineAction::One(event) => make(world, watcher, event),
+        LineAction::Input(variable, value) => put_input(world, watcher, variable, value),
+        LineAction::Never(_) => LineOutput::No,
+        LineAction::Expect(expected) => expect(world, expected),
+        LineAction::Ready => start_up(world, watcher),
+        LineAction::Cycle => run_cycle(world, watcher),
+        LineAction::Show => LineOutput::Values,
     }
 }
 
 /// Does what a line asks for, up to the first event that can't be made, and answers what there is to say of it. The world is
 /// left as `World::run` of the line's events leaves it. It takes no memory.
-pub fn do_act(world: &mut World<'_>, act: Act) -> Said
+pub fn do_act(world: &mut World<'_>, act: LineAction) -> LineOutput
     ensures does { Does act world.old world.new result }
     ensures run { RunsLine act world.old world.new (is_done result) }
     ensures plan { world.new.plan ≡ world.old.plan }
@@ -79,13 +79,13 @@ pub fn run_line(
     line: &Line,
 ) -> Result<String, AllocError>
     requires { world.old.plan ≡ plan_of table.now }
-    ensures does { (said : Said) × Does line.now.act world.old world.new said
+    ensures does { (said : LineOutput) × Does line.now.act world.old world.new said
         × RunsLine line.now.act world.old world.new (is_done said)
-        × IfOk result (λ text. string_bytes text ≡ said_text table.now line.now.number world.new said) }
+        × IfOk result (λ text. string_bytes text ≡ output_text table.now line.now.number world.new said) }
     ensures up { IsToStart table.now world.old → line.now.act ≡ Ready → IsReadied table.now world.old world.new
         × IfOk result (λ text. string_bytes text ≡ codes "ready" ++ newline) }
     ensures plan { world.new.plan ≡ world.old.plan }
 {
     let said = do_act(world, line.act);
-    said_text(alloc, world, table, line.number, said)
+    output_text(alloc, world, table, line.number, said)
 }

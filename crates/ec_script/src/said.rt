@@ -2,7 +2,7 @@
 ghost use Rattle.std.specs.Prelude.{◌≡◌, ◌++◌, IfOk, OnOk, slice_get, string_bytes};
 ghost use Rattle.ec_cycle.specs.Master.{value_at};
 ghost use Rattle.ec_text.specs.PlanText.{lines_from};
-ghost use Rattle.ec_script.specs.Texts.{byte_text, last_report_text, outcome_text, said_text, value_line};
+ghost use Rattle.ec_script.specs.Texts.{byte_text, last_report_text, outcome_text, output_text, value_line};
 ghost use Rattle.ec_link.specs.Plan.{plan_of};
 ghost use Rattle.ec_script.specs.Work.{is_done, is_unmet};
 
@@ -15,7 +15,7 @@ use std::fmt::Write as _;
 
 /// What there is to say when a line of a script has done its work.
 #[derive(Clone, Copy, Drop)]
-pub enum Said {
+pub enum LineOutput {
     /// Nothing.
     Nothing,
     /// An event can't be made, and the line ended there.
@@ -32,15 +32,19 @@ pub enum Said {
     Values,
 }
 
-impl Said {
+impl LineOutput {
     /// Whether the line's work was done: all of its events could be made.
     pub fn is_done(self) -> bool
         ensures { result ≡ is_done self }
     {
         match self {
-            Said::No => false,
-            Said::Nothing | Said::Unmet | Said::Byte | Said::Ended | Said::Report | Said::Values =>
-                true,
+            LineOutput::No => false,
+            LineOutput::Nothing
+            | LineOutput::Unmet
+            | LineOutput::Byte
+            | LineOutput::Ended
+            | LineOutput::Report
+            | LineOutput::Values => true,
         }
     }
 
@@ -48,7 +52,7 @@ impl Said {
     pub fn is_unmet(self) -> bool
         ensures { result ≡ is_unmet self }
     {
-        matches!(self, Said::Unmet)
+        matches!(self, LineOutput::Unmet)
     }
 }
 
@@ -146,25 +150,25 @@ fn write_last_report(
 
 /// What is printed where a line of this number has this to say of a world; the world is one of the
 /// table. The error is want of memory.
-pub fn said_text(
+pub fn output_text(
     alloc: Global,
     world: &World<'_>,
     table: &Table,
     number: usize,
-    said: Said,
+    said: LineOutput,
 ) -> Result<String, AllocError>
     requires { world.now.plan ≡ plan_of table.now }
-    ensures { IfOk result (λ text. string_bytes text ≡ said_text table.now number world.now said) }
+    ensures { IfOk result (λ text. string_bytes text ≡ output_text table.now number world.now said) }
 {
     let mut text = String::new(alloc);
     match said {
-        Said::Nothing => {}
-        Said::No => writeln!(text, "no {number}")?,
-        Said::Unmet => writeln!(text, "unmet {number}")?,
-        Said::Byte => write_byte(alloc, &mut text, world.byte())?,
-        Said::Ended => write_outcome(&mut text, world.outcome())?,
-        Said::Report => write_last_report(alloc, &mut text, table.version(), world)?,
-        Said::Values => write_values(&mut text, world, table.variables())?,
+        LineOutput::Nothing => {}
+        LineOutput::No => writeln!(text, "no {number}")?,
+        LineOutput::Unmet => writeln!(text, "unmet {number}")?,
+        LineOutput::Byte => write_byte(alloc, &mut text, world.byte())?,
+        LineOutput::Ended => write_outcome(&mut text, world.outcome())?,
+        LineOutput::Report => write_last_report(alloc, &mut text, table.version(), world)?,
+        LineOutput::Values => write_values(&mut text, world, table.variables())?,
     }
     Ok(text)
 }

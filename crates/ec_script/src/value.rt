@@ -6,7 +6,7 @@ use crate::words::number_of;
 
 /// What a word writes as the value of a variable.
 #[derive(Clone, Copy, Debug, PartialEq, Eq, Drop)]
-pub enum Value {
+pub enum WrittenValue {
     /// This number, which may be greater than the variable's bits hold.
     Number(u64),
     /// A number below 0 that has no two's complement in the variable's bits.
@@ -35,29 +35,29 @@ fn plain_of(word: &str) -> Option<u64>
 }
 
 /// The number `-n` in so many bits.
-fn negative_of(bits: u8, n: u64) -> Value
+fn negative_of(bits: u8, n: u64) -> WrittenValue
     requires some { 1 ≤ bits }
     requires few { bits ≤ 64 }
     ensures { result ≡ negative_of bits n }
 {
     let half = 1u64 << (bits - 1);
     if n == 0 {
-        Value::Number(0)
+        WrittenValue::Number(0)
     } else if n <= half {
-        Value::Number(half - n + half)
+        WrittenValue::Number(half - n + half)
     } else {
-        Value::Outside
+        WrittenValue::Outside
     }
 }
 
 /// The value that a word writes for a variable of so many bits: a number, or `-` and decimal digits.
-pub fn value_of(bits: u8, word: &str) -> Option<Value>
+pub fn value_of(bits: u8, word: &str) -> Option<WrittenValue>
     requires some { 1 ≤ bits }
     requires few { bits ≤ 64 }
     ensures { result ≡ value_of bits word.now }
 {
     match word.strip_prefix('-') {
         Some(digits) => Some(negative_of(bits, number_of(digits)?)),
-        None => Some(Value::Number(plain_of(word)?)),
+        None => Some(WrittenValue::Number(plain_of(word)?)),
     }
 }

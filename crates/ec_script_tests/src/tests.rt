@@ -7,11 +7,11 @@ mod borders;
 mod deeds;
 mod lines;
 
+use ec_bringup::identities_of;
+use ec_device::Identity;
 use ec_link::{Plan, compile};
-use ec_regs::Identity;
-use ec_rise::identities_of;
-use ec_script::Act::{Cycle, One, Ready, Show};
-use ec_script::{Act, Line, ScriptError, read_script, run_line, split_script};
+use ec_script::LineAction::{Cycle, One, Ready, Show};
+use ec_script::{Line, LineAction, ScriptError, read_script, run_line, split_script};
 use ec_table::{Table, read_table};
 use ec_world::Event::{
     AppGet, AppPut, Begin, Close, Fault, Lose, Pass, Reset, Return, Serve, Set, StartNext,
@@ -33,7 +33,7 @@ link = [ { var = "a", slave = "s0", index = 0x7000, sub = 1 }, { var = "b", slav
 "#;
 
 /// Lines, and what each stands for.
-const ACTS: [(&str, Act); 19] = [
+const ACTS: [(&str, LineAction); 19] = [
     ("start", One(StartNext)),
     ("set a 10", One(Set(0, 10))),
     ("set d 0018", One(Set(3, 18))),
@@ -177,7 +177,7 @@ const HALVES: [(&str, (&str, &str)); 12] = [
 ];
 
 /// Whether a text is read as one line that stands for an act.
-fn stands_for(alloc: Global, table: &Table, text: &str, act: Act) -> Result<bool, Fail> {
+fn stands_for(alloc: Global, table: &Table, text: &str, act: LineAction) -> Result<bool, Fail> {
     let lines = read_script(alloc, table, text)?;
     let line = Line {
         number: 1,
@@ -191,7 +191,7 @@ fn stands_for(alloc: Global, table: &Table, text: &str, act: Act) -> Result<bool
 fn expect_acts<H: AllocGlobal + Abort>(
     rt: &H,
     table: &Table,
-    acts: &[(&str, Act)],
+    acts: &[(&str, LineAction)],
 ) -> Result<(), Fail> {
     for (text, act) in acts {
         let stands = stands_for(rt.alloc(), table, text, *act)?;

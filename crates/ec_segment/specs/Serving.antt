@@ -6,7 +6,7 @@ use Rattle.ec_slave.specs.State.{SlaveState}
 use Rattle.ec_table.specs.Contents.{Contents, shown_as}
 use Rattle.ec_table.specs.Reading.{table_of}
 use Rattle.ec_link.specs.Faults.{compile_fault}
-use Rattle.ec_rise.specs.SwitchedOn.{AreSlavesOf}
+use Rattle.ec_bringup.specs.SwitchedOn.{AreSlavesOf}
 use Rattle.ec_wire.specs.Wires.{IsOpened, SocketState, WireState, silent}
 use Rattle.ec_wire.specs.Segments.{HasServed, WasCutOff}
 use Rattle.ec_console.specs.declared.refusal.Refusal.{Refusal}

@@ -5,10 +5,10 @@ ghost use Rattle.ec_console.specs.Given.{IsTableRefusal, RefusesTable};
 ghost use Rattle.ec_segment.specs.Serving.{GivesSlaves, HasSlaves, StatesSlaves};
 ghost use Rattle.ec_console.specs.Given.{IsLinkRefusal};
 
+use ec_bringup::slaves_of;
 use ec_console::{Explanation, Refusal, read_text};
 use ec_link::compile;
 use ec_ring::Ring;
-use ec_rise::slaves_of;
 use ec_table::{Table, read_table};
 use std::alloc::Global;
 use std::io::Read;

@@ -4,8 +4,8 @@ use Rattle.std.specs.List.{range_with_len}
 use Rattle.std.proofs.lemmas.Bool.Decides.{nat_tests}
 use Rattle.std.proofs.lemmas.Option.{slice_get_past}
 use Rattle.ec_bits.specs.Bits.{within}
-use Rattle.ec_sii.specs.declared.image.Image.{Image}
-use Rattle.ec_sii.specs.Image.{word_at, other_word, size_of, kibibits}
+use Rattle.ec_sii.specs.declared.image.SiiImage.{SiiImage}
+use Rattle.ec_sii.specs.SiiImage.{word_at, other_word, size_of, kibibits}
 use Rattle.ec_sii.specs.Reading.{area_read}
 use Rattle.ec_sii.specs.Laws.{ShowsCategories, CategoriesAreShown}
 
@@ -29,7 +29,7 @@ padded f mark (x ∷ xs) a (suc n) shows few =
 pub size-is : (o : Option (List ℕ)) (cs : List ℕ) → o ≡ Some cs → size_of o ≡ kibibits cs
 size-is o cs e = ap size_of e
 
-pub other-is : (image : Image) (cs : List ℕ) → image.categories ≡ Some cs → (address : ℕ) → 0x1D ≤ address → word_at image address ≡ other_word (Some cs) address
+pub other-is : (image : SiiImage) (cs : List ℕ) → image.categories ≡ Some cs → (address : ℕ) → 0x1D ≤ address → word_at image address ≡ other_word (Some cs) address
 unfolding word_at
 other-is image cs e address from =
     let a : within 0x08 8 address ≡ false = grind (arith, nat_tests) in
@@ -44,7 +44,7 @@ from-40 cs i =
     let d : (0x40 + i) - 0x40 ≡ i = omega arith in
     rw (a, b, c, d) refl
 
-pub shows : (image : Image) (cs : List ℕ) → image.categories ≡ Some cs → (i : ℕ) → word_at image (0x40 + i) ≡ unwrap_or (slice_get cs i) 0xFFFF
+pub shows : (image : SiiImage) (cs : List ℕ) → image.categories ≡ Some cs → (i : ℕ) → word_at image (0x40 + i) ≡ unwrap_or (slice_get cs i) 0xFFFF
 shows image cs e i = other-is image cs e (0x40 + i) (omega arith) ∙ from-40 cs i
 
 got : (cs : List ℕ) (k : ℕ) → k < length cs → unwrap_or (slice_get cs k) 0xFFFF ≡ get_or cs k 0
@@ -73,7 +73,7 @@ categories_law image cs e few =
     }
 
 -- all words from 0x40 to the end: the categories, the end mark, and more of it
-pub area-is : (image : Image) (cs : List ℕ) → image.categories ≡ Some cs → length cs < 2 ^ 22 - 2 ^ 7 → (ys : List ℕ) × (area_read image ≡ cs ++ 0xFFFF ∷ ys)
+pub area-is : (image : SiiImage) (cs : List ℕ) → image.categories ≡ Some cs → length cs < 2 ^ 22 - 2 ^ 7 → (ys : List ℕ) × (area_read image ≡ cs ++ 0xFFFF ∷ ys)
 area-is image cs e few =
     let all : ShowsCategories image cs = categories_law image cs e few in
     let n : ℕ = 64 * (word_at image 0x3E + 1) - 0x40 in

@@ -6,15 +6,15 @@ use Rattle.std.proofs.lemmas.List.Elements.{All-cons, All-append}
 use Rattle.std.proofs.lemmas.List.Sums.{sum_by-le}
 use Rattle.std.proofs.lemmas.Grind.{flat_map-append}
 use Rattle.ec_bits.specs.Bits.{within, bytes_of_bits}
-use Rattle.ec_regs.specs.declared.slave_type.Entry.{Entry}
-use Rattle.ec_regs.specs.declared.slave_type.Pdo.{Pdo}
-use Rattle.ec_regs.specs.declared.slave_type.Mailbox.{Mailbox}
-use Rattle.ec_regs.specs.declared.slave_type.Identity.{Identity}
-use Rattle.ec_regs.specs.declared.slave_type.Face.{Face}
-use Rattle.ec_regs.specs.Types.{SlaveKind, IsPdo, ArePdos, IsMailbox, IsFace, pdo_bits, pdos_bits}
-use Rattle.ec_regs.proofs.Limits.{few_bits}
+use Rattle.ec_device.specs.declared.slave_type.Entry.{Entry}
+use Rattle.ec_device.specs.declared.slave_type.Pdo.{Pdo}
+use Rattle.ec_device.specs.declared.slave_type.Mailbox.{Mailbox}
+use Rattle.ec_device.specs.declared.slave_type.Identity.{Identity}
+use Rattle.ec_device.specs.declared.slave_type.Face.{Face}
+use Rattle.ec_device.specs.Types.{SlaveKind, IsPdo, ArePdos, IsMailbox, IsFace, pdo_bits, pdos_bits}
+use Rattle.ec_device.proofs.Limits.{few_bits}
 use Rattle.ec_sii.specs.Categories.{pair, words_of, category, strings_words, coe_details, general_flags, general_words, for_outputs, for_inputs, fmmus_words, mailbox_managers, data_settings, data_managers, manager_words, managers_words, entry_words, pdo_words, pdos_category, categories_of}
-use Rattle.ec_sii.specs.Image.{word_at, other_word, identity_words, mailbox_words, kibibits}
+use Rattle.ec_sii.specs.SiiImage.{word_at, other_word, identity_words, mailbox_words, kibibits}
 use Rattle.ec_sii.specs.Laws.{FitsEntry, FitsKind, FitsIdentity, WordsFit}
 use Rattle.ec_sii.proofs.Lengths.{strings_few, managers_few, pdos_few, short_entries}
 

@@ -2,12 +2,12 @@
 use Rattle.std.proofs.Common.{ℕ, suc, ◌/◌, ◌%◌, ◌<◌, ◌≡◌, List, [], ◌∷◌, ◌++◌, length, map, take, Bool, true, false, if◌then◌else◌, All, Option, Some, None, refl, ap, ◌∙◌, arith, append-nil, lit<, ◌==◌}
 use Rattle.std.specs.List.{flat_map}
 use Rattle.std.proofs.lemmas.List.Elements.{All-cons, All-append}
-use Rattle.ec_regs.specs.declared.slave_type.Entry.{Entry}
-use Rattle.ec_regs.specs.declared.slave_type.Pdo.{Pdo}
-use Rattle.ec_regs.specs.declared.slave_type.Mailbox.{Mailbox}
-use Rattle.ec_regs.specs.declared.manager.ManagerSettings.{ManagerSettings}
+use Rattle.ec_device.specs.declared.slave_type.Entry.{Entry}
+use Rattle.ec_device.specs.declared.slave_type.Pdo.{Pdo}
+use Rattle.ec_device.specs.declared.slave_type.Mailbox.{Mailbox}
+use Rattle.ec_regs.specs.declared.manager.SyncManagerSettings.{SyncManagerSettings}
 use Rattle.ec_regs.specs.Managers.{no_settings, area_settings, mailbox_out_control, mailbox_in_control, outputs_control, inputs_control}
-use Rattle.ec_regs.specs.Types.{SlaveKind, pdos_bits}
+use Rattle.ec_device.specs.Types.{SlaveKind, pdos_bits}
 use Rattle.ec_sii.specs.declared.categories.ShownManager.{ShownManager}
 use Rattle.ec_sii.specs.Categories.{pair, words_of, strings_words, entry_words, pdo_words, mailbox_managers, data_settings, data_managers, manager_words, managers_words, shown_managers}
 use Rattle.ec_sii.specs.Reading.{bytes_of, strings_read, managers_read, ReadPdos, entries_read}
@@ -85,7 +85,7 @@ none_of_all P k d below = absurd (omega arith)
 two-shown : (a b : ShownManager) → IsShown a → IsShown b → All IsShown (a ∷ b ∷ [])
 two-shown a b h k = All-cons IsShown a (b ∷ []) h (All-cons IsShown b [] k (none_of_all IsShown))
 
-settings-shown : (s : ManagerSettings) (usage : ℕ) → s.control < 256 → s.activate < 256 → IsShown (record { settings = s; usage = usage })
+settings-shown : (s : SyncManagerSettings) (usage : ℕ) → s.control < 256 → s.activate < 256 → IsShown (record { settings = s; usage = usage })
 settings-shown s usage h k = (h, k)
 
 area-shown : (start length control usage : ℕ) → control < 256 → IsShown (record { settings = area_settings start length control; usage = usage })

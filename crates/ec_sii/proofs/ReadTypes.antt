@@ -1,13 +1,13 @@
 -- A master that reads the image of a full slave finds its type.
 use Rattle.std.proofs.Common.{ℕ, ◌-◌, ◌<◌, ◌^◌, ◌≡◌, List, [], ◌∷◌, ◌++◌, length, All, Bool, true, false, Option, Some, None, slice_index_or, refl, sym, ap, subst, ◌∙◌, arith}
 use Rattle.std.specs.Option.{option_map}
-use Rattle.ec_regs.specs.declared.slave_type.Pdo.{Pdo}
-use Rattle.ec_regs.specs.declared.slave_type.Mailbox.{Mailbox}
-use Rattle.ec_regs.specs.declared.slave_type.Face.{Face}
-use Rattle.ec_regs.specs.Types.{SlaveKind, IsPdo, ArePdos}
-use Rattle.ec_sii.specs.declared.image.Image.{Image}
+use Rattle.ec_device.specs.declared.slave_type.Pdo.{Pdo}
+use Rattle.ec_device.specs.declared.slave_type.Mailbox.{Mailbox}
+use Rattle.ec_device.specs.declared.slave_type.Face.{Face}
+use Rattle.ec_device.specs.Types.{SlaveKind, IsPdo, ArePdos}
+use Rattle.ec_sii.specs.declared.image.SiiImage.{SiiImage}
 use Rattle.ec_sii.specs.Categories.{for_outputs, for_inputs, coe_details, general_flags, pair, categories_of}
-use Rattle.ec_sii.specs.Image.{image_of}
+use Rattle.ec_sii.specs.SiiImage.{image_of}
 use Rattle.ec_sii.specs.Reading.{area_read, bytes_of, strings_read, managers_read, ReadPdos, pdos_read}
 use Rattle.ec_sii.specs.Laws.{FitsEntry, FitsKind, found_pdos, ReadsType, FullTypesAreReadBack}
 use Rattle.ec_sii.proofs.Walking.{some_words, Found, found}
@@ -51,7 +51,7 @@ reads kind face ys h e =
 
 pub types_law : FullTypesAreReadBack
 types_law kind identity face h e =
-    let image : Image = image_of kind identity in
+    let image : SiiImage = image_of kind identity in
     let shown : image.categories ≡ Some (categories_of kind face.name) = ap (option_map (λ (f : Face). categories_of kind f.name)) e in
     let few : length (categories_of kind face.name) < 2 ^ 22 - 2 ^ 7 = categories-few kind face h e in
     let area : (ys : List ℕ) × (area_read image ≡ categories_of kind face.name ++ 0xFFFF ∷ ys) = area-is image (categories_of kind face.name) shown few in

@@ -2,8 +2,8 @@
 use Rattle.std.proofs.Common.{ℕ, zero, ◌≡◌, ◌==◌, List, [], ◌∷◌, ◌++◌, length, true, false, Option, Some, None, refl, ap, ◌∙◌, append_assoc}
 use Rattle.std.proofs.Math.Seq.{take-append_seam}
 use Rattle.std.specs.List.{flat_map}
-use Rattle.ec_regs.specs.declared.slave_type.Pdo.{Pdo}
-use Rattle.ec_regs.specs.Types.{SlaveKind}
+use Rattle.ec_device.specs.declared.slave_type.Pdo.{Pdo}
+use Rattle.ec_device.specs.Types.{SlaveKind}
 use Rattle.ec_sii.specs.Categories.{category, pdo_words, pdos_category, strings_words, general_words, fmmus_words, managers_words, categories_of}
 use Rattle.ec_sii.specs.Reading.{found_behind, category_found}
 

@@ -4,12 +4,12 @@
 use Rattle.std.specs.Prelude.{ℕ, ◌+◌, ◌*◌, ◌==◌, List, [], ◌∷◌, ◌++◌, length, replicate, Bool, true, false, if◌then◌else◌, Option, Some, None}
 use Rattle.std.specs.List.{flat_map}
 use Rattle.ec_bits.specs.Bits.{bytes_of_bits}
-use Rattle.ec_regs.specs.declared.slave_type.Entry.{Entry}
-use Rattle.ec_regs.specs.declared.slave_type.Pdo.{Pdo}
-use Rattle.ec_regs.specs.declared.slave_type.Mailbox.{Mailbox}
-use Rattle.ec_regs.specs.declared.manager.ManagerSettings.{ManagerSettings}
+use Rattle.ec_device.specs.declared.slave_type.Entry.{Entry}
+use Rattle.ec_device.specs.declared.slave_type.Pdo.{Pdo}
+use Rattle.ec_device.specs.declared.slave_type.Mailbox.{Mailbox}
+use Rattle.ec_regs.specs.declared.manager.SyncManagerSettings.{SyncManagerSettings}
 use Rattle.ec_regs.specs.Managers.{no_settings, area_settings, mailbox_out_control, mailbox_in_control, outputs_control, inputs_control}
-use Rattle.ec_regs.specs.Types.{SlaveKind, pdos_bits}
+use Rattle.ec_device.specs.Types.{SlaveKind, pdos_bits}
 use Rattle.ec_sii.specs.declared.categories.ShownManager.{ShownManager}
 
 -- ---- words and categories
@@ -101,7 +101,7 @@ mailbox_managers (Some m) =
     ∷ record { settings = area_settings m.send_start m.send_size mailbox_in_control; usage = 2 } ∷ []
 
 -- the settings of the process data of a direction with so many bits; without any the manager isn't activated
-abbrev pub data_settings : (start bits control : ℕ) → ManagerSettings
+abbrev pub data_settings : (start bits control : ℕ) → SyncManagerSettings
 data_settings start bits control =
     record { start = start; length = bytes_of_bits bits; control = control; activate = if bits == 0 then 0 else 1 }
 

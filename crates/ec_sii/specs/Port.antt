@@ -5,15 +5,15 @@ use Rattle.std.specs.Int.{from_bool, to_le_bytes, from_le_bytes, w32}
 use Rattle.ec_bits.specs.Bits.{within}
 use Rattle.ec_regs.specs.Memory.{sii_control, sii_address, sii_data}
 use Rattle.ec_regs.specs.Words.{sii_word}
-use Rattle.ec_sii.specs.Image.{word_at, size_of}
-use Rattle.ec_sii.specs.declared.image.Image.{Image}
+use Rattle.ec_sii.specs.SiiImage.{word_at, size_of}
+use Rattle.ec_sii.specs.declared.image.SiiImage.{SiiImage}
 
 -- the high byte of the control and status word, which has the command
 abbrev pub command_place : ℕ
 command_place = sii_control + 1
 
 pub record Sii : Type 0 where
-  pub image : Image
+  pub image : SiiImage
   -- the word address that was written last
   pub address : ℕ
   -- a read was commanded and isn't finished
@@ -23,7 +23,7 @@ pub record Sii : Type 0 where
   -- the two words that were read last
   pub found : ℕ
 
-abbrev pub idle_port : Image → Sii
+abbrev pub idle_port : SiiImage → Sii
 idle_port image = record { image = image; address = 0; busy = false; error = false; found = 0 }
 
 -- ---- what datagrams read
@@ -79,11 +79,11 @@ written p from bytes =
 -- ---- the firmware
 
 -- the last word address at which two words stand in the image, whose size is in kibibits of 64 words
-abbrev pub last_address : Image → ℕ
+abbrev pub last_address : SiiImage → ℕ
 last_address image = 64 * size_of image.categories - 2
 
 -- two words as they stand in the data register
-abbrev pub two_words : Image → ℕ → ℕ
+abbrev pub two_words : SiiImage → ℕ → ℕ
 two_words image address = word_at image address + 65536 * word_at image (address + 1)
 
 -- a firmware step finishes the read under way: it shows two words, or an error and the data as they were

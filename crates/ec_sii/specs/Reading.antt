@@ -2,14 +2,14 @@
 -- that is defined apart from what a slave shows.
 use Rattle.std.specs.Prelude.{ℕ, zero, suc, ◌+◌, ◌-◌, ◌*◌, ◌/◌, ◌%◌, ◌==◌, List, [], ◌∷◌, length, map, take, drop, if◌then◌else◌, slice_index, Option, Some, None}
 use Rattle.std.specs.List.{flat_map, range_with_len}
-use Rattle.ec_regs.specs.declared.slave_type.Entry.{Entry}
-use Rattle.ec_regs.specs.declared.slave_type.Pdo.{Pdo}
+use Rattle.ec_device.specs.declared.slave_type.Entry.{Entry}
+use Rattle.ec_device.specs.declared.slave_type.Pdo.{Pdo}
 use Rattle.ec_sii.specs.declared.categories.ShownManager.{ShownManager}
-use Rattle.ec_sii.specs.declared.image.Image.{Image}
-use Rattle.ec_sii.specs.Image.{word_at}
+use Rattle.ec_sii.specs.declared.image.SiiImage.{SiiImage}
+use Rattle.ec_sii.specs.SiiImage.{word_at}
 
 -- the words at all addresses from 0x40 to the end of the image, whose size stands at 0x3E in kibibits less 1
-abbrev pub area_read : Image → List ℕ
+abbrev pub area_read : SiiImage → List ℕ
 area_read image = map (word_at image) (range_with_len 0x40 (64 * (word_at image 0x3E + 1) - 0x40))
 
 -- ---- categories

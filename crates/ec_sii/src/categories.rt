@@ -3,9 +3,10 @@ ghost use Rattle.std.specs.Prelude.{◌≡◌, ◌≤◌, ◌<◌, ◌^◌, ◌+
 ghost use Rattle.std.specs.List.{flat_map};
 ghost use Rattle.ec_sii.specs.Categories.{pair, words_of, category, strings_words, coe_details, general_flags, general_words, for_outputs, for_inputs, fmmus_words, data_settings, manager_words, managers_words, mailbox_managers, data_managers, entry_words, pdo_words, pdos_category, categories_of};
 
+use ec_device::{Entry, Mailbox, Pdo, SlaveType};
+use ec_listed::Listed;
 use ec_regs::{
-    CONTROL_INPUTS, CONTROL_MAILBOX_IN, CONTROL_MAILBOX_OUT, CONTROL_OUTPUTS, Entry, Listed,
-    Mailbox, ManagerSettings, Pdo, SlaveType,
+    CONTROL_INPUTS, CONTROL_MAILBOX_IN, CONTROL_MAILBOX_OUT, CONTROL_OUTPUTS, SyncManagerSettings,
 };
 use std::alloc::{AllocError, Global};
 
@@ -46,7 +47,7 @@ pub(crate) fn categories_of(
 #[derive(Clone, Copy, Debug, PartialEq, Eq)]
 pub(crate) struct ShownManager {
     /// The settings that a master gives it.
-    settings: ManagerSettings,
+    settings: SyncManagerSettings,
     /// What it is used for, or 0 for nothing.
     usage: u8,
 }
@@ -162,14 +163,14 @@ fn mailbox_managers(mailbox: Option<Mailbox>) -> [ShownManager; 2]
 {
     let Some(m) = mailbox else {
         let unused = ShownManager {
-            settings: ManagerSettings::none(),
+            settings: SyncManagerSettings::none(),
             usage: 0,
         };
         return [unused, unused];
     };
     [
         ShownManager {
-            settings: ManagerSettings::of_area(
+            settings: SyncManagerSettings::of_area(
                 m.receive_start,
                 m.receive_size,
                 CONTROL_MAILBOX_OUT,
@@ -177,18 +178,18 @@ fn mailbox_managers(mailbox: Option<Mailbox>) -> [ShownManager; 2]
             usage: 1,
         },
         ShownManager {
-            settings: ManagerSettings::of_area(m.send_start, m.send_size, CONTROL_MAILBOX_IN),
+            settings: SyncManagerSettings::of_area(m.send_start, m.send_size, CONTROL_MAILBOX_IN),
             usage: 2,
         },
     ]
 }
 
 /// The settings of the process data of a direction; without bits the manager isn't activated.
-fn data_settings(start: u16, bits: usize, control: u8) -> ManagerSettings
+fn data_settings(start: u16, bits: usize, control: u8) -> SyncManagerSettings
     requires { bits ≤ 65536 }
     ensures { result ≡ data_settings start bits control }
 {
-    ManagerSettings {
+    SyncManagerSettings {
         start,
         length: bits.div_ceil(8) as u16,
         control,

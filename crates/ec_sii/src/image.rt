@@ -2,15 +2,16 @@
 ghost use Rattle.std.specs.Prelude.{◌≡◌, ◌<◌, ◌^◌, Some, None, IfOk};
 ghost use Rattle.std.specs.Option.{option_map};
 ghost use Rattle.ec_sii.specs.Categories.{categories_of};
-ghost use Rattle.ec_sii.specs.Image.{word_at, other_word, identity_words, mailbox_words, low_word, high_word, kibibits, size_of, image_of};
+ghost use Rattle.ec_sii.specs.SiiImage.{word_at, other_word, identity_words, mailbox_words, low_word, high_word, kibibits, size_of, image_of};
 
 use crate::categories::categories_of;
-use ec_regs::{Identity, Listed, Mailbox, SlaveType};
+use ec_device::{Identity, Mailbox, SlaveType};
+use ec_listed::Listed;
 use std::alloc::{AllocError, Global};
 
 /// The words of a slave's SII (ETG.1000.6, "Slave information interface area").
 #[derive(Debug, Drop)]
-pub struct Image {
+pub struct SiiImage {
     /// Who the slave is.
     pub identity: Identity,
     /// Where its mailboxes lie, if it has any.
@@ -19,12 +20,12 @@ pub struct Image {
     pub categories: Option<Listed<u16>>,
 }
 
-impl Image {
+impl SiiImage {
     /// The image of a slave that isn't full.
     pub fn new(identity: Identity, mailbox: Option<Mailbox>) -> Self
         ensures { result ≡ record { identity = identity; mailbox = mailbox; categories = None } }
     {
-        Image {
+        SiiImage {
             identity,
             mailbox,
             categories: None,
@@ -33,11 +34,11 @@ impl Image {
 
     /// The image of a slave of a type, which is full where the type has a face. The error says that memory was
     /// refused; the image of a slave that isn't full takes none.
-    pub fn of(alloc: Global, kind: &SlaveType, identity: Identity) -> Result<Image, AllocError>
+    pub fn of(alloc: Global, kind: &SlaveType, identity: Identity) -> Result<SiiImage, AllocError>
         ensures { IfOk result (λ image. image ≡ image_of kind.now identity) }
     {
         let categories = shown_categories(alloc, kind)?;
-        Ok(Image {
+        Ok(SiiImage {
             identity,
             mailbox: kind.mailbox(),
             categories,
@@ -59,7 +60,7 @@ impl Image {
     /// and the low one first; 0x18 offset and 0x19 size of the receive mailbox, 0x1A and 0x1B those of the send
     /// mailbox, 0x1C the mailbox protocols (bit 2: CoE). Of a full slave 0x3E is the size in kibibits less 1, 0x3F the
     /// version, 1, and from 0x40 on the categories stand, with 0xFFFF behind them. All others are 0.
-    #[tactic(auto, unfolding(crate::specs::Image::word_at))]
+    #[tactic(auto, unfolding(crate::specs::SiiImage::word_at))]
     pub fn word(&self, address: usize) -> u16
         ensures { result ≡ word_at self.now address }
     {

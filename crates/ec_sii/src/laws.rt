@@ -4,13 +4,13 @@
 ghost use Rattle.ec_sii.specs.Laws.{ImagesSpellIdentities, ImagesSpellMailboxes, ImagesHaveSixtyFourWords, PlainTypesHavePlainImages, CategoriesAreShown, WordsFit, FullTypesAreReadBack, ReadsShowWords, ReadsEndAtTheImage, BusyTakesNoWrite, StatusIsTheWord, CommandsAreTheWords, OthersHaveNoEffect};
 
 /// The words of an image spell the identity: each number by two words, the low one first.
-#[tactic(auto, unfolding(crate::specs::Image::word_at))]
+#[tactic(auto, unfolding(crate::specs::SiiImage::word_at))]
 pub fn images_spell_identities()
     ensures { ImagesSpellIdentities }
 {}
 
 /// The words of an image say where the mailboxes lie; without mailboxes, and past a plain image, they are 0.
-#[tactic(auto, unfolding(crate::specs::Image::word_at))]
+#[tactic(auto, unfolding(crate::specs::SiiImage::word_at))]
 pub fn images_spell_mailboxes()
     ensures { ImagesSpellMailboxes }
 {}

@@ -2,7 +2,7 @@
 ghost use Rattle.std.specs.Prelude.{◌≡◌, ◌<◌, ◌^◌};
 ghost use Rattle.ec_sii.specs.Port.{idle_port, sii_byte, status_byte, byte_for, address_written, written, stepped, last_address};
 
-use crate::image::Image;
+use crate::image::SiiImage;
 use ec_regs::SiiControl;
 use ec_regs::registers::{SII_ADDRESS, SII_CONTROL, SII_DATA};
 use std::marker::Model;
@@ -17,7 +17,7 @@ const END: usize = SII_DATA + 4;
 /// status, 0x0504 the word address, 0x0508 the four bytes of the last read.
 #[derive(Debug, Drop)]
 pub struct Port {
-    image: Image,
+    image: SiiImage,
     address: u32,
     is_busy: bool,
     is_error: bool,
@@ -40,7 +40,7 @@ impl Model for Port {
 
 impl Port {
     /// The port of an image, as a slave powers on.
-    pub fn new(image: Image) -> Self
+    pub fn new(image: SiiImage) -> Self
         ensures { result ≡ idle_port image }
     {
         Port {

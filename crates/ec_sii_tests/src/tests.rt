@@ -1,8 +1,9 @@
 ghost use Rattle.std.specs.Prelude.{IfOk};
-ghost use Rattle.ec_regs.specs.Types.{IsFace};
+ghost use Rattle.ec_device.specs.Types.{IsFace};
 
-use ec_regs::{Device, Entry, Face, Identity, Listed, Mailbox, Pdo, SlaveType};
-use ec_sii::{Image, Port};
+use ec_device::{Device, Entry, Face, Identity, Mailbox, Pdo, SlaveType};
+use ec_listed::Listed;
+use ec_sii::{Port, SiiImage};
 use std::alloc::Global;
 use std::process::Abort;
 use std::test::Fail;
@@ -30,7 +31,7 @@ fn expect_bytes(rt: &impl Abort, port: &Port, bytes: &[u8; 10]) {
 
 #[test]
 fn an_image_spells_identity_and_mailbox(rt: HostRuntime) {
-    let image = Image::new(IDENTITY, Some(MAILBOX));
+    let image = SiiImage::new(IDENTITY, Some(MAILBOX));
     let words = [
         (0x07, 0),
         (0x08, 0xABCD),
@@ -50,12 +51,12 @@ fn an_image_spells_identity_and_mailbox(rt: HostRuntime) {
     for (address, word) in words {
         assert_eq!(rt; image.word(address), word, "at {address}");
     }
-    assert_eq!(rt; Image::new(IDENTITY, None).word(0x1C), 0);
+    assert_eq!(rt; SiiImage::new(IDENTITY, None).word(0x1C), 0);
 }
 
 #[test]
 fn a_read_is_finished_by_the_next_step(rt: HostRuntime) {
-    let mut port = Port::new(Image::new(IDENTITY, None));
+    let mut port = Port::new(SiiImage::new(IDENTITY, None));
     port.write(0x0502, &[0x00, 0x01, 0x08, 0, 0, 0]);
     assert!(rt; port.is_busy());
     expect_bytes(&rt, &port, &[0x00, 0x81, 0x08, 0, 0, 0, 0, 0, 0, 0]);
@@ -69,7 +70,7 @@ fn a_read_is_finished_by_the_next_step(rt: HostRuntime) {
 
 #[test]
 fn a_read_past_the_image_is_an_error(rt: HostRuntime) {
-    let mut port = Port::new(Image::new(IDENTITY, None));
+    let mut port = Port::new(SiiImage::new(IDENTITY, None));
     port.write(0x0502, &[0x00, 0x01, 0x0C, 0, 0, 0]);
     port.step();
     port.write(0x0502, &[0x00, 0x01, 63, 0, 0, 0]);
@@ -165,7 +166,7 @@ const FULL_WORDS: [u16; 73] = [
 #[test]
 fn a_full_image_shows_categories(rt: HostRuntime) -> Result<(), Fail> {
     let kind = full_type(&rt, rt.alloc())?;
-    let image = Image::of(rt.alloc(), &kind, IDENTITY)?;
+    let image = SiiImage::of(rt.alloc(), &kind, IDENTITY)?;
     for (k, word) in FULL_WORDS.iter().enumerate() {
         assert_eq!(rt; image.word(0x3E + k), *word, "at 0x3E and {k}");
     }
@@ -190,7 +191,7 @@ fn expect_read(rt: &impl Abort, port: &mut Port, address: u8, status: u8, data: 
 #[test]
 fn a_full_image_is_read_to_its_end(rt: HostRuntime) -> Result<(), Fail> {
     let kind = full_type(&rt, rt.alloc())?;
-    let mut port = Port::new(Image::of(rt.alloc(), &kind, IDENTITY)?);
+    let mut port = Port::new(SiiImage::of(rt.alloc(), &kind, IDENTITY)?);
     expect_read(&rt, &mut port, 0x3E, 0x00, &[2, 0, 1, 0]);
     expect_read(&rt, &mut port, 0x42, 0x00, &[1, 3, b'd', b'o']);
     // the flags of the last entry, and the end mark; behind it; the last two words; past them
@@ -208,8 +209,8 @@ fn a_full_image_is_read_to_its_end(rt: HostRuntime) -> Result<(), Fail> {
 
 #[test]
 fn a_type_without_a_face_has_a_plain_image(rt: HostRuntime) -> Result<(), Fail> {
-    let kind = SlaveType::plain(rt.alloc());
-    let mut port = Port::new(Image::of(rt.alloc(), &kind, IDENTITY)?);
+    let kind = SlaveType::without_pdos(rt.alloc());
+    let mut port = Port::new(SiiImage::of(rt.alloc(), &kind, IDENTITY)?);
     expect_read(&rt, &mut port, 62, 0x00, &[0; 4]);
     expect_read(&rt, &mut port, 0x40, 0x20, &[0; 4]);
     Ok(())
@@ -226,9 +227,9 @@ const BARE_WORDS: [u16; 40] = [
 
 #[test]
 fn a_bare_full_image_has_four_categories(rt: HostRuntime) -> Result<(), Fail> {
-    let mut kind = SlaveType::plain(rt.alloc());
+    let mut kind = SlaveType::without_pdos(rt.alloc());
     kind.show(face(rt.alloc())?);
-    let image = Image::of(rt.alloc(), &kind, IDENTITY)?;
+    let image = SiiImage::of(rt.alloc(), &kind, IDENTITY)?;
     for (k, word) in BARE_WORDS.iter().enumerate() {
         assert_eq!(rt; image.word(0x40 + k), *word, "at 0x40 and {k}");
     }

@@ -9,10 +9,10 @@ use Rattle.ec_table.specs.Reading.{table_of}
 use Rattle.ec_link.specs.Faults.{compile_fault}
 use Rattle.ec_world.specs.World.{WorldState}
 use Rattle.ec_script.specs.declared.line.Line.{Line}
-use Rattle.ec_script.specs.declared.said.Said.{Said}
+use Rattle.ec_script.specs.declared.said.LineOutput.{LineOutput}
 use Rattle.ec_script.specs.Halves.{Splits}
 use Rattle.ec_script.specs.Scripts.{repeated}
-use Rattle.ec_script.specs.Texts.{said_text}
+use Rattle.ec_script.specs.Texts.{output_text}
 use Rattle.ec_script.specs.Work.{is_unmet}
 use Rattle.ec_why.specs.declared.wanted.Reasons.{Reasons}
 use Rattle.ec_why.specs.Reasons.{IsReason, ReasonIf, is_reasoned}
@@ -28,10 +28,10 @@ use Rattle.ec_console.proofs.PrintLemmas.{appends_more, appends_nothing, whole_p
 
 -- ---- a line and why it says `no`
 
-pub line_alone : (reasons : Reasons) (t : Contents) (n : ℕ) (w : WorldState) (said : Said) (text : List ℕ) → is_reasoned reasons said ≡ false → text ≡ said_text t n w said → IsLineText reasons t n w said text
-line_alone reasons t n w said text none is = ([], subst (λ (b : Bool). ReasonIf b []) (sym none) refl, is ∙ sym (append-nil (said_text t n w said)))
+pub line_alone : (reasons : Reasons) (t : Contents) (n : ℕ) (w : WorldState) (said : LineOutput) (text : List ℕ) → is_reasoned reasons said ≡ false → text ≡ output_text t n w said → IsLineText reasons t n w said text
+line_alone reasons t n w said text none is = ([], subst (λ (b : Bool). ReasonIf b []) (sym none) refl, is ∙ sym (append-nil (output_text t n w said)))
 
-pub line_reasoned : (reasons : Reasons) (t : Contents) (n : ℕ) (w : WorldState) (said : Said) (before why text : List ℕ) → is_reasoned reasons said ≡ true → before ≡ said_text t n w said → IsReason why
+pub line_reasoned : (reasons : Reasons) (t : Contents) (n : ℕ) (w : WorldState) (said : LineOutput) (before why text : List ℕ) → is_reasoned reasons said ≡ true → before ≡ output_text t n w said → IsReason why
     → text ≡ before ++ why → IsLineText reasons t n w said text
 line_reasoned reasons t n w said before why text told first reason is =
     (why, subst (λ (b : Bool). ReasonIf b why) (sym told) reason, is ∙ ap (λ (r : List ℕ). r ++ why) first)
@@ -119,7 +119,7 @@ part_one reasons t w mid line text unmet old new h part =
     record { count = 1; last = mid; printed = text; unmet = unmet; says = says_one reasons t w mid line text unmet h; appends = part }
 
 -- a line that is printed whole
-pub one_all : (reasons : Reasons) (t : Contents) (w mid : WorldState) (line : Line) (text : List ℕ) (unmet : Bool) (said : Said) (old new : Option (List ℕ)) → SaysLine reasons t w line mid text (unmet_of said) → unmet ≡ is_unmet said
+pub one_all : (reasons : Reasons) (t : Contents) (w mid : WorldState) (line : Line) (text : List ℕ) (unmet : Bool) (said : LineOutput) (old new : Option (List ℕ)) → SaysLine reasons t w line mid text (unmet_of said) → unmet ≡ is_unmet said
     → Appends old new text → PrintsAll reasons t w (line ∷ []) mid (if unmet then 1 else 0) old new
 one_all reasons t w mid line text unmet said old new h is appends =
     subst (λ (b : Bool). PrintsAll reasons t w (line ∷ []) mid (if b then 1 else 0) old new) (sym is)

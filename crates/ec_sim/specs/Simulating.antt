@@ -1,21 +1,21 @@
 -- What `ecat sim` answers (this project's profile).
 use Rattle.std.specs.Prelude.{◌≡◌, ◌⊎◌, ℕ, ◌+◌, ◌-◌, ◌^◌, ◌<◌, ◌==◌, min, List, [], ◌∷◌, ◌++◌, take, if◌then◌else◌, Option, None, Result, Ok, Err}
 use Rattle.std.specs.Io.KnownBytes.{Appends}
-use Rattle.ec_regs.specs.declared.slave_type.Identity.{Identity}
+use Rattle.ec_device.specs.declared.slave_type.Identity.{Identity}
 use Rattle.ec_table.specs.Contents.{Contents}
 use Rattle.ec_table.specs.Reading.{table_of}
 use Rattle.ec_link.specs.Faults.{compile_fault}
 use Rattle.ec_link.specs.Plan.{plan_of}
-use Rattle.ec_rise.specs.SwitchedOn.{AreIdentities}
+use Rattle.ec_bringup.specs.SwitchedOn.{AreIdentities}
 use Rattle.ec_world.specs.Whole.{new_world}
 use Rattle.ec_world.specs.World.{WorldState}
 use Rattle.ec_script.specs.declared.error.ScriptError.{ScriptError}
 use Rattle.ec_script.specs.declared.line.Line.{Line}
-use Rattle.ec_script.specs.declared.said.Said.{Said}
+use Rattle.ec_script.specs.declared.said.LineOutput.{LineOutput}
 use Rattle.ec_script.specs.Events.{RunsLine}
 use Rattle.ec_script.specs.Halves.{Splits}
 use Rattle.ec_script.specs.Scripts.{Fails as ScriptFails, repeated, script_of}
-use Rattle.ec_script.specs.Texts.{said_text}
+use Rattle.ec_script.specs.Texts.{output_text}
 use Rattle.ec_script.specs.Work.{Does, is_done, is_unmet}
 use Rattle.ec_why.specs.declared.wanted.Reasons.{Reasons}
 use Rattle.ec_why.specs.Reasons.{IsWhy}
@@ -27,18 +27,18 @@ use Rattle.ec_console.specs.Printing.{AppendsPart}
 -- ---- lines
 
 -- 1 where what is expected isn't so
-abbrev pub unmet_of : Said → ℕ
+abbrev pub unmet_of : LineOutput → ℕ
 unmet_of said = if is_unmet said then 1 else 0
 
 -- a line is done once: it leaves the world as `World::run` of its events does (`RunsLine`), whether reasons are told or not, and
 -- its text is that of the world then; why it says `no` stands behind it, where that is told
 pub record SaysLine (reasons : Reasons) (t : Contents) (w : WorldState) (line : Line) (new : WorldState) (printed : List ℕ) (unmet : ℕ) : Type 0 where
-  pub said : Said
+  pub said : LineOutput
   pub does : Does line.act w new said
   pub run : RunsLine line.act w new (is_done said)
   pub why : List ℕ
   pub reason : IsWhy reasons said why
-  pub text : printed ≡ said_text t line.number new said ++ why
+  pub text : printed ≡ output_text t line.number new said ++ why
   pub count : unmet ≡ unmet_of said
 
 -- What lines print that are done once each, and how often what they expect isn't so. Each is done in the world that the one

@@ -10,13 +10,13 @@ use Rattle.ec_console.specs.Given.{IsLinkRefusal}
 use Rattle.ec_why.specs.declared.wanted.Reasons.{Reasons}
 use Rattle.ec_why.specs.Reasons.{IsWhy}
 use Rattle.ec_sim.specs.Simulating.{RunsLines}
-use Rattle.ec_script.specs.declared.said.Said.{Said}
-use Rattle.ec_script.specs.Texts.{said_text}
+use Rattle.ec_script.specs.declared.said.LineOutput.{LineOutput}
+use Rattle.ec_script.specs.Texts.{output_text}
 use Rattle.ec_world.specs.World.{WorldState}
 
 -- the text of a line, with the reason behind it
-abbrev pub IsLineText : (reasons : Reasons) → Contents → ℕ → WorldState → Said → List ℕ → Type 0
-IsLineText reasons t n w said text = (why : List ℕ) × IsWhy reasons said why × (text ≡ said_text t n w said ++ why)
+abbrev pub IsLineText : (reasons : Reasons) → Contents → ℕ → WorldState → LineOutput → List ℕ → Type 0
+IsLineText reasons t n w said text = (why : List ℕ) × IsWhy reasons said why × (text ≡ output_text t n w said ++ why)
 
 -- the first bad line of a script
 abbrev pub IsBadScript : Contents → List ℕ → Refusal → Type 0

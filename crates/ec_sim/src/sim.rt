@@ -8,11 +8,11 @@ ghost use Rattle.ec_script.specs.Seeing.{Sees};
 ghost use Rattle.ec_sim.specs.Capturing.{NotesRun};
 ghost use Rattle.ec_sim.specs.Stages.{IsLineText, RunsHalves, RunsScript};
 
+use ec_bringup::identities_of;
 use ec_captured::{Recording, finish_recording, open_segment};
 use ec_console::{Explanation, Refusal, print_text, read_text};
 use ec_link::{Plan, compile};
-use ec_rise::identities_of;
-use ec_script::{Line, Said, read_script, said_text, split_script, watch_act};
+use ec_script::{Line, LineOutput, output_text, read_script, split_script, watch_act};
 use ec_table::{Table, read_table};
 use ec_watch::Watch;
 use ec_why::{Reasons, has_cycle, reason_text};
@@ -30,14 +30,14 @@ fn line_text(
     reasons: Reasons,
     world: &World<'_>,
     line: &Line,
-    said: Said,
+    said: LineOutput,
     had_cycle: bool,
 ) -> Result<String, AllocError>
     requires { world.now.plan ≡ plan_of table.now }
     ensures { IfOk result (λ text.
         IsLineText reasons table.now line.now.number world.now said (string_bytes text)) }
 {
-    let mut text = said_text(alloc, world, table, line.number, said)?;
+    let mut text = output_text(alloc, world, table, line.number, said)?;
     if !reasons.stand_behind(said) {
         return Ok(text);
     }

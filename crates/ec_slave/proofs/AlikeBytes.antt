@@ -7,14 +7,14 @@ use Rattle.ec_bits.proofs.AnyLaws.{any_below_from, any_below_none, if_true, if_f
 use Rattle.ec_bits.proofs.BitLaws.{overlay_alike, overlay_own}
 use Rattle.ec_regs.specs.Managers.{is_set, span}
 use Rattle.ec_sync.specs.Bounds.{span_end_of}
-use Rattle.ec_sync.specs.Manager.{Manager, shown}
+use Rattle.ec_sync.specs.SyncManager.{SyncManager, shown}
 use Rattle.ec_sync.specs.Governing.{governor, governs, in_first_buffer}
 use Rattle.ec_fmmu.specs.Apart.{run_shown}
 use Rattle.ec_slave.specs.State.{manager_at}
 use Rattle.ec_slave.specs.Sights.{seen_bit, seen_under}
 
 -- a span that has all of the bytes, or none
-pub governs_alike : (m : Manager) (start len a : ℕ)
+pub governs_alike : (m : SyncManager) (start len a : ℕ)
     → (m.settings.start + span m.settings ≤ start) ⊎ ((start + len ≤ m.settings.start) ⊎ ((m.settings.start ≤ start) × (start + len ≤ m.settings.start + span m.settings)))
     → start ≤ a → a < start + len → governs m a ≡ governs m start
 governs_alike m start len a h lo hi =
@@ -28,7 +28,7 @@ governs_alike m start len a h lo hi =
       ]
     ])
 
-position_alike : (i a b : ℕ) (ms : List Manager) → ((j : ℕ) → j < length ms → governs (manager_at ms j) a ≡ governs (manager_at ms j) b)
+position_alike : (i a b : ℕ) (ms : List SyncManager) → ((j : ℕ) → j < length ms → governs (manager_at ms j) a ≡ governs (manager_at ms j) b)
     → position_from (λ m. governs m a) i ms ≡ position_from (λ m. governs m b) i ms
 position_alike i a b [] h = refl
 position_alike i a b (m ∷ ms) h =
@@ -40,7 +40,7 @@ position_alike i a b (m ∷ ms) h =
     ]
 
 -- bytes on one side of each border of what a manager governs
-pub governs_cut : (m : Manager) (start stop a : ℕ) → (stop ≤ m.settings.start) ⊎ (m.settings.start ≤ start)
+pub governs_cut : (m : SyncManager) (start stop a : ℕ) → (stop ≤ m.settings.start) ⊎ (m.settings.start ≤ start)
     → (stop ≤ span_end_of m.settings) ⊎ (span_end_of m.settings ≤ start) → start ≤ a → a < stop → governs m a ≡ governs m start
 governs_cut m start stop a low high lo hi =
     let first = m.settings.start in
@@ -59,7 +59,7 @@ governs_cut m start stop a low high lo hi =
     ]
 
 -- bytes on one side of the end of its value
-pub front_cut : (m : Manager) (start stop a : ℕ) → (stop ≤ m.settings.start + m.settings.length) ⊎ (m.settings.start + m.settings.length ≤ start)
+pub front_cut : (m : SyncManager) (start stop a : ℕ) → (stop ≤ m.settings.start + m.settings.length) ⊎ (m.settings.start + m.settings.length ≤ start)
     → start ≤ a → a < stop → in_first_buffer m a ≡ in_first_buffer m start
 front_cut m start stop a side lo hi =
     let end = m.settings.start + m.settings.length in
@@ -69,7 +69,7 @@ front_cut m start stop a side lo hi =
     ]
 
 -- where each manager has both bytes or none, the same one governs both
-pub governor_alike : (ms : List Manager) (a b : ℕ) → ((j : ℕ) → j < length ms → governs (manager_at ms j) a ≡ governs (manager_at ms j) b)
+pub governor_alike : (ms : List SyncManager) (a b : ℕ) → ((j : ℕ) → j < length ms → governs (manager_at ms j) a ≡ governs (manager_at ms j) b)
     → governor ms a ≡ governor ms b
 governor_alike ms a b h = position_alike 0 a b ms h
 
@@ -107,13 +107,13 @@ run_nothing xs shown physical to n h =
 
 -- ---- what a run of bits shows that one manager governs
 
-pub unreadable : (memory : List ℕ) (ms : List Manager) (readable : List Bool) (n q : ℕ) → get_or readable n false ≡ false → governor ms (q / 8) ≡ Some n
+pub unreadable : (memory : List ℕ) (ms : List SyncManager) (readable : List Bool) (n q : ℕ) → get_or readable n false ≡ false → governor ms (q / 8) ≡ Some n
     → seen_bit memory ms readable q ≡ None
 unreadable memory ms readable n q r g =
     ap (seen_under memory ms readable q) g
     ∙ if_false (in_first_buffer (manager_at ms n) (q / 8) && get_or readable n false) _ None (and_right (in_first_buffer (manager_at ms n) (q / 8)) (get_or readable n false) r)
 
-pub readable_value : (memory : List ℕ) (ms : List Manager) (readable : List Bool) (n q last : ℕ) → get_or readable n false ≡ true → governor ms (q / 8) ≡ Some n
+pub readable_value : (memory : List ℕ) (ms : List SyncManager) (readable : List Bool) (n q last : ℕ) → get_or readable n false ≡ true → governor ms (q / 8) ≡ Some n
     → in_first_buffer (manager_at ms n) last ≡ true → q / 8 ≤ last
     → seen_bit memory ms readable q ≡ Some (bit (shown (manager_at ms n)) (q - 8 * (manager_at ms n).settings.start))
 readable_value memory ms readable n q last r g front below =
@@ -125,7 +125,7 @@ readable_value memory ms readable n q last r g front below =
     ∙ if_true (in_first_buffer m (q / 8) && get_or readable n false) (Some (bit (shown m) (q - 8 * m.settings.start))) None (and_from (in_first_buffer m (q / 8)) (get_or readable n false) here r)
 
 -- behind the end of the value nothing is shown
-pub behind_value : (memory : List ℕ) (ms : List Manager) (readable : List Bool) (n q : ℕ) → in_first_buffer (manager_at ms n) (q / 8) ≡ false → governor ms (q / 8) ≡ Some n
+pub behind_value : (memory : List ℕ) (ms : List SyncManager) (readable : List Bool) (n q : ℕ) → in_first_buffer (manager_at ms n) (q / 8) ≡ false → governor ms (q / 8) ≡ Some n
     → seen_bit memory ms readable q ≡ None
 behind_value memory ms readable n q behind g =
     ap (seen_under memory ms readable q) g

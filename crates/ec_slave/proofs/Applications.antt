@@ -3,19 +3,19 @@ use Rattle.std.proofs.Common.{zero, suc, [], ◌∷◌, arith, get_or, ℕ, ◌<
 use Rattle.std.proofs.lemmas.List.{set-get_or}
 use Rattle.ec_bits.proofs.AnyLaws.{if_true}
 use Rattle.ec_sync.specs.Buffer.{Got}
-use Rattle.ec_sync.specs.Manager.{Manager, no_manager, app_put, app_got, after_get}
+use Rattle.ec_sync.specs.SyncManager.{SyncManager, no_manager, app_put, app_got, after_get}
 use Rattle.ec_slave.specs.State.{SlaveState, manager_at}
 use Rattle.ec_slave.specs.Application.{is_running, with_manager, input_put, output_got, output_taken}
 
 -- a manager put back
 own : (s : SlaveState) (n : ℕ) → with_manager s n (manager_at s.managers n) ≡ s
-own s n = ap (λ (ms : List Manager). record s { managers = ms }) (set-get_or s.managers n no_manager)
+own s n = ap (λ (ms : List SyncManager). record s { managers = ms }) (set-get_or s.managers n no_manager)
 
-put_by : (s : SlaveState) (o : Option Manager) → with_manager s 3 (unwrap_or o (manager_at s.managers 3)) ≡ unwrap_or (option_map (with_manager s 3) o) s
+put_by : (s : SlaveState) (o : Option SyncManager) → with_manager s 3 (unwrap_or o (manager_at s.managers 3)) ≡ unwrap_or (option_map (with_manager s 3) o) s
 put_by s None = own s 3
 put_by s (Some m) = refl
 
-pub put_after : (s : SlaveState) (i x : ℕ) (m : Manager) → is_running s.al.state ≡ true
+pub put_after : (s : SlaveState) (i x : ℕ) (m : SyncManager) → is_running s.al.state ≡ true
     → m ≡ unwrap_or (app_put (manager_at s.managers 3) i x) (manager_at s.managers 3) → with_manager s 3 m ≡ unwrap_or (input_put s i x) s
 put_after s i x m r e =
     ap (with_manager s 3) e
@@ -26,18 +26,18 @@ got_by : (s : SlaveState) (o : Option Got) → with_manager s 2 (after_get (mana
 got_by s None = own s 2
 got_by s (Some g) = refl
 
-pub got_after : (s : SlaveState) (i : ℕ) (m : Manager) → is_running s.al.state ≡ true
+pub got_after : (s : SlaveState) (i : ℕ) (m : SyncManager) → is_running s.al.state ≡ true
     → m ≡ after_get (manager_at s.managers 2) (app_got (manager_at s.managers 2) i) → with_manager s 2 m ≡ output_taken s (output_got s i)
 got_after s i m r e =
     ap (with_manager s 2) e
     ∙ (got_by s (app_got (manager_at s.managers 2) i)
     ∙ ap (output_taken s) (sym (if_true (is_running s.al.state) (app_got (manager_at s.managers 2) i) None r)))
 
-get_or-any : (ms : List Manager) (n : ℕ) (a b : Manager) → n < length ms → get_or ms n a ≡ get_or ms n b
+get_or-any : (ms : List SyncManager) (n : ℕ) (a b : SyncManager) → n < length ms → get_or ms n a ≡ get_or ms n b
 get_or-any [] n a b l = absurd (omega arith)
 get_or-any (m ∷ ms) zero a b l = refl
 get_or-any (m ∷ ms) (suc n) a b l = get_or-any ms n a b (omega arith)
 
 -- an element that was indexed is the manager of that number
-pub indexed : (ms ns : List Manager) (n : ℕ) (m : Manager) → n < length ms → m ≡ get_or ms n m → ms ≡ ns → m ≡ manager_at ns n
-indexed ms ns n m l e h = e ∙ (get_or-any ms n m no_manager l ∙ ap (λ (k : List Manager). get_or k n no_manager) h)
+pub indexed : (ms ns : List SyncManager) (n : ℕ) (m : SyncManager) → n < length ms → m ≡ get_or ms n m → ms ≡ ns → m ≡ manager_at ns n
+indexed ms ns n m l e h = e ∙ (get_or-any ms n m no_manager l ∙ ap (λ (k : List SyncManager). get_or k n no_manager) h)

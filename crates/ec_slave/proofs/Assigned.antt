@@ -4,15 +4,15 @@ use Rattle.std.proofs.lemmas.Bool.{cases_Bool, ne_eqb, eq-eqb}
 use Rattle.std.proofs.lemmas.List.{take_all, length-map}
 use Rattle.std.proofs.lemmas.List.Sums.{sum_by-cons}
 use Rattle.ec_bits.proofs.AnyLaws.{if_true, if_false}
-use Rattle.ec_regs.specs.declared.slave_type.Pdo.{Pdo}
-use Rattle.ec_regs.specs.Types.{SlaveKind, pdo_bits, pdos_bits}
-use Rattle.ec_regs.specs.Objects.{pdo_at, bits_at, bits_assigned}
+use Rattle.ec_device.specs.declared.slave_type.Pdo.{Pdo}
+use Rattle.ec_device.specs.Types.{SlaveKind, pdo_bits, pdos_bits}
+use Rattle.ec_device.specs.Objects.{pdo_at, bits_at, bits_assigned}
 use Rattle.ec_frame.specs.declared.command.Command.{Command}
 use Rattle.ec_frame.specs.declared.command.Command.TheVariants.{Nop, Aprd, Apwr, Aprw, Fprd, Fpwr, Fprw, Brd, Bwr, Brw, Lrd, Lwr, Lrw, Armw, Frmw}
 use Rattle.ec_frame.specs.Datagram.{Datagram}
 use Rattle.ec_al.specs.Al as al
 use Rattle.ec_sync.specs.Buffer.{Got}
-use Rattle.ec_sync.specs.Manager.{Manager, app_put}
+use Rattle.ec_sync.specs.SyncManager.{SyncManager, app_put}
 use Rattle.ec_coe.specs.Objects.{indices, all_assigned, assigned}
 use Rattle.ec_coe.specs.Transfers.{contains, distinct}
 use Rattle.ec_coe.specs.Laws.{IsAssignment}
@@ -150,7 +150,7 @@ faulted-stays : (s : SlaveState) → IsAssigned s → IsAssigned (faulted s)
 unfolding faulted
 faulted-stays s h = either-assigned (al.is_operational s.al.state) _ s (record { outputs = h.outputs; inputs = h.inputs }) h
 
-put-stays : (s t : SlaveState) (b : Bool) (o : Option Manager) → IsAssigned s → (if b then option_map (with_manager s 3) o else None) ≡ Some t → IsAssigned t
+put-stays : (s t : SlaveState) (b : Bool) (o : Option SyncManager) → IsAssigned s → (if b then option_map (with_manager s 3) o else None) ≡ Some t → IsAssigned t
 put-stays s t true None h e = absurd (cc)
 put-stays s t true (Some m) h e = let is : with_manager s 3 m ≡ t = cc in subst IsAssigned is (record { outputs = h.outputs; inputs = h.inputs })
 put-stays s t false o h e = absurd (cc)

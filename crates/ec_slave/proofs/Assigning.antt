@@ -1,20 +1,20 @@
 -- What an SII keeps, and a slave as the power comes on.
 use Rattle.std.proofs.Common.{ℕ, ◌%◌, ◌==◌, ◌≡◌, List, [], ◌∷◌, Bool, true, false, if◌then◌else◌, nat_le, Option, Some, None, refl, ◌∙◌, ap}
-use Rattle.ec_sii.specs.declared.image.Image.{Image}
+use Rattle.ec_sii.specs.declared.image.SiiImage.{SiiImage}
 use Rattle.ec_dl.specs.DataLink.{DataLink, new_data_link}
-use Rattle.ec_sii.specs.Image.{image_of}
+use Rattle.ec_sii.specs.SiiImage.{image_of}
 use Rattle.ec_sii.specs.Port.{Sii, idle_port, addressed, address_written, byte_for, commanded, command_place, written, stepped, two_words, last_address}
 use Rattle.ec_bits.specs.Bits.{zeros}
 use Rattle.ec_al.specs.Al as al
 use Rattle.ec_al.specs.Al.{Al}
-use Rattle.ec_sync.specs.Manager.{Manager, no_manager}
+use Rattle.ec_sync.specs.SyncManager.{SyncManager, no_manager}
 use Rattle.ec_slave.specs.State.{SlaveState, memory_length, power_on}
 use Rattle.ec_coe.specs.Objects.{Dictionary, all_assigned, new_dictionary}
 
-abbrev image-of : Sii → Image
+abbrev image-of : Sii → SiiImage
 image-of p = p.image
 
-either : (b : Bool) (x y : Sii) (i : Image) → image-of x ≡ i → image-of y ≡ i → image-of (if b then x else y) ≡ i
+either : (b : Bool) (x y : Sii) (i : SiiImage) → image-of x ≡ i → image-of y ≡ i → image-of (if b then x else y) ≡ i
 either true x y i h k = h
 either false x y i h k = k
 
@@ -42,7 +42,7 @@ stepped-image p =
     either p.busy (if nat_le p.address (last_address p.image) then done else fault) p p.image (either (nat_le p.address (last_address p.image)) done fault p.image refl refl) refl
 
 -- a slave of these parts
-abbrev pub state_of : Dictionary → List ℕ → List Manager → Al → Sii → DataLink → ℕ → SlaveState
+abbrev pub state_of : Dictionary → List ℕ → List SyncManager → Al → Sii → DataLink → ℕ → SlaveState
 state_of d memory managers a sii link replies = record {
   kind = d.kind;
   identity = d.identity;
@@ -72,7 +72,7 @@ powered s memory managers al sii link outs ins replies =
     ∙ ap (λ x. record (power_on s.kind s.identity) { replies = x }) replies))))))
 
 -- a slave whose dictionary was reset, and whose other parts are as the power comes on
-pub reset-as-new : (old new : Dictionary) (memory : List ℕ) (managers : List Manager) (a : Al) (sii : Sii) (link : DataLink) → new ≡ new_dictionary old.kind old.identity
+pub reset-as-new : (old new : Dictionary) (memory : List ℕ) (managers : List SyncManager) (a : Al) (sii : Sii) (link : DataLink) → new ≡ new_dictionary old.kind old.identity
     → memory ≡ zeros memory_length → managers ≡ (no_manager ∷ no_manager ∷ no_manager ∷ no_manager ∷ []) → a ≡ al.power_on
     → sii ≡ idle_port (image_of old.kind old.identity) → link ≡ new_data_link old.kind.face
     → state_of new memory managers a sii link 0 ≡ power_on old.kind old.identity

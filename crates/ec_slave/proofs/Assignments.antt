@@ -2,8 +2,8 @@
 use Rattle.std.proofs.Common.{◌≡◌, ◌≢◌, Bool, true, false, Option, Some, None, List, ℕ, refl, sym, ◌∙◌, ap, subst, if◌then◌else◌}
 use Rattle.ec_al.specs.declared.state.State.{State}
 use Rattle.ec_al.specs.declared.state.State.TheVariants.{Init, PreOp, SafeOp, Op}
-use Rattle.ec_regs.specs.Types.{SlaveKind}
-use Rattle.ec_sync.specs.Manager.{message_taken}
+use Rattle.ec_device.specs.Types.{SlaveKind}
+use Rattle.ec_sync.specs.SyncManager.{message_taken}
 use Rattle.ec_coe.specs.declared.message.Message.{Message}
 use Rattle.ec_coe.specs.Objects.{Dictionary}
 use Rattle.ec_coe.specs.Answers.{answered}

@@ -3,11 +3,11 @@ use Rattle.std.proofs.Common.{ℕ, ◌+◌, ◌%◌, ◌<◌, ◌≤◌, ◌≡�
 use Rattle.std.specs.Prelude.{bit_or}
 use Rattle.std.proofs.lemmas.Bool.{and_left, and_right, and_parts, cases_Bool, or_left, lt-ltb, leb-true}
 use Rattle.ec_bits.proofs.AnyLaws.{any_below_from, any_below_none, if_none, if_true, if_false, within_above}
-use Rattle.ec_regs.specs.declared.manager.ManagerSettings.{ManagerSettings}
+use Rattle.ec_regs.specs.declared.manager.SyncManagerSettings.{SyncManagerSettings}
 use Rattle.ec_regs.specs.Memory.{manager_place, ram_start, sync_managers}
-use Rattle.ec_regs.specs.Managers.{is_set, is_mailbox, is_buffered, is_ring_written, is_ring_read}
+use Rattle.ec_regs.specs.Managers.{is_set, is_mailbox, is_buffered, is_master_written, is_master_read}
 use Rattle.ec_frame.specs.Datagram.{ado_of}
-use Rattle.ec_sync.specs.Manager.{Manager, may_read, may_write}
+use Rattle.ec_sync.specs.SyncManager.{SyncManager, may_read, may_write}
 use Rattle.ec_slave.specs.State.{SlaveState}
 use Rattle.ec_slave.specs.Managers.{is_read_by, is_written_by, is_ungoverned, manager_after}
 use Rattle.ec_slave.specs.Physical.{Window, is_configured, setting_for, touches, byte_at, byte_read, may_read_byte, some_byte_read, retold, physical_value, physical_manager, physical_managers, physical_after, physical_met}
@@ -17,24 +17,24 @@ use Rattle.ec_slave.proofs.AgainstAll.{retold_alike}
 use Rattle.ec_slave.proofs.Windows.{from-outside}
 
 -- a set manager begins in the RAM
-pub set-start : (m : ManagerSettings) → is_set m ≡ true → ram_start ≤ m.start
+pub set-start : (m : SyncManagerSettings) → is_set m ≡ true → ram_start ≤ m.start
 unfolding is_set
 set-start m h =
     let a = (and_parts (m.activate % 2 == 1) _ h).1 in
     let b = (and_parts (is_mailbox m || is_buffered m) _ a).1 in
-    let c = (and_parts (is_ring_written m || is_ring_read m) _ b).1 in
+    let c = (and_parts (is_master_written m || is_master_read m) _ b).1 in
     let d = (and_parts (nat_lt 0 m.length) _ c).1 in
     leb-true ram_start m.start (and_parts (nat_le ram_start m.start) _ d).0
 
 -- a datagram on registers alone reads no manager
-registers-covered : (w : Window) (own : ℕ → Bool) (m : Manager) → w.from + length w.bytes ≤ ram_start → is_read_by (touches w) own m ≡ false
+registers-covered : (w : Window) (own : ℕ → Bool) (m : SyncManager) → w.from + length w.bytes ≤ ram_start → is_read_by (touches w) own m ≡ false
 registers-covered w own m l = elim (cases_Bool (is_set m.settings)) [
   | inl t ↦ and_right (may_read m) _ (and_left _ _ (and_left _ _ (within_above w.from (length w.bytes) m.settings.start (let x = set-start m.settings t in omega arith))))
   | inr f ↦ and_left (may_read m) _ (and_left _ _ (and_left _ _ f))
 ]
 
 -- it leaves every manager as it was, if it only reads
-pub managers-read : (lower ms : List Manager) (reads : Bool) (w : Window) (n : ℕ) → w.from + length w.bytes ≤ ram_start → physical_managers lower reads false w n ms ≡ ms
+pub managers-read : (lower ms : List SyncManager) (reads : Bool) (w : Window) (n : ℕ) → w.from + length w.bytes ≤ ram_start → physical_managers lower reads false w n ms ≡ ms
 unfolding physical_manager
 managers-read lower [] reads w n l = refl
 managers-read lower (m ∷ ms) reads w n l =
@@ -52,13 +52,13 @@ registers-idle s w l = rw (managers-read [] s.managers true w 0 l) refl
 low-unset : (w : Window) (n : ℕ) → w.from + length w.bytes ≤ sync_managers → is_configured w n ≡ false
 low-unset w n l = any_below_none 8 (λ k. is_some (setting_for w n k)) (λ k h. ap is_some (if_none _ _ (from-outside w (manager_place n + k) (inr (omega arith)))))
 
-low-covered : (w : Window) (own : ℕ → Bool) (m : Manager) → w.from + length w.bytes ≤ ram_start → is_written_by (touches w) own m ≡ false
+low-covered : (w : Window) (own : ℕ → Bool) (m : SyncManager) → w.from + length w.bytes ≤ ram_start → is_written_by (touches w) own m ≡ false
 low-covered w own m l = elim (cases_Bool (is_set m.settings)) [
   | inl t ↦ and_right (may_write m) _ (and_left _ _ (and_left _ _ (within_above w.from (length w.bytes) m.settings.start (let x = set-start m.settings t in omega arith))))
   | inr f ↦ and_left (may_write m) _ (and_left _ _ (and_left _ _ f))
 ]
 
-pub managers-write : (lower ms : List Manager) (reads : Bool) (w : Window) (n : ℕ) → w.from + length w.bytes ≤ sync_managers → physical_managers lower reads true w n ms ≡ ms
+pub managers-write : (lower ms : List SyncManager) (reads : Bool) (w : Window) (n : ℕ) → w.from + length w.bytes ≤ sync_managers → physical_managers lower reads true w n ms ≡ ms
 unfolding physical_manager
 managers-write lower [] reads w n l = refl
 managers-write lower (m ∷ ms) reads w n l =

@@ -2,7 +2,7 @@
 use Rattle.std.proofs.Common.{ℕ, ◌+◌, ◌*◌, ◌<◌, ◌≡◌, if◌then◌else◌, List, length, Bool, true, false, slice_index, Option, unwrap_or, refl, ◌∙◌, ap}
 use Rattle.std.specs.Int.{from_bool}
 use Rattle.ec_slave.specs.declared.role.Role.TheVariants.{Nothing, Read, Write, ReadWrite, OrRead, OrReadWrite}
-use Rattle.ec_sync.specs.Manager.{Manager}
+use Rattle.ec_sync.specs.SyncManager.{SyncManager}
 use Rattle.ec_slave.specs.Physical.{Window, byte_read, some_byte_read, is_written, physical_met}
 use Rattle.ec_slave.proofs.Windows.{kept_byte}
 use Rattle.ec_slave.specs.Keeping.{length-retold}
@@ -10,7 +10,7 @@ use Rattle.ec_slave.specs.Laws.{WritesByByte, IsWrittenAt, ReadsByByte, CountsBy
 use Rattle.ec_bits.proofs.AnyLaws.{if_true, if_false, if_none}
 use Rattle.ec_slave.proofs.Told.{get-retold0}
 
-pub written_at : (ms : List Manager) (w : Window) (memory : List ℕ) (a : ℕ) → a < length memory → IsWrittenAt ms w memory a
+pub written_at : (ms : List SyncManager) (w : Window) (memory : List ℕ) (a : ℕ) → a < length memory → IsWrittenAt ms w memory a
 written_at ms w memory a l =
     let own = get-retold0 memory (kept_byte ms w) a l in
     record {

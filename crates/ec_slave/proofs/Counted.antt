@@ -12,7 +12,7 @@ use Rattle.ec_frame.specs.declared.command.Command.{Command}
 use Rattle.ec_frame.specs.declared.command.Command.TheVariants.{Nop, Aprd, Apwr, Aprw, Fprd, Fpwr, Fprw, Brd, Bwr, Brw, Lrd, Lwr, Lrw, Armw, Frmw}
 use Rattle.ec_frame.specs.Datagram.{Datagram, adp_of}
 use Rattle.ec_regs.specs.Managers.{is_set}
-use Rattle.ec_sync.specs.Manager.{Manager, may_read, may_write}
+use Rattle.ec_sync.specs.SyncManager.{SyncManager, may_read, may_write}
 use Rattle.ec_sync.specs.Governing.{covers, governor, in_first_buffer}
 use Rattle.ec_sync.proofs.Lengths.{set_lies_in_ram}
 use Rattle.ec_al.specs.Al.{requesting}
@@ -52,21 +52,21 @@ retold-idle k (x ∷ xs) = ap (λ ys. x ∷ ys) (retold-idle (k + 1) xs)
 
 -- ---- one byte of a physical datagram
 
-some-written : (ms : List Manager) (busy : Bool) (w : Window) (a : ℕ) → touches w a ≡ true → may_write_byte ms busy (touches w) a ≡ true → some_byte_written ms busy w ≡ true
+some-written : (ms : List SyncManager) (busy : Bool) (w : Window) (a : ℕ) → touches w a ≡ true → may_write_byte ms busy (touches w) a ≡ true → some_byte_written ms busy w ≡ true
 some-written ms busy w a t m =
     let p = within_parts w.from (length w.bytes) a t in
     let at : a ≡ w.from + (a - w.from) = let x = p.0 in omega arith in
     any_below_from (length w.bytes) (λ i. may_write_byte ms busy (touches w) (w.from + i)) (a - w.from) (let x = p.0 in let y = p.1 in omega arith)
     (subst (λ (b : ℕ). may_write_byte ms busy (touches w) b ≡ true) at m)
 
-some-read : (ms : List Manager) (w : Window) (a : ℕ) → touches w a ≡ true → may_read_byte ms (touches w) a ≡ true → some_byte_read ms w ≡ true
+some-read : (ms : List SyncManager) (w : Window) (a : ℕ) → touches w a ≡ true → may_read_byte ms (touches w) a ≡ true → some_byte_read ms w ≡ true
 some-read ms w a t m =
     let p = within_parts w.from (length w.bytes) a t in
     let at : a ≡ w.from + (a - w.from) = let x = p.0 in omega arith in
     any_below_from (length w.bytes) (λ i. may_read_byte ms (touches w) (w.from + i)) (a - w.from) (let x = p.0 in let y = p.1 in omega arith)
     (subst (λ (b : ℕ). may_read_byte ms (touches w) b ≡ true) at m)
 
-register-writes : (ms : List Manager) (busy : Bool) (t : ℕ → Bool) (a : ℕ) → a < 0x1000 → (is_stored a || (within 0x0502 6 a && not busy)) ≡ true → may_write_byte ms busy t a ≡ true
+register-writes : (ms : List SyncManager) (busy : Bool) (t : ℕ → Bool) (a : ℕ) → a < 0x1000 → (is_stored a || (within 0x0502 6 a && not busy)) ≡ true → may_write_byte ms busy t a ≡ true
 unfolding may_write_byte
 register-writes ms busy t a l s = if_true _ _ _ (lt-ltb a ram_start l) ∙ s
 
@@ -82,22 +82,22 @@ stored-below a s = elim (or-cases (within 0x0010 2 a) _ s) [
   ]
 ]
 
-stored-writes : (ms : List Manager) (busy : Bool) (t : ℕ → Bool) (a : ℕ) → is_stored a ≡ true → may_write_byte ms busy t a ≡ true
+stored-writes : (ms : List SyncManager) (busy : Bool) (t : ℕ → Bool) (a : ℕ) → is_stored a ≡ true → may_write_byte ms busy t a ≡ true
 stored-writes ms busy t a s = register-writes ms busy t a (stored-below a s) (or_left (is_stored a) _ s)
 
-ram-writes : (ms : List Manager) (busy : Bool) (t : ℕ → Bool) (a : ℕ) → 0x1000 ≤ a → a < 0x3000 → writes_under ms t a (governor ms a) ≡ true → may_write_byte ms busy t a ≡ true
+ram-writes : (ms : List SyncManager) (busy : Bool) (t : ℕ → Bool) (a : ℕ) → 0x1000 ≤ a → a < 0x3000 → writes_under ms t a (governor ms a) ≡ true → may_write_byte ms busy t a ≡ true
 unfolding may_write_byte
 ram-writes ms busy t a l k u = if_false _ _ _ (le-ltb a ram_start l) ∙ and_from _ _ (lt-ltb a ram_end k) u
 
-ram-reads : (ms : List Manager) (t : ℕ → Bool) (a : ℕ) → a < 0x3000 → reads_under ms t a (governor ms a) ≡ true → may_read_byte ms t a ≡ true
+ram-reads : (ms : List SyncManager) (t : ℕ → Bool) (a : ℕ) → a < 0x3000 → reads_under ms t a (governor ms a) ≡ true → may_read_byte ms t a ≡ true
 unfolding may_read_byte
 ram-reads ms t a k u = or_right (nat_lt a ram_start) _ (and_from _ _ (lt-ltb a ram_end k) u)
 
-ungoverned-writes : (ms : List Manager) (t : ℕ → Bool) (a : ℕ) (o : Option ℕ) → is_none o ≡ true → writes_under ms t a o ≡ true
+ungoverned-writes : (ms : List SyncManager) (t : ℕ → Bool) (a : ℕ) (o : Option ℕ) → is_none o ≡ true → writes_under ms t a o ≡ true
 ungoverned-writes ms t a None e = refl
 ungoverned-writes ms t a (Some n) e = absurd (false≢true e)
 
-kept-writes : (ms : List Manager) (busy : Bool) (t : ℕ → Bool) (a : ℕ) → is_kept ms a ≡ true → may_write_byte ms busy t a ≡ true
+kept-writes : (ms : List SyncManager) (busy : Bool) (t : ℕ → Bool) (a : ℕ) → is_kept ms a ≡ true → may_write_byte ms busy t a ≡ true
 unfolding is_kept
 kept-writes ms busy t a h = elim (cases_lt a 0x1000) [
   | inl l ↦
@@ -116,7 +116,7 @@ is-governor n None e = absurd (false≢true e)
 is-governor n (Some k) e = let f : k ≡ n = eqb-true k n e in ap (λ i. Some i) f
 
 -- a byte of the value that a manager governs itself
-pub record OwnByte (ms : List Manager) (t : ℕ → Bool) (n : ℕ) : Type 0 where
+pub record OwnByte (ms : List SyncManager) (t : ℕ → Bool) (n : ℕ) : Type 0 where
   pub at : ℕ
   pub touched : t at ≡ true
   pub governed : governor ms at ≡ Some n
@@ -125,9 +125,9 @@ pub record OwnByte (ms : List Manager) (t : ℕ → Bool) (n : ℕ) : Type 0 whe
   pub to_ram : at < 0x3000
   pub covered : covers t (manager_at ms n) ≡ true
 
-own-byte : (ms : List Manager) (t : ℕ → Bool) (n : ℕ) → is_set (manager_at ms n).settings ≡ true → gets_at t (governs_among ms n) (manager_at ms n) ≡ true → OwnByte ms t n
+own-byte : (ms : List SyncManager) (t : ℕ → Bool) (n : ℕ) → is_set (manager_at ms n).settings ≡ true → gets_at t (governs_among ms n) (manager_at ms n) ≡ true → OwnByte ms t n
 own-byte ms t n set g =
-    let m : Manager = manager_at ms n in
+    let m : SyncManager = manager_at ms n in
     let p = and_parts (covers t m) _ g in
     let r = any_below_some m.settings.length (λ k. t (m.settings.start + k) && governs_among ms n (m.settings.start + k)) p.1 in
     let a : ℕ = m.settings.start + r.0 in
@@ -143,13 +143,13 @@ own-byte ms t n set g =
       covered = p.0;
     }
 
-own-writes : (ms : List Manager) (t : ℕ → Bool) (n : ℕ) (o : OwnByte ms t n) → may_write (manager_at ms n) ≡ true → writes_under ms t o.at (governor ms o.at) ≡ true
+own-writes : (ms : List SyncManager) (t : ℕ → Bool) (n : ℕ) (o : OwnByte ms t n) → may_write (manager_at ms n) ≡ true → writes_under ms t o.at (governor ms o.at) ≡ true
 own-writes ms t n o w = ap (writes_under ms t o.at) o.governed ∙ and_from _ _ o.front (and_from _ _ o.covered w)
 
-own-reads : (ms : List Manager) (t : ℕ → Bool) (n : ℕ) (o : OwnByte ms t n) → may_read (manager_at ms n) ≡ true → reads_under ms t o.at (governor ms o.at) ≡ true
+own-reads : (ms : List SyncManager) (t : ℕ → Bool) (n : ℕ) (o : OwnByte ms t n) → may_read (manager_at ms n) ≡ true → reads_under ms t o.at (governor ms o.at) ≡ true
 own-reads ms t n o r = ap (reads_under ms t o.at) o.governed ∙ and_from _ _ o.front (and_from _ _ o.covered r)
 
-each-idle : (n : ℕ) (f : ℕ → Manager → Manager) (ms : List Manager) → ((k : ℕ) → k < length ms → f (n + k) (manager_at ms k) ≡ manager_at ms k) → each_from n f ms ≡ ms
+each-idle : (n : ℕ) (f : ℕ → SyncManager → SyncManager) (ms : List SyncManager) → ((k : ℕ) → k < length ms → f (n + k) (manager_at ms k) ≡ manager_at ms k) → each_from n f ms ≡ ms
 each-idle n f [] h = refl
 each-idle n f (m ∷ ms) h =
     let z : n + 0 ≡ n = omega arith in
@@ -159,14 +159,14 @@ each-idle n f (m ∷ ms) h =
     let e : n + suc k ≡ n + 1 + k = omega arith in
     subst (λ (i : ℕ). f i (manager_at ms k) ≡ manager_at ms k) e (h (suc k) (omega arith))))
 
-each-idle-first : (f : ℕ → Manager → Manager) (ms : List Manager) → ((k : ℕ) → k < length ms → f k (manager_at ms k) ≡ manager_at ms k) → each_from 0 f ms ≡ ms
+each-idle-first : (f : ℕ → SyncManager → SyncManager) (ms : List SyncManager) → ((k : ℕ) → k < length ms → f k (manager_at ms k) ≡ manager_at ms k) → each_from 0 f ms ≡ ms
 each-idle-first f ms h = each-idle 0 f ms (λ k l.
     let z : k ≡ 0 + k = omega arith in
     subst (λ (i : ℕ). f i (manager_at ms k) ≡ manager_at ms k) z (h k l))
 
 -- ---- a physical datagram
 
-memory-idle : (ms : List Manager) (busy : Bool) (w : Window) (memory : List ℕ) → some_byte_written ms busy w ≡ false → memory_written ms w memory ≡ memory
+memory-idle : (ms : List SyncManager) (busy : Bool) (w : Window) (memory : List ℕ) → some_byte_written ms busy w ≡ false → memory_written ms w memory ≡ memory
 memory-idle ms busy w memory f =
     retold_alike 0 memory _ (λ i. None) (λ a l. elim (cases_Bool (is_kept ms a)) as (λ _. (if is_kept ms a then byte_from w a else None) ≡ None) [
       | inl k ↦ if_none (is_kept ms a) (byte_from w a) (if_false (touches w a) (Some (slice_index w.bytes (a - w.from))) None
@@ -175,7 +175,7 @@ memory-idle ms busy w memory f =
     ])
     ∙ retold-idle 0 memory
 
-configured-counts : (ms : List Manager) (busy : Bool) (w : Window) (n : ℕ) → is_configured w n ≡ true → some_byte_written ms busy w ≡ true
+configured-counts : (ms : List SyncManager) (busy : Bool) (w : Window) (n : ℕ) → is_configured w n ≡ true → some_byte_written ms busy w ≡ true
 configured-counts ms busy w n c =
     let r = any_below_some 8 (λ k. is_some (setting_for w n k)) c in
     let a : ℕ = 0x0800 + 8 * n + r.0 in
@@ -183,16 +183,16 @@ configured-counts ms busy w n c =
     let u = if-some (touches w a) (Some (slice_index w.bytes (a - w.from))) q.1 in
     some-written ms busy w a u.0 (stored-writes ms busy (touches w) a q.0)
 
-written-counts : (ms : List Manager) (busy : Bool) (w : Window) (n : ℕ) → is_written_by (touches w) (governs_among ms n) (manager_at ms n) ≡ true → some_byte_written ms busy w ≡ true
+written-counts : (ms : List SyncManager) (busy : Bool) (w : Window) (n : ℕ) → is_written_by (touches w) (governs_among ms n) (manager_at ms n) ≡ true → some_byte_written ms busy w ≡ true
 written-counts ms busy w n h =
-    let m : Manager = manager_at ms n in
+    let m : SyncManager = manager_at ms n in
     let p = and_parts (may_write m) _ h in
     let o = own-byte ms (touches w) n (writable-set m p.0) p.1 in
     some-written ms busy w o.at o.touched (ram-writes ms busy (touches w) o.at o.from_ram o.to_ram (own-writes ms (touches w) n o p.0))
 
-read-counts : (ms : List Manager) (w : Window) (n : ℕ) → is_read_by (touches w) (governs_among ms n) (manager_at ms n) ≡ true → some_byte_read ms w ≡ true
+read-counts : (ms : List SyncManager) (w : Window) (n : ℕ) → is_read_by (touches w) (governs_among ms n) (manager_at ms n) ≡ true → some_byte_read ms w ≡ true
 read-counts ms w n h =
-    let m : Manager = manager_at ms n in
+    let m : SyncManager = manager_at ms n in
     let p = and_parts (may_read m) _ h in
     let o = own-byte ms (touches w) n (readable-set m p.0) p.1 in
     some-read ms w o.at o.touched (ram-reads ms (touches w) o.at o.to_ram (own-reads ms (touches w) n o p.0))
@@ -202,7 +202,7 @@ both-false : (b x y : Bool) → (b && y) ≡ false → (x ≡ true → y ≡ tru
 both-false true x y f h = refuted x y f h
 both-false false x y f h = refl
 
-managers-idle : (ms : List Manager) (busy reads writes : Bool) (w : Window) → (reads && some_byte_read ms w) ≡ false → (writes && some_byte_written ms busy w) ≡ false
+managers-idle : (ms : List SyncManager) (busy reads writes : Bool) (w : Window) → (reads && some_byte_read ms w) ≡ false → (writes && some_byte_written ms busy w) ≡ false
     → physical_managers [] reads writes w 0 ms ≡ ms
 managers-idle ms busy reads writes w fr fw =
     physical_against_all reads writes w ms
@@ -236,7 +236,7 @@ port-busy : (p : Sii) (from : ℕ) (bytes : List ℕ) → p.busy ≡ true → wr
 unfolding written
 port-busy p from bytes t = if_true _ _ _ t
 
-port-kept : (ms : List Manager) (p : Sii) (w : Window) → p.address < 2 ^ 32 → some_byte_written ms p.busy w ≡ false → written p w.from w.bytes ≡ p
+port-kept : (ms : List SyncManager) (p : Sii) (w : Window) → p.address < 2 ^ 32 → some_byte_written ms p.busy w ≡ false → written p w.from w.bytes ≡ p
 port-kept ms p w l f = elim (cases_Bool p.busy) [
   | inl t ↦ port-busy p w.from w.bytes t
   | inr idle ↦ port-idle p w.from w.bytes l idle (λ place from to. refuted (touches w place) (some_byte_written ms p.busy w) f (λ t.
@@ -299,10 +299,10 @@ is_some-map : (bytes : List ℕ) (o : Option ℕ) → is_some o ≡ true → is_
 is_some-map bytes None e = absurd (false≢true e)
 is_some-map bytes (Some i) e = refl
 
-mapped-write-counts : (ms : List Manager) (fs : List FmmuSettings) (p : Place) (bytes : List ℕ) (n : ℕ) → is_written_by (touched_by_writing fs p) (governs_among ms n) (manager_at ms n) ≡ true
+mapped-write-counts : (ms : List SyncManager) (fs : List FmmuSettings) (p : Place) (bytes : List ℕ) (n : ℕ) → is_written_by (touched_by_writing fs p) (governs_among ms n) (manager_at ms n) ≡ true
     → some_written ms fs p bytes ≡ true
 mapped-write-counts ms fs p bytes n h =
-    let m : Manager = manager_at ms n in
+    let m : SyncManager = manager_at ms n in
     let t : ℕ → Bool = touched_by_writing fs p in
     let g = and_parts (may_write m) _ h in
     let o = own-byte ms t n (writable-set m g.0) g.1 in
@@ -319,10 +319,10 @@ leads-to : (o : Option ℕ) (a : ℕ) → leads_into o a ≡ true → (q : ℕ) 
 leads-to None a e = absurd (false≢true e)
 leads-to (Some q) a e = (q, refl, eqb-true (q / 8) a e)
 
-mapped-read-counts : (memory : List ℕ) (ms : List Manager) (fs : List FmmuSettings) (p : Place) (n : ℕ) → is_read_by (touched_by_reading fs p) (governs_among ms n) (manager_at ms n) ≡ true
+mapped-read-counts : (memory : List ℕ) (ms : List SyncManager) (fs : List FmmuSettings) (p : Place) (n : ℕ) → is_read_by (touched_by_reading fs p) (governs_among ms n) (manager_at ms n) ≡ true
     → some_read memory ms fs p ≡ true
 mapped-read-counts memory ms fs p n h =
-    let m : Manager = manager_at ms n in
+    let m : SyncManager = manager_at ms n in
     let t : ℕ → Bool = touched_by_reading fs p in
     let g = and_parts (may_read m) _ h in
     let o = own-byte ms t n (readable-set m g.0) g.1 in
@@ -335,7 +335,7 @@ mapped-read-counts memory ms fs p n h =
     = ap (λ x. is_some (option_and_then (readable_bit memory ms fs p) x)) l.1 ∙ ap is_some (if_true _ _ _ may) in
     any_below_from p.bits (λ i. is_some (read_bit memory ms fs p i)) r.0 r.1 told
 
-mapped-managers-idle : (memory : List ℕ) (ms : List Manager) (reading writing : Bool) (fs : List FmmuSettings) (p : Place) (bytes : List ℕ)
+mapped-managers-idle : (memory : List ℕ) (ms : List SyncManager) (reading writing : Bool) (fs : List FmmuSettings) (p : Place) (bytes : List ℕ)
     → (reading && some_read memory ms fs p) ≡ false → (writing && some_written ms fs p bytes) ≡ false → logical_managers [] reading writing fs p bytes ms ≡ ms
 mapped-managers-idle memory ms reading writing fs p bytes fr fw =
     logical_against_all reading writing fs p bytes ms
@@ -358,7 +358,7 @@ logical-counts : (reading writing : Bool) (weight : ℕ) (s : SlaveState) (d : D
 unfolding meets_logically
 logical-counts reading writing weight s d one two h c e =
     let p : Place = place_of d in
-    let ms : List Manager = s.managers in
+    let ms : List SyncManager = s.managers in
     let fs : List FmmuSettings = fmmus s in
     let long : length s.memory ≡ 0x3000 = h.memory in
     let z = counted-nothing (reading && some_read s.memory ms fs p) (writing && some_written ms fs p d.data_bytes) weight d.counter one two c e in

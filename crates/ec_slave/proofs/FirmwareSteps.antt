@@ -2,8 +2,8 @@
 use Rattle.std.proofs.Common.{ℕ, zero, suc, ◌%◌, ◌<◌, ◌≤◌, ◌≡◌, ◌==◌, ◌⊎◌, ◌&&◌, not, Bool, true, false, Option, Some, None, Result, Ok, Err, refl, sym, ◌∙◌, ap, subst, inl, inr, arith, if◌then◌else◌, List, [], ◌∷◌, length, set, nat_le, is_some, length-set, get_or-set_same, get_or-set_other}
 use Rattle.std.proofs.lemmas.Bool.{cases_Bool, and_parts, and_from, and_left, and_right, le-leb}
 use Rattle.ec_bits.proofs.AnyLaws.{if_true, if_false, if_none}
-use Rattle.ec_regs.specs.Managers.{is_mailbox, is_ring_read, is_ring_written}
-use Rattle.ec_sync.specs.Manager.{Manager, no_manager, is_enabled, message_in, message_taken, message_put, may_put_message, padded}
+use Rattle.ec_regs.specs.Managers.{is_mailbox, is_master_read, is_master_written}
+use Rattle.ec_sync.specs.SyncManager.{SyncManager, no_manager, is_enabled, message_in, message_taken, message_put, may_put_message, padded}
 use Rattle.ec_al.specs.declared.state.State.{State}
 use Rattle.ec_al.specs.declared.status_code.StatusCode.{StatusCode}
 use Rattle.ec_al.specs.declared.transition.Checks.{Checks}
@@ -12,7 +12,7 @@ use Rattle.ec_al.specs.Al.{Al}
 use Rattle.ec_al.specs.Al as al
 use Rattle.ec_sii.specs.Port.{Sii, commanded, addressed, address_written, byte_for, command_place}
 use Rattle.ec_sii.specs.Port as port
-use Rattle.ec_sii.specs.declared.image.Image.{Image}
+use Rattle.ec_sii.specs.declared.image.SiiImage.{SiiImage}
 use Rattle.ec_coe.specs.declared.message.Message.{Message}
 use Rattle.ec_coe.specs.Messages.{message_length}
 use Rattle.ec_coe.specs.ReplyBytes.{reply_bytes}
@@ -77,10 +77,10 @@ stepped-rests : (p : Sii) → p.busy ≡ false → port.stepped p ≡ p
 unfolding port.stepped
 stepped-rests p e = if_false p.busy _ p e
 
-abbrev pub image_of : Sii → Image
+abbrev pub image_of : Sii → SiiImage
 image_of p = p.image
 
-pub either-image : (b : Bool) (x y : Sii) (i : Image) → image_of x ≡ i → image_of y ≡ i → image_of (if b then x else y) ≡ i
+pub either-image : (b : Bool) (x y : Sii) (i : SiiImage) → image_of x ≡ i → image_of y ≡ i → image_of (if b then x else y) ≡ i
 either-image true x y i e f = e
 either-image false x y i e f = f
 
@@ -103,8 +103,8 @@ finished s = record { is = refl; idle = stepped-idle s.sii; rests = λ e. ap (λ
 -- ---- a message
 
 -- manager n of two that were set, the first two
-two-set : (ms : List Manager) (a b : Manager) (n : ℕ) → 1 < length ms → (n ≡ 0) ⊎ ((n ≡ 1) ⊎ (2 ≤ n))
-    → (P : Manager → Manager → Type 0) → P (manager_at ms 0) a → P (manager_at ms 1) b → ((m : Manager) → P m m) → P (manager_at ms n) (manager_at (set (set ms 0 a) 1 b) n)
+two-set : (ms : List SyncManager) (a b : SyncManager) (n : ℕ) → 1 < length ms → (n ≡ 0) ⊎ ((n ≡ 1) ⊎ (2 ≤ n))
+    → (P : SyncManager → SyncManager → Type 0) → P (manager_at ms 0) a → P (manager_at ms 1) b → ((m : SyncManager) → P m m) → P (manager_at ms n) (manager_at (set (set ms 0 a) 1 b) n)
 two-set ms a b n l (inl e) P x y z =
     subst (λ (k : ℕ). P (manager_at ms k) (manager_at (set (set ms 0 a) 1 b) k)) (sym e)
     (subst (P (manager_at ms 0)) (sym (get_or-set_other (set ms 0 a) 1 0 b no_manager (λ q. omega (arith, q)) ∙ get_or-set_same ms 0 a no_manager (omega arith))) x)
@@ -115,17 +115,17 @@ two-set ms a b n l (inr (inr e)) P x y z =
     subst (P (manager_at ms n)) (sym (get_or-set_other (set ms 0 a) 1 n b no_manager (λ q. omega (arith, q, e)) ∙ get_or-set_other ms 0 n a no_manager (λ q. omega (arith, q, e)))) (z (manager_at ms n))
 
 -- what the new manager has like the old one is as before in all of them
-set-alike : {X : Type 0} (f : Manager → X) (ms : List Manager) (k : ℕ) (m : Manager) → f m ≡ f (manager_at ms k) → (n : ℕ) → f (manager_at (set ms k m) n) ≡ f (manager_at ms n)
+set-alike : {X : Type 0} (f : SyncManager → X) (ms : List SyncManager) (k : ℕ) (m : SyncManager) → f m ≡ f (manager_at ms k) → (n : ℕ) → f (manager_at (set ms k m) n) ≡ f (manager_at ms n)
 set-alike f [] k m e n = refl
 set-alike f (x ∷ ms) zero m e zero = e
 set-alike f (x ∷ ms) zero m e (suc n) = refl
 set-alike f (x ∷ ms) (suc k) m e zero = refl
 set-alike f (x ∷ ms) (suc k) m e (suc n) = set-alike f ms k m e n
 
-abbrev locked_of : Manager → Bool
+abbrev locked_of : SyncManager → Bool
 locked_of m = m.locked
 
-either-locked : (b : Bool) (x m : Manager) → locked_of x ≡ m.locked → locked_of (if b then x else m) ≡ m.locked
+either-locked : (b : Bool) (x m : SyncManager) → locked_of x ≡ m.locked → locked_of (if b then x else m) ≡ m.locked
 either-locked true x m e = e
 either-locked false x m e = refl
 
@@ -225,32 +225,32 @@ messages_rest s = record {
 }
   where
     none : (manager_at s.managers 0).mail ≡ None → message_in (manager_at s.managers 0) ≡ None
-    none e = if_none (is_enabled (manager_at s.managers 0) && (is_mailbox (manager_at s.managers 0).settings && is_ring_written (manager_at s.managers 0).settings)) (manager_at s.managers 0).mail e
+    none e = if_none (is_enabled (manager_at s.managers 0) && (is_mailbox (manager_at s.managers 0).settings && is_master_written (manager_at s.managers 0).settings)) (manager_at s.managers 0).mail e
 
 -- manager 1 lets the firmware put a reply that fits
-put-right : (m : Manager) (message : List ℕ) → length message ≤ m.settings.length → takes_reply m ≡ true → may_put_message m (length message) ≡ true
+put-right : (m : SyncManager) (message : List ℕ) → length message ≤ m.settings.length → takes_reply m ≡ true → may_put_message m (length message) ≡ true
 put-right m message e t =
     let a = and_parts (is_enabled m) _ t in
     let b = and_parts (is_mailbox m.settings) _ a.1 in
-    let c = and_parts (is_ring_read m.settings) _ b.1 in
+    let c = and_parts (is_master_read m.settings) _ b.1 in
     and_from _ _ a.0 (and_from _ _ b.0 (and_from _ _ c.0 (and_from _ _ c.1 (le-leb (length message) m.settings.length e))))
 
 given-answers : (s : SlaveState) (r : Message) → 1 < length s.managers → is_some (message_in (manager_at s.managers 0)) ≡ true → takes_reply (manager_at s.managers 1) ≡ true
     → message_length ≤ (manager_at s.managers 1).settings.length → IsAnswered s r (replied (taken_out s) r)
 given-answers s r l there t room =
-    let m1 : Manager = manager_at s.managers 1 in
-    let told : Manager → List ℕ = λ m. reply_bytes (answer_to s r).dictionary m.settings.length (answer_to s r).reply in
-    let x : Manager = message_taken (manager_at s.managers 0) in
-    let y : Manager = message_put (manager_at (set s.managers 0 x) 1) (told (manager_at (set s.managers 0 x) 1)) in
+    let m1 : SyncManager = manager_at s.managers 1 in
+    let told : SyncManager → List ℕ = λ m. reply_bytes (answer_to s r).dictionary m.settings.length (answer_to s r).reply in
+    let x : SyncManager = message_taken (manager_at s.managers 0) in
+    let y : SyncManager = message_put (manager_at (set s.managers 0 x) 1) (told (manager_at (set s.managers 0 x) 1)) in
     let next : manager_at (set s.managers 0 x) 1 ≡ m1 = get_or-set_other s.managers 0 1 x no_manager (λ q. omega (arith, q)) in
     let fits : length (bytes_to s r) ≤ m1.settings.length = replies_fit.fits (answer_to s r).dictionary m1.settings.length (answer_to s r).reply room in
     let put : y.mail ≡ Some (padded m1 (bytes_to s r))
-    = ap (λ (m : Manager). (message_put m (told m)).mail) next
-    ∙ ap (λ (m : Manager). m.mail) (if_true _ (record m1 { mail = Some (padded m1 (bytes_to s r)) }) m1 (put-right m1 (bytes_to s r) fits t)) in
+    = ap (λ (m : SyncManager). (message_put m (told m)).mail) next
+    ∙ ap (λ (m : SyncManager). m.mail) (if_true _ (record m1 { mail = Some (padded m1 (bytes_to s r)) }) m1 (put-right m1 (bytes_to s r) fits t)) in
     record {
-      no_message = ap (λ (m : Manager). m.mail) (get_or-set_other (set s.managers 0 x) 1 0 y no_manager (λ q. omega (arith, q)) ∙ get_or-set_same s.managers 0 x no_manager (omega arith))
-          ∙ ap (λ (m : Manager). m.mail) (if_true (is_some (message_in (manager_at s.managers 0))) (record (manager_at s.managers 0) { mail = None }) (manager_at s.managers 0) there);
-      reply = ap (λ (m : Manager). m.mail) (get_or-set_same (set s.managers 0 x) 1 y no_manager (let f = length-set s.managers 0 x in omega (arith, f, l))) ∙ put;
+      no_message = ap (λ (m : SyncManager). m.mail) (get_or-set_other (set s.managers 0 x) 1 0 y no_manager (λ q. omega (arith, q)) ∙ get_or-set_same s.managers 0 x no_manager (omega arith))
+          ∙ ap (λ (m : SyncManager). m.mail) (if_true (is_some (message_in (manager_at s.managers 0))) (record (manager_at s.managers 0) { mail = None }) (manager_at s.managers 0) there);
+      reply = ap (λ (m : SyncManager). m.mail) (get_or-set_same (set s.managers 0 x) 1 y no_manager (let f = length-set s.managers 0 x in omega (arith, f, l))) ∙ put;
       outs = refl;
       ins = refl;
     }

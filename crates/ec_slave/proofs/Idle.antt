@@ -1,13 +1,13 @@
 -- Accesses that leave managers, or the whole slave, as they were.
 use Rattle.std.proofs.Common.{ℕ, ◌+◌, ◌≡◌, true, false, refl, ◌∙◌, ap, if◌then◌else◌, List, [], ◌∷◌, ◌++◌, length}
 use Rattle.ec_bits.specs.Bits.{within}
-use Rattle.ec_sync.specs.Manager.{Manager, ring_read}
+use Rattle.ec_sync.specs.SyncManager.{SyncManager, ring_read}
 use Rattle.ec_slave.specs.Managers.{is_read_by, is_ungoverned}
 use Rattle.ec_slave.specs.State.{SlaveState}
 use Rattle.ec_slave.specs.Physical.{Window, physical_manager, physical_managers, physical_after}
 
 -- a datagram that neither reads nor writes
-managers-idle : (lower ms : List Manager) (w : Window) (n : ℕ) → physical_managers lower false false w n ms ≡ ms
+managers-idle : (lower ms : List SyncManager) (w : Window) (n : ℕ) → physical_managers lower false false w n ms ≡ ms
 unfolding physical_manager
 managers-idle lower [] w n = refl
 managers-idle lower (m ∷ ms) w n = ap (λ xs. m ∷ xs) (managers-idle (lower ++ m ∷ []) ms w (n + 1))
@@ -17,7 +17,7 @@ unfolding physical_after
 slave_idle s w = rw (managers-idle [] s.managers w 0) refl
 
 -- a read goes by where the bytes lie, and not by what they are
-pub managers-reach : (lower ms : List Manager) (from n : ℕ) (b c : List ℕ) → length b ≡ length c
+pub managers-reach : (lower ms : List SyncManager) (from n : ℕ) (b c : List ℕ) → length b ≡ length c
     → physical_managers lower true false (record { from = from; bytes = b }) n ms ≡ physical_managers lower true false (record { from = from; bytes = c }) n ms
 unfolding physical_manager
 managers-reach lower [] from n b c e = refl

@@ -5,7 +5,7 @@ use Rattle.ec_regs.specs.Managers.{is_mailbox}
 use Rattle.ec_frame.specs.declared.command.Command.{Command}
 use Rattle.ec_frame.specs.declared.command.Command.TheVariants.{Nop, Aprd, Apwr, Aprw, Fprd, Fpwr, Fprw, Brd, Bwr, Brw, Lrd, Lwr, Lrw, Armw, Frmw}
 use Rattle.ec_frame.specs.Datagram.{Datagram, adp_of}
-use Rattle.ec_sync.specs.Manager.{Manager, empty_manager, ring_written, ring_read}
+use Rattle.ec_sync.specs.SyncManager.{SyncManager, empty_manager, ring_written, ring_read}
 use Rattle.ec_fmmu.specs.Applied.{Place, touched_by_reading, touched_by_writing}
 use Rattle.ec_al.specs.Al.{Al, requesting}
 use Rattle.ec_al.specs.declared.state.State.{State}
@@ -25,24 +25,24 @@ use Rattle.ec_slave.proofs.Lasting.{length-physical_managers}
 
 -- ---- locks
 
-abbrev locked_of : Manager → Bool
+abbrev locked_of : SyncManager → Bool
 locked_of m = m.locked
 
-written-locked : (m : Manager) (v : List ℕ) → (ring_written m v).locked ≡ m.locked
+written-locked : (m : SyncManager) (v : List ℕ) → (ring_written m v).locked ≡ m.locked
 written-locked m v = by (is_mailbox m.settings)
   where
     by : (b : Bool) → locked_of (if b then record m { mail = Some v } else record m { buffer = record m.buffer { published = v } }) ≡ m.locked
     by true = refl
     by false = refl
 
-read-locked : (m : Manager) → (ring_read m).locked ≡ m.locked
+read-locked : (m : SyncManager) → (ring_read m).locked ≡ m.locked
 read-locked m = by (is_mailbox m.settings)
   where
     by : (b : Bool) → locked_of (if b then record m { mail = None } else m) ≡ m.locked
     by true = refl
     by false = refl
 
-after-locked : (reads writes : Bool) (rt wt own : ℕ → Bool) (v : ℕ → ℕ → List ℕ) (m : Manager) → (manager_after reads writes rt wt own v m).locked ≡ m.locked
+after-locked : (reads writes : Bool) (rt wt own : ℕ → Bool) (v : ℕ → ℕ → List ℕ) (m : SyncManager) → (manager_after reads writes rt wt own v m).locked ≡ m.locked
 after-locked reads writes rt wt own v m = by (writes && is_written_by wt own m) (reads && is_read_by rt own m)
   where
     by : (b c : Bool) → locked_of (if b then ring_written m (v m.settings.start m.settings.length) else (if c then ring_read m else m)) ≡ m.locked
@@ -50,7 +50,7 @@ after-locked reads writes rt wt own v m = by (writes && is_written_by wt own m) 
     by false true = read-locked m
     by false false = refl
 
-met-locked : (lower : List Manager) (reads writes : Bool) (w : Window) (n : ℕ) (m : Manager) → (physical_manager lower reads writes w n m).locked ≡ m.locked
+met-locked : (lower : List SyncManager) (reads writes : Bool) (w : Window) (n : ℕ) (m : SyncManager) → (physical_manager lower reads writes w n m).locked ≡ m.locked
 unfolding physical_manager
 met-locked lower reads writes w n m = by (writes && is_configured w n)
   where
@@ -58,12 +58,12 @@ met-locked lower reads writes w n m = by (writes && is_configured w n)
     by true = refl
     by false = after-locked reads writes (touches w) (touches w) (is_ungoverned lower) (physical_value lower w) m
 
-all-met-locked : (lower ms : List Manager) (reads writes : Bool) (w : Window) (n k : ℕ) → (manager_at (physical_managers lower reads writes w n ms) k).locked ≡ (manager_at ms k).locked
+all-met-locked : (lower ms : List SyncManager) (reads writes : Bool) (w : Window) (n k : ℕ) → (manager_at (physical_managers lower reads writes w n ms) k).locked ≡ (manager_at ms k).locked
 all-met-locked lower [] reads writes w n k = refl
 all-met-locked lower (m ∷ ms) reads writes w n zero = met-locked lower reads writes w n m
 all-met-locked lower (m ∷ ms) reads writes w n (suc k) = all-met-locked (lower ++ m ∷ []) ms reads writes w (n + 1) k
 
-all-exchanged-locked : (lower ms : List Manager) (reading writing : Bool) (fs : List FmmuSettings) (p : Place) (bytes : List ℕ) (k : ℕ) → (manager_at (logical_managers lower reading writing fs p bytes ms) k).locked ≡ (manager_at ms k).locked
+all-exchanged-locked : (lower ms : List SyncManager) (reading writing : Bool) (fs : List FmmuSettings) (p : Place) (bytes : List ℕ) (k : ℕ) → (manager_at (logical_managers lower reading writing fs p bytes ms) k).locked ≡ (manager_at ms k).locked
 all-exchanged-locked lower [] reading writing fs p bytes k = refl
 all-exchanged-locked lower (m ∷ ms) reading writing fs p bytes zero = after-locked reading writing (touched_by_reading fs p) (touched_by_writing fs p) (is_ungoverned lower) (logical_value lower fs p bytes) m
 all-exchanged-locked lower (m ∷ ms) reading writing fs p bytes (suc k) = all-exchanged-locked (lower ++ m ∷ []) ms reading writing fs p bytes k

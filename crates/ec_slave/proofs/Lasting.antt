@@ -7,15 +7,15 @@ use Rattle.ec_bits.specs.Bits.{within, zeros}
 use Rattle.ec_bits.proofs.BitLaws.{length-overlay}
 use Rattle.ec_bits.proofs.AnyLaws.{if_true, if_false}
 use Rattle.ec_regs.specs.declared.fmmu.FmmuSettings.{FmmuSettings}
-use Rattle.ec_regs.specs.declared.manager.ManagerSettings.{ManagerSettings}
-use Rattle.ec_regs.specs.declared.slave_type.Pdo.{Pdo}
+use Rattle.ec_regs.specs.declared.manager.SyncManagerSettings.{SyncManagerSettings}
+use Rattle.ec_device.specs.declared.slave_type.Pdo.{Pdo}
 use Rattle.ec_regs.specs.Managers.{is_set, is_mailbox}
 use Rattle.ec_regs.specs.Memory.{sii_address}
 use Rattle.ec_frame.specs.declared.command.Command.{Command}
 use Rattle.ec_frame.specs.declared.command.Command.TheVariants.{Nop, Aprd, Apwr, Aprw, Fprd, Fpwr, Fprw, Brd, Bwr, Brw, Lrd, Lwr, Lrw, Armw, Frmw}
 use Rattle.ec_frame.specs.Datagram.{Datagram, adp_of}
 use Rattle.ec_sync.specs.Buffer.{publishing}
-use Rattle.ec_sync.specs.Manager.{Manager, no_manager, empty_manager, buffer_length, may_write, ring_written, ring_read}
+use Rattle.ec_sync.specs.SyncManager.{SyncManager, no_manager, empty_manager, buffer_length, may_write, ring_written, ring_read}
 use Rattle.ec_sync.specs.Sound.{IsManager}
 use Rattle.ec_sync.proofs.Lengths.{buffer_length_set}
 use Rattle.ec_sii.specs.Port.{Sii, address_byte, address_written, addressed, byte_for, command_place, commanded, written}
@@ -36,27 +36,27 @@ none_some x e = cc
 
 -- ---- one manager
 
-pub empty-sound : (m : ManagerSettings) (b : Bool) → IsManager (empty_manager m b)
+pub empty-sound : (m : SyncManagerSettings) (b : Bool) → IsManager (empty_manager m b)
 empty-sound m b = record { published = length-replicate {A = ℕ} (buffer_length m) 0; draft = λ d e. absurd (none_some d e); view = λ v e. absurd (none_some v e) }
 
 pub no-manager-sound : IsManager no_manager
 no-manager-sound = empty-sound no_manager.settings false
 
-written-sound : (m : Manager) (v : List ℕ) → IsManager m → is_set m.settings ≡ true → length v ≡ m.settings.length → IsManager (ring_written m v)
+written-sound : (m : SyncManager) (v : List ℕ) → IsManager m → is_set m.settings ≡ true → length v ≡ m.settings.length → IsManager (ring_written m v)
 written-sound m v h set e = elim (cases_Bool (is_mailbox m.settings)) [
   | inl on ↦ subst IsManager (sym (if_true (is_mailbox m.settings) (record m { mail = Some v }) (record m { buffer = publishing m.buffer v }) on)) (record { published = h.published; draft = h.draft; view = h.view })
   | inr off ↦ subst IsManager (sym (if_false (is_mailbox m.settings) (record m { mail = Some v }) (record m { buffer = publishing m.buffer v }) off))
       (record { published = e ∙ sym (buffer_length_set m.settings set off); draft = h.draft; view = h.view })
 ]
 
-read-sound : (m : Manager) → IsManager m → IsManager (ring_read m)
+read-sound : (m : SyncManager) → IsManager m → IsManager (ring_read m)
 read-sound m h = by (is_mailbox m.settings)
   where
-    by : (b : Bool) → (let x : Manager = if b then record m { mail = None } else m in IsManager x)
+    by : (b : Bool) → (let x : SyncManager = if b then record m { mail = None } else m in IsManager x)
     by true = record { published = h.published; draft = h.draft; view = h.view }
     by false = h
 
-after-sound : (reads writes : Bool) (rt wt own : ℕ → Bool) (v : ℕ → ℕ → List ℕ) (m : Manager) → ((a n : ℕ) → length (v a n) ≡ n) → IsManager m
+after-sound : (reads writes : Bool) (rt wt own : ℕ → Bool) (v : ℕ → ℕ → List ℕ) (m : SyncManager) → ((a n : ℕ) → length (v a n) ≡ n) → IsManager m
     → IsManager (manager_after reads writes rt wt own v m)
 after-sound reads writes rt wt own v m len h = elim (cases_Bool (writes && is_written_by wt own m)) [
   | inl on ↦ subst IsManager (sym (if_true (writes && is_written_by wt own m) (ring_written m (v m.settings.start m.settings.length)) (if reads && is_read_by rt own m then ring_read m else m) on))
@@ -65,43 +65,43 @@ after-sound reads writes rt wt own v m len h = elim (cases_Bool (writes && is_wr
       (by (reads && is_read_by rt own m))
 ]
   where
-    by : (b : Bool) → (let x : Manager = if b then ring_read m else m in IsManager x)
+    by : (b : Bool) → (let x : SyncManager = if b then ring_read m else m in IsManager x)
     by true = read-sound m h
     by false = h
 
-met-sound : (lower : List Manager) (reads writes : Bool) (w : Window) (n : ℕ) (m : Manager) → IsManager m → IsManager (physical_manager lower reads writes w n m)
+met-sound : (lower : List SyncManager) (reads writes : Bool) (w : Window) (n : ℕ) (m : SyncManager) → IsManager m → IsManager (physical_manager lower reads writes w n m)
 unfolding physical_manager
 met-sound lower reads writes w n m h = by (writes && is_configured w n)
   where
-    by : (b : Bool) → (let x : Manager = if b then empty_manager (settings_written w n m) m.locked else manager_after reads writes (touches w) (touches w) (is_ungoverned lower) (physical_value lower w) m in IsManager x)
+    by : (b : Bool) → (let x : SyncManager = if b then empty_manager (settings_written w n m) m.locked else manager_after reads writes (touches w) (touches w) (is_ungoverned lower) (physical_value lower w) m in IsManager x)
     by true = empty-sound (settings_written w n m) m.locked
     by false = after-sound reads writes (touches w) (touches w) (is_ungoverned lower) (physical_value lower w) m (λ a k. length-retold 0 (zeros k) _ ∙ length-replicate {A = ℕ} k 0) h
 
 -- ---- all of a slave
 
-abbrev pub AreSound : List Manager → Type 0
+abbrev pub AreSound : List SyncManager → Type 0
 AreSound ms = (n : ℕ) → IsManager (manager_at ms n)
 
-rest-sound : (m : Manager) (ms : List Manager) → AreSound (m ∷ ms) → AreSound ms
+rest-sound : (m : SyncManager) (ms : List SyncManager) → AreSound (m ∷ ms) → AreSound ms
 rest-sound m ms h n = h (suc n)
 
-pub all-met-sound : (lower ms : List Manager) (reads writes : Bool) (w : Window) (n : ℕ) → AreSound ms → AreSound (physical_managers lower reads writes w n ms)
+pub all-met-sound : (lower ms : List SyncManager) (reads writes : Bool) (w : Window) (n : ℕ) → AreSound ms → AreSound (physical_managers lower reads writes w n ms)
 all-met-sound lower [] reads writes w n h k = h k
 all-met-sound lower (m ∷ ms) reads writes w n h zero = met-sound lower reads writes w n m (h zero)
 all-met-sound lower (m ∷ ms) reads writes w n h (suc k) = all-met-sound (lower ++ m ∷ []) ms reads writes w (n + 1) (rest-sound m ms h) k
 
-pub all-exchanged-sound : (lower ms : List Manager) (reading writing : Bool) (fs : List FmmuSettings) (p : Place) (bytes : List ℕ) → AreSound ms → AreSound (logical_managers lower reading writing fs p bytes ms)
+pub all-exchanged-sound : (lower ms : List SyncManager) (reading writing : Bool) (fs : List FmmuSettings) (p : Place) (bytes : List ℕ) → AreSound ms → AreSound (logical_managers lower reading writing fs p bytes ms)
 all-exchanged-sound lower [] reading writing fs p bytes h k = h k
 all-exchanged-sound lower (m ∷ ms) reading writing fs p bytes h zero =
     after-sound reading writing (touched_by_reading fs p) (touched_by_writing fs p) (is_ungoverned lower) (logical_value lower fs p bytes) m (λ a k. length-overlay (zeros k) _ ∙ length-replicate {A = ℕ} k 0) (h zero)
 all-exchanged-sound lower (m ∷ ms) reading writing fs p bytes h (suc k) = all-exchanged-sound (lower ++ m ∷ []) ms reading writing fs p bytes (rest-sound m ms h) k
 
-pub length-physical_managers : (lower : List Manager) (reads writes : Bool) (w : Window) (n : ℕ) (ms : List Manager) → length (physical_managers lower reads writes w n ms) ≡ length ms
+pub length-physical_managers : (lower : List SyncManager) (reads writes : Bool) (w : Window) (n : ℕ) (ms : List SyncManager) → length (physical_managers lower reads writes w n ms) ≡ length ms
 length-physical_managers lower reads writes w n [] = refl
 length-physical_managers lower reads writes w n (m ∷ ms) = ap suc (length-physical_managers (lower ++ m ∷ []) reads writes w (n + 1) ms)
 
 -- the managers of four, one by one
-pub four-sound : (ms : List Manager) → length ms ≡ 4 → (a b c d : Manager)
+pub four-sound : (ms : List SyncManager) → length ms ≡ 4 → (a b c d : SyncManager)
     → a ≡ get_or ms 0 a → b ≡ get_or ms 1 b → c ≡ get_or ms 2 c → d ≡ get_or ms 3 d
     → IsManager a → IsManager b → IsManager c → IsManager d → AreSound ms
 four-sound [] l a b c d ea eb ec ed ha hb hc hd = absurd (omega arith)
@@ -169,7 +169,7 @@ written-keeps p from bytes h l = by p.busy
 
 -- ---- a datagram
 
-memory-long : (b : Bool) (ms : List Manager) (w : Window) (memory : List ℕ) → length (if b then memory_written ms w memory else memory) ≡ length memory
+memory-long : (b : Bool) (ms : List SyncManager) (w : Window) (memory : List ℕ) → length (if b then memory_written ms w memory else memory) ≡ length memory
 memory-long true ms w memory = length-retold 0 memory _
 memory-long false ms w memory = refl
 

@@ -7,7 +7,7 @@ use Rattle.ec_bits.proofs.BitLaws.{overlay_own}
 use Rattle.ec_bits.proofs.AnyLaws.{any_below_none, if_none, if_false}
 use Rattle.ec_regs.specs.declared.fmmu.FmmuSettings.{FmmuSettings}
 use Rattle.ec_regs.specs.Memory.{ram_end}
-use Rattle.ec_sync.specs.Manager.{Manager, may_read, may_write}
+use Rattle.ec_sync.specs.SyncManager.{SyncManager, may_read, may_write}
 use Rattle.ec_fmmu.specs.Applied.{Place, leads_into, touched_by_reading, touched_by_writing}
 use Rattle.ec_slave.specs.State.{SlaveState, fmmus, with_memory}
 use Rattle.ec_slave.specs.Managers.{is_ungoverned, manager_after}
@@ -33,13 +33,13 @@ no_touch_writing s p a h = any_below_none 8 _ (λ j l. ap is_some (h.writes (8 *
 no_touch_reading : (s : SlaveState) (p : Place) (a : ℕ) → Misses s p → touched_by_reading (fmmus s) p a ≡ false
 no_touch_reading s p a h = any_below_none p.bits _ (λ i l. ap (λ o. leads_into o a) (h.reads i l))
 
-manager_kept : (s : SlaveState) (reading writing : Bool) (p : Place) (own : ℕ → Bool) (value : ℕ → ℕ → List ℕ) (m : Manager) → Misses s p
+manager_kept : (s : SlaveState) (reading writing : Bool) (p : Place) (own : ℕ → Bool) (value : ℕ → ℕ → List ℕ) (m : SyncManager) → Misses s p
     → manager_after reading writing (touched_by_reading (fmmus s) p) (touched_by_writing (fmmus s) p) own value m ≡ m
 manager_kept s reading writing p own value m h =
     if_false _ _ _ (and_right writing _ (and_right (may_write m) _ (and_left _ _ (and_left _ _ (no_touch_writing s p m.settings.start h)))))
     ∙ if_false _ _ _ (and_right reading _ (and_right (may_read m) _ (and_left _ _ (and_left _ _ (no_touch_reading s p m.settings.start h)))))
 
-managers_kept : (s : SlaveState) (lower ms : List Manager) (reading writing : Bool) (p : Place) (bytes : List ℕ) → Misses s p
+managers_kept : (s : SlaveState) (lower ms : List SyncManager) (reading writing : Bool) (p : Place) (bytes : List ℕ) → Misses s p
     → logical_managers lower reading writing (fmmus s) p bytes ms ≡ ms
 managers_kept s lower [] reading writing p bytes h = refl
 managers_kept s lower (m ∷ ms) reading writing p bytes h =
@@ -63,12 +63,12 @@ misses reading writing weight s d h c =
 
 -- ---- a role that neither reads nor writes
 
-managers_left : (lower ms : List Manager) (fs : List FmmuSettings) (p : Place) (bytes : List ℕ) → ms ≡ logical_managers lower false false fs p bytes ms
+managers_left : (lower ms : List SyncManager) (fs : List FmmuSettings) (p : Place) (bytes : List ℕ) → ms ≡ logical_managers lower false false fs p bytes ms
 managers_left lower [] fs p bytes = refl
-managers_left lower (m ∷ ms) fs p bytes = ap (λ (xs : List Manager). m ∷ xs) (managers_left (lower ++ m ∷ []) ms fs p bytes)
+managers_left lower (m ∷ ms) fs p bytes = ap (λ (xs : List SyncManager). m ∷ xs) (managers_left (lower ++ m ∷ []) ms fs p bytes)
 
 pub slave_left : (s : SlaveState) (p : Place) (bytes : List ℕ) → s ≡ logical_after s false false p bytes
 slave_left s p bytes =
     let memory = overlay_own s.memory (λ q. only_if false (plain_bit s.managers (fmmus s) p bytes q)) (λ q l. refl) in
     ap (λ (xs : List ℕ). with_memory s xs s.managers) (sym memory)
-    ∙ ap (λ (ms : List Manager). with_memory s (overlay s.memory (λ q. only_if false (plain_bit s.managers (fmmus s) p bytes q))) ms) (managers_left [] s.managers (fmmus s) p bytes)
+    ∙ ap (λ (ms : List SyncManager). with_memory s (overlay s.memory (λ q. only_if false (plain_bit s.managers (fmmus s) p bytes q))) ms) (managers_left [] s.managers (fmmus s) p bytes)

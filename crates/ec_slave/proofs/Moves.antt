@@ -6,7 +6,7 @@ use Rattle.ec_bits.proofs.AnyLaws.{if_false, if_none, within_below}
 use Rattle.ec_bits.proofs.BitLaws.{overlay_own}
 use Rattle.ec_regs.specs.declared.fmmu.FmmuSettings.{FmmuSettings}
 use Rattle.ec_regs.specs.Memory.{ram_start, ram_end}
-use Rattle.ec_sync.specs.Manager.{Manager}
+use Rattle.ec_sync.specs.SyncManager.{SyncManager}
 use Rattle.ec_fmmu.specs.Pairs.{unmapped, reaches_physical, is_ram_bit}
 use Rattle.ec_fmmu.specs.Sets.{source_after, writers}
 use Rattle.ec_fmmu.specs.Applied.{Place, inside_place, touched_by_reading, touched_by_writing}
@@ -19,14 +19,14 @@ use Rattle.ec_slave.proofs.SomeWritten.{some_written-is}
 use Rattle.ec_slave.proofs.Decoded.{fmmus_of-alike}
 
 -- a read goes by where the bits lie, and not by what they are
-managers-unwritten : (lower ms : List Manager) (fs : List FmmuSettings) (p : Place) (b c : List ℕ)
+managers-unwritten : (lower ms : List SyncManager) (fs : List FmmuSettings) (p : Place) (b c : List ℕ)
     → logical_managers lower true false fs p b ms ≡ logical_managers lower true false fs p c ms
 managers-unwritten lower [] fs p b c = refl
 managers-unwritten lower (m ∷ ms) fs p b c =
-    ap (λ (xs : List Manager). manager_after true false (touched_by_reading fs p) (touched_by_writing fs p) (is_ungoverned lower) (logical_value lower fs p b) m ∷ xs)
+    ap (λ (xs : List SyncManager). manager_after true false (touched_by_reading fs p) (touched_by_writing fs p) (is_ungoverned lower) (logical_value lower fs p b) m ∷ xs)
     (managers-unwritten (lower ++ m ∷ []) ms fs p b c)
 
-pub slave_read : (s : SlaveState) (memory : List ℕ) (managers : List Manager) (fs : List FmmuSettings) (p q : Place) (b c : List ℕ)
+pub slave_read : (s : SlaveState) (memory : List ℕ) (managers : List SyncManager) (fs : List FmmuSettings) (p q : Place) (b c : List ℕ)
     → memory ≡ s.memory → fs ≡ fmmus s → q ≡ p → managers ≡ logical_managers [] true false fs q c s.managers
     → with_memory s memory managers ≡ logical_after s true false p b
 slave_read s memory managers fs p q b c m f e x =
@@ -37,9 +37,9 @@ slave_read s memory managers fs p q b c m f e x =
     ∙ (ap (λ (r : Place). logical_managers [] true false (fmmus s) r c s.managers) e
     ∙ managers-unwritten [] s.managers (fmmus s) p c b)) in
     ap (λ (y : List ℕ). with_memory s y managers) own
-    ∙ ap (λ (y : List Manager). with_memory s (overlay s.memory (λ i. only_if false (plain_bit s.managers (fmmus s) p b i))) y) met
+    ∙ ap (λ (y : List SyncManager). with_memory s (overlay s.memory (λ i. only_if false (plain_bit s.managers (fmmus s) p b i))) y) met
 
-pub slave_written : (s : SlaveState) (reading : Bool) (memory : List ℕ) (managers : List Manager) (fs : List FmmuSettings) (p : Place) (b : List ℕ)
+pub slave_written : (s : SlaveState) (reading : Bool) (memory : List ℕ) (managers : List SyncManager) (fs : List FmmuSettings) (p : Place) (b : List ℕ)
     → memory ≡ overlay s.memory (plain_bit s.managers fs p b) → fs ≡ fmmus s → managers ≡ logical_managers [] reading true fs p b s.managers
     → with_memory s memory managers ≡ logical_after s reading true p b
 slave_written s reading memory managers fs p b m f x =
@@ -48,7 +48,7 @@ slave_written s reading memory managers fs p b m f x =
     let met : managers ≡ logical_managers [] reading true (fmmus s) p b s.managers
     = x ∙ ap (λ (g : List FmmuSettings). logical_managers [] reading true g p b s.managers) f in
     ap (λ (y : List ℕ). with_memory s y managers) own
-    ∙ ap (λ (y : List Manager). with_memory s (overlay s.memory (plain_bit s.managers (fmmus s) p b)) y) met
+    ∙ ap (λ (y : List SyncManager). with_memory s (overlay s.memory (plain_bit s.managers (fmmus s) p b)) y) met
 
 -- ---- FMMUs lead into the RAM alone, so that what they write leaves the registers
 
@@ -60,20 +60,20 @@ source-outside : (lower fs : List FmmuSettings) (q : ℕ) → q < 32768 → sour
 source-outside lower [] q l = refl
 source-outside lower (f ∷ fs) q l = rw (unmapped-outside f q l) (source-outside (lower ++ (f ∷ [])) fs q l)
 
-plain-outside : (ms : List Manager) (fs : List FmmuSettings) (p : Place) (b : List ℕ) (q : ℕ) → q < 32768 → plain_bit ms fs p b q ≡ None
+plain-outside : (ms : List SyncManager) (fs : List FmmuSettings) (p : Place) (b : List ℕ) (q : ℕ) → q < 32768 → plain_bit ms fs p b q ≡ None
 plain-outside ms fs p b q l = if_none _ _ (ap (λ (o : Option ℕ). option_map (bit b) (inside_place p o)) (source-outside [] (writers fs) q l))
 
-pub decoded-mapped : (ms : List Manager) (fs : List FmmuSettings) (p : Place) (b memory : List ℕ) → fmmus_of memory ≡ fmmus_of (overlay memory (plain_bit ms fs p b))
+pub decoded-mapped : (ms : List SyncManager) (fs : List FmmuSettings) (p : Place) (b memory : List ℕ) → fmmus_of memory ≡ fmmus_of (overlay memory (plain_bit ms fs p b))
 decoded-mapped ms fs p b memory = fmmus_of-alike memory (overlay memory (plain_bit ms fs p b)) (λ a lo hi.
     sym (byte-overlay memory (plain_bit ms fs p b) a (λ i e. plain-outside ms fs p b i (omega arith))))
 
 -- a bit was written in the memory itself, or in a manager's value
-pub some_found : (ms a b : List Manager) (fs gs : List FmmuSettings) (p : Place) (bytes : List ℕ) (x y : Bool)
+pub some_found : (ms a b : List SyncManager) (fs gs : List FmmuSettings) (p : Place) (bytes : List ℕ) (x y : Bool)
     → x ≡ some_plain_written a fs p bytes → a ≡ ms → y ≡ some_manager_written [] fs p bytes b → b ≡ ms → fs ≡ gs
     → (x || y) ≡ some_written ms gs p bytes
 some_found ms a b fs gs p bytes x y hx ha hy hb hf =
     let hx_2 : x ≡ some_plain_written ms gs p bytes
-    = hx ∙ (ap (λ (k : List Manager). some_plain_written k fs p bytes) ha ∙ ap (λ (g : List FmmuSettings). some_plain_written ms g p bytes) hf) in
+    = hx ∙ (ap (λ (k : List SyncManager). some_plain_written k fs p bytes) ha ∙ ap (λ (g : List FmmuSettings). some_plain_written ms g p bytes) hf) in
     let hy_2 : y ≡ some_manager_written [] gs p bytes ms
-    = hy ∙ (ap (λ (k : List Manager). some_manager_written [] fs p bytes k) hb ∙ ap (λ (g : List FmmuSettings). some_manager_written [] g p bytes ms) hf) in
+    = hy ∙ (ap (λ (k : List SyncManager). some_manager_written [] fs p bytes k) hb ∙ ap (λ (g : List FmmuSettings). some_manager_written [] g p bytes ms) hf) in
     ap (λ (z : Bool). z || y) hx_2 ∙ (ap (λ (z : Bool). some_plain_written ms gs p bytes || z) hy_2 ∙ sym (some_written-is ms gs p bytes))

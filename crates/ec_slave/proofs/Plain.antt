@@ -8,7 +8,7 @@ use Rattle.ec_bits.proofs.AnyLaws.{any_below-alike, any_below_from, any_below_no
 use Rattle.ec_bits.proofs.BitLaws.{bit-overlay, overlay_alike, overlay_own}
 use Rattle.ec_regs.specs.Managers.{is_set}
 use Rattle.ec_regs.specs.Memory.{ram_end}
-use Rattle.ec_sync.specs.Manager.{Manager, may_read, may_write, no_manager}
+use Rattle.ec_sync.specs.SyncManager.{SyncManager, may_read, may_write, no_manager}
 use Rattle.ec_sync.specs.Governing.{governor, governs}
 use Rattle.ec_fmmu.specs.Applied.{Place, data_bit_for, inside_place, leads_into, touched_by_reading, touched_by_writing}
 use Rattle.ec_fmmu.specs.Areas.{Area, Spans}
@@ -25,7 +25,7 @@ use Rattle.ec_slave.proofs.Usual.{within_moved}
 -- ---- bytes of the area
 
 -- the byte of one of its bits is its own
-byte_free : (ms : List Manager) (start bits q : ℕ) → LiesFree ms start bits → within (8 * start) bits q ≡ true → governor ms (q / 8) ≡ None
+byte_free : (ms : List SyncManager) (start bits q : ℕ) → LiesFree ms start bits → within (8 * start) bits q ≡ true → governor ms (q / 8) ≡ None
 byte_free ms start bits q h w =
     let b = within_parts (8 * start) bits q w in
     let at : q / 8 ≡ start + (q / 8 - start) = let x = b.0 in omega (arith, x) in
@@ -122,7 +122,7 @@ some_written_plain s a p bytes h c = elim (cases_lt 0 a.outs) [
 -- ---- no manager is met
 
 -- no manager has a byte in its span that has no governor
-none_tests : (t : Manager → Bool) (k n : ℕ) (ms : List Manager) → position_from t k ms ≡ None → n < length ms → t (manager_at ms n) ≡ false
+none_tests : (t : SyncManager → Bool) (k n : ℕ) (ms : List SyncManager) → position_from t k ms ≡ None → n < length ms → t (manager_at ms n) ≡ false
 none_tests t k n [] e l = absurd (omega arith)
 none_tests t k zero (m ∷ ms) e l = elim (cases_Bool (t m)) [
   | inl y ↦ absurd (let f : Some k ≡ None = sym (if_true (t m) (Some k) (position_from t (k + 1) ms) y) ∙ e in cc)
@@ -134,14 +134,14 @@ none_tests t k (suc n) (m ∷ ms) e l = elim (cases_Bool (t m)) [
 ]
 
 -- where all that is touched has no governor, no manager's first byte is touched
-untouched : (ms : List Manager) (touched : ℕ → Bool) (n : ℕ) → n < length ms → is_set (manager_at ms n).settings ≡ true
+untouched : (ms : List SyncManager) (touched : ℕ → Bool) (n : ℕ) → n < length ms → is_set (manager_at ms n).settings ≡ true
     → ((b : ℕ) → touched b ≡ true → governor ms b ≡ None) → touched (manager_at ms n).settings.start ≡ false
 untouched ms touched n l set free =
-    let m : Manager = manager_at ms n in
+    let m : SyncManager = manager_at ms n in
     false_from_ne_true (touched m.settings.start) (λ y.
     let at : m.settings.start + 0 ≡ m.settings.start = omega arith in
     let first : governs m m.settings.start ≡ true = subst (λ (b : ℕ). governs m b ≡ true) at (governs-value m 0 set (let x = (set_lies_in_ram m.settings set).some in omega (arith, x))) in
-    both_ways (governs m m.settings.start) (none_tests (λ (x : Manager). governs x m.settings.start) 0 n ms (free m.settings.start y) l) first)
+    both_ways (governs m m.settings.start) (none_tests (λ (x : SyncManager). governs x m.settings.start) 0 n ms (free m.settings.start y) l) first)
 
 touched_in_free : (s : SlaveState) (a : Area) (p : Place) (b : ℕ) → IsPlain s a → touched_by_reading (fmmus s) p b ≡ true → governor s.managers b ≡ None
 touched_in_free s a p b h t =
@@ -170,11 +170,11 @@ touched_out_free s a p b h t =
 managers_plain : (s : SlaveState) (a : Area) (reading writing : Bool) (p : Place) (bytes : List ℕ) → IsPlain s a
     → logical_managers [] reading writing (fmmus s) p bytes s.managers ≡ s.managers
 managers_plain s a reading writing p bytes h =
-    let ms : List Manager = s.managers in
+    let ms : List SyncManager = s.managers in
     let same = length-logical_managers [] reading writing (fmmus s) p bytes ms in
     ext_get_or no_manager (logical_managers [] reading writing (fmmus s) p bytes ms) ms same (λ n l0.
     let l : n < length ms = omega (arith, same, l0) in
-    let m : Manager = manager_at ms n in
+    let m : SyncManager = manager_at ms n in
     let own = is_ungoverned (take n ms) in
     let unwritten : is_written_by (touched_by_writing (fmmus s) p) own m ≡ false = elim (cases_Bool (may_write m)) [
       | inl t ↦ and_right (may_write m) _ (and_left _ _ (and_left _ _ (untouched ms (touched_by_writing (fmmus s) p) n l (writable-set m t) (λ b y. touched_out_free s a p b h y))))

@@ -7,7 +7,7 @@ use Rattle.std.proofs.lemmas.List.{length-replicate}
 use Rattle.ec_bits.proofs.AnyLaws.{if_true, if_false, within_above, any_below_none}
 use Rattle.ec_regs.specs.Memory.{ram_start, ram_end, is_stored}
 use Rattle.ec_regs.specs.Managers.{is_set}
-use Rattle.ec_sync.specs.Manager.{Manager, empty_manager, may_write}
+use Rattle.ec_sync.specs.SyncManager.{SyncManager, empty_manager, may_write}
 use Rattle.ec_sync.specs.Governing.{governor}
 use Rattle.ec_al.specs.States.{state_number}
 use Rattle.ec_al.specs.declared.state.State.{State}
@@ -27,17 +27,17 @@ use Rattle.ec_slave.proofs.Windows.{from-outside, from-inside}
 -- ---- managers under a write of registers
 
 -- a datagram on registers alone writes no value of a manager
-registers-uncovered : (w : Window) (own : ℕ → Bool) (m : Manager) → w.from + length w.bytes ≤ ram_start → is_written_by (touches w) own m ≡ false
+registers-uncovered : (w : Window) (own : ℕ → Bool) (m : SyncManager) → w.from + length w.bytes ≤ ram_start → is_written_by (touches w) own m ≡ false
 registers-uncovered w own m l = elim (cases_Bool (is_set m.settings)) [
   | inl t ↦ and_right (may_write m) _ (and_left _ _ (and_left _ _ (within_above w.from (length w.bytes) m.settings.start (let x = set-start m.settings t in omega arith))))
   | inr f ↦ and_left (may_write m) _ (and_left _ _ (and_left _ _ f))
 ]
 
-one-set : (lower : List Manager) (w : Window) (n : ℕ) (m : Manager) → w.from + length w.bytes ≤ ram_start → physical_manager lower false true w n m ≡ set_by w n m
+one-set : (lower : List SyncManager) (w : Window) (n : ℕ) (m : SyncManager) → w.from + length w.bytes ≤ ram_start → physical_manager lower false true w n m ≡ set_by w n m
 unfolding physical_manager
-one-set lower w n m l = ap (λ (x : Manager). if is_configured w n then empty_manager (settings_written w n m) m.locked else x) (if_false _ _ _ (registers-uncovered w (is_ungoverned lower) m l))
+one-set lower w n m l = ap (λ (x : SyncManager). if is_configured w n then empty_manager (settings_written w n m) m.locked else x) (if_false _ _ _ (registers-uncovered w (is_ungoverned lower) m l))
 
-set-at : (lower ms : List Manager) (w : Window) (n k : ℕ) → w.from + length w.bytes ≤ ram_start → k < length ms
+set-at : (lower ms : List SyncManager) (w : Window) (n k : ℕ) → w.from + length w.bytes ≤ ram_start → k < length ms
     → manager_at (physical_managers lower false true w n ms) k ≡ set_by w (n + k) (manager_at ms k)
 set-at lower [] w n k l b = absurd (omega arith)
 set-at lower (m ∷ ms) w n zero l b = let e : n + 0 ≡ n = omega arith in one-set lower w n m l ∙ ap (λ (j : ℕ). set_by w j m) (sym e)
@@ -53,7 +53,7 @@ managers_aside w n h = any_below_none 8 (λ k. is_some (setting_for w n k)) (λ 
 
 -- ---- the slave
 
-kept-register : (ms : List Manager) (a : ℕ) → a < ram_start → is_stored a ≡ true → within 0x0800 32 a ≡ false → is_kept ms a ≡ true
+kept-register : (ms : List SyncManager) (a : ℕ) → a < ram_start → is_stored a ≡ true → within 0x0800 32 a ≡ false → is_kept ms a ≡ true
 unfolding is_kept
 kept-register ms a l s o = if_true _ _ _ (lt-ltb a ram_start l) ∙ and_from _ _ s (ap not o)
 

@@ -12,7 +12,7 @@ use Rattle.ec_frame.specs.declared.command.Command.TheVariants.{Nop, Aprd, Apwr,
 use Rattle.ec_frame.specs.Datagram.{Datagram, adp_of}
 use Rattle.ec_al.specs.Al.{Al, requesting, status_word}
 use Rattle.ec_sii.specs.Port.{Sii, address_written, addressed, byte_for, command_place, commanded, sii_byte, written}
-use Rattle.ec_sync.specs.Manager.{Manager, empty_manager, may_read, may_write, ring_written, shown}
+use Rattle.ec_sync.specs.SyncManager.{SyncManager, empty_manager, may_read, may_write, ring_written, shown}
 use Rattle.ec_slave.specs.Roles.{role_of, is_reading, is_writing}
 use Rattle.ec_slave.specs.State.{SlaveState, Met, fmmus, manager_at, station_of}
 use Rattle.ec_slave.specs.Sound.{IsSlave}
@@ -73,7 +73,7 @@ stored-in-memory a l =
     by false false false true k e = absurd (false≢true (sym e))
     by false false false false k e = refl
 
-kept-stored : (ms : List Manager) (a : ℕ) → a < 0x0800 → is_kept ms a ≡ is_stored a
+kept-stored : (ms : List SyncManager) (a : ℕ) → a < 0x0800 → is_kept ms a ≡ is_stored a
 unfolding is_kept
 kept-stored ms a l =
     let out : within 0x0800 32 a ≡ false = and_left _ _ (lt-leb 0x0800 a l) in
@@ -88,7 +88,7 @@ kept-stored ms a l =
 pub fmmu-stored : (a : ℕ) → 0x0600 ≤ a → a < 0x0640 → is_stored a ≡ true
 fmmu-stored a l h = or_right (within 0x0010 2 a) _ (or_right (within 0x0120 2 a) _ (or_left (within 0x0600 64 a) _ (within_true 0x0600 64 a l (omega arith))))
 
-pub fmmu-kept : (ms : List Manager) (a : ℕ) → 0x0600 ≤ a → a < 0x0640 → is_kept ms a ≡ true
+pub fmmu-kept : (ms : List SyncManager) (a : ℕ) → 0x0600 ≤ a → a < 0x0640 → is_kept ms a ≡ true
 fmmu-kept ms a l h = kept-stored ms a (omega arith) ∙ fmmu-stored a l h
 
 below-memory : (a : ℕ) → a < 0x0010 → in_memory a ≡ false
@@ -211,23 +211,23 @@ registers_after_write s d a h e l out =
 
 -- ---- managers
 
-each-at : (n : ℕ) (f : ℕ → Manager → Manager) (ms : List Manager) (k : ℕ) → k < length ms → manager_at (each_from n f ms) k ≡ f (n + k) (manager_at ms k)
+each-at : (n : ℕ) (f : ℕ → SyncManager → SyncManager) (ms : List SyncManager) (k : ℕ) → k < length ms → manager_at (each_from n f ms) k ≡ f (n + k) (manager_at ms k)
 each-at n f [] k l = absurd (omega arith)
 each-at n f (m ∷ ms) zero l = let z : n ≡ n + 0 = omega arith in ap (λ (i : ℕ). f i m) z
 each-at n f (m ∷ ms) (suc k) l =
     let e : n + 1 + k ≡ n + suc k = omega arith in
     each-at (n + 1) f ms k (omega arith) ∙ ap (λ (i : ℕ). f i (manager_at ms k)) e
 
-each-first : (f : ℕ → Manager → Manager) (ms : List Manager) (k : ℕ) → k < length ms → manager_at (each_from 0 f ms) k ≡ f k (manager_at ms k)
+each-first : (f : ℕ → SyncManager → SyncManager) (ms : List SyncManager) (k : ℕ) → k < length ms → manager_at (each_from 0 f ms) k ≡ f k (manager_at ms k)
 each-first f ms k l =
     let z : 0 + k ≡ k = omega arith in
     each-at 0 f ms k l ∙ ap (λ (i : ℕ). f i (manager_at ms k)) z
 
 -- a datagram on registers alone gets at no manager
-registers-apart : (w : Window) (m : Manager) → w.from + length w.bytes ≤ ram_start → is_set m.settings ≡ true → touches w m.settings.start ≡ false
+registers-apart : (w : Window) (m : SyncManager) → w.from + length w.bytes ≤ ram_start → is_set m.settings ≡ true → touches w m.settings.start ≡ false
 registers-apart w m l t = within_above w.from (length w.bytes) m.settings.start (let x = set-start m.settings t in omega arith)
 
-unaccessed : (reads writes : Bool) (w : Window) (own : ℕ → Bool) (value : ℕ → ℕ → List ℕ) (m : Manager) → w.from + length w.bytes ≤ ram_start
+unaccessed : (reads writes : Bool) (w : Window) (own : ℕ → Bool) (value : ℕ → ℕ → List ℕ) (m : SyncManager) → w.from + length w.bytes ≤ ram_start
     → manager_after reads writes (touches w) (touches w) own value m ≡ m
 unaccessed reads writes w own value m l = elim (cases_Bool (is_set m.settings)) [
   | inl t ↦
@@ -244,10 +244,10 @@ managers-written : (s : SlaveState) (reads : Bool) (w : Window) (n : ℕ) → n 
     ≡ (if is_configured w n then empty_manager (settings_written w n (manager_at s.managers n)) (manager_at s.managers n).locked else manager_at s.managers n)
 unfolding physical_after
 managers-written s reads w n i l =
-    let m : Manager = manager_at s.managers n in
-    ap (λ (ms : List Manager). manager_at ms n) (physical_against_all reads true w s.managers)
+    let m : SyncManager = manager_at s.managers n in
+    ap (λ (ms : List SyncManager). manager_at ms n) (physical_against_all reads true w s.managers)
     ∙ (each-first _ s.managers n i
-    ∙ ap (λ (x : Manager). if is_configured w n then empty_manager (settings_written w n m) m.locked else x)
+    ∙ ap (λ (x : SyncManager). if is_configured w n then empty_manager (settings_written w n m) m.locked else x)
     (unaccessed reads true w (governs_among s.managers n) (value_among s.managers w n) m l))
 
 pub managers_after_write : ManagersAfterWrite
@@ -277,7 +277,7 @@ logical_bit_by_bit = record {
 }
 
 -- what a written manager shows
-shown-written : (m : Manager) (v : List ℕ) → shown (ring_written m v) ≡ v
+shown-written : (m : SyncManager) (v : List ℕ) → shown (ring_written m v) ≡ v
 shown-written m v = by (is_mailbox m.settings) refl
   where
     by : (b : Bool) → is_mailbox m.settings ≡ b → shown (ring_written m v) ≡ v
@@ -289,13 +289,13 @@ value-written : (reading : Bool) (weight : ℕ) (s : SlaveState) (d : Datagram) 
     → IsValueWritten s d n
 unfolding meets_logically
 value-written reading weight s d n inside e written k l =
-    let m : Manager = manager_at s.managers n in
+    let m : SyncManager = manager_at s.managers n in
     let v : List ℕ = bits_among s.managers (fmmus s) (place_of d) d.data_bytes n m.settings.start m.settings.length in
     let after : manager_at (slave_met s d).managers n ≡ ring_written m v
     = ap (λ (x : Met). manager_at x.slave.managers n) e
-    ∙ (ap (λ (ms : List Manager). manager_at ms n) (logical_against_all reading true (fmmus s) (place_of d) d.data_bytes s.managers)
+    ∙ (ap (λ (ms : List SyncManager). manager_at ms n) (logical_against_all reading true (fmmus s) (place_of d) d.data_bytes s.managers)
     ∙ (each-first _ s.managers n inside ∙ if_true _ _ _ written)) in
-    ap (λ (x : Manager). bit (shown x) k) after
+    ap (λ (x : SyncManager). bit (shown x) k) after
     ∙ (ap (λ (xs : List ℕ). bit xs k) (shown-written m v)
     ∙ (bit-overlay (zeros m.settings.length) _ k (omega (arith, length-replicate {A = ℕ} m.settings.length 0, l))
     ∙ ap (λ (b : Bool). unwrap_or (only_if (governs_among s.managers n ((8 * m.settings.start + k) / 8)) (brought (fmmus s) (place_of d) d.data_bytes (8 * m.settings.start + k))) b)

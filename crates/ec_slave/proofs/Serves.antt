@@ -2,8 +2,8 @@
 use Rattle.std.proofs.Common.{ℕ, zero, suc, ◌+◌, ◌*◌, ◌≡◌, ◌&&◌, not, Bool, true, false, Option, Some, None, refl, sym, ◌∙◌, ap, if◌then◌else◌, List, [], ◌∷◌, map, get_or, slice_set, is_some}
 use Rattle.ec_bits.proofs.AnyLaws.{if_false}
 use Rattle.ec_sync.specs.Buffer.{Buffer}
-use Rattle.ec_regs.specs.declared.manager.ManagerSettings.{ManagerSettings}
-use Rattle.ec_sync.specs.Manager.{Manager, message_taken, message_put, message_in, zeros_published}
+use Rattle.ec_regs.specs.declared.manager.SyncManagerSettings.{SyncManagerSettings}
+use Rattle.ec_sync.specs.SyncManager.{SyncManager, message_taken, message_put, message_in, zeros_published}
 use Rattle.ec_al.specs.declared.state.State.{State}
 use Rattle.ec_al.specs.declared.state.State.TheVariants.{Init, PreOp, SafeOp, Op}
 use Rattle.ec_al.specs.Al.{Al, decided, stepped}
@@ -50,49 +50,49 @@ rests_quietly s q =
 -- ---- one part of each manager
 
 -- a part that the new manager has like the old one is like before in all of them
-set-alike : {X : Type 0} (f : Manager → X) (ms : List Manager) (k : ℕ) (m : Manager) → f m ≡ f (manager_at ms k) → (n : ℕ) → f (manager_at (slice_set ms k m) n) ≡ f (manager_at ms n)
+set-alike : {X : Type 0} (f : SyncManager → X) (ms : List SyncManager) (k : ℕ) (m : SyncManager) → f m ≡ f (manager_at ms k) → (n : ℕ) → f (manager_at (slice_set ms k m) n) ≡ f (manager_at ms n)
 set-alike f [] k m e n = refl
 set-alike f (x ∷ ms) zero m e zero = e
 set-alike f (x ∷ ms) zero m e (suc n) = refl
 set-alike f (x ∷ ms) (suc k) m e zero = refl
 set-alike f (x ∷ ms) (suc k) m e (suc n) = set-alike f ms k m e n
 
-map-alike : (ms : List Manager) (n : ℕ) → (manager_at (map unlocked_empty ms) n).settings ≡ (manager_at ms n).settings
+map-alike : (ms : List SyncManager) (n : ℕ) → (manager_at (map unlocked_empty ms) n).settings ≡ (manager_at ms n).settings
 map-alike [] n = refl
 map-alike (x ∷ ms) zero = refl
 map-alike (x ∷ ms) (suc n) = map-alike ms n
 
-either-settings : (b : Bool) (x y : Manager) (w : ManagerSettings) → x.settings ≡ w → y.settings ≡ w → (if b then x else y).settings ≡ w
+either-settings : (b : Bool) (x y : SyncManager) (w : SyncManagerSettings) → x.settings ≡ w → y.settings ≡ w → (if b then x else y).settings ≡ w
 either-settings true x y w p q = p
 either-settings false x y w p q = q
 
-either-buffer : (b : Bool) (x y : Manager) (w : Buffer) → x.buffer ≡ w → y.buffer ≡ w → (if b then x else y).buffer ≡ w
+either-buffer : (b : Bool) (x y : SyncManager) (w : Buffer) → x.buffer ≡ w → y.buffer ≡ w → (if b then x else y).buffer ≡ w
 either-buffer true x y w p q = p
 either-buffer false x y w p q = q
 
-taken-settings : (m : Manager) → (message_taken m).settings ≡ m.settings
+taken-settings : (m : SyncManager) → (message_taken m).settings ≡ m.settings
 taken-settings m = either-settings (is_some (message_in m)) (record m { mail = None }) m m.settings refl refl
 
-taken-buffer : (m : Manager) → (message_taken m).buffer ≡ m.buffer
+taken-buffer : (m : SyncManager) → (message_taken m).buffer ≡ m.buffer
 taken-buffer m = either-buffer (is_some (message_in m)) (record m { mail = None }) m m.buffer refl refl
 
-put-settings : (m : Manager) (bytes : List ℕ) → (message_put m bytes).settings ≡ m.settings
+put-settings : (m : SyncManager) (bytes : List ℕ) → (message_put m bytes).settings ≡ m.settings
 put-settings m bytes = either-settings _ _ m m.settings refl refl
 
-put-buffer : (m : Manager) (bytes : List ℕ) → (message_put m bytes).buffer ≡ m.buffer
+put-buffer : (m : SyncManager) (bytes : List ℕ) → (message_put m bytes).buffer ≡ m.buffer
 put-buffer m bytes = either-buffer _ _ m m.buffer refl refl
 
-either-managers : (b : Bool) (xs ys : List Manager) (w : ManagerSettings) (n : ℕ) → (manager_at xs n).settings ≡ w → (manager_at ys n).settings ≡ w → (manager_at (if b then xs else ys) n).settings ≡ w
+either-managers : (b : Bool) (xs ys : List SyncManager) (w : SyncManagerSettings) (n : ℕ) → (manager_at xs n).settings ≡ w → (manager_at ys n).settings ≡ w → (manager_at (if b then xs else ys) n).settings ≡ w
 either-managers true xs ys w n p q = p
 either-managers false xs ys w n p q = q
 
-entered-settings : (old new : State) (ms : List Manager) (n : ℕ) → (manager_at (managers_entered old new ms) n).settings ≡ (manager_at ms n).settings
+entered-settings : (old new : State) (ms : List SyncManager) (n : ℕ) → (manager_at (managers_entered old new ms) n).settings ≡ (manager_at ms n).settings
 entered-settings old new ms n =
     either-managers (is_init new && not (is_init old)) (map unlocked_empty ms) _ _ n (map-alike ms n)
     (either-managers (is_safeop new && is_preop old) (slice_set ms 3 (zeros_published (manager_at ms 3))) ms _ n
-    (set-alike (λ (m : Manager). m.settings) ms 3 (zeros_published (manager_at ms 3)) refl n) refl)
+    (set-alike (λ (m : SyncManager). m.settings) ms 3 (zeros_published (manager_at ms 3)) refl n) refl)
 
-entered-running : (old new : State) (ms : List Manager) → is_running old ≡ true → is_running new ≡ true → managers_entered old new ms ≡ ms
+entered-running : (old new : State) (ms : List SyncManager) → is_running old ≡ true → is_running new ≡ true → managers_entered old new ms ≡ ms
 entered-running Init new ms a b = absurd (let f : false ≡ true = a in cc)
 entered-running PreOp new ms a b = absurd (let f : false ≡ true = a in cc)
 entered-running SafeOp Init ms a b = absurd (let f : false ≡ true = b in cc)
@@ -122,18 +122,18 @@ put-alike : (s : SlaveState) (bytes : List ℕ) (n : ℕ) → (let t : SlaveStat
     × ((manager_at (slice_set t.managers 1 (message_put (manager_at t.managers 1) bytes)) n).buffer ≡ (manager_at s.managers n).buffer))
 put-alike s bytes n =
     let t : SlaveState = with_manager s 0 (message_taken (manager_at s.managers 0)) in (
-      set-alike (λ (m : Manager). m.settings) t.managers 1 _ (put-settings (manager_at t.managers 1) _) n
-          ∙ set-alike (λ (m : Manager). m.settings) s.managers 0 (message_taken (manager_at s.managers 0)) (taken-settings (manager_at s.managers 0)) n,
-      set-alike (λ (m : Manager). m.buffer) t.managers 1 _ (put-buffer (manager_at t.managers 1) _) n
-          ∙ set-alike (λ (m : Manager). m.buffer) s.managers 0 (message_taken (manager_at s.managers 0)) (taken-buffer (manager_at s.managers 0)) n,
+      set-alike (λ (m : SyncManager). m.settings) t.managers 1 _ (put-settings (manager_at t.managers 1) _) n
+          ∙ set-alike (λ (m : SyncManager). m.settings) s.managers 0 (message_taken (manager_at s.managers 0)) (taken-settings (manager_at s.managers 0)) n,
+      set-alike (λ (m : SyncManager). m.buffer) t.managers 1 _ (put-buffer (manager_at t.managers 1) _) n
+          ∙ set-alike (λ (m : SyncManager). m.buffer) s.managers 0 (message_taken (manager_at s.managers 0)) (taken-buffer (manager_at s.managers 0)) n,
     )
 
 replied-kept : (s : SlaveState) (f : Option (List ℕ)) (o : Option Message) → Kept s (reply_given (with_manager s 0 (message_taken (manager_at s.managers 0))) f o)
 replied-kept s None None = record {
   al = refl;
   memory = refl;
-  settings = set-alike (λ (m : Manager). m.settings) s.managers 0 (message_taken (manager_at s.managers 0)) (taken-settings (manager_at s.managers 0));
-  buffers = set-alike (λ (m : Manager). m.buffer) s.managers 0 (message_taken (manager_at s.managers 0)) (taken-buffer (manager_at s.managers 0));
+  settings = set-alike (λ (m : SyncManager). m.settings) s.managers 0 (message_taken (manager_at s.managers 0)) (taken-settings (manager_at s.managers 0));
+  buffers = set-alike (λ (m : SyncManager). m.buffer) s.managers 0 (message_taken (manager_at s.managers 0)) (taken-buffer (manager_at s.managers 0));
   kind = refl;
   identity = refl;
   link = refl;
@@ -248,7 +248,7 @@ settings_kept s =
       memory = memory;
       station = ap (λ (x : List ℕ). get_or x 0x0010 0 + 256 * get_or x 0x0011 0) memory;
       fmmus = ap fmmus_of memory;
-      settings = λ n. k.settings n ∙ (ap (λ (ms : List Manager). (manager_at ms n).settings) q.0 ∙ decided-settings s n);
+      settings = λ n. k.settings n ∙ (ap (λ (ms : List SyncManager). (manager_at ms n).settings) q.0 ∙ decided-settings s n);
       kind = k.kind ∙ (q.3 ∙ (decided-same s).kind);
       identity = k.identity ∙ (q.4 ∙ (decided-same s).identity);
       link = k.link ∙ (q.5 ∙ decided-link s);
@@ -260,4 +260,4 @@ buffers_kept s before after n =
     let d : SlaveState = request_decided s in
     let running : is_running d.al.state ≡ true = ap (λ (a : Al). is_running a.state) (sym (served-al s)) ∙ after in
     (message-kept (read_finished d)).buffers n
-    ∙ ap (λ (ms : List Manager). (manager_at ms n).buffer) ((read-managers d).0 ∙ decided-managers s before running)
+    ∙ ap (λ (ms : List SyncManager). (manager_at ms n).buffer) ((read-managers d).0 ∙ decided-managers s before running)

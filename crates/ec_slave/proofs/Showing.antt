@@ -4,11 +4,11 @@ use Rattle.std.specs.Prelude.{nat_lt, slice_index, option_and_then}
 use Rattle.std.proofs.lemmas.Bool.{cases_Bool, le-ltb}
 use Rattle.ec_bits.specs.Bits.{bit}
 use Rattle.ec_bits.proofs.AnyLaws.{if_true, if_false}
-use Rattle.ec_regs.specs.declared.slave_type.Identity.{Identity}
+use Rattle.ec_device.specs.declared.slave_type.Identity.{Identity}
 use Rattle.ec_regs.specs.Memory.{ram_start, ram_end}
-use Rattle.ec_regs.specs.Types.{SlaveKind}
+use Rattle.ec_device.specs.Types.{SlaveKind}
 use Rattle.ec_sync.specs.Buffer.{Got}
-use Rattle.ec_sync.specs.Manager.{Manager, no_manager, may_read, shown, app_got}
+use Rattle.ec_sync.specs.SyncManager.{SyncManager, no_manager, may_read, shown, app_got}
 use Rattle.ec_sync.specs.Governing.{covers, governor, in_first_buffer}
 use Rattle.ec_sync.specs.Runs.{Operation, RingRead, AppGet, run, shown_by, viewed}
 use Rattle.ec_sync.proofs.WholeValues.{whole_values, view_bytes}
@@ -34,7 +34,7 @@ or_rest true b f e = absurd (let g : true ≡ false = f in cc)
 -- ---- what a read brings
 
 -- a read that is granted is shown what the manager shows
-granted : (m : Manager) (covered : Bool) → (covered && may_read m) ≡ true → shown_by m (RingRead covered) ≡ Some (shown m)
+granted : (m : SyncManager) (covered : Bool) → (covered && may_read m) ≡ true → shown_by m (RingRead covered) ≡ Some (shown m)
 granted m covered e = if_true _ _ _ e
 
 byte_shown : (s : SlaveState) (w : Window) (k n x : ℕ) → ram_start ≤ w.from + k → governor s.managers (w.from + k) ≡ Some n
@@ -79,7 +79,7 @@ bit_shown s p i q n x t g e =
     ]
 
 -- what the application gets is of the value that it views
-of_view : (m : Manager) (i b : ℕ) (o : Option (List ℕ)) → viewed m i ≡ o → option_map (λ v. slice_index v i) o ≡ Some b
+of_view : (m : SyncManager) (i b : ℕ) (o : Option (List ℕ)) → viewed m i ≡ o → option_map (λ v. slice_index v i) o ≡ Some b
     → IsShown m (AppGet i) (λ value. slice_index value i) b
 of_view m i b None is e = absurd (let none : None ≡ Some b = e in cc)
 of_view m i b (Some v) is e = record { value = v; shown = is; found = sym (some_same _ _ e) }
@@ -99,17 +99,17 @@ reads_show_the_run = record { byte = byte_shown; bit = bit_shown; got = got_show
 -- ---- whatever happens
 
 -- a run leads there from a new manager
-record Led (m : Manager) : Type 0 where
+record Led (m : SyncManager) : Type 0 where
   operations : List Operation
   leads : run no_manager operations ≡ m
 
 new_led : Led no_manager
 new_led = record { operations = []; leads = refl }
 
-further : (kind : Operation → Bool) (most : ℕ) (m after : Manager) → Led m → IsRunTo kind most m after → Led after
+further : (kind : Operation → Bool) (most : ℕ) (m after : SyncManager) → Led m → IsRunTo kind most m after → Led after
 further kind most m after l r = record {
   operations = l.operations ++ r.operations;
-  leads = run-append no_manager l.operations r.operations ∙ (ap (λ (x : Manager). run x r.operations) l.leads ∙ r.leads);
+  leads = run-append no_manager l.operations r.operations ∙ (ap (λ (x : SyncManager). run x r.operations) l.leads ∙ r.leads);
 }
 
 abbrev AreLed : SlaveState → Type 0
@@ -135,11 +135,11 @@ all_led : (s : SlaveState) (hs : List Happening) → AreLed s → AreLed (after_
 all_led s [] l = l
 all_led s (h ∷ hs) l = all_led (after_one s h) hs (one_led s h l)
 
-shows_whole : (m : Manager) → Led m → ShowsWholeValues m
+shows_whole : (m : SyncManager) → Led m → ShowsWholeValues m
 shows_whole m l = record {
   operations = l.operations;
   leads = l.leads;
-  whole = λ o value e. whole_values l.operations o value (ap (λ (x : Manager). shown_by x o) l.leads ∙ e);
+  whole = λ o value e. whole_values l.operations o value (ap (λ (x : SyncManager). shown_by x o) l.leads ∙ e);
 }
 
 pub slaves_show_whole_values : SlavesShowWholeValues

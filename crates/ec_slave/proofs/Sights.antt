@@ -8,7 +8,7 @@ use Rattle.ec_bits.proofs.BitLaws.{overlay_alike}
 use Rattle.ec_bits.proofs.AnyLaws.{any_below-alike, if_true, if_false, within_parts}
 use Rattle.ec_regs.specs.declared.fmmu.FmmuSettings.{FmmuSettings}
 use Rattle.ec_regs.specs.Managers.{is_set, span}
-use Rattle.ec_sync.specs.Manager.{Manager, may_read}
+use Rattle.ec_sync.specs.SyncManager.{SyncManager, may_read}
 use Rattle.ec_sync.specs.Governing.{governor, governs, covers}
 use Rattle.ec_fmmu.specs.Sets.{target, readers}
 use Rattle.ec_fmmu.specs.Applied.{Place, read_told, touched_by_reading}
@@ -23,7 +23,7 @@ some-same : (k n : ℕ) → Some k ≡ Some n → k ≡ n
 some-same k n e = cc
 
 -- the manager that the search finds passes the test
-passes : (t : Manager → Bool) (k : ℕ) (ms : List Manager) (n : ℕ) → position_from t k ms ≡ Some n → (i : ℕ) × (n ≡ k + i) × (t (manager_at ms i) ≡ true)
+passes : (t : SyncManager → Bool) (k : ℕ) (ms : List SyncManager) (n : ℕ) → position_from t k ms ≡ Some n → (i : ℕ) × (n ≡ k + i) × (t (manager_at ms i) ≡ true)
 passes t k [] n e = absurd (let x : None ≡ Some n = e in cc)
 passes t k (m ∷ ms) n e = elim (cases_Bool (t m)) [
   | inl h ↦
@@ -37,20 +37,20 @@ passes t k (m ∷ ms) n e = elim (cases_Bool (t m)) [
 
 -- a byte's governor begins at the byte or before it
 -- the governor of a byte has it in its span
-pub governor-has : (ms : List Manager) (a n : ℕ) → governor ms a ≡ Some n → governs (manager_at ms n) a ≡ true
+pub governor-has : (ms : List SyncManager) (a n : ℕ) → governor ms a ≡ Some n → governs (manager_at ms n) a ≡ true
 governor-has ms a n e =
     let r = passes (λ m. governs m a) 0 ms n e in
     let at : n ≡ 0 + r.0 = r.1 in
     let same : r.0 ≡ n = omega arith in
     subst (λ (i : ℕ). governs (manager_at ms i) a ≡ true) same r.2
 
-pub governor-start : (ms : List Manager) (a n : ℕ) → governor ms a ≡ Some n → (manager_at ms n).settings.start ≤ a
+pub governor-start : (ms : List SyncManager) (a n : ℕ) → governor ms a ≡ Some n → (manager_at ms n).settings.start ≤ a
 governor-start ms a n e =
     let g : governs (manager_at ms n) a ≡ true = governor-has ms a n e in
-    let m : Manager = manager_at ms n in
+    let m : SyncManager = manager_at ms n in
     (within_parts m.settings.start (span m.settings) a (and_parts (is_set m.settings) _ g).1).0
 
-pub governor-below : (ms : List Manager) (a n : ℕ) → governor ms a ≡ Some n → n < length ms
+pub governor-below : (ms : List SyncManager) (a n : ℕ) → governor ms a ≡ Some n → n < length ms
 governor-below ms a n e =
     let b : n < 0 + length ms = position_from-below (λ m. governs m a) 0 ms n e in
     omega arith
@@ -72,10 +72,10 @@ bit-byte xs start q h =
     left ∙ sym right
 
 -- the truth values say of each manager whether the datagram gets at it
-pub record Readable (ms : List Manager) (fs : List FmmuSettings) (p : Place) (readable : List Bool) : Type 0 where
+pub record Readable (ms : List SyncManager) (fs : List FmmuSettings) (p : Place) (readable : List Bool) : Type 0 where
   pub each : (n : ℕ) → n < length ms → get_or readable n false ≡ (covers (touched_by_reading fs p) (manager_at ms n) && may_read (manager_at ms n))
 
-pub four : (ms : List Manager) (fs : List FmmuSettings) (p : Place) (a b c d : Bool) → length ms ≡ 4
+pub four : (ms : List SyncManager) (fs : List FmmuSettings) (p : Place) (a b c d : Bool) → length ms ≡ 4
     → a ≡ (covers (touched_by_reading fs p) (manager_at ms 0) && may_read (manager_at ms 0))
     → b ≡ (covers (touched_by_reading fs p) (manager_at ms 1) && may_read (manager_at ms 1))
     → c ≡ (covers (touched_by_reading fs p) (manager_at ms 2) && may_read (manager_at ms 2))
@@ -90,10 +90,10 @@ four ms fs p a b c d l ea eb ec ed = record { each = by_number }
     by_number (suc (suc (suc zero))) h = ed
     by_number (suc (suc (suc (suc n)))) h = absurd (omega arith)
 
-abbrev told_under : List ℕ → List Manager → (ℕ → Bool) → ℕ → Option ℕ → Option Bool
+abbrev told_under : List ℕ → List SyncManager → (ℕ → Bool) → ℕ → Option ℕ → Option Bool
 told_under memory ms touched q o = if reads_under ms touched (q / 8) o then Some (shown_under memory ms q o) else None
 
-pub seen-readable : (memory : List ℕ) (ms : List Manager) (readable : List Bool) (fs : List FmmuSettings) (p : Place) (q : ℕ) → Readable ms fs p readable
+pub seen-readable : (memory : List ℕ) (ms : List SyncManager) (readable : List Bool) (fs : List FmmuSettings) (p : Place) (q : ℕ) → Readable ms fs p readable
     → seen_bit memory ms readable q ≡ readable_bit memory ms fs p q
 seen-readable memory ms readable fs p q r = elim (none_or_some (governor ms (q / 8))) [
   | inl none ↦ ap (seen_under memory ms readable q) none ∙ sym (ap (told_under memory ms (touched_by_reading fs p) q) none)
@@ -109,17 +109,17 @@ pub and_then-alike : (f g : ℕ → Option Bool) (o : Option ℕ) → ((q : ℕ)
 and_then-alike f g None h = refl
 and_then-alike f g (Some q) h = h q
 
-told-read : (memory : List ℕ) (ms : List Manager) (readable : List Bool) (fs : List FmmuSettings) (p : Place) (i : ℕ) → Readable ms fs p readable
+told-read : (memory : List ℕ) (ms : List SyncManager) (readable : List Bool) (fs : List FmmuSettings) (p : Place) (i : ℕ) → Readable ms fs p readable
     → read_told fs (seen_bit memory ms readable) p.from i ≡ read_bit memory ms fs p i
 told-read memory ms readable fs p i r =
     and_then-alike (seen_bit memory ms readable) (readable_bit memory ms fs p) (target (readers fs) (p.from + i)) (λ q. seen-readable memory ms readable fs p q r)
 
-pub overlay-read : (bytes memory : List ℕ) (ms : List Manager) (readable : List Bool) (fs : List FmmuSettings) (p : Place) → Readable ms fs p readable
+pub overlay-read : (bytes memory : List ℕ) (ms : List SyncManager) (readable : List Bool) (fs : List FmmuSettings) (p : Place) → Readable ms fs p readable
     → overlay bytes (read_told fs (seen_bit memory ms readable) p.from) ≡ overlay bytes (read_bit memory ms fs p)
 overlay-read bytes memory ms readable fs p r =
     overlay_alike bytes _ _ (λ i l. ap (λ o. unwrap_or o (bit bytes i)) (told-read memory ms readable fs p i r))
 
-pub any-read : (memory : List ℕ) (ms : List Manager) (readable : List Bool) (fs : List FmmuSettings) (p : Place) → Readable ms fs p readable
+pub any-read : (memory : List ℕ) (ms : List SyncManager) (readable : List Bool) (fs : List FmmuSettings) (p : Place) → Readable ms fs p readable
     → any_below p.bits (λ i. is_some (read_told fs (seen_bit memory ms readable) p.from i)) ≡ some_read memory ms fs p
 any-read memory ms readable fs p r =
     any_below-alike p.bits _ _ (λ i l. ap is_some (told-read memory ms readable fs p i r))

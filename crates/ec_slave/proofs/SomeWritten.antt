@@ -4,10 +4,10 @@ use Rattle.std.proofs.lemmas.Bool.{cases_Bool, and_parts, and_from, or_left, or_
 use Rattle.std.proofs.lemmas.List.{append-nil}
 use Rattle.ec_bits.proofs.AnyLaws.{any_below_from, any_below_some, if_true, if_false}
 use Rattle.ec_regs.specs.declared.fmmu.FmmuSettings.{FmmuSettings}
-use Rattle.ec_regs.specs.declared.manager.ManagerSettings.{ManagerSettings}
+use Rattle.ec_regs.specs.declared.manager.SyncManagerSettings.{SyncManagerSettings}
 use Rattle.ec_regs.specs.Memory.{ram_start, ram_end}
-use Rattle.ec_regs.specs.Managers.{is_set, is_mailbox, is_buffered, is_ring_written, is_ring_read, span}
-use Rattle.ec_sync.specs.Manager.{Manager, may_write}
+use Rattle.ec_regs.specs.Managers.{is_set, is_mailbox, is_buffered, is_master_written, is_master_read, span}
+use Rattle.ec_sync.specs.SyncManager.{SyncManager, may_write}
 use Rattle.ec_sync.specs.Governing.{governor, governs, covers, in_first_buffer}
 use Rattle.ec_fmmu.specs.Applied.{Place, touched_by_writing}
 use Rattle.ec_fmmu.proofs.PairLaws.{none_or_some}
@@ -29,10 +29,10 @@ same_truth a b f g = elim (cases_Bool a) [
 ]
 
 -- what some_manager_written says of one manager
-abbrev IsWrittenAt : List Manager → List FmmuSettings → Place → List ℕ → Manager → Type 0
+abbrev IsWrittenAt : List SyncManager → List FmmuSettings → Place → List ℕ → SyncManager → Type 0
 IsWrittenAt lower fs p bytes m = (covers (touched_by_writing fs p) m ≡ true) × (may_write m ≡ true) × (some_brought lower fs p bytes m.settings.start m.settings.length ≡ true)
 
-written-there : (lower ms : List Manager) (fs : List FmmuSettings) (p : Place) (bytes : List ℕ) (n : ℕ) → n < length ms
+written-there : (lower ms : List SyncManager) (fs : List FmmuSettings) (p : Place) (bytes : List ℕ) (n : ℕ) → n < length ms
     → IsWrittenAt (lower ++ take n ms) fs p bytes (manager_at ms n) → some_manager_written lower fs p bytes ms ≡ true
 written-there lower [] fs p bytes n l h = absurd (omega arith)
 written-there lower (m ∷ ms) fs p bytes zero l h =
@@ -44,14 +44,14 @@ written-there lower (m ∷ ms) fs p bytes (suc n) l h =
     = ap (λ xs. some_brought xs fs p bytes (manager_at ms n).settings.start (manager_at ms n).settings.length) (append_assoc lower (m ∷ []) (take n ms)) ∙ h.2 in
     or_right _ _ (written-there (lower ++ m ∷ []) ms fs p bytes n (omega arith) (h.0, h.1, b))
 
-abbrev WrittenSomewhere : List Manager → List FmmuSettings → Place → List ℕ → List Manager → Type 0
+abbrev WrittenSomewhere : List SyncManager → List FmmuSettings → Place → List ℕ → List SyncManager → Type 0
 WrittenSomewhere lower fs p bytes ms = (n : ℕ) × (n < length ms) × IsWrittenAt (lower ++ take n ms) fs p bytes (manager_at ms n)
 
 pub or-cases : (a b : Bool) → (a || b) ≡ true → (a ≡ true) ⊎ (b ≡ true)
 or-cases true b e = inl refl
 or-cases false b e = inr e
 
-where-written : (lower ms : List Manager) (fs : List FmmuSettings) (p : Place) (bytes : List ℕ) → some_manager_written lower fs p bytes ms ≡ true → WrittenSomewhere lower fs p bytes ms
+where-written : (lower ms : List SyncManager) (fs : List FmmuSettings) (p : Place) (bytes : List ℕ) → some_manager_written lower fs p bytes ms ≡ true → WrittenSomewhere lower fs p bytes ms
 where-written lower [] fs p bytes e = absurd (false≢true e)
 where-written lower (m ∷ ms) fs p bytes e = elim (or-cases _ _ e) [
   | inl t ↦
@@ -68,12 +68,12 @@ where-written lower (m ∷ ms) fs p bytes e = elim (or-cases _ _ e) [
 ]
 
 -- a set manager's value lies in the RAM
-value-end : (m : ManagerSettings) → is_set m ≡ true → m.start + m.length ≤ ram_end
+value-end : (m : SyncManagerSettings) → is_set m ≡ true → m.start + m.length ≤ ram_end
 unfolding is_set
 value-end m h =
     let a = (and_parts (m.activate % 2 == 1) _ h).1 in
     let b = (and_parts (is_mailbox m || is_buffered m) _ a).1 in
-    let c = (and_parts (is_ring_written m || is_ring_read m) _ b).1 in
+    let c = (and_parts (is_master_written m || is_master_read m) _ b).1 in
     let d = (and_parts (nat_lt 0 m.length) _ c).1 in
     let e = leb-true (m.start + span m) ram_end (and_parts (nat_le ram_start m.start) _ d).1 in
     elim (cases_Bool (is_mailbox m)) [
@@ -86,7 +86,7 @@ if-some true o e = (refl, e)
 if-some false o e = absurd (false≢true e)
 
 -- a written bit is plain, or in a manager's value
-written-somewhere : (ms : List Manager) (fs : List FmmuSettings) (p : Place) (bytes : List ℕ) (q : ℕ) → q < 8 * ram_end → is_some (written_bit ms fs p bytes q) ≡ true
+written-somewhere : (ms : List SyncManager) (fs : List FmmuSettings) (p : Place) (bytes : List ℕ) (q : ℕ) → q < 8 * ram_end → is_some (written_bit ms fs p bytes q) ≡ true
     → (some_plain_written ms fs p bytes || some_manager_written [] fs p bytes ms) ≡ true
 written-somewhere ms fs p bytes q l e =
     let parts = if-some _ (brought fs p bytes q) e in
@@ -96,7 +96,7 @@ written-somewhere ms fs p bytes q l e =
           or_left _ _ (any_below_from (8 * ram_end) (λ i. is_some (plain_bit ms fs p bytes i)) q l plain)
       | inr some ↦
           let n : ℕ = some.0 in
-          let m : Manager = manager_at ms n in
+          let m : SyncManager = manager_at ms n in
           let g : governor ms (q / 8) ≡ Some n = some.1 in
           let may : (in_first_buffer m (q / 8) && (covers (touched_by_writing fs p) m && may_write m)) ≡ true
           = ap (writes_under ms (touched_by_writing fs p) (q / 8)) (sym g) ∙ parts.0 in
@@ -114,7 +114,7 @@ written-somewhere ms fs p bytes q l e =
           (b.0, b.1, any_below_from (8 * m.settings.length) (λ i. is_some (plain_bit (take n ms) fs p bytes (8 * m.settings.start + i))) k (omega arith) there))
     ]
 
-plain-written : (ms : List Manager) (fs : List FmmuSettings) (p : Place) (bytes : List ℕ) → some_plain_written ms fs p bytes ≡ true → some_written ms fs p bytes ≡ true
+plain-written : (ms : List SyncManager) (fs : List FmmuSettings) (p : Place) (bytes : List ℕ) → some_plain_written ms fs p bytes ≡ true → some_written ms fs p bytes ≡ true
 plain-written ms fs p bytes e =
     let r = any_below_some (8 * ram_end) (λ i. is_some (plain_bit ms fs p bytes i)) e in
     let q : ℕ = r.0 in
@@ -126,11 +126,11 @@ plain-written ms fs p bytes e =
       | inr some ↦ absurd (false≢true (sym (ap is_none some.1) ∙ parts.0))
     ]
 
-manager-written : (ms : List Manager) (fs : List FmmuSettings) (p : Place) (bytes : List ℕ) → some_manager_written [] fs p bytes ms ≡ true → some_written ms fs p bytes ≡ true
+manager-written : (ms : List SyncManager) (fs : List FmmuSettings) (p : Place) (bytes : List ℕ) → some_manager_written [] fs p bytes ms ≡ true → some_written ms fs p bytes ≡ true
 manager-written ms fs p bytes e =
     let w = where-written [] ms fs p bytes e in
     let n : ℕ = w.0 in
-    let m : Manager = manager_at ms n in
+    let m : SyncManager = manager_at ms n in
     let at = w.2 in
     let r = any_below_some (8 * m.settings.length) (λ i. is_some (plain_bit (take n ms) fs p bytes (8 * m.settings.start + i))) at.2 in
     let k : ℕ = r.0 in
@@ -144,14 +144,14 @@ manager-written ms fs p bytes e =
       | inr some ↦ absurd (false≢true (sym (ap is_none some.1) ∙ parts.0))
     ] in
     let z : 0 + n ≡ n = omega arith in
-    let g : governor ms (q / 8) ≡ Some n = position_from-first (λ (x : Manager). governs x (q / 8)) 0 n ms w.1 low spans ∙ ap (λ i. Some i) z in
+    let g : governor ms (q / 8) ≡ Some n = position_from-first (λ (x : SyncManager). governs x (q / 8)) 0 n ms w.1 low spans ∙ ap (λ i. Some i) z in
     let end : m.settings.start + m.settings.length ≤ ram_end = value-end m.settings (writable-set m at.1) in
     let front : in_first_buffer m (q / 8) ≡ true = lt-ltb _ _ (omega arith) in
     let may : writes_under ms (touched_by_writing fs p) (q / 8) (governor ms (q / 8)) ≡ true
     = ap (writes_under ms (touched_by_writing fs p) (q / 8)) g ∙ and_from _ _ front (and_from _ _ at.0 at.1) in
     any_below_from (8 * ram_end) (λ i. is_some (written_bit ms fs p bytes i)) q (omega arith) (ap is_some (if_true _ _ _ may) ∙ parts.1)
 
-pub some_written-is : (ms : List Manager) (fs : List FmmuSettings) (p : Place) (bytes : List ℕ)
+pub some_written-is : (ms : List SyncManager) (fs : List FmmuSettings) (p : Place) (bytes : List ℕ)
     → some_written ms fs p bytes ≡ (some_plain_written ms fs p bytes || some_manager_written [] fs p bytes ms)
 some_written-is ms fs p bytes = same_truth _ _
     (λ e. let r = any_below_some (8 * ram_end) (λ i. is_some (written_bit ms fs p bytes i)) e in written-somewhere ms fs p bytes r.0 r.1 r.2)

@@ -7,7 +7,7 @@ use Rattle.ec_frame.specs.declared.command.Command.{Command}
 use Rattle.ec_frame.specs.declared.command.Command.TheVariants.{Nop, Aprd, Apwr, Aprw, Fprd, Fpwr, Fprw, Brd, Bwr, Brw, Lrd, Lwr, Lrw, Armw, Frmw}
 use Rattle.ec_frame.specs.Datagram.{Datagram, adp_of}
 use Rattle.ec_sync.specs.Buffer.{Buffer, Got, drafted, draft_next, app_written, view_next, app_read}
-use Rattle.ec_sync.specs.Manager.{Manager, buffer_length, may_app_put, may_app_get, app_put, app_got, after_get, message_in, message_taken, may_put_message, message_put, padded, zeros_published}
+use Rattle.ec_sync.specs.SyncManager.{SyncManager, buffer_length, may_app_put, may_app_get, app_put, app_got, after_get, message_in, message_taken, may_put_message, message_put, padded, zeros_published}
 use Rattle.ec_sync.specs.Sound.{IsManager}
 use Rattle.ec_al.specs.Al as al
 use Rattle.ec_al.specs.declared.state.State.{State}
@@ -30,7 +30,7 @@ none_some x e = cc
 some_same : {X : Type 0} (x y : X) → Some x ≡ Some y → x ≡ y
 some_same x y e = cc
 
-set-sound : (ms : List Manager) (k : ℕ) (m : Manager) → AreSound ms → IsManager m → AreSound (set ms k m)
+set-sound : (ms : List SyncManager) (k : ℕ) (m : SyncManager) → AreSound ms → IsManager m → AreSound (set ms k m)
 set-sound [] k m h f n = h n
 set-sound (x ∷ ms) zero m h f zero = f
 set-sound (x ∷ ms) zero m h f (suc n) = h (suc n)
@@ -94,10 +94,10 @@ record HasLength (n : ℕ) (b : Buffer) : Type 0 where
   draft : (d : List ℕ) → b.draft ≡ Some d → length d ≡ n
   view : (v : List ℕ) → b.view ≡ Some v → length v ≡ n
 
-has-length : (m : Manager) → IsManager m → HasLength (buffer_length m.settings) m.buffer
+has-length : (m : SyncManager) → IsManager m → HasLength (buffer_length m.settings) m.buffer
 has-length m h = record { published = h.published; draft = h.draft; view = h.view }
 
-with-length : (m : Manager) (b : Buffer) → HasLength (buffer_length m.settings) b → IsManager (record m { buffer = b })
+with-length : (m : SyncManager) (b : Buffer) → HasLength (buffer_length m.settings) b → IsManager (record m { buffer = b })
 with-length m b h = record { published = h.published; draft = h.draft; view = h.view }
 
 drafted-length : (k : ℕ) (b : Buffer) (i : ℕ) (d : List ℕ) → HasLength k b → length d ≡ k → HasLength k (drafted b i d)
@@ -123,7 +123,7 @@ put-length k b i x c h e = by (nat_lt i (length b.published)) e
     by true q = next-length k b i x (if i == 0 then Some (zeros (length b.published)) else b.draft) c h (opened (i == 0)) q
     by false q = absurd (none_some c q)
 
-put-manager : (m : Manager) (i x : ℕ) (t : Manager) → IsManager m → app_put m i x ≡ Some t → IsManager t
+put-manager : (m : SyncManager) (i x : ℕ) (t : SyncManager) → IsManager m → app_put m i x ≡ Some t → IsManager t
 put-manager m i x t h e = by (may_app_put m) e
   where
     of : (o : Option Buffer) → app_written m.buffer i x ≡ o → option_map (λ b. record m { buffer = b }) o ≡ Some t → IsManager t
@@ -137,7 +137,7 @@ put-manager m i x t h e = by (may_app_put m) e
 put-whole : (s : SlaveState) (i x : ℕ) (t : SlaveState) → AreWhole s → input_put s i x ≡ Some t → AreWhole t
 put-whole s i x t h e = by (is_running s.al.state) e
   where
-    of : (o : Option Manager) → app_put (manager_at s.managers 3) i x ≡ o → option_map (with_manager s 3) o ≡ Some t → AreWhole t
+    of : (o : Option SyncManager) → app_put (manager_at s.managers 3) i x ≡ o → option_map (with_manager s 3) o ≡ Some t → AreWhole t
     of None w q = absurd (none_some t q)
     of (Some m) w q = subst AreWhole (some_same (with_manager s 3 m) t q) (set-sound s.managers 3 m h (put-manager (manager_at s.managers 3) i x m (h 3) w))
 
@@ -167,7 +167,7 @@ got-length k b i g h e = by (nat_lt i (length b.published)) e
     by true q = view-length k b i (if i == 0 then Some b.published else b.view) g h (opened (i == 0)) q
     by false q = absurd (none_some g q)
 
-got-manager : (m : Manager) (i : ℕ) (g : Got) → IsManager m → app_got m i ≡ Some g → IsManager (record m { buffer = g.buffer })
+got-manager : (m : SyncManager) (i : ℕ) (g : Got) → IsManager m → app_got m i ≡ Some g → IsManager (record m { buffer = g.buffer })
 got-manager m i g h e = by (may_app_get m) e
   where
     by : (z : Bool) → (if z then app_read m.buffer i else None) ≡ Some g → IsManager (record m { buffer = g.buffer })
@@ -187,18 +187,18 @@ taken-whole s i h = of (output_got s i) refl
 
 -- ---- the firmware
 
-all-emptied : (ms : List Manager) → AreSound (map unlocked_empty ms)
+all-emptied : (ms : List SyncManager) → AreSound (map unlocked_empty ms)
 all-emptied [] n = no-manager-sound
 all-emptied (m ∷ ms) zero = empty-sound m.settings false
 all-emptied (m ∷ ms) (suc n) = all-emptied ms n
 
-zeros-sound : (m : Manager) → IsManager m → IsManager (zeros_published m)
+zeros-sound : (m : SyncManager) → IsManager m → IsManager (zeros_published m)
 zeros-sound m h = record { published = length-replicate {A = ℕ} (length m.buffer.published) 0 ∙ h.published; draft = h.draft; view = h.view }
 
-entered-sound : (old new : State) (ms : List Manager) → AreSound ms → AreSound (managers_entered old new ms)
+entered-sound : (old new : State) (ms : List SyncManager) → AreSound ms → AreSound (managers_entered old new ms)
 entered-sound old new ms h = by (is_init new && not (is_init old)) (is_safeop new && is_preop old)
   where
-    by : (a b : Bool) → (let x : List Manager = if a then map unlocked_empty ms else (if b then slice_set ms 3 (zeros_published (manager_at ms 3)) else ms) in AreSound x)
+    by : (a b : Bool) → (let x : List SyncManager = if a then map unlocked_empty ms else (if b then slice_set ms 3 (zeros_published (manager_at ms 3)) else ms) in AreSound x)
     by true b = all-emptied ms
     by false true = set-sound ms 3 (zeros_published (manager_at ms 3)) h (zeros-sound (manager_at ms 3) (h 3))
     by false false = h
@@ -215,17 +215,17 @@ finished-whole : (s : SlaveState) → AreWhole s → AreWhole (read_finished s)
 unfolding read_finished
 finished-whole s h = h
 
-message_taken-sound : (m : Manager) → IsManager m → IsManager (message_taken m)
+message_taken-sound : (m : SyncManager) → IsManager m → IsManager (message_taken m)
 message_taken-sound m h = by (is_some (message_in m))
   where
-    by : (b : Bool) → (let x : Manager = if b then record m { mail = None } else m in IsManager x)
+    by : (b : Bool) → (let x : SyncManager = if b then record m { mail = None } else m in IsManager x)
     by true = record { published = h.published; draft = h.draft; view = h.view }
     by false = h
 
-message_put-sound : (m : Manager) (bytes : List ℕ) → IsManager m → IsManager (message_put m bytes)
+message_put-sound : (m : SyncManager) (bytes : List ℕ) → IsManager m → IsManager (message_put m bytes)
 message_put-sound m bytes h = by (may_put_message m (length bytes))
   where
-    by : (b : Bool) → (let x : Manager = if b then record m { mail = Some (padded m bytes) } else m in IsManager x)
+    by : (b : Bool) → (let x : SyncManager = if b then record m { mail = Some (padded m bytes) } else m in IsManager x)
     by true = record { published = h.published; draft = h.draft; view = h.view }
     by false = h
 

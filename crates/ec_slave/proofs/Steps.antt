@@ -10,7 +10,7 @@ use Rattle.ec_frame.specs.declared.command.Command.{Command}
 use Rattle.ec_frame.specs.declared.command.Command.TheVariants.{Nop, Aprd, Apwr, Aprw, Fprd, Fpwr, Fprw, Brd, Bwr, Brw, Lrd, Lwr, Lrw, Armw, Frmw}
 use Rattle.ec_frame.specs.Datagram.{Datagram, adp_of}
 use Rattle.ec_sync.specs.Buffer.{Got}
-use Rattle.ec_sync.specs.Manager.{Manager, app_put, app_got, after_get, may_write, may_read, message_taken, message_put}
+use Rattle.ec_sync.specs.SyncManager.{SyncManager, app_put, app_got, after_get, may_write, may_read, message_taken, message_put}
 use Rattle.ec_sync.specs.Runs.{Operation, Configure, Lock, Empty, PublishZeros, RingWrite, RingRead, AppPut, AppGet, MessageTake, MessagePut, step, run}
 use Rattle.ec_fmmu.specs.Applied.{touched_by_reading, touched_by_writing}
 use Rattle.ec_slave.specs.Roles.{role_of, is_reading, is_writing}
@@ -29,22 +29,22 @@ use Rattle.ec_slave.proofs.WholeInputs.{both_true}
 
 -- ---- one access
 
-swapped : (a b : Bool) (x y : Manager) → (if a && b then x else y) ≡ (if b && a then x else y)
+swapped : (a b : Bool) (x y : SyncManager) → (if a && b then x else y) ≡ (if b && a then x else y)
 swapped true true x y = refl
 swapped true false x y = refl
 swapped false true x y = refl
 swapped false false x y = refl
 
-writes_one : (read_touches write_touches own : ℕ → Bool) (value : ℕ → ℕ → List ℕ) (m : Manager)
+writes_one : (read_touches write_touches own : ℕ → Bool) (value : ℕ → ℕ → List ℕ) (m : SyncManager)
     → manager_after false true read_touches write_touches own value m
     ≡ step m (RingWrite (gets_at write_touches own m) (value m.settings.start m.settings.length))
 writes_one rt wt own value m = swapped (may_write m) (gets_at wt own m) _ m
 
-reads_one : (read_touches write_touches own : ℕ → Bool) (value : ℕ → ℕ → List ℕ) (m : Manager)
+reads_one : (read_touches write_touches own : ℕ → Bool) (value : ℕ → ℕ → List ℕ) (m : SyncManager)
     → manager_after true false read_touches write_touches own value m ≡ step m (RingRead (gets_at read_touches own m))
 reads_one rt wt own value m = swapped (may_read m) (gets_at rt own m) _ m
 
-does_one : (read_touches write_touches own : ℕ → Bool) (value : ℕ → ℕ → List ℕ) (m : Manager)
+does_one : (read_touches write_touches own : ℕ → Bool) (value : ℕ → ℕ → List ℕ) (m : SyncManager)
     → manager_after true true read_touches write_touches own value m
     ≡ step m (if is_written_by write_touches own m then RingWrite true (value m.settings.start m.settings.length) else RingRead (gets_at read_touches own m))
 does_one rt wt own value m = elim (cases_Bool (is_written_by wt own m)) [
@@ -67,20 +67,20 @@ accesses_are_steps = record { writes = writes_one; reads = reads_one; both = doe
 abbrev IsOf : (Operation → Bool) → Operation → Type 0
 IsOf kind o = kind o ≡ true
 
-no_run : (kind : Operation → Bool) (most : ℕ) (m : Manager) → IsRunTo kind most m m
+no_run : (kind : Operation → Bool) (most : ℕ) (m : SyncManager) → IsRunTo kind most m m
 no_run kind most m = record { operations = []; of_kind = All-nil (IsOf kind); few = omega arith; leads = refl }
 
-one_step : (kind : Operation → Bool) (most : ℕ) (m after : Manager) (o : Operation) → 0 < most → kind o ≡ true → step m o ≡ after → IsRunTo kind most m after
+one_step : (kind : Operation → Bool) (most : ℕ) (m after : SyncManager) (o : Operation) → 0 < most → kind o ≡ true → step m o ≡ after → IsRunTo kind most m after
 one_step kind most m after o l k e = record { operations = o ∷ []; of_kind = All-cons (IsOf kind) o [] k (All-nil (IsOf kind)); few = omega (arith, l); leads = e }
 
-two_steps : (kind : Operation → Bool) (m after : Manager) (o p : Operation) → kind o ≡ true → kind p ≡ true → step (step m o) p ≡ after → IsRunTo kind 2 m after
+two_steps : (kind : Operation → Bool) (m after : SyncManager) (o p : Operation) → kind o ≡ true → kind p ≡ true → step (step m o) p ≡ after → IsRunTo kind 2 m after
 two_steps kind m after o p k l e = record { operations = o ∷ p ∷ []; of_kind = All-cons (IsOf kind) o (p ∷ []) k (All-cons (IsOf kind) p [] l (All-nil (IsOf kind))); few = omega arith; leads = e }
 
-pub run-append : (m : Manager) (xs ys : List Operation) → run m (xs ++ ys) ≡ run (run m xs) ys
+pub run-append : (m : SyncManager) (xs ys : List Operation) → run m (xs ++ ys) ≡ run (run m xs) ys
 run-append m [] ys = refl
 run-append m (x ∷ xs) ys = run-append (step m x) xs ys
 
-then_run : (kind : Operation → Bool) (i j : ℕ) (a b c : Manager) → IsRunTo kind i a b → IsRunTo kind j b c → IsRunTo kind (i + j) a c
+then_run : (kind : Operation → Bool) (i j : ℕ) (a b c : SyncManager) → IsRunTo kind i a b → IsRunTo kind j b c → IsRunTo kind (i + j) a c
 then_run kind i j a b c x y =
     let xs : List Operation = x.operations in
     let ys : List Operation = y.operations in
@@ -90,35 +90,35 @@ then_run kind i j a b c x y =
       operations = xs ++ ys;
       of_kind = All-append (IsOf kind) xs ys x.of_kind y.of_kind;
       few = let long = length-append xs ys in omega (arith, long, few_xs, few_ys);
-      leads = run-append a xs ys ∙ (ap (λ (m : Manager). run m ys) x.leads ∙ y.leads);
+      leads = run-append a xs ys ∙ (ap (λ (m : SyncManager). run m ys) x.leads ∙ y.leads);
     }
 
-either_run : (kind : Operation → Bool) (most : ℕ) (b : Bool) (m x y : Manager) → IsRunTo kind most m x → IsRunTo kind most m y → IsRunTo kind most m (if b then x else y)
+either_run : (kind : Operation → Bool) (most : ℕ) (b : Bool) (m x y : SyncManager) → IsRunTo kind most m x → IsRunTo kind most m y → IsRunTo kind most m (if b then x else y)
 either_run kind most true m x y p q = p
 either_run kind most false m x y p q = q
 
 -- each manager of a list
-abbrev AllRunTo : (Operation → Bool) → ℕ → List Manager → List Manager → Type 0
+abbrev AllRunTo : (Operation → Bool) → ℕ → List SyncManager → List SyncManager → Type 0
 AllRunTo kind most ms ns = (n : ℕ) → IsRunTo kind most (manager_at ms n) (manager_at ns n)
 
-set_run : (kind : Operation → Bool) (most : ℕ) (ms : List Manager) (k : ℕ) (m : Manager) → IsRunTo kind most (manager_at ms k) m → AllRunTo kind most ms (slice_set ms k m)
+set_run : (kind : Operation → Bool) (most : ℕ) (ms : List SyncManager) (k : ℕ) (m : SyncManager) → IsRunTo kind most (manager_at ms k) m → AllRunTo kind most ms (slice_set ms k m)
 set_run kind most [] k m r n = no_run kind most _
 set_run kind most (x ∷ ms) zero m r zero = r
 set_run kind most (x ∷ ms) zero m r (suc n) = no_run kind most _
 set_run kind most (x ∷ ms) (suc k) m r zero = no_run kind most _
 set_run kind most (x ∷ ms) (suc k) m r (suc n) = set_run kind most ms k m r n
 
-map_run : (kind : Operation → Bool) (most : ℕ) (f : Manager → Manager) (ms : List Manager) → ((m : Manager) → IsRunTo kind most m (f m)) → AllRunTo kind most ms (map f ms)
+map_run : (kind : Operation → Bool) (most : ℕ) (f : SyncManager → SyncManager) (ms : List SyncManager) → ((m : SyncManager) → IsRunTo kind most m (f m)) → AllRunTo kind most ms (map f ms)
 map_run kind most f [] r n = no_run kind most _
 map_run kind most f (x ∷ ms) r zero = r x
 map_run kind most f (x ∷ ms) r (suc n) = map_run kind most f ms r n
 
-each_run : (kind : Operation → Bool) (most i : ℕ) (f : ℕ → Manager → Manager) (ms : List Manager) → ((k : ℕ) (m : Manager) → IsRunTo kind most m (f k m)) → AllRunTo kind most ms (each_from i f ms)
+each_run : (kind : Operation → Bool) (most i : ℕ) (f : ℕ → SyncManager → SyncManager) (ms : List SyncManager) → ((k : ℕ) (m : SyncManager) → IsRunTo kind most m (f k m)) → AllRunTo kind most ms (each_from i f ms)
 each_run kind most i f [] r n = no_run kind most _
 each_run kind most i f (x ∷ ms) r zero = r i x
 each_run kind most i f (x ∷ ms) r (suc n) = each_run kind most (i + 1) f ms r n
 
-either_all : (kind : Operation → Bool) (most : ℕ) (b : Bool) (ms xs ys : List Manager) → AllRunTo kind most ms xs → AllRunTo kind most ms ys → AllRunTo kind most ms (if b then xs else ys)
+either_all : (kind : Operation → Bool) (most : ℕ) (b : Bool) (ms xs ys : List SyncManager) → AllRunTo kind most ms xs → AllRunTo kind most ms ys → AllRunTo kind most ms (if b then xs else ys)
 either_all kind most true ms xs ys p q = p
 either_all kind most false ms xs ys p q = q
 
@@ -138,7 +138,7 @@ either_of_ring : (b : Bool) (o p : Operation) → is_of_ring o ≡ true → is_o
 either_of_ring true o p x y = x
 either_of_ring false o p x y = y
 
-accessed : (reads writes : Bool) (read_touches write_touches own : ℕ → Bool) (value : ℕ → ℕ → List ℕ) (m : Manager)
+accessed : (reads writes : Bool) (read_touches write_touches own : ℕ → Bool) (value : ℕ → ℕ → List ℕ) (m : SyncManager)
     → IsRunTo is_of_ring 1 m (manager_after reads writes read_touches write_touches own value m)
 accessed true true rt wt own value m =
     one_step is_of_ring 1 m _ (if is_written_by wt own m then RingWrite true (value m.settings.start m.settings.length) else RingRead (gets_at rt own m)) (omega arith)
@@ -152,7 +152,7 @@ accessed false false rt wt own value m = no_run is_of_ring 1 m
 physical_run : (s : SlaveState) (reads writes : Bool) (w : Window) → AreRunTo is_of_ring 1 s (physical_after s reads writes w)
 unfolding physical_after
 physical_run s reads writes w =
-    subst (λ (ms : List Manager). AllRunTo is_of_ring 1 s.managers ms) (sym (physical_against_all reads writes w s.managers))
+    subst (λ (ms : List SyncManager). AllRunTo is_of_ring 1 s.managers ms) (sym (physical_against_all reads writes w s.managers))
     (each_run is_of_ring 1 0 _ s.managers (λ n m. either_run is_of_ring 1 (writes && is_configured w n) m _ _
     (one_step is_of_ring 1 m _ (Configure (settings_written w n m)) (omega arith) refl refl) (accessed reads writes (touches w) (touches w) (governs_among s.managers n) (value_among s.managers w n) m)))
 
@@ -165,7 +165,7 @@ physically_run s d =
 logically_run : (s : SlaveState) (reading writing : Bool) (weight : ℕ) (d : Datagram) → AreRunTo is_of_ring 1 s (meets_logically reading writing weight s d).slave
 unfolding meets_logically
 logically_run s reading writing weight d =
-    subst (λ (ms : List Manager). AllRunTo is_of_ring 1 s.managers ms) (sym (logical_against_all reading writing (fmmus s) (place_of d) d.data_bytes s.managers))
+    subst (λ (ms : List SyncManager). AllRunTo is_of_ring 1 s.managers ms) (sym (logical_against_all reading writing (fmmus s) (place_of d) d.data_bytes s.managers))
     (each_run is_of_ring 1 0 _ s.managers (λ n m. accessed reading writing (touched_by_reading (fmmus s) (place_of d)) (touched_by_writing (fmmus s) (place_of d))
     (governs_among s.managers n) (bits_among s.managers (fmmus s) (place_of d) d.data_bytes n) m))
 
@@ -196,7 +196,7 @@ met_run s d = by_run d.command s d
 
 -- ---- the firmware
 
-entered_run : (old new : State) (ms : List Manager) → AllRunTo is_of_firmware 2 ms (managers_entered old new ms)
+entered_run : (old new : State) (ms : List SyncManager) → AllRunTo is_of_firmware 2 ms (managers_entered old new ms)
 entered_run old new ms =
     either_all is_of_firmware 2 (is_init new && not (is_init old)) ms _ _
     (map_run is_of_firmware 2 unlocked_empty ms (λ m. two_steps is_of_firmware m _ (Lock false) Empty refl refl refl))
@@ -213,7 +213,7 @@ unfolding read_finished
 finished_run s n = no_run is_of_firmware 0 _
 
 -- a message is taken out of manager 0, and a reply put into manager 1
-apart_run : (ms : List Manager) (o p : Operation) → is_of_firmware o ≡ true → is_of_firmware p ≡ true
+apart_run : (ms : List SyncManager) (o p : Operation) → is_of_firmware o ≡ true → is_of_firmware p ≡ true
     → AllRunTo is_of_firmware 1 ms (slice_set (slice_set ms 0 (step (manager_at ms 0) o)) 1 (step (manager_at ms 1) p))
 apart_run [] o p k l n = no_run is_of_firmware 1 _
 apart_run (x ∷ []) o p k l zero = one_step is_of_firmware 1 x _ o (omega arith) k refl
@@ -225,10 +225,10 @@ apart_run (x ∷ y ∷ ms) o p k l (suc (suc n)) = no_run is_of_firmware 1 _
 put_one : (s : SlaveState) (bytes : List ℕ) → AreRunTo is_of_firmware 1 s (refused (with_manager s 0 (message_taken (manager_at s.managers 0))) bytes)
 put_one s bytes =
     let t : SlaveState = with_manager s 0 (message_taken (manager_at s.managers 0)) in
-    subst (λ (m : Manager). AllRunTo is_of_firmware 1 s.managers (slice_set t.managers 1 (message_put m bytes))) (sym (next s.managers (message_taken (manager_at s.managers 0))))
+    subst (λ (m : SyncManager). AllRunTo is_of_firmware 1 s.managers (slice_set t.managers 1 (message_put m bytes))) (sym (next s.managers (message_taken (manager_at s.managers 0))))
     (apart_run s.managers MessageTake (MessagePut bytes) refl refl)
   where
-    next : (ms : List Manager) (m : Manager) → manager_at (slice_set ms 0 m) 1 ≡ manager_at ms 1
+    next : (ms : List SyncManager) (m : SyncManager) → manager_at (slice_set ms 0 m) 1 ≡ manager_at ms 1
     next [] m = refl
     next (x ∷ ms) m = refl
 
@@ -257,12 +257,12 @@ faulted_run s =
 
 -- ---- the application
 
-put_run : (s : SlaveState) (place byte : ℕ) (b : Bool) (o : Option Manager) → app_put (manager_at s.managers 3) place byte ≡ o
+put_run : (s : SlaveState) (place byte : ℕ) (b : Bool) (o : Option SyncManager) → app_put (manager_at s.managers 3) place byte ≡ o
     → AreRunTo is_of_application 1 s (unwrap_or (if b then option_map (with_manager s 3) o else None) s)
 put_run s place byte true None e = same_slave is_of_application 1 s
 put_run s place byte true (Some m) e =
     set_run is_of_application 1 s.managers 3 m
-    (one_step is_of_application 1 (manager_at s.managers 3) m (AppPut place byte) (omega arith) refl (ap (λ (o : Option Manager). unwrap_or o (manager_at s.managers 3)) e))
+    (one_step is_of_application 1 (manager_at s.managers 3) m (AppPut place byte) (omega arith) refl (ap (λ (o : Option SyncManager). unwrap_or o (manager_at s.managers 3)) e))
 put_run s place byte false o e = same_slave is_of_application 1 s
 
 taken_run : (s : SlaveState) (place : ℕ) (b : Bool) (o : Option Got) → app_got (manager_at s.managers 2) place ≡ o

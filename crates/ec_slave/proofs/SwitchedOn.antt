@@ -4,7 +4,7 @@ use Rattle.std.proofs.lemmas.List.{length-replicate}
 use Rattle.ec_bits.specs.Bits.{zeros}
 use Rattle.ec_slave.specs.State.{manager_at, power_on, memory_length}
 use Rattle.ec_slave.specs.Interface.{SlavesAreSwitchedOn, SwitchedOnWhole}
-use Rattle.ec_sync.specs.Manager.{no_manager}
+use Rattle.ec_sync.specs.SyncManager.{no_manager}
 use Rattle.ec_sync.specs.Sound.{IsManager}
 use Rattle.ec_slave.proofs.Lasting.{no-manager-sound}
 

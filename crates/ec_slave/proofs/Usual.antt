@@ -7,7 +7,7 @@ use Rattle.ec_bits.proofs.AnyLaws.{if_true, if_false, within_true, within_above,
 use Rattle.ec_bits.proofs.BitLaws.{overlay_alike}
 use Rattle.ec_fmmu.specs.Areas.{Area}
 use Rattle.ec_fmmu.specs.Applied.{Place}
-use Rattle.ec_sync.specs.Manager.{Manager, may_write, no_manager}
+use Rattle.ec_sync.specs.SyncManager.{SyncManager, may_write, no_manager}
 use Rattle.ec_slave.specs.State.{SlaveState, manager_at, with_memory}
 use Rattle.ec_slave.specs.Exchange.{inputs_into, outputs_from, takes, with_outputs, with_published}
 use Rattle.ec_slave.specs.Usual.{bits_from}
@@ -88,30 +88,30 @@ outputs_are a p bytes start len s n l =
 
 -- ---- managers 2 and 3
 
-set_own : (ms : List Manager) → length ms ≡ 4 → set ms 2 (manager_at ms 2) ≡ ms
+set_own : (ms : List SyncManager) → length ms ≡ 4 → set ms 2 (manager_at ms 2) ≡ ms
 set_own [] e = absurd (omega (arith, e))
 set_own (a ∷ []) e = absurd (omega (arith, e))
 set_own (a ∷ b ∷ []) e = absurd (omega (arith, e))
 set_own (a ∷ b ∷ c ∷ ms) e = refl
 
 -- a slave whose manager 2 took the outputs, or didn't
-pub slave_taken : (s : SlaveState) (a : Area) (out : List ℕ) (m x : Manager) → length s.managers ≡ 4 → m ≡ manager_at s.managers 2
+pub slave_taken : (s : SlaveState) (a : Area) (out : List ℕ) (m x : SyncManager) → length s.managers ≡ 4 → m ≡ manager_at s.managers 2
     → x ≡ (if nat_lt 0 a.outs && may_write m then with_published m out else m)
     → with_memory s s.memory (set s.managers 2 x) ≡ (if takes s a then with_outputs s out else s)
 slave_taken s a out m x four second after =
     let here : x ≡ (if takes s a then with_published (manager_at s.managers 2) out else manager_at s.managers 2)
-    = after ∙ ap (λ (y : Manager). if nat_lt 0 a.outs && may_write y then with_published y out else y) second in
+    = after ∙ ap (λ (y : SyncManager). if nat_lt 0 a.outs && may_write y then with_published y out else y) second in
     elim (cases_Bool (takes s a)) [
-      | inl t ↦ ap (λ (y : Manager). with_memory s s.memory (set s.managers 2 y)) (here ∙ if_true _ _ _ t) ∙ sym (if_true (takes s a) (with_outputs s out) s t)
+      | inl t ↦ ap (λ (y : SyncManager). with_memory s s.memory (set s.managers 2 y)) (here ∙ if_true _ _ _ t) ∙ sym (if_true (takes s a) (with_outputs s out) s t)
       | inr f ↦
-          ap (λ (y : Manager). with_memory s s.memory (set s.managers 2 y)) (here ∙ if_false _ _ _ f)
+          ap (λ (y : SyncManager). with_memory s s.memory (set s.managers 2 y)) (here ∙ if_false _ _ _ f)
           ∙ (ap (with_memory s s.memory) (set_own s.managers four) ∙ sym (if_false (takes s a) (with_outputs s out) s f))
     ]
 
 -- whose manager 3 is as it was
 pub third_after : (s t : SlaveState) (a : Area) (out : List ℕ) → t ≡ (if takes s a then with_outputs s out else s) → manager_at t.managers 3 ≡ manager_at s.managers 3
 third_after s t a out e =
-    let new : Manager = with_published (manager_at s.managers 2) out in
+    let new : SyncManager = with_published (manager_at s.managers 2) out in
     ap (λ (y : SlaveState). manager_at y.managers 3) e
     ∙ elim (cases_Bool (takes s a)) as (λ _. manager_at (if takes s a then with_outputs s out else s).managers 3 ≡ manager_at s.managers 3) [
       | inl t ↦

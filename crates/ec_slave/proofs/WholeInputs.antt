@@ -6,7 +6,7 @@ use Rattle.ec_bits.proofs.AnyLaws.{if_true, if_false}
 use Rattle.ec_bits.specs.Bits.{zeros}
 use Rattle.ec_regs.specs.Managers.{is_set, is_buffered}
 use Rattle.ec_sync.specs.Buffer.{Buffer, app_written, draft_next, drafted}
-use Rattle.ec_sync.specs.Manager.{Manager, no_manager, is_enabled, may_app_get, may_app_put, app_put}
+use Rattle.ec_sync.specs.SyncManager.{SyncManager, no_manager, is_enabled, may_app_get, may_app_put, app_put}
 use Rattle.ec_sync.specs.Sound.{IsManager}
 use Rattle.ec_slave.specs.State.{SlaveState, manager_at}
 use Rattle.ec_slave.specs.Sound.{IsSlave}
@@ -26,17 +26,17 @@ sized false x n e l = absurd (omega (arith, e, l))
 
 -- ---- who may write
 
-get-enabled : (m : Manager) → may_app_get m ≡ true → (is_set m.settings ≡ true) × (is_buffered m.settings ≡ true)
+get-enabled : (m : SyncManager) → may_app_get m ≡ true → (is_set m.settings ≡ true) × (is_buffered m.settings ≡ true)
 get-enabled m e =
     let a = both_true (is_enabled m) _ e in
     ((both_true (is_set m.settings) _ a.0).0, (both_true (is_buffered m.settings) _ a.1).0)
 
-put-enabled : (m : Manager) → may_app_put m ≡ true → (is_set m.settings ≡ true) × (is_buffered m.settings ≡ true)
+put-enabled : (m : SyncManager) → may_app_put m ≡ true → (is_set m.settings ≡ true) × (is_buffered m.settings ≡ true)
 put-enabled m e =
     let a = both_true (is_enabled m) _ e in
     ((both_true (is_set m.settings) _ a.0).0, (both_true (is_buffered m.settings) _ a.1).0)
 
-pub long_as : (m : Manager) (n : ℕ) → IsManager m → is_set m.settings ≡ true → is_buffered m.settings ≡ true → n ≡ m.settings.length → length m.buffer.published ≡ n
+pub long_as : (m : SyncManager) (n : ℕ) → IsManager m → is_set m.settings ≡ true → is_buffered m.settings ≡ true → n ≡ m.settings.length → length m.buffer.published ≡ n
 long_as m n good set buffered e =
     let both_set : (is_set m.settings && is_buffered m.settings) ≡ true = rw (set, buffered) refl in
     good.published ∙ if_true _ _ _ both_set ∙ sym e
@@ -51,7 +51,7 @@ record MayWrite (s : SlaveState) (n : ℕ) : Type 0 where
 
 may-write : (s : SlaveState) (n : ℕ) → IsSlave s → n ≡ put_size s → 0 < n → MayWrite s n
 may-write s n good e l =
-    let m : Manager = manager_at s.managers 3 in
+    let m : SyncManager = manager_at s.managers 3 in
     let k = sized (is_running s.al.state && may_app_put m) m.settings.length n e l in
     let r = both_true (is_running s.al.state) _ k.0 in
     let set = put-enabled m r.1 in
@@ -66,25 +66,25 @@ may-write s n good e l =
 
 -- ---- a manager put in twice
 
-set-twice : (ms : List Manager) (n : ℕ) (a b : Manager) → set (set ms n a) n b ≡ set ms n b
+set-twice : (ms : List SyncManager) (n : ℕ) (a b : SyncManager) → set (set ms n a) n b ≡ set ms n b
 set-twice [] n a b = refl
 set-twice (m ∷ ms) zero a b = refl
-set-twice (m ∷ ms) (suc n) a b = ap (λ (k : List Manager). m ∷ k) (set-twice ms n a b)
+set-twice (m ∷ ms) (suc n) a b = ap (λ (k : List SyncManager). m ∷ k) (set-twice ms n a b)
 
-pub with_twice : (s : SlaveState) (n : ℕ) (a b : Manager) → with_manager (with_manager s n a) n b ≡ with_manager s n b
-with_twice s n a b = ap (λ (ms : List Manager). record s { managers = ms }) (set-twice s.managers n a b)
+pub with_twice : (s : SlaveState) (n : ℕ) (a b : SyncManager) → with_manager (with_manager s n a) n b ≡ with_manager s n b
+with_twice s n a b = ap (λ (ms : List SyncManager). record s { managers = ms }) (set-twice s.managers n a b)
 
-pub own_manager : (s : SlaveState) (n : ℕ) (a : Manager) → n < length s.managers → manager_at (with_manager s n a).managers n ≡ a
+pub own_manager : (s : SlaveState) (n : ℕ) (a : SyncManager) → n < length s.managers → manager_at (with_manager s n a).managers n ≡ a
 own_manager s n a l = get_or-set_same s.managers n a no_manager l
 
 -- ---- a manager that publishes
 
-abbrev pub with_published : Manager → List ℕ → Manager
+abbrev pub with_published : SyncManager → List ℕ → SyncManager
 with_published m inputs = record m { buffer = record m.buffer { published = inputs; draft = None } }
 
 -- ---- writing
 
-abbrev with_draft : Manager → List ℕ → Manager
+abbrev with_draft : SyncManager → List ℕ → SyncManager
 with_draft m d = record m { buffer = record m.buffer { draft = Some d } }
 
 -- a slave whose application wrote so many bytes of its inputs
@@ -97,12 +97,12 @@ writing_none : (s : SlaveState) (inputs : List ℕ) → IsWriting s inputs 0 s
 writing_none s inputs = record { none = λ z. refl; some = λ l. absurd (omega (arith, l)); whole = λ l. absurd (omega (arith, l)) }
 
 -- byte i of an open draft
-put-opened : (m : Manager) (i x : ℕ) (d : List ℕ) → may_app_put m ≡ true → i < length m.buffer.published
+put-opened : (m : SyncManager) (i x : ℕ) (d : List ℕ) → may_app_put m ≡ true → i < length m.buffer.published
     → (if i == 0 then Some (zeros (length m.buffer.published)) else m.buffer.draft) ≡ Some d
     → unwrap_or (app_put m i x) m ≡ record m { buffer = drafted m.buffer i (set d i x) }
 unfolding app_written
 put-opened m i x d may l is_open =
-    ap (λ (o : Option Manager). unwrap_or o m)
+    ap (λ (o : Option SyncManager). unwrap_or o m)
     (if_true _ _ _ may ∙ ap (option_map (λ (b : Buffer). record m { buffer = b })) (if_true _ _ _ (lt-ltb i (length m.buffer.published) l) ∙ ap (draft_next m.buffer i x) is_open))
 
 -- an older draft doesn't matter
@@ -116,7 +116,7 @@ again false b o d = refl
 one-more : (s u : SlaveState) (inputs d : List ℕ) (i : ℕ) → length d ≡ length inputs → take i d ≡ take i inputs → i < length inputs → length (manager_at s.managers 3).buffer.published ≡ length inputs
     → u ≡ with_manager s 3 (record (manager_at s.managers 3) { buffer = drafted (manager_at s.managers 3).buffer i (set d i (slice_index inputs i)) }) → IsWriting s inputs (i + 1) u
 one-more s u inputs d i same begun l whole is =
-    let m : Manager = manager_at s.managers 3 in
+    let m : SyncManager = manager_at s.managers 3 in
     let x : ℕ = slice_index inputs i in
     let e : List ℕ = set d i x in
     let long : length e ≡ length inputs = length-set d i x ∙ same in
@@ -138,11 +138,11 @@ one-more s u inputs d i same begun l whole is =
 
 first-byte : (s u : SlaveState) (inputs : List ℕ) → MayWrite s (length inputs) → 0 < length inputs → u ≡ unwrap_or (input_put s 0 (slice_index inputs 0)) s → IsWriting s inputs 1 u
 first-byte s u inputs k l put =
-    let m : Manager = manager_at s.managers 3 in
+    let m : SyncManager = manager_at s.managers 3 in
     let whole = k.whole in
     let x : ℕ = slice_index inputs 0 in
     let d : List ℕ = zeros (length m.buffer.published) in
-    let after : Manager = record m { buffer = drafted m.buffer 0 (set d 0 x) } in
+    let after : SyncManager = record m { buffer = drafted m.buffer 0 (set d 0 x) } in
     let is : u ≡ with_manager s 3 after = put ∙ sym (put_after s 0 x after k.running (sym (put-opened m 0 x d k.may (omega (arith, whole, l)) refl))) in
     one-more s u inputs d 0 (length-replicate (length m.buffer.published) 0 ∙ whole) refl l whole is
 
@@ -150,16 +150,16 @@ later-byte : (s t u : SlaveState) (inputs d : List ℕ) (j : ℕ) → MayWrite s
     → t ≡ with_manager s 3 (with_draft (manager_at s.managers 3) d) → u ≡ unwrap_or (input_put t (suc j) (slice_index inputs (suc j))) t → IsWriting s inputs (suc j + 1) u
 later-byte s t u inputs d j k l same begun is_t put =
     let i : ℕ = suc j in
-    let m : Manager = manager_at s.managers 3 in
-    let n : Manager = with_draft m d in
+    let m : SyncManager = manager_at s.managers 3 in
+    let n : SyncManager = with_draft m d in
     let whole = k.whole in
     let x : ℕ = slice_index inputs i in
     let t0 : SlaveState = with_manager s 3 n in
     let at : manager_at t0.managers 3 ≡ n = own_manager s 3 n k.there in
-    let after : Manager = record n { buffer = drafted n.buffer i (set d i x) } in
+    let after : SyncManager = record n { buffer = drafted n.buffer i (set d i x) } in
     let there : (if i == 0 then Some (zeros (length n.buffer.published)) else n.buffer.draft) ≡ Some d = if_false _ _ _ (ne_eqb i 0 (λ z. omega (arith, z))) in
     let made : after ≡ unwrap_or (app_put n i x) n = sym (put-opened n i x d k.may (omega (arith, whole, l)) there) in
-    let made_at : after ≡ unwrap_or (app_put (manager_at t0.managers 3) i x) (manager_at t0.managers 3) = subst (λ (y : Manager). after ≡ unwrap_or (app_put y i x) y) (sym at) made in
+    let made_at : after ≡ unwrap_or (app_put (manager_at t0.managers 3) i x) (manager_at t0.managers 3) = subst (λ (y : SyncManager). after ≡ unwrap_or (app_put y i x) y) (sym at) made in
     let is_u : u ≡ with_manager t0 3 after = put ∙ (ap (λ (y : SlaveState). unwrap_or (input_put y i x) y) is_t ∙ sym (put_after t0 i x after k.running made_at)) in
     let fresh : after ≡ record m { buffer = drafted m.buffer i (set d i x) }
     = sym (ap (λ (b : Buffer). record m { buffer = b }) (again (i + 1 == length m.buffer.published) m.buffer (Some d) (set d i x))) in

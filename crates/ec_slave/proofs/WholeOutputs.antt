@@ -4,14 +4,14 @@ use Rattle.std.proofs.lemmas.Bool.{eq-eqb, ne_eqb, lt-ltb}
 use Rattle.ec_bits.proofs.AnyLaws.{if_true, if_false}
 use Rattle.ec_regs.specs.Managers.{is_set, is_buffered}
 use Rattle.ec_sync.specs.Buffer.{app_read, view_next}
-use Rattle.ec_sync.specs.Manager.{Manager, is_enabled, may_app_get, app_got, after_get}
+use Rattle.ec_sync.specs.SyncManager.{SyncManager, is_enabled, may_app_get, app_got, after_get}
 use Rattle.ec_slave.specs.State.{SlaveState, manager_at}
 use Rattle.ec_slave.specs.Sound.{IsSlave}
 use Rattle.ec_slave.specs.Application.{get_size, is_running, with_manager, output_got, output_taken, outputs_taken}
 use Rattle.ec_slave.proofs.Applications.{got_after}
 use Rattle.ec_slave.proofs.WholeInputs.{both_true, long_as, own_manager, sized, with_twice}
 
-get-enabled : (m : Manager) → may_app_get m ≡ true → (is_set m.settings ≡ true) × (is_buffered m.settings ≡ true)
+get-enabled : (m : SyncManager) → may_app_get m ≡ true → (is_set m.settings ≡ true) × (is_buffered m.settings ≡ true)
 get-enabled m e =
     let a = both_true (is_enabled m) _ e in
     ((both_true (is_set m.settings) _ a.0).0, (both_true (is_buffered m.settings) _ a.1).0)
@@ -25,7 +25,7 @@ record MayRead (s : SlaveState) (n : ℕ) : Type 0 where
 
 may-read : (s : SlaveState) (n : ℕ) → IsSlave s → n ≡ get_size s → 0 < n → MayRead s n
 may-read s n good e l =
-    let m : Manager = manager_at s.managers 2 in
+    let m : SyncManager = manager_at s.managers 2 in
     let k = sized (is_running s.al.state && may_app_get m) m.settings.length n e l in
     let r = both_true (is_running s.al.state) _ k.0 in
     let set = get-enabled m r.1 in
@@ -38,17 +38,17 @@ may-read s n good e l =
     }
 
 -- a byte of an open view; the last one closes it
-got-opened : (m : Manager) (i : ℕ) (v : List ℕ) → may_app_get m ≡ true → i < length m.buffer.published → (if i == 0 then Some m.buffer.published else m.buffer.view) ≡ Some v
+got-opened : (m : SyncManager) (i : ℕ) (v : List ℕ) → may_app_get m ≡ true → i < length m.buffer.published → (if i == 0 then Some m.buffer.published else m.buffer.view) ≡ Some v
     → after_get m (app_got m i) ≡ record m { buffer = record m.buffer { view = if i + 1 == length m.buffer.published then None else Some v } }
 unfolding app_read
 got-opened m i v may l is_open =
     ap (after_get m) (if_true _ _ _ may ∙ (if_true _ _ _ (lt-ltb i (length m.buffer.published) l) ∙ ap (view_next m.buffer i) is_open))
 
-abbrev pub with_view : Manager → Option (List ℕ) → Manager
+abbrev pub with_view : SyncManager → Option (List ℕ) → SyncManager
 with_view m o = record m { buffer = record m.buffer { view = o } }
 
 -- the view after n bytes: the last one closes it
-abbrev view_after : Manager → ℕ → Option (List ℕ)
+abbrev view_after : SyncManager → ℕ → Option (List ℕ)
 view_after m n = if n == length m.buffer.published then None else Some m.buffer.published
 
 -- a slave whose application read so many bytes of its outputs
@@ -58,7 +58,7 @@ record IsReading (s : SlaveState) (n : ℕ) (t : SlaveState) : Type 0 where
 
 first-read : (s : SlaveState) (size : ℕ) → MayRead s size → 0 < size → output_taken s (output_got s 0) ≡ with_manager s 2 (with_view (manager_at s.managers 2) (view_after (manager_at s.managers 2) 1))
 first-read s size k l =
-    let m : Manager = manager_at s.managers 2 in
+    let m : SyncManager = manager_at s.managers 2 in
     let whole = k.whole in
     sym (got_after s 0 (with_view m (view_after m 1)) k.running (sym (got-opened m 0 m.buffer.published k.may (omega (arith, whole, l)) refl)))
 
@@ -66,17 +66,17 @@ later-read : (s t : SlaveState) (size j : ℕ) → MayRead s size → suc j < si
     → output_taken t (output_got t (suc j)) ≡ with_manager s 2 (with_view (manager_at s.managers 2) (view_after (manager_at s.managers 2) (suc j + 1)))
 later-read s t size j k l is_t =
     let i : ℕ = suc j in
-    let m : Manager = manager_at s.managers 2 in
+    let m : SyncManager = manager_at s.managers 2 in
     let whole = k.whole in
-    let n : Manager = with_view m (Some m.buffer.published) in
+    let n : SyncManager = with_view m (Some m.buffer.published) in
     let t0 : SlaveState = with_manager s 2 n in
     let open_still : view_after m i ≡ Some m.buffer.published = if_false _ _ _ (ne_eqb i (length m.buffer.published) (λ z. omega (arith, z, whole, l))) in
     let is_t0 : t ≡ t0 = is_t ∙ ap (λ (o : Option (List ℕ)). with_manager s 2 (with_view m o)) open_still in
     let at : manager_at t0.managers 2 ≡ n = own_manager s 2 n k.there in
-    let after : Manager = with_view m (view_after m (i + 1)) in
+    let after : SyncManager = with_view m (view_after m (i + 1)) in
     let there : (if i == 0 then Some n.buffer.published else n.buffer.view) ≡ Some m.buffer.published = if_false _ _ _ (ne_eqb i 0 (λ z. omega (arith, z))) in
     let made : after ≡ after_get n (app_got n i) = sym (got-opened n i m.buffer.published k.may (omega (arith, whole, l)) there) in
-    let made_at : after ≡ after_get (manager_at t0.managers 2) (app_got (manager_at t0.managers 2) i) = subst (λ (y : Manager). after ≡ after_get y (app_got y i)) (sym at) made in
+    let made_at : after ≡ after_get (manager_at t0.managers 2) (app_got (manager_at t0.managers 2) i) = subst (λ (y : SyncManager). after ≡ after_get y (app_got y i)) (sym at) made in
     ap (λ (y : SlaveState). output_taken y (output_got y i)) is_t0
     ∙ (sym (got_after t0 i after k.running made_at) ∙ with_twice s 2 n after)
 

@@ -7,7 +7,7 @@ use Rattle.ec_bits.proofs.Algebra.{same_bits, overlay_keeps_bytes}
 use Rattle.ec_bits.proofs.AnyLaws.{any_below_from, any_below_some, if_true, within_true}
 use Rattle.ec_bits.proofs.BitLaws.{bit-overlay, length-overlay, overlay_alike}
 use Rattle.ec_regs.specs.declared.fmmu.FmmuSettings.{FmmuSettings}
-use Rattle.ec_sync.specs.Manager.{Manager, may_write}
+use Rattle.ec_sync.specs.SyncManager.{SyncManager, may_write}
 use Rattle.ec_sync.specs.Governing.{covers, governor}
 use Rattle.ec_fmmu.specs.Applied.{Place, touched_by_writing, data_bit_for}
 use Rattle.ec_slave.specs.Managers.{is_ungoverned, is_written_by}
@@ -40,11 +40,11 @@ some-mapped : (bytes : List ℕ) (o : Option ℕ) → is_some (option_map (bit b
 some-mapped bytes None = refl
 some-mapped bytes (Some n) = refl
 
-plain-some : (lower : List Manager) (fs : List FmmuSettings) (p : Place) (bytes : List ℕ) (q : ℕ) → is_ungoverned lower (q / 8) ≡ true → is_some (data_bit_for fs p q) ≡ true
+plain-some : (lower : List SyncManager) (fs : List FmmuSettings) (p : Place) (bytes : List ℕ) (q : ℕ) → is_ungoverned lower (q / 8) ≡ true → is_some (data_bit_for fs p q) ≡ true
     → is_some (plain_bit lower fs p bytes q) ≡ true
 plain-some lower fs p bytes q u s = ap is_some (if_true (is_ungoverned lower (q / 8)) (brought fs p bytes q) None u) ∙ (some-mapped bytes (data_bit_for fs p q) ∙ s)
 
-brought-own : (lower : List Manager) (fs : List FmmuSettings) (p : Place) (bytes : List ℕ) (start len : ℕ)
+brought-own : (lower : List SyncManager) (fs : List FmmuSettings) (p : Place) (bytes : List ℕ) (start len : ℕ)
     → any_below len (λ k. touched_by_writing fs p (start + k) && is_ungoverned lower (start + k)) ≡ true → some_brought lower fs p bytes start len ≡ true
 brought-own lower fs p bytes start len h =
     let r = any_below_some len (λ k. touched_by_writing fs p (start + k) && is_ungoverned lower (start + k)) h in
@@ -58,7 +58,7 @@ brought-own lower fs p bytes start len h =
     any_below_from (8 * len) (λ i. is_some (plain_bit lower fs p bytes (8 * start + i))) k inside
     (plain-some lower fs p bytes q (ap (is_ungoverned lower) byte ∙ parts.1) (ap (λ (n : ℕ). is_some (data_bit_for fs p n)) at ∙ t.2))
 
-own-brought : (lower : List Manager) (fs : List FmmuSettings) (p : Place) (bytes : List ℕ) (start len : ℕ) → some_brought lower fs p bytes start len ≡ true
+own-brought : (lower : List SyncManager) (fs : List FmmuSettings) (p : Place) (bytes : List ℕ) (start len : ℕ) → some_brought lower fs p bytes start len ≡ true
     → any_below len (λ k. touched_by_writing fs p (start + k) && is_ungoverned lower (start + k)) ≡ true
 own-brought lower fs p bytes start len h =
     let r = any_below_some (8 * len) (λ i. is_some (plain_bit lower fs p bytes (8 * start + i))) h in
@@ -75,7 +75,7 @@ own-brought lower fs p bytes start len h =
     any_below_from len (λ k. touched_by_writing fs p (start + k) && is_ungoverned lower (start + k)) (i / 8) inside (and_from _ _ touched own)
 
 -- a datagram that writes gets at a manager exactly where it brings it a bit outside the bytes that lower ones govern
-pub written_by-is : (lower : List Manager) (fs : List FmmuSettings) (p : Place) (bytes : List ℕ) (m : Manager)
+pub written_by-is : (lower : List SyncManager) (fs : List FmmuSettings) (p : Place) (bytes : List ℕ) (m : SyncManager)
     → is_written_by (touched_by_writing fs p) (is_ungoverned lower) m ≡ one_written lower fs p bytes m
 written_by-is lower fs p bytes m = same_truth _ _
     (λ h.
@@ -88,7 +88,7 @@ written_by-is lower fs p bytes m = same_truth _ _
     and_from _ _ b.0 (and_from _ _ a.0 (own-brought lower fs p bytes m.settings.start m.settings.length b.1)))
 
 -- a bit that is brought outside the bytes that lower ones govern is touched
-plain-touched : (lower : List Manager) (fs : List FmmuSettings) (p : Place) (bytes : List ℕ) (q a : ℕ) → q / 8 ≡ a → is_some (plain_bit lower fs p bytes q) ≡ true → touched_by_writing fs p a ≡ true
+plain-touched : (lower : List SyncManager) (fs : List FmmuSettings) (p : Place) (bytes : List ℕ) (q a : ℕ) → q / 8 ≡ a → is_some (plain_bit lower fs p bytes q) ≡ true → touched_by_writing fs p a ≡ true
 plain-touched lower fs p bytes q a e h =
     let parts = if-some (is_none (governor lower (q / 8))) (brought fs p bytes q) h in
     let at : q ≡ 8 * a + q % 8 = omega arith in
@@ -97,7 +97,7 @@ plain-touched lower fs p bytes q a e h =
     any_below_from 8 (λ j. is_some (data_bit_for fs p (8 * a + j))) (q % 8) (omega arith) bit_there
 
 -- a manager that may be written and to all of whose value bits are brought is written
-pub wholly-written : (lower : List Manager) (fs : List FmmuSettings) (p : Place) (bytes : List ℕ) (m : Manager) → may_write m ≡ true → 0 < m.settings.length
+pub wholly-written : (lower : List SyncManager) (fs : List FmmuSettings) (p : Place) (bytes : List ℕ) (m : SyncManager) → may_write m ≡ true → 0 < m.settings.length
     → ((k : ℕ) → k < 8 * m.settings.length → is_some (plain_bit lower fs p bytes (8 * m.settings.start + k)) ≡ true)
     → is_written_by (touched_by_writing fs p) (is_ungoverned lower) m ≡ true
 wholly-written lower fs p bytes m may some h =
@@ -109,7 +109,7 @@ wholly-written lower fs p bytes m may some h =
     written_by-is lower fs p bytes m ∙ and_from _ _ (and_from _ _ first last) (and_from _ _ may brought)
 
 -- and its value is one copy
-pub wholly-copied : (lower : List Manager) (fs : List FmmuSettings) (p : Place) (bytes : List ℕ) (start len at : ℕ)
+pub wholly-copied : (lower : List SyncManager) (fs : List FmmuSettings) (p : Place) (bytes : List ℕ) (start len at : ℕ)
     → ((k : ℕ) → k < 8 * len → plain_bit lower fs p bytes (8 * start + k) ≡ Some (bit bytes (at + k)))
     → copied (zeros len) 0 bytes (at + 8 * (start - start)) (8 * len) ≡ logical_value lower fs p bytes start len
 wholly-copied lower fs p bytes start len at h =
@@ -129,7 +129,7 @@ and-nothing : (w : Bool) → false ≡ (w && false)
 and-nothing true = refl
 and-nothing false = refl
 
-pub written_from-end : (ms : List Manager) (writing : Bool) (fs : List FmmuSettings) (p : Place) (bytes : List ℕ) → length ms ≡ 4
+pub written_from-end : (ms : List SyncManager) (writing : Bool) (fs : List FmmuSettings) (p : Place) (bytes : List ℕ) → length ms ≡ 4
     → false ≡ (writing && written_from ms fs p bytes 4)
 written_from-end [] writing fs p bytes e = absurd (omega arith)
 written_from-end (a ∷ []) writing fs p bytes e = absurd (omega arith)
@@ -146,24 +146,24 @@ either-way true false false = refl
 either-way false a o = refl
 
 -- one more, number n
-pub written_from-step : (ms before : List Manager) (reading writing : Bool) (fs : List FmmuSettings) (p : Place) (bytes : List ℕ) (n : ℕ) (d : Manager) (a b : Bool)
+pub written_from-step : (ms before : List SyncManager) (reading writing : Bool) (fs : List FmmuSettings) (p : Place) (bytes : List ℕ) (n : ℕ) (d : SyncManager) (a b : Bool)
     → n < length ms → before ≡ exchanged_from ms reading writing fs p bytes (n + 1)
     → a ≡ (writing && written_from ms fs p bytes (n + 1))
     → b ≡ (writing && is_written_by (touched_by_writing fs p) (is_ungoverned (take n before)) (get_or (drop n before) 0 d))
     → (a || b) ≡ (writing && written_from ms fs p bytes n)
 written_from-step ms before reading writing fs p bytes n d a b l was ha hb =
-    let A : List Manager = take n ms in
-    let m : Manager = get_or ms n d in
-    let R : List Manager = logical_managers (A ++ m ∷ []) reading writing fs p bytes (drop (n + 1) ms) in
+    let A : List SyncManager = take n ms in
+    let m : SyncManager = get_or ms n d in
+    let R : List SyncManager = logical_managers (A ++ m ∷ []) reading writing fs p bytes (drop (n + 1) ms) in
     let eA : length A ≡ n = length-take-le n ms (omega arith) in
     let eT : take (n + 1) ms ≡ A ++ m ∷ [] = take_more ms n d l in
     let eB : before ≡ A ++ m ∷ R = was ∙ (ap (λ t. t ++ logical_managers t reading writing fs p bytes (drop (n + 1) ms)) eT ∙ append_assoc A (m ∷ []) R) in
     let tB : take n before ≡ A = ap (take n) eB ∙ take_front A (m ∷ R) n eA in
     let dB : drop n before ≡ m ∷ R = ap (drop n) eB ∙ drop_front A (m ∷ R) n eA in
-    let by = λ (t : List Manager) (x : Manager). writing && is_written_by (touched_by_writing fs p) (is_ungoverned t) x in
+    let by = λ (t : List SyncManager) (x : SyncManager). writing && is_written_by (touched_by_writing fs p) (is_ungoverned t) x in
     let one : b ≡ (writing && one_written A fs p bytes m)
-    = hb ∙ (ap (λ (t : List Manager). by t (get_or (drop n before) 0 d)) tB
-    ∙ (ap (λ (t : List Manager). by A (get_or t 0 d)) dB ∙ ap (λ (z : Bool). writing && z) (written_by-is A fs p bytes m))) in
+    = hb ∙ (ap (λ (t : List SyncManager). by t (get_or (drop n before) 0 d)) tB
+    ∙ (ap (λ (t : List SyncManager). by A (get_or t 0 d)) dB ∙ ap (λ (z : Bool). writing && z) (written_by-is A fs p bytes m))) in
     ap₂ (λ (x y : Bool). x || y) ha one
     ∙ (either-way writing (written_from ms fs p bytes (n + 1)) (one_written A fs p bytes m)
     ∙ ap (λ (z : Bool). writing && z) (sym (written_from-next ms fs p bytes n d l)))

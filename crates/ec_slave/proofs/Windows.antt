@@ -5,7 +5,7 @@ use Rattle.ec_bits.specs.Bits.{within}
 use Rattle.ec_bits.proofs.Overlays.{or_true}
 use Rattle.ec_bits.proofs.AnyLaws.{if_true, if_false, if_none, within_true, within_below, within_above}
 use Rattle.ec_regs.specs.Memory.{ram_start, ram_end, is_stored, takes_writes}
-use Rattle.ec_sync.specs.Manager.{Manager, may_read, may_write}
+use Rattle.ec_sync.specs.SyncManager.{SyncManager, may_read, may_write}
 use Rattle.ec_sync.specs.Governing.{covers, governor, in_first_buffer, shown_byte}
 use Rattle.ec_slave.specs.State.{SlaveState, manager_at}
 use Rattle.ec_slave.specs.Managers.{reads_under, writes_under}
@@ -23,18 +23,18 @@ from-inside w i h =
     if_true _ _ _ (within_true w.from (length w.bytes) (w.from + i) (omega arith) (omega arith)) ∙ ap (λ k. Some (slice_index w.bytes k)) e
 
 -- what the memory itself keeps of a datagram
-abbrev pub kept_byte : List Manager → Window → ℕ → Option ℕ
+abbrev pub kept_byte : List SyncManager → Window → ℕ → Option ℕ
 kept_byte ms w a = if is_kept ms a then byte_from w a else None
 
-pub kept-inside : (ms : List Manager) (w : Window) (i : ℕ) → i < length w.bytes
+pub kept-inside : (ms : List SyncManager) (w : Window) (i : ℕ) → i < length w.bytes
     → kept_byte ms w (w.from + i) ≡ (if is_kept ms (w.from + i) then Some (slice_index w.bytes i) else None)
 kept-inside ms w i h = ap (λ o. if is_kept ms (w.from + i) then o else None) (from-inside w i h)
 
-pub kept-outside : (ms : List Manager) (w : Window) (a : ℕ) → (a < w.from) ⊎ (w.from + length w.bytes ≤ a) → kept_byte ms w a ≡ None
+pub kept-outside : (ms : List SyncManager) (w : Window) (a : ℕ) → (a < w.from) ⊎ (w.from + length w.bytes ≤ a) → kept_byte ms w a ≡ None
 kept-outside ms w a h = if_none _ _ (from-outside w a h)
 
 -- a datagram of which the memory itself keeps all bytes
-pub all-kept : (ms : List Manager) (w : Window) (memory : List ℕ) → ((a : ℕ) → w.from ≤ a → a < w.from + length w.bytes → is_kept ms a ≡ true)
+pub all-kept : (ms : List SyncManager) (w : Window) (memory : List ℕ) → ((a : ℕ) → w.from ≤ a → a < w.from + length w.bytes → is_kept ms a ≡ true)
     → retold_from 0 memory (byte_from w) ≡ retold_from 0 memory (kept_byte ms w)
 all-kept ms w memory h = retold-alike memory (byte_from w) (kept_byte ms w) (λ a. elim (cases_lt a w.from) [
   | inl x ↦ from-outside w a (inl x) ∙ sym (kept-outside ms w a (inl x))
@@ -76,7 +76,7 @@ read-own s joining from xs ys i long own =
     ∙ ap (λ (x : ℕ). if may_read_byte s.managers (within from (length ys)) (from + i) then Some (over joining x (byte_at s (from + i))) else None) own
 
 -- bytes that are alike may be read or not alike
-pub read-alike : (ms : List Manager) (touched : ℕ → Bool) (a b : ℕ) → nat_lt a ram_start ≡ nat_lt b ram_start → nat_lt a ram_end ≡ nat_lt b ram_end
+pub read-alike : (ms : List SyncManager) (touched : ℕ → Bool) (a b : ℕ) → nat_lt a ram_start ≡ nat_lt b ram_start → nat_lt a ram_end ≡ nat_lt b ram_end
     → governor ms a ≡ governor ms b → ((n : ℕ) → governor ms b ≡ Some n → in_first_buffer (manager_at ms n) a ≡ in_first_buffer (manager_at ms n) b)
     → may_read_byte ms touched a ≡ may_read_byte ms touched b
 unfolding may_read_byte
@@ -92,7 +92,7 @@ read-alike ms touched a b low high g front =
     under (Some n) h = ap (λ (x : Bool). x && (covers touched (manager_at ms n) && may_read (manager_at ms n))) (h n refl)
 
 -- a byte that is read lies in the memory
-pub read-inside : (ms : List Manager) (touched : ℕ → Bool) (a : ℕ) → may_read_byte ms touched a ≡ true → a < ram_end
+pub read-inside : (ms : List SyncManager) (touched : ℕ → Bool) (a : ℕ) → may_read_byte ms touched a ≡ true → a < ram_end
 unfolding may_read_byte
 read-inside ms touched a h = elim (or_true (nat_lt a ram_start) _ h) [
   | inl low ↦ let x = ltb-true a ram_start low in omega (arith, x)
@@ -100,18 +100,18 @@ read-inside ms touched a h = elim (or_true (nat_lt a ram_start) _ h) [
 ]
 
 -- every register is read
-pub read-register : (ms : List Manager) (touched : ℕ → Bool) (a : ℕ) → a < ram_start → may_read_byte ms touched a ≡ true
+pub read-register : (ms : List SyncManager) (touched : ℕ → Bool) (a : ℕ) → a < ram_start → may_read_byte ms touched a ≡ true
 unfolding may_read_byte
 read-register ms touched a h = or_left (nat_lt a ram_start) _ (lt-ltb a ram_start h)
 
 -- a register is written if it takes writes
-pub write-register : (ms : List Manager) (busy : Bool) (touched : ℕ → Bool) (a : ℕ) → a < ram_start → may_write_byte ms busy touched a ≡ takes_writes busy a
+pub write-register : (ms : List SyncManager) (busy : Bool) (touched : ℕ → Bool) (a : ℕ) → a < ram_start → may_write_byte ms busy touched a ≡ takes_writes busy a
 unfolding may_write_byte
 write-register ms busy touched a h =
     if_true (nat_lt a ram_start) (takes_writes busy a) (nat_lt a ram_end && writes_under ms touched a (governor ms a)) (lt-ltb a ram_start h)
 
 -- bytes of the RAM that are alike may be written or not alike
-pub write-alike : (ms : List Manager) (busy : Bool) (touched : ℕ → Bool) (a b : ℕ) → ram_start ≤ a → ram_start ≤ b → nat_lt a ram_end ≡ nat_lt b ram_end
+pub write-alike : (ms : List SyncManager) (busy : Bool) (touched : ℕ → Bool) (a b : ℕ) → ram_start ≤ a → ram_start ≤ b → nat_lt a ram_end ≡ nat_lt b ram_end
     → governor ms a ≡ governor ms b → ((n : ℕ) → governor ms b ≡ Some n → in_first_buffer (manager_at ms n) a ≡ in_first_buffer (manager_at ms n) b)
     → may_write_byte ms busy touched a ≡ may_write_byte ms busy touched b
 unfolding may_write_byte
@@ -128,7 +128,7 @@ write-alike ms busy touched a b la lb high g front =
     under (Some n) h = ap (λ (x : Bool). x && (covers touched (manager_at ms n) && may_write (manager_at ms n))) (h n refl)
 
 -- and are kept in the memory itself or not
-pub kept-alike : (ms : List Manager) (a b : ℕ) → ram_start ≤ a → ram_start ≤ b → nat_lt a ram_end ≡ nat_lt b ram_end → governor ms a ≡ governor ms b
+pub kept-alike : (ms : List SyncManager) (a b : ℕ) → ram_start ≤ a → ram_start ≤ b → nat_lt a ram_end ≡ nat_lt b ram_end → governor ms a ≡ governor ms b
     → is_kept ms a ≡ is_kept ms b
 unfolding is_kept
 kept-alike ms a b la lb high g =
@@ -138,7 +138,7 @@ kept-alike ms a b la lb high g =
     ∙ sym (if_false (nat_lt b ram_start) (is_stored b && not (within 0x0800 32 b)) (nat_lt b ram_end && is_none (governor ms b)) (le-ltb b ram_start lb))))
 
 -- a byte that is kept lies in the memory
-pub kept-below : (ms : List Manager) (a : ℕ) → is_kept ms a ≡ true → a < ram_end
+pub kept-below : (ms : List SyncManager) (a : ℕ) → is_kept ms a ≡ true → a < ram_end
 unfolding is_kept
 kept-below ms a h = elim (cases_lt a ram_start) [
   | inl x ↦ omega (arith, x)

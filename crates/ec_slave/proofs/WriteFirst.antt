@@ -6,11 +6,11 @@ use Rattle.ec_bits.specs.Bits.{bit, overlay, within}
 use Rattle.ec_bits.proofs.AnyLaws.{any_below-alike, if_true, if_false, if_none}
 use Rattle.ec_bits.proofs.BitLaws.{bit-overlay, overlay_alike, overlay_own}
 use Rattle.ec_regs.specs.declared.fmmu.FmmuSettings.{FmmuSettings}
-use Rattle.ec_regs.specs.declared.manager.ManagerSettings.{ManagerSettings}
-use Rattle.ec_regs.specs.Managers.{is_mailbox, is_ring_read, is_ring_written, is_set, span}
+use Rattle.ec_regs.specs.declared.manager.SyncManagerSettings.{SyncManagerSettings}
+use Rattle.ec_regs.specs.Managers.{is_mailbox, is_master_read, is_master_written, is_set, span}
 use Rattle.ec_regs.specs.Memory.{ram_end}
 use Rattle.ec_sync.specs.Buffer.{publishing}
-use Rattle.ec_sync.specs.Manager.{Manager, no_manager, is_enabled, may_read, may_write, ring_read, ring_written, shown}
+use Rattle.ec_sync.specs.SyncManager.{SyncManager, no_manager, is_enabled, may_read, may_write, ring_read, ring_written, shown}
 use Rattle.ec_sync.specs.Governing.{governor, governs}
 use Rattle.ec_fmmu.specs.Applied.{Place, inside_place, touched_by_reading, touched_by_writing}
 use Rattle.ec_fmmu.specs.Sets.{readers, source, target, writers}
@@ -25,21 +25,21 @@ use Rattle.ec_slave.proofs.Moves.{decoded-mapped}
 
 -- ---- one manager
 
-abbrev mail_kept : Manager → List ℕ → Manager
+abbrev mail_kept : SyncManager → List ℕ → SyncManager
 mail_kept m v = record m { mail = Some v }
 
-abbrev value_kept : Manager → List ℕ → Manager
+abbrev value_kept : SyncManager → List ℕ → SyncManager
 value_kept m v = record m { buffer = publishing m.buffer v }
 
-written_settings : (m : Manager) (v : List ℕ) → (ring_written m v).settings ≡ m.settings
+written_settings : (m : SyncManager) (v : List ℕ) → (ring_written m v).settings ≡ m.settings
 written_settings m v = elim (cases_Bool (is_mailbox m.settings)) [
-  | inl on ↦ ap (λ (x : Manager). x.settings) (if_true (is_mailbox m.settings) (mail_kept m v) (value_kept m v) on)
-  | inr off ↦ ap (λ (x : Manager). x.settings) (if_false (is_mailbox m.settings) (mail_kept m v) (value_kept m v) off)
+  | inl on ↦ ap (λ (x : SyncManager). x.settings) (if_true (is_mailbox m.settings) (mail_kept m v) (value_kept m v) on)
+  | inr off ↦ ap (λ (x : SyncManager). x.settings) (if_false (is_mailbox m.settings) (mail_kept m v) (value_kept m v) off)
 ]
 
 -- what the ring writes it doesn't read
-one_way : (x : ManagerSettings) → is_ring_written x ≡ true → is_ring_read x ≡ false
-one_way x h = elim (cases_Bool (is_ring_read x)) [
+one_way : (x : SyncManagerSettings) → is_master_written x ≡ true → is_master_read x ≡ false
+one_way x h = elim (cases_Bool (is_master_read x)) [
   | inl r ↦
       let a : x.control / 4 % 4 ≡ 1 = eqb-true (x.control / 4 % 4) 1 h in
       let b : x.control / 4 % 4 ≡ 0 = eqb-true (x.control / 4 % 4) 0 r in
@@ -47,112 +47,112 @@ one_way x h = elim (cases_Bool (is_ring_read x)) [
   | inr f ↦ f
 ]
 
-unread : (m : Manager) → is_ring_read m.settings ≡ false → may_read m ≡ false
-unread m h = and_right (is_enabled m) _ (and_left (is_ring_read m.settings) _ h)
+unread : (m : SyncManager) → is_master_read m.settings ≡ false → may_read m ≡ false
+unread m h = and_right (is_enabled m) _ (and_left (is_master_read m.settings) _ h)
 
-writable_way : (m : Manager) → may_write m ≡ true → is_ring_written m.settings ≡ true
-writable_way m h = (and_parts (is_ring_written m.settings) _ (and_parts (is_enabled m) _ h).1).0
+writable_way : (m : SyncManager) → may_write m ≡ true → is_master_written m.settings ≡ true
+writable_way m h = (and_parts (is_master_written m.settings) _ (and_parts (is_enabled m) _ h).1).0
 
 -- what stays of a manager that is written first
-record Alike (m n : Manager) : Type 0 where
+record Alike (m n : SyncManager) : Type 0 where
   settings : n.settings ≡ m.settings
   reads : may_read n ≡ may_read m
   shows : may_read m ≡ true → shown n ≡ shown m
 
-alike_own : (m : Manager) → Alike m m
+alike_own : (m : SyncManager) → Alike m m
 alike_own m = record { settings = refl; reads = refl; shows = λ h. refl }
 
-alike_written : (m : Manager) (v : List ℕ) → may_write m ≡ true → Alike m (ring_written m v)
+alike_written : (m : SyncManager) (v : List ℕ) → may_write m ≡ true → Alike m (ring_written m v)
 alike_written m v h =
-    let way : is_ring_read m.settings ≡ false = one_way m.settings (writable_way m h) in
+    let way : is_master_read m.settings ≡ false = one_way m.settings (writable_way m h) in
     let same : (ring_written m v).settings ≡ m.settings = written_settings m v in
     let there : may_read m ≡ false = unread m way in
     record {
       settings = same;
-      reads = unread (ring_written m v) (ap is_ring_read same ∙ way) ∙ sym there;
+      reads = unread (ring_written m v) (ap is_master_read same ∙ way) ∙ sym there;
       shows = λ t. absurd (let e : true ≡ false = sym t ∙ there in cc);
     }
 
-alike_after : (rt wt own : ℕ → Bool) (v : ℕ → ℕ → List ℕ) (m : Manager) → Alike m (manager_after false true rt wt own v m)
+alike_after : (rt wt own : ℕ → Bool) (v : ℕ → ℕ → List ℕ) (m : SyncManager) → Alike m (manager_after false true rt wt own v m)
 alike_after rt wt own v m = elim (cases_Bool (is_written_by wt own m)) [
-  | inl w ↦ subst (λ (x : Manager). Alike m x) (sym (if_true (is_written_by wt own m) (ring_written m (v m.settings.start m.settings.length)) m w))
+  | inl w ↦ subst (λ (x : SyncManager). Alike m x) (sym (if_true (is_written_by wt own m) (ring_written m (v m.settings.start m.settings.length)) m w))
       (alike_written m (v m.settings.start m.settings.length) (and_parts (may_write m) _ w).0)
-  | inr f ↦ subst (λ (x : Manager). Alike m x) (sym (if_false (is_written_by wt own m) (ring_written m (v m.settings.start m.settings.length)) m f)) (alike_own m)
+  | inr f ↦ subst (λ (x : SyncManager). Alike m x) (sym (if_false (is_written_by wt own m) (ring_written m (v m.settings.start m.settings.length)) m f)) (alike_own m)
 ]
 
 -- ---- who governs goes by the settings
 
-abbrev has : ℕ → ManagerSettings → Bool
+abbrev has : ℕ → SyncManagerSettings → Bool
 has a x = is_set x && within x.start (span x) a
 
-abbrev settings_in : List Manager → List ManagerSettings
-settings_in ms = map (λ (m : Manager). m.settings) ms
+abbrev settings_in : List SyncManager → List SyncManagerSettings
+settings_in ms = map (λ (m : SyncManager). m.settings) ms
 
-by_settings : (k a : ℕ) (ms : List Manager) → position_from (λ m. governs m a) k ms ≡ position_from (has a) k (settings_in ms)
+by_settings : (k a : ℕ) (ms : List SyncManager) → position_from (λ m. governs m a) k ms ≡ position_from (has a) k (settings_in ms)
 by_settings k a [] = refl
 by_settings k a (m ∷ ms) = ap (λ (o : Option ℕ). if governs m a then Some k else o) (by_settings (k + 1) a ms)
 
-governor_same : (ms ns : List Manager) (a : ℕ) → settings_in ns ≡ settings_in ms → governor ns a ≡ governor ms a
-governor_same ms ns a e = by_settings 0 a ns ∙ (ap (λ (xs : List ManagerSettings). position_from (has a) 0 xs) e ∙ sym (by_settings 0 a ms))
+governor_same : (ms ns : List SyncManager) (a : ℕ) → settings_in ns ≡ settings_in ms → governor ns a ≡ governor ms a
+governor_same ms ns a e = by_settings 0 a ns ∙ (ap (λ (xs : List SyncManagerSettings). position_from (has a) 0 xs) e ∙ sym (by_settings 0 a ms))
 
-settings_more : (ms : List Manager) (m : Manager) → settings_in (ms ++ m ∷ []) ≡ settings_in ms ++ m.settings ∷ []
+settings_more : (ms : List SyncManager) (m : SyncManager) → settings_in (ms ++ m ∷ []) ≡ settings_in ms ++ m.settings ∷ []
 settings_more [] m = refl
-settings_more (x ∷ ms) m = ap (λ (xs : List ManagerSettings). x.settings ∷ xs) (settings_more ms m)
+settings_more (x ∷ ms) m = ap (λ (xs : List SyncManagerSettings). x.settings ∷ xs) (settings_more ms m)
 
 -- ---- all managers, written first
 
-abbrev first_written : List Manager → List FmmuSettings → Place → List ℕ → List Manager → List Manager
+abbrev first_written : List SyncManager → List FmmuSettings → Place → List ℕ → List SyncManager → List SyncManager
 first_written lower fs p b ms = logical_managers lower false true fs p b ms
 
-settings_first : (lower : List Manager) (fs : List FmmuSettings) (p : Place) (b : List ℕ) (ms : List Manager) → settings_in (first_written lower fs p b ms) ≡ settings_in ms
+settings_first : (lower : List SyncManager) (fs : List FmmuSettings) (p : Place) (b : List ℕ) (ms : List SyncManager) → settings_in (first_written lower fs p b ms) ≡ settings_in ms
 settings_first lower fs p b [] = refl
 settings_first lower fs p b (m ∷ ms) =
     let one = (alike_after (touched_by_reading fs p) (touched_by_writing fs p) (is_ungoverned lower) (logical_value lower fs p b) m).settings in
-    ap (λ (x : ManagerSettings). x ∷ settings_in (first_written (lower ++ m ∷ []) fs p b ms)) one
-    ∙ ap (λ (xs : List ManagerSettings). m.settings ∷ xs) (settings_first (lower ++ m ∷ []) fs p b ms)
+    ap (λ (x : SyncManagerSettings). x ∷ settings_in (first_written (lower ++ m ∷ []) fs p b ms)) one
+    ∙ ap (λ (xs : List SyncManagerSettings). m.settings ∷ xs) (settings_first (lower ++ m ∷ []) fs p b ms)
 
-alike_first : (lower : List Manager) (fs : List FmmuSettings) (p : Place) (b : List ℕ) (ms : List Manager) (n : ℕ) → Alike (manager_at ms n) (manager_at (first_written lower fs p b ms) n)
+alike_first : (lower : List SyncManager) (fs : List FmmuSettings) (p : Place) (b : List ℕ) (ms : List SyncManager) (n : ℕ) → Alike (manager_at ms n) (manager_at (first_written lower fs p b ms) n)
 alike_first lower fs p b [] n = alike_own no_manager
 alike_first lower fs p b (m ∷ ms) zero = alike_after (touched_by_reading fs p) (touched_by_writing fs p) (is_ungoverned lower) (logical_value lower fs p b) m
 alike_first lower fs p b (m ∷ ms) (suc n) = alike_first (lower ++ m ∷ []) fs p b ms n
 
 -- a manager that was written first, and is then read, is as if both were at once
-both_at_once : (rt wt own their : ℕ → Bool) (v w : ℕ → ℕ → List ℕ) (m : Manager) → ((a : ℕ) → their a ≡ own a)
+both_at_once : (rt wt own their : ℕ → Bool) (v w : ℕ → ℕ → List ℕ) (m : SyncManager) → ((a : ℕ) → their a ≡ own a)
     → manager_after true false rt wt their w (manager_after false true rt wt own v m) ≡ manager_after true true rt wt own v m
 both_at_once rt wt own their v w m same = elim (cases_Bool (is_written_by wt own m)) [
   | inl t ↦
-      let x : Manager = ring_written m (v m.settings.start m.settings.length) in
+      let x : SyncManager = ring_written m (v m.settings.start m.settings.length) in
       let once : manager_after false true rt wt own v m ≡ x = if_true (is_written_by wt own m) x m t in
       let still : may_read x ≡ false = (alike_written m (v m.settings.start m.settings.length) (and_parts (may_write m) _ t).0).reads
       ∙ unread m (one_way m.settings (writable_way m (and_parts (may_write m) _ t).0)) in
-      ap (λ (y : Manager). manager_after true false rt wt their w y) once
+      ap (λ (y : SyncManager). manager_after true false rt wt their w y) once
       ∙ (if_false (is_read_by rt their x) (ring_read x) x (and_left (may_read x) _ still)
       ∙ sym (if_true (is_written_by wt own m) x (if is_read_by rt own m then ring_read m else m) t))
   | inr f ↦
-      let x : Manager = ring_written m (v m.settings.start m.settings.length) in
+      let x : SyncManager = ring_written m (v m.settings.start m.settings.length) in
       let once : manager_after false true rt wt own v m ≡ m = if_false (is_written_by wt own m) x m f in
       let gets : gets_at rt their m ≡ gets_at rt own m = gets_at-alike rt their own m (λ k l. same (m.settings.start + k)) in
-      ap (λ (y : Manager). manager_after true false rt wt their w y) once
+      ap (λ (y : SyncManager). manager_after true false rt wt their w y) once
       ∙ (ap (λ (g : Bool). if may_read m && g then ring_read m else m) gets
       ∙ sym (if_false (is_written_by wt own m) x (if is_read_by rt own m then ring_read m else m) f))
 ]
 
-managers_at_once : (lower others : List Manager) (fs : List FmmuSettings) (p : Place) (b c : List ℕ) (ms : List Manager) → settings_in others ≡ settings_in lower
+managers_at_once : (lower others : List SyncManager) (fs : List FmmuSettings) (p : Place) (b c : List ℕ) (ms : List SyncManager) → settings_in others ≡ settings_in lower
     → logical_managers others true false fs p c (first_written lower fs p b ms) ≡ logical_managers lower true true fs p b ms
 managers_at_once lower others fs p b c [] e = refl
 managers_at_once lower others fs p b c (m ∷ ms) e =
     let rt = touched_by_reading fs p in
     let wt = touched_by_writing fs p in
-    let x : Manager = manager_after false true rt wt (is_ungoverned lower) (logical_value lower fs p b) m in
+    let x : SyncManager = manager_after false true rt wt (is_ungoverned lower) (logical_value lower fs p b) m in
     let one : manager_after true false rt wt (is_ungoverned others) (logical_value others fs p c) x ≡ manager_after true true rt wt (is_ungoverned lower) (logical_value lower fs p b) m
     = both_at_once rt wt (is_ungoverned lower) (is_ungoverned others) (logical_value lower fs p b) (logical_value others fs p c) m
     (λ a. ap (λ (o : Option ℕ). is_none o) (governor_same lower others a e)) in
     let more : settings_in (others ++ x ∷ []) ≡ settings_in (lower ++ m ∷ [])
-    = settings_more others x ∙ (ap (λ (xs : List ManagerSettings). xs ++ x.settings ∷ []) e
-    ∙ (ap (λ (y : ManagerSettings). settings_in lower ++ y ∷ []) (alike_after rt wt (is_ungoverned lower) (logical_value lower fs p b) m).settings
+    = settings_more others x ∙ (ap (λ (xs : List SyncManagerSettings). xs ++ x.settings ∷ []) e
+    ∙ (ap (λ (y : SyncManagerSettings). settings_in lower ++ y ∷ []) (alike_after rt wt (is_ungoverned lower) (logical_value lower fs p b) m).settings
     ∙ sym (settings_more lower m))) in
-    ap (λ (y : Manager). y ∷ logical_managers (others ++ x ∷ []) true false fs p c (first_written (lower ++ m ∷ []) fs p b ms)) one
-    ∙ ap (λ (ys : List Manager). manager_after true true rt wt (is_ungoverned lower) (logical_value lower fs p b) m ∷ ys)
+    ap (λ (y : SyncManager). y ∷ logical_managers (others ++ x ∷ []) true false fs p c (first_written (lower ++ m ∷ []) fs p b ms)) one
+    ∙ ap (λ (ys : List SyncManager). manager_after true true rt wt (is_ungoverned lower) (logical_value lower fs p b) m ∷ ys)
     (managers_at_once (lower ++ m ∷ []) (others ++ x ∷ []) fs p b c ms more)
 
 -- ---- the slave
@@ -172,21 +172,21 @@ slave_at_once s p b c =
     = ap (λ (fs : List FmmuSettings). logical_managers [] true false fs p c t.managers) (same_fmmus s p b)
     ∙ managers_at_once [] [] (fmmus s) p b c s.managers refl in
     ap (λ (xs : List ℕ). with_memory t xs (logical_managers [] true false (fmmus t) p c t.managers)) memory
-    ∙ ap (λ (ms : List Manager). with_memory s t.memory ms) managers
+    ∙ ap (λ (ms : List SyncManager). with_memory s t.memory ms) managers
 
 -- ---- what is read
 
 -- what a physical bit shows by the settings of its manager, whether that may be read, and its value
-abbrev seen_of : (ℕ → Bool) → ℕ → ManagerSettings → Bool → List ℕ → Option Bool
+abbrev seen_of : (ℕ → Bool) → ℕ → SyncManagerSettings → Bool → List ℕ → Option Bool
 seen_of t q x r v = if nat_lt (q / 8) (x.start + x.length) && ((t x.start && t (x.start + x.length - 1)) && r) then Some (bit v (q - 8 * x.start)) else None
 
-seen_unread : (t : ℕ → Bool) (q : ℕ) (x : ManagerSettings) (v : List ℕ) → seen_of t q x false v ≡ None
+seen_unread : (t : ℕ → Bool) (q : ℕ) (x : SyncManagerSettings) (v : List ℕ) → seen_of t q x false v ≡ None
 seen_unread t q x v = if_false _ (Some (bit v (q - 8 * x.start))) None
     (and_right (nat_lt (q / 8) (x.start + x.length)) _ (and_right (t x.start && t (x.start + x.length - 1)) false refl))
 
-seen_alike : (t : ℕ → Bool) (q : ℕ) (m n : Manager) → Alike m n → seen_of t q n.settings (may_read n) (shown n) ≡ seen_of t q m.settings (may_read m) (shown m)
+seen_alike : (t : ℕ → Bool) (q : ℕ) (m n : SyncManager) → Alike m n → seen_of t q n.settings (may_read n) (shown n) ≡ seen_of t q m.settings (may_read m) (shown m)
 seen_alike t q m n h =
-    ap (λ (x : ManagerSettings). seen_of t q x (may_read n) (shown n)) h.settings
+    ap (λ (x : SyncManagerSettings). seen_of t q x (may_read n) (shown n)) h.settings
     ∙ (ap (λ (r : Bool). seen_of t q m.settings r (shown n)) h.reads
     ∙ elim (cases_Bool (may_read m)) [
       | inl r ↦ ap (λ (v : List ℕ). seen_of t q m.settings (may_read m) v) (h.shows r)
@@ -194,7 +194,7 @@ seen_alike t q m n h =
           ∙ sym (ap (λ (r : Bool). seen_of t q m.settings r (shown m)) f ∙ seen_unread t q m.settings (shown m)))
     ])
 
-abbrev told : List ℕ → List Manager → (ℕ → Bool) → ℕ → Option ℕ → Option Bool
+abbrev told : List ℕ → List SyncManager → (ℕ → Bool) → ℕ → Option ℕ → Option Bool
 told memory ms t q o = if reads_under ms t (q / 8) o then Some (shown_under memory ms q o) else None
 
 readable_same : (s : SlaveState) (p : Place) (b : List ℕ) (q : ℕ) → length s.memory ≡ 0x3000 → q < 8 * ram_end → source (writers (fmmus s)) q ≡ None

@@ -4,7 +4,7 @@
 use Rattle.std.specs.Prelude.{ℕ, ◌+◌, ◌*◌, ◌/◌, ◌≡◌, ◌==◌, ◌&&◌, List, [], ◌∷◌, Bool, false, if◌then◌else◌, Option, Some, None}
 use Rattle.ec_bits.specs.Bits.{overlay, zeros}
 use Rattle.ec_regs.specs.declared.fmmu.FmmuSettings.{FmmuSettings}
-use Rattle.ec_sync.specs.Manager.{Manager, empty_manager}
+use Rattle.ec_sync.specs.SyncManager.{SyncManager, empty_manager}
 use Rattle.ec_sync.specs.Governing.{governor}
 use Rattle.ec_fmmu.specs.Applied.{Place, touched_by_reading, touched_by_writing}
 use Rattle.ec_slave.specs.Managers.{manager_after}
@@ -16,27 +16,27 @@ is_governor n None = false
 is_governor n (Some k) = k == n
 
 -- each manager, with its number, by itself
-abbrev pub each_from : ℕ → (ℕ → Manager → Manager) → List Manager → List Manager
+abbrev pub each_from : ℕ → (ℕ → SyncManager → SyncManager) → List SyncManager → List SyncManager
 each_from n f [] = []
 each_from n f (m ∷ ms) = f n m ∷ each_from (n + 1) f ms
 
 -- the bytes that manager n governs among all
-abbrev pub governs_among : List Manager → ℕ → ℕ → Bool
+abbrev pub governs_among : List SyncManager → ℕ → ℕ → Bool
 governs_among all n a = is_governor n (governor all a)
 
 -- the value of manager n, of its start and length: the bytes that it governs among all, 0 elsewhere
-abbrev pub value_among : List Manager → Window → ℕ → ℕ → ℕ → List ℕ
+abbrev pub value_among : List SyncManager → Window → ℕ → ℕ → ℕ → List ℕ
 value_among all w n start len = retold (zeros len) (λ k. if governs_among all n (start + k) then byte_from w (start + k) else None)
 
 -- the same bit by bit
-abbrev pub bits_among : List Manager → List FmmuSettings → Place → List ℕ → ℕ → ℕ → ℕ → List ℕ
+abbrev pub bits_among : List SyncManager → List FmmuSettings → Place → List ℕ → ℕ → ℕ → ℕ → List ℕ
 bits_among all fs p bytes n start len =
     overlay (zeros len) (λ k. only_if (governs_among all n ((8 * start + k) / 8)) (brought fs p bytes (8 * start + k)))
 
 -- a physical datagram: every manager against all as they were
 abbrev pub PhysicalAgainstAll : Type 0
 PhysicalAgainstAll =
-    (reads writes : Bool) (w : Window) (ms : List Manager)
+    (reads writes : Bool) (w : Window) (ms : List SyncManager)
     → physical_managers [] reads writes w 0 ms
     ≡ each_from 0 (λ n m. if writes && is_configured w n then empty_manager (settings_written w n m) m.locked
     else manager_after reads writes (touches w) (touches w) (governs_among ms n) (value_among ms w n) m) ms
@@ -44,6 +44,6 @@ PhysicalAgainstAll =
 -- a logical datagram: every manager against all as they were
 abbrev pub LogicalAgainstAll : Type 0
 LogicalAgainstAll =
-    (reading writing : Bool) (fs : List FmmuSettings) (p : Place) (bytes : List ℕ) (ms : List Manager)
+    (reading writing : Bool) (fs : List FmmuSettings) (p : Place) (bytes : List ℕ) (ms : List SyncManager)
     → logical_managers [] reading writing fs p bytes ms
     ≡ each_from 0 (λ n m. manager_after reading writing (touched_by_reading fs p) (touched_by_writing fs p) (governs_among ms n) (bits_among ms fs p bytes n) m) ms

@@ -5,7 +5,7 @@ use Rattle.ec_regs.specs.Managers.{is_set, is_buffered}
 use Rattle.ec_al.specs.declared.state.State.{State}
 use Rattle.ec_al.specs.declared.state.State.TheVariants.{SafeOp, Op}
 use Rattle.ec_sync.specs.Buffer.{Got}
-use Rattle.ec_sync.specs.Manager.{Manager, may_app_put, may_app_get, app_put, app_got, after_get}
+use Rattle.ec_sync.specs.SyncManager.{SyncManager, may_app_put, may_app_get, app_put, app_got, after_get}
 use Rattle.ec_slave.specs.State.{SlaveState, manager_at}
 
 -- the states in which the application has process data
@@ -28,7 +28,7 @@ get_size s = let m = manager_at s.managers 2 in if is_running s.al.state && may_
 abbrev pub put_size : SlaveState → ℕ
 put_size s = let m = manager_at s.managers 3 in if is_running s.al.state && may_app_put m then m.settings.length else 0
 
-abbrev pub with_manager : SlaveState → ℕ → Manager → SlaveState
+abbrev pub with_manager : SlaveState → ℕ → SyncManager → SlaveState
 with_manager s n m = record s { managers = slice_set s.managers n m }
 
 -- the application writes byte i of the inputs: nothing where it is denied

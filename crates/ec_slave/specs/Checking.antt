@@ -2,11 +2,11 @@
 -- its type and with the PDOs that are assigned is the profile of the simulated slaves).
 use Rattle.std.specs.Prelude.{ℕ, ◌+◌, ◌*◌, ◌%◌, ◌==◌, ◌&&◌, List, Bool, true, if◌then◌else◌, slice_index, Option, Some, None}
 use Rattle.ec_bits.specs.Bits.{bytes_of_bits}
-use Rattle.ec_regs.specs.declared.slave_type.Mailbox.{Mailbox}
+use Rattle.ec_device.specs.declared.slave_type.Mailbox.{Mailbox}
 use Rattle.ec_regs.specs.Managers.{mailbox_out_control, mailbox_in_control, outputs_control, inputs_control}
 use Rattle.ec_regs.specs.Memory.{al_control}
-use Rattle.ec_regs.specs.Objects.{bits_assigned}
-use Rattle.ec_sync.specs.Manager.{Manager, is_enabled}
+use Rattle.ec_device.specs.Objects.{bits_assigned}
+use Rattle.ec_sync.specs.SyncManager.{SyncManager, is_enabled}
 use Rattle.ec_al.specs.declared.transition.Checks.{Checks}
 use Rattle.ec_coe.specs.Objects.{assigned}
 use Rattle.ec_slave.specs.State.{SlaveState, manager_at}
@@ -25,18 +25,18 @@ abbrev pub inputs_mode : ℕ
 inputs_mode = inputs_control % 16
 
 -- an enabled manager of this start, length, mode and direction
-abbrev pub is_manager : Manager → ℕ → ℕ → ℕ → Bool
+abbrev pub is_manager : SyncManager → ℕ → ℕ → ℕ → Bool
 is_manager m start len mode =
     is_enabled m && ((m.settings.start == start) && ((m.settings.length == len) && (m.settings.control % 16 == mode)))
 
 -- managers 0 and 1 are the type's mailboxes; a type without mailbox passes
-abbrev pub mailbox_check : List Manager → Option Mailbox → Bool
+abbrev pub mailbox_check : List SyncManager → Option Mailbox → Bool
 mailbox_check ms None = true
 mailbox_check ms (Some b) =
     is_manager (manager_at ms 0) b.receive_start b.receive_size mailbox_out && is_manager (manager_at ms 1) b.send_start b.send_size mailbox_in
 
 -- a manager for so many bits of process data: it has their bytes; for none it isn't activated
-abbrev pub process_check : Manager → ℕ → ℕ → ℕ → Bool
+abbrev pub process_check : SyncManager → ℕ → ℕ → ℕ → Bool
 process_check m bits start mode =
     if bits == 0 then m.settings.activate % 2 == 0 else is_manager m start (bytes_of_bits bits) mode
 

@@ -2,10 +2,10 @@
 -- manager 2, the outputs, gets its deactivate bit and is emptied.
 use Rattle.std.specs.Prelude.{slice_set, true, if◌then◌else◌}
 use Rattle.ec_al.specs.Al as al
-use Rattle.ec_sync.specs.Manager.{Manager, empty_manager}
+use Rattle.ec_sync.specs.SyncManager.{SyncManager, empty_manager}
 use Rattle.ec_slave.specs.State.{SlaveState, manager_at}
 
-abbrev pub locked_empty : Manager → Manager
+abbrev pub locked_empty : SyncManager → SyncManager
 locked_empty m = empty_manager m.settings true
 
 unfoldable pub faulted : SlaveState → SlaveState

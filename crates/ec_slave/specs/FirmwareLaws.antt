@@ -4,11 +4,11 @@ use Rattle.ec_al.specs.States.{state_number}
 use Rattle.ec_al.specs.Transitions.{requested_number}
 use Rattle.ec_al.specs.declared.state.State.{State}
 use Rattle.ec_al.specs.declared.state.State.TheVariants.{Init, PreOp, SafeOp, Op}
-use Rattle.ec_regs.specs.declared.slave_type.Identity.{Identity}
-use Rattle.ec_regs.specs.declared.slave_type.Pdo.{Pdo}
-use Rattle.ec_regs.specs.Types.{SlaveKind, pdos_bits}
+use Rattle.ec_device.specs.declared.slave_type.Identity.{Identity}
+use Rattle.ec_device.specs.declared.slave_type.Pdo.{Pdo}
+use Rattle.ec_device.specs.Types.{SlaveKind, pdos_bits}
 use Rattle.ec_frame.specs.Datagram.{Datagram}
-use Rattle.ec_coe.specs.Transfers.{most_bits}
+use Rattle.ec_coe.specs.Transfers.{max_bits}
 use Rattle.ec_coe.specs.Laws.{IsAssignment}
 use Rattle.ec_slave.specs.State.{SlaveState, manager_at, station_of, fmmus, power_on}
 use Rattle.ec_slave.specs.Meeting.{slave_met}
@@ -85,7 +85,7 @@ pub record IsAssigned (s : SlaveState) : Type 0 where
 -- PDOs of a direction that can all be assigned at once: no two with one index, and at most 2048 bits together
 pub record FitTogether (ps : List Pdo) : Type 0 where
   pub apart : AllPairs (λ p q. p.index ≢ q.index) ps
-  pub bits : pdos_bits ps ≤ most_bits
+  pub bits : pdos_bits ps ≤ max_bits
 
 -- Where the power comes on all PDOs are assigned; so the assignments are of that kind where a type's PDOs fit together.
 abbrev pub PowerOnAssigns : Type 0

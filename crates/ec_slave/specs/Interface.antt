@@ -3,20 +3,20 @@
 use Rattle.std.specs.Prelude.{ℕ, zero, suc, ◌+◌, ◌-◌, ◌*◌, ◌%◌, ◌<◌, ◌≤◌, ◌≡◌, ◌≢◌, ◌⊎◌, List, [], ◌∷◌, length, slice_index, slice_set, unwrap_or, Bool, true, false, if◌then◌else◌, Option, Some, None}
 use Rattle.std.specs.Int.{from_bool, to_le_bytes, w32}
 use Rattle.ec_bits.specs.Bits.{within}
-use Rattle.ec_regs.specs.declared.slave_type.Identity.{Identity}
-use Rattle.ec_regs.specs.Types.{SlaveKind}
+use Rattle.ec_device.specs.declared.slave_type.Identity.{Identity}
+use Rattle.ec_device.specs.Types.{SlaveKind}
 use Rattle.ec_regs.specs.Memory.{al_control, al_status, sii_control, sii_data, sync_managers, manager_place, ram_start, ram_end, is_stored, takes_writes}
-use Rattle.ec_regs.specs.Objects.{bits_assigned}
+use Rattle.ec_device.specs.Objects.{bits_assigned}
 use Rattle.ec_frame.specs.declared.command.Command.TheVariants.{Nop, Lrd, Lwr, Lrw}
 use Rattle.ec_frame.specs.Datagram.{Datagram, adp_of, ado_of}
 use Rattle.ec_frame.specs.Walk.{KeepsLength}
 use Rattle.ec_sync.specs.Governing.{governor}
-use Rattle.ec_sync.specs.Manager.{Manager, no_manager, empty_manager, padded, ring_read, ring_written}
+use Rattle.ec_sync.specs.SyncManager.{SyncManager, no_manager, empty_manager, padded, ring_read, ring_written}
 use Rattle.ec_sync.specs.Sound.{IsManager}
 use Rattle.ec_al.specs.declared.state.State.TheVariants.{Init}
 use Rattle.ec_al.specs.Al as al
 use Rattle.ec_dl.specs.DataLink.{new_data_link, dl_written}
-use Rattle.ec_sii.specs.Image.{image_of}
+use Rattle.ec_sii.specs.SiiImage.{image_of}
 use Rattle.ec_sii.specs.Port as port
 use Rattle.ec_coe.specs.declared.message.Message.{Message}
 use Rattle.ec_coe.specs.Messages.{message_length}
@@ -264,7 +264,7 @@ OutputsArePublished = (s : SlaveState) (v : List ℕ) → PublishesOutputs s v
 -- ---- registers
 
 -- manager n after a write of registers: new settings empty it, and leave its lock
-abbrev pub set_by : Window → ℕ → Manager → Manager
+abbrev pub set_by : Window → ℕ → SyncManager → SyncManager
 set_by w n m = if is_configured w n then empty_manager (settings_written w n m) m.locked else m
 
 -- what a write of registers leaves
@@ -293,12 +293,12 @@ abbrev pub ManagersAside : Type 0
 ManagersAside = (w : Window) (n : ℕ) → (w.from + length w.bytes ≤ manager_place n) ⊎ (manager_place n + 8 ≤ w.from) → is_configured w n ≡ false
 
 -- every register may be read, and written as its row in the table of registers says
-pub record AreOpen (ms : List Manager) (touched : ℕ → Bool) (a : ℕ) : Type 0 where
+pub record AreOpen (ms : List SyncManager) (touched : ℕ → Bool) (a : ℕ) : Type 0 where
   pub reads : may_read_byte ms touched a ≡ true
   pub writes : (busy : Bool) → may_write_byte ms busy touched a ≡ takes_writes busy a
 
 abbrev pub RegistersAreOpen : Type 0
-RegistersAreOpen = (ms : List Manager) (touched : ℕ → Bool) (a : ℕ) → a < ram_start → AreOpen ms touched a
+RegistersAreOpen = (ms : List SyncManager) (touched : ℕ → Bool) (a : ℕ) → a < ram_start → AreOpen ms touched a
 
 -- what the registers of the AL status and of the SII read
 pub record ShowsItself (s : SlaveState) : Type 0 where
@@ -323,13 +323,13 @@ abbrev pub RamIsGoverned : Type 0
 RamIsGoverned = (s : SlaveState) (a : ℕ) → ram_start ≤ a → a < ram_end → IsRam s a
 
 -- one manager under a read, or under a write that sets nothing of it: read or written where the access gets at it and is let
-pub record IsAccessed (lower : List Manager) (w : Window) (n : ℕ) (m : Manager) : Type 0 where
+pub record IsAccessed (lower : List SyncManager) (w : Window) (n : ℕ) (m : SyncManager) : Type 0 where
   pub read : physical_manager lower true false w n m ≡ (if is_read_by (touches w) (is_ungoverned lower) m then ring_read m else m)
   pub written : is_configured w n ≡ false
       → physical_manager lower false true w n m ≡ (if is_written_by (touches w) (is_ungoverned lower) m then ring_written m (physical_value lower w m.settings.start m.settings.length) else m)
 
 abbrev pub ManagersAreAccessed : Type 0
-ManagersAreAccessed = (lower : List Manager) (w : Window) (n : ℕ) (m : Manager) → IsAccessed lower w n m
+ManagersAreAccessed = (lower : List SyncManager) (w : Window) (n : ℕ) (m : SyncManager) → IsAccessed lower w n m
 
 -- a write over exactly the bytes of a manager that no lower one reaches into brings it its data
 abbrev pub WholeValuesAreTheData : Type 0

@@ -6,7 +6,7 @@ use Rattle.ec_frame.specs.Fields.{with_adp}
 use Rattle.ec_slave.specs.declared.role.Role.{Role}
 use Rattle.ec_slave.specs.declared.role.Role.TheVariants.{Nothing, Read, Write, ReadWrite, OrRead, OrReadWrite}
 use Rattle.ec_slave.specs.State.{SlaveState, station_of}
-use Rattle.ec_sync.specs.Manager.{Manager}
+use Rattle.ec_sync.specs.SyncManager.{SyncManager}
 use Rattle.ec_slave.specs.Physical.{Window, touches, byte_at, byte_read, is_kept, may_read_byte, memory_written, retold, some_byte_read, is_written, physical_met}
 use Rattle.ec_slave.specs.Meeting.{meets, slave_met, datagram_met}
 use Rattle.ec_slave.specs.Sound.{IsSlave}
@@ -44,14 +44,14 @@ CountsWhatItChanges =
     → (slave_met s d ≡ s) × ((datagram_met s d).data_bytes ≡ d.data_bytes)
 
 -- the byte of address a after a write: where the memory itself keeps it, the data byte that belongs to it; else what it was
-pub record IsWrittenAt (ms : List Manager) (w : Window) (memory : List ℕ) (a : ℕ) : Type 0 where
+pub record IsWrittenAt (ms : List SyncManager) (w : Window) (memory : List ℕ) (a : ℕ) : Type 0 where
   pub taken : touches w a ≡ true → is_kept ms a ≡ true → slice_index (memory_written ms w memory) a ≡ slice_index w.bytes (a - w.from)
   pub refused : is_kept ms a ≡ false → slice_index (memory_written ms w memory) a ≡ slice_index memory a
   pub untouched : touches w a ≡ false → slice_index (memory_written ms w memory) a ≡ slice_index memory a
 
 abbrev pub WritesByByte : Type 0
 WritesByByte =
-    (ms : List Manager) (w : Window) (memory : List ℕ)
+    (ms : List SyncManager) (w : Window) (memory : List ℕ)
     → (length (memory_written ms w memory) ≡ length memory) × ((a : ℕ) → a < length memory → IsWrittenAt ms w memory a)
 
 -- data byte k after a read: what its address reads, in a broadcast joined by OR, or what it was where it may not be read

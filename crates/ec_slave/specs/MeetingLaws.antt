@@ -4,7 +4,7 @@ use Rattle.ec_bits.specs.Bits.{bit, within}
 use Rattle.ec_regs.specs.Memory.{sii_control, sync_managers, ram_start, is_stored}
 use Rattle.ec_frame.specs.declared.command.Command.TheVariants.{Lrd, Lwr, Lrw}
 use Rattle.ec_frame.specs.Datagram.{Datagram, adp_of, ado_of}
-use Rattle.ec_sync.specs.Manager.{Manager, empty_manager, shown}
+use Rattle.ec_sync.specs.SyncManager.{SyncManager, empty_manager, shown}
 use Rattle.ec_dl.specs.DataLink.{dl_keeps}
 use Rattle.ec_fmmu.specs.Applied.{touched_by_writing}
 use Rattle.ec_slave.specs.Roles.{role_of, is_writing}
@@ -32,7 +32,7 @@ RegistersAfterWrite =
 abbrev pub ManagersAfterWrite : Type 0
 ManagersAfterWrite =
     (s : SlaveState) (d : Datagram) (n : ℕ) → n < length s.managers → writes_at s d ≡ true → ado_of d + length d.data_bytes ≤ ram_start
-    → let m : Manager = manager_at s.managers n in
+    → let m : SyncManager = manager_at s.managers n in
     manager_at (slave_met s d).managers n
     ≡ (if is_configured (window_of d) n then empty_manager (settings_written (window_of d) n m) m.locked else m)
 
@@ -55,7 +55,7 @@ pub record LogicalBitByBit : Type 0 where
 -- that this manager itself governs; all others are 0.
 abbrev pub IsValueWritten : SlaveState → Datagram → ℕ → Type 0
 IsValueWritten s d n =
-    let m : Manager = manager_at s.managers n in
+    let m : SyncManager = manager_at s.managers n in
     is_written_by (touched_by_writing (fmmus s) (place_of d)) (governs_among s.managers n) m ≡ true
     → (k : ℕ) → k < 8 * m.settings.length
     → bit (shown (manager_at (slave_met s d).managers n)) k

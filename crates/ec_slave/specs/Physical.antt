@@ -3,10 +3,10 @@
 use Rattle.std.specs.Prelude.{ℕ, ◌+◌, ◌-◌, ◌*◌, ◌/◌, ◌%◌, ◌==◌, ◌&&◌, ◌||◌, not, List, [], ◌∷◌, ◌++◌, length, Bool, if◌then◌else◌, nat_lt, slice_index, Option, Some, None, is_some, is_none, unwrap_or, bit_or}
 use Rattle.std.specs.Int.{from_bool, to_le_bytes, w16}
 use Rattle.ec_bits.specs.Bits.{any_below, within, zeros}
-use Rattle.ec_regs.specs.declared.manager.ManagerSettings.{ManagerSettings}
+use Rattle.ec_regs.specs.declared.manager.SyncManagerSettings.{SyncManagerSettings}
 use Rattle.ec_regs.specs.Memory.{number_of_fmmus, number_of_sync_managers, ram_size, station_address, al_control, al_status, al_status_code, sii_control, fmmus, sync_managers, manager_place, ram_start, ram_end, is_stored, takes_writes}
 use Rattle.ec_regs.specs.Managers.{settings_of}
-use Rattle.ec_sync.specs.Manager.{Manager, empty_manager}
+use Rattle.ec_sync.specs.SyncManager.{SyncManager, empty_manager}
 use Rattle.ec_sync.specs.Governing.{governor, manager_byte, shown_byte}
 use Rattle.ec_al.specs.Al.{status_word, requesting}
 use Rattle.ec_dl.specs.DataLink.{dl_byte, dl_takes, dl_written}
@@ -52,7 +52,7 @@ register_byte s a =
     else dl_byte s.link a))))))
 
 -- a byte of the RAM: what its governor shows there, or as it lies in the memory
-abbrev pub ram_byte : List ℕ → List Manager → ℕ → Option ℕ → ℕ
+abbrev pub ram_byte : List ℕ → List SyncManager → ℕ → Option ℕ → ℕ
 ram_byte memory ms a None = slice_index memory a
 ram_byte memory ms a (Some n) = shown_byte (manager_at ms n) a
 
@@ -62,11 +62,11 @@ byte_at s a = if nat_lt a ram_start then register_byte s a else ram_byte s.memor
 -- ---- which bytes a datagram reads and writes, of those that it touches
 
 -- every register, and the RAM where its governor lets it
-unfoldable pub may_read_byte : List Manager → (ℕ → Bool) → ℕ → Bool
+unfoldable pub may_read_byte : List SyncManager → (ℕ → Bool) → ℕ → Bool
 may_read_byte ms touched a = nat_lt a ram_start || (nat_lt a ram_end && reads_under ms touched a (governor ms a))
 
 -- the registers that take writes, while the SII is busy or not, and the RAM where its governor lets it
-unfoldable pub may_write_byte : List Manager → Bool → (ℕ → Bool) → ℕ → Bool
+unfoldable pub may_write_byte : List SyncManager → Bool → (ℕ → Bool) → ℕ → Bool
 may_write_byte ms busy touched a =
     if nat_lt a ram_start then takes_writes busy a else nat_lt a ram_end && writes_under ms touched a (governor ms a)
 
@@ -80,11 +80,11 @@ byte_read s joining w k =
 -- ---- what a write leaves
 
 -- a byte that is kept in the memory itself: a stored register, the managers' aside, or a byte of the RAM under no manager
-unfoldable pub is_kept : List Manager → ℕ → Bool
+unfoldable pub is_kept : List SyncManager → ℕ → Bool
 is_kept ms a =
     if nat_lt a ram_start then is_stored a && not (within sync_managers 32 a) else nat_lt a ram_end && is_none (governor ms a)
 
-abbrev pub memory_written : List Manager → Window → List ℕ → List ℕ
+abbrev pub memory_written : List SyncManager → Window → List ℕ → List ℕ
 memory_written ms w memory = retold memory (λ a. if is_kept ms a then byte_from w a else None)
 
 -- what a datagram stores in byte k of manager n's eight
@@ -95,22 +95,22 @@ setting_for w n k = if is_stored (manager_place n + k) then byte_from w (manager
 abbrev pub is_configured : Window → ℕ → Bool
 is_configured w n = any_below 8 (λ k. is_some (setting_for w n k))
 
-abbrev pub settings_written : Window → ℕ → Manager → ManagerSettings
+abbrev pub settings_written : Window → ℕ → SyncManager → SyncManagerSettings
 settings_written w n m = settings_of (λ k. unwrap_or (setting_for w n k) (manager_byte m k))
 
 -- The value that a written manager gets, of its start and length: 0 in all bytes that the datagram doesn't touch, and in
 -- those that a lower-numbered manager governs.
-abbrev pub physical_value : List Manager → Window → ℕ → ℕ → List ℕ
+abbrev pub physical_value : List SyncManager → Window → ℕ → ℕ → List ℕ
 physical_value lower w start len = retold (zeros len) (λ k. if is_ungoverned lower (start + k) then byte_from w (start + k) else None)
 
 -- manager n after the datagram, `lower` being the lower-numbered ones: new settings empty it
-unfoldable pub physical_manager : List Manager → Bool → Bool → Window → ℕ → Manager → Manager
+unfoldable pub physical_manager : List SyncManager → Bool → Bool → Window → ℕ → SyncManager → SyncManager
 physical_manager lower reads writes w n m =
     if writes && is_configured w n then empty_manager (settings_written w n m) m.locked
     else manager_after reads writes (touches w) (touches w) (is_ungoverned lower) (physical_value lower w) m
 
 -- each manager after it, the first being number n
-abbrev pub physical_managers : List Manager → Bool → Bool → Window → ℕ → List Manager → List Manager
+abbrev pub physical_managers : List SyncManager → Bool → Bool → Window → ℕ → List SyncManager → List SyncManager
 physical_managers lower reads writes w n [] = []
 physical_managers lower reads writes w n (m ∷ ms) =
     physical_manager lower reads writes w n m ∷ physical_managers (lower ++ m ∷ []) reads writes w (n + 1) ms
@@ -129,10 +129,10 @@ physical_after s reads writes w = record s {
 -- ---- the meeting
 
 -- one byte is enough for a read, or a write, to count
-abbrev pub some_byte_read : List Manager → Window → Bool
+abbrev pub some_byte_read : List SyncManager → Window → Bool
 some_byte_read ms w = any_below (length w.bytes) (λ k. may_read_byte ms (touches w) (w.from + k))
 
-abbrev pub some_byte_written : List Manager → Bool → Window → Bool
+abbrev pub some_byte_written : List SyncManager → Bool → Window → Bool
 some_byte_written ms busy w = any_below (length w.bytes) (λ k. may_write_byte ms busy (touches w) (w.from + k))
 
 -- a write at the slave: of its memory, its managers or its SII port, or of a data link register of a full slave

@@ -1,8 +1,8 @@
 -- A firmware step of a slave: the AL request, the SII read and one mailbox message, in this order (ETG.1000.6, "EtherCAT state
 -- machine", "Slave information interface" and "Mailbox"; the step and its order are the profile of the simulated slaves).
 use Rattle.std.specs.Prelude.{ℕ, ◌+◌, ◌%◌, ◌&&◌, not, List, map, slice_set, Bool, true, false, if◌then◌else◌, nat_lt, Option, Some, None, is_some, is_none, option_map, option_and_then}
-use Rattle.ec_sync.specs.Manager.{Manager, empty_manager, is_enabled, message_in, message_taken, message_put, zeros_published}
-use Rattle.ec_regs.specs.Managers.{is_mailbox, is_ring_read}
+use Rattle.ec_sync.specs.SyncManager.{SyncManager, empty_manager, is_enabled, message_in, message_taken, message_put, zeros_published}
+use Rattle.ec_regs.specs.Managers.{is_mailbox, is_master_read}
 use Rattle.ec_al.specs.declared.state.State.{State}
 use Rattle.ec_al.specs.declared.state.State.TheVariants.{Init, PreOp, SafeOp, Op}
 use Rattle.ec_al.specs.Al.{Al, decided}
@@ -39,12 +39,12 @@ is_safeop Init = false
 is_safeop PreOp = false
 is_safeop Op = false
 
-abbrev pub unlocked_empty : Manager → Manager
+abbrev pub unlocked_empty : SyncManager → SyncManager
 unlocked_empty m = empty_manager m.settings false
 
 -- What the managers become where one state is left for another. Where INIT is entered they are unlocked and empty; where
 -- SAFEOP is entered from PREOP, manager 3 publishes zeros, and an open draft or view stays.
-abbrev pub managers_entered : State → State → List Manager → List Manager
+abbrev pub managers_entered : State → State → List SyncManager → List SyncManager
 managers_entered old new ms =
     if is_init new && not (is_init old) then map unlocked_empty ms
     else (if is_safeop new && is_preop old then slice_set ms 3 (zeros_published (manager_at ms 3)) else ms)
@@ -76,8 +76,8 @@ abbrev pub has_mailbox : SlaveState → Bool
 has_mailbox s = not (is_init s.al.state) && is_some s.kind.mailbox
 
 -- manager 1 can take a reply: an enabled, empty mailbox that the ring reads
-abbrev pub takes_reply : Manager → Bool
-takes_reply m = is_enabled m && (is_mailbox m.settings && (is_ring_read m.settings && is_none m.mail))
+abbrev pub takes_reply : SyncManager → Bool
+takes_reply m = is_enabled m && (is_mailbox m.settings && (is_master_read m.settings && is_none m.mail))
 
 -- whether a message is taken now
 abbrev pub is_served : SlaveState → Bool
@@ -89,7 +89,7 @@ is_request Response = false
 is_request (Other number) = false
 
 -- a request that is well-formed, where there is room for the reply
-abbrev pub request_for : Manager → Option Message → Option Message
+abbrev pub request_for : SyncManager → Option Message → Option Message
 request_for m None = None
 request_for m (Some r) = if is_request r.service && not (nat_lt m.settings.length message_length) then Some r else None
 

@@ -2,12 +2,12 @@
 -- only values that were published whole (`ec_sync`, specs/Runs.antt), whatever has happened to the slave since it was switched on.
 use Rattle.std.specs.Prelude.{ℕ, ◌+◌, ◌-◌, ◌*◌, ◌/◌, ◌≡◌, ◌≤◌, List, [], ◌∷◌, Bool, false, slice_index, Some, unwrap_or, Contains}
 use Rattle.ec_bits.specs.Bits.{bit}
-use Rattle.ec_regs.specs.declared.slave_type.Identity.{Identity}
+use Rattle.ec_device.specs.declared.slave_type.Identity.{Identity}
 use Rattle.ec_regs.specs.Memory.{ram_start}
-use Rattle.ec_regs.specs.Types.{SlaveKind}
+use Rattle.ec_device.specs.Types.{SlaveKind}
 use Rattle.ec_frame.specs.Datagram.{Datagram}
 use Rattle.ec_sync.specs.Buffer.{Got}
-use Rattle.ec_sync.specs.Manager.{Manager, no_manager}
+use Rattle.ec_sync.specs.SyncManager.{SyncManager, no_manager}
 use Rattle.ec_sync.specs.Governing.{covers, governor}
 use Rattle.ec_sync.specs.Runs.{Operation, RingRead, AppGet, run, history, shown_by}
 use Rattle.ec_fmmu.specs.Sets.{target, readers}
@@ -23,7 +23,7 @@ use Rattle.ec_slave.specs.Faulting.{faulted}
 -- ---- what a read brings
 
 -- The manager shows a value to an operation, and x is what f finds in it.
-pub record IsShown {X : Type 0} (m : Manager) (o : Operation) (f : List ℕ → X) (x : X) : Type 0 where
+pub record IsShown {X : Type 0} (m : SyncManager) (o : Operation) (f : List ℕ → X) (x : X) : Type 0 where
   pub value : List ℕ
   pub shown : shown_by m o ≡ Some value
   pub found : x ≡ f value
@@ -68,7 +68,7 @@ after_all s (h ∷ hs) = after_all (after_one s h) hs
 
 -- A manager stands where a run from a new one leads; and what it shows to any reader was published as a whole in that run,
 -- or is what a new manager holds.
-pub record ShowsWholeValues (m : Manager) : Type 0 where
+pub record ShowsWholeValues (m : SyncManager) : Type 0 where
   pub operations : List Operation
   pub leads : run no_manager operations ≡ m
   pub whole : (o : Operation) (value : List ℕ) → shown_by m o ≡ Some value

@@ -1,11 +1,11 @@
 -- What holds of every slave, from the power-on on, whatever datagrams, firmware and application do.
 use Rattle.std.specs.Prelude.{ℕ, ◌≡◌, ◌<◌, ◌≤◌, ◌^◌, List, length, slice_index}
 use Rattle.ec_sync.specs.Sound.{IsManager}
-use Rattle.ec_regs.specs.declared.slave_type.Identity.{Identity}
+use Rattle.ec_device.specs.declared.slave_type.Identity.{Identity}
 use Rattle.ec_regs.specs.Memory.{ram_end}
-use Rattle.ec_regs.specs.Types.{SlaveKind}
+use Rattle.ec_device.specs.Types.{SlaveKind}
 use Rattle.ec_frame.specs.Datagram.{Datagram}
-use Rattle.ec_sii.specs.Image.{image_of}
+use Rattle.ec_sii.specs.SiiImage.{image_of}
 use Rattle.ec_slave.specs.State.{SlaveState, manager_at, power_on}
 use Rattle.ec_slave.specs.Meeting.{slave_met}
 

@@ -1,17 +1,17 @@
 -- What a slave is at an instant (ETG.1000.3 and .5; the memory is this project's profile).
 use Rattle.std.specs.Prelude.{ℕ, ◌+◌, ◌*◌, ◌%◌, List, [], ◌∷◌, map, get_or, slice_index}
 use Rattle.ec_bits.specs.Bits.{zeros}
-use Rattle.ec_regs.specs.declared.slave_type.Identity.{Identity}
+use Rattle.ec_device.specs.declared.slave_type.Identity.{Identity}
 use Rattle.ec_regs.specs.declared.fmmu.FmmuSettings.{FmmuSettings}
-use Rattle.ec_regs.specs.Types.{SlaveKind}
+use Rattle.ec_device.specs.Types.{SlaveKind}
 use Rattle.ec_regs.specs.Memory.{station_address, fmmu_place, ram_end}
 use Rattle.ec_regs.specs.Fmmus.{fmmu_of}
 use Rattle.ec_frame.specs.Datagram.{Datagram}
-use Rattle.ec_sync.specs.Manager.{Manager, no_manager}
+use Rattle.ec_sync.specs.SyncManager.{SyncManager, no_manager}
 use Rattle.ec_al.specs.Al.{Al}
 use Rattle.ec_al.specs.Al as al
 use Rattle.ec_dl.specs.DataLink.{DataLink, new_data_link}
-use Rattle.ec_sii.specs.Image.{image_of}
+use Rattle.ec_sii.specs.SiiImage.{image_of}
 use Rattle.ec_sii.specs.Port.{Sii, idle_port}
 use Rattle.ec_coe.specs.Objects.{Assignment, all_assigned}
 
@@ -23,7 +23,7 @@ pub record SlaveState : Type 0 where
   -- aside; from there on the RAM as it is where no manager governs it.
   pub memory : List ℕ
   -- the four sync managers
-  pub managers : List Manager
+  pub managers : List SyncManager
   -- the AL state machine
   pub al : Al
   -- the SII port
@@ -37,14 +37,14 @@ pub record SlaveState : Type 0 where
   pub replies : ℕ
 
 -- with other memory and managers
-abbrev pub with_memory : SlaveState → List ℕ → List Manager → SlaveState
+abbrev pub with_memory : SlaveState → List ℕ → List SyncManager → SlaveState
 with_memory s memory managers = record s { memory = memory; managers = managers }
 
 -- the station address, two registers, the low byte first (ETG.1000.4, "Station address")
 abbrev pub station_of : SlaveState → ℕ
 station_of s = slice_index s.memory station_address + 256 * slice_index s.memory (station_address + 1)
 
-abbrev pub manager_at : List Manager → ℕ → Manager
+abbrev pub manager_at : List SyncManager → ℕ → SyncManager
 manager_at ms n = get_or ms n no_manager
 
 -- the four FMMUs, as their registers say

@@ -3,7 +3,7 @@
 use Rattle.std.specs.Prelude.{ℕ, ◌≡◌, ◌≤◌, List, length, Bool, true, false, if◌then◌else◌, unwrap_or}
 use Rattle.std.specs.List.{All}
 use Rattle.ec_frame.specs.Datagram.{Datagram}
-use Rattle.ec_sync.specs.Manager.{Manager}
+use Rattle.ec_sync.specs.SyncManager.{SyncManager}
 use Rattle.ec_sync.specs.Runs.{Operation, Configure, Lock, Empty, PublishZeros, RingWrite, RingRead, AppPut, AppGet, MessageTake, MessagePut, step, run}
 use Rattle.ec_slave.specs.State.{SlaveState, manager_at}
 use Rattle.ec_slave.specs.Managers.{gets_at, is_written_by, manager_after}
@@ -15,12 +15,12 @@ use Rattle.ec_slave.specs.Faulting.{faulted}
 -- One manager after an access is as after one step: what counts as reaching its first and its last byte is that the
 -- access gets at it. One that reads and writes does one of the two.
 pub record AccessesAreSteps : Type 0 where
-  pub writes : (read_touches write_touches own : ℕ → Bool) (value : ℕ → ℕ → List ℕ) (m : Manager)
+  pub writes : (read_touches write_touches own : ℕ → Bool) (value : ℕ → ℕ → List ℕ) (m : SyncManager)
       → manager_after false true read_touches write_touches own value m
       ≡ step m (RingWrite (gets_at write_touches own m) (value m.settings.start m.settings.length))
-  pub reads : (read_touches write_touches own : ℕ → Bool) (value : ℕ → ℕ → List ℕ) (m : Manager)
+  pub reads : (read_touches write_touches own : ℕ → Bool) (value : ℕ → ℕ → List ℕ) (m : SyncManager)
       → manager_after true false read_touches write_touches own value m ≡ step m (RingRead (gets_at read_touches own m))
-  pub both : (read_touches write_touches own : ℕ → Bool) (value : ℕ → ℕ → List ℕ) (m : Manager)
+  pub both : (read_touches write_touches own : ℕ → Bool) (value : ℕ → ℕ → List ℕ) (m : SyncManager)
       → manager_after true true read_touches write_touches own value m
       ≡ step m (if is_written_by write_touches own m then RingWrite true (value m.settings.start m.settings.length)
       else RingRead (gets_at read_touches own m))
@@ -46,7 +46,7 @@ is_of_application (AppGet i) = true
 is_of_application o = false
 
 -- a run of at most so many steps, all of a kind, leads from one manager to the other
-pub record IsRunTo (kind : Operation → Bool) (most : ℕ) (m after : Manager) : Type 0 where
+pub record IsRunTo (kind : Operation → Bool) (most : ℕ) (m after : SyncManager) : Type 0 where
   pub operations : List Operation
   pub of_kind : All (λ o. kind o ≡ true) operations
   pub few : length operations ≤ most

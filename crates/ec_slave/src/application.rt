@@ -1,7 +1,7 @@
 //! What a slave's application reads and writes, and the slave switched off and on.
 
 ghost use Rattle.std.specs.Prelude.{◌≡◌, ◌<◌, [], ◌∷◌, length, is_some, option_map, unwrap_or};
-ghost use Rattle.ec_sync.specs.Manager.{no_manager};
+ghost use Rattle.ec_sync.specs.SyncManager.{no_manager};
 ghost use Rattle.ec_slave.specs.State.{power_on};
 ghost use Rattle.ec_slave.specs.Application.{is_running as runs_in, outputs_shown, get_size, put_size, input_put, inputs_put, output_got, output_taken, outputs_taken};
 
@@ -9,8 +9,8 @@ use crate::fmmus::read_fmmus;
 use crate::slave::Slave;
 use ec_al::State;
 use ec_dl::DataLink;
-use ec_regs::ManagerSettings;
-use ec_sync::Manager;
+use ec_regs::SyncManagerSettings;
+use ec_sync::SyncManager;
 
 /// Whether the application has process data in an AL state.
 fn is_running(state: State) -> bool
@@ -104,11 +104,11 @@ impl Slave {
 }
 
 /// A manager as the power comes on.
-fn reset_manager(manager: &mut Manager)
+fn reset_manager(manager: &mut SyncManager)
     ensures { manager.new ≡ no_manager }
 {
     manager.set_locked(false);
-    manager.configure(ManagerSettings {
+    manager.configure(SyncManagerSettings {
         start: 0,
         length: 0,
         control: 0,
@@ -117,7 +117,7 @@ fn reset_manager(manager: &mut Manager)
 }
 
 /// The four managers as the power comes on.
-fn reset_managers(managers: &mut [Manager])
+fn reset_managers(managers: &mut [SyncManager])
     requires { length managers.old ≡ 4 }
     ensures { managers.new ≡ no_manager ∷ no_manager ∷ no_manager ∷ no_manager ∷ [] }
 {

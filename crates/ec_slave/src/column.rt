@@ -11,7 +11,8 @@ ghost use Rattle.ec_slave.specs.Carried.{carrying, is_mapped};
 use crate::role::Encounter;
 use crate::slave::Slave;
 use ec_frame::{
-    Command, Header, cut_counter, cut_heading, physical, read_counter, write_address, write_counter,
+    Command, Header, address_of, cut_counter, cut_heading, read_counter, write_address,
+    write_counter,
 };
 
 /// What a datagram carries from slave to slave beside its data.
@@ -64,7 +65,7 @@ impl Slave {
             Encounter::Physical { role, adp } => {
                 let added = self.access_bytes(role, ado as usize, bytes);
                 Carried {
-                    address: physical(adp, ado),
+                    address: address_of(adp, ado),
                     counter: carried.counter.wrapping_add(added),
                 }
             }

@@ -8,9 +8,10 @@ ghost use Rattle.ec_slave.specs.Faulting.{faulted, locked_empty};
 
 use crate::slave::Slave;
 use ec_al::{Checks, State};
+use ec_device::Mailbox;
 use ec_regs::registers::AL_CONTROL;
-use ec_regs::{CONTROL_INPUTS, CONTROL_MAILBOX_IN, CONTROL_MAILBOX_OUT, CONTROL_OUTPUTS, Mailbox};
-use ec_sync::Manager;
+use ec_regs::{CONTROL_INPUTS, CONTROL_MAILBOX_IN, CONTROL_MAILBOX_OUT, CONTROL_OUTPUTS};
+use ec_sync::SyncManager;
 
 /// Bits 0 to 3 of the control byte of the mailbox that the ring writes.
 const MAILBOX_OUT: u8 = CONTROL_MAILBOX_OUT % 16;
@@ -25,7 +26,7 @@ const OUTPUTS: u8 = CONTROL_OUTPUTS % 16;
 const INPUTS: u8 = CONTROL_INPUTS % 16;
 
 /// Whether a manager is enabled and has this start, this length in bytes, and these bits 0 to 3 of its control byte.
-fn is_manager(manager: &Manager, start: u16, len: usize, mode: u8) -> bool
+fn is_manager(manager: &SyncManager, start: u16, len: usize, mode: u8) -> bool
     ensures { result ≡ is_manager_of manager.now start len mode }
 {
     let settings = manager.settings();
@@ -36,7 +37,7 @@ fn is_manager(manager: &Manager, start: u16, len: usize, mode: u8) -> bool
 }
 
 /// Whether managers 0 and 1 are the type's mailboxes, if it has any.
-fn has_mailboxes(managers: &[Manager], mailbox: Option<Mailbox>) -> bool
+fn has_mailboxes(managers: &[SyncManager], mailbox: Option<Mailbox>) -> bool
     requires { length managers.now ≡ 4 }
     ensures { result ≡ mailbox_check managers.now mailbox }
 {
@@ -59,7 +60,7 @@ fn has_mailboxes(managers: &[Manager], mailbox: Option<Mailbox>) -> bool
 }
 
 /// Whether a manager fits so many bits of process data: it has their bytes, and for none it isn't activated.
-fn fits_process_data(manager: &Manager, bits: usize, start: u16, mode: u8) -> bool
+fn fits_process_data(manager: &SyncManager, bits: usize, start: u16, mode: u8) -> bool
     requires { bits < 2 ^ 20 }
     ensures { result ≡ process_check manager.now bits start mode }
 {
@@ -71,7 +72,7 @@ fn fits_process_data(manager: &Manager, bits: usize, start: u16, mode: u8) -> bo
 }
 
 /// Clears the deactivate bit of a manager and empties it.
-fn unlock(manager: &mut Manager)
+fn unlock(manager: &mut SyncManager)
     ensures { manager.new ≡ unlocked_empty manager.old }
 {
     manager.set_locked(false);
@@ -79,7 +80,7 @@ fn unlock(manager: &mut Manager)
 }
 
 /// Sets the deactivate bit of a manager and empties it.
-fn lock(manager: &mut Manager)
+fn lock(manager: &mut SyncManager)
     ensures { manager.new ≡ locked_empty manager.old }
 {
     manager.set_locked(true);
@@ -87,7 +88,7 @@ fn lock(manager: &mut Manager)
 }
 
 /// What entering a state does to the managers.
-fn enter_state(managers: &mut [Manager], old: State, new: State)
+fn enter_state(managers: &mut [SyncManager], old: State, new: State)
     requires { length managers.old ≡ 4 }
     ensures { managers.new ≡ managers_entered old new managers.old }
 {

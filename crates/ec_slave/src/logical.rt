@@ -124,7 +124,7 @@ impl Slave {
         requires { from + bits < 2 ^ 64 }
         ensures { OnTrue result (Misses self.now (record { from = from; bits = bits })) }
     {
-        self.fmmus.is_missed(from, bits)
+        self.fmmus.is_outside(from, bits)
     }
 
     /// Meets the bits of a datagram in a role, whatever the FMMUs and the managers are.

@@ -1,7 +1,7 @@
 //! The mailbox of a slave: one message is taken and answered, or refused by a full slave.
 
 ghost use Rattle.std.specs.Prelude.{◌≡◌, is_some, option_map, true};
-ghost use Rattle.ec_sync.specs.Manager.{message_in, message_taken};
+ghost use Rattle.ec_sync.specs.SyncManager.{message_in, message_taken};
 ghost use Rattle.ec_slave.specs.State.{manager_at};
 ghost use Rattle.ec_slave.specs.Application.{with_manager};
 ghost use Rattle.ec_slave.specs.Serving.{has_mailbox as has_mailbox_in, takes_reply, is_preop as is_preop_state, is_served as is_served_now, message_served, replied, request_in, refuses as refuses_in, refusal_in, refused, refusal_given};

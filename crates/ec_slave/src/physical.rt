@@ -23,7 +23,7 @@ use ec_al::Al;
 use ec_bits::within;
 use ec_fmmu::FmmuTable;
 use ec_regs::registers::{AL_CONTROL, AL_STATUS, FMMUS, FMMUS_END, RAM_START, SYNC_MANAGERS};
-use ec_sync::Manager;
+use ec_sync::SyncManager;
 
 /// Marks an AL request, or not.
 fn request_if(al: &mut Al, is_written: bool)
@@ -46,7 +46,7 @@ fn renew_fmmus(fmmus: &mut FmmuTable, memory: &[u8], from: usize, len: usize)
 }
 
 /// What a write does to the managers. Below their registers, and so below the RAM, it is none of theirs.
-fn write_managers(managers: &mut [Manager], reads: bool, from: usize, bytes: &[u8])
+fn write_managers(managers: &mut [SyncManager], reads: bool, from: usize, bytes: &[u8])
     requires four { length managers.old ≡ 4 }
     requires small { from + length bytes.now < 2 ^ 32 }
     ensures { managers.new ≡ physical_managers [] reads true (record { from = from; bytes = bytes.now }) 0 managers.old }

@@ -4,15 +4,15 @@
 ghost use Rattle.std.specs.Prelude.{◌≡◌, ◌+◌, ◌<◌, ◌≤◌, ◌&&◌, if◌then◌else◌, length, IfSome, true};
 ghost use Rattle.ec_bits.specs.Bits.{any_below};
 ghost use Rattle.ec_regs.specs.Memory.{ram_end, ram_start};
-ghost use Rattle.ec_sync.specs.Manager.{LiesInRam, ring_read, ring_written};
+ghost use Rattle.ec_sync.specs.SyncManager.{LiesInRam, ring_read, ring_written};
 ghost use Rattle.ec_sync.specs.Governing.{governor as governor_of};
 ghost use Rattle.ec_slave.specs.Managers.{gets_at, is_read_by, is_ungoverned, is_written_by};
 
 use ec_regs::registers::RAM_START;
-use ec_sync::{Manager, Touching, Writing};
+use ec_sync::{SyncManager, Touching, Writing};
 
 /// The number of the sync manager that governs a byte: the lowest one that is set and whose span has it.
-pub(crate) fn governor(managers: &[Manager], address: usize) -> Option<usize>
+pub(crate) fn governor(managers: &[SyncManager], address: usize) -> Option<usize>
     ensures value { result ≡ governor_of managers.now address }
     ensures within { IfSome result (λ n. n < length managers.now) }
 {
@@ -20,7 +20,7 @@ pub(crate) fn governor(managers: &[Manager], address: usize) -> Option<usize>
 }
 
 /// The governor of a byte of the RAM, if it has one; none of a register.
-pub(crate) fn owner_of(managers: &[Manager], address: usize) -> Option<usize>
+pub(crate) fn owner_of(managers: &[SyncManager], address: usize) -> Option<usize>
     ensures within { IfSome result (λ n. n < length managers.now) }
     ensures value { ram_start ≤ address → result ≡ governor_of managers.now address }
 {
@@ -32,7 +32,7 @@ pub(crate) fn owner_of(managers: &[Manager], address: usize) -> Option<usize>
 }
 
 /// Whether an access touches a byte that no manager in `lower` governs.
-fn is_own<T: Touching>(access: &T, lower: &[Manager], address: usize) -> bool
+fn is_own<T: Touching>(access: &T, lower: &[SyncManager], address: usize) -> bool
     requires { address < ram_end }
     ensures { result ≡ (T.touched access.now address && is_ungoverned lower.now address) }
 {
@@ -40,7 +40,7 @@ fn is_own<T: Touching>(access: &T, lower: &[Manager], address: usize) -> bool
 }
 
 /// Whether it touches such a byte among the `len` from `start` on.
-fn some_is_own<T: Touching>(access: &T, lower: &[Manager], start: usize, len: usize) -> bool
+fn some_is_own<T: Touching>(access: &T, lower: &[SyncManager], start: usize, len: usize) -> bool
     requires { start + len ≤ ram_end }
     ensures { result ≡ any_below len (λ k. T.touched access.now (start + k) && is_ungoverned lower.now (start + k)) }
 {
@@ -53,7 +53,7 @@ fn some_is_own<T: Touching>(access: &T, lower: &[Manager], start: usize, len: us
 }
 
 /// The same of an access that touches the first one, which most often decides.
-fn has_own<T: Touching>(access: &T, lower: &[Manager], start: usize, len: usize) -> bool
+fn has_own<T: Touching>(access: &T, lower: &[SyncManager], start: usize, len: usize) -> bool
     requires some { 0 < len }
     requires inside { start + len ≤ ram_end }
     requires first { T.touched access.now start ≡ true }
@@ -66,7 +66,7 @@ fn has_own<T: Touching>(access: &T, lower: &[Manager], start: usize, len: usize)
 }
 
 /// Whether an access gets at a manager: at its first and its last byte, and at a byte that no manager in `lower` governs.
-fn reaches<T: Touching>(access: &T, lower: &[Manager], manager: &Manager) -> bool
+fn reaches<T: Touching>(access: &T, lower: &[SyncManager], manager: &SyncManager) -> bool
     requires { LiesInRam manager.now.settings }
     ensures { result ≡ gets_at (T.touched access.now) (is_ungoverned lower.now) manager.now }
 {
@@ -77,8 +77,8 @@ fn reaches<T: Touching>(access: &T, lower: &[Manager], manager: &Manager) -> boo
 
 /// An access that writes: a manager that it gets at takes its value, if it is let. Answers whether.
 pub(crate) fn write_manager<W: Writing>(
-    lower: &[Manager],
-    manager: &mut Manager,
+    lower: &[SyncManager],
+    manager: &mut SyncManager,
     access: &W,
 ) -> bool
     ensures written { result ≡ is_written_by (W.touched access.now) (is_ungoverned lower.now) manager.old }
@@ -94,7 +94,11 @@ pub(crate) fn write_manager<W: Writing>(
 }
 
 /// An access that reads: it empties a mailbox that it gets at, if it is let. It does nothing to another manager.
-pub(crate) fn read_manager<T: Touching>(lower: &[Manager], manager: &mut Manager, access: &T)
+pub(crate) fn read_manager<T: Touching>(
+    lower: &[SyncManager],
+    manager: &mut SyncManager,
+    access: &T,
+)
     ensures { let m = manager.old in
         manager.new ≡ (if is_read_by (T.touched access.now) (is_ungoverned lower.now) m then ring_read m else m) }
 {

@@ -8,7 +8,7 @@ ghost use Rattle.ec_slave.specs.State.{manager_at};
 ghost use Rattle.ec_slave.specs.Managers.{is_ungoverned};
 
 use crate::reach::governor;
-use ec_sync::Manager;
+use ec_sync::SyncManager;
 
 /// The end of the bytes from `start` on, and below `end`, that lie on one side of a border.
 pub(crate) fn cut(start: usize, end: usize, border: usize) -> usize
@@ -25,7 +25,7 @@ pub(crate) fn cut(start: usize, end: usize, border: usize) -> usize
 
 /// The end of the bytes from `start` on, and below `end`, that a manager has all or none of, and, if it has them, of
 /// which all lie before the end of its value, or none.
-fn cut_at_borders(manager: &Manager, start: usize, end: usize) -> usize
+fn cut_at_borders(manager: &SyncManager, start: usize, end: usize) -> usize
     requires { start < end }
     ensures inside { (start < result) × (result ≤ end) }
     ensures governs { (a : ℕ) → start ≤ a → a < result → governs manager.now a ≡ governs manager.now start }
@@ -43,7 +43,7 @@ fn cut_at_borders(manager: &Manager, start: usize, end: usize) -> usize
 
 /// The end of the bytes from `start` on, and below `end`, that have one governor, or none, and lie on one side of the
 /// end of its value.
-pub(crate) fn end_of_alike(managers: &[Manager], start: usize, end: usize) -> usize
+pub(crate) fn end_of_alike(managers: &[SyncManager], start: usize, end: usize) -> usize
     requires { start < end }
     ensures inside { (start < result) × (result ≤ end) }
     ensures governor { (a : ℕ) → start ≤ a → a < result → governor_of managers.now a ≡ governor_of managers.now start }
@@ -58,7 +58,7 @@ pub(crate) fn end_of_alike(managers: &[Manager], start: usize, end: usize) -> us
 }
 
 /// Whether none of these managers governs one of the `len` bytes from `start` on.
-pub(crate) fn are_ungoverned(managers: &[Manager], start: usize, len: usize) -> bool
+pub(crate) fn are_ungoverned(managers: &[SyncManager], start: usize, len: usize) -> bool
     requires some { 0 < len }
     requires fits { start + len < 2 ^ 32 }
     ensures { OnTrue result ((a : ℕ) → start ≤ a → a < start + len → is_ungoverned managers.now a ≡ true) }
@@ -71,7 +71,7 @@ pub(crate) fn are_ungoverned(managers: &[Manager], start: usize, len: usize) -> 
 }
 
 /// How many of the `count` bits from a physical bit on lie in bytes that are alike in that.
-pub(crate) fn count_alike(managers: &[Manager], physical: u32, count: usize) -> usize
+pub(crate) fn count_alike(managers: &[SyncManager], physical: u32, count: usize) -> usize
     requires some { 0 < count }
     requires fits { physical + count < 2 ^ 32 }
     ensures inside { (0 < result) × (result ≤ count) }

@@ -1,7 +1,7 @@
 //! A slave: its memory, sync managers, AL state, SII and objects.
 ghost use Rattle.std.specs.Prelude.{◌≡◌, ◌+◌, ◌*◌, ◌<◌, ◌≤◌, ◌^◌, ℕ, length, slice_index, IfOk, IfSome, if◌then◌else◌, [], ◌∷◌, Option, Some, None, nat_lt};
 ghost use Rattle.ec_regs.specs.Memory.{al_status, ram_start, ram_end};
-ghost use Rattle.ec_sync.specs.Manager.{no_manager};
+ghost use Rattle.ec_sync.specs.SyncManager.{no_manager};
 ghost use Rattle.ec_sync.specs.Governing.{governor as governor_of};
 ghost use Rattle.ec_slave.specs.Physical.{byte_at, register_byte};
 ghost use Rattle.ec_slave.specs.State.{SlaveState, memory_length, power_on, station_of};
@@ -10,6 +10,7 @@ use crate::fmmus::read_fmmus;
 use crate::reach::governor;
 use ec_al::Al;
 use ec_coe::Dictionary;
+use ec_device::{Identity, SlaveType};
 use ec_dl::DataLink;
 use ec_fmmu::FmmuTable;
 use ec_regs::registers::{
@@ -17,9 +18,8 @@ use ec_regs::registers::{
     MANAGER_SIZE, NUMBER_OF_FMMUS, NUMBER_OF_SYNC_MANAGERS, RAM_END, RAM_KIB, RAM_SIZE, RAM_START,
     SII_CONTROL, SII_DATA, STATION_ADDRESS, SYNC_MANAGERS, SYNC_MANAGERS_END,
 };
-use ec_regs::{Identity, SlaveType};
-use ec_sii::{Image, Port};
-use ec_sync::Manager;
+use ec_sii::{Port, SiiImage};
+use ec_sync::SyncManager;
 use std::alloc::{AllocError, Global};
 use std::marker::Model;
 
@@ -42,7 +42,7 @@ pub struct Slave {
     pub(crate) memory: Vec<u8>,
     // as the registers in `memory` say them
     pub(crate) fmmus: FmmuTable,
-    pub(crate) managers: Vec<Manager>,
+    pub(crate) managers: Vec<SyncManager>,
     pub(crate) al: Al,
     pub(crate) port: Port,
     pub(crate) link: DataLink,
@@ -82,14 +82,14 @@ fn memory_len() -> usize
 }
 
 /// Four sync managers as the power comes on.
-fn new_managers(alloc: Global) -> Result<Vec<Manager>, AllocError>
+fn new_managers(alloc: Global) -> Result<Vec<SyncManager>, AllocError>
     ensures { IfOk result (λ v. v.items ≡ no_manager ∷ no_manager ∷ no_manager ∷ no_manager ∷ []) }
 {
     let mut managers = Vec::new(alloc);
-    managers.push(Manager::new(alloc)?)?;
-    managers.push(Manager::new(alloc)?)?;
-    managers.push(Manager::new(alloc)?)?;
-    managers.push(Manager::new(alloc)?)?;
+    managers.push(SyncManager::new(alloc)?)?;
+    managers.push(SyncManager::new(alloc)?)?;
+    managers.push(SyncManager::new(alloc)?)?;
+    managers.push(SyncManager::new(alloc)?)?;
     Ok(managers)
 }
 
@@ -118,7 +118,7 @@ impl Slave {
         let memory = vec![in alloc; 0; memory_len()]?;
         let fmmus = read_fmmus(&memory);
         let managers = new_managers(alloc)?;
-        let image = Image::of(alloc, &kind, identity)?;
+        let image = SiiImage::of(alloc, &kind, identity)?;
         let port = Port::new(image);
         let link = DataLink::new(kind.face());
         let dictionary = Dictionary::new(alloc, kind, identity)?;

@@ -11,9 +11,10 @@ use self::steps::Step::{
     Answers, Gets, Outputs, Passes, Puts, Resets, Shows, Sizes, Station, Writes, WritesInVain,
 };
 use self::steps::{Step, pass_frame, take_all};
+use ec_device::{Identity, SlaveType};
 use ec_frame::Command::{Aprd, Aprw, Brd, Lrd, Lrw, Lwr};
 use ec_frame::check;
-use ec_regs::{Identity, Listed, SlaveType};
+use ec_listed::Listed;
 use ec_slave::Slave;
 use std::alloc::{AllocError, Global};
 use std::process::Abort;
@@ -41,7 +42,7 @@ const READS_INPUTS: Step = Writes(0x0610, "0100010002000007 0014000101000000");
 
 /// A slave without objects.
 fn plain_slave(alloc: Global) -> Result<Slave, AllocError> {
-    Slave::new(alloc, SlaveType::plain(alloc), IDENTITY)
+    Slave::new(alloc, SlaveType::without_pdos(alloc), IDENTITY)
 }
 
 /// Takes steps on a slave without objects that was just switched on.

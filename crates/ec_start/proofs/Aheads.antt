@@ -3,9 +3,9 @@ use Rattle.std.proofs.Common.{◌≡◌, ◌≢◌, ℕ, zero, suc, ◌+◌, ◌
 use Rattle.std.proofs.Common.{inl, inr}
 use Rattle.std.proofs.lemmas.Bool.{cases_Bool, ltb-false, ltb-true}
 use Rattle.std.proofs.lemmas.List.{drop_all}
-use Rattle.ec_regs.specs.declared.slave_type.Mailbox.{Mailbox}
-use Rattle.ec_link.specs.declared.settings.Settings.{Settings}
-use Rattle.ec_start.specs.declared.action.Request.{Request}
+use Rattle.ec_device.specs.declared.slave_type.Mailbox.{Mailbox}
+use Rattle.ec_link.specs.declared.settings.SlavePlan.{SlavePlan}
+use Rattle.ec_start.specs.declared.action.SdoRequest.{SdoRequest}
 use Rattle.ec_start.specs.declared.action.Action.{Action}
 use Rattle.ec_start.specs.declared.action.Action.TheVariants.{SendRequest, AwaitReply}
 use Rattle.ec_start.specs.declared.script.Stretch.{Stretch}
@@ -52,17 +52,17 @@ drop_nil : {X : Type 0} (n : ℕ) → drop {A = X} n [] ≡ []
 drop_nil zero = refl
 drop_nil (suc n) = refl
 
-each_step : (f : ℕ → Settings → List Action) (ps : List Settings) (k i : ℕ) → each_slave f k (drop i ps) ≡ share_of f k (slice_get ps i) ++ each_slave f (k + 1) (drop (i + 1) ps)
+each_step : (f : ℕ → SlavePlan → List Action) (ps : List SlavePlan) (k i : ℕ) → each_slave f k (drop i ps) ≡ share_of f k (slice_get ps i) ++ each_slave f (k + 1) (drop (i + 1) ps)
 each_step f [] k zero = refl
 each_step f [] k (suc i) = ap (each_slave f (k + 1)) (sym (drop_nil (suc i + 1)))
 each_step f (p ∷ ps) k zero = refl
 each_step f (p ∷ ps) k (suc i) = let z : suc i + 1 ≡ suc (i + 1) = omega arith in rw z (each_step f ps k i)
 
 -- a whole stretch from its first share on
-whole_step : (st : Stretch) (ps : List Settings) (rest : List Action) → whole st ps ++ rest ≡ share_of (share st) 0 (slice_get ps 0) ++ (each_slave (share st) 1 (drop 1 ps) ++ rest)
+whole_step : (st : Stretch) (ps : List SlavePlan) (rest : List Action) → whole st ps ++ rest ≡ share_of (share st) 0 (slice_get ps 0) ++ (each_slave (share st) 1 (drop 1 ps) ++ rest)
 whole_step st ps rest = ap (λ xs. xs ++ rest) (each_step (share st) ps 0 0) ∙ append_assoc (share_of (share st) 0 (slice_get ps 0)) _ rest
 
-later_step : (st next : Stretch) (ps : List Settings) → following st ≡ Some next → (later st ps ≡ whole next ps ++ later next ps) × (is_for_all next ≡ false)
+later_step : (st next : Stretch) (ps : List SlavePlan) → following st ≡ Some next → (later st ps ≡ whole next ps ++ later next ps) × (is_for_all next ≡ false)
 later_step Opening next ps e = let f : Some Naming ≡ Some next = e in let g : Naming ≡ next = cc in rw (sym g) (refl, refl)
 later_step Naming next ps e = let f : Some Identifying ≡ Some next = e in let g : Identifying ≡ next = cc in rw (sym g) (refl, refl)
 later_step Identifying next ps e = let f : Some Mailboxes ≡ Some next = e in let g : Mailboxes ≡ next = cc in rw (sym g) (refl, refl)
@@ -73,7 +73,7 @@ later_step Mapping next ps e = let f : Some ToSafeOp ≡ Some next = e in let g 
 later_step ToSafeOp next ps e = let f : Some ToOp ≡ Some next = e in let g : ToOp ≡ next = cc in rw (sym g) (sym (append-nil (whole ToOp ps)), refl)
 later_step ToOp next ps e = absurd (let f : None ≡ Some next = e in cc)
 
-later_end : (st : Stretch) (ps : List Settings) → following st ≡ None → later st ps ≡ []
+later_end : (st : Stretch) (ps : List SlavePlan) → following st ≡ None → later st ps ≡ []
 later_end Opening ps e = absurd (let f : Some Naming ≡ None = e in cc)
 later_end Naming ps e = absurd (let f : Some Identifying ≡ None = e in cc)
 later_end Identifying ps e = absurd (let f : Some Mailboxes ≡ None = e in cc)
@@ -98,15 +98,15 @@ rank_step ToOp next e = absurd (let f : None ≡ Some next = e in cc)
 -- ---- the next share
 
 -- what a whole stretch is from its beginning on
-ahead_whole : (st : Stretch) (ps : List Settings) → is_for_all st ≡ false → whole st ps ++ later st ps ≡ ahead ps (record { stretch = st; slave = 0; place = 0 })
+ahead_whole : (st : Stretch) (ps : List SlavePlan) → is_for_all st ≡ false → whole st ps ++ later st ps ≡ ahead ps (record { stretch = st; slave = 0; place = 0 })
 ahead_whole st ps e = rw e (whole_step st ps (later st ps))
 
 -- a slave's share, and what is behind it
-ahead_slave : (st : Stretch) (ps : List Settings) (i : ℕ) → is_for_all st ≡ false → beyond st ps i ≡ ahead ps (record { stretch = st; slave = i + 1; place = 0 })
+ahead_slave : (st : Stretch) (ps : List SlavePlan) (i : ℕ) → is_for_all st ≡ false → beyond st ps i ≡ ahead ps (record { stretch = st; slave = i + 1; place = 0 })
 ahead_slave st ps i e =
     rw e (ap (λ xs. xs ++ later st ps) (each_step (share st) ps (i + 1) (i + 1)) ∙ append_assoc (share_of (share st) (i + 1) (slice_get ps (i + 1))) _ (later st ps))
 
-beyond_last : (st : Stretch) (ps : List Settings) (i : ℕ) → not (is_for_all st) && nat_lt (i + 1) (length ps) ≡ false → beyond st ps i ≡ later st ps
+beyond_last : (st : Stretch) (ps : List SlavePlan) (i : ℕ) → not (is_for_all st) && nat_lt (i + 1) (length ps) ≡ false → beyond st ps i ≡ later st ps
 beyond_last st ps i e = elim (cases_Bool (is_for_all st)) [
   | inl t ↦ rw t refl
   | inr f ↦
@@ -121,7 +121,7 @@ next_of c = record { stretch = c.stretch; slave = c.slave + 1; place = 0 }
 abbrev start_of : Stretch → Cursor
 start_of st = record { stretch = st; slave = 0; place = 0 }
 
-behind_case : (ps : List Settings) (c d : Cursor) (b : Bool) → not (is_for_all c.stretch) && nat_lt (c.slave + 1) (length ps) ≡ b
+behind_case : (ps : List SlavePlan) (c d : Cursor) (b : Bool) → not (is_for_all c.stretch) && nat_lt (c.slave + 1) (length ps) ≡ b
     → if◌then◌else◌ {A = Option Cursor} b (Some (record { stretch = c.stretch; slave = c.slave + 1; place = 0 })) (option_map start_of (following c.stretch)) ≡ Some d
     → beyond c.stretch ps c.slave ≡ ahead ps d
 behind_case ps c d true t e =
@@ -140,10 +140,10 @@ behind_case ps c d false t e = beyond_last c.stretch ps c.slave t ∙ next (foll
         l.0 ∙ (ahead_whole st ps l.1 ∙ ap (ahead ps) g)
 
 -- past the end of a share, the actions ahead are those from the next one on
-pub ahead_behind : (ps : List Settings) (c d : Cursor) → slice_get (share_at c.stretch ps c.slave) c.place ≡ None → behind (length ps) c ≡ Some d → ahead ps c ≡ ahead ps d
+pub ahead_behind : (ps : List SlavePlan) (c d : Cursor) → slice_get (share_at c.stretch ps c.slave) c.place ≡ None → behind (length ps) c ≡ Some d → ahead ps c ≡ ahead ps d
 ahead_behind ps c d none e = ap (λ xs. xs ++ beyond c.stretch ps c.slave) (drop_none (share_at c.stretch ps c.slave) c.place none) ∙ behind_case ps c d _ refl e
 
-end_case : (ps : List Settings) (c : Cursor) (b : Bool) → not (is_for_all c.stretch) && nat_lt (c.slave + 1) (length ps) ≡ b
+end_case : (ps : List SlavePlan) (c : Cursor) (b : Bool) → not (is_for_all c.stretch) && nat_lt (c.slave + 1) (length ps) ≡ b
     → if◌then◌else◌ {A = Option Cursor} b (Some (record { stretch = c.stretch; slave = c.slave + 1; place = 0 })) (option_map start_of (following c.stretch)) ≡ None
     → beyond c.stretch ps c.slave ≡ []
 end_case ps c true t e = absurd (let f : Some (next_of c) ≡ None = e in cc)
@@ -154,11 +154,11 @@ end_case ps c false t e = beyond_last c.stretch ps c.slave t ∙ last (following
     last (Some st) is f = absurd (let h : Some (start_of st) ≡ None = f in cc)
 
 -- or there are none
-pub ahead_end : (ps : List Settings) (c : Cursor) → slice_get (share_at c.stretch ps c.slave) c.place ≡ None → behind (length ps) c ≡ None → ahead ps c ≡ []
+pub ahead_end : (ps : List SlavePlan) (c : Cursor) → slice_get (share_at c.stretch ps c.slave) c.place ≡ None → behind (length ps) c ≡ None → ahead ps c ≡ []
 ahead_end ps c none e = ap (λ xs. xs ++ beyond c.stretch ps c.slave) (drop_none (share_at c.stretch ps c.slave) c.place none) ∙ end_case ps c _ refl e
 
 -- where there is an action, it is the first ahead
-pub ahead_here : (ps : List Settings) (c : Cursor) (a : Action) → slice_get (share_at c.stretch ps c.slave) c.place ≡ Some a → ahead ps c ≡ a ∷ ahead ps (record c { place = c.place + 1 })
+pub ahead_here : (ps : List SlavePlan) (c : Cursor) (a : Action) → slice_get (share_at c.stretch ps c.slave) c.place ≡ Some a → ahead ps c ≡ a ∷ ahead ps (record c { place = c.place + 1 })
 ahead_here ps c a e = ap (λ xs. xs ++ beyond c.stretch ps c.slave) (drop_some (share_at c.stretch ps c.slave) c.place a e)
 
 -- ---- the loop that skips what is empty
@@ -191,20 +191,20 @@ is_behind n c d few low e = behind_less n c d _ few low refl e
 
 -- ---- the whole script
 
-pub script_ahead : (ps : List Settings) → script ps ≡ ahead ps (record { stretch = Opening; slave = 0; place = 0 })
+pub script_ahead : (ps : List SlavePlan) → script ps ≡ ahead ps (record { stretch = Opening; slave = 0; place = 0 })
 script_ahead [] = refl
 script_ahead (p ∷ ps) = refl
 
 -- ---- shares by place
 
 -- the requests of a slave, each sent and awaited
-talk_none : (i : ℕ) (b : Mailbox) (n : ℕ) (rs : List Request) (k : ℕ) → slice_get rs (k / 2) ≡ None → slice_get (exchanged i b n rs) k ≡ None
+talk_none : (i : ℕ) (b : Mailbox) (n : ℕ) (rs : List SdoRequest) (k : ℕ) → slice_get rs (k / 2) ≡ None → slice_get (exchanged i b n rs) k ≡ None
 talk_none i b n [] k e = refl
 talk_none i b n (r ∷ rs) zero e = absurd (let f : Some r ≡ None = e in cc)
 talk_none i b n (r ∷ rs) (suc zero) e = absurd (let f : Some r ≡ None = e in cc)
 talk_none i b n (r ∷ rs) (suc (suc k)) e = let h : suc (suc k) / 2 ≡ suc (k / 2) = omega arith in talk_none i b (n + 1) rs k (rw h at e)
 
-talk_sent : (i : ℕ) (b : Mailbox) (n : ℕ) (rs : List Request) (k : ℕ) (r : Request) → slice_get rs (k / 2) ≡ Some r → k % 2 ≡ 0 → slice_get (exchanged i b n rs) k ≡ Some (SendRequest i (n + k / 2) b r)
+talk_sent : (i : ℕ) (b : Mailbox) (n : ℕ) (rs : List SdoRequest) (k : ℕ) (r : SdoRequest) → slice_get rs (k / 2) ≡ Some r → k % 2 ≡ 0 → slice_get (exchanged i b n rs) k ≡ Some (SendRequest i (n + k / 2) b r)
 talk_sent i b n [] k r e even = absurd (let f : None ≡ Some r = e in cc)
 talk_sent i b n (x ∷ rs) zero r e even = let f : Some x ≡ Some r = e in let g : x ≡ r = cc in let z : n ≡ n + 0 / 2 = omega arith in rw (sym g) (ap (λ m. Some (SendRequest i m b x)) z)
 talk_sent i b n (x ∷ rs) (suc zero) r e even = absurd (omega (arith, even))
@@ -213,7 +213,7 @@ talk_sent i b n (x ∷ rs) (suc (suc k)) r e even =
     let z : n + 1 + k / 2 ≡ n + suc (suc k) / 2 = omega arith in
     talk_sent i b (n + 1) rs k r (rw h at e) (omega (arith, even)) ∙ ap (λ m. Some (SendRequest i m b r)) z
 
-talk_awaited : (i : ℕ) (b : Mailbox) (n : ℕ) (rs : List Request) (k : ℕ) (r : Request) → slice_get rs (k / 2) ≡ Some r → k % 2 ≢ 0 → slice_get (exchanged i b n rs) k ≡ Some (AwaitReply i b r)
+talk_awaited : (i : ℕ) (b : Mailbox) (n : ℕ) (rs : List SdoRequest) (k : ℕ) (r : SdoRequest) → slice_get rs (k / 2) ≡ Some r → k % 2 ≢ 0 → slice_get (exchanged i b n rs) k ≡ Some (AwaitReply i b r)
 talk_awaited i b n [] k r e odd = absurd (let f : None ≡ Some r = e in cc)
 talk_awaited i b n (x ∷ rs) zero r e odd = absurd (odd refl)
 talk_awaited i b n (x ∷ rs) (suc zero) r e odd = let f : Some x ≡ Some r = e in let g : x ≡ r = cc in rw (sym g) refl
@@ -221,16 +221,16 @@ talk_awaited i b n (x ∷ rs) (suc (suc k)) r e odd =
     let h : suc (suc k) / 2 ≡ suc (k / 2) = omega arith in
     talk_awaited i b (n + 1) rs k r (rw h at e) (λ z. odd (omega (arith, z)))
 
-pub talked_none : (i : ℕ) (p : Settings) (m : Option Mailbox) (b : Mailbox) (k : ℕ) → Some b ≡ m → None ≡ slice_get (requests p) (k / 2) → None ≡ slice_get (talked i p m) k
+pub talked_none : (i : ℕ) (p : SlavePlan) (m : Option Mailbox) (b : Mailbox) (k : ℕ) → Some b ≡ m → None ≡ slice_get (requests p) (k / 2) → None ≡ slice_get (talked i p m) k
 talked_none i p m b k is e = sym (talk_none i b 0 (requests p) k (sym e)) ∙ ap (λ (o : Option Mailbox). slice_get (talked i p o) k) is
 
-pub talked_sent : (i : ℕ) (p : Settings) (m : Option Mailbox) (b : Mailbox) (k : ℕ) (r : Request) → Some b ≡ m → Some r ≡ slice_get (requests p) (k / 2) → k % 2 ≡ 0
+pub talked_sent : (i : ℕ) (p : SlavePlan) (m : Option Mailbox) (b : Mailbox) (k : ℕ) (r : SdoRequest) → Some b ≡ m → Some r ≡ slice_get (requests p) (k / 2) → k % 2 ≡ 0
     → Some (SendRequest i (k / 2) b r) ≡ slice_get (talked i p m) k
 talked_sent i p m b k r is e even =
     let z : k / 2 ≡ 0 + k / 2 = omega arith in
     ap (λ (n : ℕ). Some (SendRequest i n b r)) z ∙ (sym (talk_sent i b 0 (requests p) k r (sym e) even) ∙ ap (λ (o : Option Mailbox). slice_get (talked i p o) k) is)
 
-pub talked_awaited : (i : ℕ) (p : Settings) (m : Option Mailbox) (b : Mailbox) (k : ℕ) (r : Request) → Some b ≡ m → Some r ≡ slice_get (requests p) (k / 2) → k % 2 ≢ 0
+pub talked_awaited : (i : ℕ) (p : SlavePlan) (m : Option Mailbox) (b : Mailbox) (k : ℕ) (r : SdoRequest) → Some b ≡ m → Some r ≡ slice_get (requests p) (k / 2) → k % 2 ≢ 0
     → Some (AwaitReply i b r) ≡ slice_get (talked i p m) k
 talked_awaited i p m b k r is e odd = sym (talk_awaited i b 0 (requests p) k r (sym e) odd) ∙ ap (λ (o : Option Mailbox). slice_get (talked i p o) k) is
 
@@ -239,19 +239,19 @@ some_first : (x : Option Action) (xs : List (Option Action)) (k : ℕ) → x ≡
 some_first None xs k e = refl
 some_first (Some a) xs k e = absurd (let f : Some a ≡ None = e in cc)
 
-manager_somes : (i : ℕ) (p : Settings) (n : ℕ) (xs : List (Option Action)) → somes (manager_chosen i p n ∷ xs) ≡ manager_set i p n ++ somes xs
+manager_somes : (i : ℕ) (p : SlavePlan) (n : ℕ) (xs : List (Option Action)) → somes (manager_chosen i p n ∷ xs) ≡ manager_set i p n ++ somes xs
 manager_somes i p n xs = elim (cases_Bool ((settings_at p.managers n).activate == 0)) [
   | inl t ↦ rw t refl
   | inr f ↦ rw f refl
 ]
 
-fmmu_somes : (i : ℕ) (p : Settings) (n : ℕ) (xs : List (Option Action)) → somes (fmmu_chosen i p n ∷ xs) ≡ fmmu_set i p n (fmmu_at p.fmmus n).active ++ somes xs
+fmmu_somes : (i : ℕ) (p : SlavePlan) (n : ℕ) (xs : List (Option Action)) → somes (fmmu_chosen i p n ∷ xs) ≡ fmmu_set i p n (fmmu_at p.fmmus n).active ++ somes xs
 fmmu_somes i p n xs = elim (cases_Bool (fmmu_at p.fmmus n).active) [
   | inl t ↦ rw t refl
   | inr f ↦ rw f refl
 ]
 
-pub mapped_somes : (i : ℕ) (p : Settings) → somes (manager_chosen i p 2 ∷ manager_chosen i p 3 ∷ fmmu_chosen i p 0 ∷ fmmu_chosen i p 1 ∷ []) ≡ mapped i p
+pub mapped_somes : (i : ℕ) (p : SlavePlan) → somes (manager_chosen i p 2 ∷ manager_chosen i p 3 ∷ fmmu_chosen i p 0 ∷ fmmu_chosen i p 1 ∷ []) ≡ mapped i p
 mapped_somes i p =
     manager_somes i p 2 _
     ∙ (ap (λ xs. manager_set i p 2 ++ xs) (manager_somes i p 3 _

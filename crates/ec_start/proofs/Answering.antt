@@ -3,8 +3,8 @@ use Rattle.std.proofs.Common.{◌≡◌, ◌≤◌, ℕ, ◌%◌, List, [], ◌�
 use Rattle.std.specs.Int.{to_le_bytes, w64}
 use Rattle.ec_frame.specs.declared.command.Command.{Command}
 use Rattle.ec_frame.specs.declared.command.Command.TheVariants.{Nop}
-use Rattle.ec_frame.specs.declared.cursor.Span.{Span}
-use Rattle.ec_frame.specs.declared.cursor.Places.{Places}
+use Rattle.ec_frame.specs.declared.cursor.DatagramSpan.{DatagramSpan}
+use Rattle.ec_frame.specs.declared.cursor.DatagramCursor.{DatagramCursor}
 use Rattle.ec_frame.specs.Cursor.{IsAhead}
 use Rattle.ec_frame.specs.Datagram.{Datagram, IsDatagram, is_followed, spelling}
 use Rattle.ec_frame.specs.Frame.{Payload, IsFrame}
@@ -16,7 +16,7 @@ use Rattle.ec_start.specs.Answered.{Answers, IsAnswerAt}
 use Rattle.ec_start.proofs.Shaping.{datagram_is}
 
 -- a frame of two datagrams, which stand at two places
-pub record IsPair (payload : List ℕ) (name answer : Span) : Type 0 where
+pub record IsPair (payload : List ℕ) (name answer : DatagramSpan) : Type 0 where
   pub frame : Payload
   pub first : Datagram
   pub datagram : Datagram
@@ -27,7 +27,7 @@ pub record IsPair (payload : List ℕ) (name answer : Span) : Type 0 where
   pub there_first : slice_range payload name.from name.to ≡ spelling true first
   pub there : slice_range payload answer.from answer.to ≡ spelling false datagram
 
-pair_of : (payload : List ℕ) (name answer : Span) (places one : Places) (p : Payload) (ds : List Datagram) → p.datagrams ≡ ds → IsFrame payload p → length ds ≡ 2
+pair_of : (payload : List ℕ) (name answer : DatagramSpan) (places one : DatagramCursor) (p : Payload) (ds : List Datagram) → p.datagrams ≡ ds → IsFrame payload p → length ds ≡ 2
     → IsAhead payload places ds
     → ((d : Datagram) (es : List Datagram) → IsAhead payload places (d ∷ es) → slice_range payload name.from name.to ≡ spelling (is_followed es) d)
     → ((d : Datagram) (es : List Datagram) → IsAhead payload places (d ∷ es) → IsAhead payload one es)
@@ -50,7 +50,7 @@ pair_of payload name answer places one p (d ∷ e ∷ []) is f two ahead first o
       there = second e [] rest;
     }
 
-pub is_pair : (payload : List ℕ) (name answer : Span) (places one : Places) (p : Payload) → IsFrame payload p → length p.datagrams ≡ 2
+pub is_pair : (payload : List ℕ) (name answer : DatagramSpan) (places one : DatagramCursor) (p : Payload) → IsFrame payload p → length p.datagrams ≡ 2
     → IsAhead payload places p.datagrams
     → ((d : Datagram) (es : List Datagram) → IsAhead payload places (d ∷ es) → slice_range payload name.from name.to ≡ spelling (is_followed es) d)
     → ((d : Datagram) (es : List Datagram) → IsAhead payload places (d ∷ es) → IsAhead payload one es)
@@ -100,7 +100,7 @@ answers a number ds d e both name told answer = record {
   number_is = ap number_told both ∙ told;
 }
 
-pub answer_length : (payload : List ℕ) (a : Action) (number : ℕ) (span : Span) (at : IsAnswerAt payload a number span) → length at.datagram.data_bytes ≡ length (datagram_of a 0).data_bytes
+pub answer_length : (payload : List ℕ) (a : Action) (number : ℕ) (span : DatagramSpan) (at : IsAnswerAt payload a number span) → length at.datagram.data_bytes ≡ length (datagram_of a 0).data_bytes
 answer_length payload a number span at = let s = seconds a number at.frame.datagrams at.first at.datagram at.both at.answer in ap (λ (t : Shape). t.bytes) s.answer
 
 -- the second shape with what the code knows of the action
@@ -111,7 +111,7 @@ made_shape a number command bytes e f =
     let two : ℕ → Shape = λ n. record { command = (datagram_of a 0).command; index = number % 256; bytes = n } in
     ap one e ∙ ap two f
 
-pub answer_at : (payload : List ℕ) (a : Action) (number : ℕ) (name answer : Span) (command : Command) (bytes : ℕ) (pair : IsPair payload name answer)
+pub answer_at : (payload : List ℕ) (a : Action) (number : ℕ) (name answer : DatagramSpan) (command : Command) (bytes : ℕ) (pair : IsPair payload name answer)
     → command ≡ (datagram_of a 0).command → bytes ≡ length (datagram_of a 0).data_bytes
     → shape pair.first ≡ first_shape number → take 8 pair.first.data_bytes ≡ to_le_bytes w64 number → shape pair.datagram ≡ record { command = command; index = number % 256; bytes = bytes }
     → (answer.from ≤ answer.to) × (answer.to ≤ length payload) → IsAnswerAt payload a number answer
@@ -133,7 +133,7 @@ pub record OfAnswer (a : Action) (number : ℕ) (command : Command) (bytes : ℕ
   pub told : take 8 d.data_bytes ≡ to_le_bytes w64 number
   pub answer : shape e ≡ record { command = command; index = number % 256; bytes = bytes }
 
-pub of_answer : (payload : List ℕ) (a : Action) (number : ℕ) (name answer : Span) (command : Command) (bytes : ℕ) (pair : IsPair payload name answer) (p : Payload)
+pub of_answer : (payload : List ℕ) (a : Action) (number : ℕ) (name answer : DatagramSpan) (command : Command) (bytes : ℕ) (pair : IsPair payload name answer) (p : Payload)
     → command ≡ (datagram_of a 0).command → bytes ≡ length (datagram_of a 0).data_bytes → IsFrame payload p → Answers a number p.datagrams → OfAnswer a number command bytes pair.first pair.datagram
 of_answer payload a number name answer command bytes pair p e f spelled h =
     let one : p ≡ pair.frame = one_payload payload p pair.frame spelled pair.spelled in

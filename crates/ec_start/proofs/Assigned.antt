@@ -1,19 +1,19 @@
 -- A plan that can be started up is taken by `Startup::new`.
 use Rattle.std.proofs.Common.{◌≡◌, ℕ, ◌+◌, ◌<◌, ◌≤◌, List, [], ◌∷◌, ◌++◌, length, Bool, true, false, refl, sym, subst, arith}
 use Rattle.std.specs.List.{flat_map}
-use Rattle.ec_regs.specs.Objects.{pdo_at}
+use Rattle.ec_device.specs.Objects.{pdo_at}
 use Rattle.ec_coe.specs.Objects.{byte_value, output_assignment, input_assignment, has_some}
-use Rattle.ec_link.specs.declared.settings.Settings.{Settings}
-use Rattle.ec_start.specs.declared.action.Request.{Request}
+use Rattle.ec_link.specs.declared.settings.SlavePlan.{SlavePlan}
+use Rattle.ec_start.specs.declared.action.SdoRequest.{SdoRequest}
 use Rattle.ec_start.specs.Scripts.{downloads, pdo_read, slots_written, assignment_written}
 use Rattle.ec_start.specs.Laws.{StartablesAreTaken}
 use Rattle.ec_start.specs.Planned.{AreRequests, IsStartable, HasFewAssigned}
 
-back_half : (xs ys : List Request) → AreRequests (xs ++ ys) → AreRequests ys
+back_half : (xs ys : List SdoRequest) → AreRequests (xs ++ ys) → AreRequests ys
 back_half [] ys h = h
 back_half (x ∷ xs) ys h = back_half xs ys h.1
 
-front_half : (xs ys : List Request) → AreRequests (xs ++ ys) → AreRequests xs
+front_half : (xs ys : List SdoRequest) → AreRequests (xs ++ ys) → AreRequests xs
 front_half [] ys h = tt
 front_half (x ∷ xs) ys h = (h.0, front_half xs ys h.1)
 
@@ -34,12 +34,12 @@ few_assigned : (object : ℕ) (xs : List ℕ) (b : Bool) → (b ≡ false → xs
 few_assigned object xs true none h = few_written object xs h
 few_assigned object xs false none h = subst (λ (ys : List ℕ). length ys < 256) (sym (none refl)) (omega arith)
 
-pub has_few : (p : Settings) → IsStartable p → HasFewAssigned p
+pub has_few : (p : SlavePlan) → IsStartable p → HasFewAssigned p
 has_few p h =
-    let outs : List Request = flat_map (λ index. pdo_read (pdo_at p.kind.outputs index)) p.outputs in
-    let ins : List Request = flat_map (λ index. pdo_read (pdo_at p.kind.inputs index)) p.inputs in
-    let written : List Request = assignment_written output_assignment p.outputs (has_some p.kind.outputs) in
-    let last : List Request = assignment_written input_assignment p.inputs (has_some p.kind.inputs) in
+    let outs : List SdoRequest = flat_map (λ index. pdo_read (pdo_at p.kind.outputs index)) p.outputs in
+    let ins : List SdoRequest = flat_map (λ index. pdo_read (pdo_at p.kind.inputs index)) p.inputs in
+    let written : List SdoRequest = assignment_written output_assignment p.outputs (has_some p.kind.outputs) in
+    let last : List SdoRequest = assignment_written input_assignment p.inputs (has_some p.kind.inputs) in
     let downs : AreRequests (written ++ last) = back_half ins (written ++ last) (back_half outs (ins ++ (written ++ last)) h.requests) in
     record {
       outputs = few_assigned output_assignment p.outputs (has_some p.kind.outputs) h.no_outs (front_half written last downs);

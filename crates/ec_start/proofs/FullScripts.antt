@@ -3,7 +3,7 @@ use Rattle.std.specs.Prelude.{◌≡◌, ℕ, zero, suc, ◌+◌, List, [], ◌�
 use Rattle.std.proofs.Common.{refl, ap, ◌∙◌}
 use Rattle.ec_al.specs.declared.state.State.TheVariants.{PreOp, SafeOp, Op}
 use Rattle.ec_table.specs.Contents.{Contents}
-use Rattle.ec_link.specs.declared.settings.Settings.{Settings}
+use Rattle.ec_link.specs.declared.settings.SlavePlan.{SlavePlan}
 use Rattle.ec_link.specs.Plan.{PlanState, plan_of}
 use Rattle.ec_link.specs.Sizes.{each_from}
 use Rattle.ec_link.specs.ShownFull.{with_face}
@@ -15,17 +15,17 @@ use Rattle.ec_start.specs.Running.{type_of}
 use Rattle.ec_start.specs.ShownFull.{ShownFullHasTheScript}
 
 -- the slaves of a plan, from place n on, with their faces
-abbrev faced : Contents → ℕ → List Settings → List Settings
+abbrev faced : Contents → ℕ → List SlavePlan → List SlavePlan
 faced t n ps = each_from (with_face t) n ps
 
 -- what is done for each slave is the same where no face is looked at
-each_same : (f : ℕ → Settings → List Action) (t : Contents) (i n : ℕ) (ps : List Settings) → ((i s : ℕ) (p : Settings) → f i (with_face t s p) ≡ f i p) → each_slave f i (faced t n ps) ≡ each_slave f i ps
+each_same : (f : ℕ → SlavePlan → List Action) (t : Contents) (i n : ℕ) (ps : List SlavePlan) → ((i s : ℕ) (p : SlavePlan) → f i (with_face t s p) ≡ f i p) → each_slave f i (faced t n ps) ≡ each_slave f i ps
 each_same f t i n [] h = refl
 each_same f t i n (p ∷ ps) h =
     ap (λ (xs : List Action). xs ++ each_slave f (i + 1) (faced t (n + 1) ps)) (h i n p)
     ∙ ap (λ (xs : List Action). f i p ++ xs) (each_same f t (i + 1) (n + 1) ps h)
 
-phases_same : (t : Contents) (n : ℕ) (ps : List Settings) → phases (faced t n ps) ≡ phases ps
+phases_same : (t : Contents) (n : ℕ) (ps : List SlavePlan) → phases (faced t n ps) ≡ phases ps
 phases_same t n ps =
     let a = each_same named t 0 n ps (λ i s p. refl) in
     let b = each_same identified t 0 n ps (λ i s p. refl) in
@@ -37,11 +37,11 @@ phases_same t n ps =
     let h = each_same (raised Op) t 0 n ps (λ i s p. refl) in
     rw (a, b, c, d, e, f, g, h) refl
 
-script_same : (t : Contents) (n : ℕ) (ps : List Settings) → script (faced t n ps) ≡ script ps
+script_same : (t : Contents) (n : ℕ) (ps : List SlavePlan) → script (faced t n ps) ≡ script ps
 script_same t n [] = refl
 script_same t n (p ∷ ps) = ap (λ (xs : List Action). CountSlaves ∷ xs) (phases_same t n (p ∷ ps))
 
-device_same : (t : Contents) (n : ℕ) (ps : List Settings) (slave : ℕ) → type_of (faced t n ps) slave ≡ type_of ps slave
+device_same : (t : Contents) (n : ℕ) (ps : List SlavePlan) (slave : ℕ) → type_of (faced t n ps) slave ≡ type_of ps slave
 device_same t n [] slave = refl
 device_same t n (p ∷ ps) zero = refl
 device_same t n (p ∷ ps) (suc slave) = device_same t (n + 1) ps slave

@@ -3,12 +3,12 @@ use Rattle.std.proofs.Common.{◌≡◌, ℕ, ◌+◌, ◌<◌, ◌==◌, List, 
 use Rattle.std.proofs.Common.{inl, inr}
 use Rattle.std.specs.List.{flat_map}
 use Rattle.std.proofs.lemmas.Bool.{cases_Bool, ne_eqb, eq-eqb, eqb-false}
-use Rattle.ec_regs.specs.declared.slave_type.Entry.{Entry}
-use Rattle.ec_regs.specs.declared.slave_type.Pdo.{Pdo}
-use Rattle.ec_regs.specs.Objects.{pdo_at}
+use Rattle.ec_device.specs.declared.slave_type.Entry.{Entry}
+use Rattle.ec_device.specs.declared.slave_type.Pdo.{Pdo}
+use Rattle.ec_device.specs.Objects.{pdo_at}
 use Rattle.ec_coe.specs.Objects.{output_assignment, input_assignment, has_some}
-use Rattle.ec_link.specs.declared.settings.Settings.{Settings}
-use Rattle.ec_start.specs.declared.action.Request.{Request}
+use Rattle.ec_link.specs.declared.settings.SlavePlan.{SlavePlan}
+use Rattle.ec_start.specs.declared.action.SdoRequest.{SdoRequest}
 use Rattle.ec_start.specs.declared.verdict.Verdict.{Verdict}
 use Rattle.ec_start.specs.declared.verdict.Verdict.TheVariants.{Next, Shows, Again, Fails}
 use Rattle.ec_start.specs.declared.phase.Phase.{Phase}
@@ -18,7 +18,7 @@ use Rattle.ec_start.specs.declared.error.StartError.TheVariants.{TooSlow, Number
 use Rattle.ec_start.specs.Scripts.{entries_read, pdo_read, slots_written, count_written, assignment_written}
 use Rattle.ec_frame.specs.Datagram.{Datagram}
 use Rattle.ec_start.specs.Verdicts.{verdict}
-use Rattle.ec_start.specs.Running.{StartState, Shape, shape, second, action_of, type_of, taken, begun, is_ended, asked_by, next_frame_by, given_up_by, judged, most_polls, last_number, sending, IsStartTaken}
+use Rattle.ec_start.specs.Running.{StartState, Shape, shape, second, action_of, type_of, taken, begun, is_ended, asked_by, next_frame_by, given_up_by, judged, max_polls, last_number, sending, IsStartTaken}
 use Rattle.ec_start.specs.Seeking.{uploads_of, downloads_of}
 use Rattle.ec_start.specs.Laws.{IsScriptOfThree, AreUploads, AreDownloads, UploadsComeFirst, CountersRunToSeven, EndedStays, PlansStay, PollsEnd, ForeignChangesNothing, FramesAreAnswered}
 
@@ -27,11 +27,11 @@ script_of_three = record { steps = refl; ninth = refl; tenth = refl }
 
 -- ---- uploads, then downloads
 
-both_uploads : (xs ys : List Request) → AreUploads xs → AreUploads ys → AreUploads (xs ++ ys)
+both_uploads : (xs ys : List SdoRequest) → AreUploads xs → AreUploads ys → AreUploads (xs ++ ys)
 both_uploads [] ys a b = b
 both_uploads (x ∷ xs) ys a b = (a.0, both_uploads xs ys a.1 b)
 
-both_downloads : (xs ys : List Request) → AreDownloads xs → AreDownloads ys → AreDownloads (xs ++ ys)
+both_downloads : (xs ys : List SdoRequest) → AreDownloads xs → AreDownloads ys → AreDownloads (xs ++ ys)
 both_downloads [] ys a b = b
 both_downloads (x ∷ xs) ys a b = (a.0, both_downloads xs ys a.1 b)
 
@@ -117,7 +117,7 @@ given_up_plan s (Sent number) = refl
 given_up_plan s Ready = refl
 given_up_plan s (Failed error) = refl
 
-begun_plan : (ps : List Settings) (number : ℕ) → (begun ps number).plan ≡ ps
+begun_plan : (ps : List SlavePlan) (number : ℕ) → (begun ps number).plan ≡ ps
 unfolding begun
 begun_plan ps number = refl
 
@@ -125,7 +125,7 @@ judged_plan : (s : StartState) (v : Verdict) → (judged s v).plan ≡ s.plan
 judged_plan s Next = refl
 judged_plan s (Shows value) = refl
 judged_plan s (Fails error) = refl
-judged_plan s Again = go (s.polls + 1 == most_polls)
+judged_plan s Again = go (s.polls + 1 == max_polls)
   where
     go : (b : Bool) → (let t : StartState = if b then record s { phase = Failed (TooSlow s.place) } else record s { polls = s.polls + 1; phase = Idle } in t.plan) ≡ s.plan
     go true = refl
@@ -156,20 +156,20 @@ plans_stay s = record {
 
 -- ---- polls
 
-few_polls : (s : StartState) (v : Verdict) → s.polls < most_polls → (judged s v).polls < most_polls
+few_polls : (s : StartState) (v : Verdict) → s.polls < max_polls → (judged s v).polls < max_polls
 few_polls s Next lt = omega arith
 few_polls s (Shows value) lt = omega arith
 few_polls s (Fails error) lt = lt
-few_polls s Again lt = elim (cases_Bool (s.polls + 1 == most_polls)) [
+few_polls s Again lt = elim (cases_Bool (s.polls + 1 == max_polls)) [
   | inl t ↦ rw t lt
-  | inr f ↦ rw f (let ne = eqb-false (s.polls + 1) most_polls f in omega (arith, ne, lt))
+  | inr f ↦ rw f (let ne = eqb-false (s.polls + 1) max_polls f in omega (arith, ne, lt))
 ]
 
-last_poll : (s : StartState) → s.polls + 1 ≡ most_polls → (judged s Again).phase ≡ Failed (TooSlow s.place)
-last_poll s e = let t : (s.polls + 1 == most_polls) ≡ true = eq-eqb (s.polls + 1) most_polls e in rw t refl
+last_poll : (s : StartState) → s.polls + 1 ≡ max_polls → (judged s Again).phase ≡ Failed (TooSlow s.place)
+last_poll s e = let t : (s.polls + 1 == max_polls) ≡ true = eq-eqb (s.polls + 1) max_polls e in rw t refl
 
-more_polls : (s : StartState) → s.polls + 1 < most_polls → (judged s Again).polls ≡ s.polls + 1
-more_polls s lt = let f : (s.polls + 1 == most_polls) ≡ false = ne_eqb (s.polls + 1) most_polls (λ e. omega (arith, e, lt)) in rw f refl
+more_polls : (s : StartState) → s.polls + 1 < max_polls → (judged s Again).polls ≡ s.polls + 1
+more_polls s lt = let f : (s.polls + 1 == max_polls) ≡ false = ne_eqb (s.polls + 1) max_polls (λ e. omega (arith, e, lt)) in rw f refl
 
 pub polls_end : PollsEnd
 polls_end = record { few = few_polls; last = last_poll; more = more_polls }

@@ -2,23 +2,23 @@
 use Rattle.std.proofs.Common.{◌≡◌, ◌≢◌, ℕ, zero, suc, ◌+◌, ◌-◌, ◌<◌, ◌≤◌, List, [], ◌∷◌, ◌++◌, length, drop, get_or, slice_get, slice_index, Some, true, not, refl, sym, ap, ◌∙◌, arith, append_assoc, ◌==◌}
 use Rattle.std.specs.List.{flat_map}
 use Rattle.std.proofs.lemmas.Bool.{ne_eqb}
-use Rattle.ec_regs.specs.declared.slave_type.Entry.{Entry}
-use Rattle.ec_regs.specs.declared.slave_type.Pdo.{Pdo}
-use Rattle.ec_regs.specs.Objects.{pdo_at}
-use Rattle.ec_link.specs.declared.settings.Settings.{Settings}
+use Rattle.ec_device.specs.declared.slave_type.Entry.{Entry}
+use Rattle.ec_device.specs.declared.slave_type.Pdo.{Pdo}
+use Rattle.ec_device.specs.Objects.{pdo_at}
+use Rattle.ec_link.specs.declared.settings.SlavePlan.{SlavePlan}
 use Rattle.ec_coe.specs.Objects.{byte_value, word_value, long_value, entry_number, has_some, output_assignment, input_assignment}
-use Rattle.ec_start.specs.declared.action.Request.{Request}
+use Rattle.ec_start.specs.declared.action.SdoRequest.{SdoRequest}
 use Rattle.ec_start.specs.declared.requests.Seek.{Seek}
 use Rattle.ec_start.specs.declared.requests.Seek.TheVariants.{Found, Past}
 use Rattle.ec_start.specs.Scripts.{downloads, uploads, entries_read, pdo_read, slots_written, assignment_written, requests}
 use Rattle.ec_start.specs.Seeking.{seek, seek_on, found, uploads_of, downloads_of}
 
-pub seek_append : (xs ys : List Request) (k : ℕ) → seek (xs ++ ys) k ≡ seek_on (seek xs k) ys
+pub seek_append : (xs ys : List SdoRequest) (k : ℕ) → seek (xs ++ ys) k ≡ seek_on (seek xs k) ys
 seek_append [] ys k = refl
 seek_append (x ∷ xs) ys zero = refl
 seek_append (x ∷ xs) ys (suc k) = seek_append xs ys k
 
-pub found_get : (xs : List Request) (k : ℕ) → found (seek xs k) ≡ slice_get xs k
+pub found_get : (xs : List SdoRequest) (k : ℕ) → found (seek xs k) ≡ slice_get xs k
 found_get [] k = refl
 found_get (x ∷ xs) zero = refl
 found_get (x ∷ xs) (suc k) = found_get xs k
@@ -52,7 +52,7 @@ seek_past_pdo p (suc k) lt = let z : suc k - 1 ≡ k = omega arith in seek_past_
 
 -- ---- one assignment
 
-pub seek_slots : (object k : ℕ) (ps : List ℕ) (rest : List Request) (j : ℕ) → j < length ps
+pub seek_slots : (object k : ℕ) (ps : List ℕ) (rest : List SdoRequest) (j : ℕ) → j < length ps
     → seek (slots_written object k ps ++ rest) j ≡ Found (downloads object (k + j) (word_value (slice_index ps j)))
 seek_slots object k [] rest j lt = absurd (omega arith)
 seek_slots object k (p ∷ ps) rest zero lt = let z : k ≡ k + 0 = omega arith in ap (λ n. Found (downloads object n (word_value p))) z
@@ -60,7 +60,7 @@ seek_slots object k (p ∷ ps) rest (suc j) lt =
     let z : k + 1 + j ≡ k + suc j = omega arith in
     seek_slots object (k + 1) ps rest j (omega arith) ∙ ap (λ n. Found (downloads object n (word_value (slice_index ps j)))) z
 
-pub seek_past_slots : (object k : ℕ) (ps : List ℕ) (rest : List Request) (j : ℕ) → length ps ≤ j → seek (slots_written object k ps ++ rest) j ≡ seek rest (j - length ps)
+pub seek_past_slots : (object k : ℕ) (ps : List ℕ) (rest : List SdoRequest) (j : ℕ) → length ps ≤ j → seek (slots_written object k ps ++ rest) j ≡ seek rest (j - length ps)
 seek_past_slots object k [] rest j le = let z : j ≡ j - 0 = omega arith in ap (seek rest) z
 seek_past_slots object k (p ∷ ps) rest zero le = absurd (omega arith)
 seek_past_slots object k (p ∷ ps) rest (suc j) le = let z : j - length ps ≡ suc j - suc (length ps) = omega arith in seek_past_slots object (k + 1) ps rest j (omega arith) ∙ ap (seek rest) z
@@ -86,7 +86,7 @@ seek_count object (p ∷ ps) (suc k) ne is =
     let z : k - length (p ∷ ps) ≡ 0 = omega arith in
     seek_past_slots object 1 (p ∷ ps) (downloads object 0 (byte_value (length (p ∷ ps))) ∷ []) k (omega arith) ∙ ap (seek (downloads object 0 (byte_value (length (p ∷ ps))) ∷ [])) z
 
-past_one : (r : Request) (k : ℕ) → k ≢ 0 → seek (r ∷ []) k ≡ Past (k - 1)
+past_one : (r : SdoRequest) (k : ℕ) → k ≢ 0 → seek (r ∷ []) k ≡ Past (k - 1)
 past_one r zero ne = absurd (ne refl)
 past_one r (suc k) ne = let z : suc k - 1 ≡ k = omega arith in ap Past (sym z)
 
@@ -101,55 +101,55 @@ seek_past_assignment object (p ∷ ps) (suc k) ne lt =
 
 -- ---- runs
 
-pub seek_more : (f : ℕ → List Request) (xs : List ℕ) (i left past : ℕ) (whole : Seek) → i < length xs → Past past ≡ seek (f (slice_index xs i)) left
+pub seek_more : (f : ℕ → List SdoRequest) (xs : List ℕ) (i left past : ℕ) (whole : Seek) → i < length xs → Past past ≡ seek (f (slice_index xs i)) left
     → seek (flat_map f (drop i xs)) left ≡ whole → seek (flat_map f (drop (i + 1) xs)) past ≡ whole
 seek_more f [] i left past whole lt e inv = absurd (omega arith)
 seek_more f (y ∷ ys) zero left past whole lt e inv = ap (λ s. seek_on s (flat_map f ys)) e ∙ (sym (seek_append (f y) (flat_map f ys) left) ∙ inv)
 seek_more f (y ∷ ys) (suc i) left past whole lt e inv = let z : suc i + 1 ≡ suc (i + 1) = omega arith in rw z (seek_more f ys i left past whole (omega arith) e inv)
 
-pub seek_here : (f : ℕ → List Request) (xs : List ℕ) (i left : ℕ) (r : Request) (whole : Seek) → i < length xs → Found r ≡ seek (f (slice_index xs i)) left
+pub seek_here : (f : ℕ → List SdoRequest) (xs : List ℕ) (i left : ℕ) (r : SdoRequest) (whole : Seek) → i < length xs → Found r ≡ seek (f (slice_index xs i)) left
     → seek (flat_map f (drop i xs)) left ≡ whole → Found r ≡ whole
 seek_here f [] i left r whole lt e inv = absurd (omega arith)
 seek_here f (y ∷ ys) zero left r whole lt e inv = ap (λ s. seek_on s (flat_map f ys)) e ∙ (sym (seek_append (f y) (flat_map f ys) left) ∙ inv)
 seek_here f (y ∷ ys) (suc i) left r whole lt e inv = seek_here f ys i left r whole (omega arith) e inv
 
-pub seek_none : (f : ℕ → List Request) (xs : List ℕ) (i left : ℕ) (whole : Seek) → length xs ≤ i → seek (flat_map f (drop i xs)) left ≡ whole → Past left ≡ whole
+pub seek_none : (f : ℕ → List SdoRequest) (xs : List ℕ) (i left : ℕ) (whole : Seek) → length xs ≤ i → seek (flat_map f (drop i xs)) left ≡ whole → Past left ≡ whole
 seek_none f [] zero left whole le inv = inv
 seek_none f [] (suc i) left whole le inv = inv
 seek_none f (y ∷ ys) zero left whole le inv = absurd (omega arith)
 seek_none f (y ∷ ys) (suc i) left whole le inv = seek_none f ys i left whole (omega arith) inv
 
 -- two runs, the second sought where the first is past
-seek_first : (xs ys : List Request) (k : ℕ) (r : Request) → Found r ≡ seek xs k → Found r ≡ seek (xs ++ ys) k
+seek_first : (xs ys : List SdoRequest) (k : ℕ) (r : SdoRequest) → Found r ≡ seek xs k → Found r ≡ seek (xs ++ ys) k
 seek_first xs ys k r e = ap (λ s. seek_on s ys) e ∙ sym (seek_append xs ys k)
 
-seek_second : (xs ys : List Request) (k past : ℕ) (s : Seek) → Past past ≡ seek xs k → s ≡ seek ys past → s ≡ seek (xs ++ ys) k
+seek_second : (xs ys : List SdoRequest) (k past : ℕ) (s : Seek) → Past past ≡ seek xs k → s ≡ seek ys past → s ≡ seek (xs ++ ys) k
 seek_second xs ys k past s e f = f ∙ (ap (λ t. seek_on t ys) e ∙ sym (seek_append xs ys k))
 
 some_of : {X : Type 0} (xs : List X) → not (length xs == 0) ≡ has_some xs
 some_of [] = refl
 some_of (x ∷ xs) = ap not (ne_eqb (length (x ∷ xs)) 0 (λ e. omega (arith, e)))
 
-pub first_upload : (p : Settings) (ps : List Pdo) (xs : List ℕ) (k : ℕ) (r : Request) → ps ≡ p.kind.outputs → xs ≡ p.outputs
+pub first_upload : (p : SlavePlan) (ps : List Pdo) (xs : List ℕ) (k : ℕ) (r : SdoRequest) → ps ≡ p.kind.outputs → xs ≡ p.outputs
     → Found r ≡ seek (flat_map (λ index. pdo_read (pdo_at ps index)) xs) k → Found r ≡ seek (uploads_of p) k
 first_upload p ps xs k r same own e =
     let f : Found r ≡ seek (flat_map (λ index. pdo_read (pdo_at p.kind.outputs index)) p.outputs) k = rw (same, own) at e in
     seek_first (flat_map (λ index. pdo_read (pdo_at p.kind.outputs index)) p.outputs) (flat_map (λ index. pdo_read (pdo_at p.kind.inputs index)) p.inputs) k r f
 
-pub second_upload : (p : Settings) (ps qs : List Pdo) (xs ys : List ℕ) (k past : ℕ) (s : Seek) → ps ≡ p.kind.outputs → xs ≡ p.outputs → qs ≡ p.kind.inputs → ys ≡ p.inputs
+pub second_upload : (p : SlavePlan) (ps qs : List Pdo) (xs ys : List ℕ) (k past : ℕ) (s : Seek) → ps ≡ p.kind.outputs → xs ≡ p.outputs → qs ≡ p.kind.inputs → ys ≡ p.inputs
     → Past past ≡ seek (flat_map (λ index. pdo_read (pdo_at ps index)) xs) k → s ≡ seek (flat_map (λ index. pdo_read (pdo_at qs index)) ys) past → s ≡ seek (uploads_of p) k
 second_upload p ps qs xs ys k past s same own same_in own_in e f =
     let g : Past past ≡ seek (flat_map (λ index. pdo_read (pdo_at p.kind.outputs index)) p.outputs) k = rw (same, own) at e in
     let h : s ≡ seek (flat_map (λ index. pdo_read (pdo_at p.kind.inputs index)) p.inputs) past = rw (same_in, own_in) at f in
     seek_second (flat_map (λ index. pdo_read (pdo_at p.kind.outputs index)) p.outputs) (flat_map (λ index. pdo_read (pdo_at p.kind.inputs index)) p.inputs) k past s g h
 
-pub first_download : (p : Settings) (ps : List Pdo) (xs : List ℕ) (k : ℕ) (r : Request) → ps ≡ p.kind.outputs → xs ≡ p.outputs
+pub first_download : (p : SlavePlan) (ps : List Pdo) (xs : List ℕ) (k : ℕ) (r : SdoRequest) → ps ≡ p.kind.outputs → xs ≡ p.outputs
     → Found r ≡ seek (assignment_written output_assignment xs (not (length ps == 0))) k → Found r ≡ seek (downloads_of p) k
 first_download p ps xs k r same own e =
     let f : Found r ≡ seek (assignment_written output_assignment p.outputs (has_some p.kind.outputs)) k = rw (same, own, some_of p.kind.outputs) at e in
     seek_first (assignment_written output_assignment p.outputs (has_some p.kind.outputs)) (assignment_written input_assignment p.inputs (has_some p.kind.inputs)) k r f
 
-pub second_download : (p : Settings) (ps qs : List Pdo) (xs ys : List ℕ) (k past : ℕ) (s : Seek) → ps ≡ p.kind.outputs → xs ≡ p.outputs → qs ≡ p.kind.inputs → ys ≡ p.inputs
+pub second_download : (p : SlavePlan) (ps qs : List Pdo) (xs ys : List ℕ) (k past : ℕ) (s : Seek) → ps ≡ p.kind.outputs → xs ≡ p.outputs → qs ≡ p.kind.inputs → ys ≡ p.inputs
     → Past past ≡ seek (assignment_written output_assignment xs (not (length ps == 0))) k → s ≡ seek (assignment_written input_assignment ys (not (length qs == 0))) past
     → s ≡ seek (downloads_of p) k
 second_download p ps qs xs ys k past s same own same_in own_in e f =
@@ -158,11 +158,11 @@ second_download p ps qs xs ys k past s same own same_in own_in e f =
     seek_second (assignment_written output_assignment p.outputs (has_some p.kind.outputs)) (assignment_written input_assignment p.inputs (has_some p.kind.inputs)) k past s g h
 
 -- both halves together
-halves : (p : Settings) → uploads_of p ++ downloads_of p ≡ requests p
+halves : (p : SlavePlan) → uploads_of p ++ downloads_of p ≡ requests p
 halves p = append_assoc (flat_map (λ index. pdo_read (pdo_at p.kind.outputs index)) p.outputs) (flat_map (λ index. pdo_read (pdo_at p.kind.inputs index)) p.inputs) (downloads_of p)
 
-pub first_request : (p : Settings) (k : ℕ) (r : Request) → Found r ≡ seek (uploads_of p) k → Some r ≡ slice_get (requests p) k
+pub first_request : (p : SlavePlan) (k : ℕ) (r : SdoRequest) → Found r ≡ seek (uploads_of p) k → Some r ≡ slice_get (requests p) k
 first_request p k r e = ap found (seek_first (uploads_of p) (downloads_of p) k r e) ∙ (ap (λ rs. found (seek rs k)) (halves p) ∙ found_get (requests p) k)
 
-pub second_request : (p : Settings) (k past : ℕ) (s : Seek) → Past past ≡ seek (uploads_of p) k → s ≡ seek (downloads_of p) past → found s ≡ slice_get (requests p) k
+pub second_request : (p : SlavePlan) (k past : ℕ) (s : Seek) → Past past ≡ seek (uploads_of p) k → s ≡ seek (downloads_of p) past → found s ≡ slice_get (requests p) k
 second_request p k past s e f = ap found (seek_second (uploads_of p) (downloads_of p) k past s e f) ∙ (ap (λ rs. found (seek rs k)) (halves p) ∙ found_get (requests p) k)

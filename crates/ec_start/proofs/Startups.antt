@@ -4,10 +4,10 @@ use Rattle.std.proofs.lemmas.Bool.{lt-ltb, le-ltb}
 use Rattle.ec_coe.specs.Objects.{has_some}
 use Rattle.ec_frame.specs.Datagram.{Datagram}
 use Rattle.ec_frame.specs.Frame.{Payload, IsFrame}
-use Rattle.ec_frame.specs.declared.cursor.Span.{Span}
+use Rattle.ec_frame.specs.declared.cursor.DatagramSpan.{DatagramSpan}
 use Rattle.ec_frame.proofs.Verdict.{one_payload}
-use Rattle.ec_regs.specs.declared.slave_type.Device.{Device}
-use Rattle.ec_link.specs.declared.settings.Settings.{Settings}
+use Rattle.ec_device.specs.declared.slave_type.Device.{Device}
+use Rattle.ec_link.specs.declared.settings.SlavePlan.{SlavePlan}
 use Rattle.ec_start.specs.declared.action.Action.{Action}
 use Rattle.ec_start.specs.declared.action.Action.TheVariants.{CountSlaves, AskInit, AwaitInit, ClearFmmus, ClearManagers, ClearStations, NameSlave, AskWord, AwaitWord, SetManager, SetFmmu, AskState, AwaitState, SendRequest, AwaitReply}
 use Rattle.ec_start.specs.declared.phase.Phase.{Phase}
@@ -53,20 +53,20 @@ first_here : (b : Bool) → slice_get (opening b) 0 ≡ Some CountSlaves
 first_here true = refl
 first_here false = refl
 
-pub begins : (ps : List Settings) → IsAtStep ps 0 first_step
+pub begins : (ps : List SlavePlan) → IsAtStep ps 0 first_step
 begins ps = record { ahead_is = sym (script_ahead ps); here = first_here (has_some ps); doable = tt; low = omega arith; small = omega arith }
 
-stands : (ps : List Settings) (place : ℕ) (s : Step) → IsAtStep ps place s → drop place (script ps) ≡ s.action ∷ ahead ps (record s.cursor { place = s.cursor.place + 1 })
+stands : (ps : List SlavePlan) (place : ℕ) (s : Step) → IsAtStep ps place s → drop place (script ps) ≡ s.action ∷ ahead ps (record s.cursor { place = s.cursor.place + 1 })
 stands ps place s h = sym h.ahead_is ∙ ahead_here ps s.cursor s.action h.here
 
-pub action_is : (ps : List Settings) (place : ℕ) (s : Step) → IsAtStep ps place s → get_or (script ps) place CountSlaves ≡ s.action
+pub action_is : (ps : List SlavePlan) (place : ℕ) (s : Step) → IsAtStep ps place s → get_or (script ps) place CountSlaves ≡ s.action
 action_is ps place s h = get_of_drop (script ps) place s.action _ CountSlaves (stands ps place s h)
 
-pub record Advances (ps : List Settings) (place : ℕ) (s : Step) : Type 0 where
+pub record Advances (ps : List SlavePlan) (place : ℕ) (s : Step) : Type 0 where
   pub more : nat_lt (place + 1) (length (script ps)) ≡ true
   pub at_step : IsAtStep ps (place + 1) s
 
-pub advances : (ps : List Settings) (place : ℕ) (s t : Step) → IsAtStep ps place s → IsSettled ps (record s.cursor { place = s.cursor.place + 1 }) t → Advances ps place t
+pub advances : (ps : List SlavePlan) (place : ℕ) (s t : Step) → IsAtStep ps place s → IsSettled ps (record s.cursor { place = s.cursor.place + 1 }) t → Advances ps place t
 advances ps place s t h g =
     let rest : drop (place + 1) (script ps) ≡ ahead ps (record s.cursor { place = s.cursor.place + 1 }) = rest_of_drop (script ps) place s.action _ (stands ps place s h) in
     let there : drop (place + 1) (script ps) ≡ ahead ps t.cursor = rest ∙ g.same in
@@ -78,7 +78,7 @@ advances ps place s t h g =
       at_step = record { ahead_is = sym there; here = g.here; doable = g.doable; low = g.low; small = omega (arith, small, low) };
     }
 
-pub ends : (ps : List Settings) (place : ℕ) (s : Step) → IsAtStep ps place s → ahead ps (record s.cursor { place = s.cursor.place + 1 }) ≡ [] → nat_lt (place + 1) (length (script ps)) ≡ false
+pub ends : (ps : List SlavePlan) (place : ℕ) (s : Step) → IsAtStep ps place s → ahead ps (record s.cursor { place = s.cursor.place + 1 }) ≡ [] → nat_lt (place + 1) (length (script ps)) ≡ false
 ends ps place s h e =
     let rest : drop (place + 1) (script ps) ≡ ahead ps (record s.cursor { place = s.cursor.place + 1 }) = rest_of_drop (script ps) place s.action _ (stands ps place s h) in
     le-ltb (place + 1) (length (script ps)) (none_of_drop (script ps) (place + 1) (rest ∙ e))
@@ -154,7 +154,7 @@ take_other s payload a number sent is none =
     let same : n ≡ number = cc in
     none p f (of_answer s a number p.datagrams is (subst (λ (m : ℕ). IsStartAnswer s m p.datagrams) same h)))
 
-pub take_kept : (s new : StartState) (payload : List ℕ) (a : Action) (number : ℕ) (span : Span) (counter : ℕ) (bytes : List ℕ) (at : IsAnswerAt payload a number span)
+pub take_kept : (s new : StartState) (payload : List ℕ) (a : Action) (number : ℕ) (span : DatagramSpan) (counter : ℕ) (bytes : List ℕ) (at : IsAnswerAt payload a number span)
     → s.phase ≡ Sent number → action_of s ≡ a → counter ≡ at.datagram.counter → bytes ≡ at.datagram.data_bytes
     → new ≡ judged s (verdict (length s.plan) s.place s.seen (type_of s.plan) a (answered counter bytes)) → IsStartTaken s payload true new
 take_kept s new payload a number span counter bytes at sent is count told e =

@@ -14,13 +14,13 @@ use Rattle.ec_frame.specs.Building.{new_datagram}
 use Rattle.ec_al.specs.States.{state_number}
 use Rattle.ec_sii.specs.Laws.{read_command}
 use Rattle.ec_coe.specs.declared.message.Service.TheVariants.{Request as RequestService}
-use Rattle.ec_coe.specs.declared.message.Command.{Command as SdoCommand}
-use Rattle.ec_coe.specs.declared.message.Command.TheVariants.{DownloadRequest, UploadRequest}
+use Rattle.ec_coe.specs.declared.message.SdoCommand.{SdoCommand}
+use Rattle.ec_coe.specs.declared.message.SdoCommand.TheVariants.{DownloadRequest, UploadRequest}
 use Rattle.ec_coe.specs.declared.message.Message.{Message}
 use Rattle.ec_coe.specs.Messages.{message_bytes}
 use Rattle.ec_start.specs.declared.action.Transfer.{Transfer}
 use Rattle.ec_start.specs.declared.action.Transfer.TheVariants.{Download, Upload}
-use Rattle.ec_start.specs.declared.action.Request.{Request}
+use Rattle.ec_start.specs.declared.action.SdoRequest.{SdoRequest}
 use Rattle.ec_start.specs.declared.action.Action.{Action}
 use Rattle.ec_start.specs.declared.action.Action.TheVariants.{CountSlaves, AskInit, AwaitInit, ClearFmmus, ClearManagers, ClearStations, NameSlave, AskWord, AwaitWord, SetManager, SetFmmu, AskState, AwaitState, SendRequest, AwaitReply}
 
@@ -47,10 +47,10 @@ request_value (Download value) = value.number
 request_value (Upload value) = 0
 
 -- the message of a request before which so many were sent to the slave: its counter goes from 1 to 7 and begins at 1 again
-abbrev pub request_message : ℕ → Request → Message
+abbrev pub request_message : ℕ → SdoRequest → Message
 request_message before r = record { counter = before % 7 + 1; service = RequestService; command = request_command r.transfer; index = r.index; subindex = r.subindex; value = request_value r.transfer }
 
-abbrev pub request_bytes : ℕ → Request → List ℕ
+abbrev pub request_bytes : ℕ → SdoRequest → List ℕ
 request_bytes before r = message_bytes (request_message before r)
 
 -- a whole mailbox with a message at its front

@@ -2,7 +2,7 @@
 -- alone: what the script is stands in Scripts.
 use Rattle.std.specs.Prelude.{ℕ, ◌+◌, ◌*◌, ◌-◌, ◌≡◌, ◌≤◌, ◌==◌, ◌&&◌, not, List, [], ◌∷◌, ◌++◌, drop, Bool, true, false, if◌then◌else◌, nat_lt, slice_get, Option, Some, None, option_map}
 use Rattle.ec_al.specs.declared.state.State.TheVariants.{PreOp, SafeOp, Op}
-use Rattle.ec_link.specs.declared.settings.Settings.{Settings}
+use Rattle.ec_link.specs.declared.settings.SlavePlan.{SlavePlan}
 use Rattle.ec_start.specs.declared.action.Action.{Action}
 use Rattle.ec_start.specs.declared.action.Action.TheVariants.{CountSlaves, SetManager, SetFmmu}
 use Rattle.ec_start.specs.declared.script.Stretch.{Stretch}
@@ -15,7 +15,7 @@ use Rattle.ec_coe.specs.Objects.{has_some}
 use Rattle.ec_start.specs.Doable.{IsDoable}
 
 -- a slave's share of a stretch
-abbrev pub share : Stretch → ℕ → Settings → List Action
+abbrev pub share : Stretch → ℕ → SlavePlan → List Action
 share Opening = λ i p. []
 share Naming = named
 share Identifying = identified
@@ -31,7 +31,7 @@ abbrev pub opening : Bool → List Action
 opening false = CountSlaves ∷ []
 opening true = CountSlaves ∷ cleared
 
-abbrev pub share_of : (ℕ → Settings → List Action) → ℕ → Option Settings → List Action
+abbrev pub share_of : (ℕ → SlavePlan → List Action) → ℕ → Option SlavePlan → List Action
 share_of f i None = []
 share_of f i (Some p) = f i p
 
@@ -46,7 +46,7 @@ is_for_all Mapping = false
 is_for_all ToSafeOp = false
 is_for_all ToOp = false
 
-abbrev pub share_at : Stretch → List Settings → ℕ → List Action
+abbrev pub share_at : Stretch → List SlavePlan → ℕ → List Action
 share_at st ps i = if is_for_all st then opening (has_some ps) else share_of (share st) i (slice_get ps i)
 
 abbrev pub following : Stretch → Option Stretch
@@ -61,10 +61,10 @@ following ToSafeOp = Some ToOp
 following ToOp = None
 
 -- a whole stretch, and all that are behind one
-abbrev pub whole : Stretch → List Settings → List Action
+abbrev pub whole : Stretch → List SlavePlan → List Action
 whole st ps = each_slave (share st) 0 ps
 
-abbrev pub later : Stretch → List Settings → List Action
+abbrev pub later : Stretch → List SlavePlan → List Action
 later ToOp ps = []
 later ToSafeOp ps = whole ToOp ps
 later Mapping ps = whole ToSafeOp ps ++ whole ToOp ps
@@ -76,11 +76,11 @@ later Naming ps = whole Identifying ps ++ (whole Mailboxes ps ++ (whole ToPreOp 
 later Opening ps = whole Naming ps ++ (whole Identifying ps ++ (whole Mailboxes ps ++ (whole ToPreOp ps ++ (whole Talking ps ++ (whole Mapping ps ++ (whole ToSafeOp ps ++ whole ToOp ps))))))
 
 -- what is behind a slave's share, or behind the opening
-abbrev pub beyond : Stretch → List Settings → ℕ → List Action
+abbrev pub beyond : Stretch → List SlavePlan → ℕ → List Action
 beyond st ps i = (if is_for_all st then [] else each_slave (share st) (i + 1) (drop (i + 1) ps)) ++ later st ps
 
 -- the actions ahead, from the one here on
-abbrev pub ahead : List Settings → Cursor → List Action
+abbrev pub ahead : List SlavePlan → Cursor → List Action
 ahead ps c = drop c.place (share_at c.stretch ps c.slave) ++ beyond c.stretch ps c.slave
 
 -- where the next share begins
@@ -106,26 +106,26 @@ shares_left c = 66 * rank c.stretch + (65 - c.slave)
 
 -- ---- the first step from a cursor on
 
-pub record IsSettled (ps : List Settings) (c : Cursor) (s : Step) : Type 0 where
+pub record IsSettled (ps : List SlavePlan) (c : Cursor) (s : Step) : Type 0 where
   pub same : ahead ps c ≡ ahead ps s.cursor
   pub here : slice_get (share_at s.cursor.stretch ps s.cursor.slave) s.cursor.place ≡ Some s.action
   pub doable : IsDoable s.action
   pub low : s.cursor.slave ≤ 64
   pub place : s.cursor.place ≤ c.place
 
-abbrev pub Settles : List Settings → Cursor → Option Step → Type 0
+abbrev pub Settles : List SlavePlan → Cursor → Option Step → Type 0
 Settles ps c None = ahead ps c ≡ []
 Settles ps c (Some s) = IsSettled ps c s
 
 -- ---- a share of actions that may be left out
 
-abbrev pub set_manager_of : ℕ → Settings → ℕ → Action
+abbrev pub set_manager_of : ℕ → SlavePlan → ℕ → Action
 set_manager_of i p n = SetManager i n (settings_at p.managers n)
 
-abbrev pub manager_chosen : ℕ → Settings → ℕ → Option Action
+abbrev pub manager_chosen : ℕ → SlavePlan → ℕ → Option Action
 manager_chosen i p n = if (settings_at p.managers n).activate == 0 then None else Some (set_manager_of i p n)
 
-abbrev pub fmmu_chosen : ℕ → Settings → ℕ → Option Action
+abbrev pub fmmu_chosen : ℕ → SlavePlan → ℕ → Option Action
 fmmu_chosen i p n = if (fmmu_at p.fmmus n).active then Some (SetFmmu i n (fmmu_at p.fmmus n)) else None
 
 abbrev pub somes : List (Option Action) → List Action

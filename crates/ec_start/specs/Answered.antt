@@ -3,7 +3,7 @@ use Rattle.std.specs.Prelude.{ℕ, ◌≡◌, ◌==◌, ◌≤◌, List, ◌∷�
 use Rattle.std.specs.Int.{to_le_bytes, w64}
 use Rattle.ec_frame.specs.declared.command.Command.TheVariants.{Nop}
 use Rattle.ec_frame.specs.Datagram.{Datagram, IsDatagram, spelling}
-use Rattle.ec_frame.specs.declared.cursor.Span.{Span}
+use Rattle.ec_frame.specs.declared.cursor.DatagramSpan.{DatagramSpan}
 use Rattle.ec_frame.specs.Building.{new_datagram}
 use Rattle.ec_frame.specs.Frame.{Payload, IsFrame}
 use Rattle.ec_start.specs.declared.action.Action.{Action}
@@ -25,7 +25,7 @@ pub record Answers (a : Action) (number : ℕ) (ds : List Datagram) : Type 0 whe
   pub number_is : number_told ds ≡ to_le_bytes w64 number
 
 -- the payload is a frame that answers it, and its second datagram stands there
-pub record IsAnswerAt (payload : List ℕ) (a : Action) (number : ℕ) (span : Span) : Type 0 where
+pub record IsAnswerAt (payload : List ℕ) (a : Action) (number : ℕ) (span : DatagramSpan) : Type 0 where
   pub frame : Payload
   pub first : Datagram
   pub datagram : Datagram

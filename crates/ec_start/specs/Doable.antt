@@ -1,7 +1,7 @@
 -- Which actions have a datagram that fits its fields: all actions of a plan's script. It serves private code and its proofs
 -- alone.
 use Rattle.std.specs.Prelude.{◌<◌}
-use Rattle.ec_regs.specs.Types.{IsMailbox}
+use Rattle.ec_device.specs.Types.{IsMailbox}
 use Rattle.ec_start.specs.declared.action.Action.{Action}
 use Rattle.ec_start.specs.declared.action.Action.TheVariants.{CountSlaves, AskInit, AwaitInit, ClearFmmus, ClearManagers, ClearStations, NameSlave, AskWord, AwaitWord, SetManager, SetFmmu, AskState, AwaitState, SendRequest, AwaitReply}
 

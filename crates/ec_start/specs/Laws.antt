@@ -1,9 +1,9 @@
 -- What the definitions of this crate say together.
 use Rattle.std.specs.Prelude.{ℕ, ◌+◌, ◌<◌, ◌≤◌, ◌≡◌, List, [], ◌∷◌, ◌++◌, length, get_or, Bool, true, false, All}
-use Rattle.ec_link.specs.declared.settings.Settings.{Settings}
+use Rattle.ec_link.specs.declared.settings.SlavePlan.{SlavePlan}
 use Rattle.ec_start.specs.declared.action.Transfer.{Transfer}
 use Rattle.ec_start.specs.declared.action.Transfer.TheVariants.{Download, Upload}
-use Rattle.ec_start.specs.declared.action.Request.{Request}
+use Rattle.ec_start.specs.declared.action.SdoRequest.{SdoRequest}
 use Rattle.ec_start.specs.declared.action.Action.TheVariants.{CountSlaves, AskWord, AwaitWord}
 use Rattle.ec_start.specs.declared.error.StartError.TheVariants.{TooSlow}
 use Rattle.ec_start.specs.declared.verdict.Verdict.{Verdict}
@@ -13,7 +13,7 @@ use Rattle.ec_start.specs.declared.phase.NextFrame.TheVariants.{Ended}
 use Rattle.ec_start.specs.Actions.{request_message, frame_of}
 use Rattle.ec_start.specs.Planned.{IsStartable, HasFewAssigned}
 use Rattle.ec_start.specs.Scripts.{script, requests}
-use Rattle.ec_start.specs.Running.{StartState, IsStartAnswer, sending, action_of, is_ended, asked, next_frame, judged, given_up, restarted, most_polls, IsStartTaken}
+use Rattle.ec_start.specs.Running.{StartState, IsStartAnswer, sending, action_of, is_ended, asked, next_frame, judged, given_up, restarted, max_polls, IsStartTaken}
 use Rattle.ec_start.specs.ThreeSlaves.{three_slaves}
 
 -- ---- the script
@@ -28,31 +28,31 @@ abbrev pub is_upload : Transfer → Bool
 is_upload (Upload value) = true
 is_upload (Download value) = false
 
-abbrev pub AreUploads : List Request → Type 0
+abbrev pub AreUploads : List SdoRequest → Type 0
 AreUploads [] = Unit {0}
 AreUploads (r ∷ rs) = (is_upload r.transfer ≡ true) × AreUploads rs
 
-abbrev pub AreDownloads : List Request → Type 0
+abbrev pub AreDownloads : List SdoRequest → Type 0
 AreDownloads [] = Unit {0}
 AreDownloads (r ∷ rs) = (is_upload r.transfer ≡ false) × AreDownloads rs
 
-pub record IsUploadsFirst (rs : List Request) : Type 0 where
-  pub first : List Request
-  pub then_downloads : List Request
+pub record IsUploadsFirst (rs : List SdoRequest) : Type 0 where
+  pub first : List SdoRequest
+  pub then_downloads : List SdoRequest
   pub all : rs ≡ first ++ then_downloads
   pub uploads : AreUploads first
   pub downloads : AreDownloads then_downloads
 
 -- A slave's mappings are read back before anything is written.
 abbrev pub UploadsComeFirst : Type 0
-UploadsComeFirst = (p : Settings) → IsUploadsFirst (requests p)
+UploadsComeFirst = (p : SlavePlan) → IsUploadsFirst (requests p)
 
 -- The mailbox counter begins at 1, goes up by 1, and after 7 begins again.
 pub record CountersRunToSeven : Type 0 where
-  pub begins : (r : Request) → (request_message 0 r).counter ≡ 1
-  pub rises : (before : ℕ) (r : Request) → (request_message before r).counter < 7 → (request_message (before + 1) r).counter ≡ (request_message before r).counter + 1
-  pub again : (before : ℕ) (r : Request) → (request_message before r).counter ≡ 7 → (request_message (before + 1) r).counter ≡ 1
-  pub most : (before : ℕ) (r : Request) → (request_message before r).counter ≤ 7
+  pub begins : (r : SdoRequest) → (request_message 0 r).counter ≡ 1
+  pub rises : (before : ℕ) (r : SdoRequest) → (request_message before r).counter < 7 → (request_message (before + 1) r).counter ≡ (request_message before r).counter + 1
+  pub again : (before : ℕ) (r : SdoRequest) → (request_message before r).counter ≡ 7 → (request_message (before + 1) r).counter ≡ 1
+  pub most : (before : ℕ) (r : SdoRequest) → (request_message before r).counter ≤ 7
 
 -- ---- a start-up as it runs
 
@@ -68,9 +68,9 @@ EndedStays = (s : StartState) → is_ended s.phase ≡ true → StaysEnded s
 
 -- A wait is polled at most 1000 times: the last of these polls ends the start-up.
 pub record PollsEnd : Type 0 where
-  pub few : (s : StartState) (v : Verdict) → s.polls < most_polls → (judged s v).polls < most_polls
-  pub last : (s : StartState) → s.polls + 1 ≡ most_polls → (judged s Again).phase ≡ Failed (TooSlow s.place)
-  pub more : (s : StartState) → s.polls + 1 < most_polls → (judged s Again).polls ≡ s.polls + 1
+  pub few : (s : StartState) (v : Verdict) → s.polls < max_polls → (judged s v).polls < max_polls
+  pub last : (s : StartState) → s.polls + 1 ≡ max_polls → (judged s Again).phase ≡ Failed (TooSlow s.place)
+  pub more : (s : StartState) → s.polls + 1 < max_polls → (judged s Again).polls ≡ s.polls + 1
 
 -- Whatever is called, a start-up is one of the same plan.
 pub record KeepsPlan (s : StartState) : Type 0 where
@@ -93,4 +93,4 @@ FramesAreAnswered = (s : StartState) → IsStartAnswer (sending s) s.next (frame
 
 -- `Startup::new` takes each plan that can be started up.
 abbrev pub StartablesAreTaken : Type 0
-StartablesAreTaken = (ps : List Settings) → All IsStartable ps → All HasFewAssigned ps
+StartablesAreTaken = (ps : List SlavePlan) → All IsStartable ps → All HasFewAssigned ps

@@ -1,16 +1,16 @@
 -- What a plan must be: the link compiler's plan of each slave is so.
 use Rattle.std.specs.Prelude.{ℕ, ◌+◌, ◌*◌, ◌^◌, ◌<◌, ◌≤◌, ◌≡◌, ◌⊎◌, ◌==◌, List, [], ◌∷◌, length, true, false, Some, None}
-use Rattle.ec_regs.specs.declared.manager.ManagerSettings.{ManagerSettings}
+use Rattle.ec_regs.specs.declared.manager.SyncManagerSettings.{SyncManagerSettings}
 use Rattle.ec_regs.specs.declared.fmmu.FmmuSettings.{FmmuSettings}
-use Rattle.ec_regs.specs.declared.slave_type.Mailbox.{Mailbox}
-use Rattle.ec_regs.specs.Managers.{no_settings, is_set, is_mailbox, is_ring_written, is_ring_read}
+use Rattle.ec_device.specs.declared.slave_type.Mailbox.{Mailbox}
+use Rattle.ec_regs.specs.Managers.{no_settings, is_set, is_mailbox, is_master_written, is_master_read}
 use Rattle.ec_regs.specs.Fmmus.{no_fmmu}
 use Rattle.ec_coe.specs.Messages.{size_number}
 use Rattle.ec_coe.specs.Objects.{has_some, indices}
-use Rattle.ec_link.specs.declared.settings.Settings.{Settings}
+use Rattle.ec_link.specs.declared.settings.SlavePlan.{SlavePlan}
 use Rattle.ec_start.specs.declared.action.Transfer.{Transfer}
 use Rattle.ec_start.specs.declared.action.Transfer.TheVariants.{Download, Upload}
-use Rattle.ec_start.specs.declared.action.Request.{Request}
+use Rattle.ec_start.specs.declared.action.SdoRequest.{SdoRequest}
 use Rattle.ec_start.specs.Plans.{settings_at, fmmu_at}
 use Rattle.ec_start.specs.Scripts.{requests}
 
@@ -20,26 +20,26 @@ IsTransfer (Download value) = value.number < 2 ^ (8 * size_number value.size)
 IsTransfer (Upload value) = Unit {0}
 
 -- the fields of a request fit their bits
-pub record IsRequest (r : Request) : Type 0 where
+pub record IsRequest (r : SdoRequest) : Type 0 where
   pub index : r.index < 65536
   pub subindex : r.subindex < 256
   pub transfer : IsTransfer r.transfer
 
-abbrev pub AreRequests : List Request → Type 0
+abbrev pub AreRequests : List SdoRequest → Type 0
 AreRequests [] = Unit {0}
 AreRequests (r ∷ rs) = IsRequest r × AreRequests rs
 
 -- the managers 0 and 1 are the mailboxes, and 2 and 3 aren't set yet
-pub record AreMailboxes (b : Mailbox) (ms : List ManagerSettings) : Type 0 where
+pub record AreMailboxes (b : Mailbox) (ms : List SyncManagerSettings) : Type 0 where
   pub receive_start : (settings_at ms 0).start ≡ b.receive_start
   pub receive_length : (settings_at ms 0).length ≡ b.receive_size
   pub receive_mailbox : is_mailbox (settings_at ms 0) ≡ true
-  pub receive_written : is_ring_written (settings_at ms 0) ≡ true
+  pub receive_written : is_master_written (settings_at ms 0) ≡ true
   pub receive_set : is_set (settings_at ms 0) ≡ true
   pub send_start : (settings_at ms 1).start ≡ b.send_start
   pub send_length : (settings_at ms 1).length ≡ b.send_size
   pub send_mailbox : is_mailbox (settings_at ms 1) ≡ true
-  pub send_read : is_ring_read (settings_at ms 1) ≡ true
+  pub send_read : is_master_read (settings_at ms 1) ≡ true
   pub send_set : is_set (settings_at ms 1) ≡ true
   -- no byte of the one belongs to the other
   pub apart : (b.receive_start + b.receive_size ≤ b.send_start) ⊎ (b.send_start + b.send_size ≤ b.receive_start)
@@ -55,11 +55,11 @@ pub record IsFmmu (f : FmmuSettings) : Type 0 where
   pub physical : f.physical_bit < 8
 
 -- what the link compiler's plan of a slave has to be
-pub record IsStartable (p : Settings) : Type 0 where
-  pub m0 : ManagerSettings
-  pub m1 : ManagerSettings
-  pub m2 : ManagerSettings
-  pub m3 : ManagerSettings
+pub record IsStartable (p : SlavePlan) : Type 0 where
+  pub m0 : SyncManagerSettings
+  pub m1 : SyncManagerSettings
+  pub m2 : SyncManagerSettings
+  pub m3 : SyncManagerSettings
   pub managers : p.managers ≡ m0 ∷ m1 ∷ m2 ∷ m3 ∷ []
   pub f0 : FmmuSettings
   pub f1 : FmmuSettings
@@ -78,6 +78,6 @@ pub record IsStartable (p : Settings) : Type 0 where
   pub no_ins : has_some p.kind.inputs ≡ false → p.inputs ≡ []
 
 -- Each slot of the two assignments has a subindex of one byte.
-pub record HasFewAssigned (p : Settings) : Type 0 where
+pub record HasFewAssigned (p : SlavePlan) : Type 0 where
   pub outputs : length p.outputs < 256
   pub inputs : length p.inputs < 256

@@ -1,12 +1,12 @@
 -- A start-up as it runs.
 use Rattle.std.specs.Prelude.{ℕ, ◌+◌, ◌-◌, ◌^◌, ◌≡◌, ◌==◌, ◌↔◌, List, [], ◌∷◌, length, map, take, get_or, Bool, true, false, if◌then◌else◌, nat_lt, slice_get, Option, Some, None, Result, Ok, Err}
 use Rattle.std.specs.Int.{to_le_bytes, w64}
-use Rattle.ec_regs.specs.declared.slave_type.Device.{Device}
-use Rattle.ec_regs.specs.Types.{plain_kind}
+use Rattle.ec_device.specs.declared.slave_type.Device.{Device}
+use Rattle.ec_device.specs.Types.{plain_kind}
 use Rattle.ec_frame.specs.declared.command.Command.{Command}
 use Rattle.ec_frame.specs.Datagram.{Datagram}
 use Rattle.ec_frame.specs.Frame.{Payload, IsFrame}
-use Rattle.ec_link.specs.declared.settings.Settings.{Settings}
+use Rattle.ec_link.specs.declared.settings.SlavePlan.{SlavePlan}
 use Rattle.ec_start.specs.declared.action.Action.{Action}
 use Rattle.ec_start.specs.declared.action.Action.TheVariants.{CountSlaves, AwaitWord}
 use Rattle.ec_start.specs.declared.error.StartError.{StartError}
@@ -25,7 +25,7 @@ use Rattle.ec_start.specs.Verdicts.{nothing_seen, with_word, verdict}
 
 -- the value of a `Startup`
 pub record StartState : Type 0 where
-  pub plan : List Settings
+  pub plan : List SlavePlan
   -- the number of the next frame
   pub next : ℕ
   -- the place in the script
@@ -37,7 +37,7 @@ pub record StartState : Type 0 where
   pub phase : Phase
 
 -- as it begins: no frame was sent
-unfoldable pub begun : List Settings → ℕ → StartState
+unfoldable pub begun : List SlavePlan → ℕ → StartState
 begun plan number = record { plan = plan; next = number; place = 0; polls = 0; seen = nothing_seen; phase = Idle }
 
 -- the action that it is at
@@ -45,10 +45,10 @@ abbrev pub action_of : StartState → Action
 action_of s = get_or (script s.plan) s.place CountSlaves
 
 -- the device of the type of slave i
-abbrev pub type_of : List Settings → ℕ → Device
+abbrev pub type_of : List SlavePlan → ℕ → Device
 type_of ps i = device_or (slice_get ps i)
   where
-    device_or : Option Settings → Device
+    device_or : Option SlavePlan → Device
     device_or None = plain_kind.device
     device_or (Some p) = p.kind.device
 
@@ -99,13 +99,13 @@ with_shown s (AwaitWord i which) value = with_word s.seen which value
 with_shown s _ value = s.seen
 
 -- how often a wait is tried
-abbrev pub most_polls : ℕ
-most_polls = 1000
+abbrev pub max_polls : ℕ
+max_polls = 1000
 
 abbrev pub judged : StartState → Verdict → StartState
 judged s Next = advanced s s.seen
 judged s (Shows value) = advanced s (with_shown s (action_of s) value)
-judged s Again = if s.polls + 1 == most_polls then record s { phase = Failed (TooSlow s.place) } else record s { polls = s.polls + 1; phase = Idle }
+judged s Again = if s.polls + 1 == max_polls then record s { phase = Failed (TooSlow s.place) } else record s { polls = s.polls + 1; phase = Idle }
 judged s (Fails error) = record s { phase = Failed error }
 
 -- the returned datagram of the outstanding frame is taken

@@ -15,54 +15,54 @@
 -- | 11 | it is led to OP | raised Op |
 use Rattle.std.specs.Prelude.{ℕ, ◌+◌, ◌==◌, List, [], ◌∷◌, ◌++◌, length, Bool, true, false, if◌then◌else◌, Option, Some, None}
 use Rattle.std.specs.List.{flat_map}
-use Rattle.ec_regs.specs.declared.slave_type.Entry.{Entry}
-use Rattle.ec_regs.specs.declared.slave_type.Pdo.{Pdo}
-use Rattle.ec_regs.specs.declared.slave_type.Mailbox.{Mailbox}
+use Rattle.ec_device.specs.declared.slave_type.Entry.{Entry}
+use Rattle.ec_device.specs.declared.slave_type.Pdo.{Pdo}
+use Rattle.ec_device.specs.declared.slave_type.Mailbox.{Mailbox}
 use Rattle.ec_al.specs.declared.state.State.{State}
 use Rattle.ec_al.specs.declared.state.State.TheVariants.{PreOp, SafeOp, Op}
-use Rattle.ec_regs.specs.Objects.{pdo_at}
-use Rattle.ec_coe.specs.declared.value.Value.{Value}
+use Rattle.ec_device.specs.Objects.{pdo_at}
+use Rattle.ec_coe.specs.declared.value.SdoValue.{SdoValue}
 use Rattle.ec_coe.specs.Objects.{byte_value, word_value, long_value, entry_number, output_assignment, input_assignment, has_some}
 use Rattle.ec_start.specs.Plans.{settings_at, fmmu_at}
-use Rattle.ec_link.specs.declared.settings.Settings.{Settings}
+use Rattle.ec_link.specs.declared.settings.SlavePlan.{SlavePlan}
 use Rattle.ec_start.specs.declared.action.Transfer.TheVariants.{Download, Upload}
-use Rattle.ec_start.specs.declared.action.Request.{Request}
+use Rattle.ec_start.specs.declared.action.SdoRequest.{SdoRequest}
 use Rattle.ec_start.specs.declared.action.Action.{Action}
 use Rattle.ec_start.specs.declared.action.Action.TheVariants.{CountSlaves, AskInit, AwaitInit, ClearFmmus, ClearManagers, ClearStations, NameSlave, AskWord, AwaitWord, SetManager, SetFmmu, AskState, AwaitState, SendRequest, AwaitReply}
 
 -- ---- the requests to one slave: uploads of each PDO that the plan assigns, then the downloads of both assignments
 
-abbrev pub downloads : (index subindex : ℕ) → Value → Request
+abbrev pub downloads : (index subindex : ℕ) → SdoValue → SdoRequest
 downloads index subindex value = record { index = index; subindex = subindex; transfer = Download value }
 
-abbrev pub uploads : (index subindex : ℕ) → Value → Request
+abbrev pub uploads : (index subindex : ℕ) → SdoValue → SdoRequest
 uploads index subindex value = record { index = index; subindex = subindex; transfer = Upload value }
 
 -- the entries of a PDO from subindex k on
-abbrev pub entries_read : ℕ → ℕ → List Entry → List Request
+abbrev pub entries_read : ℕ → ℕ → List Entry → List SdoRequest
 entries_read index k [] = []
 entries_read index k (e ∷ es) = uploads index k (long_value (entry_number e)) ∷ entries_read index (k + 1) es
 
 -- the number of entries of a PDO, and each of them
-abbrev pub pdo_read : Option Pdo → List Request
+abbrev pub pdo_read : Option Pdo → List SdoRequest
 pdo_read None = []
 pdo_read (Some p) = uploads p.index 0 (byte_value (length p.entries)) ∷ entries_read p.index 1 p.entries
 
 -- the indices of an assignment from subindex k on
-abbrev pub slots_written : ℕ → ℕ → List ℕ → List Request
+abbrev pub slots_written : ℕ → ℕ → List ℕ → List SdoRequest
 slots_written object k [] = []
 slots_written object k (p ∷ ps) = downloads object k (word_value p) ∷ slots_written object (k + 1) ps
 
-abbrev pub count_written : ℕ → List ℕ → List Request
+abbrev pub count_written : ℕ → List ℕ → List SdoRequest
 count_written object [] = []
 count_written object (p ∷ ps) = slots_written object 1 (p ∷ ps) ++ downloads object 0 (byte_value (length (p ∷ ps))) ∷ []
 
 -- count 0, then each index, then the count; nothing where the type has no PDO of the direction
-abbrev pub assignment_written : ℕ → List ℕ → Bool → List Request
+abbrev pub assignment_written : ℕ → List ℕ → Bool → List SdoRequest
 assignment_written object indices false = []
 assignment_written object indices true = downloads object 0 (byte_value 0) ∷ count_written object indices
 
-abbrev pub requests : Settings → List Request
+abbrev pub requests : SlavePlan → List SdoRequest
 requests p =
     flat_map (λ index. pdo_read (pdo_at p.kind.outputs index)) p.outputs
     ++ (flat_map (λ index. pdo_read (pdo_at p.kind.inputs index)) p.inputs
@@ -71,49 +71,49 @@ requests p =
 
 -- ---- the actions of one slave, phase by phase
 
-abbrev pub named : ℕ → Settings → List Action
+abbrev pub named : ℕ → SlavePlan → List Action
 named i p = NameSlave i ∷ []
 
-abbrev pub identified : ℕ → Settings → List Action
+abbrev pub identified : ℕ → SlavePlan → List Action
 identified i p = AskWord i 0 ∷ AwaitWord i 0 ∷ AskWord i 1 ∷ AwaitWord i 1 ∷ AskWord i 2 ∷ AwaitWord i 2 ∷ []
 
-abbrev pub mailbox_set : ℕ → Settings → Option Mailbox → List Action
+abbrev pub mailbox_set : ℕ → SlavePlan → Option Mailbox → List Action
 mailbox_set i p None = []
 mailbox_set i p (Some b) = SetManager i 0 (settings_at p.managers 0) ∷ SetManager i 1 (settings_at p.managers 1) ∷ []
 
-abbrev pub raised : State → ℕ → Settings → List Action
+abbrev pub raised : State → ℕ → SlavePlan → List Action
 raised state i p = AskState i state ∷ AwaitState i state ∷ []
 
-abbrev pub exchanged : ℕ → Mailbox → ℕ → List Request → List Action
+abbrev pub exchanged : ℕ → Mailbox → ℕ → List SdoRequest → List Action
 exchanged i b before [] = []
 exchanged i b before (r ∷ rs) = SendRequest i before b r ∷ AwaitReply i b r ∷ exchanged i b (before + 1) rs
 
-abbrev pub talked : ℕ → Settings → Option Mailbox → List Action
+abbrev pub talked : ℕ → SlavePlan → Option Mailbox → List Action
 talked i p None = []
 talked i p (Some b) = exchanged i b 0 (requests p)
 
-abbrev pub manager_set : ℕ → Settings → ℕ → List Action
+abbrev pub manager_set : ℕ → SlavePlan → ℕ → List Action
 manager_set i p n = if (settings_at p.managers n).activate == 0 then [] else SetManager i n (settings_at p.managers n) ∷ []
 
-abbrev pub fmmu_set : ℕ → Settings → ℕ → Bool → List Action
+abbrev pub fmmu_set : ℕ → SlavePlan → ℕ → Bool → List Action
 fmmu_set i p n true = SetFmmu i n (fmmu_at p.fmmus n) ∷ []
 fmmu_set i p n false = []
 
-abbrev pub mapped : ℕ → Settings → List Action
+abbrev pub mapped : ℕ → SlavePlan → List Action
 mapped i p =
     manager_set i p 2 ++ (manager_set i p 3
     ++ (fmmu_set i p 0 (fmmu_at p.fmmus 0).active ++ fmmu_set i p 1 (fmmu_at p.fmmus 1).active))
 
 -- ---- all of it
 
-abbrev pub each_slave : (ℕ → Settings → List Action) → ℕ → List Settings → List Action
+abbrev pub each_slave : (ℕ → SlavePlan → List Action) → ℕ → List SlavePlan → List Action
 each_slave f i [] = []
 each_slave f i (p ∷ ps) = f i p ++ each_slave f (i + 1) ps
 
 abbrev pub cleared : List Action
 cleared = AskInit ∷ AwaitInit ∷ ClearFmmus ∷ ClearManagers ∷ ClearStations ∷ []
 
-abbrev pub phases : List Settings → List Action
+abbrev pub phases : List SlavePlan → List Action
 phases ps =
     cleared
     ++ (each_slave named 0 ps
@@ -126,6 +126,6 @@ phases ps =
     ++ each_slave (raised Op) 0 ps)))))))
 
 -- with no slaves the first action is all
-abbrev pub script : List Settings → List Action
+abbrev pub script : List SlavePlan → List Action
 script [] = CountSlaves ∷ []
 script (p ∷ ps) = CountSlaves ∷ phases (p ∷ ps)

@@ -1,11 +1,11 @@
 -- The plan of the example's three slaves: 4 output bits; 4 input bits; a mailbox, 12 output bits and 16 input bits.
 use Rattle.std.specs.Prelude.{ℕ, List, [], ◌∷◌, true, Option, Some, None}
-use Rattle.ec_regs.specs.declared.slave_type.Pdo.{Pdo}
-use Rattle.ec_regs.specs.declared.slave_type.Mailbox.{Mailbox}
-use Rattle.ec_regs.specs.Types.{SlaveKind}
+use Rattle.ec_device.specs.declared.slave_type.Pdo.{Pdo}
+use Rattle.ec_device.specs.declared.slave_type.Mailbox.{Mailbox}
+use Rattle.ec_device.specs.Types.{SlaveKind}
 use Rattle.ec_regs.specs.Managers.{no_settings, area_settings, mailbox_out_control, mailbox_in_control, outputs_control, inputs_control}
 use Rattle.ec_regs.specs.Fmmus.{no_fmmu}
-use Rattle.ec_link.specs.declared.settings.Settings.{Settings}
+use Rattle.ec_link.specs.declared.settings.SlavePlan.{SlavePlan}
 
 abbrev pub kind_of : (product : ℕ) → Option Mailbox → (out_start in_start : ℕ) → (outputs inputs : List Pdo) → SlaveKind
 kind_of product mailbox out_start in_start outputs inputs = record {
@@ -23,7 +23,7 @@ kind_of product mailbox out_start in_start outputs inputs = record {
 abbrev pub pdo_of : (index entry bits : ℕ) → Pdo
 pdo_of index entry bits = record { index = index; entries = record { index = entry; subindex = 1; bits = bits } ∷ [] }
 
-abbrev pub four_outputs : Settings
+abbrev pub four_outputs : SlavePlan
 four_outputs = record {
   kind = kind_of 1 None 0x1100 0 (pdo_of 0x1600 0x7000 4 ∷ []) [];
   outputs = 0x1600 ∷ [];
@@ -34,7 +34,7 @@ four_outputs = record {
   share = record { outs = 4; ins = 0; part = 0 };
 }
 
-abbrev pub four_inputs : Settings
+abbrev pub four_inputs : SlavePlan
 four_inputs = record {
   kind = kind_of 2 None 0 0x1100 [] (pdo_of 0x1A00 0x6000 4 ∷ []);
   outputs = [];
@@ -45,7 +45,7 @@ four_inputs = record {
   share = record { outs = 0; ins = 4; part = 0 };
 }
 
-abbrev pub mixed : Settings
+abbrev pub mixed : SlavePlan
 mixed = record {
   kind = kind_of 3 (Some (record { receive_start = 0x1000; receive_size = 128; send_start = 0x1080; send_size = 128 })) 0x1100 0x1400 (pdo_of 0x1600 0x7010 12 ∷ []) (pdo_of 0x1A00 0x6010 16 ∷ []);
   outputs = 0x1600 ∷ [];
@@ -57,5 +57,5 @@ mixed = record {
   share = record { outs = 12; ins = 16; part = 0 };
 }
 
-abbrev pub three_slaves : List Settings
+abbrev pub three_slaves : List SlavePlan
 three_slaves = four_outputs ∷ four_inputs ∷ mixed ∷ []

@@ -1,11 +1,11 @@
 -- What the returned datagram of an action says: the action is done, it is tried again, or the start-up has failed and why.
 use Rattle.std.specs.Prelude.{ℕ, ◌+◌, ◌*◌, ◌%◌, ◌==◌, ◌&&◌, not, List, Bool, if◌then◌else◌, slice_index, Option}
-use Rattle.ec_regs.specs.declared.slave_type.Device.{Device}
+use Rattle.ec_device.specs.declared.slave_type.Device.{Device}
 use Rattle.ec_regs.specs.Words.{al_flag, sii_error, sii_busy}
 use Rattle.ec_frame.specs.Datagram.{Datagram}
 use Rattle.ec_al.specs.declared.state.State.{State}
 use Rattle.ec_al.specs.States.{state_number}
-use Rattle.ec_coe.specs.declared.value.Value.{Value}
+use Rattle.ec_coe.specs.declared.value.SdoValue.{SdoValue}
 use Rattle.ec_coe.specs.declared.message.Message.{Message}
 use Rattle.ec_coe.specs.declared.reply.Reply.{Reply}
 use Rattle.ec_coe.specs.declared.reply.Reply.TheVariants.{Downloaded, Uploaded, Aborted, Unexpected}
@@ -13,7 +13,7 @@ use Rattle.ec_coe.specs.Messages.{size_number, message_read}
 use Rattle.ec_coe.specs.Replies.{reply_of}
 use Rattle.ec_start.specs.declared.action.Transfer.{Transfer}
 use Rattle.ec_start.specs.declared.action.Transfer.TheVariants.{Download, Upload}
-use Rattle.ec_start.specs.declared.action.Request.{Request}
+use Rattle.ec_start.specs.declared.action.SdoRequest.{SdoRequest}
 use Rattle.ec_start.specs.declared.action.Action.{Action}
 use Rattle.ec_start.specs.declared.action.Action.TheVariants.{CountSlaves, AskInit, AwaitInit, ClearFmmus, ClearManagers, ClearStations, NameSlave, AskWord, AwaitWord, SetManager, SetFmmu, AskState, AwaitState, SendRequest, AwaitReply}
 use Rattle.ec_start.specs.declared.error.StartError.TheVariants.{BadMailbox, Count, Identity, Counter, AlError, Abort, Mapping}
@@ -70,12 +70,12 @@ state_verdict i state bytes =
 -- ---- replies
 
 -- a value of the size that was asked for, and the one that the type has
-abbrev pub upload_verdict : ℕ → Request → Value → Value → Verdict
+abbrev pub upload_verdict : ℕ → SdoRequest → SdoValue → SdoValue → Verdict
 upload_verdict i r expected seen =
     if not (size_number seen.size == size_number expected.size) then Fails (BadMailbox i)
     else (if seen.number == expected.number then Next else Fails (Mapping i r.index r.subindex seen.number))
 
-abbrev pub reply_verdict : ℕ → Request → Transfer → Reply → Verdict
+abbrev pub reply_verdict : ℕ → SdoRequest → Transfer → Reply → Verdict
 reply_verdict i r (Download value) Downloaded = Next
 reply_verdict i r (Download value) (Uploaded seen) = Fails (BadMailbox i)
 reply_verdict i r (Download value) (Aborted code) = Fails (Abort i code)
@@ -86,7 +86,7 @@ reply_verdict i r (Upload value) (Aborted code) = Fails (Abort i code)
 reply_verdict i r (Upload value) Unexpected = Fails (BadMailbox i)
 
 -- what a mailbox says as the reply to a request
-abbrev pub message_verdict : ℕ → Request → Option Message → Verdict
+abbrev pub message_verdict : ℕ → SdoRequest → Option Message → Verdict
 message_verdict i r m = reply_verdict i r r.transfer (reply_of r.index r.subindex m)
 
 -- ---- all actions

@@ -6,13 +6,14 @@ ghost use Rattle.ec_start.specs.Scripts.{downloads, uploads};
 ghost use Rattle.ec_start.specs.Doable.{IsDoable};
 
 use ec_al::State;
-use ec_coe::{Command as SdoCommand, Message, Service, Value, write_message};
-use ec_frame::{Command, physical};
+use ec_coe::{Message, SdoCommand, SdoValue, Service, write_message};
+use ec_device::Mailbox;
+use ec_frame::{Command, address_of};
 use ec_regs::registers::{
     AL_CONTROL, AL_STATUS, FMMUS, SII_CONTROL, STATION_ADDRESS, SYNC_MANAGERS, fmmu_address,
     manager_address,
 };
-use ec_regs::{FmmuSettings, Mailbox, ManagerSettings, encode_fmmu, encode_manager};
+use ec_regs::{FmmuSettings, SyncManagerSettings, encode_fmmu, encode_manager};
 
 /// The most data of an action: a mailbox.
 pub const MAX_DATA: usize = 1024;
@@ -24,14 +25,14 @@ const FIRST_STATION: u16 = 0x1001;
 #[derive(Clone, Copy)]
 pub enum Transfer {
     /// A download of this value.
-    Download(Value),
+    Download(SdoValue),
     /// An upload, which has to bring back this value.
-    Upload(Value),
+    Upload(SdoValue),
 }
 
 /// An SDO request of the start-up to one slave.
 #[derive(Clone, Copy)]
-pub struct Request {
+pub struct SdoRequest {
     /// The index of the object.
     pub index: u16,
     /// The subindex.
@@ -74,7 +75,7 @@ pub enum Action {
     SetManager {
         slave: usize,
         number: usize,
-        settings: ManagerSettings,
+        settings: SyncManagerSettings,
     },
     /// Sets an FMMU.
     SetFmmu {
@@ -97,13 +98,13 @@ pub enum Action {
         slave: usize,
         before: usize,
         mailbox: Mailbox,
-        request: Request,
+        request: SdoRequest,
     },
     /// Waits for the reply.
     AwaitReply {
         slave: usize,
         mailbox: Mailbox,
-        request: Request,
+        request: SdoRequest,
     },
 }
 
@@ -131,12 +132,12 @@ fn position(slave: usize) -> u16
     (0 as u16).wrapping_sub(slave as u16)
 }
 
-impl Request {
+impl SdoRequest {
     /// A download.
-    pub(crate) fn download(index: u16, subindex: u8, value: Value) -> Self
+    pub(crate) fn download(index: u16, subindex: u8, value: SdoValue) -> Self
         ensures { result ≡ downloads index subindex value }
     {
-        Request {
+        SdoRequest {
             index,
             subindex,
             transfer: Transfer::Download(value),
@@ -144,10 +145,10 @@ impl Request {
     }
 
     /// An upload that has to bring a value back.
-    pub(crate) fn upload(index: u16, subindex: u8, value: Value) -> Self
+    pub(crate) fn upload(index: u16, subindex: u8, value: SdoValue) -> Self
         ensures { result ≡ uploads index subindex value }
     {
-        Request {
+        SdoRequest {
             index,
             subindex,
             transfer: Transfer::Upload(value),
@@ -237,7 +238,7 @@ impl Action {
         requires { IsDoable self.now }
         ensures { result ≡ (datagram_of self.now 0).address }
     {
-        physical(self.adp(), self.ado())
+        address_of(self.adp(), self.ado())
     }
 
     /// How many bytes of data its datagram has.

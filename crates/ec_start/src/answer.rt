@@ -9,7 +9,7 @@ ghost use Rattle.ec_start.specs.Running.{shape};
 ghost use Rattle.ec_start.specs.Answered.{Answers, IsAnswerAt};
 
 use crate::action::Action;
-use ec_frame::{Command, Header, Places, Span, check, read_data};
+use ec_frame::{Command, DatagramCursor, DatagramSpan, Header, check, read_data};
 
 /// How many datagrams a frame of a start-up has: the one that names it, and the action's.
 const DATAGRAMS: usize = 2;
@@ -49,7 +49,7 @@ fn is_pair(payload: &[u8]) -> bool
 }
 
 /// Where the datagram stands that answers an action, in a payload that answers the action's frame of this number.
-pub fn answer_in(payload: &[u8], action: &Action, number: u64) -> Option<Span>
+pub fn answer_in(payload: &[u8], action: &Action, number: u64) -> Option<DatagramSpan>
     requires { IsDoable action.now }
     ensures { MatchOption result
         ((p : Payload) → IsFrame payload.now p → Answers action.now number p.datagrams → ⊥)
@@ -59,7 +59,7 @@ pub fn answer_in(payload: &[u8], action: &Action, number: u64) -> Option<Span>
     if !has_two {
         return None;
     }
-    let mut places = Places::new(payload);
+    let mut places = DatagramCursor::new(payload);
     let name = places.next(payload)?;
     let answer = places.next(payload)?;
     let command = action.command();

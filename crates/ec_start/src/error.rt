@@ -4,11 +4,11 @@ ghost use Rattle.std.specs.Prelude.{◌≡◌, ◌≤◌, length};
 ghost use Rattle.ec_start.specs.Errors.{error_number, error_name, error_values};
 
 use arrayvec::ArrayVec;
-use ec_regs::Device;
+use ec_device::Device;
 use thiserror::Error;
 
 /// How many values an error has at most.
-const MOST_VALUES: usize = 4;
+const MAX_VALUES: usize = 4;
 
 /// Why a start-up failed. Slaves are counted from 0 in the order of the table, steps from 0 in the order of the script.
 #[derive(Clone, Copy, Debug, PartialEq, Eq, Error)]
@@ -67,7 +67,7 @@ pub enum StartError {
     },
 }
 
-fn listed(values: &[u64]) -> ArrayVec<u64, MOST_VALUES>
+fn listed(values: &[u64]) -> ArrayVec<u64, MAX_VALUES>
     requires { length values.now ≤ 4 }
     ensures { result.items ≡ values.now }
 {

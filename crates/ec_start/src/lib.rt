@@ -12,7 +12,7 @@ mod script;
 mod startup;
 mod verdict;
 
-pub use crate::action::{Action, Request, Transfer};
+pub use crate::action::{Action, SdoRequest, Transfer};
 pub use crate::error::StartError;
 pub use crate::phase::{NextFrame, Phase, Taken};
 pub use crate::startup::Startup;

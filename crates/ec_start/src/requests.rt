@@ -2,22 +2,22 @@
 
 ghost use Rattle.std.specs.Prelude.{◌≡◌, ◌≤◌, ◌<◌, length, All, Some, slice_get};
 ghost use Rattle.std.specs.List.{flat_map};
-ghost use Rattle.ec_regs.specs.Types.{pdo_bits};
-ghost use Rattle.ec_regs.specs.Objects.{pdo_at};
+ghost use Rattle.ec_device.specs.Types.{pdo_bits};
+ghost use Rattle.ec_device.specs.Objects.{pdo_at};
 ghost use Rattle.ec_start.specs.Scripts.{pdo_read, assignment_written, requests};
 ghost use Rattle.ec_start.specs.Planned.{HasFewAssigned};
 ghost use Rattle.ec_start.specs.Seeking.{seek, uploads_of, downloads_of};
 
-use crate::action::Request;
-use ec_coe::{INPUT_ASSIGNMENT, OUTPUT_ASSIGNMENT, Value, entry_number, find_pdo};
-use ec_link::Settings;
-use ec_regs::Pdo;
+use crate::action::SdoRequest;
+use ec_coe::{INPUT_ASSIGNMENT, OUTPUT_ASSIGNMENT, SdoValue, entry_number, find_pdo};
+use ec_device::Pdo;
+use ec_link::SlavePlan;
 
 /// What a place is in a run of requests.
 #[derive(Clone, Copy)]
 pub enum Seek {
     /// The place of this request.
-    Found(Request),
+    Found(SdoRequest),
     /// So many places past the run.
     Past(usize),
 }
@@ -29,12 +29,12 @@ fn pdo_upload(pdo: &Pdo, place: usize) -> Seek
 {
     let entries = pdo.entries.as_slice();
     if place == 0 {
-        let count = Value::byte(entries.len() as u8);
-        return Seek::Found(Request::upload(pdo.index, 0, count));
+        let count = SdoValue::byte(entries.len() as u8);
+        return Seek::Found(SdoRequest::upload(pdo.index, 0, count));
     }
     if place <= entries.len() {
-        let entry = Value::long(entry_number(&entries[place - 1]));
-        return Seek::Found(Request::upload(pdo.index, place as u8, entry));
+        let entry = SdoValue::long(entry_number(&entries[place - 1]));
+        return Seek::Found(SdoRequest::upload(pdo.index, place as u8, entry));
     }
     Seek::Past(place - 1 - entries.len())
 }
@@ -75,23 +75,23 @@ fn downloads_at(object: u16, indices: &[u16], has_pdos: bool, place: usize) -> S
         return Seek::Past(place);
     }
     if place == 0 {
-        return Seek::Found(Request::download(object, 0, Value::byte(0)));
+        return Seek::Found(SdoRequest::download(object, 0, SdoValue::byte(0)));
     }
     if count == 0 {
         return Seek::Past(place - 1);
     }
     if place <= count {
-        let slot = Value::word(indices[place - 1]);
-        return Seek::Found(Request::download(object, place as u8, slot));
+        let slot = SdoValue::word(indices[place - 1]);
+        return Seek::Found(SdoRequest::download(object, place as u8, slot));
     }
     if place == count + 1 {
-        return Seek::Found(Request::download(object, 0, Value::byte(count as u8)));
+        return Seek::Found(SdoRequest::download(object, 0, SdoValue::byte(count as u8)));
     }
     Seek::Past(place - 2 - count)
 }
 
 /// The upload with a place among all of a slave.
-fn upload_in(settings: &Settings, place: usize) -> Seek
+fn upload_in(settings: &SlavePlan, place: usize) -> Seek
     ensures { result ≡ seek (uploads_of settings.now) place }
 {
     let kind = &settings.kind;
@@ -102,7 +102,7 @@ fn upload_in(settings: &Settings, place: usize) -> Seek
 }
 
 /// The download with a place among all of a slave.
-fn download_in(settings: &Settings, place: usize) -> Seek
+fn download_in(settings: &SlavePlan, place: usize) -> Seek
     requires { HasFewAssigned settings.now }
     ensures { result ≡ seek (downloads_of settings.now) place }
 {
@@ -117,7 +117,7 @@ fn download_in(settings: &Settings, place: usize) -> Seek
 }
 
 /// The request with a place among all of a slave.
-pub fn request_at(settings: &Settings, place: usize) -> Option<Request>
+pub fn request_at(settings: &SlavePlan, place: usize) -> Option<SdoRequest>
     requires { HasFewAssigned settings.now }
     ensures { result ≡ slice_get (requests settings.now) place }
 {

@@ -9,7 +9,7 @@ ghost use Rattle.ec_start.specs.Ahead.{share, opening, share_at, is_for_all, fol
 use crate::action::Action;
 use crate::requests::request_at;
 use ec_al::State;
-use ec_link::Settings;
+use ec_link::SlavePlan;
 
 /// A run of actions for each slave, slave after slave; the opening is for all slaves at once.
 #[derive(Clone, Copy)]
@@ -68,7 +68,7 @@ fn opening_action(has_slaves: bool, place: usize) -> Option<Action>
     }
 }
 
-fn naming(slave: usize, settings: &Settings, place: usize) -> Option<Action>
+fn naming(slave: usize, settings: &SlavePlan, place: usize) -> Option<Action>
     requires { slave < 64 }
     ensures value { result ≡ slice_get (named slave settings.now) place }
     ensures doable { IfSome result IsDoable }
@@ -79,7 +79,7 @@ fn naming(slave: usize, settings: &Settings, place: usize) -> Option<Action>
     }
 }
 
-fn identifying(slave: usize, settings: &Settings, place: usize) -> Option<Action>
+fn identifying(slave: usize, settings: &SlavePlan, place: usize) -> Option<Action>
     requires { slave < 64 }
     ensures value { result ≡ slice_get (identified slave settings.now) place }
     ensures doable { IfSome result IsDoable }
@@ -95,7 +95,7 @@ fn identifying(slave: usize, settings: &Settings, place: usize) -> Option<Action
     }
 }
 
-fn raising(state: State, slave: usize, settings: &Settings, place: usize) -> Option<Action>
+fn raising(state: State, slave: usize, settings: &SlavePlan, place: usize) -> Option<Action>
     requires { slave < 64 }
     ensures value { result ≡ slice_get (raised state slave settings.now) place }
     ensures doable { IfSome result IsDoable }
@@ -108,7 +108,7 @@ fn raising(state: State, slave: usize, settings: &Settings, place: usize) -> Opt
 }
 
 /// Sets one of the managers that the plan has of a slave.
-fn set_manager(slave: usize, settings: &Settings, number: usize) -> Action
+fn set_manager(slave: usize, settings: &SlavePlan, number: usize) -> Action
     requires low { slave < 64 }
     requires there { number < 4 }
     ensures value { result ≡ set_manager_of slave settings.now number }
@@ -121,7 +121,7 @@ fn set_manager(slave: usize, settings: &Settings, number: usize) -> Action
     }
 }
 
-fn setting_mailboxes(slave: usize, settings: &Settings, place: usize) -> Option<Action>
+fn setting_mailboxes(slave: usize, settings: &SlavePlan, place: usize) -> Option<Action>
     requires { slave < 64 }
     ensures value { result ≡ slice_get (mailbox_set slave settings.now settings.now.kind.mailbox) place }
     ensures doable { IfSome result IsDoable }
@@ -137,7 +137,7 @@ fn setting_mailboxes(slave: usize, settings: &Settings, place: usize) -> Option<
 }
 
 /// The requests of a slave, each with the wait for its reply.
-fn talking(slave: usize, settings: &Settings, place: usize) -> Option<Action>
+fn talking(slave: usize, settings: &SlavePlan, place: usize) -> Option<Action>
     requires low { slave < 64 }
     requires few { HasFewAssigned settings.now }
     ensures value { result ≡ slice_get (talked slave settings.now settings.now.kind.mailbox) place }
@@ -162,7 +162,7 @@ fn talking(slave: usize, settings: &Settings, place: usize) -> Option<Action>
     })
 }
 
-fn manager_chosen(slave: usize, settings: &Settings, number: usize) -> Option<Action>
+fn manager_chosen(slave: usize, settings: &SlavePlan, number: usize) -> Option<Action>
     requires low { slave < 64 }
     requires there { number < 4 }
     ensures value { result ≡ manager_chosen slave settings.now number }
@@ -175,7 +175,7 @@ fn manager_chosen(slave: usize, settings: &Settings, number: usize) -> Option<Ac
     }
 }
 
-fn fmmu_chosen(slave: usize, settings: &Settings, number: usize) -> Option<Action>
+fn fmmu_chosen(slave: usize, settings: &SlavePlan, number: usize) -> Option<Action>
     requires low { slave < 64 }
     requires there { number < 4 }
     ensures value { result ≡ fmmu_chosen slave settings.now number }
@@ -211,7 +211,7 @@ fn chosen_at(choices: &[Option<Action>], place: usize) -> Option<Action>
     None
 }
 
-fn mapping(slave: usize, settings: &Settings, place: usize) -> Option<Action>
+fn mapping(slave: usize, settings: &SlavePlan, place: usize) -> Option<Action>
     requires { slave < 64 }
     ensures value { result ≡ slice_get (mapped slave settings.now) place }
     ensures doable { IfSome result IsDoable }
@@ -254,7 +254,7 @@ impl Stretch {
     }
 
     /// The action with a place in a slave's share.
-    fn action_in(self, slave: usize, settings: &Settings, place: usize) -> Option<Action>
+    fn action_in(self, slave: usize, settings: &SlavePlan, place: usize) -> Option<Action>
         requires low { slave < 64 }
         requires few { HasFewAssigned settings.now }
         ensures value { result ≡ slice_get (share self slave settings.now) place }
@@ -276,7 +276,7 @@ impl Stretch {
 
 impl Cursor {
     /// The action here, none past the end of the slave's share.
-    fn action(self, slaves: &[Settings]) -> Option<Action>
+    fn action(self, slaves: &[SlavePlan]) -> Option<Action>
         requires few { length slaves.now ≤ 64 }
         requires assigned { All HasFewAssigned slaves.now }
         ensures value { result ≡ slice_get (share_at self.stretch slaves.now self.slave) self.place }
@@ -312,7 +312,7 @@ impl Cursor {
     }
 
     /// The first step from here on, which may be some shares behind; none at the script's end.
-    pub fn settle(self, slaves: &[Settings]) -> Option<Step>
+    pub fn settle(self, slaves: &[SlavePlan]) -> Option<Step>
         requires few { length slaves.now ≤ 64 }
         requires assigned { All HasFewAssigned slaves.now }
         requires low { self.slave ≤ 64 }

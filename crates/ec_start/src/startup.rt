@@ -18,9 +18,10 @@ use crate::error::StartError;
 use crate::phase::{NextFrame, Phase, Taken};
 use crate::script::{Cursor, Step, Stretch};
 use crate::verdict::{Verdict, nothing_seen, verdict_on, with_word};
+use ec_device::Device;
 use ec_frame::{Command, Frame, Sent, read_counter, read_data, write_pair};
-use ec_link::{Plan, Settings};
-use ec_regs::{Device, Listed};
+use ec_link::{Plan, SlavePlan};
+use ec_listed::Listed;
 use std::alloc::{AllocError, Global};
 use std::marker::Model;
 
@@ -28,13 +29,13 @@ use std::marker::Model;
 const SHORT_DATA: usize = 64;
 
 /// How often a wait is tried.
-const MOST_POLLS: u16 = 1000;
+const MAX_POLLS: u16 = 1000;
 
 /// A start-up of a segment by init commands (ETG.1000.6, "AL state machine"), one frame at a time: `next` writes a frame, which
 /// is then outstanding until `take` keeps its answer. It ends Ready, with all slaves in OP, or by a failure.
 #[derive(Drop)]
 pub struct Startup {
-    slaves: Listed<Settings>,
+    slaves: Listed<SlavePlan>,
     next: u64,
     place: usize,
     polls: u16,
@@ -77,17 +78,17 @@ fn first_step() -> Step
 }
 
 /// Whether each slot of a slave's assignments has a subindex of one byte.
-fn has_few_assigned(settings: &Settings) -> bool
+fn has_few_assigned(settings: &SlavePlan) -> bool
     ensures { IsTrue result ↔ HasFewAssigned settings.now }
 {
     settings.outputs.len() < 256 && settings.inputs.len() < 256
 }
 
 /// A copy of a slave's settings.
-fn copied(alloc: Global, settings: &Settings) -> Result<Settings, AllocError>
+fn copied(alloc: Global, settings: &SlavePlan) -> Result<SlavePlan, AllocError>
     ensures { IfOk result (λ x. x ≡ settings.now) }
 {
-    Ok(Settings {
+    Ok(SlavePlan {
         kind: settings.kind.copied(alloc)?,
         outputs: Listed::copied(alloc, settings.outputs.as_slice())?,
         inputs: Listed::copied(alloc, settings.inputs.as_slice())?,
@@ -99,7 +100,7 @@ fn copied(alloc: Global, settings: &Settings) -> Result<Settings, AllocError>
 }
 
 /// A copy of the settings of all slaves.
-fn copied_all(alloc: Global, slaves: &[Settings]) -> Result<Listed<Settings>, AllocError>
+fn copied_all(alloc: Global, slaves: &[SlavePlan]) -> Result<Listed<SlavePlan>, AllocError>
     ensures { IfOk result (λ xs. xs ≡ slaves.now) }
 {
     let mut all = Listed::new(alloc);
@@ -332,7 +333,7 @@ impl Startup {
         requires { is_sent self.old.phase ≡ true }
         ensures { self.new ≡ judged self.old Again }
     {
-        if self.polls + 1 == MOST_POLLS {
+        if self.polls + 1 == MAX_POLLS {
             self.phase = Phase::Failed(StartError::TooSlow { step: self.place });
         } else {
             self.polls += 1;

@@ -1,19 +1,20 @@
 //! What the answer to a step says.
 
 ghost use Rattle.std.specs.Prelude.{◌≡◌, ◌≤◌, length};
-ghost use Rattle.ec_regs.specs.declared.slave_type.Device.{Device};
+ghost use Rattle.ec_device.specs.declared.slave_type.Device.{Device};
 ghost use Rattle.ec_start.specs.Actions.{datagram_of};
 ghost use Rattle.ec_start.specs.Running.{type_of};
 ghost use Rattle.ec_start.specs.Answered.{answered, init_verdict};
 ghost use Rattle.ec_start.specs.Verdicts.{nothing_seen, with_word, seen_before, is_device, differs, word_verdict, state_verdict, upload_verdict, reply_verdict, counted, verdict};
 
-use crate::action::{Action, Request, Transfer};
+use crate::action::{Action, SdoRequest, Transfer};
 use crate::error::StartError;
 use byteorder::{ByteOrder, LittleEndian};
 use ec_al::State;
-use ec_coe::{Reply, Value, read_reply};
-use ec_link::Settings;
-use ec_regs::{AlWord, Device, SiiControl};
+use ec_coe::{Reply, SdoValue, read_reply};
+use ec_device::Device;
+use ec_link::SlavePlan;
+use ec_regs::{AlWord, SiiControl};
 
 /// What a returned datagram says of the action that it was sent for.
 #[derive(Clone, Copy)]
@@ -93,7 +94,7 @@ fn is_device(kind: Device, seen: Device) -> bool
 }
 
 /// The device of a slave's type.
-fn type_of(slaves: &[Settings], slave: usize) -> Device
+fn type_of(slaves: &[SlavePlan], slave: usize) -> Device
     ensures { result ≡ type_of slaves.now slave }
 {
     if slave < slaves.len() {
@@ -144,7 +145,7 @@ fn state_verdict(slave: usize, state: State, bytes: &[u8]) -> Verdict
     }
 }
 
-fn upload_verdict(slave: usize, request: &Request, expected: Value, seen: Value) -> Verdict
+fn upload_verdict(slave: usize, request: &SdoRequest, expected: SdoValue, seen: SdoValue) -> Verdict
     ensures { result ≡ upload_verdict slave request.now expected seen }
 {
     if seen.size.number() != expected.size.number() {
@@ -161,7 +162,7 @@ fn upload_verdict(slave: usize, request: &Request, expected: Value, seen: Value)
     })
 }
 
-fn reply_verdict(slave: usize, request: &Request, reply: Reply) -> Verdict
+fn reply_verdict(slave: usize, request: &SdoRequest, reply: Reply) -> Verdict
     ensures { result ≡ reply_verdict slave request.now request.now.transfer reply }
 {
     match (request.transfer, reply) {
@@ -187,7 +188,7 @@ fn counted(counter: u16, expected: usize, step: usize, verdict: Verdict) -> Verd
 
 /// What the counter and the data of a returned datagram say of the action that it was sent for.
 pub fn verdict_on(
-    slaves: &[Settings],
+    slaves: &[SlavePlan],
     step: usize,
     seen: Device,
     action: &Action,

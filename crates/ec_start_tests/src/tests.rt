@@ -1,9 +1,9 @@
 //! The calls of a start-up, with payloads written by hand.
 
 use crate::tests::rows::STEPS;
+use ec_device::Device;
 use ec_frame::Frame;
 use ec_link::{Plan, compile};
-use ec_regs::Device;
 use ec_start::{NextFrame, Phase, StartError, Startup, Taken};
 use ec_table::read_table;
 use std::alloc::{AllocError, Global};

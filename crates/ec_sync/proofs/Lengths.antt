@@ -5,17 +5,17 @@ use Rattle.std.proofs.lemmas.Bool.Decides.{nat_tests}
 use Rattle.ec_bits.specs.Bits.{within}
 use Rattle.ec_sync.specs.Bounds.{span_end_of}
 use Rattle.std.proofs.lemmas.Grind.{common_steps}
-use Rattle.ec_regs.specs.declared.manager.ManagerSettings.{ManagerSettings}
+use Rattle.ec_regs.specs.declared.manager.SyncManagerSettings.{SyncManagerSettings}
 use Rattle.ec_regs.specs.Managers.{is_set, is_mailbox, span}
-use Rattle.ec_sync.specs.Manager.{buffer_length, LiesInRam}
+use Rattle.ec_sync.specs.SyncManager.{buffer_length, LiesInRam}
 
 -- what is set and no mailbox is buffered
-pub buffer_length_set : (m : ManagerSettings) → is_set m ≡ true → is_mailbox m ≡ false → buffer_length m ≡ m.length
+pub buffer_length_set : (m : SyncManagerSettings) → is_set m ≡ true → is_mailbox m ≡ false → buffer_length m ≡ m.length
 unfolding is_set
 buffer_length_set m s b = grind (arith, common_steps, s, b)
 
 -- what is set has a byte at least, inside the RAM
-pub set_lies_in_ram : (m : ManagerSettings) → is_set m ≡ true → LiesInRam m
+pub set_lies_in_ram : (m : SyncManagerSettings) → is_set m ≡ true → LiesInRam m
 unfolding is_set
 set_lies_in_ram m s = record { some = grind (arith, common_steps, s); from = grind (arith, common_steps, s); to = grind (arith, common_steps, s) }
 
@@ -32,5 +32,5 @@ ends_at : (b : Bool) (s n a : ℕ) → (nat_le s a && nat_lt a (if b then s + n 
 ends_at true s n a = refl
 ends_at false s n a = grind (arith, nat_tests)
 
-pub span_has : (m : ManagerSettings) (a : ℕ) → (nat_le m.start a && nat_lt a (span_end_of m)) ≡ (is_set m && within m.start (span m) a)
+pub span_has : (m : SyncManagerSettings) (a : ℕ) → (nat_le m.start a && nat_lt a (span_end_of m)) ≡ (is_set m && within m.start (span m) a)
 span_has m a = ends_at (is_set m) m.start (span m) a

@@ -1,8 +1,8 @@
 -- A mailbox gives each message once: what each operation does to the message that is there, and then whole runs.
 use Rattle.std.proofs.Common.{ℕ, ◌&&◌, ◌≡◌, ◌⊎◌, inl, inr, List, [], ◌∷◌, ◌++◌, length, Bool, true, false, if◌then◌else◌, nat_le, Option, Some, None, is_some, is_none, unwrap_or, option_map, refl, sym, ap, subst}
-use Rattle.ec_regs.specs.Managers.{is_mailbox, is_ring_written, is_ring_read}
+use Rattle.ec_regs.specs.Managers.{is_mailbox, is_master_written, is_master_read}
 use Rattle.ec_sync.specs.Buffer.{Buffer, Got, app_written, publishing}
-use Rattle.ec_sync.specs.Manager.{Manager, no_manager, may_app_put, app_got, after_get, is_enabled, padded}
+use Rattle.ec_sync.specs.SyncManager.{SyncManager, no_manager, may_app_put, app_got, after_get, is_enabled, padded}
 use Rattle.ec_sync.specs.Runs.{Operation, Configure, Lock, Empty, PublishZeros, RingWrite, RingRead, AppPut, AppGet, MessageTake, MessagePut, step}
 use Rattle.ec_sync.specs.Messages.{MailEvent, Put, Taken, Cleared, mail_event, added, mail_events, MessagesAreGivenOnce}
 
@@ -22,7 +22,7 @@ Goes mail (Cleared ∷ es) = Goes None es
 
 -- ---- one operation
 
-moves-written : (m : Manager) (w : List ℕ) (is_mail covered enabled ring : Bool) (mail : Option (List ℕ)) → m.mail ≡ mail
+moves-written : (m : SyncManager) (w : List ℕ) (is_mail covered enabled ring : Bool) (mail : Option (List ℕ)) → m.mail ≡ mail
     → Moves m.mail (if is_mail && (covered && (enabled && (ring && (if is_mail then is_none mail else true)))) then Some (Put w) else None)
     (if covered && (enabled && (ring && (if is_mail then is_none mail else true))) then (if is_mail then record m { mail = Some w } else record m { buffer = publishing m.buffer w }) else m).mail
 moves-written m w false false enabled ring mail e = refl
@@ -35,7 +35,7 @@ moves-written m w true true true false mail e = refl
 moves-written m w true true true true None e = (e, refl)
 moves-written m w true true true true (Some v) e = refl
 
-moves-read : (m : Manager) (is_mail covered enabled ring : Bool) (mail : Option (List ℕ)) → m.mail ≡ mail
+moves-read : (m : SyncManager) (is_mail covered enabled ring : Bool) (mail : Option (List ℕ)) → m.mail ≡ mail
     → Moves m.mail (if is_mail then option_map Taken (if covered && (enabled && (ring && (if is_mail then is_some mail else true))) then Some (if is_mail then unwrap_or mail [] else m.buffer.published) else None) else None)
     (if covered && (enabled && (ring && (if is_mail then is_some mail else true))) then (if is_mail then record m { mail = None } else m) else m).mail
 moves-read m false false enabled ring mail e = refl
@@ -48,13 +48,13 @@ moves-read m true true true false mail e = refl
 moves-read m true true true true None e = refl
 moves-read m true true true true (Some v) e = (e, refl)
 
-moves-taken : (m : Manager) (granted : Bool) (mail : Option (List ℕ)) → m.mail ≡ mail
+moves-taken : (m : SyncManager) (granted : Bool) (mail : Option (List ℕ)) → m.mail ≡ mail
     → Moves m.mail (option_map Taken (if granted then mail else None)) (if is_some (if granted then mail else None) then record m { mail = None } else m).mail
 moves-taken m false mail e = refl
 moves-taken m true None e = refl
 moves-taken m true (Some v) e = (e, refl)
 
-moves-message : (m : Manager) (w : List ℕ) (enabled is_mail ring fits : Bool) (mail : Option (List ℕ)) → m.mail ≡ mail
+moves-message : (m : SyncManager) (w : List ℕ) (enabled is_mail ring fits : Bool) (mail : Option (List ℕ)) → m.mail ≡ mail
     → Moves m.mail (if enabled && (is_mail && (ring && (is_none mail && fits))) then Some (Put w) else None)
     (if enabled && (is_mail && (ring && (is_none mail && fits))) then record m { mail = Some w } else m).mail
 moves-message m w false is_mail ring fits mail e = refl
@@ -64,26 +64,26 @@ moves-message m w true true true fits (Some v) e = refl
 moves-message m w true true true false None e = refl
 moves-message m w true true true true None e = (e, refl)
 
-kept-put : (m : Manager) (may : Bool) (o : Option Buffer) → (unwrap_or (if may then option_map (λ b. record m { buffer = b }) o else None) m).mail ≡ m.mail
+kept-put : (m : SyncManager) (may : Bool) (o : Option Buffer) → (unwrap_or (if may then option_map (λ b. record m { buffer = b }) o else None) m).mail ≡ m.mail
 kept-put m false o = refl
 kept-put m true None = refl
 kept-put m true (Some b) = refl
 
-kept-get : (m : Manager) (o : Option Got) → (after_get m o).mail ≡ m.mail
+kept-get : (m : SyncManager) (o : Option Got) → (after_get m o).mail ≡ m.mail
 kept-get m None = refl
 kept-get m (Some got) = refl
 
-moves : (m : Manager) (o : Operation) → Moves m.mail (mail_event m o) (step m o).mail
+moves : (m : SyncManager) (o : Operation) → Moves m.mail (mail_event m o) (step m o).mail
 moves m (Configure settings) = refl
 moves m (Lock locked) = refl
 moves m Empty = refl
 moves m PublishZeros = refl
-moves m (RingWrite covered value) = moves-written m value (is_mailbox m.settings) covered (is_enabled m) (is_ring_written m.settings) m.mail refl
-moves m (RingRead covered) = moves-read m (is_mailbox m.settings) covered (is_enabled m) (is_ring_read m.settings) m.mail refl
+moves m (RingWrite covered value) = moves-written m value (is_mailbox m.settings) covered (is_enabled m) (is_master_written m.settings) m.mail refl
+moves m (RingRead covered) = moves-read m (is_mailbox m.settings) covered (is_enabled m) (is_master_read m.settings) m.mail refl
 moves m (AppPut i x) = kept-put m (may_app_put m) (app_written m.buffer i x)
 moves m (AppGet i) = kept-get m (app_got m i)
-moves m MessageTake = moves-taken m (is_enabled m && (is_mailbox m.settings && is_ring_written m.settings)) m.mail refl
-moves m (MessagePut message) = moves-message m (padded m message) (is_enabled m) (is_mailbox m.settings) (is_ring_read m.settings) (nat_le (length message) m.settings.length) m.mail refl
+moves m MessageTake = moves-taken m (is_enabled m && (is_mailbox m.settings && is_master_written m.settings)) m.mail refl
+moves m (MessagePut message) = moves-message m (padded m message) (is_enabled m) (is_mailbox m.settings) (is_master_read m.settings) (nat_le (length message) m.settings.length) m.mail refl
 
 -- ---- whole runs
 
@@ -93,7 +93,7 @@ goes-added old new (Some (Put x)) es m g = (m.0, subst (λ (o : Option (List ℕ
 goes-added old new (Some (Taken x)) es m g = (m.0, subst (λ (o : Option (List ℕ)). Goes o es) m.1 g)
 goes-added old new (Some Cleared) es m g = subst (λ (o : Option (List ℕ)). Goes o es) m g
 
-goes : (m : Manager) (ops : List Operation) → Goes m.mail (mail_events m ops)
+goes : (m : SyncManager) (ops : List Operation) → Goes m.mail (mail_events m ops)
 goes m [] = tt
 goes m (o ∷ ops) = goes-added m.mail (step m o).mail (mail_event m o) (mail_events (step m o) ops) (moves m o) (goes (step m o) ops)
 

@@ -5,7 +5,7 @@ use Rattle.std.specs.List.{All}
 use Rattle.std.proofs.lemmas.List.Elements.{All-head, All-tail}
 use Rattle.ec_bits.specs.Bits.{zeros}
 use Rattle.ec_sync.specs.Buffer.{app_written, app_read, publishing}
-use Rattle.ec_sync.specs.Manager.{Manager, may_write, may_read, may_app_put, may_app_get, app_put, app_got, after_get, message_in, may_put_message, padded}
+use Rattle.ec_sync.specs.SyncManager.{SyncManager, may_write, may_read, may_app_put, may_app_get, app_put, app_got, after_get, message_in, may_put_message, padded}
 use Rattle.ec_sync.specs.Runs.{Operation, Configure, Lock, Empty, PublishZeros, RingWrite, RingRead, AppPut, AppGet, MessageTake, MessagePut, step, run, draft_for, OpensNoView, OpensNoDraft, with_puts, ViewsStay, DraftsAreTheBytesPut}
 use Rattle.ec_sync.proofs.WholeValues.{none_some, put_if, got_if}
 
@@ -29,11 +29,11 @@ stays v i a b ne h = subst (λ (o : Option (List ℕ)). IsNoneOr v o) (sym (open
 
 -- ---- views
 
-view-if : (v : List ℕ) (granted : Bool) (a b : Manager) → IsNoneOr v a.buffer.view → IsNoneOr v b.buffer.view → IsNoneOr v (if granted then a else b).buffer.view
+view-if : (v : List ℕ) (granted : Bool) (a b : SyncManager) → IsNoneOr v a.buffer.view → IsNoneOr v b.buffer.view → IsNoneOr v (if granted then a else b).buffer.view
 view-if v true a b x y = x
 view-if v false a b x y = y
 
-view-put : (v : List ℕ) (m : Manager) (may below last : Bool) (i x : ℕ) (d : Option (List ℕ)) → IsNoneOr v m.buffer.view
+view-put : (v : List ℕ) (m : SyncManager) (may below last : Bool) (i x : ℕ) (d : Option (List ℕ)) → IsNoneOr v m.buffer.view
     → IsNoneOr v (unwrap_or (put_if may below last m i x d) m).buffer.view
 view-put v m false below last i x d a = a
 view-put v m true false last i x d a = a
@@ -41,7 +41,7 @@ view-put v m true true last i x None a = a
 view-put v m true true true i x (Some d) a = a
 view-put v m true true false i x (Some d) a = a
 
-view-got : (v : List ℕ) (m : Manager) (may below last : Bool) (i : ℕ) (d : Option (List ℕ)) → IsNoneOr v m.buffer.view → IsNoneOr v d
+view-got : (v : List ℕ) (m : SyncManager) (may below last : Bool) (i : ℕ) (d : Option (List ℕ)) → IsNoneOr v m.buffer.view → IsNoneOr v d
     → IsNoneOr v (after_get m (got_if may below last m.buffer i d)).buffer.view
 view-got v m false below last i d a k = a
 view-got v m true false last i d a k = a
@@ -49,17 +49,17 @@ view-got v m true true last i None a k = a
 view-got v m true true true i (Some w) a k = inl refl
 view-got v m true true false i (Some w) a k = k
 
-view-step_put : (v : List ℕ) (m : Manager) (i x : ℕ) → IsNoneOr v m.buffer.view → IsNoneOr v (step m (AppPut i x)).buffer.view
+view-step_put : (v : List ℕ) (m : SyncManager) (i x : ℕ) → IsNoneOr v m.buffer.view → IsNoneOr v (step m (AppPut i x)).buffer.view
 unfolding app_written
 view-step_put v m i x a = view-put v m (may_app_put m) (nat_lt i (length m.buffer.published)) (i + 1 == length m.buffer.published) i x (draft_for m i) a
 
-view-step_get : (v : List ℕ) (m : Manager) (i : ℕ) → ¬ (i ≡ 0) → IsNoneOr v m.buffer.view → IsNoneOr v (step m (AppGet i)).buffer.view
+view-step_get : (v : List ℕ) (m : SyncManager) (i : ℕ) → ¬ (i ≡ 0) → IsNoneOr v m.buffer.view → IsNoneOr v (step m (AppGet i)).buffer.view
 unfolding app_read
 view-step_get v m i ne a =
     view-got v m (may_app_get m) (nat_lt i (length m.buffer.published)) (i + 1 == length m.buffer.published) i (if i == 0 then Some m.buffer.published else m.buffer.view) a
     (stays v i (Some m.buffer.published) m.buffer.view ne a)
 
-view-step : (v : List ℕ) (m : Manager) (o : Operation) → OpensNoView o → IsNoneOr v m.buffer.view → IsNoneOr v (step m o).buffer.view
+view-step : (v : List ℕ) (m : SyncManager) (o : Operation) → OpensNoView o → IsNoneOr v m.buffer.view → IsNoneOr v (step m o).buffer.view
 view-step v m (Configure settings) h a = inl refl
 view-step v m (Lock locked) h a = a
 view-step v m Empty h a = inl refl
@@ -71,19 +71,19 @@ view-step v m (AppGet i) h a = view-step_get v m i h a
 view-step v m MessageTake h a = view-if v (is_some (message_in m)) (record m { mail = None }) m a a
 view-step v m (MessagePut message) h a = view-if v (may_put_message m (length message)) (record m { mail = Some (padded m message) }) m a a
 
-view-run : (v : List ℕ) (m : Manager) (ops : List Operation) → All OpensNoView ops → IsNoneOr v m.buffer.view → IsNoneOr v (run m ops).buffer.view
+view-run : (v : List ℕ) (m : SyncManager) (ops : List Operation) → All OpensNoView ops → IsNoneOr v m.buffer.view → IsNoneOr v (run m ops).buffer.view
 view-run v m [] h a = a
 view-run v m (o ∷ ops) h a = view-run v (step m o) ops (All-tail OpensNoView o ops h) (view-step v m o (All-head OpensNoView o ops h) a)
 
 -- byte 0 opens a view of the published value
-view-opened : (m : Manager) (may below last : Bool) (v : List ℕ) → is_some (got_if may below last m.buffer 0 (Some v)) ≡ true
+view-opened : (m : SyncManager) (may below last : Bool) (v : List ℕ) → is_some (got_if may below last m.buffer 0 (Some v)) ≡ true
     → IsNoneOr v (after_get m (got_if may below last m.buffer 0 (Some v))).buffer.view
 view-opened m false below last v e = absurd (let f : false ≡ true = e in cc)
 view-opened m true false last v e = absurd (let f : false ≡ true = e in cc)
 view-opened m true true true v e = inl refl
 view-opened m true true false v e = inr refl
 
-view-first : (m : Manager) → is_some (app_got m 0) ≡ true → IsNoneOr m.buffer.published (step m (AppGet 0)).buffer.view
+view-first : (m : SyncManager) → is_some (app_got m 0) ≡ true → IsNoneOr m.buffer.published (step m (AppGet 0)).buffer.view
 unfolding app_read
 view-first m e = view-opened m (may_app_get m) (nat_lt 0 (length m.buffer.published)) (0 + 1 == length m.buffer.published) m.buffer.published e
 
@@ -94,17 +94,17 @@ same-value v w true o (inr s) e = cc
 
 pub views_stay : ViewsStay
 views_stay m ops i value granted none e =
-    let n : Manager = run (step m (AppGet 0)) ops in
+    let n : SyncManager = run (step m (AppGet 0)) ops in
     same-value m.buffer.published value (is_some (app_got n (suc i))) (if suc i == 0 then Some n.buffer.published else n.buffer.view)
     (stays m.buffer.published (suc i) (Some n.buffer.published) n.buffer.view (not-zero i) (view-run m.buffer.published (step m (AppGet 0)) ops none (view-first m granted))) e
 
 -- ---- drafts
 
-draft-if : (d : List ℕ) (granted : Bool) (a b : Manager) → IsNoneOr d a.buffer.draft → IsNoneOr d b.buffer.draft → IsNoneOr d (if granted then a else b).buffer.draft
+draft-if : (d : List ℕ) (granted : Bool) (a b : SyncManager) → IsNoneOr d a.buffer.draft → IsNoneOr d b.buffer.draft → IsNoneOr d (if granted then a else b).buffer.draft
 draft-if d true a b x y = x
 draft-if d false a b x y = y
 
-draft-put : (d : List ℕ) (m : Manager) (may below last : Bool) (i x : ℕ) (o : Option (List ℕ)) → IsNoneOr d m.buffer.draft → IsNoneOr d o
+draft-put : (d : List ℕ) (m : SyncManager) (may below last : Bool) (i x : ℕ) (o : Option (List ℕ)) → IsNoneOr d m.buffer.draft → IsNoneOr d o
     → IsNoneOr (if is_some (put_if may below last m i x o) then slice_set d i x else d) (unwrap_or (put_if may below last m i x o) m).buffer.draft
 draft-put d m false below last i x o a k = a
 draft-put d m true false last i x o a k = a
@@ -113,7 +113,7 @@ draft-put d m true true true i x (Some w) a k = inl refl
 draft-put d m true true false i x (Some w) a (inl n) = absurd (none_some w (sym n))
 draft-put d m true true false i x (Some w) a (inr s) = let same : w ≡ d = cc in inr (rw same refl)
 
-draft-got : (d : List ℕ) (m : Manager) (may below last : Bool) (i : ℕ) (o : Option (List ℕ)) → IsNoneOr d m.buffer.draft
+draft-got : (d : List ℕ) (m : SyncManager) (may below last : Bool) (i : ℕ) (o : Option (List ℕ)) → IsNoneOr d m.buffer.draft
     → IsNoneOr d (after_get m (got_if may below last m.buffer i o)).buffer.draft
 draft-got d m false below last i o a = a
 draft-got d m true false last i o a = a
@@ -121,18 +121,18 @@ draft-got d m true true last i None a = a
 draft-got d m true true true i (Some w) a = a
 draft-got d m true true false i (Some w) a = a
 
-draft-step_get : (d : List ℕ) (m : Manager) (i : ℕ) → IsNoneOr d m.buffer.draft → IsNoneOr d (step m (AppGet i)).buffer.draft
+draft-step_get : (d : List ℕ) (m : SyncManager) (i : ℕ) → IsNoneOr d m.buffer.draft → IsNoneOr d (step m (AppGet i)).buffer.draft
 unfolding app_read
 draft-step_get d m i a = draft-got d m (may_app_get m) (nat_lt i (length m.buffer.published)) (i + 1 == length m.buffer.published) i (if i == 0 then Some m.buffer.published else m.buffer.view) a
 
-draft-step_put : (d : List ℕ) (m : Manager) (i x : ℕ) → ¬ (i ≡ 0) → IsNoneOr d m.buffer.draft
+draft-step_put : (d : List ℕ) (m : SyncManager) (i x : ℕ) → ¬ (i ≡ 0) → IsNoneOr d m.buffer.draft
     → IsNoneOr (if is_some (app_put m i x) then slice_set d i x else d) (step m (AppPut i x)).buffer.draft
 unfolding app_written
 draft-step_put d m i x ne a =
     draft-put d m (may_app_put m) (nat_lt i (length m.buffer.published)) (i + 1 == length m.buffer.published) i x (draft_for m i) a
     (stays d i (Some (zeros (length m.buffer.published))) m.buffer.draft ne a)
 
-draft-run : (d : List ℕ) (m : Manager) (ops : List Operation) → All OpensNoDraft ops → IsNoneOr d m.buffer.draft → IsNoneOr (with_puts m ops d) (run m ops).buffer.draft
+draft-run : (d : List ℕ) (m : SyncManager) (ops : List Operation) → All OpensNoDraft ops → IsNoneOr d m.buffer.draft → IsNoneOr (with_puts m ops d) (run m ops).buffer.draft
 draft-run d m [] h a = a
 draft-run d m (Configure settings ∷ ops) h a = draft-run d (step m (Configure settings)) ops (All-tail OpensNoDraft _ ops h) (inl refl)
 draft-run d m (Lock locked ∷ ops) h a = draft-run d (step m (Lock locked)) ops (All-tail OpensNoDraft _ ops h) a
@@ -151,14 +151,14 @@ draft-run d m (MessagePut message ∷ ops) h a = draft-run d (step m (MessagePut
     (draft-if d (may_put_message m (length message)) (record m { mail = Some (padded m message) }) m a a)
 
 -- byte 0 opens a draft of zeros
-draft-opened : (m : Manager) (may below last : Bool) (x : ℕ) (z : List ℕ) → is_some (put_if may below last m 0 x (Some z)) ≡ true
+draft-opened : (m : SyncManager) (may below last : Bool) (x : ℕ) (z : List ℕ) → is_some (put_if may below last m 0 x (Some z)) ≡ true
     → IsNoneOr (slice_set z 0 x) (unwrap_or (put_if may below last m 0 x (Some z)) m).buffer.draft
 draft-opened m false below last x z e = absurd (let f : false ≡ true = e in cc)
 draft-opened m true false last x z e = absurd (let f : false ≡ true = e in cc)
 draft-opened m true true true x z e = inl refl
 draft-opened m true true false x z e = inr refl
 
-draft-first : (m : Manager) (x : ℕ) → is_some (app_put m 0 x) ≡ true → IsNoneOr (slice_set (zeros (length m.buffer.published)) 0 x) (step m (AppPut 0 x)).buffer.draft
+draft-first : (m : SyncManager) (x : ℕ) → is_some (app_put m 0 x) ≡ true → IsNoneOr (slice_set (zeros (length m.buffer.published)) 0 x) (step m (AppPut 0 x)).buffer.draft
 unfolding app_written
 draft-first m x e = draft-opened m (may_app_put m) (nat_lt 0 (length m.buffer.published)) (0 + 1 == length m.buffer.published) x (zeros (length m.buffer.published)) e
 
@@ -171,7 +171,7 @@ same-draft d w i y true (Some f) (inr s) e = let same : f ≡ d = cc in let valu
 pub drafts_are_the_bytes_put : DraftsAreTheBytesPut
 unfolding DraftsAreTheBytesPut
 drafts_are_the_bytes_put m ops x i y value granted none e =
-    let n : Manager = run (step m (AppPut 0 x)) ops in
+    let n : SyncManager = run (step m (AppPut 0 x)) ops in
     let d : List ℕ = slice_set (zeros (length m.buffer.published)) 0 x in
     same-draft (with_puts (step m (AppPut 0 x)) ops d) value (suc i) y (is_some (app_put n (suc i) y) && (suc i + 1 == length n.buffer.published)) (draft_for n (suc i))
     (stays (with_puts (step m (AppPut 0 x)) ops d) (suc i) (Some (zeros (length n.buffer.published))) n.buffer.draft (not-zero i)

@@ -2,7 +2,7 @@
 use Rattle.std.proofs.Common.{ℕ, zero, suc, ◌+◌, ◌*◌, ◌/◌, ◌%◌, ◌<◌, ◌≡◌, slice_index, refl, sym, arith}
 use Rattle.ec_bits.proofs.AnyLaws.{if_true}
 use Rattle.ec_regs.specs.Managers.{manager_bytes}
-use Rattle.ec_sync.specs.Manager.{Manager}
+use Rattle.ec_sync.specs.SyncManager.{SyncManager}
 use Rattle.ec_sync.specs.Governing.{manager_byte}
 use Rattle.ec_sync.specs.Runs.{RegistersReadBack, CallsAreSteps}
 use Rattle.ec_sync.proofs.AllBytes.{all_put, all_got}
@@ -10,7 +10,7 @@ use Rattle.ec_sync.proofs.AllBytes.{all_put, all_got}
 low_and_high : (n : ℕ) → n % 256 + 256 * (n / 256) ≡ n
 low_and_high n = omega arith
 
-bytes_of : (m : Manager) (k : ℕ) → k < 8 → ¬ (k ≡ 5) → ¬ (k ≡ 7) → manager_byte m k ≡ slice_index (manager_bytes m.settings) k
+bytes_of : (m : SyncManager) (k : ℕ) → k < 8 → ¬ (k ≡ 5) → ¬ (k ≡ 7) → manager_byte m k ≡ slice_index (manager_bytes m.settings) k
 bytes_of m zero below five seven = refl
 bytes_of m (suc zero) below five seven = refl
 bytes_of m (suc (suc zero)) below five seven = refl

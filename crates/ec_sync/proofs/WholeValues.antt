@@ -4,11 +4,11 @@ use Rattle.std.specs.List.{Contains}
 use Rattle.std.proofs.lemmas.List.Elements.{Contains-append_left, Contains-push}
 use Rattle.ec_bits.specs.Bits.{zeros}
 use Rattle.ec_sync.specs.Buffer.{Buffer, Got, app_written, app_read, publishing}
-use Rattle.ec_sync.specs.Manager.{Manager, no_manager, buffer_length, may_write, may_read, may_app_put, may_app_get, app_got, after_get, message_in, may_put_message, padded, is_enabled}
+use Rattle.ec_sync.specs.SyncManager.{SyncManager, no_manager, buffer_length, may_write, may_read, may_app_put, may_app_get, app_got, after_get, message_in, may_put_message, padded, is_enabled}
 use Rattle.ec_sync.specs.Runs.{Operation, Configure, Lock, Empty, PublishZeros, RingWrite, RingRead, AppPut, AppGet, MessageTake, MessagePut, step, run, draft_for, only, publications, history, shown_by, OnlyWholeValues, BytesOfTheView}
 
 -- all that a reader could get is in the history
-pub record Known (h : List (List ℕ)) (m : Manager) : Type 0 where
+pub record Known (h : List (List ℕ)) (m : SyncManager) : Type 0 where
   pub published : Contains h m.buffer.published
   pub view : (v : List ℕ) → m.buffer.view ≡ Some v → Contains h v
   pub mail : (v : List ℕ) → m.mail ≡ Some v → Contains h v
@@ -22,7 +22,7 @@ nothing h v e = absurd (none_some v e)
 some_same : (a b : List ℕ) → Some a ≡ Some b → a ≡ b
 some_same a b e = cc
 
-known-more : (h k : List (List ℕ)) (m : Manager) → Known h m → Known (h ++ k) m
+known-more : (h k : List (List ℕ)) (m : SyncManager) → Known h m → Known (h ++ k) m
 known-more h k m a = record {
   published = Contains-append_left h k m.buffer.published a.published;
   view = λ v e. Contains-append_left h k v (a.view v e);
@@ -33,49 +33,49 @@ known-more h k m a = record {
 pushed : (h : List (List ℕ)) (w v : List ℕ) → Some w ≡ Some v → Contains (h ++ w ∷ []) v
 pushed h w v e = subst (λ (x : List ℕ). Contains (h ++ w ∷ []) x) (some_same w v e) (Contains-push h w)
 
-known-emptied : (h : List (List ℕ)) (m : Manager) (n : ℕ) → m.buffer.published ≡ zeros n → m.buffer.view ≡ None → m.mail ≡ None → Known (h ++ zeros n ∷ []) m
+known-emptied : (h : List (List ℕ)) (m : SyncManager) (n : ℕ) → m.buffer.published ≡ zeros n → m.buffer.view ≡ None → m.mail ≡ None → Known (h ++ zeros n ∷ []) m
 known-emptied h m n p a b = record {
   published = subst (λ (x : List ℕ). Contains (h ++ zeros n ∷ []) x) (sym p) (Contains-push h (zeros n));
   view = λ v e. absurd (let f : None ≡ Some v = cc in none_some v f);
   mail = λ v e. absurd (let f : None ≡ Some v = cc in none_some v f);
 }
 
-known-publishing : (h : List (List ℕ)) (m : Manager) (w : List ℕ) → Known h m → Known (h ++ w ∷ []) (record m { buffer = publishing m.buffer w })
+known-publishing : (h : List (List ℕ)) (m : SyncManager) (w : List ℕ) → Known h m → Known (h ++ w ∷ []) (record m { buffer = publishing m.buffer w })
 known-publishing h m w a = record {
   published = Contains-push h w;
   view = λ v e. Contains-append_left h (w ∷ []) v (a.view v e);
   mail = λ v e. Contains-append_left h (w ∷ []) v (a.mail v e);
 }
 
-known-mail : (h : List (List ℕ)) (m : Manager) (w : List ℕ) → Known h m → Known (h ++ w ∷ []) (record m { mail = Some w })
+known-mail : (h : List (List ℕ)) (m : SyncManager) (w : List ℕ) → Known h m → Known (h ++ w ∷ []) (record m { mail = Some w })
 known-mail h m w a = record {
   published = Contains-append_left h (w ∷ []) m.buffer.published a.published;
   view = λ v e. Contains-append_left h (w ∷ []) v (a.view v e);
   mail = λ v e. pushed h w v e;
 }
 
-known-no_mail : (h : List (List ℕ)) (m : Manager) → Known h m → Known h (record m { mail = None })
+known-no_mail : (h : List (List ℕ)) (m : SyncManager) → Known h m → Known h (record m { mail = None })
 known-no_mail h m a = record { published = a.published; view = a.view; mail = λ v e. nothing h v e }
 
-known-stored : (h : List (List ℕ)) (m : Manager) (w : List ℕ) (is_mail : Bool) → Known h m
+known-stored : (h : List (List ℕ)) (m : SyncManager) (w : List ℕ) (is_mail : Bool) → Known h m
     → Known (h ++ w ∷ []) (if is_mail then record m { mail = Some w } else record m { buffer = publishing m.buffer w })
 known-stored h m w true a = known-mail h m w a
 known-stored h m w false a = known-publishing h m w a
 
-known-written : (h : List (List ℕ)) (m : Manager) (w : List ℕ) (granted is_mail : Bool) → Known h m
+known-written : (h : List (List ℕ)) (m : SyncManager) (w : List ℕ) (granted is_mail : Bool) → Known h m
     → Known (h ++ (if granted then w ∷ [] else [])) (if granted then (if is_mail then record m { mail = Some w } else record m { buffer = publishing m.buffer w }) else m)
 known-written h m w true is_mail a = known-stored h m w is_mail a
 known-written h m w false is_mail a = known-more h [] m a
 
-known-emptied_mail : (h : List (List ℕ)) (m : Manager) (is_mail : Bool) → Known h m → Known (h ++ []) (if is_mail then record m { mail = None } else m)
+known-emptied_mail : (h : List (List ℕ)) (m : SyncManager) (is_mail : Bool) → Known h m → Known (h ++ []) (if is_mail then record m { mail = None } else m)
 known-emptied_mail h m true a = known-more h [] _ (known-no_mail h m a)
 known-emptied_mail h m false a = known-more h [] m a
 
-known-read : (h : List (List ℕ)) (m : Manager) (granted is_mail : Bool) → Known h m → Known (h ++ []) (if granted then (if is_mail then record m { mail = None } else m) else m)
+known-read : (h : List (List ℕ)) (m : SyncManager) (granted is_mail : Bool) → Known h m → Known (h ++ []) (if granted then (if is_mail then record m { mail = None } else m) else m)
 known-read h m true is_mail a = known-emptied_mail h m is_mail a
 known-read h m false is_mail a = known-more h [] m a
 
-known-message : (h : List (List ℕ)) (m : Manager) (w : List ℕ) (granted : Bool) → Known h m
+known-message : (h : List (List ℕ)) (m : SyncManager) (w : List ℕ) (granted : Bool) → Known h m
     → Known (h ++ (if granted then w ∷ [] else [])) (if granted then record m { mail = Some w } else m)
 known-message h m w true a = known-mail h m w a
 known-message h m w false a = known-more h [] m a
@@ -89,13 +89,13 @@ abbrev pub draft_next_if : Bool → Buffer → ℕ → ℕ → Option (List ℕ)
 draft_next_if last b i x None = None
 draft_next_if last b i x (Some d) = Some (drafted_if last b (slice_set d i x))
 
-abbrev pub put_if : Bool → Bool → Bool → Manager → ℕ → ℕ → Option (List ℕ) → Option Manager
+abbrev pub put_if : Bool → Bool → Bool → SyncManager → ℕ → ℕ → Option (List ℕ) → Option SyncManager
 put_if may below last m i x d = if may then option_map (λ b. record m { buffer = b }) (if below then draft_next_if last m.buffer i x d else None) else None
 
-abbrev pub closed_if : Bool → Bool → Bool → Manager → ℕ → ℕ → Option (List ℕ) → Option (List ℕ)
+abbrev pub closed_if : Bool → Bool → Bool → SyncManager → ℕ → ℕ → Option (List ℕ) → Option (List ℕ)
 closed_if may below last m i x d = if is_some (put_if may below last m i x d) && last then option_map (λ e. slice_set e i x) d else None
 
-known-put : (h : List (List ℕ)) (m : Manager) (may below last : Bool) (i x : ℕ) (d : Option (List ℕ)) → Known h m
+known-put : (h : List (List ℕ)) (m : SyncManager) (may below last : Bool) (i x : ℕ) (d : Option (List ℕ)) → Known h m
     → Known (h ++ only (closed_if may below last m i x d)) (unwrap_or (put_if may below last m i x d) m)
 known-put h m false below last i x d a = known-more h [] m a
 known-put h m true false last i x d a = known-more h [] m a
@@ -114,7 +114,7 @@ view_next_if last b i (Some v) = Some (record { byte = slice_index v i; buffer =
 abbrev pub got_if : Bool → Bool → Bool → Buffer → ℕ → Option (List ℕ) → Option Got
 got_if may below last b i d = if may then (if below then view_next_if last b i d else None) else None
 
-known-got : (h : List (List ℕ)) (m : Manager) (may below last : Bool) (i : ℕ) (d : Option (List ℕ)) → Known h m → ((v : List ℕ) → d ≡ Some v → Contains h v)
+known-got : (h : List (List ℕ)) (m : SyncManager) (may below last : Bool) (i : ℕ) (d : Option (List ℕ)) → Known h m → ((v : List ℕ) → d ≡ Some v → Contains h v)
     → Known (h ++ []) (after_get m (got_if may below last m.buffer i d))
 known-got h m false below last i d a k = known-more h [] m a
 known-got h m true false last i d a k = known-more h [] m a
@@ -123,21 +123,21 @@ known-got h m true true true i (Some w) a k = known-more h [] _ (record { publis
 known-got h m true true false i (Some w) a k = known-more h [] _ (record { published = a.published; view = λ v e. k v e; mail = a.mail })
 
 -- the value that a byte is read of
-known-viewed : (h : List (List ℕ)) (m : Manager) (first : Bool) (v : List ℕ) → Known h m → (if first then Some m.buffer.published else m.buffer.view) ≡ Some v → Contains h v
+known-viewed : (h : List (List ℕ)) (m : SyncManager) (first : Bool) (v : List ℕ) → Known h m → (if first then Some m.buffer.published else m.buffer.view) ≡ Some v → Contains h v
 known-viewed h m true v a e = subst (λ (x : List ℕ). Contains h x) (some_same m.buffer.published v e) a.published
 known-viewed h m false v a e = a.view v e
 
 -- ---- each step
 
-known-step_put : (h : List (List ℕ)) (m : Manager) (i x : ℕ) → Known h m → Known (h ++ publications m (AppPut i x)) (step m (AppPut i x))
+known-step_put : (h : List (List ℕ)) (m : SyncManager) (i x : ℕ) → Known h m → Known (h ++ publications m (AppPut i x)) (step m (AppPut i x))
 unfolding app_written
 known-step_put h m i x a = known-put h m (may_app_put m) (nat_lt i (length m.buffer.published)) (i + 1 == length m.buffer.published) i x (draft_for m i) a
 
-known-step_get : (h : List (List ℕ)) (m : Manager) (i : ℕ) → Known h m → Known (h ++ publications m (AppGet i)) (step m (AppGet i))
+known-step_get : (h : List (List ℕ)) (m : SyncManager) (i : ℕ) → Known h m → Known (h ++ publications m (AppGet i)) (step m (AppGet i))
 unfolding app_read
 known-step_get h m i a = known-got h m (may_app_get m) (nat_lt i (length m.buffer.published)) (i + 1 == length m.buffer.published) i (if i == 0 then Some m.buffer.published else m.buffer.view) a (λ v e. known-viewed h m (i == 0) v a e)
 
-pub known-step : (h : List (List ℕ)) (m : Manager) (o : Operation) → Known h m → Known (h ++ publications m o) (step m o)
+pub known-step : (h : List (List ℕ)) (m : SyncManager) (o : Operation) → Known h m → Known (h ++ publications m o) (step m o)
 known-step h m (Configure settings) a = known-emptied h _ (buffer_length settings) refl refl refl
 known-step h m (Lock locked) a = known-more h [] _ (record { published = a.published; view = a.view; mail = a.mail })
 known-step h m Empty a = known-emptied h _ (buffer_length m.settings) refl refl refl
@@ -149,7 +149,7 @@ known-step h m (AppGet i) a = known-step_get h m i a
 known-step h m MessageTake a = known-emptied_mail h m (is_some (message_in m)) a
 known-step h m (MessagePut message) a = known-message h m (padded m message) (may_put_message m (length message)) a
 
-pub known-run : (h : List (List ℕ)) (m : Manager) (ops : List Operation) → Known h m → Known (h ++ history m ops) (run m ops)
+pub known-run : (h : List (List ℕ)) (m : SyncManager) (ops : List Operation) → Known h m → Known (h ++ history m ops) (run m ops)
 known-run h m [] a = known-more h [] m a
 known-run h m (o ∷ ops) a =
     subst (λ (k : List (List ℕ)). Known k (run (step m o) ops)) (append_assoc h (publications m o) (history (step m o) ops))
@@ -157,7 +157,7 @@ known-run h m (o ∷ ops) a =
 
 -- ---- what is shown
 
-known-shown : (h : List (List ℕ)) (m : Manager) (covered enabled ring is_mail : Bool) (mail : Option (List ℕ)) (v : List ℕ) → Contains h m.buffer.published → ((w : List ℕ) → mail ≡ Some w → Contains h w)
+known-shown : (h : List (List ℕ)) (m : SyncManager) (covered enabled ring is_mail : Bool) (mail : Option (List ℕ)) (v : List ℕ) → Contains h m.buffer.published → ((w : List ℕ) → mail ≡ Some w → Contains h w)
     → (if covered && (enabled && (ring && (if is_mail then is_some mail else true))) then Some (if is_mail then unwrap_or mail [] else m.buffer.published) else None) ≡ Some v → Contains h v
 known-shown h m false enabled ring is_mail mail v a k e = nothing h v e
 known-shown h m true false ring is_mail mail v a k e = nothing h v e
@@ -170,7 +170,7 @@ known-if : (h : List (List ℕ)) (granted : Bool) (o : Option (List ℕ)) (v : L
 known-if h true o v k e = k v e
 known-if h false o v k e = nothing h v e
 
-known-shown_by : (h : List (List ℕ)) (m : Manager) (o : Operation) (v : List ℕ) → Known h m → shown_by m o ≡ Some v → Contains h v
+known-shown_by : (h : List (List ℕ)) (m : SyncManager) (o : Operation) (v : List ℕ) → Known h m → shown_by m o ≡ Some v → Contains h v
 known-shown_by h m (Configure settings) v a e = nothing h v e
 known-shown_by h m (Lock locked) v a e = nothing h v e
 known-shown_by h m Empty v a e = nothing h v e

@@ -2,7 +2,7 @@
 -- isn't written, and a read empties it).
 use Rattle.std.specs.Prelude.{ℕ, ◌&&◌, ◌≡◌, List, [], ◌∷◌, ◌++◌, length, if◌then◌else◌, Option, Some, None, option_map}
 use Rattle.ec_regs.specs.Managers.{is_mailbox}
-use Rattle.ec_sync.specs.Manager.{Manager, no_manager, may_write, padded, may_put_message}
+use Rattle.ec_sync.specs.SyncManager.{SyncManager, no_manager, may_write, padded, may_put_message}
 use Rattle.ec_sync.specs.Runs.{Operation, Configure, Empty, RingWrite, RingRead, MessageTake, MessagePut, step, shown_by}
 
 pub data MailEvent : Type 0 where
@@ -14,7 +14,7 @@ pub data MailEvent : Type 0 where
   Cleared : MailEvent
 
 -- what an operation does to the message of a mailbox, if anything
-abbrev pub mail_event : Manager → Operation → Option MailEvent
+abbrev pub mail_event : SyncManager → Operation → Option MailEvent
 mail_event m (Configure settings) = Some Cleared
 mail_event m Empty = Some Cleared
 mail_event m (RingWrite covered value) = if is_mailbox m.settings && (covered && may_write m) then Some (Put value) else None
@@ -28,7 +28,7 @@ added None events = events
 added (Some e) events = e ∷ events
 
 -- all of a run, in order
-abbrev pub mail_events : Manager → List Operation → List MailEvent
+abbrev pub mail_events : SyncManager → List Operation → List MailEvent
 mail_events m [] = []
 mail_events m (o ∷ ops) = added (mail_event m o) (mail_events (step m o) ops)
 

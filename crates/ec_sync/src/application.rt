@@ -1,23 +1,23 @@
 //! Bytes of the slave's application.
 
 ghost use Rattle.std.specs.Prelude.{◌≡◌, true, length, None, is_some, unwrap_or, option_map};
-ghost use Rattle.ec_sync.specs.Manager.{may_app_put as application_may_put, may_app_get as application_may_get, app_put as put_by_application, app_got, after_get};
+ghost use Rattle.ec_sync.specs.SyncManager.{may_app_put as application_may_put, may_app_get as application_may_get, app_put as put_by_application, app_got, after_get};
 
-use crate::manager::Manager;
+use crate::manager::SyncManager;
 
-impl Manager {
+impl SyncManager {
     /// Whether the application may write: an enabled buffered manager that the ring reads.
     pub fn may_app_put(&self) -> bool
         ensures { result ≡ application_may_put self.now }
     {
-        self.is_enabled() && self.settings.is_buffered() && self.settings.is_ring_read()
+        self.is_enabled() && self.settings.is_buffered() && self.settings.is_master_read()
     }
 
     /// Whether the application may read: an enabled buffered manager that the ring writes.
     pub fn may_app_get(&self) -> bool
         ensures { result ≡ application_may_get self.now }
     {
-        self.is_enabled() && self.settings.is_buffered() && self.settings.is_ring_written()
+        self.is_enabled() && self.settings.is_buffered() && self.settings.is_master_written()
     }
 
     /// The application writes byte `place`: byte 0 opens a draft of zeros, the last byte publishes it. False, and nothing

@@ -3,7 +3,7 @@
 ghost use Rattle.std.specs.Prelude.{◌≡◌};
 ghost use Rattle.ec_sync.specs.Bounds.{bounds_of};
 
-use ec_regs::ManagerSettings;
+use ec_regs::SyncManagerSettings;
 
 /// Where the bytes of a manager lie in the memory, decoded from its settings. The bytes that it governs are those from
 /// `first` on and below `span_end`: none where it isn't set.
@@ -21,7 +21,7 @@ pub struct Bounds {
 
 impl Bounds {
     /// Where the bytes of a manager lie that has these settings.
-    pub fn of(settings: ManagerSettings) -> Self
+    pub fn of(settings: SyncManagerSettings) -> Self
         ensures { result ≡ bounds_of settings }
     {
         let first = settings.start as usize;

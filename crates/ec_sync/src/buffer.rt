@@ -11,7 +11,7 @@ use std::marker::Model;
 use std::mem;
 
 /// The longest value: three of them fit into the RAM.
-const LONGEST: usize = 2730;
+const MAX_LENGTH: usize = 2730;
 
 /// The published value, a writer's draft and a reader's view, each in storage that every configuration fits.
 #[derive(Drop)]
@@ -48,10 +48,10 @@ impl Buffer {
     {
         Ok(Buffer {
             len: 0,
-            published: vec![in alloc; 0; LONGEST]?,
-            draft: vec![in alloc; 0; LONGEST]?,
+            published: vec![in alloc; 0; MAX_LENGTH]?,
+            draft: vec![in alloc; 0; MAX_LENGTH]?,
             is_drafting: false,
-            seen: vec![in alloc; 0; LONGEST]?,
+            seen: vec![in alloc; 0; MAX_LENGTH]?,
             is_viewing: false,
         })
     }

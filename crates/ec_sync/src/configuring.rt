@@ -1,16 +1,16 @@
 //! Settings, the deactivate bit, and what empties a manager.
 
 ghost use Rattle.std.specs.Prelude.{◌≡◌, ◌≤◌};
-ghost use Rattle.ec_sync.specs.Manager.{buffer_length as buffer_length_of, empty_manager, zeros_published};
+ghost use Rattle.ec_sync.specs.SyncManager.{buffer_length as buffer_length_of, empty_manager, zeros_published};
 
 use crate::bounds::Bounds;
-use crate::manager::Manager;
-use ec_regs::ManagerSettings;
+use crate::manager::SyncManager;
+use ec_regs::SyncManagerSettings;
 
-impl Manager {
+impl SyncManager {
     /// A ring write to its settings: it takes them and is empty, also where they are what they were. It stays locked or
     /// not.
-    pub fn configure(&mut self, settings: ManagerSettings)
+    pub fn configure(&mut self, settings: SyncManagerSettings)
         ensures { self.new ≡ empty_manager settings self.old.locked }
     {
         self.settings = settings;
@@ -45,7 +45,7 @@ impl Manager {
 
 /// How long the published value is: 0 where it isn't a set buffered manager.
 #[tactic(auto, unfolding(ec_regs::specs::Managers::is_set))]
-fn buffer_length(settings: ManagerSettings) -> usize
+fn buffer_length(settings: SyncManagerSettings) -> usize
     ensures value { result ≡ buffer_length_of settings }
     ensures small { result ≤ 2730 }
 {

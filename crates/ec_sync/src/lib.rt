@@ -1,6 +1,6 @@
 //! Sync managers: what lies between the frames on the ring and a slave's own side (ETG.1000.4, "Sync manager").
 //!
-//! A `Manager` is a buffered value, which is only ever seen whole, or a mailbox, which holds one message.
+//! A `SyncManager` is a buffered value, which is only ever seen whole, or a mailbox, which holds one message.
 #![tactic(auto)]
 
 mod application;
@@ -16,5 +16,5 @@ mod sound;
 mod touching;
 
 pub use crate::bounds::Bounds;
-pub use crate::manager::Manager;
+pub use crate::manager::SyncManager;
 pub use crate::touching::{Reach, Touching, Writing};

@@ -10,7 +10,7 @@ use std::alloc::{AllocError, Global};
 use std::marker::Model;
 
 /// The longest mailbox: all of the RAM.
-const LONGEST: usize = 8192;
+const MAX_LENGTH: usize = 8192;
 
 /// A message or none, in storage that every configuration fits.
 #[derive(Drop)]
@@ -36,7 +36,7 @@ impl Mail {
         ensures { IfOk result (λ m. m ≡ None) }
     {
         Ok(Mail {
-            storage: vec![in alloc; 0; LONGEST]?,
+            storage: vec![in alloc; 0; MAX_LENGTH]?,
             len: 0,
             is_full: false,
         })

@@ -3,11 +3,11 @@
 ghost use Rattle.std.specs.Prelude.{◌≡◌, length, is_some};
 ghost use Rattle.std.specs.Bool.{OnTrue};
 ghost use Rattle.std.specs.Option.{option_copied};
-ghost use Rattle.ec_sync.specs.Manager.{message_in, message_taken, LiesInRam, may_put_message as firmware_may_put, message_put};
+ghost use Rattle.ec_sync.specs.SyncManager.{message_in, message_taken, LiesInRam, may_put_message as firmware_may_put, message_put};
 
-use crate::manager::Manager;
+use crate::manager::SyncManager;
 
-impl Manager {
+impl SyncManager {
     /// The message in a full mailbox that the ring writes. `None` exactly where it is denied: it must be an enabled
     /// mailbox of that direction, and full.
     pub fn message(&self) -> Option<&[u8]>
@@ -15,7 +15,7 @@ impl Manager {
     {
         if self.is_enabled()
             && self.settings.is_mailbox()
-            && self.settings.is_ring_written()
+            && self.settings.is_master_written()
             && self.mail.is_full()
         {
             Some(self.mail.message())
@@ -45,7 +45,7 @@ impl Manager {
     {
         self.is_enabled()
             && self.settings.is_mailbox()
-            && self.settings.is_ring_read()
+            && self.settings.is_master_read()
             && !self.mail.is_full()
             && len <= self.settings.length as usize
     }

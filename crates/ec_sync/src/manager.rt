@@ -4,30 +4,30 @@ ghost use Rattle.std.specs.Prelude.{◌≡◌, ◌-◌, ◌<◌, ◌≤◌, leng
 ghost use Rattle.std.specs.Bool.{OnTrue};
 ghost use Rattle.ec_bits.specs.Bits.{within};
 ghost use Rattle.ec_regs.specs.Managers.{is_set as is_set_of};
-ghost use Rattle.ec_sync.specs.Manager.{buffer_length as buffer_length_of, no_manager, LiesInRam, is_enabled as is_enabled_of, may_read as may_be_read, may_write as may_be_written, shown as value_shown};
+ghost use Rattle.ec_sync.specs.SyncManager.{buffer_length as buffer_length_of, no_manager, LiesInRam, is_enabled as is_enabled_of, may_read as may_be_read, may_write as may_be_written, shown as value_shown};
 ghost use Rattle.ec_sync.specs.Bounds.{bounds_of};
 ghost use Rattle.ec_sync.specs.Governing.{governs as governs_byte, covers, in_first_buffer as lies_in_first_buffer, manager_byte, shown_byte as byte_shown};
 
 use crate::bounds::Bounds;
 use crate::buffer::Buffer;
 use crate::mail::Mail;
-use ec_regs::ManagerSettings;
+use ec_regs::SyncManagerSettings;
 use std::alloc::{AllocError, Global};
 use std::marker::Model;
 
 /// A sync manager: its settings, whether it is locked, and what it holds.
 #[derive(Drop)]
-pub struct Manager {
-    pub(crate) settings: ManagerSettings,
+pub struct SyncManager {
+    pub(crate) settings: SyncManagerSettings,
     pub(crate) bounds: Bounds,
     pub(crate) is_locked: bool,
     pub(crate) buffer: Buffer,
     pub(crate) mail: Mail,
 }
 
-impl Model for Manager {
+impl Model for SyncManager {
     ghost use Rattle.std.specs.Prelude.{◌≡◌, length};
-    ghost use Rattle.ec_sync.specs.Manager.{Manager as ManagerState, buffer_length};
+    ghost use Rattle.ec_sync.specs.SyncManager.{SyncManager as ManagerState, buffer_length};
     ghost use Rattle.ec_sync.specs.Bounds.{bounds_of};
 
     ghost Value = { ManagerState };
@@ -39,18 +39,18 @@ impl Model for Manager {
         (length m.buffer.published ≡ buffer_length m.settings) × (m.bounds ≡ bounds_of m.settings) };
 }
 
-impl Manager {
+impl SyncManager {
     /// A manager as the power comes on: not set, and empty. It has room for every configuration, so that no other call
     /// takes memory.
     ///
     /// # Errors
     ///
     /// `AllocError` where there is no memory.
-    pub fn new(alloc: Global) -> Result<Manager, AllocError>
+    pub fn new(alloc: Global) -> Result<SyncManager, AllocError>
         ensures { IfOk result (λ m. m ≡ no_manager) }
     {
-        let settings = ManagerSettings::none();
-        Ok(Manager {
+        let settings = SyncManagerSettings::none();
+        Ok(SyncManager {
             settings,
             bounds: Bounds::of(settings),
             is_locked: false,
@@ -60,7 +60,7 @@ impl Manager {
     }
 
     /// Its settings.
-    pub fn settings(&self) -> ManagerSettings
+    pub fn settings(&self) -> SyncManagerSettings
         ensures { result ≡ self.now.settings }
     {
         self.settings
@@ -113,7 +113,7 @@ impl Manager {
         ensures inside { OnTrue result (LiesInRam self.now.settings) }
     {
         self.is_enabled()
-            && self.settings.is_ring_read()
+            && self.settings.is_master_read()
             && (!self.settings.is_mailbox() || self.mail.is_full())
     }
 
@@ -124,7 +124,7 @@ impl Manager {
         ensures inside { OnTrue result (LiesInRam self.now.settings) }
     {
         self.is_enabled()
-            && self.settings.is_ring_written()
+            && self.settings.is_master_written()
             && (!self.settings.is_mailbox() || !self.mail.is_full())
     }
 

@@ -2,13 +2,13 @@
 
 ghost use Rattle.std.specs.Prelude.{◌≡◌, ◌&&◌, true};
 ghost use Rattle.ec_regs.specs.Managers.{is_set};
-ghost use Rattle.ec_sync.specs.Manager.{LiesInRam, may_read, may_write, ring_written};
+ghost use Rattle.ec_sync.specs.SyncManager.{LiesInRam, may_read, may_write, ring_written};
 ghost use Rattle.ec_sync.specs.Governing.{covers, after_ring_write, after_ring_read};
 
-use crate::manager::Manager;
+use crate::manager::SyncManager;
 use crate::touching::{Touching, Writing};
 
-impl Manager {
+impl SyncManager {
     /// A datagram writes: a mailbox is full then, a buffered manager has published a whole value. False, and nothing
     /// changes, exactly where it is denied: it must touch the first and the last byte of an enabled manager that the
     /// ring writes, and of a mailbox that is empty.

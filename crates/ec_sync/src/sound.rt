@@ -2,9 +2,9 @@
 
 ghost use Rattle.ec_sync.specs.Sound.{IsManager};
 
-use crate::manager::Manager;
+use crate::manager::SyncManager;
 
-impl Manager {
+impl SyncManager {
     /// Does nothing. Its contract says what holds of every manager: the lengths of its values.
     pub fn is_sound(&self)
         ensures { IsManager self.now }

@@ -1,12 +1,12 @@
 ghost use Rattle.std.specs.Prelude.{◌==◌, ◌||◌, ◌+◌, ◌-◌, length, slice_range};
 ghost use Rattle.ec_bits.specs.Bits.{within, zeros};
 
-use ec_regs::{CONTROL_INPUTS, CONTROL_MAILBOX_IN, ManagerSettings};
-use ec_sync::{Manager, Reach, Touching, Writing};
+use ec_regs::{CONTROL_INPUTS, CONTROL_MAILBOX_IN, SyncManagerSettings};
+use ec_sync::{Reach, SyncManager, Touching, Writing};
 use std::test::Fail;
 
 /// Two buffered bytes at 0x1100 that the ring writes.
-const OUTPUTS: ManagerSettings = ManagerSettings {
+const OUTPUTS: SyncManagerSettings = SyncManagerSettings {
     start: 0x1100,
     length: 2,
     control: 0x24,
@@ -14,7 +14,7 @@ const OUTPUTS: ManagerSettings = ManagerSettings {
 };
 
 /// The same for the ring to read.
-const INPUTS: ManagerSettings = ManagerSettings {
+const INPUTS: SyncManagerSettings = SyncManagerSettings {
     start: 0x1100,
     length: 2,
     control: 0x20,
@@ -82,7 +82,7 @@ impl Writing for Ends {
 
 #[test]
 fn outputs_row_by_row(rt: HostRuntime) -> Result<(), Fail> {
-    let mut manager = Manager::new(rt.alloc())?;
+    let mut manager = SyncManager::new(rt.alloc())?;
     manager.configure(OUTPUTS);
     let given = Range {
         from: 0x1100,
@@ -118,7 +118,7 @@ fn outputs_row_by_row(rt: HostRuntime) -> Result<(), Fail> {
 
 #[test]
 fn a_view_is_of_one_value(rt: HostRuntime) -> Result<(), Fail> {
-    let mut manager = Manager::new(rt.alloc())?;
+    let mut manager = SyncManager::new(rt.alloc())?;
     manager.configure(OUTPUTS);
     let old = Range {
         from: 0x1100,
@@ -141,7 +141,7 @@ fn a_view_is_of_one_value(rt: HostRuntime) -> Result<(), Fail> {
 
 #[test]
 fn a_half_written_draft_is_not_shown(rt: HostRuntime) -> Result<(), Fail> {
-    let mut manager = Manager::new(rt.alloc())?;
+    let mut manager = SyncManager::new(rt.alloc())?;
     manager.configure(INPUTS);
     assert!(rt; !manager.app_put(1, 6), "no draft is open");
     assert!(rt; manager.app_put(0, 5));
@@ -162,8 +162,8 @@ fn a_half_written_draft_is_not_shown(rt: HostRuntime) -> Result<(), Fail> {
 
 #[test]
 fn hostile_settings(rt: HostRuntime) -> Result<(), Fail> {
-    let mut manager = Manager::new(rt.alloc())?;
-    let last = ManagerSettings {
+    let mut manager = SyncManager::new(rt.alloc())?;
+    let last = SyncManagerSettings {
         start: 0x2fff,
         length: 1,
         control: 0x24,
@@ -181,8 +181,8 @@ fn hostile_settings(rt: HostRuntime) -> Result<(), Fail> {
 
 #[test]
 fn a_mailbox_of_one_byte(rt: HostRuntime) -> Result<(), Fail> {
-    let mut manager = Manager::new(rt.alloc())?;
-    let mut settings = ManagerSettings {
+    let mut manager = SyncManager::new(rt.alloc())?;
+    let mut settings = SyncManagerSettings {
         start: 0x2fff,
         length: 1,
         control: 0x26,
@@ -217,7 +217,7 @@ fn a_mailbox_of_one_byte(rt: HostRuntime) -> Result<(), Fail> {
 
 #[test]
 fn untouched_bytes_are_zero(rt: HostRuntime) -> Result<(), Fail> {
-    let mut manager = Manager::new(rt.alloc())?;
+    let mut manager = SyncManager::new(rt.alloc())?;
     let mut settings = OUTPUTS;
     settings.length = 4;
     manager.configure(settings);
@@ -238,7 +238,7 @@ fn untouched_bytes_are_zero(rt: HostRuntime) -> Result<(), Fail> {
 // All bytes at once are as one after the other: a half written draft and an open view are closed.
 #[test]
 fn all_bytes_at_once(rt: HostRuntime) -> Result<(), Fail> {
-    let mut manager = Manager::new(rt.alloc())?;
+    let mut manager = SyncManager::new(rt.alloc())?;
     manager.configure(INPUTS);
     assert!(rt; manager.app_put(0, 5));
     if manager.may_app_put() && manager.published().len() == 2 {
@@ -259,15 +259,15 @@ fn all_bytes_at_once(rt: HostRuntime) -> Result<(), Fail> {
 // New settings empty a manager, also where they are what they were, and where it wasn't set before.
 #[test]
 fn settings_written_again_empty_it(rt: HostRuntime) -> Result<(), Fail> {
-    let mut manager = Manager::new(rt.alloc())?;
-    let mailbox = ManagerSettings::of_area(0x1000, 16, CONTROL_MAILBOX_IN);
+    let mut manager = SyncManager::new(rt.alloc())?;
+    let mailbox = SyncManagerSettings::of_area(0x1000, 16, CONTROL_MAILBOX_IN);
     manager.configure(mailbox);
     assert!(rt; manager.mailbox_put(&[1, 2, 3]));
     assert_eq!(rt; manager.register(5), 8);
     manager.configure(mailbox);
     assert_eq!(rt; manager.register(5), 0);
     assert!(rt; manager.mailbox_put(&[4]));
-    manager.configure(ManagerSettings {
+    manager.configure(SyncManagerSettings {
         activate: 0,
         ..mailbox
     });
@@ -279,7 +279,7 @@ fn settings_written_again_empty_it(rt: HostRuntime) -> Result<(), Fail> {
 // The deactivate bit is kept, and read back, also where the manager isn't set.
 #[test]
 fn locked_where_it_is_not_set(rt: HostRuntime) -> Result<(), Fail> {
-    let mut manager = Manager::new(rt.alloc())?;
+    let mut manager = SyncManager::new(rt.alloc())?;
     manager.set_locked(true);
     assert_eq!(rt; manager.register(7), 1);
     manager.configure(OUTPUTS);
@@ -294,17 +294,17 @@ fn bounds_of_managers(rt: HostRuntime) -> Result<(), Fail> {
     let rows = [
         (OUTPUTS, 0x1102, 0x1106),
         (
-            ManagerSettings::of_area(0x2fff, 1, CONTROL_MAILBOX_IN),
+            SyncManagerSettings::of_area(0x2fff, 1, CONTROL_MAILBOX_IN),
             0x3000,
             0x3000,
         ),
         (
-            ManagerSettings::of_area(0x2fff, 1, CONTROL_INPUTS),
+            SyncManagerSettings::of_area(0x2fff, 1, CONTROL_INPUTS),
             0x3000,
             0,
         ),
     ];
-    let mut manager = Manager::new(rt.alloc())?;
+    let mut manager = SyncManager::new(rt.alloc())?;
     for (settings, value_end, span_end) in rows {
         manager.configure(settings);
         let bounds = manager.bounds();

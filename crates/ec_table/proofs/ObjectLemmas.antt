@@ -12,15 +12,15 @@ use Rattle.std.proofs.lemmas.List.Sums.{sum_by-le, sum_by-cons}
 use Rattle.std.proofs.lemmas.Map.Made.{length-le_from_is_member, IsDistinct-from_AllPairs}
 use Rattle.std.proofs.lemmas.Map.Views.{Contains-from_any, list_any-from_Contains}
 use Rattle.std.proofs.lemmas.Option.{slice_get_within, get_or_from_slice_get, slice_get_read}
-use Rattle.ec_regs.specs.declared.slave_type.Entry.{Entry}
-use Rattle.ec_regs.specs.declared.slave_type.Pdo.{Pdo}
+use Rattle.ec_device.specs.declared.slave_type.Entry.{Entry}
+use Rattle.ec_device.specs.declared.slave_type.Pdo.{Pdo}
 use Rattle.ec_table.specs.declared.rows.Direction.{Direction}
 use Rattle.ec_table.specs.declared.rows.TypeRow.{TypeRow}
 use Rattle.ec_table.specs.declared.rows.SlaveRow.{SlaveRow}
 use Rattle.ec_table.specs.Contents.{Contents, pdos_toward, assigned_toward}
 use Rattle.ec_table.specs.Pdos.{indices_of}
-use Rattle.ec_regs.specs.Types.{IsEntry, IsPdo, ArePdos}
-use Rattle.ec_regs.specs.Objects.{entries_at, assigned_entries, bits_of, entry_bits}
+use Rattle.ec_device.specs.Types.{IsEntry, IsPdo, ArePdos}
+use Rattle.ec_device.specs.Objects.{entries_at, assigned_entries, bits_of, entry_bits}
 use Rattle.ec_table.specs.Sound.{IsOnce, IsType, IsAssignment, IsSlave, AreSlaves, first_index}
 use Rattle.ec_table.proofs.Ranges.{limits_toward}
 use Rattle.ec_table.specs.Objects.{entries_of, type_of, object_bits}

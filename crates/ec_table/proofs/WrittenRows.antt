@@ -6,11 +6,11 @@ use Rattle.std.proofs.lemmas.List.Folds.{list_any_none}
 use Rattle.std.proofs.lemmas.Bool.Decides.{Decides-eqb}
 use Rattle.toml.specs.Data.{table}
 use Rattle.toml.specs.View.{items_of}
-use Rattle.ec_regs.specs.declared.slave_type.Mailbox.{Mailbox}
+use Rattle.ec_device.specs.declared.slave_type.Mailbox.{Mailbox}
 use Rattle.ec_table.specs.declared.fault.Place.{Place}
 use Rattle.ec_table.specs.declared.rows.Version.{Version}
 use Rattle.ec_table.specs.declared.rows.Direction.TheVariants.{Out, In}
-use Rattle.ec_regs.specs.declared.slave_type.Device.{Device}
+use Rattle.ec_device.specs.declared.slave_type.Device.{Device}
 use Rattle.ec_table.specs.declared.rows.ProcessData.{ProcessData}
 use Rattle.ec_table.specs.declared.rows.TypeRow.{TypeRow}
 use Rattle.ec_table.specs.declared.rows.VariableRow.{VariableRow}

@@ -11,8 +11,8 @@ use Rattle.std.proofs.lemmas.Option.{slice_get_within, get_or_from_slice_get, sl
 use Rattle.std.proofs.lemmas.Slice.Eq.{bytes_eq-Decides}
 use Rattle.toml.specs.Data.{table, Members}
 use Rattle.toml.specs.View.{items_of}
-use Rattle.ec_regs.specs.declared.slave_type.Mailbox.{Mailbox}
-use Rattle.ec_regs.specs.declared.slave_type.Pdo.{Pdo}
+use Rattle.ec_device.specs.declared.slave_type.Mailbox.{Mailbox}
+use Rattle.ec_device.specs.declared.slave_type.Pdo.{Pdo}
 use Rattle.ec_table.specs.declared.fault.Place.{Place}
 use Rattle.ec_table.specs.declared.rows.Version.{Version}
 use Rattle.ec_table.specs.declared.rows.Version.TheVariants.{One, Two}

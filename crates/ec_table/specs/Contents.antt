@@ -1,6 +1,6 @@
 -- What a link table holds.
 use Rattle.std.specs.Prelude.{ℕ, Bool, true, false, if◌then◌else◌, List}
-use Rattle.ec_regs.specs.declared.slave_type.Pdo.{Pdo}
+use Rattle.ec_device.specs.declared.slave_type.Pdo.{Pdo}
 use Rattle.ec_table.specs.declared.rows.Version.{Version}
 use Rattle.ec_table.specs.declared.rows.Direction.{Direction}
 use Rattle.ec_table.specs.declared.rows.Direction.TheVariants.{Out, In}

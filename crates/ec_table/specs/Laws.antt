@@ -21,7 +21,7 @@ use Rattle.ec_table.specs.Faults.{fault_place}
 use Rattle.ec_table.specs.Pdos.{indices_of}
 use Rattle.ec_table.specs.Reading.{type_at, slave_at, link_at, type_element, slave_element, variable_element, link_element, top, table_of_document, table_of}
 use Rattle.ec_table.specs.Fields.{keys_are, version_in, section_in}
-use Rattle.ec_regs.specs.Objects.{bits_of}
+use Rattle.ec_device.specs.Objects.{bits_of}
 use Rattle.ec_table.specs.Objects.{object_bits, entries_of}
 use Rattle.ec_table.specs.Writing.{document_of}
 use Rattle.ec_table.specs.declared.fields.Shape.TheVariants as shape

@@ -2,11 +2,11 @@
 use Rattle.std.specs.Prelude.{ℕ, ◌+◌, ◌==◌, if◌then◌else◌, List, [], length, Option, Some, None, slice_get, option_map, option_and_then}
 use Rattle.std.specs.List.{flat_map}
 use Rattle.std.specs.Option.{option_map_or}
-use Rattle.ec_regs.specs.declared.slave_type.Entry.{Entry}
-use Rattle.ec_regs.specs.declared.slave_type.Identity.{Identity}
-use Rattle.ec_regs.specs.declared.slave_type.Face.{Face}
-use Rattle.ec_regs.specs.Types.{SlaveKind, device_identity}
-use Rattle.ec_regs.specs.Objects.{ObjectBit, entry_bits, assigned_entries}
+use Rattle.ec_device.specs.declared.slave_type.Entry.{Entry}
+use Rattle.ec_device.specs.declared.slave_type.Identity.{Identity}
+use Rattle.ec_device.specs.declared.slave_type.Face.{Face}
+use Rattle.ec_device.specs.Types.{SlaveKind, device_identity}
+use Rattle.ec_device.specs.Objects.{ObjectBit, entry_bits, assigned_entries}
 use Rattle.ec_table.specs.declared.rows.Direction.{Direction}
 use Rattle.ec_table.specs.declared.rows.TypeRow.{TypeRow}
 use Rattle.ec_table.specs.declared.rows.SlaveRow.{SlaveRow}

@@ -6,8 +6,8 @@ use Rattle.toml.specs.Data.{Data, Members, at, as_array, get_member}
 use Rattle.ec_table.specs.declared.fault.Fault.{Fault}
 use Rattle.ec_table.specs.declared.fault.Fault.TheVariants.{BadValue}
 use Rattle.ec_table.specs.declared.fault.Place.{Place}
-use Rattle.ec_regs.specs.declared.slave_type.Entry.{Entry}
-use Rattle.ec_regs.specs.declared.slave_type.Pdo.{Pdo}
+use Rattle.ec_device.specs.declared.slave_type.Entry.{Entry}
+use Rattle.ec_device.specs.declared.slave_type.Pdo.{Pdo}
 use Rattle.ec_table.specs.declared.rows.Version.TheVariants as versions
 use Rattle.ec_table.specs.declared.fields.Shape.TheVariants as shape
 use Rattle.ec_table.specs.Fields.{◌>>=◌, must, keys_are, number_in}

@@ -10,8 +10,8 @@ use Rattle.ec_table.specs.declared.fault.Fault.TheVariants.{Toml, BadKey, BadVal
 use Rattle.ec_table.specs.declared.fault.Place.{Place}
 use Rattle.ec_table.specs.declared.fault.Section.TheVariants as section
 use Rattle.ec_table.specs.declared.rows.Version.{Version}
-use Rattle.ec_regs.specs.declared.slave_type.Device.{Device}
-use Rattle.ec_regs.specs.Types.{first_output_index, first_input_index}
+use Rattle.ec_device.specs.declared.slave_type.Device.{Device}
+use Rattle.ec_device.specs.Types.{first_output_index, first_input_index}
 use Rattle.ec_table.specs.declared.rows.ProcessData.{ProcessData}
 use Rattle.ec_table.specs.declared.rows.TypeRow.{TypeRow}
 use Rattle.ec_table.specs.declared.rows.SlaveRow.{SlaveRow}

@@ -3,9 +3,9 @@ use Rattle.std.specs.Prelude.{ℕ, pos, List, [], map, codes, Option, Some, None
 use Rattle.std.specs.Option.{option_map_or}
 use Rattle.toml.specs.Data.{Data, string, integer, boolean, array, table, Members, no_members, member, no_items, item}
 use Rattle.toml.specs.View.{items_of}
-use Rattle.ec_regs.specs.declared.slave_type.Entry.{Entry}
-use Rattle.ec_regs.specs.declared.slave_type.Pdo.{Pdo}
-use Rattle.ec_regs.specs.declared.slave_type.Mailbox.{Mailbox}
+use Rattle.ec_device.specs.declared.slave_type.Entry.{Entry}
+use Rattle.ec_device.specs.declared.slave_type.Pdo.{Pdo}
+use Rattle.ec_device.specs.declared.slave_type.Mailbox.{Mailbox}
 use Rattle.ec_table.specs.declared.rows.Version.{Version}
 use Rattle.ec_table.specs.declared.rows.Version.TheVariants.{One, Two}
 use Rattle.ec_table.specs.declared.rows.Direction.{Direction}

@@ -10,7 +10,7 @@ ghost use Rattle.ec_table.specs.Fields.{number_or_0, truth_in, version_in, link_
 
 use crate::fault::{Fault, Place};
 use crate::rows::{Direction, LinkBits, Version};
-use ec_regs::{MAX_MAILBOX_SIZE, MIN_MAILBOX_SIZE, Mailbox};
+use ec_device::{MAX_MAILBOX_SIZE, MIN_MAILBOX_SIZE, Mailbox};
 use toml::Value;
 
 /// The largest number of 16 bits, as an address or an index has.

@@ -8,7 +8,7 @@ use crate::fault::{Fault, Place, Section, TableError};
 use crate::fields::{MAX_U8, MAX_U16, Shape, keys_are, link_bits_in, member, name_in, number_in};
 use crate::named::NamedRows;
 use crate::rows::{LinkBits, LinkRow, SlaveRow, VariableRow, Version};
-use ec_regs::Listed;
+use ec_listed::Listed;
 use std::alloc::Global;
 use toml::Value;
 

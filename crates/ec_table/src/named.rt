@@ -2,7 +2,7 @@
 ghost use Rattle.std.specs.Prelude.{◌≡◌, [], ◌∷◌, ◌++◌, false, IfOk};
 ghost use Rattle.ec_table.specs.Names.{is_named, place_named};
 
-use ec_regs::Listed;
+use ec_listed::Listed;
 use std::alloc::{AllocError, Global};
 use std::collections::HashMap;
 use std::marker::Model;

@@ -1,10 +1,11 @@
 //! Objects by index and subindex.
 ghost use Rattle.std.specs.Prelude.{◌≡◌, ◌==◌, ◌++◌, find, IfOk, OnOk};
 ghost use Rattle.std.specs.Option.{option_copied};
-ghost use Rattle.ec_regs.specs.declared.slave_type.Pdo.{Pdo};
-ghost use Rattle.ec_regs.specs.Objects.{entries_at, assigned_entries};
+ghost use Rattle.ec_device.specs.declared.slave_type.Pdo.{Pdo};
+ghost use Rattle.ec_device.specs.Objects.{entries_at, assigned_entries};
 
-use ec_regs::{Entry, Listed, Pdo};
+use ec_device::{Entry, Pdo};
+use ec_listed::Listed;
 use std::alloc::{AllocError, Global};
 
 /// The PDO with an index.

@@ -9,10 +9,11 @@ ghost use Rattle.ec_table.specs.Pdos.{entry_of, entry_row, array_of, array_in, p
 use crate::fault::{Fault, Place, TableError};
 use crate::fields::{MAX_U8, MAX_U16, Shape, keys_are, member, number_in};
 use crate::rows::Version;
-use ec_regs::{
-    Entry, FIRST_INPUT_INDEX, FIRST_OUTPUT_INDEX, Listed, MAX_ENTRIES, MAX_ENTRY_BITS, MAX_PDOS,
+use ec_device::{
+    Entry, FIRST_INPUT_INDEX, FIRST_OUTPUT_INDEX, MAX_ENTRIES, MAX_ENTRY_BITS, MAX_PDOS,
     PDO_INDICES, Pdo,
 };
+use ec_listed::Listed;
 use std::alloc::{AllocError, Global};
 use toml::Value;
 

@@ -2,7 +2,8 @@
 ghost use Rattle.std.specs.Prelude.{◌≡◌, IfOk, string_bytes};
 ghost use Rattle.ec_table.specs.Contents.{pdos_toward, assigned_toward};
 
-use ec_regs::{Device, Listed, Mailbox, Pdo};
+use ec_device::{Device, Mailbox, Pdo};
+use ec_listed::Listed;
 use std::alloc::{AllocError, Global};
 use std::marker::Model;
 

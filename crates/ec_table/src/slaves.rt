@@ -10,7 +10,8 @@ use crate::fields::{Shape, keys_are, member, name_in, number_or_0};
 use crate::named::{Named, NamedRows};
 use crate::pdos::{LAST_INPUT_INDEX, LAST_OUTPUT_INDEX, has_twice, indices_of, is_in, numbers_in};
 use crate::rows::{Name, SlaveRow, TypeRow, Version};
-use ec_regs::{FIRST_INPUT_INDEX, FIRST_OUTPUT_INDEX, Listed, Pdo};
+use ec_device::{FIRST_INPUT_INDEX, FIRST_OUTPUT_INDEX, Pdo};
+use ec_listed::Listed;
 use std::alloc::{AllocError, Global};
 use toml::Value;
 

@@ -1,14 +1,15 @@
 //! Tables, and what the layers above ask of them.
 ghost use Rattle.std.specs.Prelude.{◌≡◌, ◌<◌, ◌≤◌, length, All, Some, option_map, false, IfOk};
-ghost use Rattle.ec_regs.specs.Types.{IsEntry, IsFace};
-ghost use Rattle.ec_regs.specs.Objects.{bits_of};
+ghost use Rattle.ec_device.specs.Types.{IsEntry, IsFace};
+ghost use Rattle.ec_device.specs.Objects.{bits_of};
 ghost use Rattle.ec_table.specs.Contents.{shown_as, shown_full};
 ghost use Rattle.ec_table.specs.Sound.{IsSound, IsType, AreTypes, AreSlaves, IsVariable, AreVariables, IsLink};
 ghost use Rattle.ec_table.specs.Objects.{type_of, variable_of, slave_of, identity_of, face_of, kind_of, entries_of};
 
 use crate::objects::assigned_entries;
 use crate::rows::{Direction, LinkRow, SlaveRow, TypeRow, VariableRow, Version};
-use ec_regs::{Entry, Face, Identity, Listed, SlaveType, copied_pdos};
+use ec_device::{Entry, Face, Identity, SlaveType, copied_pdos};
+use ec_listed::Listed;
 use std::alloc::{AllocError, Global};
 use std::marker::Model;
 

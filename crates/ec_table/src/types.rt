@@ -10,7 +10,7 @@ use crate::fields::{MAX_U16, Shape, keys_are, mailbox_in, member, name_in, numbe
 use crate::named::{Named, NamedRows};
 use crate::pdos::{LAST_INPUT_INDEX, LAST_OUTPUT_INDEX, has_twice, indices_of, pdos_in};
 use crate::rows::{Name, ProcessData, TypeRow, Version};
-use ec_regs::{Device, FIRST_INPUT_INDEX, FIRST_OUTPUT_INDEX, Pdo};
+use ec_device::{Device, FIRST_INPUT_INDEX, FIRST_OUTPUT_INDEX, Pdo};
 use std::alloc::{AllocError, Global};
 use toml::Value;
 

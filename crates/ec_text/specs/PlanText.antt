@@ -3,16 +3,16 @@
 use Rattle.std.specs.Prelude.{ℕ, ◌+◌, ◌==◌, List, [], ◌∷◌, ◌++◌, if◌then◌else◌, codes}
 use Rattle.std.specs.Fmt.{decimal}
 use Rattle.hex.specs.Hex.{encode_lower}
-use Rattle.ec_regs.specs.declared.manager.ManagerSettings.{ManagerSettings}
+use Rattle.ec_regs.specs.declared.manager.SyncManagerSettings.{SyncManagerSettings}
 use Rattle.ec_regs.specs.declared.fmmu.FmmuSettings.{FmmuSettings}
 use Rattle.ec_regs.specs.Managers.{is_set, manager_bytes}
 use Rattle.ec_regs.specs.Fmmus.{fmmu_bytes}
 use Rattle.ec_table.specs.declared.rows.Version.{Version}
 use Rattle.ec_table.specs.declared.rows.Version.TheVariants.{One, Two}
 use Rattle.ec_link.specs.declared.plan.PartPlan.{PartPlan}
-use Rattle.ec_link.specs.declared.plan.Predicted.{Predicted}
-use Rattle.ec_link.specs.declared.plan.Predicted.TheVariants.{Lrw, Split}
-use Rattle.ec_link.specs.declared.settings.Settings.{Settings}
+use Rattle.ec_link.specs.declared.plan.ExpectedCounters.{ExpectedCounters}
+use Rattle.ec_link.specs.declared.plan.ExpectedCounters.TheVariants.{Lrw, Split}
+use Rattle.ec_link.specs.declared.settings.SlavePlan.{SlavePlan}
 use Rattle.ec_link.specs.Plan.{PlanState, predicted_of}
 
 abbrev pub newline : List ℕ
@@ -28,7 +28,7 @@ abbrev pub record_line : List ℕ → ℕ → List ℕ → List ℕ
 record_line name n bytes = name ++ codes " " ++ decimal n ++ codes " " ++ encode_lower bytes ++ newline
 
 -- a sync manager that is set
-abbrev pub manager_line : ℕ → ManagerSettings → List ℕ
+abbrev pub manager_line : ℕ → SyncManagerSettings → List ℕ
 manager_line n m = if is_set m then record_line (codes "sm") n (manager_bytes m) else []
 
 -- an FMMU that is active
@@ -36,16 +36,16 @@ abbrev pub fmmu_line : ℕ → FmmuSettings → List ℕ
 fmmu_line n f = if f.active then record_line (codes "fmmu") n (fmmu_bytes f) else []
 
 -- a slave: its part, how many output and input bits it has, its managers and its FMMUs
-unfoldable pub slave_line : ℕ → Settings → List ℕ
+unfoldable pub slave_line : ℕ → SlavePlan → List ℕ
 slave_line n s =
     codes "slave " ++ decimal n ++ codes " part " ++ decimal s.share.part ++ codes " out " ++ decimal s.share.outs ++ codes " in " ++ decimal s.share.ins ++ newline
 
-abbrev pub slave_lines : ℕ → Settings → List ℕ
+abbrev pub slave_lines : ℕ → SlavePlan → List ℕ
 slave_lines n s = slave_line n s ++ lines_from manager_line 0 s.managers ++ lines_from fmmu_line 0 s.fmmus
 
 -- the working counters that a part predicts: of its LRW, or of its LWR and its LRD; a part with no byte has no such
 -- datagram, and stands as 0
-abbrev pub counter_text : PartPlan → Predicted → List ℕ
+abbrev pub counter_text : PartPlan → ExpectedCounters → List ℕ
 counter_text part (Lrw n) = decimal n
 counter_text part (Split write read) = if part.bytes == 0 then codes "0" else decimal write ++ codes "/" ++ decimal read
 
@@ -55,7 +55,7 @@ unit_text One unit = []
 unit_text Two unit = codes " unit " ++ decimal unit
 
 -- a part: its first logical byte, its bytes, its counters and its unit
-abbrev pub part_line : Version → ℕ → PartPlan → Predicted → List ℕ
+abbrev pub part_line : Version → ℕ → PartPlan → ExpectedCounters → List ℕ
 part_line version n part predicted =
     codes "part " ++ decimal n ++ codes " address " ++ decimal part.address ++ codes " bytes " ++ decimal part.bytes ++ codes " counter "
     ++ counter_text part predicted ++ unit_text version part.unit ++ newline

@@ -1,8 +1,8 @@
 //! A plan for people: which bit of which object stands where, and which variable it is linked with.
 ghost use Rattle.std.specs.Prelude.{◌<◌, length};
 
-use ec_link::{Link, PartPlan, Plan, Predicted, Settings};
-use ec_regs::Entry;
+use ec_device::Entry;
+use ec_link::{ExpectedCounters, Link, PartPlan, Plan, SlavePlan};
 use ec_table::{Direction, SlaveRow, Table};
 use std::alloc::{AllocError, Global};
 use std::fmt::Write as _;
@@ -19,7 +19,7 @@ Each line is a run of bits that go the same way. Bits count from 0, the lowest f
 
 /// Bits of an object one after another that go the same way.
 #[derive(Clone, Copy)]
-struct Run {
+struct ObjectRun {
     /// The first among the object bits of the slave.
     from: usize,
     count: usize,
@@ -28,14 +28,18 @@ struct Run {
 
 /// One direction of a plan: its links, and for each bit of its image the place of its variable.
 #[derive(Drop)]
-struct Image<'a> {
+struct ImageSide<'a> {
     direction: Direction,
     links: &'a [Link],
     owners: Vec<usize>,
 }
 
-impl<'a> Image<'a> {
-    fn new(alloc: Global, plan: &'a Plan, direction: Direction) -> Result<Image<'a>, AllocError> {
+impl<'a> ImageSide<'a> {
+    fn new(
+        alloc: Global,
+        plan: &'a Plan,
+        direction: Direction,
+    ) -> Result<ImageSide<'a>, AllocError> {
         let mut owners = Vec::new(alloc);
         for (place, variable) in plan.variables().iter().enumerate() {
             if variable.direction == direction {
@@ -48,7 +52,7 @@ impl<'a> Image<'a> {
             Direction::Out => plan.out_links(),
             Direction::In => plan.in_links(),
         };
-        Ok(Image {
+        Ok(ImageSide {
             direction,
             links,
             owners,
@@ -135,7 +139,7 @@ fn runs_of(
     from: usize,
     entry: &Entry,
     links: &[Link],
-) -> Result<Vec<Run>, AllocError> {
+) -> Result<Vec<ObjectRun>, AllocError> {
     let end = from.saturating_add(usize::from(entry.bits));
     let mut runs = Vec::new(alloc);
     let mut at = from;
@@ -143,13 +147,13 @@ fn runs_of(
         let first = link.object_bit;
         if from <= first && first < end {
             if at < first {
-                runs.push(Run {
+                runs.push(ObjectRun {
                     from: at,
                     count: first - at,
                     link: None,
                 })?;
             }
-            runs.push(Run {
+            runs.push(ObjectRun {
                 from: first,
                 count: link.count,
                 link: Some(*link),
@@ -158,7 +162,7 @@ fn runs_of(
         }
     }
     if at < end {
-        runs.push(Run {
+        runs.push(ObjectRun {
             from: at,
             count: end - at,
             link: None,
@@ -173,8 +177,8 @@ struct Explained<'a> {
     alloc: Global,
     table: &'a Table,
     plan: &'a Plan,
-    outputs: Image<'a>,
-    inputs: Image<'a>,
+    outputs: ImageSide<'a>,
+    inputs: ImageSide<'a>,
 }
 
 impl<'a> Explained<'a> {
@@ -183,12 +187,12 @@ impl<'a> Explained<'a> {
             alloc,
             table,
             plan,
-            outputs: Image::new(alloc, plan, Direction::Out)?,
-            inputs: Image::new(alloc, plan, Direction::In)?,
+            outputs: ImageSide::new(alloc, plan, Direction::Out)?,
+            inputs: ImageSide::new(alloc, plan, Direction::In)?,
         })
     }
 
-    fn image(&self, direction: Direction) -> &Image<'a> {
+    fn image(&self, direction: Direction) -> &ImageSide<'a> {
         match direction {
             Direction::Out => &self.outputs,
             Direction::In => &self.inputs,
@@ -196,7 +200,7 @@ impl<'a> Explained<'a> {
     }
 
     /// The variable that a run is linked with, and its bits.
-    fn variable_text(&self, image: &Image<'_>, run: Run) -> Result<String, AllocError> {
+    fn variable_text(&self, image: &ImageSide<'_>, run: ObjectRun) -> Result<String, AllocError> {
         let alloc = self.alloc;
         let Some(link) = run.link else {
             return format!(in alloc; "-");
@@ -248,7 +252,7 @@ impl<'a> Explained<'a> {
         text: &mut String,
         direction: Direction,
         slave: usize,
-        settings: &Settings,
+        settings: &SlavePlan,
         entries: &[Entry],
     ) -> Result<(), AllocError> {
         let links = self.image(direction).links_of(self.alloc, slave)?;
@@ -288,7 +292,7 @@ impl<'a> Explained<'a> {
         text: &mut String,
         slave: usize,
         row: &SlaveRow,
-        settings: &Settings,
+        settings: &SlavePlan,
     ) -> Result<(), AllocError>
         requires { slave < length self.now.table.now.slaves }
     {
@@ -331,7 +335,7 @@ fn write_part(
     text: &mut String,
     number: usize,
     part: &PartPlan,
-    predicted: Predicted,
+    predicted: ExpectedCounters,
 ) -> Result<(), AllocError> {
     let (bytes, address, unit) = (part.bytes, part.address, part.unit);
     writeln!(
@@ -340,8 +344,11 @@ fn write_part(
     )?;
     match predicted {
         _ if bytes == 0 => writeln!(text, "  no datagram of process data"),
-        Predicted::Lrw(count) => writeln!(text, "  an LRW that comes back with counter {count}"),
-        Predicted::Split { write, read } => writeln!(
+        ExpectedCounters::Lrw(count) => writeln!(
+            text,
+            "  an LRW that comes back with counter {count}"
+        ),
+        ExpectedCounters::Split { write, read } => writeln!(
             text,
             "  an LWR that comes back with counter {write}, and an LRD with {read}"
         ),

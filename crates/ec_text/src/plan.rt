@@ -5,8 +5,8 @@ ghost use Rattle.arrayvec.specs.ArrayString.{array_string_len};
 ghost use Rattle.ec_text.specs.PlanText.{counter_text, fmmu_line, lines_from, manager_line, part_line, plan_text, planned_part_line, record_line, slave_line, slave_lines, unit_text};
 
 use arrayvec::ArrayString;
-use ec_link::{PartPlan, Plan, Predicted, Settings};
-use ec_regs::{FmmuSettings, ManagerSettings, encode_fmmu, encode_manager};
+use ec_link::{ExpectedCounters, PartPlan, Plan, SlavePlan};
+use ec_regs::{FmmuSettings, SyncManagerSettings, encode_fmmu, encode_manager};
 use ec_table::Version;
 use itoa::Buffer;
 use std::alloc::{AllocError, Global};
@@ -36,7 +36,7 @@ fn write_manager(
     alloc: Global,
     text: &mut String,
     number: usize,
-    manager: &ManagerSettings,
+    manager: &SyncManagerSettings,
 ) -> Result<(), AllocError>
     ensures { OnOk result
         (string_bytes text.new ≡ string_bytes text.old ++ manager_line number manager.now) }
@@ -71,7 +71,7 @@ fn write_fmmu(
 fn write_managers(
     alloc: Global,
     text: &mut String,
-    managers: &[ManagerSettings],
+    managers: &[SyncManagerSettings],
 ) -> Result<(), AllocError>
     ensures { OnOk result
         (string_bytes text.new ≡ string_bytes text.old ++ lines_from manager_line 0 managers.now) }
@@ -96,7 +96,7 @@ fn write_fmmus(alloc: Global, text: &mut String, fmmus: &[FmmuSettings]) -> Resu
 
 /// Adds the line of a slave's part and sizes.
 #[tactic(auto, unfolding(crate::specs::PlanText::slave_line))]
-fn write_sizes(text: &mut String, number: usize, slave: &Settings) -> Result<(), AllocError>
+fn write_sizes(text: &mut String, number: usize, slave: &SlavePlan) -> Result<(), AllocError>
     ensures { OnOk result
         (string_bytes text.new ≡ string_bytes text.old ++ slave_line number slave.now) }
 {
@@ -111,7 +111,7 @@ fn write_slave(
     alloc: Global,
     text: &mut String,
     number: usize,
-    slave: &Settings,
+    slave: &SlavePlan,
 ) -> Result<(), AllocError>
     ensures { OnOk result
         (string_bytes text.new ≡ string_bytes text.old ++ slave_lines number slave.now) }
@@ -123,7 +123,7 @@ fn write_slave(
 
 /// Adds the lines of the slaves.
 #[tactic(auto, using(crate::proofs::Lines::line_steps))]
-fn write_slaves(alloc: Global, text: &mut String, slaves: &[Settings]) -> Result<(), AllocError>
+fn write_slaves(alloc: Global, text: &mut String, slaves: &[SlavePlan]) -> Result<(), AllocError>
     ensures { OnOk result
         (string_bytes text.new ≡ string_bytes text.old ++ lines_from slave_lines 0 slaves.now) }
 {
@@ -144,14 +144,14 @@ fn push_number(counter: &mut ArrayString<COUNTER_SIZE>, number: usize)
 }
 
 /// Working counters of a part: the one of its LRW, or `W/R` of its LWR and its LRD, and `0` where it has no byte.
-fn counter_of(part: &PartPlan, predicted: Predicted) -> ArrayString<COUNTER_SIZE>
+fn counter_of(part: &PartPlan, predicted: ExpectedCounters) -> ArrayString<COUNTER_SIZE>
     ensures { result.bytes ≡ counter_text part.now predicted }
 {
     let mut counter = ArrayString::new();
     match predicted {
-        Predicted::Lrw(count) => push_number(&mut counter, count),
-        Predicted::Split { .. } if part.bytes == 0 => counter.push_str("0"),
-        Predicted::Split { write, read } => {
+        ExpectedCounters::Lrw(count) => push_number(&mut counter, count),
+        ExpectedCounters::Split { .. } if part.bytes == 0 => counter.push_str("0"),
+        ExpectedCounters::Split { write, read } => {
             push_number(&mut counter, write);
             counter.push_str("/");
             push_number(&mut counter, read);
@@ -168,7 +168,7 @@ fn counter_of(part: &PartPlan, predicted: Predicted) -> ArrayString<COUNTER_SIZE
 pub fn write_counter(
     text: &mut String,
     part: &PartPlan,
-    predicted: Predicted,
+    predicted: ExpectedCounters,
 ) -> Result<(), AllocError>
     ensures added { OnOk result
         (string_bytes text.new ≡ string_bytes text.old ++ counter_text part.now predicted) }
@@ -194,7 +194,7 @@ fn write_part(
     version: Version,
     number: usize,
     part: &PartPlan,
-    predicted: Predicted,
+    predicted: ExpectedCounters,
 ) -> Result<(), AllocError>
     ensures { OnOk result (string_bytes text.new
         ≡ string_bytes text.old ++ part_line version number part.now predicted) }

@@ -3,9 +3,9 @@ ghost use Rattle.std.specs.Prelude.{◌≡◌, None};
 ghost use Rattle.ec_link.specs.Faults.{compile_fault};
 ghost use Rattle.ec_link.specs.Plan.{plan_of};
 
+use ec_bringup::identities_of;
 use ec_capture::Recorder;
 use ec_link::{Plan, compile};
-use ec_rise::identities_of;
 use ec_table::{Table, read_table};
 use ec_watch::Watch;
 use ec_world::{Event, Watcher, World};

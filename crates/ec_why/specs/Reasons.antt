@@ -1,7 +1,7 @@
 -- The form of a line that says why an event can't be made, and where one stands (a choice of this project); its words are tested.
 use Rattle.std.specs.Prelude.{◌≡◌, ◌≢◌, ℕ, Bool, true, false, All, List, [], ◌∷◌, ◌++◌, codes}
-use Rattle.ec_script.specs.declared.said.Said.{Said}
-use Rattle.ec_script.specs.declared.said.Said.TheVariants.{No}
+use Rattle.ec_script.specs.declared.said.LineOutput.{LineOutput}
+use Rattle.ec_script.specs.declared.said.LineOutput.TheVariants.{No}
 use Rattle.ec_why.specs.declared.wanted.Reasons.{Reasons}
 use Rattle.ec_why.specs.declared.wanted.Reasons.TheVariants.{Told, Untold}
 
@@ -18,7 +18,7 @@ reasons_of true = Told
 reasons_of false = Untold
 
 -- the lines behind which one stands
-abbrev pub is_reasoned : Reasons → Said → Bool
+abbrev pub is_reasoned : Reasons → LineOutput → Bool
 is_reasoned Told No = true
 is_reasoned _ _ = false
 
@@ -27,5 +27,5 @@ ReasonIf true why = IsReason why
 ReasonIf false why = why ≡ []
 
 -- why a line says `no`, where reasons are told; behind any other line there is nothing
-abbrev pub IsWhy : Reasons → Said → List ℕ → Type 0
+abbrev pub IsWhy : Reasons → LineOutput → List ℕ → Type 0
 IsWhy reasons said why = ReasonIf (is_reasoned reasons said) why

@@ -6,7 +6,7 @@ ghost use Rattle.ec_why.specs.Reasons.{IsReason};
 use crate::events::{event_words, frame_words};
 use crate::places::{Firmware, greatest, misfit_words, not_written};
 use ec_link::{Link, Variable};
-use ec_script::Act;
+use ec_script::LineAction;
 use ec_table::{Direction, Table};
 use ec_world::{Event, World};
 use std::alloc::{AllocError, Global};
@@ -73,16 +73,16 @@ fn act_words(
     alloc: Global,
     table: &Table,
     world: &World<'_>,
-    act: Act,
+    act: LineAction,
     had_cycle: bool,
 ) -> Result<String, AllocError> {
     match act {
-        Act::One(event) => event_words(alloc, table, world, event),
-        Act::Input(variable, value) => input_words(alloc, table, world, variable, value),
-        Act::Never(variable) => misfit_words(alloc, table, variable),
-        Act::Ready => event_words(alloc, table, world, Event::StartNext),
-        Act::Cycle => cycle_words(alloc, table, world, had_cycle),
-        Act::Expect(_) | Act::Show => String::from_str(alloc, PLAIN),
+        LineAction::One(event) => event_words(alloc, table, world, event),
+        LineAction::Input(variable, value) => input_words(alloc, table, world, variable, value),
+        LineAction::Never(variable) => misfit_words(alloc, table, variable),
+        LineAction::Ready => event_words(alloc, table, world, Event::StartNext),
+        LineAction::Cycle => cycle_words(alloc, table, world, had_cycle),
+        LineAction::Expect(_) | LineAction::Show => String::from_str(alloc, PLAIN),
     }
 }
 
@@ -127,7 +127,7 @@ pub fn reason_text(
     alloc: Global,
     table: &Table,
     world: &World<'_>,
-    act: Act,
+    act: LineAction,
     had_cycle: bool,
 ) -> Result<String, AllocError>
     ensures { IfOk result (λ text. IsReason (string_bytes text)) }

@@ -2,7 +2,7 @@
 ghost use Rattle.std.specs.Prelude.{◌≡◌};
 ghost use Rattle.ec_why.specs.Reasons.{is_reasoned, reasons_of};
 
-use ec_script::Said;
+use ec_script::LineOutput;
 
 /// Whether each line that says `no` is followed by a line that says why.
 #[derive(Clone, Copy, Drop)]
@@ -26,11 +26,11 @@ impl Reasons {
     }
 
     /// Whether a reason stands behind a line that has this to say.
-    pub fn stand_behind(self, said: Said) -> bool
+    pub fn stand_behind(self, said: LineOutput) -> bool
         ensures { result ≡ is_reasoned self said }
     {
         match (self, said) {
-            (Reasons::Told, Said::No) => true,
+            (Reasons::Told, LineOutput::No) => true,
             _ => false,
         }
     }

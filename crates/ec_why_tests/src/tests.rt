@@ -3,9 +3,9 @@ ghost use Rattle.std.specs.Prelude.{◌≡◌, length};
 ghost use Rattle.ec_link.specs.Faults.{compile_fault};
 ghost use Rattle.ec_link.specs.Plan.{plan_of};
 
+use ec_bringup::identities_of;
+use ec_device::Identity;
 use ec_link::{Plan, compile};
-use ec_regs::Identity;
-use ec_rise::identities_of;
 use ec_script::{Line, do_act, read_script};
 use ec_table::{Table, read_table};
 use ec_why::{has_cycle, reason_text};

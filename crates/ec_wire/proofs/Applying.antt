@@ -3,9 +3,9 @@ use Rattle.std.proofs.Common.{ℕ, zero, suc, ◌+◌, ◌*◌, ◌%◌, ◌<◌
 use Rattle.std.proofs.lemmas.Bool.{eq-eqb, ne_eqb, eqb-true, leb-true}
 use Rattle.std.proofs.lemmas.List.{take_all}
 use Rattle.ec_bits.proofs.AnyLaws.{if_true, if_false}
-use Rattle.ec_regs.specs.declared.manager.ManagerSettings.{ManagerSettings}
-use Rattle.ec_regs.specs.Managers.{is_set, is_mailbox, is_buffered, is_ring_read, is_ring_written, span}
-use Rattle.ec_sync.specs.Manager.{Manager, is_enabled, may_app_get, may_app_put}
+use Rattle.ec_regs.specs.declared.manager.SyncManagerSettings.{SyncManagerSettings}
+use Rattle.ec_regs.specs.Managers.{is_set, is_mailbox, is_buffered, is_master_read, is_master_written, span}
+use Rattle.ec_sync.specs.SyncManager.{SyncManager, is_enabled, may_app_get, may_app_put}
 use Rattle.ec_slave.specs.State.{SlaveState, manager_at}
 use Rattle.ec_slave.specs.Sound.{IsSlave}
 use Rattle.ec_slave.specs.Application.{get_size, put_size, is_running, inputs_put, outputs_shown, outputs_taken}
@@ -20,12 +20,12 @@ small-if false x h = omega arith
 -- ---- how many bytes there are at most
 
 -- a buffered manager has three lengths in the RAM
-few-set : (m : ManagerSettings) → is_set m ≡ true → is_buffered m ≡ true → m.length ≤ 2730
+few-set : (m : SyncManagerSettings) → is_set m ≡ true → is_buffered m ≡ true → m.length ≤ 2730
 unfolding is_set
 few-set m set buffered =
     let a = both_true (m.activate % 2 == 1) _ set in
     let b = both_true (is_mailbox m || is_buffered m) _ a.1 in
-    let c = both_true (is_ring_written m || is_ring_read m) _ b.1 in
+    let c = both_true (is_master_written m || is_master_read m) _ b.1 in
     let d = both_true (nat_lt 0 m.length) _ c.1 in
     let e = both_true (nat_le 0x1000 m.start) _ d.1 in
     let low = leb-true 0x1000 m.start e.0 in
@@ -35,19 +35,19 @@ few-set m set buffered =
     let three : span m ≡ 3 * m.length = if_false _ _ _ other in
     omega (arith, low, high, three)
 
-get-enabled : (m : Manager) → may_app_get m ≡ true → (is_set m.settings ≡ true) × (is_buffered m.settings ≡ true)
+get-enabled : (m : SyncManager) → may_app_get m ≡ true → (is_set m.settings ≡ true) × (is_buffered m.settings ≡ true)
 get-enabled m e =
     let a = both_true (is_enabled m) _ e in
     ((both_true (is_set m.settings) _ a.0).0, (both_true (is_buffered m.settings) _ a.1).0)
 
-put-enabled : (m : Manager) → may_app_put m ≡ true → (is_set m.settings ≡ true) × (is_buffered m.settings ≡ true)
+put-enabled : (m : SyncManager) → may_app_put m ≡ true → (is_set m.settings ≡ true) × (is_buffered m.settings ≡ true)
 put-enabled m e =
     let a = both_true (is_enabled m) _ e in
     ((both_true (is_set m.settings) _ a.0).0, (both_true (is_buffered m.settings) _ a.1).0)
 
 pub few_written : (s : SlaveState) → put_size s ≤ 2730
 few_written s =
-    let m : Manager = manager_at s.managers 3 in
+    let m : SyncManager = manager_at s.managers 3 in
     small-if (is_running s.al.state && may_app_put m) m.settings.length
     (λ e. let k = put-enabled m (both_true (is_running s.al.state) _ e).1 in few-set m.settings k.0 k.1)
 
@@ -61,7 +61,7 @@ record MayRead (s : SlaveState) (n : ℕ) : Type 0 where
 
 may-read : (s : SlaveState) (n : ℕ) → IsSlave s → n ≡ get_size s → 0 < n → MayRead s n
 may-read s n good e l =
-    let m : Manager = manager_at s.managers 2 in
+    let m : SyncManager = manager_at s.managers 2 in
     let k = sized (is_running s.al.state && may_app_get m) m.settings.length n e l in
     let r = both_true (is_running s.al.state) _ k.0 in
     let set = get-enabled m r.1 in

@@ -2,7 +2,7 @@
 use Rattle.std.proofs.Common.{◌≡◌, ◌≤◌, ◌++◌, ◌||◌, ◌==◌, ℕ, List, [], Bool, true, false, Option, None, Some, sym, ◌∙◌, ap, append_assoc, arith, nat_lt, not, refl, subst}
 use Rattle.std.proofs.lemmas.List.{append-nil}
 use Rattle.std.proofs.lemmas.Bool.Decides.{nat_tests}
-use Rattle.ec_wire.specs.Wires.{WireState, Carries, Grows, is_fault, most_failed}
+use Rattle.ec_wire.specs.Wires.{WireState, Carries, Grows, is_fault, max_failed}
 
 grows-none : (a : Option (List (List ℕ))) → Grows a a []
 grows-none None = tt
@@ -32,15 +32,15 @@ same_by_tests m n most e l = grind (arith, nat_tests)
 
 -- a call that was no fault leaves the count
 pub fine-same : (a b : WireState) → is_fault a b ≡ false → a.failed ≤ b.failed → b.failed ≡ a.failed
-fine-same a b e l = same_by_tests a.failed b.failed most_failed e l
+fine-same a b e l = same_by_tests a.failed b.failed max_failed e l
 
 -- only the count before matters
 pub fault-from : (a b c : WireState) → b.failed ≡ a.failed → is_fault b c ≡ is_fault a c
-fault-from a b c e = ap (λ (n : ℕ). nat_lt n c.failed || (n == most_failed)) e
+fault-from a b c e = ap (λ (n : ℕ). nat_lt n c.failed || (n == max_failed)) e
 
 -- only the count after matters
 pub fault-to : (a b c : WireState) → c.failed ≡ b.failed → is_fault a c ≡ is_fault a b
-fault-to a b c e = ap (λ (n : ℕ). nat_lt a.failed n || (a.failed == most_failed)) e
+fault-to a b c e = ap (λ (n : ℕ). nat_lt a.failed n || (a.failed == max_failed)) e
 
 -- an answer that says there was no fault
 pub no_fault : (b : Bool) → true ≡ not b → b ≡ false

@@ -4,23 +4,23 @@ use Rattle.std.proofs.lemmas.Bool.{both_ways, cases_Bool, cases_eq, eq-eqb, ne_e
 use Rattle.std.proofs.lemmas.List.{append-nil, append_cancel_left}
 use Rattle.ec_bits.proofs.AnyLaws.{if_true, if_false}
 use Rattle.ec_frame.proofs.Verdict.{no_refusal}
-use Rattle.ec_sync.specs.Manager.{may_app_get, may_app_put}
+use Rattle.ec_sync.specs.SyncManager.{may_app_get, may_app_put}
 use Rattle.ec_slave.specs.State.{SlaveState, manager_at}
 use Rattle.ec_slave.specs.Application.{get_size, put_size, is_running}
 use Rattle.ec_slave.specs.Serving.{served}
-use Rattle.ec_link.specs.declared.settings.Settings.{Settings}
+use Rattle.ec_link.specs.declared.settings.SlavePlan.{SlavePlan}
 use Rattle.ec_start.specs.declared.phase.NextFrame.{NextFrame}
 use Rattle.ec_start.specs.declared.phase.NextFrame.TheVariants.{Send, Waiting, Ended}
 use Rattle.ec_start.specs.declared.phase.Phase.TheVariants.{Ready}
 use Rattle.ec_start.specs.Scripts.{script}
 use Rattle.ec_start.specs.Running.{StartState, IsStartTaken, asked, asked_by, begun, last_number, next_frame, next_frame_by, sending}
-use Rattle.ec_rise.specs.Undisturbed.{Rising, turned, ArePlans, AreDevices}
-use Rattle.ec_rise.specs.BringUp.{rising}
-use Rattle.ec_rise.specs.ComesUp.{IsOnItsWay, IsUpAndWorks}
-use Rattle.ec_rise.specs.Applied.{Applied, Rests as Idles, Reads, Writes, AreApplied, TurnsTo, Stays}
-use Rattle.ec_rise.proofs.Applying.{turns-on}
-use Rattle.ec_rise.proofs.BringUp.{is-sending, turn-kept, turn-made}
-use Rattle.ec_rise.proofs.Up.{applied_up}
+use Rattle.ec_bringup.specs.Undisturbed.{Rising, turned, ArePlans, AreDevices}
+use Rattle.ec_bringup.specs.BringUp.{rising}
+use Rattle.ec_bringup.specs.ComesUp.{IsOnItsWay, IsUpAndWorks}
+use Rattle.ec_bringup.specs.Applied.{Applied, Rests as Idles, Reads, Writes, AreApplied, TurnsTo, Stays}
+use Rattle.ec_bringup.proofs.Applying.{turns-on}
+use Rattle.ec_bringup.proofs.BringUp.{is-sending, turn-kept, turn-made}
+use Rattle.ec_bringup.proofs.Up.{applied_up}
 use Rattle.ec_wire.specs.Wires.{WireState, Carries, Grows, is_fault}
 use Rattle.ec_wire.specs.Applications.{IsServed, AreServed, has_data, inputs_written, outputs_read}
 use Rattle.ec_wire.specs.Segments.{IsAnswer, IsTreated, AreTreated}
@@ -175,13 +175,13 @@ by-answer s t ss mid frame answer a (p ∷ ps) rest more sends spelled h strange
 -- ---- all of them
 
 -- from the k-th turn on
-abbrev FromHere : (ps : List Settings) (from : ℕ) (first : List SlaveState) → (s e : StartState) (w x : WireState) → Type 0
+abbrev FromHere : (ps : List SlavePlan) (from : ℕ) (first : List SlaveState) → (s e : StartState) (w x : WireState) → Type 0
 FromHere ps from first s e w x =
     (k : ℕ) (ss tt : List SlaveState) (sent received : List (List ℕ)) → k ≤ length (script ps) → TurnsTo k (rising (begun ps from) first) (rising s ss)
     → is_some w.sent ≡ true → is_some w.received ≡ true → is_fault w x ≡ false → Carries w x sent received → AreTreated AnyInputs ss sent tt received → IsUpAndWorks ps (from + length (script ps)) (rising e tt)
 
 -- a start-up that sends no frame has made all turns
-rests-up : (ps : List Settings) (from k : ℕ) (s e : StartState) (w : WireState) (ss tt : List SlaveState) (sent received : List (List ℕ)) → (k ≡ length (script ps) → IsUpAndWorks ps (from + k) (rising s ss))
+rests-up : (ps : List SlavePlan) (from k : ℕ) (s e : StartState) (w : WireState) (ss tt : List SlaveState) (sent received : List (List ℕ)) → (k ≡ length (script ps) → IsUpAndWorks ps (from + k) (rising s ss))
     → k ≡ length (script ps) → e ≡ s → is_some w.sent ≡ true → Carries w w sent received → AreTreated AnyInputs ss sent tt received → IsUpAndWorks ps (from + length (script ps)) (rising e tt)
 rests-up ps from k s e w ss tt sent received up last same told carried treated =
     let none : sent ≡ [] = grown w.sent w.sent sent [] told carried.sends (carries-none w).sends in
@@ -191,7 +191,7 @@ rests-up ps from k s e w ss tt sent received up last same told carried treated =
     (subst (λ (n : ℕ). IsUpAndWorks ps (from + n) (rising s ss)) last (up last)))
 
 -- how far it is
-next-at : (ps : List Settings) (from k : ℕ) (s : StartState) (ss : List SlaveState) → k ≤ length (script ps) → from + length (script ps) ≤ last_number
+next-at : (ps : List SlavePlan) (from k : ℕ) (s : StartState) (ss : List SlaveState) → k ≤ length (script ps) → from + length (script ps) ≤ last_number
     → (k < length (script ps) → IsOnItsWay (from + k) (rising s ss)) → (k ≡ length (script ps) → IsUpAndWorks ps (from + k) (rising s ss))
     → ((k < length (script ps)) × (next_frame s ≡ Send)) ⊎ ((k ≡ length (script ps)) × (s.phase ≡ Ready))
 next-at ps from k s ss most few way up = elim (cases_eq k (length (script ps))) [
@@ -201,7 +201,7 @@ next-at ps from k s ss most few way up = elim (cases_eq k (length (script ps))) 
       inl (l, sends-on (from + k) (rising s ss) (way l) (omega (arith, l, few)))
 ]
 
-pub comes-up-over : (ps : List Settings) → ArePlans ps → (from : ℕ) (first : List SlaveState) → AreDevices ps first → from + length (script ps) ≤ last_number
+pub comes-up-over : (ps : List SlavePlan) → ArePlans ps → (from : ℕ) (first : List SlaveState) → AreDevices ps first → from + length (script ps) ≤ last_number
     → (s e : StartState) (w x : WireState) → IsBroughtUp s w e x → FromHere ps from first s e w x
 comes-up-over ps plans from first devices few s e w x (Rests _ _ f) k ss tt sent received most turns told_sent told_received fine carried treated =
     let law = applied_up ps plans from first devices k (rising s ss) turns in

@@ -1,7 +1,7 @@
 -- The applications of a segment. A choice of this project: after each frame the firmware of slave after slave steps, and then
 -- its application, which sees its outputs as a whole and publishes its inputs as a whole.
 use Rattle.std.specs.Prelude.{ℕ, ◌≡◌, ◌<◌, ◌==◌, ◌&&◌, List, [], length, slice_get, slice_index, Bool, true, false, if◌then◌else◌, Some, None}
-use Rattle.ec_sync.specs.Manager.{Manager}
+use Rattle.ec_sync.specs.SyncManager.{SyncManager}
 use Rattle.ec_slave.specs.State.{SlaveState, manager_at}
 use Rattle.ec_slave.specs.Application.{get_size, put_size, with_manager}
 use Rattle.ec_slave.specs.Serving.{served}
@@ -10,14 +10,14 @@ use Rattle.ec_slave.specs.Serving.{served}
 abbrev pub outputs_seen : SlaveState → List ℕ
 outputs_seen s = if get_size s == 0 then [] else (manager_at s.managers 2).buffer.published
 
-abbrev pub without_view : Manager → Manager
+abbrev pub without_view : SyncManager → SyncManager
 without_view m = record m { buffer = record m.buffer { view = None } }
 
 -- it read them to the last byte, which closes its view
 abbrev pub outputs_read : SlaveState → SlaveState
 outputs_read s = if get_size s == 0 then s else with_manager s 2 (without_view (manager_at s.managers 2))
 
-abbrev pub with_published : Manager → List ℕ → Manager
+abbrev pub with_published : SyncManager → List ℕ → SyncManager
 with_published m inputs = record m { buffer = record m.buffer { published = inputs; draft = None } }
 
 -- it wrote its inputs to the last byte, which publishes them

@@ -10,8 +10,8 @@ use Rattle.ec_start.specs.Running.{StartState, IsStartTaken, action_of, asked, n
 use Rattle.ec_wire.specs.Wires.{WireState, Carries, is_fault}
 
 -- so many payloads that don't answer a frame are received for it
-abbrev pub most_foreign : ℕ
-most_foreign = 64
+abbrev pub max_foreign : ℕ
+max_foreign = 64
 
 -- payloads that don't answer the outstanding frame
 abbrev pub AreForeign : StartState → List (List ℕ) → Type 0
@@ -22,7 +22,7 @@ pub record IsAnswered (sent after : StartState) (frame : List ℕ) (old new : Wi
   pub foreign : List (List ℕ)
   pub answer : List ℕ
   pub carried : Carries old new (frame ∷ []) (foreign ++ answer ∷ [])
-  pub few : length foreign < most_foreign
+  pub few : length foreign < max_foreign
   pub strange : AreForeign sent foreign
   pub kept : IsStartTaken sent answer true after
   pub fine : is_fault old new ≡ false
@@ -33,9 +33,9 @@ pub record IsUnanswered (sent : StartState) (frame : List ℕ) (old new : WireSt
   pub foreign : List (List ℕ)
   pub carried : Carries old new frames foreign
   pub is_sent : ((frames ≡ []) × (foreign ≡ [])) ⊎ (frames ≡ frame ∷ [])
-  pub few : length foreign ≤ most_foreign
+  pub few : length foreign ≤ max_foreign
   pub strange : AreForeign sent foreign
-  pub lost : (is_fault old new ≡ true) ⊎ (length foreign ≡ most_foreign)
+  pub lost : (is_fault old new ≡ true) ⊎ (length foreign ≡ max_foreign)
 
 -- the frame that comes next
 abbrev pub IsNextFrame : StartState → List ℕ → Type 0

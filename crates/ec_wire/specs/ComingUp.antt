@@ -1,12 +1,12 @@
 -- A start-up over a wire that carries each frame past all slaves and back.
 use Rattle.std.specs.Prelude.{ℕ, ◌+◌, ◌≤◌, ◌≡◌, List, length, true, false, is_some}
 use Rattle.ec_slave.specs.State.{SlaveState}
-use Rattle.ec_link.specs.declared.settings.Settings.{Settings}
+use Rattle.ec_link.specs.declared.settings.SlavePlan.{SlavePlan}
 use Rattle.ec_start.specs.Scripts.{script}
 use Rattle.ec_start.specs.Running.{StartState, begun, last_number}
-use Rattle.ec_rise.specs.Undisturbed.{ArePlans, AreDevices}
-use Rattle.ec_rise.specs.BringUp.{rising}
-use Rattle.ec_rise.specs.ComesUp.{IsUpAndWorks}
+use Rattle.ec_bringup.specs.Undisturbed.{ArePlans, AreDevices}
+use Rattle.ec_bringup.specs.BringUp.{rising}
+use Rattle.ec_bringup.specs.ComesUp.{IsUpAndWorks}
 use Rattle.ec_wire.specs.Wires.{WireState, Carries, is_fault}
 use Rattle.ec_wire.specs.Segments.{AreTreated}
 
@@ -29,5 +29,5 @@ pub record IsCarriedPast (old new : WireState) (before after : List SlaveState) 
 -- after one frame for each action of its script, and then every slave works as planned.
 abbrev pub ComesUpOver : (s e : StartState) (old new : WireState) → Type 0
 ComesUpOver s e old new =
-    (ps : List Settings) (from : ℕ) (before after : List SlaveState) → ArePlans ps → s ≡ begun ps from → AreDevices ps before → from + length (script ps) ≤ last_number
+    (ps : List SlavePlan) (from : ℕ) (before after : List SlaveState) → ArePlans ps → s ≡ begun ps from → AreDevices ps before → from + length (script ps) ≤ last_number
     → IsCarriedPast old new before after → IsUpAndWorks ps (from + length (script ps)) (rising e after)

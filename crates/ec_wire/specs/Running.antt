@@ -17,8 +17,8 @@ AreTaken old [] new = new ≡ old
 AreTaken old (p ∷ ps) new = (0 < missing_of old.cycle) × ((is_kept : Bool) × (m : MasterState) × IsTaken old p is_kept m × AreTaken m ps new)
 
 -- at most so many payloads are received in a cycle of so many parts
-abbrev pub most_received : ℕ → ℕ
-most_received parts = 2 * parts + 64
+abbrev pub max_received : ℕ → ℕ
+max_received parts = 2 * parts + 64
 
 -- What an open cycle sent and received: its frames in order, and then payloads until all parts were kept or the most were
 -- received, up to the first fault.
@@ -29,11 +29,11 @@ pub record IsExchanged (begun last : MasterState) (old new : WireState) : Type 0
   pub carried : Carries old new (take count (frames_of begun.cycle)) got
   pub taken : AreTaken begun got last
   pub few_sent : count ≤ length begun.plan.parts
-  pub few_received : length got ≤ most_received (length begun.plan.parts)
+  pub few_received : length got ≤ max_received (length begun.plan.parts)
   -- nothing is received before all frames are sent
   pub sent_first : count < length begun.plan.parts → got ≡ []
   pub all_sent : is_fault old new ≡ false → count ≡ length begun.plan.parts
-  pub all_received : is_fault old new ≡ false → (missing_of last.cycle ≡ 0) ⊎ (length got ≡ most_received (length begun.plan.parts))
+  pub all_received : is_fault old new ≡ false → (missing_of last.cycle ≡ 0) ⊎ (length got ≡ max_received (length begun.plan.parts))
 
 -- How a cycle ends that came so far: it is closed, or after a fault of the wire dropped.
 abbrev pub IsEnded : MasterState → WireState → WireState → Result ReportState RunError → MasterState → Type 0

@@ -8,12 +8,12 @@ pub record WireState : Type 0 where
   pub failed : ℕ
 
 -- the last value of the count of faults: there every call is a fault, and the count stays
-abbrev pub most_failed : ℕ
-most_failed = 18446744073709551615
+abbrev pub max_failed : ℕ
+max_failed = 18446744073709551615
 
 -- A call was a fault, or one of several was: the count rose in it, or stood at its last value.
 abbrev pub is_fault : WireState → WireState → Bool
-is_fault old new = nat_lt old.failed new.failed || (old.failed == most_failed)
+is_fault old new = nat_lt old.failed new.failed || (old.failed == max_failed)
 
 -- Told payloads stay, and these come behind them. Of a wire that tells none nothing is said, and it goes on telling none.
 abbrev pub Grows : Option (List (List ℕ)) → Option (List (List ℕ)) → List (List ℕ) → Type 0
@@ -49,4 +49,4 @@ pub record IsOpened (asked : ℕ) (s : SocketState) : Type 0 where
 
 -- one fault more, as far as the count goes
 abbrev pub failed_again : WireState → WireState
-failed_again w = record w { failed = if w.failed == most_failed then most_failed else w.failed + 1 }
+failed_again w = record w { failed = if w.failed == max_failed then max_failed else w.failed + 1 }

@@ -9,7 +9,7 @@ use ec_ring::Ring;
 use ec_slave::Slave;
 
 /// The most bytes of inputs of a slave: its RAM has three buffers for them.
-const MOST_DATA: usize = 2730;
+const MAX_DATA: usize = 2730;
 
 /// A slave's application: what it makes of its outputs.
 pub trait App {
@@ -105,7 +105,7 @@ fn serve_slaves<A: App>(ring: &mut Ring, app: &mut A)
     ensures served { AreServed (A.shows app.old) ring.old ring.new }
     ensures later { (o i : List ℕ) → A.shows app.new o i → A.shows app.old o i }
 {
-    let mut inputs = [0; MOST_DATA];
+    let mut inputs = [0; MAX_DATA];
     for place in 0..ring.len() {
         serve_slave(ring.slave_mut(place), app, &mut inputs);
     }

@@ -4,7 +4,7 @@ ghost use Rattle.ec_cycle.specs.declared.error.CycleError.{CycleError};
 ghost use Rattle.ec_cycle.specs.Master.{begin_refusal, missing_of};
 ghost use Rattle.ec_wire.specs.declared.error.RunError.TheVariants.{Refused};
 ghost use Rattle.ec_wire.specs.Wires.{Carries, is_fault};
-ghost use Rattle.ec_wire.specs.Running.{AreTaken, IsExchanged, IsRun, frames_of, most_received};
+ghost use Rattle.ec_wire.specs.Running.{AreTaken, IsExchanged, IsRun, frames_of, max_received};
 
 use crate::error::RunError;
 use crate::wire::{Wire, receive_on, send_on};
@@ -32,8 +32,8 @@ fn send_parts<W: Wire>(master: &Master<'_>, wire: &mut W) -> bool
 /// was no fault.
 fn receive_parts<W: Wire>(master: &mut Master<'_>, wire: &mut W) -> bool
     ensures received { (got : List (List ℕ)) × Carries (W.state wire.old) (W.state wire.new) [] got × AreTaken master.old got master.new
-        × (length got ≤ most_received (length master.old.plan.parts))
-        × (result ≡ true → (missing_of master.new.cycle ≡ 0) ⊎ (length got ≡ most_received (length master.old.plan.parts))) }
+        × (length got ≤ max_received (length master.old.plan.parts))
+        × (result ≡ true → (missing_of master.new.cycle ≡ 0) ⊎ (length got ≡ max_received (length master.old.plan.parts))) }
     ensures fault { result ≡ false → is_fault (W.state wire.old) (W.state wire.new) ≡ true }
     ensures fine { result ≡ true → (W.state wire.new).failed ≡ (W.state wire.old).failed }
 {

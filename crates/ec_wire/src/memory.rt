@@ -1,6 +1,6 @@
 //! A wire over memory.
 ghost use Rattle.std.specs.Prelude.{◌≡◌, ◌≤◌, ◌<◌, [], ◌∷◌, true, false, Some, IfOk, IfSome, IfNone, length, take};
-ghost use Rattle.ec_wire.specs.Wires.{WireState, Carries, failed_again, most_failed};
+ghost use Rattle.ec_wire.specs.Wires.{WireState, Carries, failed_again, max_failed};
 
 use crate::application::{Echo, answer};
 use crate::payload::{Payload, frame_of};
@@ -80,7 +80,7 @@ impl MemoryWire {
     /// Counts a call, and answers whether it may carry something.
     fn begin_call(&mut self) -> bool
         ensures kept { self.new ≡ self.old }
-        ensures few { result ≡ true → self.old.failed < most_failed }
+        ensures few { result ≡ true → self.old.failed < max_failed }
     {
         let call = self.calls;
         self.calls = call.saturating_add(1);

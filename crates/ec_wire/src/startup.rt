@@ -10,7 +10,7 @@ use ec_frame::field::MAX_FRAME_LEN;
 use ec_start::{NextFrame, Startup, Taken};
 
 /// So many payloads that don't answer a frame are received for it.
-const MOST_FOREIGN: usize = 64;
+const MAX_FOREIGN: usize = 64;
 
 /// Sends a frame of the start-up and receives until it is answered. It answers whether it was; else the start-up is as it was.
 fn exchange<W: Wire>(startup: &mut Startup, wire: &mut W, frame: &[u8]) -> bool
@@ -22,7 +22,7 @@ fn exchange<W: Wire>(startup: &mut Startup, wire: &mut W, frame: &[u8]) -> bool
     if !send_on(wire, frame) {
         return false;
     }
-    for _ in 0..MOST_FOREIGN {
+    for _ in 0..MAX_FOREIGN {
         let Some(count) = receive_on(wire, &mut buffer) else {
             return false;
         };

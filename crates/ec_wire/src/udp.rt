@@ -18,7 +18,7 @@ const PATIENCE: u64 = 500;
 const WAITS_PER_SECOND: u64 = 2;
 
 /// A segment waits so many seconds for a payload, where nothing else is asked for.
-const MOST_IDLE: u32 = 60;
+const MAX_IDLE: u32 = 60;
 
 /// Whom a wire sends to.
 #[derive(Clone, Copy)]
@@ -119,7 +119,7 @@ impl UdpWire {
     pub fn bind<R: Net>(rt: &R, port: u16) -> Result<UdpWire, SocketFault>
         ensures { IfOk result (IsOpened port) }
     {
-        UdpWire::bind_idle(rt, port, MOST_IDLE)
+        UdpWire::bind_idle(rt, port, MAX_IDLE)
     }
 
     /// The same, but a receive that got nothing for so many seconds is a fault; with 0 seconds it waits on.

@@ -1,25 +1,25 @@
 -- A table of one slave with four output bits, one variable and one link: it is sound, and no fault is in it.
 use Rattle.std.proofs.Common.{◌≡◌, ℕ, zero, suc, ◌<◌, [], ◌∷◌, length, get_or, refl, subst, arith, Some, None}
 use Rattle.std.specs.List.{All, Contains}
-use Rattle.ec_regs.specs.declared.slave_type.Pdo.{Pdo}
-use Rattle.ec_regs.specs.Types.{IsEntry, IsPdo, ArePdos, first_output_index, first_input_index}
+use Rattle.ec_device.specs.declared.slave_type.Pdo.{Pdo}
+use Rattle.ec_device.specs.Types.{IsEntry, IsPdo, ArePdos, first_output_index, first_input_index}
 use Rattle.ec_table.specs.declared.rows.Version.TheVariants.{One}
 use Rattle.ec_table.specs.declared.rows.Direction.TheVariants.{Out, In}
 use Rattle.ec_table.specs.declared.rows.Direction.{Direction}
-use Rattle.ec_regs.specs.declared.slave_type.Mailbox.{Mailbox}
+use Rattle.ec_device.specs.declared.slave_type.Mailbox.{Mailbox}
 use Rattle.ec_table.specs.Sound as table
 use Rattle.ec_table.specs.Pdos.{indices_of}
 use Rattle.ec_table.specs.declared.rows.TypeRow.{TypeRow}
 use Rattle.ec_table.specs.Contents.{pdos_toward, assigned_toward}
 use Rattle.ec_table.specs.Objects.{entries_of}
-use Rattle.ec_link.specs.Wires.{run_of, wire_of}
-use Rattle.ec_link.specs.Settings.{managers_of}
+use Rattle.ec_link.specs.LinkRuns.{run_of, link_run_of}
+use Rattle.ec_link.specs.SlavePlan.{managers_of}
 use Rattle.ec_link.specs.Layout.{layout, units_below, unit_count, seated, joined, opened, with_slave, joins}
 use Rattle.ec_link.specs.Faults.{compile_fault, link_fault, slave_fault, part_fault, memory_fault, variable_fault, managers_at}
 use Rattle.ec_world.specs.Example.{small_type, small_slave, small_variable, small_link, small_table, AcceptedLaw}
 
 pub accepted : compile_fault small_table ≡ None
-unfolding compile_fault link_fault slave_fault part_fault memory_fault variable_fault managers_at entries_of run_of wire_of managers_of layout units_below unit_count seated joined opened with_slave joins
+unfolding compile_fault link_fault slave_fault part_fault memory_fault variable_fault managers_at entries_of run_of link_run_of managers_of layout units_below unit_count seated joined opened with_slave joins
 accepted = refl
 
 -- ---- it is sound

@@ -3,10 +3,10 @@ use Rattle.std.proofs.Common.{◌≡◌, ◌≢◌, ℕ, zero, suc, ◌<◌, ◌
 use Rattle.std.specs.Option.{ForSome}
 use Rattle.std.specs.List.{All, AllPairs, Contains}
 use Rattle.std.proofs.lemmas.List.Kept.{AllPairs-cons}
-use Rattle.ec_regs.specs.declared.slave_type.Entry.{Entry}
-use Rattle.ec_regs.specs.declared.slave_type.Pdo.{Pdo}
-use Rattle.ec_regs.specs.declared.slave_type.Mailbox.{Mailbox}
-use Rattle.ec_regs.specs.Types.{IsEntry, IsPdo, ArePdos, IsMailbox, first_output_index, first_input_index}
+use Rattle.ec_device.specs.declared.slave_type.Entry.{Entry}
+use Rattle.ec_device.specs.declared.slave_type.Pdo.{Pdo}
+use Rattle.ec_device.specs.declared.slave_type.Mailbox.{Mailbox}
+use Rattle.ec_device.specs.Types.{IsEntry, IsPdo, ArePdos, IsMailbox, first_output_index, first_input_index}
 use Rattle.ec_table.specs.declared.rows.Version.TheVariants.{One, Two}
 use Rattle.ec_table.specs.declared.rows.Direction.TheVariants.{Out, In}
 use Rattle.ec_table.specs.declared.rows.Direction.{Direction}
@@ -17,14 +17,14 @@ use Rattle.ec_table.specs.declared.rows.LinkRow.{LinkRow}
 use Rattle.ec_table.specs.Sound as table
 use Rattle.ec_table.specs.Contents.{pdos_toward, assigned_toward}
 use Rattle.ec_table.specs.Objects.{entries_of}
-use Rattle.ec_link.specs.Wires.{run_of, wire_of}
-use Rattle.ec_link.specs.Settings.{managers_of}
+use Rattle.ec_link.specs.LinkRuns.{run_of, link_run_of}
+use Rattle.ec_link.specs.SlavePlan.{managers_of}
 use Rattle.ec_link.specs.Layout.{layout, units_below, unit_count, seated, joined, opened, with_slave, joins}
 use Rattle.ec_link.specs.Faults.{compile_fault, link_fault, slave_fault, part_fault, memory_fault, variable_fault, managers_at}
 use Rattle.ec_world.specs.Example.{two_way, box, split_type, boxed_type, slave_in, variable_of, link_to, two_units, AcceptedTwoLaw}
 
 accepted : compile_fault two_units ≡ None
-unfolding compile_fault link_fault slave_fault part_fault memory_fault variable_fault managers_at entries_of run_of wire_of managers_of layout units_below unit_count seated joined opened with_slave joins
+unfolding compile_fault link_fault slave_fault part_fault memory_fault variable_fault managers_at entries_of run_of link_run_of managers_of layout units_below unit_count seated joined opened with_slave joins
 accepted = refl
 
 -- ---- lists

@@ -8,8 +8,8 @@ use Rattle.ec_frame.specs.declared.command.Command.TheVariants.{Brd, Lrd, Lwr, L
 use Rattle.ec_frame.specs.Datagram.{Datagram}
 use Rattle.ec_link.specs.declared.settings.Share.{Share}
 use Rattle.ec_link.specs.Shares.{Gave, counters_of, sum_of, lwr_count, lrd_count, lrw_count, whole_share, nothing_given}
-use Rattle.ec_link.specs.declared.plan.Predicted.{Predicted}
-use Rattle.ec_link.specs.declared.plan.Predicted.TheVariants.{Lrw as InOne, Split}
+use Rattle.ec_link.specs.declared.plan.ExpectedCounters.{ExpectedCounters}
+use Rattle.ec_link.specs.declared.plan.ExpectedCounters.TheVariants.{Lrw as InOne, Split}
 use Rattle.ec_link.specs.Meaning.{share_of, area_at, place_of_part, meaning}
 use Rattle.ec_link.specs.Plan.{PlanState, part_at}
 use Rattle.ec_link.specs.declared.plan.PartPlan.{PartPlan}
@@ -109,7 +109,7 @@ kept_shows plan f ds sound shows all =
           ];
     }
   where
-    counters_in : PartPlan → List Datagram → Predicted
+    counters_in : PartPlan → List Datagram → ExpectedCounters
     counters_in part ds = if part.split then Split (counter_at ds 2) (counter_at ds 3) else InOne (counter_at ds 2)
 
     frame : PartPlan → List Datagram

@@ -8,10 +8,10 @@ use Rattle.ec_bits.specs.Bits.{bytes_of_bits, zeros}
 use Rattle.ec_bits.proofs.AnyLaws.{if_true, if_false}
 use Rattle.ec_regs.specs.Managers.{is_set}
 use Rattle.ec_sync.specs.Buffer.{Buffer, Got, app_written, app_read, drafted, draft_next, view_next}
-use Rattle.ec_sync.specs.Manager.{Manager, no_manager}
+use Rattle.ec_sync.specs.SyncManager.{SyncManager, no_manager}
 use Rattle.ec_slave.specs.State.{SlaveState, manager_at}
 use Rattle.ec_slave.specs.Application.{is_running, input_put, output_got, output_taken, with_manager}
-use Rattle.ec_link.specs.declared.settings.Settings.{Settings}
+use Rattle.ec_link.specs.declared.settings.SlavePlan.{SlavePlan}
 use Rattle.ec_link.specs.Meaning.{slave_at}
 use Rattle.ec_link.specs.Usable.{IsUsable, AreListed}
 use Rattle.ec_world.specs.Plain.{Plain, PlainSlave, Health, Working, Faulted, Reset, plain_slave, is_working, is_reset, at_slave, got_byte}
@@ -79,11 +79,11 @@ mapped_twice : {X Y Z : Type 0} (f : Y → Z) (g : X → Y) (o : Option X) → o
 mapped_twice f g None = refl
 mapped_twice f g (Some x) = refl
 
-module _ (i : ℕ) (p : Settings) (s : SlaveState) (q : PlainSlave) (fits : AreListed p) where
-  abbrev m2 : Manager
+module _ (i : ℕ) (p : SlavePlan) (s : SlaveState) (q : PlainSlave) (fits : AreListed p) where
+  abbrev m2 : SyncManager
   m2 = manager_at s.managers 2
 
-  abbrev m3 : Manager
+  abbrev m3 : SyncManager
   m3 = manager_at s.managers 3
 
   abbrev put_into : Buffer → SlaveState
@@ -130,16 +130,16 @@ module _ (i : ℕ) (p : Settings) (s : SlaveState) (q : PlainSlave) (fits : AreL
 
   -- ---- the slave with another buffer in a manager
 
-  managers_kept : (n : ℕ) (m : Manager) → (λ (x : Manager). x.settings) m ≡ (manager_at s.managers n).settings → map (λ (x : Manager). x.settings) (slice_set s.managers n m) ≡ map (λ (x : Manager). x.settings) s.managers
-  managers_kept n m e = map-set_same (λ (x : Manager). x.settings) s.managers n m no_manager e
+  managers_kept : (n : ℕ) (m : SyncManager) → (λ (x : SyncManager). x.settings) m ≡ (manager_at s.managers n).settings → map (λ (x : SyncManager). x.settings) (slice_set s.managers n m) ≡ map (λ (x : SyncManager). x.settings) s.managers
+  managers_kept n m e = map-set_same (λ (x : SyncManager). x.settings) s.managers n m no_manager e
 
-  own_of : (n : ℕ) (m : Manager) → n < 4 → Holds i p s → manager_at (slice_set s.managers n m) n ≡ m
+  own_of : (n : ℕ) (m : SyncManager) → n < 4 → Holds i p s → manager_at (slice_set s.managers n m) n ≡ m
   own_of n m l h = get_or-set_same s.managers n m no_manager (let x = two_there i p s q fits h in omega arith)
 
-  others_of : (n k : ℕ) (m : Manager) → k ≢ n → manager_at (slice_set s.managers n m) k ≡ manager_at s.managers k
+  others_of : (n k : ℕ) (m : SyncManager) → k ≢ n → manager_at (slice_set s.managers n m) k ≡ manager_at s.managers k
   others_of n k m ne = get_or-set_other s.managers n k m no_manager ne
 
-  holds_put : (n : ℕ) (m : Manager) → m.settings ≡ (manager_at s.managers n).settings → Holds i p s → Holds i p (with_manager s n m)
+  holds_put : (n : ℕ) (m : SyncManager) → m.settings ≡ (manager_at s.managers n).settings → Holds i p s → Holds i p (with_manager s n m)
   holds_put n m e h = record {
     kind = h.kind;
     station = h.station;
@@ -149,20 +149,20 @@ module _ (i : ℕ) (p : Settings) (s : SlaveState) (q : PlainSlave) (fits : AreL
     inputs = h.inputs;
   }
 
-  quiet_put : (n : ℕ) (m : Manager) → n < 4 → m.mail ≡ (manager_at s.managers n).mail → Holds i p s → IsQuiet s → IsQuiet (with_manager s n m)
+  quiet_put : (n : ℕ) (m : SyncManager) → n < 4 → m.mail ≡ (manager_at s.managers n).mail → Holds i p s → IsQuiet s → IsQuiet (with_manager s n m)
   quiet_put n m l e h w = record {
     no_request = w.no_request;
     no_read = w.no_read;
     no_message = λ k. elim (cases_eq k n) [
-      | inl z ↦ subst (λ (j : ℕ). (manager_at (slice_set s.managers n m) j).mail ≡ None) (sym z) (ap (λ (x : Manager). x.mail) (own_of n m l h) ∙ (e ∙ w.no_message n))
-      | inr ne ↦ ap (λ (x : Manager). x.mail) (others_of n k m ne) ∙ w.no_message k
+      | inl z ↦ subst (λ (j : ℕ). (manager_at (slice_set s.managers n m) j).mail ≡ None) (sym z) (ap (λ (x : SyncManager). x.mail) (own_of n m l h) ∙ (e ∙ w.no_message n))
+      | inr ne ↦ ap (λ (x : SyncManager). x.mail) (others_of n k m ne) ∙ w.no_message k
     ];
   }
 
   put_data : (b : Buffer) → IsOfLength (bytes_of_bits p.share.ins) b → Holds i p s → HoldsData p s q → HoldsData p (put_into b) (record q { inputs = b })
   put_data b len h d = record {
-    outputs = ap (λ (x : Manager). x.buffer) (others_of 3 2 (record m3 { buffer = b }) (omega arith)) ∙ d.outputs;
-    inputs = ap (λ (x : Manager). x.buffer) (own_of 3 (record m3 { buffer = b }) (omega arith) h);
+    outputs = ap (λ (x : SyncManager). x.buffer) (others_of 3 2 (record m3 { buffer = b }) (omega arith)) ∙ d.outputs;
+    inputs = ap (λ (x : SyncManager). x.buffer) (own_of 3 (record m3 { buffer = b }) (omega arith) h);
     out_bytes = d.out_bytes;
     in_bytes = len;
   }
@@ -174,8 +174,8 @@ module _ (i : ℕ) (p : Settings) (s : SlaveState) (q : PlainSlave) (fits : AreL
     process = put_data b (written_length (bytes_of_bits p.share.ins) q.inputs k x b w.process.in_bytes e) w.holds w.process;
     state = w.state;
     no_error = w.no_error;
-    out_unlocked = ap (λ (x : Manager). x.locked) (others_of 3 2 (record m3 { buffer = b }) (omega arith)) ∙ w.out_unlocked;
-    in_unlocked = ap (λ (x : Manager). x.locked) (own_of 3 (record m3 { buffer = b }) (omega arith) w.holds) ∙ w.in_unlocked;
+    out_unlocked = ap (λ (x : SyncManager). x.locked) (others_of 3 2 (record m3 { buffer = b }) (omega arith)) ∙ w.out_unlocked;
+    in_unlocked = ap (λ (x : SyncManager). x.locked) (own_of 3 (record m3 { buffer = b }) (omega arith) w.holds) ∙ w.in_unlocked;
   }
   put_shows Faulted k x b e z w = record {
     holds = holds_put 3 (record m3 { buffer = b }) refl w.holds;
@@ -183,8 +183,8 @@ module _ (i : ℕ) (p : Settings) (s : SlaveState) (q : PlainSlave) (fits : AreL
     process = put_data b (written_length (bytes_of_bits p.share.ins) q.inputs k x b w.process.in_bytes e) w.holds w.process;
     state = w.state;
     error = w.error;
-    out_locked = ap (λ (x : Manager). x.locked) (others_of 3 2 (record m3 { buffer = b }) (omega arith)) ∙ w.out_locked;
-    in_unlocked = ap (λ (x : Manager). x.locked) (own_of 3 (record m3 { buffer = b }) (omega arith) w.holds) ∙ w.in_unlocked;
+    out_locked = ap (λ (x : SyncManager). x.locked) (others_of 3 2 (record m3 { buffer = b }) (omega arith)) ∙ w.out_locked;
+    in_unlocked = ap (λ (x : SyncManager). x.locked) (own_of 3 (record m3 { buffer = b }) (omega arith) w.holds) ∙ w.in_unlocked;
   }
   put_shows Reset k x b e z w = absurd (let y : true ≡ false = z in cc)
 
@@ -193,15 +193,15 @@ module _ (i : ℕ) (p : Settings) (s : SlaveState) (q : PlainSlave) (fits : AreL
     holds = holds_put 2 (record m2 { buffer = g.buffer }) refl w.holds;
     quiet = quiet_put 2 (record m2 { buffer = g.buffer }) (omega arith) refl w.holds w.quiet;
     process = record {
-      outputs = ap (λ (x : Manager). x.buffer) (own_of 2 (record m2 { buffer = g.buffer }) (omega arith) w.holds);
-      inputs = ap (λ (x : Manager). x.buffer) (others_of 2 3 (record m2 { buffer = g.buffer }) (omega arith)) ∙ w.process.inputs;
+      outputs = ap (λ (x : SyncManager). x.buffer) (own_of 2 (record m2 { buffer = g.buffer }) (omega arith) w.holds);
+      inputs = ap (λ (x : SyncManager). x.buffer) (others_of 2 3 (record m2 { buffer = g.buffer }) (omega arith)) ∙ w.process.inputs;
       out_bytes = read_length (bytes_of_bits p.share.outs) q.outputs k g w.process.out_bytes e;
       in_bytes = w.process.in_bytes;
     };
     state = w.state;
     no_error = w.no_error;
-    out_unlocked = ap (λ (x : Manager). x.locked) (own_of 2 (record m2 { buffer = g.buffer }) (omega arith) w.holds) ∙ w.out_unlocked;
-    in_unlocked = ap (λ (x : Manager). x.locked) (others_of 2 3 (record m2 { buffer = g.buffer }) (omega arith)) ∙ w.in_unlocked;
+    out_unlocked = ap (λ (x : SyncManager). x.locked) (own_of 2 (record m2 { buffer = g.buffer }) (omega arith) w.holds) ∙ w.out_unlocked;
+    in_unlocked = ap (λ (x : SyncManager). x.locked) (others_of 2 3 (record m2 { buffer = g.buffer }) (omega arith)) ∙ w.in_unlocked;
   }
   got_shows Faulted k g e z w = absurd (let y : false ≡ true = z in cc)
   got_shows Reset k g e z w = absurd (let y : false ≡ true = z in cc)

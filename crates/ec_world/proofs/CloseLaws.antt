@@ -8,8 +8,8 @@ use Rattle.ec_bits.specs.Bits.{bit}
 use Rattle.ec_bits.proofs.BitLaws.{overlay_alike}
 use Rattle.ec_bits.proofs.AnyLaws.{if_true, if_false}
 use Rattle.ec_link.specs.declared.settings.Share.{Share}
-use Rattle.ec_link.specs.declared.plan.Predicted.{Predicted}
-use Rattle.ec_link.specs.declared.plan.Predicted.TheVariants.{Lrw, Split}
+use Rattle.ec_link.specs.declared.plan.ExpectedCounters.{ExpectedCounters}
+use Rattle.ec_link.specs.declared.plan.ExpectedCounters.TheVariants.{Lrw, Split}
 use Rattle.ec_link.specs.Shares.{same_counters, unit_of_part, predicted}
 use Rattle.ec_link.specs.Meaning.{share_of, Linked, slave_at, area_at, meaning, in_source}
 use Rattle.ec_link.specs.Plan.{PlanState, part_at, no_part}
@@ -107,7 +107,7 @@ report_said plan c q h =
 
 -- ---- counters
 
-counters_equal : (a b : Predicted) → same_counters a b ≡ true → a ≡ b
+counters_equal : (a b : ExpectedCounters) → same_counters a b ≡ true → a ≡ b
 counters_equal (Lrw n) (Lrw m) e = ap (λ x. Lrw x) (eqb-true n m e)
 counters_equal (Lrw n) (Split w r) e = absurd (let z : false ≡ true = e in cc)
 counters_equal (Split w r) (Lrw n) e = absurd (let z : false ≡ true = e in cc)

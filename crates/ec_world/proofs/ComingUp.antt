@@ -1,9 +1,9 @@
 -- A start-up that nothing disturbs ends Ready, in a new world and after a failure.
 use Rattle.std.proofs.Common.{ℕ, zero, suc, ◌+◌, ◌<◌, ◌≡◌, ◌⊎◌, Bool, true, false, if◌then◌else◌, Option, None, refl, sym, ◌∙◌, ap, subst, inl, inr, arith, List, [], ◌∷◌, ◌++◌, length, get_or, replicate}
-use Rattle.ec_regs.specs.declared.slave_type.Identity.{Identity}
+use Rattle.ec_device.specs.declared.slave_type.Identity.{Identity}
 use Rattle.ec_slave.specs.State.{SlaveState}
 use Rattle.ec_table.specs.Contents.{Contents}
-use Rattle.ec_link.specs.declared.settings.Settings.{Settings}
+use Rattle.ec_link.specs.declared.settings.SlavePlan.{SlavePlan}
 use Rattle.ec_link.specs.Plan.{PlanState, plan_of}
 use Rattle.ec_link.proofs.Soundness.{plan_sound}
 use Rattle.ec_link.proofs.UsableLaws.{plan_usable}
@@ -13,12 +13,12 @@ use Rattle.ec_start.specs.declared.phase.Phase.{Phase}
 use Rattle.ec_start.specs.declared.phase.Phase.TheVariants.{Idle, Ready, Failed}
 use Rattle.ec_start.specs.Scripts.{script}
 use Rattle.ec_start.specs.Running.{StartState, begun}
-use Rattle.ec_rise.specs.Undisturbed.{Rising, turns}
-use Rattle.ec_rise.specs.ComesUp.{IsUpAndWorks}
-use Rattle.ec_rise.specs.Runs.{AreStartable}
-use Rattle.ec_rise.proofs.Genuine.{stay}
-use Rattle.ec_rise.proofs.StartableLaws.{slave_startable}
-use Rattle.ec_rise.proofs.Up.{compiled-up}
+use Rattle.ec_bringup.specs.Undisturbed.{Rising, turns}
+use Rattle.ec_bringup.specs.ComesUp.{IsUpAndWorks}
+use Rattle.ec_bringup.specs.Runs.{AreStartable}
+use Rattle.ec_bringup.proofs.Genuine.{stay}
+use Rattle.ec_bringup.proofs.StartableLaws.{slave_startable}
+use Rattle.ec_bringup.proofs.Up.{compiled-up}
 use Rattle.ec_world.specs.declared.event.Event.{Event}
 use Rattle.ec_world.specs.World.{WorldState, Flight, flight_at, phase_ready, phase_awaits, is_up, awaits, resumed, ready_with}
 use Rattle.ec_world.specs.Laws.{IsRun}
@@ -115,7 +115,7 @@ turns_all (suc k) n w s es v made can free go are h =
 
 -- ---- from where
 
-some_script : (ps : List Settings) → (k : ℕ) × (length (script ps) ≡ suc k)
+some_script : (ps : List SlavePlan) → (k : ℕ) × (length (script ps) ≡ suc k)
 some_script [] = (_, refl)
 some_script (p ∷ ps) = (_, refl)
 
@@ -130,12 +130,12 @@ none_free zero k = refl
 none_free (suc n) zero = refl
 none_free (suc n) (suc k) = none_free n k
 
-record IsAnew (w : WorldState) (ps : List Settings) : Type 0 where
+record IsAnew (w : WorldState) (ps : List SlavePlan) : Type 0 where
   resumes : w.start.plan ≡ ps → resumed w.start w.start.phase ≡ begun ps w.start.next
   not_up : is_up w.start ≡ false
   none_awaited : awaits w.start ≡ false
 
-anew : (w : WorldState) (ps : List Settings) → (w.start ≡ begun ps w.start.next) ⊎ ((failure : StartError) × (w.start.phase ≡ Failed failure)) → IsAnew w ps
+anew : (w : WorldState) (ps : List SlavePlan) → (w.start ≡ begun ps w.start.next) ⊎ ((failure : StartError) × (w.start.phase ≡ Failed failure)) → IsAnew w ps
 unfolding begun
 anew w ps (inl e) =
     let idle : w.start.phase ≡ Idle = ap (λ (s : StartState). s.phase) e in
@@ -145,12 +145,12 @@ anew w ps (inl e) =
       none_awaited = ap (λ (p : Phase). phase_awaits p) idle;
     }
 anew w ps (inr h) = record {
-  resumes = λ q. ap (λ (p : Phase). resumed w.start p) h.1 ∙ ap (λ (qs : List Settings). begun qs w.start.next) q;
+  resumes = λ q. ap (λ (p : Phase). resumed w.start p) h.1 ∙ ap (λ (qs : List SlavePlan). begun qs w.start.next) q;
   not_up = ap (λ (p : Phase). phase_ready p) h.1;
   none_awaited = ap (λ (p : Phase). phase_awaits p) h.1;
 }
 
-begun_next : (ps : List Settings) (n : ℕ) → (begun ps n).next ≡ n
+begun_next : (ps : List SlavePlan) (n : ℕ) → (begun ps n).next ≡ n
 unfolding begun
 begun_next ps n = refl
 
@@ -205,7 +205,7 @@ pub record IsBeginning (t : Contents) (w : WorldState) : Type 0 where
 
 pub beginning : (t : Contents) (w : WorldState) → IsToStart t w → IsBeginning t w
 beginning t w s =
-    let ps : List Settings = (plan_of t).slaves in
+    let ps : List SlavePlan = (plan_of t).slaves in
     let new = s.new in
     let a : IsAnew w ps = anew w ps s.begins in
     let r : StillRises ps (new_world (plan_of t) s.identities) w = risen t w s a.not_up in
@@ -241,7 +241,7 @@ high_master m x e = rw e refl
 
 pub comes_up : (t : Contents) (w : WorldState) → IsToStart t w → (events : List Event) (v : WorldState) (made : ℕ) → BringUp t events → IsRun w events v made → IsBroughtUp t w events v made
 comes_up t w s events v made are h =
-    let ps : List Settings = (plan_of t).slaves in
+    let ps : List SlavePlan = (plan_of t).slaves in
     let b : IsBeginning t w = beginning t w s in
     let from : ℕ = w.start.next in
     let long = b.long in

@@ -7,7 +7,7 @@ use Rattle.ec_link.specs.declared.settings.Share.{Share}
 use Rattle.ec_link.specs.Shares.{Gave, counters_of, same_counters, share_in, sum_of, lwr_count, lrd_count, lrw_count, whole_share, nothing_given, predicted}
 use Rattle.ec_link.specs.Meaning.{share_of, no_slave as no_slave_plan, meaning}
 use Rattle.ec_link.specs.Plan.{PlanState, part_at}
-use Rattle.ec_link.specs.declared.settings.Settings.{Settings}
+use Rattle.ec_link.specs.declared.settings.SlavePlan.{SlavePlan}
 use Rattle.ec_cycle.specs.Closing.{KeptPart, is_good}
 use Rattle.ec_world.specs.Plain.{Note, Other, Short, Full, is_full, all_full}
 use Rattle.ec_world.specs.FrameShows.{GaveAs, note_at, KeptShows}
@@ -104,11 +104,11 @@ counts_tell false xs ys e h same t l = sums_tell lrw_count xs ys e (λ t l. let 
 pub good_is_full : (plan : PlanState) (k : ℕ) (notes : List Note) (q : KeptPart) → KeptShows plan k notes q → is_good plan k (Some q) ≡ all_full (Some notes)
 good_is_full plan k notes q shows =
     let m = meaning plan in
-    let whole = map (λ (s : Settings). share_in k s.share) plan.slaves in
+    let whole = map (λ (s : SlavePlan). share_in k s.share) plan.slaves in
     let split = (part_at plan.parts k).split in
     let len : length shows.gave ≡ length whole = shows.as_many ∙ (shows.all ∙ sym (length-map plan.slaves (λ s. share_in k s.share))) in
     let there : (t : ℕ) → t < length plan.slaves → at whole t ≡ share_in k (share_of m t)
-    = λ t l. get_or-map (λ (s : Settings). share_in k s.share) plan.slaves t no_slave_plan nothing_given l ∙ ap (share_in k) (sym (share_is plan t)) in
+    = λ t l. get_or-map (λ (s : SlavePlan). share_in k s.share) plan.slaves t no_slave_plan nothing_given l ∙ ap (share_in k) (sym (share_is plan t)) in
     let broadcast : (q.broadcast == length plan.slaves) ≡ true = eq-eqb _ _ shows.broadcast in
     same_truth (is_good plan k (Some q)) (all_full (Some notes))
     (λ good.

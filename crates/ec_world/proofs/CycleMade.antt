@@ -1,6 +1,6 @@
 -- A world at rest makes a cycle whole.
 use Rattle.std.proofs.Common.{◌≡◌, ◌≤◌, Bool, true, Some, None, Option, refl, ◌∙◌, ap, arith, List, [], ◌∷◌, length, replicate, option_map, unwrap_or}
-use Rattle.ec_regs.specs.declared.slave_type.Identity.{Identity}
+use Rattle.ec_device.specs.declared.slave_type.Identity.{Identity}
 use Rattle.ec_table.specs.Contents.{Contents}
 use Rattle.ec_link.specs.Meaning.{Meaning, meaning}
 use Rattle.ec_link.specs.Plan.{PlanState, plan_of}

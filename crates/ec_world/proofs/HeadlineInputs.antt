@@ -10,7 +10,7 @@ use Rattle.std.proofs.lemmas.Option.{slice_get-get_or}
 use Rattle.ec_bits.specs.Bits.{bit, bits_number, bytes_of_bits}
 use Rattle.ec_bits.proofs.AnyLaws.{if_true, if_false}
 use Rattle.ec_bits.proofs.Numbers.{bits_number-lt, bit_at-bits_number}
-use Rattle.ec_regs.specs.declared.slave_type.Identity.{Identity}
+use Rattle.ec_device.specs.declared.slave_type.Identity.{Identity}
 use Rattle.ec_sync.specs.Buffer.{Buffer}
 use Rattle.ec_slave.specs.State.{SlaveState}
 use Rattle.ec_slave.specs.Exchange.{inputs_of}
@@ -20,10 +20,10 @@ use Rattle.ec_table.specs.declared.rows.SlaveRow.{SlaveRow}
 use Rattle.ec_table.specs.Contents.{Contents}
 use Rattle.ec_link.specs.declared.image.Variable.{Variable}
 use Rattle.ec_link.specs.declared.settings.Share.{Share}
-use Rattle.ec_link.specs.declared.settings.Settings.{Settings}
+use Rattle.ec_link.specs.declared.settings.SlavePlan.{SlavePlan}
 use Rattle.ec_link.specs.declared.plan.PartPlan.{PartPlan}
 use Rattle.ec_link.specs.Shares.{has_outs, has_ins, predicted, unit_of_part as unit_of_plain}
-use Rattle.ec_link.specs.Wires.{IsLinked, is_out}
+use Rattle.ec_link.specs.LinkRuns.{IsLinked, is_out}
 use Rattle.ec_link.specs.Image.{image, image_from, placed}
 use Rattle.ec_link.specs.Laws.{IsPair, AreItsLinks}
 use Rattle.ec_link.specs.Meaning.{Meaning, Linked, meaning, share_of, in_source, slave_at as settings_of}
@@ -101,7 +101,7 @@ noted_on m s f q v is ins reset = elim (cases_Bool ((share_of m s).part == f.par
   | inl on ↦ full_short v (is ∙ (if_true _ _ _ on ∙ (ap (giving (share_of m s) q) reset ∙ if_true _ _ _ (or_right (has_outs (share_of m s)) _ ins))))
 ]
 
-pub inputs_held : (i : ℕ) (x : Settings) (s : SlaveState) (q : PlainSlave) (h : Health) → IsAs i x s q h → h ≢ Reset → inputs_of s ≡ q.inputs.published
+pub inputs_held : (i : ℕ) (x : SlavePlan) (s : SlaveState) (q : PlainSlave) (h : Health) → IsAs i x s q h → h ≢ Reset → inputs_of s ≡ q.inputs.published
 inputs_held i x s q Working a ne = ap (λ (b : Buffer). b.published) a.process.inputs
 inputs_held i x s q Faulted a ne = ap (λ (b : Buffer). b.published) a.process.inputs
 inputs_held i x s q Reset a ne = absurd (ne refl)

@@ -7,13 +7,13 @@ use Rattle.std.proofs.lemmas.List.{append_assoc, set-get_or}
 use Rattle.std.proofs.lemmas.Option.{slice_get-get_or, slice_get_within}
 use Rattle.ec_bits.specs.Bits.{bit, bytes_of_bits}
 use Rattle.ec_bits.proofs.AnyLaws.{if_true, if_false}
-use Rattle.ec_regs.specs.declared.slave_type.Identity.{Identity}
-use Rattle.ec_regs.specs.declared.manager.ManagerSettings.{ManagerSettings}
+use Rattle.ec_device.specs.declared.slave_type.Identity.{Identity}
+use Rattle.ec_regs.specs.declared.manager.SyncManagerSettings.{SyncManagerSettings}
 use Rattle.ec_regs.specs.Managers.{is_set, is_buffered}
-use Rattle.ec_regs.specs.Types.{SlaveKind}
+use Rattle.ec_device.specs.Types.{SlaveKind}
 use Rattle.ec_al.specs.declared.state.State.TheVariants.{Init, SafeOp, Op}
 use Rattle.ec_sync.specs.Buffer.{Buffer}
-use Rattle.ec_sync.specs.Manager.{Manager, no_manager}
+use Rattle.ec_sync.specs.SyncManager.{SyncManager, no_manager}
 use Rattle.ec_frame.specs.Frame.{Payload}
 use Rattle.ec_frame.proofs.Verdict.{one_payload}
 use Rattle.ec_al.specs.Al.{Al}
@@ -29,10 +29,10 @@ use Rattle.ec_table.specs.Contents.{Contents}
 use Rattle.ec_table.specs.Objects.{object_bits}
 use Rattle.ec_table.specs.Sound as table
 use Rattle.ec_link.specs.declared.settings.Share.{Share}
-use Rattle.ec_link.specs.declared.settings.Settings.{Settings}
+use Rattle.ec_link.specs.declared.settings.SlavePlan.{SlavePlan}
 use Rattle.ec_link.specs.Shares.{Gave, has_outs}
 use Rattle.ec_link.specs.Faults.{compile_fault}
-use Rattle.ec_link.specs.Wires.{IsLinked}
+use Rattle.ec_link.specs.LinkRuns.{IsLinked}
 use Rattle.ec_link.specs.Image.{image, image_from}
 use Rattle.ec_link.specs.Laws.{AreItsLinks}
 use Rattle.ec_link.specs.Meaning.{Meaning, meaning, share_of, out_source, slave_at as settings_of, no_slave as no_slave_plan}
@@ -44,9 +44,9 @@ use Rattle.ec_link.proofs.PlanSound.{no_fault}
 use Rattle.ec_link.proofs.Soundness.{plan_sound}
 use Rattle.ec_link.proofs.UsableLaws.{plan_usable}
 use Rattle.ec_link.proofs.InputsBack.{its_links}
-use Rattle.ec_rise.specs.Starting.{trouble_at}
-use Rattle.ec_rise.specs.Runs.{AreStartable}
-use Rattle.ec_rise.proofs.StartableLaws.{slave_startable}
+use Rattle.ec_bringup.specs.Starting.{trouble_at}
+use Rattle.ec_bringup.specs.Runs.{AreStartable}
+use Rattle.ec_bringup.proofs.StartableLaws.{slave_startable}
 use Rattle.ec_world.specs.declared.event.Event.{Event}
 use Rattle.ec_world.specs.declared.event.Event.TheVariants.{Begin, Pass}
 use Rattle.ec_world.specs.declared.progress.Progress.{Progress}
@@ -292,32 +292,32 @@ passed_on old p k f new sound s at h =
 on_state : (k : SlaveKind) (j : Identity) → (power_on k j).al.state ≡ Init
 on_state k j = ap (λ (a : Al). a.state) (switched_on k j).al
 
-op_health : (i : ℕ) (x : Settings) (s : SlaveState) (q : PlainSlave) (h : Health) → IsAs i x s q h → s.al.state ≡ Op → h ≡ Working
+op_health : (i : ℕ) (x : SlavePlan) (s : SlaveState) (q : PlainSlave) (h : Health) → IsAs i x s q h → s.al.state ≡ Op → h ≡ Working
 op_health i x s q Working a e = refl
 op_health i x s q Faulted a e = absurd (let z : SafeOp ≡ Op = sym a.state ∙ e in cc)
 op_health i x s q Reset a e = absurd (let z : Init ≡ Op = sym (ap (λ (y : SlaveState). y.al.state) a.as_on ∙ on_state s.kind s.identity) ∙ e in cc)
 
-health_op : (i : ℕ) (x : Settings) (s : SlaveState) (q : PlainSlave) (h : Health) → IsAs i x s q h → h ≡ Working → s.al.state ≡ Op
+health_op : (i : ℕ) (x : SlavePlan) (s : SlaveState) (q : PlainSlave) (h : Health) → IsAs i x s q h → h ≡ Working → s.al.state ≡ Op
 health_op i x s q Working a e = a.state
 health_op i x s q Faulted a e = absurd (let z : Faulted ≡ Working = e in cc)
 health_op i x s q Reset a e = absurd (let z : Reset ≡ Working = e in cc)
 
-pub safe_faulted : (i : ℕ) (x : Settings) (s : SlaveState) (q : PlainSlave) (h : Health) → IsAs i x s q h → s.al.state ≡ SafeOp → h ≡ Faulted
+pub safe_faulted : (i : ℕ) (x : SlavePlan) (s : SlaveState) (q : PlainSlave) (h : Health) → IsAs i x s q h → s.al.state ≡ SafeOp → h ≡ Faulted
 safe_faulted i x s q Working a e = absurd (let z : Op ≡ SafeOp = sym a.state ∙ e in cc)
 safe_faulted i x s q Faulted a e = refl
 safe_faulted i x s q Reset a e = absurd (let z : Init ≡ SafeOp = sym (ap (λ (y : SlaveState). y.al.state) a.as_on ∙ on_state s.kind s.identity) ∙ e in cc)
 
-pub init_reset : (i : ℕ) (x : Settings) (s : SlaveState) (q : PlainSlave) (h : Health) → IsAs i x s q h → s.al.state ≡ Init → h ≡ Reset
+pub init_reset : (i : ℕ) (x : SlavePlan) (s : SlaveState) (q : PlainSlave) (h : Health) → IsAs i x s q h → s.al.state ≡ Init → h ≡ Reset
 init_reset i x s q Working a e = absurd (let z : Op ≡ Init = sym a.state ∙ e in cc)
 init_reset i x s q Faulted a e = absurd (let z : SafeOp ≡ Init = sym a.state ∙ e in cc)
 init_reset i x s q Reset a e = refl
 
-pub faulted_safe : (i : ℕ) (x : Settings) (s : SlaveState) (q : PlainSlave) (h : Health) → IsAs i x s q h → h ≡ Faulted → s.al.state ≡ SafeOp
+pub faulted_safe : (i : ℕ) (x : SlavePlan) (s : SlaveState) (q : PlainSlave) (h : Health) → IsAs i x s q h → h ≡ Faulted → s.al.state ≡ SafeOp
 faulted_safe i x s q Working a e = absurd (let z : Working ≡ Faulted = e in cc)
 faulted_safe i x s q Faulted a e = a.state
 faulted_safe i x s q Reset a e = absurd (let z : Reset ≡ Faulted = e in cc)
 
-pub reset_init : (i : ℕ) (x : Settings) (s : SlaveState) (q : PlainSlave) (h : Health) → IsAs i x s q h → h ≡ Reset → s.al.state ≡ Init
+pub reset_init : (i : ℕ) (x : SlavePlan) (s : SlaveState) (q : PlainSlave) (h : Health) → IsAs i x s q h → h ≡ Reset → s.al.state ≡ Init
 reset_init i x s q Working a e = absurd (let z : Working ≡ Reset = e in cc)
 reset_init i x s q Faulted a e = absurd (let z : Faulted ≡ Reset = e in cc)
 reset_init i x s q Reset a e = ap (λ (y : SlaveState). y.al.state) a.as_on ∙ on_state s.kind s.identity
@@ -358,7 +358,7 @@ manager_good : (plan : PlanState) (t : ℕ) (s : SlaveState) (q : PlainSlave) �
 manager_good plan t s q sound l works some =
     let x = settings_of plan t in
     let set : (manager_at s.managers 2).settings ≡ for_bits x.share.outs x.kind.out_start 0x24 = manager_held plan t s q sound l works ∙ some_bits x.share.outs x.kind.out_start 0x24 some in
-    ap (λ (y : ManagerSettings). is_set y && is_buffered y) set ∙ and_from _ _ (set_for_outs x.share.outs x.kind.out_start some (listed plan sound t l).out_fits) refl
+    ap (λ (y : SyncManagerSettings). is_set y && is_buffered y) set ∙ and_from _ _ (set_for_outs x.share.outs x.kind.out_start some (listed plan sound t l).out_fits) refl
 
 -- what it shows: what was published last, or nothing where it has no outputs
 pub record ShownAs (plan : PlanState) (t : ℕ) (s : SlaveState) (q : PlainSlave) : Type 0 where
@@ -368,10 +368,10 @@ pub record ShownAs (plan : PlanState) (t : ℕ) (s : SlaveState) (q : PlainSlave
 pub shown_as : (plan : PlanState) (t : ℕ) (s : SlaveState) (q : PlainSlave) → IsUsable plan → t < length plan.slaves → IsWorking t (settings_of plan t) s q → ShownAs plan t s q
 shown_as plan t s q sound l works = record {
   some = λ some. if_true _ _ _ (manager_good plan t s q sound l works some) ∙ ap (λ (b : Buffer). b.published) works.process.outputs;
-  none = λ none. if_false _ _ _ (ap (λ (y : ManagerSettings). is_set y && is_buffered y) (manager_held plan t s q sound l works ∙ no_bits x.share.outs x.kind.out_start 0x24 none) ∙ and_left _ _ unset);
+  none = λ none. if_false _ _ _ (ap (λ (y : SyncManagerSettings). is_set y && is_buffered y) (manager_held plan t s q sound l works ∙ no_bits x.share.outs x.kind.out_start 0x24 none) ∙ and_left _ _ unset);
 }
   where
-    x : Settings
+    x : SlavePlan
     x = settings_of plan t
 
 -- what a slave in OP shows behind a frame: what was published, or nothing where it has no outputs
@@ -394,17 +394,17 @@ showing plan t s q value after sound l works is = elim (cases_lt 0 (settings_of 
       record { shown = λ k. absurd (omega (arith, k, none)); nothing = λ e. shows; is = left ∙ (own none ∙ ap (with_outputs s) (sym shows)) }
 ]
   where
-    x : Settings
+    x : SlavePlan
     x = settings_of plan t
 
-    M : Manager
+    M : SyncManager
     M = manager_at s.managers 2
 
     published : 0 < x.share.outs → outputs_shown (with_outputs s value) ≡ value
     published some =
         let four = (holds_mapped t x s works.holds (listed plan sound t l)).four in
         let at : manager_at (set s.managers 2 (with_published M value)) 2 ≡ with_published M value = get_or-set_same s.managers 2 (with_published M value) no_manager (omega (arith, four)) in
-        ap (λ (y : Manager). if is_set y.settings && is_buffered y.settings then y.buffer.published else []) at ∙ if_true _ _ _ (manager_good plan t s q sound l works some)
+        ap (λ (y : SyncManager). if is_set y.settings && is_buffered y.settings then y.buffer.published else []) at ∙ if_true _ _ _ (manager_good plan t s q sound l works some)
 
     empty : (ys : List ℕ) → length ys ≡ 0 → ys ≡ []
     empty [] e = refl
@@ -416,13 +416,13 @@ showing plan t s q value after sound l works is = elim (cases_lt 0 (settings_of 
         let zero_bytes : length M.buffer.published ≡ 0 = bytes ∙ ap bytes_of_bits none in
         let value_is : M.buffer.published ≡ [] = empty M.buffer.published zero_bytes in
         let same : with_published M [] ≡ M = ap (with_published M) (sym value_is) in
-        sym (ap (λ ms. with_memory s s.memory ms) (ap (λ (y : Manager). set s.managers 2 y) same ∙ set-get_or s.managers 2 no_manager))
+        sym (ap (λ ms. with_memory s s.memory ms) (ap (λ (y : SyncManager). set s.managers 2 y) same ∙ set-get_or s.managers 2 no_manager))
 
 -- ---- the plan of a table
 
 pub part_is : (plan : PlanState) (s : ℕ) → s < length plan.slaves → part_of plan s ≡ (share_of (meaning plan) s).part
 part_is plan s l =
-    ap (λ o. option_map_or (λ (x : Settings). x.share.part) o 0) (slice_get-get_or plan.slaves s no_slave_plan l)
+    ap (λ o. option_map_or (λ (x : SlavePlan). x.share.part) o 0) (slice_get-get_or plan.slaves s no_slave_plan l)
     ∙ ap (λ (h : Share). h.part) (sym (share_is plan s))
 
 pub plan_variables : (t : Contents) → (plan_of t).variables ≡ image t.variables

@@ -6,12 +6,12 @@ use Rattle.std.proofs.lemmas.List.{append_assoc, length_push, length-map, get_or
 use Rattle.std.proofs.lemmas.List.Sums.{fold-append}
 use Rattle.std.proofs.Math.Seq.{get_or-append_seam}
 use Rattle.std.proofs.Math.ListN.{get_or-append}
-use Rattle.ec_regs.specs.declared.slave_type.Identity.{Identity}
+use Rattle.ec_device.specs.declared.slave_type.Identity.{Identity}
 use Rattle.ec_frame.specs.Frame.{Payload, IsFrame}
 use Rattle.ec_frame.specs.Building.{bare_payload}
 use Rattle.ec_frame.proofs.Verdict.{one_payload}
 use Rattle.ec_table.specs.Contents.{Contents}
-use Rattle.ec_link.specs.declared.plan.Predicted.{Predicted}
+use Rattle.ec_link.specs.declared.plan.ExpectedCounters.{ExpectedCounters}
 use Rattle.ec_link.specs.Meaning.{Meaning, meaning}
 use Rattle.ec_link.specs.Plan.{PlanState, plan_of, part_at}
 use Rattle.ec_link.specs.Usable.{IsUsable}
@@ -429,10 +429,10 @@ one_eight (w ∷ ws) (suc k) h l e = elim (h 0 (omega arith)) [
   | inr f ↦ ap (λ (n : ℕ). fold bit_or (bit_or 0 n) ws) f ∙ from_eight ws (λ i m. h (suc i) (omega (arith, m)))
 ]
 
-part_in_op : (t : Contents) (old : WorldState) (events : List Event) (new : WorldState) (number k : ℕ) (counters : Option Predicted) (word : ℕ) → 0 < length t.slaves
+part_in_op : (t : Contents) (old : WorldState) (events : List Event) (new : WorldState) (number k : ℕ) (counters : Option ExpectedCounters) (word : ℕ) → 0 < length t.slaves
     → ((s : ℕ) (pass : HasPassed old events new number k s) → said_by pass.event.at s ≡ 8) → PartSays t old events new number k counters word
     → (is_some counters ≡ true → word ≡ 8) × ((word ≡ 0) ⊎ (word ≡ 8))
-part_in_op t old events new number k counters word some all (IsNotBack none z) = (λ back. absurd (false_true (sym (ap (λ (o : Option Predicted). is_some o) none) ∙ back)), inl z)
+part_in_op t old events new number k counters word some all (IsNotBack none z) = (λ back. absurd (false_true (sym (ap (λ (o : Option ExpectedCounters). is_some o) none) ∙ back)), inl z)
 part_in_op t old events new number k counters word some all (IsBack back words count heard is) =
     let said : (s : ℕ) → s < length words → get_or words s 0 ≡ 8 = λ s l. (heard s l).word_is ∙ all s (heard s l).pass in
     let first : 0 < length words = omega (arith, some, count) in

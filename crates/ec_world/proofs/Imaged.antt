@@ -13,7 +13,7 @@ use Rattle.ec_table.specs.declared.rows.VariableRow.{VariableRow}
 use Rattle.ec_table.specs.declared.rows.LinkRow.{LinkRow}
 use Rattle.ec_table.specs.Contents.{Contents}
 use Rattle.ec_link.specs.declared.image.Variable.{Variable}
-use Rattle.ec_link.specs.Wires.{IsLinked, is_out, variable_bits}
+use Rattle.ec_link.specs.LinkRuns.{IsLinked, is_out, variable_bits}
 use Rattle.ec_link.specs.Image.{image, placed, image_from}
 use Rattle.ec_link.specs.Faults.{link_fault}
 use Rattle.ec_link.proofs.LinksFit.{LinkFits, links_fit}

@@ -10,7 +10,7 @@ use Rattle.ec_bits.proofs.BitLaws.{length-overlay}
 use Rattle.ec_bits.proofs.AnyLaws.{if_true, if_false, within_parts}
 use Rattle.ec_regs.specs.declared.fmmu.FmmuSettings.{FmmuSettings}
 use Rattle.ec_regs.specs.Fmmus.{fmmu_of}
-use Rattle.ec_sync.specs.Manager.{Manager, no_manager, may_read, may_write}
+use Rattle.ec_sync.specs.SyncManager.{SyncManager, no_manager, may_read, may_write}
 use Rattle.ec_sync.specs.Buffer.{publishing}
 use Rattle.ec_fmmu.specs.Applied.{Place, inside_place}
 use Rattle.ec_fmmu.specs.Sets.{target, source, readers, writers}
@@ -24,7 +24,7 @@ use Rattle.ec_link.specs.declared.settings.Share.{Share}
 use Rattle.ec_link.specs.Shares.{Gave, has_outs, has_ins, nothing_given}
 use Rattle.ec_link.specs.Meaning.{Meaning, share_of, slave_at, no_slave as no_slave_plan, area_of, area_at, place_of_part, meaning, IsLaid}
 use Rattle.ec_link.specs.Plan.{PlanState, part_at}
-use Rattle.ec_link.specs.declared.settings.Settings.{Settings}
+use Rattle.ec_link.specs.declared.settings.SlavePlan.{SlavePlan}
 use Rattle.ec_link.specs.Usable.{IsUsable, AreListed}
 use Rattle.ec_world.specs.Plain.{PlainSlave, PlainFrame, Health, Working, Faulted, Reset, Note, Other, Short, Full, linked_outputs, giving, met_note, met_slave, taking}
 use Rattle.ec_world.specs.SlaveShows.{Holds, IsWorking, IsFaulted, IsReset, IsAs, SlaveShows}
@@ -111,7 +111,7 @@ blank_misses memory z =
 memory_on : (s : SlaveState) → s ≡ power_on s.kind s.identity → (i : ℕ) → slice_index s.memory i ≡ 0
 memory_on s e i = ap (λ (x : SlaveState). slice_index x.memory i) e ∙ (switched_on s.kind s.identity).memory i
 
-pub reset_misses : (p : Settings) (s : SlaveState) (at : Place) → IsReset p s → Misses s at
+pub reset_misses : (p : SlavePlan) (s : SlaveState) (at : Place) → IsReset p s → Misses s at
 reset_misses p s at h =
     let none = blank_misses s.memory (memory_on s h.as_on) in
     record { reads = λ i l. ap (λ fs. target fs (at.from + i)) none.0; writes = λ q. ap (λ fs. inside_place at (source fs q)) none.1 }
@@ -145,7 +145,7 @@ other_misses m area place k s t laid l ne h =
 -- ---- a slave of a sound plan
 
 pub share_is : (plan : PlanState) (t : ℕ) → share_of (meaning plan) t ≡ (slave_at plan t).share
-share_is plan t = get_or-mapped (λ (s : Settings). s.share) plan.slaves t no_slave_plan
+share_is plan t = get_or-mapped (λ (s : SlavePlan). s.share) plan.slaves t no_slave_plan
 
 takes_is : (a : Area) (s : SlaveState) (n : ℕ) → a.outs ≡ n → (0 < n → may_write (manager_at s.managers 2) ≡ true) → takes s a ≡ nat_lt 0 n
 takes_is a s n e may = elim (cases_lt 0 n) [
@@ -166,7 +166,7 @@ module _ (plan : PlanState) (t : ℕ) (f : PlainFrame) (q : PlainSlave) (s : Sla
   abbrev h : Share
   h = share_of m t
 
-  abbrev pl : Settings
+  abbrev pl : SlavePlan
   pl = slave_at plan t
 
   abbrev fits : AreListed pl
@@ -242,8 +242,8 @@ module _ (plan : PlanState) (t : ℕ) (f : PlainFrame) (q : PlainSlave) (s : Sla
 
   mail_kept : (v : List ℕ) (n : ℕ) → 2 < length s.managers → (manager_at (with_outputs s v).managers n).mail ≡ (manager_at s.managers n).mail
   mail_kept v n l = elim (cases_eq n 2) [
-    | inl e ↦ subst (λ (k : ℕ). (manager_at (with_outputs s v).managers k).mail ≡ (manager_at s.managers k).mail) (sym e) (ap (λ (x : Manager). x.mail) ((outputs_published s v).own l))
-    | inr ne ↦ ap (λ (x : Manager). x.mail) ((outputs_published s v).others n ne)
+    | inl e ↦ subst (λ (k : ℕ). (manager_at (with_outputs s v).managers k).mail ≡ (manager_at s.managers k).mail) (sym e) (ap (λ (x : SyncManager). x.mail) ((outputs_published s v).own l))
+    | inr ne ↦ ap (λ (x : SyncManager). x.mail) ((outputs_published s v).others n ne)
   ]
 
   working_left : (v : List ℕ) → length v ≡ bytes_of_bits pl.share.outs → IsWorking t pl s q → IsWorking t pl (with_outputs s v) (record q { outputs = publishing q.outputs v })
@@ -256,21 +256,21 @@ module _ (plan : PlanState) (t : ℕ) (f : PlainFrame) (q : PlainSlave) (s : Sla
           kind = w.holds.kind;
           station = w.holds.station;
           fmmus = w.holds.fmmus;
-          managers = map-set_same (λ (x : Manager). x.settings) s.managers 2 (with_published (manager_at s.managers 2) v) no_manager refl ∙ w.holds.managers;
+          managers = map-set_same (λ (x : SyncManager). x.settings) s.managers 2 (with_published (manager_at s.managers 2) v) no_manager refl ∙ w.holds.managers;
           outputs = w.holds.outputs;
           inputs = w.holds.inputs;
         };
         quiet = record { no_request = w.quiet.no_request; no_read = w.quiet.no_read; no_message = λ n. mail_kept v n l ∙ w.quiet.no_message n };
         process = record {
-          outputs = ap (λ (x : Manager). x.buffer) own ∙ ap (λ b. publishing b v) w.process.outputs;
-          inputs = ap (λ (x : Manager). x.buffer) fourth ∙ w.process.inputs;
+          outputs = ap (λ (x : SyncManager). x.buffer) own ∙ ap (λ b. publishing b v) w.process.outputs;
+          inputs = ap (λ (x : SyncManager). x.buffer) fourth ∙ w.process.inputs;
           out_bytes = record { published = e; draft = w.process.out_bytes.draft };
           in_bytes = w.process.in_bytes;
         };
         state = w.state;
         no_error = w.no_error;
-        out_unlocked = ap (λ (x : Manager). x.locked) own ∙ w.out_unlocked;
-        in_unlocked = ap (λ (x : Manager). x.locked) fourth ∙ w.in_unlocked;
+        out_unlocked = ap (λ (x : SyncManager). x.locked) own ∙ w.out_unlocked;
+        in_unlocked = ap (λ (x : SyncManager). x.locked) fourth ∙ w.in_unlocked;
       }
 
   long : length (linked_outputs m t f.snapshot) ≡ bytes_of_bits pl.share.outs

@@ -5,33 +5,33 @@ use Rattle.std.specs.List.{position_from}
 use Rattle.std.proofs.lemmas.Bool.{cases_Bool, and_from, both_ways}
 use Rattle.ec_bits.specs.Bits.{bytes_of_bits}
 use Rattle.ec_bits.proofs.AnyLaws.{within_true}
-use Rattle.ec_regs.specs.declared.manager.ManagerSettings.{ManagerSettings}
+use Rattle.ec_regs.specs.declared.manager.SyncManagerSettings.{SyncManagerSettings}
 use Rattle.ec_regs.specs.Managers.{no_settings, is_set, is_mailbox, span}
 use Rattle.ec_regs.specs.Fmmus.{no_fmmu}
-use Rattle.ec_sync.specs.Manager.{Manager, no_manager}
+use Rattle.ec_sync.specs.SyncManager.{SyncManager, no_manager}
 use Rattle.ec_sync.specs.Governing.{governor}
 use Rattle.ec_sync.proofs.Lengths.{set_lies_in_ram}
 use Rattle.ec_fmmu.specs.Sets.{target, source, readers, writers}
 use Rattle.ec_fmmu.proofs.RunLaws.{read_set_is_run, write_set_is_run}
 use Rattle.ec_slave.specs.State.{SlaveState, manager_at, fmmus}
 use Rattle.ec_slave.specs.Exchange.{IsMapped, IsBufferAt}
-use Rattle.ec_link.specs.declared.settings.Settings.{Settings}
+use Rattle.ec_link.specs.declared.settings.SlavePlan.{SlavePlan}
 use Rattle.ec_link.specs.Meaning.{area_of}
 use Rattle.ec_link.specs.Sound.{fmmu_of}
 use Rattle.ec_link.specs.Usable.{AreListed, has_byte, output_manager, input_manager}
 use Rattle.ec_world.specs.SlaveShows.{Holds}
 use Rattle.ec_world.proofs.Settings.{get_or-mapped, for_bits, some_bits, set_for_outs, set_for_ins, governor_of, third_governs, fourth_governs}
 
-abbrev governor_by : List ManagerSettings → ℕ → Option ℕ
+abbrev governor_by : List SyncManagerSettings → ℕ → Option ℕ
 governor_by ms b = position_from (λ x. has_byte x b) 0 ms
 
-pub settings_held : (i : ℕ) (p : Settings) (s : SlaveState) (n : ℕ) → Holds i p s → (manager_at s.managers n).settings ≡ get_or p.managers n no_settings
-settings_held i p s n h = sym (get_or-mapped (λ (m : Manager). m.settings) s.managers n no_manager) ∙ ap (λ xs. get_or xs n no_settings) h.managers
+pub settings_held : (i : ℕ) (p : SlavePlan) (s : SlaveState) (n : ℕ) → Holds i p s → (manager_at s.managers n).settings ≡ get_or p.managers n no_settings
+settings_held i p s n h = sym (get_or-mapped (λ (m : SyncManager). m.settings) s.managers n no_manager) ∙ ap (λ xs. get_or xs n no_settings) h.managers
 
-pub third_held : (i : ℕ) (p : Settings) (s : SlaveState) → Holds i p s → AreListed p → (manager_at s.managers 2).settings ≡ output_manager p
+pub third_held : (i : ℕ) (p : SlavePlan) (s : SlaveState) → Holds i p s → AreListed p → (manager_at s.managers 2).settings ≡ output_manager p
 third_held i p s h a = settings_held i p s 2 h ∙ ap (λ xs. get_or xs 2 no_settings) a.managers
 
-pub fourth_held : (i : ℕ) (p : Settings) (s : SlaveState) → Holds i p s → AreListed p → (manager_at s.managers 3).settings ≡ input_manager p
+pub fourth_held : (i : ℕ) (p : SlavePlan) (s : SlaveState) → Holds i p s → AreListed p → (manager_at s.managers 3).settings ≡ input_manager p
 fourth_held i p s h a = settings_held i p s 3 h ∙ ap (λ xs. get_or xs 3 no_settings) a.managers
 
 has_own : (bits start control k : ℕ) → is_set (for_bits bits start control) ≡ true → k < bytes_of_bits bits → has_byte (for_bits bits start control) (start + k) ≡ true
@@ -42,7 +42,7 @@ has_own bits start control k set l = and_from _ _ set (within_true start (span (
     longer false = omega arith
 
 -- what is set has its own first byte
-begins : (m : ManagerSettings) → is_set m ≡ true → has_byte m m.start ≡ true
+begins : (m : SyncManagerSettings) → is_set m ≡ true → has_byte m m.start ≡ true
 begins m set =
     let some = (set_lies_in_ram m set).some in
     and_from _ _ set (within_true m.start (span m) m.start (omega arith) (longer (is_mailbox m) some))
@@ -51,7 +51,7 @@ begins m set =
     longer true l = omega arith
     longer false l = omega arith
 
-pub holds_mapped : (i : ℕ) (p : Settings) (s : SlaveState) → Holds i p s → AreListed p → IsMapped s (area_of p)
+pub holds_mapped : (i : ℕ) (p : SlavePlan) (s : SlaveState) → Holds i p s → AreListed p → IsMapped s (area_of p)
 holds_mapped i p s h a =
     let f0 = fmmu_of p 0 in
     let f1 = fmmu_of p 1 in
@@ -84,8 +84,8 @@ holds_mapped i p s h a =
           let b = p.kind.out_start + k in
           let own = outs_own k l in
           of b ∙ third_governs m0 m1 m2 m3 b (below 0 2 b (omega arith) (omega arith) own) (below 1 2 b (omega arith) (omega arith) own) own;
-      in_buffer = λ l. subst (λ (m : ManagerSettings). IsBufferAt m p.kind.in_start (bytes_of_bits p.share.ins)) (sym (held 3 ∙ some_bits p.share.ins p.kind.in_start 0x20 l))
+      in_buffer = λ l. subst (λ (m : SyncManagerSettings). IsBufferAt m p.kind.in_start (bytes_of_bits p.share.ins)) (sym (held 3 ∙ some_bits p.share.ins p.kind.in_start 0x20 l))
           (let f = a.in_fits l in record { start_is = refl; length_is = refl; no_mailbox = refl; from_ram = f.0; to_ram = let x = f.1 in omega arith });
-      out_buffer = λ l. subst (λ (m : ManagerSettings). IsBufferAt m p.kind.out_start (bytes_of_bits p.share.outs)) (sym (held 2 ∙ some_bits p.share.outs p.kind.out_start 0x24 l))
+      out_buffer = λ l. subst (λ (m : SyncManagerSettings). IsBufferAt m p.kind.out_start (bytes_of_bits p.share.outs)) (sym (held 2 ∙ some_bits p.share.outs p.kind.out_start 0x24 l))
           (let f = a.out_fits l in record { start_is = refl; length_is = refl; no_mailbox = refl; from_ram = f.0; to_ram = let x = f.1 in omega arith });
     }

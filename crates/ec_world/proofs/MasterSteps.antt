@@ -2,7 +2,7 @@
 use Rattle.std.proofs.Common.{ℕ, zero, suc, ◌+◌, ◌-◌, ◌^◌, ◌<◌, ◌≡◌, ◌&&◌, Bool, true, false, Option, Some, None, refl, sym, ◌∙◌, ap, subst, arith, List, [], ◌∷◌, length, map, get_or, is_some, is_none, slice_get, if◌then◌else◌, option_map, unwrap_or, nat_lt, nat_le}
 use Rattle.std.proofs.lemmas.Bool.{and_parts, ltb-true}
 use Rattle.std.proofs.lemmas.List.{length-map}
-use Rattle.ec_link.specs.Wires.{is_out}
+use Rattle.ec_link.specs.LinkRuns.{is_out}
 use Rattle.ec_bits.specs.Bits.{with_number}
 use Rattle.ec_bits.proofs.AnyLaws.{if_true}
 use Rattle.ec_frame.specs.Frame.{IsFrame}

@@ -2,7 +2,7 @@
 use Rattle.std.proofs.Common.{ℕ, ◌≡◌, None, sym, subst, List, get_or}
 use Rattle.std.specs.Prelude.{All}
 use Rattle.std.proofs.lemmas.List.Elements.{All-from_get_or}
-use Rattle.ec_regs.specs.declared.slave_type.Identity.{Identity}
+use Rattle.ec_device.specs.declared.slave_type.Identity.{Identity}
 use Rattle.ec_table.specs.Contents.{Contents}
 use Rattle.ec_table.specs.Sound as table
 use Rattle.ec_link.specs.Faults.{compile_fault}
@@ -11,8 +11,8 @@ use Rattle.ec_link.specs.Usable.{IsUsable}
 use Rattle.ec_link.proofs.UsableLaws.{plan_usable}
 use Rattle.ec_start.specs.Planned.{HasFewAssigned}
 use Rattle.ec_start.proofs.Assigned.{has_few}
-use Rattle.ec_rise.specs.Starting.{no_plan}
-use Rattle.ec_rise.proofs.StartableLaws.{slave_startable}
+use Rattle.ec_bringup.specs.Starting.{no_plan}
+use Rattle.ec_bringup.proofs.StartableLaws.{slave_startable}
 use Rattle.ec_world.specs.declared.event.Event.{Event}
 use Rattle.ec_world.specs.World.{WorldState}
 use Rattle.ec_world.specs.Laws.{IsRun}

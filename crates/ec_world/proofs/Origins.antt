@@ -4,8 +4,8 @@ use Rattle.std.proofs.lemmas.Bool.{cases_Bool, cases_eq, both_ways}
 use Rattle.ec_bits.proofs.AnyLaws.{if_true, if_false}
 use Rattle.ec_link.specs.Plan.{PlanState}
 use Rattle.ec_link.specs.Usable.{IsUsable}
-use Rattle.ec_rise.specs.Starting.{trouble_at}
-use Rattle.ec_rise.specs.Runs.{AreStartable, is_beginning}
+use Rattle.ec_bringup.specs.Starting.{trouble_at}
+use Rattle.ec_bringup.specs.Runs.{AreStartable, is_beginning}
 use Rattle.ec_world.specs.declared.event.Event.{Event}
 use Rattle.ec_world.specs.declared.event.Event.TheVariants.{StartNext, Set, Begin, Pass, Lose, Return, Close, Serve, AppPut, AppGet, Fault, Reset}
 use Rattle.ec_world.specs.World.{WorldState, is_up, resumed, IsStep}

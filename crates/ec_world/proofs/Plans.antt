@@ -1,6 +1,6 @@
 -- The start-up and the master of a world stay of its plan.
 use Rattle.std.proofs.Common.{ℕ, ◌≡◌, Bool, true, false, refl, ◌∙◌, ap, List, if◌then◌else◌}
-use Rattle.ec_link.specs.declared.settings.Settings.{Settings}
+use Rattle.ec_link.specs.declared.settings.SlavePlan.{SlavePlan}
 use Rattle.ec_link.specs.Plan.{PlanState}
 use Rattle.ec_start.specs.declared.phase.Phase.{Phase}
 use Rattle.ec_start.specs.declared.phase.Phase.TheVariants.{Idle, Sent, Ready, Failed}
@@ -11,7 +11,7 @@ use Rattle.ec_cycle.proofs.Matches.{taken_plan as master_plan}
 use Rattle.ec_world.specs.World.{ByStart, awaits, is_up, ready_with, resumed}
 use Rattle.ec_world.specs.Held.{AreOfPlan, IsAnswered, IsTakenIn, IsHandedIn}
 
-pub begun_plan : (ps : List Settings) (number : ℕ) → (begun ps number).plan ≡ ps
+pub begun_plan : (ps : List SlavePlan) (number : ℕ) → (begun ps number).plan ≡ ps
 unfolding begun
 begun_plan ps number = refl
 

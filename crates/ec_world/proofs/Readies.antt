@@ -4,36 +4,36 @@ use Rattle.std.proofs.lemmas.Bool.{cases_lt, and_from, and_left}
 use Rattle.std.proofs.lemmas.List.{get_or_past, get_or-map, length-map, length-replicate}
 use Rattle.ec_bits.specs.Bits.{bytes_of_bits}
 use Rattle.ec_bits.proofs.AnyLaws.{if_true, if_false}
-use Rattle.ec_regs.specs.declared.manager.ManagerSettings.{ManagerSettings}
+use Rattle.ec_regs.specs.declared.manager.SyncManagerSettings.{SyncManagerSettings}
 use Rattle.ec_regs.specs.Managers.{no_settings}
 use Rattle.ec_regs.specs.Fmmus.{no_fmmu}
-use Rattle.ec_regs.specs.declared.slave_type.Identity.{Identity}
-use Rattle.ec_regs.specs.Types.{SlaveKind}
+use Rattle.ec_device.specs.declared.slave_type.Identity.{Identity}
+use Rattle.ec_device.specs.Types.{SlaveKind}
 use Rattle.ec_sync.specs.Buffer.{Buffer, emptied_buffer}
-use Rattle.ec_sync.specs.Manager.{Manager, no_manager, buffer_length}
+use Rattle.ec_sync.specs.SyncManager.{SyncManager, no_manager, buffer_length}
 use Rattle.ec_al.specs.declared.state.State.TheVariants.{Init}
 use Rattle.ec_al.specs.Al.{Al as AlMachine}
 use Rattle.ec_slave.proofs.SwitchedOn.{switched_on}
 use Rattle.ec_slave.specs.State.{SlaveState, manager_at, power_on}
-use Rattle.ec_link.specs.declared.settings.Settings.{Settings}
+use Rattle.ec_link.specs.declared.settings.SlavePlan.{SlavePlan}
 use Rattle.ec_link.specs.Meaning.{slave_at as settings_of}
 use Rattle.ec_link.specs.Usable.{AreListed, IsUsable, input_manager}
 use Rattle.ec_link.proofs.Listed.{listed, four_of}
 use Rattle.ec_start.specs.Planned.{IsStartable}
-use Rattle.ec_rise.specs.Stages.{end_of}
+use Rattle.ec_bringup.specs.Stages.{end_of}
 use Rattle.ec_start.specs.declared.phase.Phase.{Phase}
 use Rattle.ec_start.specs.declared.phase.Phase.TheVariants.{Idle, Sent, Ready, Failed}
-use Rattle.ec_rise.specs.Standing.{IsOfKind, unviewed}
-use Rattle.ec_rise.specs.Stages.{Config}
+use Rattle.ec_bringup.specs.Standing.{IsOfKind, unviewed}
+use Rattle.ec_bringup.specs.Stages.{Config}
 use Rattle.ec_start.specs.declared.error.StartError.{StartError}
 use Rattle.ec_cycle.specs.Master.{OpenCycle}
 use Rattle.ec_cycle.specs.Closing.{ReportState}
-use Rattle.ec_rise.proofs.Decodes.{fmmus-held}
-use Rattle.ec_rise.specs.Starting.{Starting, trouble_at, no_plan, kind_at}
-use Rattle.ec_rise.specs.Instants.{Starts, Instant, Between, UnderWay, Adrift, Over, IsReady}
-use Rattle.ec_rise.specs.Runs as rise
-use Rattle.ec_rise.specs.Runs.{AreStartable, ends_of, HoldsAll, Shown}
-use Rattle.ec_rise.proofs.Theorem.{ready-shown}
+use Rattle.ec_bringup.proofs.Decodes.{fmmus-held}
+use Rattle.ec_bringup.specs.Starting.{Starting, trouble_at, no_plan, kind_at}
+use Rattle.ec_bringup.specs.Instants.{Starts, Instant, Between, UnderWay, Adrift, Over, IsReady}
+use Rattle.ec_bringup.specs.Runs as rise
+use Rattle.ec_bringup.specs.Runs.{AreStartable, ends_of, HoldsAll, Shown}
+use Rattle.ec_bringup.proofs.Theorem.{ready-shown}
 use Rattle.ec_world.specs.Plain.{PlainSlave, Health, Working, Faulted, Reset, no_plain_slave, plain_slave, all_progress}
 use Rattle.ec_world.specs.World.{WorldState, Flight, no_slave, slave_of, flights_progress, is_up, phase_ready, phase_awaits}
 use Rattle.ec_world.specs.SlaveShows.{Holds, IsQuiet, HoldsData, IsAs, SlaveShows}
@@ -48,7 +48,7 @@ use Rattle.ec_world.proofs.SlaveSteps.{out_length}
 none_some : {X : Type 0} (x : X) → None ≡ Some x → ⊥
 none_some x e = cc
 
-in_length : (p : Settings) → AreListed p → buffer_length (input_manager p) ≡ bytes_of_bits p.share.ins
+in_length : (p : SlavePlan) → AreListed p → buffer_length (input_manager p) ≡ bytes_of_bits p.share.ins
 in_length p a = elim (cases_lt 0 p.share.ins) [
   | inl l ↦ ap buffer_length (some_bits p.share.ins p.kind.in_start 0x20 l) ∙ if_true _ _ _ (and_from _ _ (set_for_ins p.share.ins p.kind.in_start l a.in_fits) refl)
   | inr z ↦
@@ -58,10 +58,10 @@ in_length p a = elim (cases_lt 0 p.share.ins) [
 
 -- ---- one slave
 
-end-fmmus : (p : Settings) → (end_of p).fmmus ≡ p.fmmus
+end-fmmus : (p : SlavePlan) → (end_of p).fmmus ≡ p.fmmus
 end-fmmus p = refl
 
-end-managers : (p : Settings) → (end_of p).managers ≡ p.managers
+end-managers : (p : SlavePlan) → (end_of p).managers ≡ p.managers
 end-managers p = refl
 
 -- zeros of some length are zeros of their own
@@ -69,9 +69,9 @@ shows-zeros : (b : Buffer) (n : ℕ) → unviewed b ≡ emptied_buffer n → Sho
 shows-zeros b n h = h ∙ ap (λ (k : ℕ). emptied_buffer k) (sym (ap (λ (x : Buffer). length x.published) h ∙ length-replicate {A = ℕ} n 0))
 
 on-zeros : (kind : SlaveKind) (identity : Identity) → ShowsZeros (plain_slave_of (power_on kind identity)).outputs
-on-zeros kind identity = subst (λ (ms : List Manager). ShowsZeros (manager_at ms 2).buffer) (sym (switched_on kind identity).managers) (shows-zeros no_manager.buffer (buffer_length no_settings) refl)
+on-zeros kind identity = subst (λ (ms : List SyncManager). ShowsZeros (manager_at ms 2).buffer) (sym (switched_on kind identity).managers) (shows-zeros no_manager.buffer (buffer_length no_settings) refl)
 
-module _ (i : ℕ) (p : Settings) (s : SlaveState) (listed : AreListed p) (good : IsStartable p) (slave : IsOfKind p.kind s) (fit : AreWhole s) where
+module _ (i : ℕ) (p : SlavePlan) (s : SlaveState) (listed : AreListed p) (good : IsStartable p) (slave : IsOfKind p.kind s) (fit : AreWhole s) where
   four-managers : length p.managers ≡ 4
   four-managers = ap length listed.managers
 
@@ -81,17 +81,17 @@ module _ (i : ℕ) (p : Settings) (s : SlaveState) (listed : AreListed p) (good 
   held : HoldsAll i p s → Holds i p s
   held h =
       let c = h.configured in
-      let own : (n : ℕ) → n < 4 → get_or (map (λ (m : Manager). m.settings) s.managers) n no_settings ≡ get_or p.managers n no_settings
-      = λ n l. get_or-mapped (λ (m : Manager). m.settings) s.managers n no_manager ∙ c.settings n l in
-      let of4 : (a b d e : ManagerSettings) → get_or (map (λ (m : Manager). m.settings) s.managers) 0 no_settings ≡ a → get_or (map (λ (m : Manager). m.settings) s.managers) 1 no_settings ≡ b
-      → get_or (map (λ (m : Manager). m.settings) s.managers) 2 no_settings ≡ d → get_or (map (λ (m : Manager). m.settings) s.managers) 3 no_settings ≡ e
-      → get_or (map (λ (m : Manager). m.settings) s.managers) 0 no_settings ∷ get_or (map (λ (m : Manager). m.settings) s.managers) 1 no_settings ∷ get_or (map (λ (m : Manager). m.settings) s.managers) 2 no_settings ∷ get_or (map (λ (m : Manager). m.settings) s.managers) 3 no_settings ∷ [] ≡ a ∷ b ∷ d ∷ e ∷ []
+      let own : (n : ℕ) → n < 4 → get_or (map (λ (m : SyncManager). m.settings) s.managers) n no_settings ≡ get_or p.managers n no_settings
+      = λ n l. get_or-mapped (λ (m : SyncManager). m.settings) s.managers n no_manager ∙ c.settings n l in
+      let of4 : (a b d e : SyncManagerSettings) → get_or (map (λ (m : SyncManager). m.settings) s.managers) 0 no_settings ≡ a → get_or (map (λ (m : SyncManager). m.settings) s.managers) 1 no_settings ≡ b
+      → get_or (map (λ (m : SyncManager). m.settings) s.managers) 2 no_settings ≡ d → get_or (map (λ (m : SyncManager). m.settings) s.managers) 3 no_settings ≡ e
+      → get_or (map (λ (m : SyncManager). m.settings) s.managers) 0 no_settings ∷ get_or (map (λ (m : SyncManager). m.settings) s.managers) 1 no_settings ∷ get_or (map (λ (m : SyncManager). m.settings) s.managers) 2 no_settings ∷ get_or (map (λ (m : SyncManager). m.settings) s.managers) 3 no_settings ∷ [] ≡ a ∷ b ∷ d ∷ e ∷ []
       = λ a b d e x y z u. cc in
       record {
         kind = slave.kind_is;
         station = c.station_is;
         fmmus = fmmus-held i (end_of p) s good.readable c ∙ sym (four_of p.fmmus no_fmmu four-fmmus);
-        managers = four_of (map (λ (m : Manager). m.settings) s.managers) no_settings (length-map s.managers (λ (m : Manager). m.settings) ∙ slave.four)
+        managers = four_of (map (λ (m : SyncManager). m.settings) s.managers) no_settings (length-map s.managers (λ (m : SyncManager). m.settings) ∙ slave.four)
             ∙ (of4 _ _ _ _ (own 0 (omega arith)) (own 1 (omega arith)) (own 2 (omega arith)) (own 3 (omega arith)) ∙ sym (four_of p.managers no_settings four-managers));
         outputs = h.outs;
         inputs = h.ins;
@@ -102,7 +102,7 @@ module _ (i : ℕ) (p : Settings) (s : SlaveState) (listed : AreListed p) (good 
   no-mail h (suc zero) = h.silent.no_reply
   no-mail h (suc (suc zero)) = h.configured.no_messages 2 (omega arith) (omega arith)
   no-mail h (suc (suc (suc zero))) = h.configured.no_messages 3 (omega arith) (omega arith)
-  no-mail h (suc (suc (suc (suc n)))) = ap (λ (m : Manager). m.mail) (get_or_past s.managers (suc (suc (suc (suc n)))) no_manager (omega (arith, slave.four)))
+  no-mail h (suc (suc (suc (suc n)))) = ap (λ (m : SyncManager). m.mail) (get_or_past s.managers (suc (suc (suc (suc n)))) no_manager (omega (arith, slave.four)))
 
   quiet-of : HoldsAll i p s → s.al.requested ≡ false → IsQuiet s
   quiet-of h e = record { no_request = e; no_read = h.no_read; no_message = no-mail h }
@@ -196,10 +196,10 @@ ready-world flags w sound planned r up =
     let none : (k : ℕ) → get_or w.slots k None ≡ None = subst (SlotsHold w.slots) (ready-slot (ends_of w.plan.slaves) (seen_of w flags r.slot) r.starts ready) r.slots in
     let as_many : length w.slaves ≡ length w.plan.slaves = r.starts.slaves.slaves ∙ ap length r.same_plan in
     let shown : (i : ℕ) → i < length w.plan.slaves → Shown i (settings_of w.plan i) (trouble_at flags i) (slave_of w i)
-    = λ i l. subst (λ (ps : List Settings). Shown i (get_or ps i no_plan) (trouble_at flags i) (slave_of w i)) r.same_plan
-    (ready-shown (seen_of w flags r.slot) (subst AreStartable (sym r.same_plan) planned) (subst (λ (ps : List Settings). Starts (ends_of ps) (seen_of w flags r.slot)) (sym r.same_plan) r.starts) ready i (omega (arith, l, ap length r.same_plan))) in
+    = λ i l. subst (λ (ps : List SlavePlan). Shown i (get_or ps i no_plan) (trouble_at flags i) (slave_of w i)) r.same_plan
+    (ready-shown (seen_of w flags r.slot) (subst AreStartable (sym r.same_plan) planned) (subst (λ (ps : List SlavePlan). Starts (ends_of ps) (seen_of w flags r.slot)) (sym r.same_plan) r.starts) ready i (omega (arith, l, ap length r.same_plan))) in
     let kind : (i : ℕ) → i < length w.plan.slaves → IsOfKind (settings_of w.plan i).kind (slave_of w i)
-    = λ i l. subst (λ (ps : List Settings). IsOfKind (kind_at ps i) (slave_of w i)) r.same_plan (r.starts.slaves.each i (omega (arith, l, ap length r.same_plan))) in
+    = λ i l. subst (λ (ps : List SlavePlan). IsOfKind (kind_at ps i) (slave_of w i)) r.same_plan (r.starts.slaves.each i (omega (arith, l, ap length r.same_plan))) in
     let at : (i : ℕ) → i < length w.plan.slaves → plain_slave (plain_of w) i ≡ plain_slave_of (slave_of w i)
     = λ i l. get_or-map plain_slave_of w.slaves i no_slave no_plain_slave (omega (arith, l, as_many)) in
     record {

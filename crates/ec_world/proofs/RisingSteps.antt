@@ -17,7 +17,7 @@ use Rattle.ec_slave.specs.Application.{input_put, output_got, output_taken}
 use Rattle.ec_sync.specs.Buffer.{Got}
 use Rattle.ec_slave.specs.Serving.{served}
 use Rattle.ec_slave.specs.Faulting.{faulted}
-use Rattle.ec_link.specs.declared.settings.Settings.{Settings}
+use Rattle.ec_link.specs.declared.settings.SlavePlan.{SlavePlan}
 use Rattle.ec_cycle.specs.Closing.{nones}
 use Rattle.ec_cycle.specs.Master.{MasterState, OpenCycle, IsAnswer, readied}
 use Rattle.ec_start.specs.Actions.{numbered, frame_of, datagram_of}
@@ -26,13 +26,13 @@ use Rattle.ec_start.specs.declared.error.StartError.TheVariants.{Lost}
 use Rattle.ec_start.specs.Running.{StartState, action_of, sending, begun, taken, given_up_by}
 use Rattle.ec_start.specs.declared.phase.Phase.{Phase}
 use Rattle.ec_start.specs.declared.phase.Phase.TheVariants.{Idle, Sent, Ready, Failed}
-use Rattle.ec_rise.specs.Stages.{Config}
-use Rattle.ec_rise.specs.Starting.{Starting, Carried, trouble_at}
-use Rattle.ec_rise.specs.Instants.{Starts, Instant, Between, UnderWay, Adrift, Over, IsReady}
-use Rattle.ec_rise.specs.Slots.{IsCarried}
-use Rattle.ec_rise.specs.Runs.{AreStartable, ends_of, flags_sent, with_begun, with_slave as with_slave_at, Sends as SendsNext, Passes as PassesOne, Loses as LosesOne, Returns as ReturnsOne, Strays, Closes as ClosesOne, Serves, Puts as PutsOne, Gets as GetsOne, Faults, Resets}
-use Rattle.ec_rise.proofs.Theorem.{taken-plan, happens-starts, begun-starts, frame-passes}
-use Rattle.ec_rise.proofs.Carrying.{second-carried}
+use Rattle.ec_bringup.specs.Stages.{Config}
+use Rattle.ec_bringup.specs.Starting.{Starting, Carried, trouble_at}
+use Rattle.ec_bringup.specs.Instants.{Starts, Instant, Between, UnderWay, Adrift, Over, IsReady}
+use Rattle.ec_bringup.specs.Slots.{IsCarried}
+use Rattle.ec_bringup.specs.Runs.{AreStartable, ends_of, flags_sent, with_begun, with_slave as with_slave_at, Sends as SendsNext, Passes as PassesOne, Loses as LosesOne, Returns as ReturnsOne, Strays, Closes as ClosesOne, Serves, Puts as PutsOne, Gets as GetsOne, Faults, Resets}
+use Rattle.ec_bringup.proofs.Theorem.{taken-plan, happens-starts, begun-starts, frame-passes}
+use Rattle.ec_bringup.proofs.Carrying.{second-carried}
 use Rattle.ec_world.specs.declared.event.Event.{Event}
 use Rattle.ec_world.specs.declared.event.Event.TheVariants.{StartNext, Set, Begin, Pass, Lose, Return, Close, Serve, AppPut, AppGet, Fault, Reset as ResetSlave}
 use Rattle.ec_world.specs.Plain.{filled, may_pass, may_return}
@@ -451,7 +451,7 @@ module _ (flags : List Bool) (w : WorldState) (r : Rising flags w) (low : is_up 
     idle = refl;
     next = refl;
     plan = refl;
-    starts = subst (λ (ps : List Settings). Starts (ends_of ps) (with_begun (seen_of w flags r.slot))) r.same_plan
+    starts = subst (λ (ps : List SlavePlan). Starts (ends_of ps) (with_begun (seen_of w flags r.slot))) r.same_plan
         (begun-starts (seen_of w flags r.slot) r.starts.slaves (subst AreStartable (sym r.same_plan) planned));
   }
 

@@ -17,7 +17,7 @@ use Rattle.ec_link.specs.declared.settings.Share.{Share}
 use Rattle.ec_link.specs.Shares.{share_in, nothing_given}
 use Rattle.ec_link.specs.Meaning.{Meaning, share_of, slave_at, no_slave as no_slave_plan, meaning}
 use Rattle.ec_link.specs.Plan.{part_at}
-use Rattle.ec_link.specs.declared.settings.Settings.{Settings}
+use Rattle.ec_link.specs.declared.settings.SlavePlan.{SlavePlan}
 use Rattle.ec_cycle.specs.Closing.{bytes_at}
 use Rattle.ec_cycle.specs.Frames.{cyclic_datagrams, sent_datagrams}
 use Rattle.ec_world.specs.Plain.{PlainSlave, PlainFrame, Working, Note, Other, Full, is_full, met_note, with_note, no_plain_slave, giving}
@@ -110,13 +110,13 @@ cycle_law plan number k image ss sound fits there len working =
     let many : length notes ≡ length ss = length-notes_round m 0 f qs ∙ len2 in
     let note : (t : ℕ) → t < length ss → note_at notes t ≡ met_note m t f (in_op (get_or ss t no_slave))
     = λ t l. note_round m 0 f qs t (omega arith) ∙ (ap (λ j. met_note m j f (get_or qs t no_plain_slave)) (let z : 0 + t ≡ t = omega arith in z) ∙ ap (λ q. met_note m t f q) (own t l)) in
-    let whole = map (λ (s : Settings). share_in k s.share) plan.slaves in
+    let whole = map (λ (s : SlavePlan). share_in k s.share) plan.slaves in
     let gave : shows.gave ≡ whole = same_gave shows.gave whole (shows.process.as_many ∙ (many ∙ (len ∙ sym (length-map plan.slaves (λ s. share_in k s.share)))))
     (λ t l.
     let b : t < length notes = let x = shows.process.as_many in omega arith in
     let c : t < length ss = omega (arith, many) in
     gave_whole (share_of m t) k (note_at notes t) (at shows.gave t) (shows.process.each t b) (shows.process.elsewhere t b) (shows.process.in_part t b) (full (share_of m t) f (get_or ss t no_slave) t (note_at notes t) (note t c))
-    ∙ sym (get_or-map (λ (s : Settings). share_in k s.share) plan.slaves t no_slave_plan nothing_given (omega arith) ∙ ap (share_in k) (sym (share_is plan t)))) in
+    ∙ sym (get_or-map (λ (s : SlavePlan). share_in k s.share) plan.slaves t no_slave_plan nothing_given (omega arith) ∙ ap (share_in k) (sym (share_is plan t)))) in
     record {
       slaves = λ t l.
           let z : 0 + t ≡ t = omega arith in

@@ -2,27 +2,27 @@
 -- has a subindex of one byte, so there are few of them.
 use Rattle.std.proofs.Common.{◌≡◌, ℕ, ◌+◌, ◌*◌, ◌<◌, ◌≤◌, ◌==◌, suc, List, [], ◌∷◌, ◌++◌, length, get_or, Bool, true, false, if◌then◌else◌, Option, Some, None, arith, length-append}
 use Rattle.std.specs.List.{flat_map}
-use Rattle.ec_regs.specs.declared.slave_type.Entry.{Entry}
-use Rattle.ec_regs.specs.declared.slave_type.Pdo.{Pdo}
-use Rattle.ec_regs.specs.declared.slave_type.Mailbox.{Mailbox}
-use Rattle.ec_regs.specs.Objects.{pdo_at}
+use Rattle.ec_device.specs.declared.slave_type.Entry.{Entry}
+use Rattle.ec_device.specs.declared.slave_type.Pdo.{Pdo}
+use Rattle.ec_device.specs.declared.slave_type.Mailbox.{Mailbox}
+use Rattle.ec_device.specs.Objects.{pdo_at}
 use Rattle.ec_al.specs.declared.state.State.TheVariants.{PreOp, SafeOp, Op}
 use Rattle.ec_coe.specs.Objects.{byte_value, output_assignment, input_assignment, has_some}
 use Rattle.ec_table.specs.Contents.{Contents}
 use Rattle.ec_table.specs.Sound as table
-use Rattle.ec_link.specs.declared.settings.Settings.{Settings}
+use Rattle.ec_link.specs.declared.settings.SlavePlan.{SlavePlan}
 use Rattle.ec_link.specs.Faults.{compile_fault}
 use Rattle.ec_link.specs.Plan.{plan_of}
 use Rattle.ec_link.proofs.Soundness.{plan_sound}
-use Rattle.ec_start.specs.declared.action.Request.{Request}
+use Rattle.ec_start.specs.declared.action.SdoRequest.{SdoRequest}
 use Rattle.ec_start.specs.declared.action.Action.{Action}
 use Rattle.ec_start.specs.declared.action.Action.TheVariants.{SetManager}
 use Rattle.ec_start.specs.Plans.{settings_at, fmmu_at}
 use Rattle.ec_start.specs.Planned.{AreRequests, IsStartable}
 use Rattle.ec_start.specs.Scripts.{downloads, entries_read, pdo_read, slots_written, assignment_written, requests, named, identified, mailbox_set, raised, exchanged, talked, manager_set, fmmu_set, mapped, each_slave, cleared, script}
 use Rattle.ec_start.proofs.Assigned.{has_few}
-use Rattle.ec_rise.specs.Starting.{no_plan}
-use Rattle.ec_rise.proofs.StartableLaws.{slave_startable}
+use Rattle.ec_bringup.specs.Starting.{no_plan}
+use Rattle.ec_bringup.proofs.StartableLaws.{slave_startable}
 use Rattle.ec_cycle.specs.Master.{cycle_limit}
 
 both_few : {X : Type 0} (xs ys : List X) {a b : ℕ} → length xs ≤ a → length ys ≤ b → length (xs ++ ys) ≤ a + b
@@ -30,11 +30,11 @@ both_few xs ys l m = omega (arith, length-append xs ys, l, m)
 
 -- ---- the requests to one slave
 
-back_half : (xs ys : List Request) → AreRequests (xs ++ ys) → AreRequests ys
+back_half : (xs ys : List SdoRequest) → AreRequests (xs ++ ys) → AreRequests ys
 back_half [] ys h = h
 back_half (x ∷ xs) ys h = back_half xs ys h.1
 
-front_half : (xs ys : List Request) → AreRequests (xs ++ ys) → AreRequests xs
+front_half : (xs ys : List SdoRequest) → AreRequests (xs ++ ys) → AreRequests xs
 front_half [] ys h = tt
 front_half (x ∷ xs) ys h = (h.0, front_half xs ys h.1)
 
@@ -69,12 +69,12 @@ written_few object (x ∷ xs) true =
     let few = both_few (slots_written object 1 (x ∷ xs)) count {b = 1} (slots_many object 1 (x ∷ xs)) (omega arith) in
     omega (arith, few)
 
-requests_few : (p : Settings) → IsStartable p → length (requests p) ≤ 200000
+requests_few : (p : SlavePlan) → IsStartable p → length (requests p) ≤ 200000
 requests_few p h =
-    let outs : List Request = flat_map (λ index. pdo_read (pdo_at p.kind.outputs index)) p.outputs in
-    let ins : List Request = flat_map (λ index. pdo_read (pdo_at p.kind.inputs index)) p.inputs in
-    let written : List Request = assignment_written output_assignment p.outputs (has_some p.kind.outputs) in
-    let last : List Request = assignment_written input_assignment p.inputs (has_some p.kind.inputs) in
+    let outs : List SdoRequest = flat_map (λ index. pdo_read (pdo_at p.kind.outputs index)) p.outputs in
+    let ins : List SdoRequest = flat_map (λ index. pdo_read (pdo_at p.kind.inputs index)) p.inputs in
+    let written : List SdoRequest = assignment_written output_assignment p.outputs (has_some p.kind.outputs) in
+    let last : List SdoRequest = assignment_written input_assignment p.inputs (has_some p.kind.inputs) in
     let first = read_few p.kind.outputs p.outputs (front_half outs (ins ++ (written ++ last)) h.requests) in
     let second = read_few p.kind.inputs p.inputs (front_half ins (written ++ last) (back_half outs (ins ++ (written ++ last)) h.requests)) in
     let third = written_few output_assignment p.outputs (has_some p.kind.outputs) in
@@ -87,30 +87,30 @@ requests_few p h =
 
 -- ---- the actions of one slave
 
-exchanged_few : (i : ℕ) (b : Mailbox) (before : ℕ) (rs : List Request) → length (exchanged i b before rs) ≤ 2 * length rs
+exchanged_few : (i : ℕ) (b : Mailbox) (before : ℕ) (rs : List SdoRequest) → length (exchanged i b before rs) ≤ 2 * length rs
 exchanged_few i b before [] = omega arith
 exchanged_few i b before (r ∷ rs) = let rest = exchanged_few i b (before + 1) rs in omega (arith, rest)
 
-talked_few : (i : ℕ) (p : Settings) (o : Option Mailbox) → IsStartable p → length (talked i p o) ≤ 400000
+talked_few : (i : ℕ) (p : SlavePlan) (o : Option Mailbox) → IsStartable p → length (talked i p o) ≤ 400000
 talked_few i p None h = omega arith
 talked_few i p (Some b) h = omega (arith, exchanged_few i b 0 (requests p), requests_few p h)
 
-set_few : (i : ℕ) (p : Settings) (o : Option Mailbox) → length (mailbox_set i p o) ≤ 2
+set_few : (i : ℕ) (p : SlavePlan) (o : Option Mailbox) → length (mailbox_set i p o) ≤ 2
 set_few i p None = omega arith
 set_few i p (Some b) = omega arith
 
-manager_few : (i : ℕ) (p : Settings) (n : ℕ) → length (manager_set i p n) ≤ 1
+manager_few : (i : ℕ) (p : SlavePlan) (n : ℕ) → length (manager_set i p n) ≤ 1
 manager_few i p n = go ((settings_at p.managers n).activate == 0) (SetManager i n (settings_at p.managers n))
   where
     go : (b : Bool) (a : Action) → length (if b then [] else a ∷ []) ≤ 1
     go true a = omega arith
     go false a = omega arith
 
-fmmu_few : (i : ℕ) (p : Settings) (n : ℕ) (b : Bool) → length (fmmu_set i p n b) ≤ 1
+fmmu_few : (i : ℕ) (p : SlavePlan) (n : ℕ) (b : Bool) → length (fmmu_set i p n b) ≤ 1
 fmmu_few i p n true = omega arith
 fmmu_few i p n false = omega arith
 
-mapped_few : (i : ℕ) (p : Settings) → length (mapped i p) ≤ 4
+mapped_few : (i : ℕ) (p : SlavePlan) → length (mapped i p) ≤ 4
 mapped_few i p =
     let first = fmmu_set i p 0 (fmmu_at p.fmmus 0).active in
     let second = fmmu_set i p 1 (fmmu_at p.fmmus 1).active in
@@ -120,13 +120,13 @@ mapped_few i p =
 
 -- ---- the whole script
 
-each_few : (f : ℕ → Settings → List Action) (n i : ℕ) (ps : List Settings) → ((j k : ℕ) → k < length ps → length (f j (get_or ps k no_plan)) ≤ n) → length (each_slave f i ps) ≤ n * length ps
+each_few : (f : ℕ → SlavePlan → List Action) (n i : ℕ) (ps : List SlavePlan) → ((j k : ℕ) → k < length ps → length (f j (get_or ps k no_plan)) ≤ n) → length (each_slave f i ps) ≤ n * length ps
 each_few f n i [] h = omega arith
 each_few f n i (p ∷ ps) h =
     let few = both_few (f i p) (each_slave f (i + 1) ps) (h i 0 (omega arith)) (each_few f n (i + 1) ps (λ j k l. h j (suc k) (omega (arith, l)))) in
     omega (arith, few)
 
-phases_few : (ps : List Settings) → ((k : ℕ) → k < length ps → IsStartable (get_or ps k no_plan)) → length (script ps) ≤ 6 + 400100 * length ps
+phases_few : (ps : List SlavePlan) → ((k : ℕ) → k < length ps → IsStartable (get_or ps k no_plan)) → length (script ps) ≤ 6 + 400100 * length ps
 phases_few [] h = omega arith
 phases_few (p ∷ ps) h =
     let qs = p ∷ ps in

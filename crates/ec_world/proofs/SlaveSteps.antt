@@ -7,16 +7,16 @@ use Rattle.std.proofs.lemmas.Option.{slice_get-get_or}
 use Rattle.ec_bits.specs.Bits.{bytes_of_bits}
 use Rattle.ec_bits.proofs.AnyLaws.{if_true, if_false}
 use Rattle.ec_sync.specs.Buffer.{emptied_buffer}
-use Rattle.ec_sync.specs.Manager.{Manager, no_manager, empty_manager, buffer_length}
+use Rattle.ec_sync.specs.SyncManager.{SyncManager, no_manager, empty_manager, buffer_length}
 use Rattle.ec_al.specs.declared.state.State.TheVariants.{Init}
 use Rattle.ec_al.specs.Al as al
-use Rattle.ec_regs.specs.declared.slave_type.Identity.{Identity}
-use Rattle.ec_regs.specs.Types.{SlaveKind}
+use Rattle.ec_device.specs.declared.slave_type.Identity.{Identity}
+use Rattle.ec_device.specs.Types.{SlaveKind}
 use Rattle.ec_sii.specs.Port.{Sii}
 use Rattle.ec_slave.proofs.SwitchedOn.{switched_on}
 use Rattle.ec_slave.proofs.Meetings.{faults}
 use Rattle.ec_slave.specs.State.{SlaveState, manager_at, power_on}
-use Rattle.ec_link.specs.declared.settings.Settings.{Settings}
+use Rattle.ec_link.specs.declared.settings.SlavePlan.{SlavePlan}
 use Rattle.ec_link.specs.Meaning.{slave_at}
 use Rattle.ec_link.specs.Usable.{AreListed, output_manager}
 use Rattle.ec_world.specs.Plain.{Plain, PlainSlave, Health, Working, Faulted, Reset, plain_slave, no_plain_slave, is_working, failing, restarting, at_slave}
@@ -96,7 +96,7 @@ here_of w p t b s e = elim (cases_lt t (length w.plan.slaves)) [
 -- ---- a firmware step
 
 managers_on : (s : SlaveState) → s ≡ power_on s.kind s.identity → (n : ℕ) → (manager_at s.managers n).mail ≡ None
-managers_on s e n = ap (λ (x : SlaveState). (manager_at x.managers n).mail) e ∙ (ap (λ (ms : List Manager). (manager_at ms n).mail) (switched_on s.kind s.identity).managers ∙ go n)
+managers_on s e n = ap (λ (x : SlaveState). (manager_at x.managers n).mail) e ∙ (ap (λ (ms : List SyncManager). (manager_at ms n).mail) (switched_on s.kind s.identity).managers ∙ go n)
   where
     go : (n : ℕ) → (manager_at (no_manager ∷ no_manager ∷ no_manager ∷ no_manager ∷ []) n).mail ≡ None
     go zero = refl
@@ -113,7 +113,7 @@ quiet_on s e =
       no_message = managers_on s e;
     }
 
-pub quiet : (i : ℕ) (p : Settings) (s : SlaveState) (q : PlainSlave) (x : Health) → IsAs i p s q x → IsQuiet s
+pub quiet : (i : ℕ) (p : SlavePlan) (s : SlaveState) (q : PlainSlave) (x : Health) → IsAs i p s q x → IsQuiet s
 quiet i p s q Working h = h.quiet
 quiet i p s q Faulted h = h.quiet
 quiet i p s q Reset h = quiet_on s h.as_on
@@ -127,7 +127,7 @@ serve_shows w p t s l =
 
 -- ---- a reset
 
-reset_is : (p : Settings) (s : SlaveState) → s.kind ≡ p.kind → IsReset p (power_on s.kind s.identity)
+reset_is : (p : SlavePlan) (s : SlaveState) → s.kind ≡ p.kind → IsReset p (power_on s.kind s.identity)
 reset_is p s e =
     let on = switched_on s.kind s.identity in
     record {
@@ -135,7 +135,7 @@ reset_is p s e =
       as_on = sym (ap (λ (k : SlaveKind). power_on k (power_on s.kind s.identity).identity) on.kind_is ∙ ap (λ (i : Identity). power_on s.kind i) on.identity_is);
     }
 
-kind_of : (i : ℕ) (p : Settings) (s : SlaveState) (q : PlainSlave) (x : Health) → IsAs i p s q x → s.kind ≡ p.kind
+kind_of : (i : ℕ) (p : SlavePlan) (s : SlaveState) (q : PlainSlave) (x : Health) → IsAs i p s q x → s.kind ≡ p.kind
 kind_of i p s q Working h = h.holds.kind
 kind_of i p s q Faulted h = h.holds.kind
 kind_of i p s q Reset h = h.kind
@@ -156,7 +156,7 @@ fallen s = record s { al = al.faulted s.al; managers = set s.managers 2 (empty_m
 fault_made : (s : SlaveState) → al.is_operational s.al.state ≡ true → faulted s ≡ fallen s
 fault_made s e = (faults s).in_op e
 
-pub out_length : (p : Settings) → AreListed p → buffer_length (output_manager p) ≡ bytes_of_bits p.share.outs
+pub out_length : (p : SlavePlan) → AreListed p → buffer_length (output_manager p) ≡ bytes_of_bits p.share.outs
 out_length p a = elim (cases_lt 0 p.share.outs) [
   | inl l ↦ ap buffer_length (some_bits p.share.outs p.kind.out_start 0x24 l) ∙ if_true _ _ _ (and_from _ _ (set_for_outs p.share.outs p.kind.out_start l a.out_fits) refl)
   | inr z ↦
@@ -164,7 +164,7 @@ out_length p a = elim (cases_lt 0 p.share.outs) [
       ap buffer_length (no_bits p.share.outs p.kind.out_start 0x24 none) ∙ (if_false _ _ _ (and_left _ _ unset) ∙ ap bytes_of_bits (sym none))
 ]
 
-module _ (i : ℕ) (p : Settings) (s : SlaveState) (q : PlainSlave) (fits : AreListed p) where
+module _ (i : ℕ) (p : SlavePlan) (s : SlaveState) (q : PlainSlave) (fits : AreListed p) where
   pub two_there : Holds i p s → 3 < length s.managers
   two_there h = let e = length-map s.managers (λ m. m.settings) in let x = ap length h.managers in let y = ap length fits.managers in omega arith
 
@@ -181,7 +181,7 @@ module _ (i : ℕ) (p : Settings) (s : SlaveState) (q : PlainSlave) (fits : AreL
           kind = h.holds.kind;
           station = h.holds.station;
           fmmus = h.holds.fmmus;
-          managers = map-set_same (λ (x : Manager). x.settings) s.managers 2 m no_manager refl ∙ h.holds.managers;
+          managers = map-set_same (λ (x : SyncManager). x.settings) s.managers 2 m no_manager refl ∙ h.holds.managers;
           outputs = h.holds.outputs;
           inputs = h.holds.inputs;
         };
@@ -189,20 +189,20 @@ module _ (i : ℕ) (p : Settings) (s : SlaveState) (q : PlainSlave) (fits : AreL
           no_request = ap (λ (x : al.Al). x.requested) (if_true _ _ _ operational) ∙ h.quiet.no_request;
           no_read = h.quiet.no_read;
           no_message = λ n. elim (cases_eq n 2) [
-            | inl e ↦ subst (λ (k : ℕ). (manager_at (set s.managers 2 m) k).mail ≡ None) (sym e) (ap (λ (x : Manager). x.mail) own)
-            | inr ne ↦ ap (λ (x : Manager). x.mail) (other n ne) ∙ h.quiet.no_message n
+            | inl e ↦ subst (λ (k : ℕ). (manager_at (set s.managers 2 m) k).mail ≡ None) (sym e) (ap (λ (x : SyncManager). x.mail) own)
+            | inr ne ↦ ap (λ (x : SyncManager). x.mail) (other n ne) ∙ h.quiet.no_message n
           ];
         };
         process = record {
-          outputs = ap (λ (x : Manager). x.buffer) own ∙ ap emptied_buffer len;
-          inputs = ap (λ (x : Manager). x.buffer) (other 3 (omega arith)) ∙ h.process.inputs;
+          outputs = ap (λ (x : SyncManager). x.buffer) own ∙ ap emptied_buffer len;
+          inputs = ap (λ (x : SyncManager). x.buffer) (other 3 (omega arith)) ∙ h.process.inputs;
           out_bytes = record { published = length-replicate (length q.outputs.published) 0 ∙ h.process.out_bytes.published; draft = λ d e. absurd (none_some d e) };
           in_bytes = h.process.in_bytes;
         };
         state = ap (λ (x : al.Al). x.state) (if_true _ _ _ operational);
         error = ap (λ (x : al.Al). x.error) (if_true _ _ _ operational);
-        out_locked = ap (λ (x : Manager). x.locked) own;
-        in_unlocked = ap (λ (x : Manager). x.locked) (other 3 (omega arith)) ∙ h.in_unlocked;
+        out_locked = ap (λ (x : SyncManager). x.locked) own;
+        in_unlocked = ap (λ (x : SyncManager). x.locked) (other 3 (omega arith)) ∙ h.in_unlocked;
       }
 
   pub state_on : s ≡ power_on s.kind s.identity → s.al.state ≡ Init

@@ -1,7 +1,7 @@
 -- What the headline names as a cause does keep a unit from being taken.
 use Rattle.std.proofs.Common.{ℕ, ◌+◌, ◌<◌, ◌≡◌, Bool, true, false, Some, None, refl, sym, ◌∙◌, ap, subst, inl, inr, arith, List, [], ◌∷◌, ◌++◌, length, is_some, if◌then◌else◌, get_or-set_same, unwrap_or}
 use Rattle.std.proofs.lemmas.Bool.{cases_Bool, and_from, lt-ltb, eq-eqb}
-use Rattle.ec_regs.specs.declared.slave_type.Identity.{Identity}
+use Rattle.ec_device.specs.declared.slave_type.Identity.{Identity}
 use Rattle.ec_al.specs.declared.state.State.TheVariants.{SafeOp, Op}
 use Rattle.ec_al.specs.Al as al
 use Rattle.ec_bits.proofs.AnyLaws.{if_true}

@@ -5,15 +5,15 @@ use Rattle.ec_slave.specs.State.{SlaveState}
 use Rattle.ec_slave.specs.Meeting.{passes}
 use Rattle.ec_slave.specs.Application.{output_taken}
 use Rattle.ec_sync.specs.Buffer.{Got}
-use Rattle.ec_link.specs.declared.settings.Settings.{Settings}
+use Rattle.ec_link.specs.declared.settings.SlavePlan.{SlavePlan}
 use Rattle.ec_link.specs.Plan.{PlanState}
 use Rattle.ec_link.specs.Usable.{IsUsable}
-use Rattle.ec_rise.specs.Starting.{Carried}
-use Rattle.ec_rise.specs.Slots.{IsCarried}
-use Rattle.ec_rise.specs.Runs.{AreStartable}
-use Rattle.ec_rise.specs.Undisturbed.{plan_at}
-use Rattle.ec_rise.specs.Devices.{IsGenuine, AreGenuine}
-use Rattle.ec_rise.proofs.Genuine.{stays, stay}
+use Rattle.ec_bringup.specs.Starting.{Carried}
+use Rattle.ec_bringup.specs.Slots.{IsCarried}
+use Rattle.ec_bringup.specs.Runs.{AreStartable}
+use Rattle.ec_bringup.specs.Undisturbed.{plan_at}
+use Rattle.ec_bringup.specs.Devices.{IsGenuine, AreGenuine}
+use Rattle.ec_bringup.proofs.Genuine.{stays, stay}
 use Rattle.ec_world.specs.declared.event.Event.{Event}
 use Rattle.ec_world.specs.declared.event.Event.TheVariants.{StartNext, Set, Begin, Pass, Lose, Return, Close, Serve, AppPut, AppGet, Fault, Reset}
 use Rattle.ec_world.specs.World.{WorldState, Flight, is_up, awaits, slave_of, ByStart, Passes, Returns, StartReturns, GivesUp, Closes, Happens, IsStep}
@@ -30,12 +30,12 @@ none_some x e = cc
 
 -- ---- devices stay devices
 
-module _ (ps : List Settings) (w : WorldState) (g : AreGenuine ps w.slaves) where
+module _ (ps : List SlavePlan) (w : WorldState) (g : AreGenuine ps w.slaves) where
   same : (v : WorldState) → v.slaves ≡ w.slaves → AreGenuine ps v.slaves
   same v e = subst (AreGenuine ps) (sym e) g
 
   -- slave k becomes s, which is a device where the old one was
-  one : (v : WorldState) (k : ℕ) (s : SlaveState) → ((p : Settings) → IsGenuine p.kind (slave_of w k) → IsGenuine p.kind s) → v.slaves ≡ set w.slaves k s → AreGenuine ps v.slaves
+  one : (v : WorldState) (k : ℕ) (s : SlaveState) → ((p : SlavePlan) → IsGenuine p.kind (slave_of w k) → IsGenuine p.kind s) → v.slaves ≡ set w.slaves k s → AreGenuine ps v.slaves
   one v k s h e = subst (AreGenuine ps) (sym e) ((stay ps w.slaves g).one k s (λ l. h (plan_at ps k) (g.each k l)))
 
   -- the bytes of a frame that passes spell one
@@ -75,19 +75,19 @@ module _ (ps : List Settings) (w : WorldState) (g : AreGenuine ps w.slaves) wher
   event_devices flags r (Fault k) v h = one v k _ (λ q d. (stays q.kind (slave_of w k) d).faults) (ap (λ (x : WorldState). x.slaves) h)
   event_devices flags r (Reset k) v h = one v k _ (λ q d. (stays q.kind (slave_of w k) d).resets) (ap (λ (x : WorldState). x.slaves) h)
 
-step_devices : (ps : List Settings) (flags : List Bool) (w : WorldState) (e : Event) (v : WorldState) (one : Bool) → Rising flags w → AreGenuine ps w.slaves → IsStep w e v one → AreGenuine ps v.slaves
+step_devices : (ps : List SlavePlan) (flags : List Bool) (w : WorldState) (e : Event) (v : WorldState) (one : Bool) → Rising flags w → AreGenuine ps w.slaves → IsStep w e v one → AreGenuine ps v.slaves
 step_devices ps flags w e v true r g h = event_devices ps w g flags r e v (h.happens refl)
 step_devices ps flags w e v false r g h = subst (λ (x : WorldState). AreGenuine ps x.slaves) (sym (h.refused refl)) g
 
 -- ---- a run at whose end the start-up isn't Ready
 
-pub record StillRises (ps : List Settings) (old new : WorldState) : Type 0 where
+pub record StillRises (ps : List SlavePlan) (old new : WorldState) : Type 0 where
   pub flags : List Bool
   pub rises : Rising flags new
   pub plan_is : new.plan ≡ old.plan
   pub devices : AreGenuine ps new.slaves
 
-pub still_rises : (es : List Event) (ps : List Settings) (old new : WorldState) (made : ℕ) (flags : List Bool) → IsUsable old.plan → AreStartable old.plan.slaves → Rising flags old → is_up old.start ≡ false
+pub still_rises : (es : List Event) (ps : List SlavePlan) (old new : WorldState) (made : ℕ) (flags : List Bool) → IsUsable old.plan → AreStartable old.plan.slaves → Rising flags old → is_up old.start ≡ false
     → AreGenuine ps old.slaves → IsRun old es new made → is_up new.start ≡ false → StillRises ps old new
 still_rises [] ps old new made flags usable planned r low g h down = record {
   flags = flags;

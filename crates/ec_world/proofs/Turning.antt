@@ -13,12 +13,12 @@ use Rattle.ec_cycle.specs.Closing.{nones}
 use Rattle.ec_cycle.specs.Master.{cycle_limit}
 use Rattle.ec_start.specs.Actions.{numbered, frame_of, datagram_of}
 use Rattle.ec_start.specs.Running.{StartState, action_of, sending, taken, IsStartAnswer}
-use Rattle.ec_rise.specs.Undisturbed.{all_passed, all_met, Rising, turned, IsRound}
-use Rattle.ec_rise.proofs.Rounds.{round}
-use Rattle.ec_rise.proofs.Carrying.{second-carried}
-use Rattle.ec_rise.specs.Starting.{Carried}
-use Rattle.ec_rise.specs.Slots.{IsCarried}
-use Rattle.ec_rise.proofs.Theorem.{frame-passes}
+use Rattle.ec_bringup.specs.Undisturbed.{all_passed, all_met, Rising, turned, IsRound}
+use Rattle.ec_bringup.proofs.Rounds.{round}
+use Rattle.ec_bringup.proofs.Carrying.{second-carried}
+use Rattle.ec_bringup.specs.Starting.{Carried}
+use Rattle.ec_bringup.specs.Slots.{IsCarried}
+use Rattle.ec_bringup.proofs.Theorem.{frame-passes}
 use Rattle.ec_world.specs.declared.event.Event.TheVariants.{StartNext, Pass, Return}
 use Rattle.ec_world.specs.declared.progress.Progress.{Progress}
 use Rattle.ec_world.specs.Plain.{filled, may_pass, may_return, lets_by, is_older}

@@ -9,8 +9,8 @@ use Rattle.ec_slave.specs.Serving.{served}
 use Rattle.ec_cycle.specs.Master.{MasterState}
 use Rattle.ec_start.specs.Actions.{datagram_of}
 use Rattle.ec_start.specs.Running.{StartState, action_of, sending, taken}
-use Rattle.ec_rise.specs.Starting.{Carried}
-use Rattle.ec_rise.specs.Undisturbed.{all_passed, all_met, Rising, turned}
+use Rattle.ec_bringup.specs.Starting.{Carried}
+use Rattle.ec_bringup.specs.Undisturbed.{all_passed, all_met, Rising, turned}
 use Rattle.ec_world.specs.declared.event.Event.{Event}
 use Rattle.ec_world.specs.declared.event.Event.TheVariants.{StartNext, Pass, Return, Serve}
 use Rattle.ec_world.specs.World.{WorldState, no_slave, slave_of, ready_with, IsStep, with_slave, can_happen}

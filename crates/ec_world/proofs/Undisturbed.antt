@@ -4,7 +4,7 @@ use Rattle.std.specs.List.{list_all}
 use Rattle.std.proofs.lemmas.Bool.{lt-ltb}
 use Rattle.std.proofs.lemmas.List.{length-map}
 use Rattle.ec_bits.specs.Bits.{bit}
-use Rattle.ec_regs.specs.declared.slave_type.Identity.{Identity}
+use Rattle.ec_device.specs.declared.slave_type.Identity.{Identity}
 use Rattle.ec_sync.specs.Buffer.{Buffer, publishing}
 use Rattle.ec_slave.specs.Application.{outputs_shown}
 use Rattle.ec_slave.specs.Exchange.{inputs_of}
@@ -14,7 +14,7 @@ use Rattle.ec_link.specs.declared.settings.Share.{Share}
 use Rattle.ec_link.specs.declared.plan.PartPlan.{PartPlan}
 use Rattle.ec_link.specs.Shares.{has_outs}
 use Rattle.ec_link.specs.Image.{image, image_from}
-use Rattle.ec_link.specs.Wires.{IsLinked}
+use Rattle.ec_link.specs.LinkRuns.{IsLinked}
 use Rattle.ec_link.specs.Meaning.{Meaning, meaning, share_of, slave_at as settings_of}
 use Rattle.ec_link.specs.Plan.{PlanState, plan_of}
 use Rattle.ec_link.specs.Usable.{IsUsable}

@@ -2,22 +2,22 @@
 use Rattle.std.proofs.Common.{ℕ, zero, suc, ◌+◌, ◌<◌, ◌≤◌, ◌≡◌, Bool, true, false, Option, None, refl, sym, ◌∙◌, ap, subst, inl, inr, arith, if◌then◌else◌, List, [], ◌∷◌, length, get_or, replicate}
 use Rattle.std.proofs.lemmas.Bool.{cases_Bool, both_ways}
 use Rattle.std.proofs.lemmas.List.{length-replicate}
-use Rattle.ec_regs.specs.declared.slave_type.Identity.{Identity}
-use Rattle.ec_regs.specs.Types.{plain_kind, device_identity}
-use Rattle.ec_link.specs.declared.settings.Settings.{Settings}
+use Rattle.ec_device.specs.declared.slave_type.Identity.{Identity}
+use Rattle.ec_device.specs.Types.{plain_kind, device_identity}
+use Rattle.ec_link.specs.declared.settings.SlavePlan.{SlavePlan}
 use Rattle.ec_link.specs.Plan.{PlanState, plan_of}
 use Rattle.ec_link.proofs.Soundness.{plan_sound}
 use Rattle.ec_link.proofs.UsableLaws.{plan_usable}
-use Rattle.ec_rise.proofs.StartableLaws.{slave_startable}
+use Rattle.ec_bringup.proofs.StartableLaws.{slave_startable}
 use Rattle.ec_link.specs.Usable.{IsUsable}
 use Rattle.ec_start.specs.Running.{begun}
-use Rattle.ec_rise.specs.SwitchedOn.{switched_on}
-use Rattle.ec_rise.specs.Standing.{IsOfKind}
-use Rattle.ec_rise.proofs.Resets.{power_on_is}
-use Rattle.ec_rise.specs.Starting.{AreSlaves, kind_at}
-use Rattle.ec_rise.specs.Instants.{Starts}
-use Rattle.ec_rise.specs.Runs.{AreStartable, ends_of}
-use Rattle.ec_rise.proofs.Theorem.{begun-starts}
+use Rattle.ec_bringup.specs.SwitchedOn.{switched_on}
+use Rattle.ec_bringup.specs.Standing.{IsOfKind}
+use Rattle.ec_bringup.proofs.Resets.{power_on_is}
+use Rattle.ec_bringup.specs.Starting.{AreSlaves, kind_at}
+use Rattle.ec_bringup.specs.Instants.{Starts}
+use Rattle.ec_bringup.specs.Runs.{AreStartable, ends_of}
+use Rattle.ec_bringup.proofs.Theorem.{begun-starts}
 use Rattle.ec_world.specs.declared.event.Event.{Event}
 use Rattle.ec_world.specs.World.{WorldState, Flight, no_slave, is_up, IsStep}
 use Rattle.ec_world.specs.Laws.{IsRun}
@@ -34,18 +34,18 @@ use Rattle.ec_world.proofs.Runs.{runs_show}
 no-identity : Identity
 no-identity = record { vendor = 0; product = 0; revision = 0; serial = 0 }
 
-pub on-count : (ps : List Settings) (is : List Identity) → length is ≡ length ps → length (switched_on ps is) ≡ length ps
+pub on-count : (ps : List SlavePlan) (is : List Identity) → length is ≡ length ps → length (switched_on ps is) ≡ length ps
 on-count [] is e = refl
 on-count (p ∷ ps) [] e = absurd (omega (arith, e))
 on-count (p ∷ ps) (i ∷ is) e = ap (λ (n : ℕ). suc n) (on-count ps is (omega (arith, e)))
 
-on-slave : (ps : List Settings) (is : List Identity) (k : ℕ) → length is ≡ length ps → k < length ps → IsOfKind (kind_at ps k) (get_or (switched_on ps is) k no_slave)
+on-slave : (ps : List SlavePlan) (is : List Identity) (k : ℕ) → length is ≡ length ps → k < length ps → IsOfKind (kind_at ps k) (get_or (switched_on ps is) k no_slave)
 on-slave [] is k e l = absurd (omega (arith, l))
 on-slave (p ∷ ps) [] k e l = absurd (omega (arith, e))
 on-slave (p ∷ ps) (i ∷ is) zero e l = power_on_is p.kind i
 on-slave (p ∷ ps) (i ∷ is) (suc k) e l = on-slave ps is k (omega (arith, e)) (omega (arith, l))
 
-on-fit : (ps : List Settings) (is : List Identity) (k : ℕ) → AreWhole (get_or (switched_on ps is) k no_slave)
+on-fit : (ps : List SlavePlan) (is : List Identity) (k : ℕ) → AreWhole (get_or (switched_on ps is) k no_slave)
 on-fit [] is k = on_whole plain_kind (device_identity plain_kind.device 0)
 on-fit (p ∷ ps) [] k = on_whole plain_kind (device_identity plain_kind.device 0)
 on-fit (p ∷ ps) (i ∷ is) zero = on_whole p.kind i

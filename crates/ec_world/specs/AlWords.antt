@@ -1,10 +1,10 @@
 -- The AL word of a report: what the slaves said as the frames of the cycle passed them.
 use Rattle.std.specs.Prelude.{ℕ, ◌<◌, ◌≡◌, List, length, get_or, true, false, Option, Some, None, is_some, option_map}
-use Rattle.ec_regs.specs.declared.slave_type.Identity.{Identity}
+use Rattle.ec_device.specs.declared.slave_type.Identity.{Identity}
 use Rattle.ec_al.specs.Al.{Al, status_word}
 use Rattle.ec_al.specs.declared.state.State.TheVariants.{Op}
 use Rattle.ec_table.specs.Contents.{Contents}
-use Rattle.ec_link.specs.declared.plan.Predicted.{Predicted}
+use Rattle.ec_link.specs.declared.plan.ExpectedCounters.{ExpectedCounters}
 use Rattle.ec_link.specs.Plan.{plan_of}
 use Rattle.ec_cycle.specs.Closing.{ReportState, joined}
 use Rattle.ec_cycle.specs.Master.{OpenCycle}
@@ -33,7 +33,7 @@ abbrev pub AreHeard : WorldState → List Event → WorldState → ℕ → ℕ �
 AreHeard old events new number k words = (s : ℕ) → s < length words → IsHeard old events new number k s (get_or words s 0)
 
 -- What part k adds to the report: nothing where its frame isn't back, else what all slaves said, joined by OR.
-pub data PartSays (t : Contents) (old : WorldState) (events : List Event) (new : WorldState) (number k : ℕ) (counters : Option Predicted) (word : ℕ) : Type 0 where
+pub data PartSays (t : Contents) (old : WorldState) (events : List Event) (new : WorldState) (number k : ℕ) (counters : Option ExpectedCounters) (word : ℕ) : Type 0 where
   IsNotBack : counters ≡ None → word ≡ 0 → PartSays t old events new number k counters word
   IsBack : is_some counters ≡ true → (words : List ℕ) → length words ≡ length t.slaves → AreHeard old events new number k words → word ≡ joined words → PartSays t old events new number k counters word
 

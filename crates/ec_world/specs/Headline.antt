@@ -8,7 +8,7 @@ use Rattle.std.specs.Option.{option_map_or}
 use Rattle.std.specs.List.{Contains}
 use Rattle.std.specs.Int.{bit_at}
 use Rattle.ec_bits.specs.Bits.{bit, bytes_of_bits}
-use Rattle.ec_regs.specs.declared.slave_type.Identity.{Identity}
+use Rattle.ec_device.specs.declared.slave_type.Identity.{Identity}
 use Rattle.ec_al.specs.declared.state.State.TheVariants.{Init, SafeOp, Op}
 use Rattle.ec_slave.specs.Application.{outputs_shown}
 use Rattle.ec_slave.specs.Exchange.{with_outputs, inputs_of}
@@ -16,12 +16,12 @@ use Rattle.ec_table.specs.declared.rows.Direction.TheVariants.{Out, In}
 use Rattle.ec_table.specs.declared.rows.SlaveRow.{SlaveRow}
 use Rattle.ec_table.specs.Contents.{Contents}
 use Rattle.ec_table.specs.Objects.{object_bits}
-use Rattle.ec_link.specs.Wires.{IsLinked}
+use Rattle.ec_link.specs.LinkRuns.{IsLinked}
 use Rattle.ec_link.specs.Shares.{predicted}
 use Rattle.ec_link.specs.Plan.{plan_of, part_of, part_at}
 use Rattle.ec_cycle.specs.Closing.{ReportState}
 use Rattle.ec_cycle.specs.Master.{value_at}
-use Rattle.ec_rise.specs.Runs.{is_beginning}
+use Rattle.ec_bringup.specs.Runs.{is_beginning}
 use Rattle.ec_world.specs.declared.event.Event.{Event}
 use Rattle.ec_world.specs.declared.event.Event.TheVariants.{StartNext, Begin, Pass, Lose, Close, Fault, Reset}
 use Rattle.ec_world.specs.declared.progress.Progress.{Progress}

@@ -1,6 +1,6 @@
 -- A start-up that nothing disturbs ends Ready: that of a new world, and one that begins anew after a failure.
 use Rattle.std.specs.Prelude.{ℕ, zero, suc, ◌+◌, ◌<◌, ◌≤◌, ◌≡◌, ◌⊎◌, List, [], ◌∷◌, ◌++◌, length, get_or, set, replicate, max, Bool, true, false, None}
-use Rattle.ec_regs.specs.declared.slave_type.Identity.{Identity}
+use Rattle.ec_device.specs.declared.slave_type.Identity.{Identity}
 use Rattle.ec_table.specs.Contents.{Contents}
 use Rattle.ec_link.specs.Plan.{plan_of}
 use Rattle.ec_link.specs.Meaning.{slave_at}
@@ -8,10 +8,10 @@ use Rattle.ec_start.specs.declared.error.StartError.{StartError}
 use Rattle.ec_start.specs.declared.phase.Phase.TheVariants.{Failed}
 use Rattle.ec_start.specs.Scripts.{script}
 use Rattle.ec_start.specs.Running.{begun, last_number}
-use Rattle.ec_rise.specs.SwitchedOn.{no_identity}
-use Rattle.ec_rise.specs.Undisturbed.{Rising}
-use Rattle.ec_rise.specs.ComesUp.{IsUpAndWorks}
-use Rattle.ec_rise.specs.Devices.{IsOfType}
+use Rattle.ec_bringup.specs.SwitchedOn.{no_identity}
+use Rattle.ec_bringup.specs.Undisturbed.{Rising}
+use Rattle.ec_bringup.specs.ComesUp.{IsUpAndWorks}
+use Rattle.ec_bringup.specs.Devices.{IsOfType}
 use Rattle.ec_world.specs.declared.event.Event.{Event}
 use Rattle.ec_world.specs.declared.event.Event.TheVariants.{StartNext, Pass, Return, Serve}
 use Rattle.ec_world.specs.World.{WorldState, flight_at, is_up}

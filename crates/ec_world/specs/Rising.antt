@@ -1,9 +1,9 @@
 -- What holds of a world that starts up: the start-up's own invariant, its frame in the lowest slot, and a master that waits.
 use Rattle.std.specs.Prelude.{ℕ, ◌<◌, ◌≡◌, ◌≢◌, List, length, get_or, Bool, Option, Some, None}
-use Rattle.ec_rise.specs.Starting.{Starting, Carried}
-use Rattle.ec_rise.specs.Instants.{Starts}
-use Rattle.ec_rise.specs.Slots.{IsCarried}
-use Rattle.ec_rise.specs.Runs.{ends_of}
+use Rattle.ec_bringup.specs.Starting.{Starting, Carried}
+use Rattle.ec_bringup.specs.Instants.{Starts}
+use Rattle.ec_bringup.specs.Slots.{IsCarried}
+use Rattle.ec_bringup.specs.Runs.{ends_of}
 use Rattle.ec_world.specs.World.{WorldState, Flight, is_up, slave_of}
 use Rattle.ec_slave.specs.Interface.{AreWhole}
 

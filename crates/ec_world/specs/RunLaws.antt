@@ -1,8 +1,8 @@
 -- What the headline leans on: a run has one outcome, frames keep their order, and a slave's flag means trouble.
 use Rattle.std.specs.Prelude.{ℕ, ◌<◌, ◌≡◌, List, length, true}
-use Rattle.ec_regs.specs.declared.slave_type.Identity.{Identity}
+use Rattle.ec_device.specs.declared.slave_type.Identity.{Identity}
 use Rattle.ec_table.specs.Contents.{Contents}
-use Rattle.ec_rise.specs.Starting.{trouble_at}
+use Rattle.ec_bringup.specs.Starting.{trouble_at}
 use Rattle.ec_world.specs.declared.event.Event.{Event}
 use Rattle.ec_world.specs.Plain.{is_older}
 use Rattle.ec_world.specs.World.{WorldState, is_up}

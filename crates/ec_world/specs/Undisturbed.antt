@@ -1,9 +1,9 @@
 -- A cycle that nothing disturbs; and how each thing that the headline names as a cause keeps a unit from being taken.
 use Rattle.std.specs.Prelude.{ℕ, zero, suc, ◌+◌, ◌<◌, ◌≡◌, List, [], ◌∷◌, ◌++◌, length, replicate, true, false, Some, None}
-use Rattle.ec_regs.specs.declared.slave_type.Identity.{Identity}
+use Rattle.ec_device.specs.declared.slave_type.Identity.{Identity}
 use Rattle.ec_table.specs.declared.rows.Direction.TheVariants.{In}
 use Rattle.ec_table.specs.Contents.{Contents}
-use Rattle.ec_link.specs.Wires.{IsLinked}
+use Rattle.ec_link.specs.LinkRuns.{IsLinked}
 use Rattle.ec_link.specs.Plan.{plan_of}
 use Rattle.ec_cycle.specs.Closing.{ReportState}
 use Rattle.ec_cycle.specs.Master.{cycle_limit}

@@ -1,6 +1,6 @@
 -- A world from its making on: a start-up until it is Ready, and from then on the plain machine.
 use Rattle.std.specs.Prelude.{ℕ, ◌+◌, ◌<◌, ◌≡◌, ◌⊎◌, List, [], ◌∷◌, ◌++◌, length, map, set, replicate, Bool, true, false, if◌then◌else◌, None}
-use Rattle.ec_regs.specs.declared.slave_type.Identity.{Identity}
+use Rattle.ec_device.specs.declared.slave_type.Identity.{Identity}
 use Rattle.ec_cycle.specs.Master.{new_master}
 use Rattle.ec_al.specs.declared.state.State.{State}
 use Rattle.ec_al.specs.declared.state.State.TheVariants.{Init, PreOp, SafeOp, Op}
@@ -12,10 +12,10 @@ use Rattle.ec_link.specs.Meaning.{meaning}
 use Rattle.ec_link.specs.Usable.{IsUsable}
 use Rattle.ec_start.specs.Running.{begun}
 use Rattle.ec_sync.specs.Buffer.{Buffer, emptied_buffer}
-use Rattle.ec_rise.specs.SwitchedOn.{switched_on}
-use Rattle.ec_rise.specs.Standing.{unviewed}
-use Rattle.ec_rise.specs.Starting.{trouble_at}
-use Rattle.ec_rise.specs.Runs.{AreStartable, flags_sent}
+use Rattle.ec_bringup.specs.SwitchedOn.{switched_on}
+use Rattle.ec_bringup.specs.Standing.{unviewed}
+use Rattle.ec_bringup.specs.Starting.{trouble_at}
+use Rattle.ec_bringup.specs.Runs.{AreStartable, flags_sent}
 use Rattle.ec_world.specs.declared.event.Event.{Event}
 use Rattle.ec_world.specs.declared.event.Event.TheVariants.{StartNext, Set, Begin, Pass, Lose, Return, Close, Serve, AppPut, AppGet, Fault, Reset as ResetSlave}
 use Rattle.ec_world.specs.Plain.{Plain, PlainSlave, Health, Working, Faulted, Reset, plain_slave, run}

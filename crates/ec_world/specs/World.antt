@@ -1,6 +1,6 @@
 -- The world: a start-up, a master, the slaves, and the frames between them; and what each event does to it.
 use Rattle.std.specs.Prelude.{ℕ, ◌+◌, ◌≡◌, ◌==◌, ◌&&◌, ◌||◌, not, List, [], ◌∷◌, length, map, get_or, set, Bool, true, false, if◌then◌else◌, nat_lt, nat_le, Option, Some, None, is_some, is_none, option_map, slice_get}
-use Rattle.ec_regs.specs.Types.{plain_kind, device_identity}
+use Rattle.ec_device.specs.Types.{plain_kind, device_identity}
 use Rattle.ec_sync.specs.Buffer.{Got}
 use Rattle.ec_al.specs.Al as al
 use Rattle.ec_frame.specs.Frame.{IsFrame}

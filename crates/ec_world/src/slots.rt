@@ -19,22 +19,22 @@ pub struct Slots {
     // the slots from here on are free, and needn't be looked at
     used: usize,
     // a frame that has its way needn't look at the others at each slave
-    way: Way,
+    way: Clearance,
 }
 
 /// How many slaves the frame in a slot may pass, whatever other frames do before a new one comes.
 #[derive(Clone, Copy, Drop)]
-struct Way {
+struct Clearance {
     slot: usize,
     until: usize,
 }
 
-impl Way {
+impl Clearance {
     /// The way of no frame.
-    fn none() -> Way
+    fn none() -> Clearance
         ensures { result.until ≡ 0 }
     {
-        Way { slot: 0, until: 0 }
+        Clearance { slot: 0, until: 0 }
     }
 }
 
@@ -86,7 +86,7 @@ impl Slots {
         Ok(Slots {
             slots,
             used: 0,
-            way: Way::none(),
+            way: Clearance::none(),
         })
     }
 
@@ -145,7 +145,7 @@ impl Slots {
             return self.way.until;
         }
         let until = way_behind(self.in_use(), frame);
-        self.way = Way { slot, until };
+        self.way = Clearance { slot, until };
         until
     }
 
@@ -189,7 +189,7 @@ impl Slots {
         ensures { self.new ≡ filled (record { bytes = bytes.now; number = number; part = part; passed = 0 } ∷ []) self.old }
     {
         if let Some(place) = self.lowest_free() {
-            self.way = Way::none();
+            self.way = Clearance::none();
             self.slots[place].put(bytes, number, part);
             self.used = self.used.max(place + 1);
         }

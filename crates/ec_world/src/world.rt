@@ -1,6 +1,6 @@
 //! A world: a start-up, a master, slaves and the frames between them.
 ghost use Rattle.std.specs.Prelude.{ℕ, ◌≡◌, ◌<◌, All, List, length, slice_get, Option, Some, None, IfOk, option_map, true, false};
-ghost use Rattle.ec_regs.specs.declared.slave_type.Identity.{Identity};
+ghost use Rattle.ec_device.specs.declared.slave_type.Identity.{Identity};
 ghost use Rattle.ec_slave.specs.Application.{outputs_shown};
 ghost use Rattle.ec_table.specs.Contents.{Contents};
 ghost use Rattle.ec_link.specs.Faults.{compile_fault};
@@ -19,11 +19,11 @@ ghost use Rattle.ec_world.specs.World.{WorldState, IsStep, slave_of, flight_at, 
 use crate::event::Event;
 use crate::progress::Progress;
 use crate::slots::Slots;
+use ec_bringup::switched_on;
 use ec_cycle::{Master, Report};
+use ec_device::Identity;
 use ec_link::Plan;
-use ec_regs::Identity;
 use ec_ring::Ring;
-use ec_rise::switched_on;
 use ec_slave::Slave;
 use ec_start::{StartError, Startup};
 use ec_table::Table;

@@ -10,9 +10,9 @@ use self::steps::Step::{
     Byte, Denied, Empty, Ended, Holds, Makes, NoReport, Publishes, Reads, Reports, Rises, Runs,
 };
 use self::steps::{expect_steps, made, new_world, rise, turn, world_of};
-use ec_link::Predicted::{Lrw, Split};
+use ec_device::Device;
+use ec_link::ExpectedCounters::{Lrw, Split};
 use ec_link::{Plan, compile};
-use ec_regs::Device;
 use ec_start::StartError;
 use ec_table::{Table, read_table};
 use ec_world::Event::{

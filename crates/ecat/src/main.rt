@@ -1,8 +1,8 @@
 //! The program `ecat`: an EtherCAT master and a segment of simulated slaves. All that it does is
-//! `ec_app`'s, over the arguments, the streams and the memory of the system.
+//! `ec_commands`'s, over the arguments, the streams and the memory of the system.
 #![tactic(auto)]
 
-use ec_app::run_program;
+use ec_commands::run_program;
 use std::env;
 use std::process::ExitCode;
 

@@ -5,10 +5,10 @@ ghost use Rattle.ec_link.specs.Plan.{plan_of};
 ghost use Rattle.ec_link.specs.Usable.{IsUsable};
 
 use crate::table::{SCRIPT, TABLE};
+use ec_bringup::{bring_up, slaves_of};
 use ec_cycle::Master;
+use ec_device::Identity;
 use ec_link::{Plan, compile};
-use ec_regs::Identity;
-use ec_rise::{bring_up, slaves_of};
 use ec_script::read_script;
 use ec_slave::Slave;
 use ec_start::{Phase, Startup};

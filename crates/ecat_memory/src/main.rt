@@ -16,9 +16,9 @@ ghost use Rattle.ec_link.specs.Usable.{IsUsable};
 
 use crate::calls::{Answer, Call, MEMORY, attempt};
 use crate::table::TABLE;
+use ec_bringup::identities_of;
+use ec_device::Identity;
 use ec_link::{Plan, compile};
-use ec_regs::Identity;
-use ec_rise::identities_of;
 use ec_table::{Table, read_table};
 use std::alloc::{AllocError, Global};
 use std::env::Env;

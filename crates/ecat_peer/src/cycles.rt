@@ -6,11 +6,11 @@ ghost use Rattle.ec_link.specs.Usable.{IsUsable};
 
 use crate::judge::{counters_of, must_be_taken, number, take_inputs};
 use crate::liar::{Liar, Segment};
+use ec_bringup::{bring_up, slaves_of};
 use ec_cycle::{Master, Report};
 use ec_frame::Frame;
 use ec_link::{Plan, compile};
 use ec_ring::Ring;
-use ec_rise::{bring_up, slaves_of};
 use ec_start::{Phase, Startup};
 use ec_table::{Direction, Table, read_table};
 use ec_wire::{RunError, run_cycle};

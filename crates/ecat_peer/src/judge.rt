@@ -1,7 +1,7 @@
 //! What a cycle must take of what came back, read off the payloads byte by byte, apart from the master.
 use crate::plain::{are_same, behind, byte, data_length, datagrams_end, is_frame, word};
 use ec_frame::Frame;
-use ec_link::{Link, PartPlan, Plan, Predicted};
+use ec_link::{ExpectedCounters, Link, PartPlan, Plan};
 
 /// Where the working counter of the broadcast stands: behind the header, the datagram that names the frame, and ten bytes and two of
 /// data of its own.
@@ -45,7 +45,7 @@ pub fn is_answer(payload: &[u8], sent: &[u8]) -> bool {
 }
 
 /// The working counters of a part's process datagrams in its answer.
-fn counters_in(answer: &[u8], part: &PartPlan) -> Predicted {
+fn counters_in(answer: &[u8], part: &PartPlan) -> ExpectedCounters {
     let first = PROCESS.saturating_add(part.bytes);
     let second = first.saturating_add(BETWEEN).saturating_add(part.bytes);
     let (one, other) = if part.bytes > 0 {
@@ -54,12 +54,12 @@ fn counters_in(answer: &[u8], part: &PartPlan) -> Predicted {
         (0, 0)
     };
     if part.split {
-        Predicted::Split {
+        ExpectedCounters::Split {
             write: one,
             read: other,
         }
     } else {
-        Predicted::Lrw(one)
+        ExpectedCounters::Lrw(one)
     }
 }
 
@@ -106,7 +106,7 @@ pub fn must_be_taken(plan: &Plan, unit: u8, kept: &[Option<Frame>]) -> bool {
 }
 
 /// The counters that a report must tell of a part.
-pub fn counters_of(plan: &Plan, part: usize, kept: &[Option<Frame>]) -> Option<Predicted> {
+pub fn counters_of(plan: &Plan, part: usize, kept: &[Option<Frame>]) -> Option<ExpectedCounters> {
     match (plan.parts().get(part), kept.get(part)) {
         (Some(row), Some(Some(answer))) => Some(counters_in(answer.as_slice(), row)),
         _ => None,

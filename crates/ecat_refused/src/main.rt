@@ -1,7 +1,7 @@
 //! The program `ecat` once more, so that a run of it that is refused is stored beside one that is not.
 #![tactic(auto)]
 
-use ec_app::run_program;
+use ec_commands::run_program;
 use std::env;
 use std::process::ExitCode;
 

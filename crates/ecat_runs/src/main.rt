@@ -17,9 +17,9 @@ ghost use Rattle.ec_link.specs.Plan.{plan_of};
 
 use crate::events::Kind;
 use crate::life::{Seen, live};
+use ec_bringup::identities_of;
+use ec_fixtures::{Random, random_table};
 use ec_link::{Plan, compile};
-use ec_random::{Random, random_table};
-use ec_rise::identities_of;
 use ec_table::{Table, read_table};
 use std::alloc::{AllocError, Global};
 use std::env::Env;

@@ -13,7 +13,7 @@
 //! | `AppPut`, `AppGet` | the slave isn't denying it |
 //! | `Fault` | the slave is in OP |
 
-use ec_link::{Plan, Settings};
+use ec_link::{Plan, SlavePlan};
 use ec_table::Direction;
 use ec_world::{Event, Progress, World};
 
@@ -249,7 +249,7 @@ impl Model {
     }
 
     /// An application took a byte.
-    fn walk(&mut self, slave: usize, place: usize, is_put: bool, settings: &Settings) {
+    fn walk(&mut self, slave: usize, place: usize, is_put: bool, settings: &SlavePlan) {
         if let Some(known) = self.slaves.get_mut(slave) {
             if is_put {
                 known.puts = walked(known.puts, place, bytes_of(settings.share.ins));

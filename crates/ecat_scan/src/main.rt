@@ -12,7 +12,7 @@
 #![tactic(auto)]
 
 use ec_scan::{
-    ALL_CYCLES, Example, Found, Link, Master, MemoryLink, ScanError, SlaveRow, example_of,
+    ALL_CYCLES, Carrier, Example, Found, Master, MemoryCarrier, ScanError, SlaveRow, example_of,
     expect_scan, link_over, link_to, slaves_of_text,
 };
 use std::alloc::Global;
@@ -52,7 +52,7 @@ fn task_of(args: &[String]) -> Option<(Example, Way)> {
 }
 
 /// Scans the slaves behind a link. What is found of each is added to `found`.
-fn scan_link<L: Link + Drop>(
+fn scan_link<L: Carrier + Drop>(
     alloc: Global,
     link: L,
     slaves: &[SlaveRow],
@@ -72,7 +72,7 @@ fn scan<H: AllocGlobal + Net>(
     match way {
         Way::Memory => {
             let ring = slaves_of_text(rt.alloc(), example.table, true)?;
-            scan_link(rt.alloc(), MemoryLink::new(ring), example.slaves, found)
+            scan_link(rt.alloc(), MemoryCarrier::new(ring), example.slaves, found)
         }
         Way::Socket(peer) => {
             let link = link_to(rt, peer)?;

@@ -4,9 +4,9 @@ ghost use Rattle.ec_cycle.specs.Owned.{FitsPlan, rejoined};
 
 use crate::kept::{Returned, SentFrame};
 use crate::master::Master;
-use crate::run::{InputRun, Run};
-use ec_link::{Plan, Predicted};
-use ec_regs::Listed;
+use crate::run::{BitRun, InputRun};
+use ec_link::{ExpectedCounters, Plan};
+use ec_listed::Listed;
 
 /// All that a master has beside its plan.
 #[derive(Drop)]
@@ -15,9 +15,9 @@ pub struct Rest {
     pub next: u64,
     pub outputs: Vec<u8>,
     pub inputs: Vec<u8>,
-    pub runs: Listed<Listed<Run>>,
+    pub runs: Listed<Listed<BitRun>>,
     pub input_runs: Listed<InputRun>,
-    pub expected: Listed<Predicted>,
+    pub expected: Listed<ExpectedCounters>,
     pub number: Option<u64>,
     pub frames: Vec<SentFrame>,
     pub kept: Vec<Returned>,

@@ -2,10 +2,10 @@
 ghost use Rattle.std.specs.Prelude.{◌≡◌, IfOk};
 ghost use Rattle.ec_link.specs.Usable.{IsUsable};
 
+use ec_bringup::bring_up;
 use ec_cycle::{CycleError, Master, Report, Taken};
-use ec_link::{Plan, Predicted, compile};
+use ec_link::{ExpectedCounters, Plan, compile};
 use ec_ring::Ring;
-use ec_rise::bring_up;
 use ec_slave::Slave;
 use ec_start::{Phase, Startup};
 use ec_table::read_table;
@@ -37,7 +37,7 @@ pub enum Step<'a> {
     /// A payload that isn't.
     Foreign(&'a str),
     /// The cycle is closed: which units were taken, the counters of each part, and the AL word.
-    Closes(&'a [bool], &'a [Option<Predicted>], u16),
+    Closes(&'a [bool], &'a [Option<ExpectedCounters>], u16),
     /// No cycle is open that could be closed.
     NotOpen,
 }
@@ -137,7 +137,7 @@ fn assert_report(
     rt: &impl Abort,
     report: &Report,
     units: &[bool],
-    counters: &[Option<Predicted>],
+    counters: &[Option<ExpectedCounters>],
     al_word: u16,
 ) {
     assert!(rt; report.units_taken() == units);

@@ -1,8 +1,8 @@
 //! Start-ups, cycles and scripts that fail, and what is told of them.
 use crate::tests::machine::MACHINE;
 use ec_cycle::CycleError;
+use ec_device::Device;
 use ec_explain::{Cause, explanation};
-use ec_regs::Device;
 use ec_start::StartError;
 use std::process::Abort;
 use std::test::Fail;

@@ -3,7 +3,7 @@ ghost use Rattle.std.specs.Prelude.{◌≡◌, None};
 ghost use Rattle.ec_link.specs.Faults.{compile_fault};
 ghost use Rattle.ec_link.specs.Plan.{plan_of};
 
-use ec_app::{Refusal, identities_of};
+use ec_commands::{Refusal, identities_of};
 use ec_link::{Plan, compile};
 use ec_script::write_report;
 use ec_table::{Direction, Table, read_table};

@@ -3,7 +3,7 @@ ghost use Rattle.std.specs.Prelude.{◌≡◌, None};
 ghost use Rattle.ec_link.specs.Faults.{compile_fault};
 ghost use Rattle.ec_link.specs.Plan.{plan_of};
 
-use ec_app::{Line, Refusal, identities_of, plan_text, read_script, run_line};
+use ec_commands::{Line, Refusal, identities_of, plan_text, read_script, run_line};
 use ec_link::{Plan, compile};
 use ec_table::{Table, read_table};
 use ec_world::World;

@@ -1,5 +1,5 @@
 //! What seeds make is worth a run: tables that are unlike, most with slaves, and scripts with lines of each kind.
-use ec_random::{Random, random_script, random_table};
+use ec_fixtures::{Random, random_script, random_table};
 use std::process::Abort;
 use std::test::Fail;
 

@@ -1,7 +1,7 @@
 //! What a plan holds, but for the types, a line for each thing.
 ghost use Rattle.std.specs.Prelude.{◌<◌, length};
 
-use ec_link::{Link, LinkError, Plan, Predicted};
+use ec_link::{ExpectedCounters, Link, LinkError, Plan};
 use ec_regs::{encode_fmmu, encode_manager};
 use std::alloc::AllocError;
 
@@ -53,10 +53,10 @@ fn push_slaves(text: &mut String, plan: &Plan) -> Result<(), AllocError> {
     Ok(())
 }
 
-fn push_counter(text: &mut String, predicted: Predicted) -> Result<(), AllocError> {
+fn push_counter(text: &mut String, predicted: ExpectedCounters) -> Result<(), AllocError> {
     match predicted {
-        Predicted::Lrw(count) => write!(text, "{count}"),
-        Predicted::Split { write, read } => write!(text, "{write}/{read}"),
+        ExpectedCounters::Lrw(count) => write!(text, "{count}"),
+        ExpectedCounters::Split { write, read } => write!(text, "{write}/{read}"),
     }
 }
 

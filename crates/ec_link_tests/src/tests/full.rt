@@ -2,8 +2,8 @@
 
 use crate::tests::push_told;
 use crate::tests::tables::{EMPTY_PLAN, SPLIT_VARIABLE, THREE_SLAVES, THREE_SLAVES_PLAN};
+use ec_device::Face;
 use ec_link::compile;
-use ec_regs::Face;
 use ec_table::{Table, read_table};
 use std::alloc::Global;
 use std::process::Abort;

@@ -3,10 +3,10 @@ ghost use Rattle.std.specs.Prelude.{◌≡◌, None};
 ghost use Rattle.ec_link.specs.Faults.{compile_fault};
 ghost use Rattle.ec_link.specs.Plan.{plan_of};
 
+use ec_bringup::slaves_of;
 use ec_console::Refusal;
 use ec_link::{Plan, compile};
 use ec_master::{Control, print_lines};
-use ec_rise::slaves_of;
 use ec_table::{Table, read_table};
 use ec_why::Reasons;
 use ec_wire::MemoryWire;

@@ -1,5 +1,5 @@
-use ec_outline::Step::{Item, Key};
-use ec_outline::{Outline, Span, Step, spot_of};
+use ec_outline::PathStep::{Item, Key};
+use ec_outline::{Outline, PathStep, Span, spot_of};
 use std::process::Abort;
 use std::test::Fail;
 
@@ -47,7 +47,7 @@ fn bytes_at(text: &str, span: Span) -> &str {
 fn assert_found(
     rt: &(impl AllocGlobal + Abort),
     text: &str,
-    way: &[Step<'_>],
+    way: &[PathStep<'_>],
     key: &str,
     value: &str,
 ) -> Result<(), Fail> {

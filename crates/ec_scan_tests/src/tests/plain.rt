@@ -1,11 +1,11 @@
 //! Slaves that aren't full: a scan stops at the first of them.
 use crate::tests::machine::TABLE;
-use ec_scan::{Link, Master, MemoryLink, byte_at, slaves_of_text, station_of};
+use ec_scan::{Carrier, Master, MemoryCarrier, byte_at, slaves_of_text, station_of};
 use std::process::Abort;
 use std::test::Fail;
 
 /// They are counted; they show no type, no ports and no links, and don't take what is written to the data link layer.
-fn expect_no_data_link<L: Link + Drop>(
+fn expect_no_data_link<L: Carrier + Drop>(
     rt: &(impl AllocGlobal + Abort),
     master: &mut Master<L>,
 ) -> Result<(), Fail> {
@@ -25,7 +25,7 @@ fn expect_no_data_link<L: Link + Drop>(
 }
 
 /// The SII has the first 64 words alone, with neither a size nor a version.
-fn expect_no_categories<L: Link + Drop>(
+fn expect_no_categories<L: Carrier + Drop>(
     rt: &(impl AllocGlobal + Abort),
     master: &mut Master<L>,
     station: u16,
@@ -39,7 +39,7 @@ fn expect_no_categories<L: Link + Drop>(
 #[test]
 fn slaves_that_are_not_full(rt: HostRuntime) -> Result<(), Fail> {
     let ring = slaves_of_text(rt.alloc(), TABLE, false)?;
-    let mut master = Master::new(rt.alloc(), MemoryLink::new(ring));
+    let mut master = Master::new(rt.alloc(), MemoryCarrier::new(ring));
     expect_no_data_link(&rt, &mut master)?;
     for place in 0..3 {
         let station = station_of(place)?;

@@ -1,6 +1,6 @@
 //! A link over two sockets of one thread: the master's, and that of the segment that answers it.
 use ec_ring::{NotAFrame, Ring};
-use ec_scan::{Applications, Link, ScanError};
+use ec_scan::{Applications, Carrier, ScanError};
 use ec_wire::{App, SocketFault, UdpWire, serve_segment};
 use std::io;
 use std::net::{Ipv4Addr, Net, SocketAddr, UdpSocket};
@@ -63,7 +63,7 @@ impl UdpLink {
     }
 }
 
-impl Link for UdpLink {
+impl Carrier for UdpLink {
     fn exchange(&mut self, frame: &mut [u8]) -> Result<(), ScanError> {
         let mut buffer = [0; 1500];
         self.client

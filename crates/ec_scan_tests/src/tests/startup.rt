@@ -2,7 +2,7 @@
 use crate::tests::machine::{SLAVES, TABLE};
 use ec_link::{Plan, compile};
 use ec_ring::Ring;
-use ec_scan::{Master, MemoryLink, expect_init, expect_scan, slaves_of_text};
+use ec_scan::{Master, MemoryCarrier, expect_init, expect_scan, slaves_of_text};
 use ec_start::{StartError, Startup};
 use ec_table::read_table;
 use ec_wire::{MemoryWire, bring_up_wire};
@@ -15,7 +15,7 @@ const ROOM: usize = 3000;
 /// The slaves of the machine behind a scan, in OP or brought back to INIT.
 fn scanned(alloc: Global, is_back: bool) -> Result<Ring, Fail> {
     let ring = slaves_of_text(alloc, TABLE, true)?;
-    let mut master = Master::new(alloc, MemoryLink::new(ring));
+    let mut master = Master::new(alloc, MemoryCarrier::new(ring));
     expect_scan(&mut master, SLAVES, &mut Vec::new(alloc))?;
     if is_back {
         expect_init(&mut master, SLAVES.len())?;

@@ -3,22 +3,22 @@
 use crate::tests::lines::{NAMES, VALUES, is_repeated};
 use crate::tests::{ACTS, TABLE, expect_acts, is_bad_at};
 use ec_al::State;
-use ec_script::Act::{Expect, Input, Never, One, Show};
 use ec_script::Expectation::{Failed, Is, Unit, Units};
-use ec_script::{Act, Expectation};
+use ec_script::LineAction::{Expect, Input, Never, One, Show};
+use ec_script::{Expectation, LineAction};
 use ec_table::{Table, read_table};
 use ec_world::Event::{AppGet, AppPut, Fault, Lose, Pass, Reset, Return, Serve, Set};
 use std::process::Abort;
 use std::test::Fail;
 
 /// The greatest number of 64 bits.
-const MOST: u64 = 18446744073709551615;
+const MAX: u64 = 18446744073709551615;
 
 /// The same as a place.
 const LAST: usize = 18446744073709551615;
 
 /// Numbers of slots, slaves, bytes and values at their borders, on the table of three slaves.
-const NUMBERS: [(&str, Act); 32] = [
+const NUMBERS: [(&str, LineAction); 32] = [
     ("pass 0", One(Pass(0))),
     ("pass 00", One(Pass(0))),
     ("pass 0018446744073709551615", One(Pass(LAST))),
@@ -34,9 +34,9 @@ const NUMBERS: [(&str, Act); 32] = [
     ("put 18446744073709551615 0 0", One(AppPut(LAST, 0, 0))),
     ("put 0 0 00255", One(AppPut(0, 0, 255))),
     ("set a 0", One(Set(0, 0))),
-    ("set a 0018446744073709551615", One(Set(0, MOST))),
+    ("set a 0018446744073709551615", One(Set(0, MAX))),
     ("set a 0x0", One(Set(0, 0))),
-    ("set a 0xFfFfFfFfFfFfFfFf", One(Set(0, MOST))),
+    ("set a 0xFfFfFfFfFfFfFfFf", One(Set(0, MAX))),
     ("set a -00", One(Set(0, 0))),
     ("set a -1", One(Set(0, 15))),
     ("set a -8", One(Set(0, 8))),
@@ -45,7 +45,7 @@ const NUMBERS: [(&str, Act); 32] = [
     ("set b -2049", Never(1)),
     ("set a -18446744073709551615", Never(0)),
     ("in c 0", Input(2, 0)),
-    ("in c 18446744073709551615", Input(2, MOST)),
+    ("in c 18446744073709551615", Input(2, MAX)),
     ("in c 0xF", Input(2, 15)),
     ("in c -8", Input(2, 8)),
     ("in c -9", Never(2)),
@@ -54,10 +54,10 @@ const NUMBERS: [(&str, Act); 32] = [
 ];
 
 /// The same of what is expected.
-const EXPECTED: [(&str, Act); 20] = [
+const EXPECTED: [(&str, LineAction); 20] = [
     ("expect c 0", Expect(Is(2, 0))),
-    ("expect c 18446744073709551615", Expect(Is(2, MOST))),
-    ("expect c 0xffffffffffffffff", Expect(Is(2, MOST))),
+    ("expect c 18446744073709551615", Expect(Is(2, MAX))),
+    ("expect c 0xffffffffffffffff", Expect(Is(2, MAX))),
     ("expect c -8", Expect(Is(2, 8))),
     ("expect c -9", Expect(Expectation::Never(2))),
     ("expect d -32768", Expect(Is(3, 32768))),
@@ -67,16 +67,13 @@ const EXPECTED: [(&str, Act); 20] = [
         Expect(Expectation::Never(3)),
     ),
     ("expect taken 00", Expect(Unit(0, true))),
-    (
-        "expect taken 18446744073709551615",
-        Expect(Unit(MOST, true)),
-    ),
+    ("expect taken 18446744073709551615", Expect(Unit(MAX, true))),
     ("expect untaken 0", Expect(Unit(0, false))),
     ("expect failed 0", Expect(Failed(Some(0)))),
     ("expect failed 032", Expect(Failed(Some(32)))),
     (
         "expect failed 18446744073709551615",
-        Expect(Failed(Some(MOST))),
+        Expect(Failed(Some(MAX))),
     ),
     (
         "expect state 18446744073709551615 OP",
@@ -105,7 +102,7 @@ variable = [ { name = "7", dir = "out", bits = 8 }, { name = "taken", dir = "in"
 "#;
 
 /// What lines with these names stand for: behind `taken`, `untaken` and `failed` a number is a unit's or a refusal's.
-const NAMED: [(&str, Act); 17] = [
+const NAMED: [(&str, LineAction); 17] = [
     ("set 7 1", One(Set(0, 1))),
     ("expect 7 7", Expect(Is(0, 7))),
     ("in taken 1", Input(1, 1)),
@@ -341,7 +338,7 @@ fn tells_bad_repeats(rt: HostRuntime) -> Result<(), Fail> {
 fn expect_again<H: AllocGlobal + Abort>(
     rt: &H,
     table: &Table,
-    acts: &[(&str, Act)],
+    acts: &[(&str, LineAction)],
 ) -> Result<(), Fail> {
     for (text, act) in acts {
         let text = *text;

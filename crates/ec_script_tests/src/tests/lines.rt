@@ -2,9 +2,9 @@
 
 use crate::tests::{expect_acts, expect_runs, is_bad_at};
 use ec_al::State;
-use ec_script::Act::{Cycle, Expect, Input, Never, One, Show};
 use ec_script::Expectation::{Failed, Is, Unit, Units};
-use ec_script::{Act, Expectation, Line, Reading, read_line, read_script};
+use ec_script::LineAction::{Cycle, Expect, Input, Never, One, Show};
+use ec_script::{Expectation, Line, LineAction, Reading, read_line, read_script};
 use ec_table::{Table, read_table};
 use ec_world::Event::{AppGet, AppPut, Fault, Reset, Serve, Set};
 use std::alloc::Global;
@@ -37,7 +37,7 @@ link = [
 
 /// Lines with names, comments, and values in each of their forms, and what each stands for. `wide` has 64 bits, `byte` eight and
 /// `flag` one.
-pub const VALUES: [(&str, Act); 30] = [
+pub const VALUES: [(&str, LineAction); 30] = [
     ("set byte 0x1f", One(Set(1, 31))),
     ("set byte 0xFF", One(Set(1, 255))),
     ("set byte 0x00000000000000000000100", One(Set(1, 256))),
@@ -119,7 +119,7 @@ const EXPECTATIONS: [(&str, Expectation); 16] = [
 ];
 
 /// Lines that are done more than once, or once, and how often.
-const REPEATS: [(&str, u32, Act); 5] = [
+const REPEATS: [(&str, u32, LineAction); 5] = [
     ("repeat 1 cycle", 1, Cycle),
     ("repeat 2 set a 0x3 # twice", 2, One(Set(0, 3))),
     ("repeat 1000000 serve s1", 1000000, One(Serve(1))),
@@ -284,7 +284,7 @@ pub fn is_repeated(
     table: &Table,
     text: &str,
     times: u32,
-    act: Act,
+    act: LineAction,
 ) -> Result<bool, Fail> {
     let lines = read_script(alloc, table, text)?;
     let line = Line {

@@ -7,7 +7,7 @@ ghost use Rattle.ec_bits.specs.Bits.{bytes_of_bits, copied};
 ghost use Rattle.ec_regs.specs.Memory.{ram_end};
 ghost use Rattle.ec_fmmu.specs.Applied.{Place};
 ghost use Rattle.ec_fmmu.specs.Areas.{area, IsMappedBy, Spans};
-ghost use Rattle.ec_sync.specs.Manager.{may_read, may_write};
+ghost use Rattle.ec_sync.specs.SyncManager.{may_read, may_write};
 ghost use Rattle.ec_sync.specs.Governing.{governs};
 ghost use Rattle.ec_slave.specs.Exchange.{IsBufferAt, IsMapped, gives, inputs_into, inputs_of, outputs_from, takes, with_outputs, with_published};
 ghost use Rattle.ec_slave.specs.Mapped.{mapped_met};
@@ -19,10 +19,10 @@ use crate::slave::Slave;
 use ec_bits::{copy_by_words, within};
 use ec_fmmu::MappedArea;
 use ec_regs::registers::RAM_END;
-use ec_sync::{Manager, Touching, Writing};
+use ec_sync::{SyncManager, Touching, Writing};
 
 /// Whether a manager governs none of the bytes from one address on and below another. False says nothing.
-fn is_clear(manager: &Manager, start: usize, end: usize) -> bool
+fn is_clear(manager: &SyncManager, start: usize, end: usize) -> bool
     ensures { OnTrue result ((a : ℕ) → start ≤ a → a < end → governs manager.now a ≡ false) }
 {
     let bounds = manager.bounds();
@@ -30,7 +30,7 @@ fn is_clear(manager: &Manager, start: usize, end: usize) -> bool
 }
 
 /// Whether a manager is a buffer whose value is these bytes.
-fn is_buffer(manager: &Manager, start: u64, len: u64) -> bool
+fn is_buffer(manager: &SyncManager, start: u64, len: u64) -> bool
     ensures buffer { OnTrue result (IsBufferAt manager.now.settings start len) }
     ensures governs { OnTrue result ((a : ℕ) → start ≤ a → a < start + len → governs manager.now a ≡ true) }
     ensures small { OnTrue result (start + len < 2 ^ 32) }
@@ -44,7 +44,7 @@ fn is_buffer(manager: &Manager, start: u64, len: u64) -> bool
 
 /// Whether so many bits from an address on, if there are any, are the value of manager 2, and no lower manager governs a byte
 /// of it. False says nothing.
-fn has_outputs(managers: &[Manager], start: u64, bits: u64) -> bool
+fn has_outputs(managers: &[SyncManager], start: u64, bits: u64) -> bool
     requires four { length managers.now ≡ 4 }
     requires small { bits < 2 ^ 42 }
     ensures { OnTrue result (LiesIn managers.now 2 start bits) }
@@ -61,7 +61,7 @@ fn has_outputs(managers: &[Manager], start: u64, bits: u64) -> bool
 }
 
 /// The same of manager 3.
-fn has_inputs(managers: &[Manager], start: u64, bits: u64) -> bool
+fn has_inputs(managers: &[SyncManager], start: u64, bits: u64) -> bool
     requires four { length managers.now ≡ 4 }
     requires small { bits < 2 ^ 42 }
     ensures { OnTrue result (LiesIn managers.now 3 start bits) }
@@ -80,7 +80,7 @@ fn has_inputs(managers: &[Manager], start: u64, bits: u64) -> bool
 }
 
 /// Whether so many bits from an address on lie in the RAM itself, and no manager governs a byte of them. False says nothing.
-fn is_free(managers: &[Manager], start: u64, bits: u64) -> bool
+fn is_free(managers: &[SyncManager], start: u64, bits: u64) -> bool
     requires four { length managers.now ≡ 4 }
     requires inside { start ≤ ram_end }
     requires small { bits < 2 ^ 42 }
@@ -171,7 +171,7 @@ impl Outputs<'_> {
 }
 
 /// Manager 2 takes the outputs of an area, if it has any and lets the ring write. Answers whether.
-fn take_outputs(manager: &mut Manager, mapped: &MappedArea, from: u64, bytes: &[u8]) -> bool
+fn take_outputs(manager: &mut SyncManager, mapped: &MappedArea, from: u64, bytes: &[u8]) -> bool
     requires small { from + 8 * length bytes.now < 2 ^ 64 }
     requires buffer { 0 < mapped.now.outs → IsBufferAt manager.old.settings mapped.now.out_start (bytes_of_bits mapped.now.outs) }
     requires first { from ≤ mapped.now.out_at }
@@ -195,7 +195,7 @@ fn take_outputs(manager: &mut Manager, mapped: &MappedArea, from: u64, bytes: &[
 }
 
 /// Manager 3 gives the inputs of an area, if it has any and lets the ring read. Answers whether.
-fn give_inputs(manager: &Manager, mapped: &MappedArea, from: u64, bytes: &mut [u8]) -> bool
+fn give_inputs(manager: &SyncManager, mapped: &MappedArea, from: u64, bytes: &mut [u8]) -> bool
     requires small { from + 8 * length bytes.old < 2 ^ 64 }
     requires buffer { 0 < mapped.now.ins → IsBufferAt manager.now.settings mapped.now.in_start (bytes_of_bits mapped.now.ins) }
     requires first { from ≤ mapped.now.in_at }

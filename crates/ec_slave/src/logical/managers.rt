@@ -3,7 +3,7 @@
 ghost use Rattle.std.specs.Prelude.{◌≡◌, ◌<◌, ◌≤◌, ◌+◌, ◌*◌, ◌^◌, ◌&&◌, ℕ, length, [], Some, IfSome, if◌then◌else◌, ◌-◌, slice_index};
 ghost use Rattle.ec_bits.specs.Bits.{bit, copied, zeros};
 ghost use Rattle.ec_regs.specs.Memory.{ram_end};
-ghost use Rattle.ec_sync.specs.Manager.{ring_written};
+ghost use Rattle.ec_sync.specs.SyncManager.{ring_written};
 ghost use Rattle.ec_fmmu.specs.Applied.{Place, touched_by_reading, touched_by_writing};
 ghost use Rattle.ec_slave.specs.Managers.{is_ungoverned, is_written_by, manager_after};
 ghost use Rattle.ec_slave.specs.Logical.{logical_managers, plain_bit, logical_value};
@@ -13,10 +13,8 @@ use crate::logical::writing::Ungoverned;
 use crate::reach::{read_manager, write_manager};
 use crate::runs::are_ungoverned;
 use ec_bits::{copy_by_words, within};
-use ec_fmmu::{
-    FmmuTable, apply_write, is_touched_by_reading, is_touched_by_writing, wholly_brought_from,
-};
-use ec_sync::{Manager, Touching, Writing};
+use ec_fmmu::{FmmuTable, apply_write, is_touched_by_reading, is_touched_by_writing, whole_source};
+use ec_sync::{SyncManager, Touching, Writing};
 
 /// The bits of a logical datagram, as they are read.
 #[derive(Clone, Copy)]
@@ -40,7 +38,7 @@ impl Touching for ReadBits<'_> {
 /// The bits of a logical datagram, as a manager above these lower-numbered ones takes them.
 #[derive(Clone, Copy)]
 struct Bits<'a> {
-    lower: &'a [Manager],
+    lower: &'a [SyncManager],
     fmmus: &'a FmmuTable,
     from: u64,
     bytes: &'a [u8],
@@ -94,7 +92,7 @@ impl Bits<'_> {
         }
         let bits = 8 * self.bytes.len() as u64;
         let (first, count) = (8 * start as u32, 8 * len as u32);
-        wholly_brought_from(self.fmmus, self.from, bits, first, count)
+        whole_source(self.fmmus, self.from, bits, first, count)
     }
 
     /// Fills a value that begins at `start` with zeros, and then with what is brought.
@@ -165,7 +163,7 @@ impl Whole<'_> {
 
 /// A manager that a datagram gets at takes what is brought to it, if it is let. Answers whether. Most often all of its
 /// value is brought, as one run: then the datagram gets at it, and the value is one copy.
-fn write_bits(manager: &mut Manager, access: &Bits<'_>) -> bool
+fn write_bits(manager: &mut SyncManager, access: &Bits<'_>) -> bool
     ensures written { let place : Place = record { from = access.now.from; bits = 8 * length access.now.bytes.now } in
         result ≡ is_written_by (touched_by_writing access.now.fmmus.now place) (is_ungoverned access.now.lower.now) manager.old }
     ensures after { let place : Place = record { from = access.now.from; bits = 8 * length access.now.bytes.now } in
@@ -195,8 +193,8 @@ fn write_bits(manager: &mut Manager, access: &Bits<'_>) -> bool
 
 /// One manager meets a datagram: written, or else read, or as it was. Answers whether it is written.
 fn access_manager(
-    lower: &[Manager],
-    manager: &mut Manager,
+    lower: &[SyncManager],
+    manager: &mut SyncManager,
     reading: bool,
     writing: bool,
     fmmus: &FmmuTable,
@@ -232,7 +230,7 @@ fn access_manager(
 /// datagram writes takes a whole value: 0 in the bits that aren't brought to it. Answers whether one
 /// is written.
 pub(crate) fn access_managers(
-    managers: &mut [Manager],
+    managers: &mut [SyncManager],
     reading: bool,
     writing: bool,
     fmmus: &FmmuTable,

@@ -3,7 +3,7 @@
 ghost use Rattle.std.specs.Prelude.{◌≡◌, ◌<◌, ◌≤◌, ◌+◌, ◌-◌, ◌*◌, ◌/◌, ◌^◌, ◌&&◌, ℕ, None, Some, length, is_some};
 ghost use Rattle.ec_bits.specs.Bits.{any_below, overlay};
 ghost use Rattle.ec_regs.specs.Memory.{ram_end};
-ghost use Rattle.ec_sync.specs.Manager.{may_read};
+ghost use Rattle.ec_sync.specs.SyncManager.{may_read};
 ghost use Rattle.ec_sync.specs.Governing.{covers, governor as governor_of, in_first_buffer};
 ghost use Rattle.ec_fmmu.specs.Apart.{run_shown};
 ghost use Rattle.ec_fmmu.specs.Applied.{Place, touched_by_reading};
@@ -17,11 +17,11 @@ use ec_bits::{copy_by_words, get};
 use ec_fmmu::{
     FmmuTable, ReadableBits, ReadableRuns, apply_read, is_touched_by_reading, show_by_bits,
 };
-use ec_sync::Manager;
+use ec_sync::SyncManager;
 
 /// Whether a datagram that reads gets at a manager: it touches its first and its last byte, and it
 /// may read there.
-fn is_readable(manager: &Manager, fmmus: &FmmuTable, from: u64, bits: u64) -> bool
+fn is_readable(manager: &SyncManager, fmmus: &FmmuTable, from: u64, bits: u64) -> bool
     ensures { let place : Place = record { from = from; bits = bits } in
         result ≡ (covers (touched_by_reading fmmus.now place) manager.now && may_read manager.now) }
 {
@@ -35,7 +35,7 @@ fn is_readable(manager: &Manager, fmmus: &FmmuTable, from: u64, bits: u64) -> bo
 }
 
 /// What a physical bit shows that a manager governs.
-fn seen_behind(manager: &Manager, is_readable: bool, physical: u32) -> Option<bool>
+fn seen_behind(manager: &SyncManager, is_readable: bool, physical: u32) -> Option<bool>
     requires { manager.now.settings.start ≤ physical / 8 }
     ensures { result ≡ behind_it manager.now is_readable physical }
 {
@@ -50,7 +50,12 @@ fn seen_behind(manager: &Manager, is_readable: bool, physical: u32) -> Option<bo
 
 /// What a physical bit shows, where `readable` says of each manager whether the datagram gets at
 /// it.
-fn seen_bit(memory: &[u8], managers: &[Manager], readable: &[bool], physical: u32) -> Option<bool>
+fn seen_bit(
+    memory: &[u8],
+    managers: &[SyncManager],
+    readable: &[bool],
+    physical: u32,
+) -> Option<bool>
     requires room { length memory.now ≡ ram_end }
     requires four { length managers.now ≡ length readable.now }
     requires inside { physical < 8 * ram_end }
@@ -67,7 +72,7 @@ fn seen_bit(memory: &[u8], managers: &[Manager], readable: &[bool], physical: u3
 #[derive(Clone, Copy)]
 struct Sight<'a> {
     memory: &'a [u8],
-    managers: &'a [Manager],
+    managers: &'a [SyncManager],
     readable: &'a [bool],
 }
 
@@ -190,7 +195,7 @@ impl ReadableRuns for Sight<'_> {
 /// bit was read.
 pub(crate) fn read_logical(
     memory: &[u8],
-    managers: &[Manager],
+    managers: &[SyncManager],
     fmmus: &FmmuTable,
     from: u64,
     bytes: &mut [u8],

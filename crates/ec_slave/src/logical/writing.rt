@@ -10,12 +10,12 @@ ghost use Rattle.ec_slave.specs.Written.{some_plain_written};
 use crate::reach::governor;
 use crate::runs::end_of_alike;
 use ec_fmmu::{FmmuTable, WritableBytes, apply_write};
-use ec_sync::Manager;
+use ec_sync::SyncManager;
 
 /// The bytes that no manager governs.
 #[derive(Clone, Copy)]
 pub(super) struct Ungoverned<'a> {
-    pub(super) managers: &'a [Manager],
+    pub(super) managers: &'a [SyncManager],
 }
 
 impl WritableBytes for Ungoverned<'_> {
@@ -41,7 +41,7 @@ impl WritableBytes for Ungoverned<'_> {
 /// bit was written.
 pub(crate) fn write_logical(
     memory: &mut [u8],
-    managers: &[Manager],
+    managers: &[SyncManager],
     fmmus: &FmmuTable,
     from: u64,
     bytes: &[u8],

@@ -5,20 +5,20 @@ ghost use Rattle.std.specs.Bool.{OnTrue};
 ghost use Rattle.ec_bits.specs.Bits.{within};
 ghost use Rattle.ec_regs.specs.Memory.{fmmu_place, ram_start, ram_end};
 ghost use Rattle.ec_sync.specs.Governing.{governor as governor_of};
-ghost use Rattle.ec_sync.specs.Manager.{Manager};
+ghost use Rattle.ec_sync.specs.SyncManager.{SyncManager};
 ghost use Rattle.ec_slave.specs.Physical.{byte_from, is_kept, may_read_byte, may_write_byte, memory_written, retold, some_byte_written};
 
 use crate::reach::owner_of;
 use crate::runs::{cut, end_of_alike};
 use ec_regs::registers::{FMMUS, FMMUS_END, RAM_END, RAM_START, SYNC_MANAGERS, SYNC_MANAGERS_END};
 use ec_regs::{is_stored, takes_writes};
-use ec_sync::Manager;
+use ec_sync::SyncManager;
 
 /// Whether a datagram over `len` bytes from `from` on reads the byte at an address that it touches, and that has this
 /// owner.
 #[tactic(auto, unfolding(crate::specs::Physical::may_read_byte))]
 pub(crate) fn reads_byte(
-    managers: &[Manager],
+    managers: &[SyncManager],
     owner: Option<usize>,
     from: usize,
     len: usize,
@@ -46,7 +46,7 @@ pub(crate) fn reads_byte(
 
 /// The end of the bytes from `start` on, and below `end`, of which a datagram reads all or none: registers, or bytes
 /// of the RAM that are alike.
-pub(crate) fn end_of_part(managers: &[Manager], start: usize, end: usize) -> usize
+pub(crate) fn end_of_part(managers: &[SyncManager], start: usize, end: usize) -> usize
     requires { start < end }
     ensures inside { (start < result) × (result ≤ end) }
     ensures reads { (touched : ℕ → Bool) (a : ℕ) → start ≤ a → a < result
@@ -69,7 +69,7 @@ pub(crate) fn end_of_part(managers: &[Manager], start: usize, end: usize) -> usi
 /// owner.
 #[tactic(auto, unfolding(crate::specs::Physical::may_write_byte))]
 fn writes_byte(
-    managers: &[Manager],
+    managers: &[SyncManager],
     owner: Option<usize>,
     is_busy: bool,
     from: usize,
@@ -99,7 +99,7 @@ fn writes_byte(
 #[tactic(auto, unfolding(crate::specs::Physical::is_kept))]
 fn is_kept_register(address: usize) -> bool
     requires { address < ram_start }
-    ensures { (ms : List Manager) → result ≡ is_kept ms address }
+    ensures { (ms : List SyncManager) → result ≡ is_kept ms address }
 {
     is_stored(address) && !(SYNC_MANAGERS..SYNC_MANAGERS_END).contains(&address)
 }
@@ -108,7 +108,7 @@ fn is_kept_register(address: usize) -> bool
 /// manager governs.
 #[tactic(auto, unfolding(crate::specs::Physical::is_kept))]
 fn is_kept(owner: Option<usize>, address: usize) -> bool
-    ensures value { (ms : List Manager) → (ram_start ≤ address → owner ≡ governor_of ms address) → result ≡ is_kept ms address }
+    ensures value { (ms : List SyncManager) → (ram_start ≤ address → owner ≡ governor_of ms address) → result ≡ is_kept ms address }
     ensures inside { OnTrue result (address < ram_end) }
 {
     if address < RAM_START {
@@ -120,7 +120,7 @@ fn is_kept(owner: Option<usize>, address: usize) -> bool
 /// Writes the bytes of a datagram into the memory itself, and answers whether one is written there or behind a manager.
 pub(crate) fn write_physical(
     memory: &mut [u8],
-    managers: &[Manager],
+    managers: &[SyncManager],
     is_busy: bool,
     from: usize,
     bytes: &[u8],
@@ -142,8 +142,8 @@ pub(crate) fn write_physical(
 fn write_registers(memory: &mut [u8], is_busy: bool, from: usize, bytes: &[u8]) -> bool
     requires room { length memory.old ≡ ram_end }
     requires inside { from + length bytes.now ≤ ram_start }
-    ensures memory { (ms : List Manager) → memory.new ≡ memory_written ms (record { from = from; bytes = bytes.now }) memory.old }
-    ensures some { (ms : List Manager) → result ≡ some_byte_written ms is_busy (record { from = from; bytes = bytes.now }) }
+    ensures memory { (ms : List SyncManager) → memory.new ≡ memory_written ms (record { from = from; bytes = bytes.now }) memory.old }
+    ensures some { (ms : List SyncManager) → result ≡ some_byte_written ms is_busy (record { from = from; bytes = bytes.now }) }
 {
     if FMMUS <= from && from + bytes.len() <= FMMUS_END {
         return write_fmmus(memory, from, bytes);
@@ -165,8 +165,8 @@ fn write_fmmus(memory: &mut [u8], from: usize, bytes: &[u8]) -> bool
     requires room { length memory.old ≡ ram_end }
     requires low { fmmu_place 0 ≤ from }
     requires high { from + length bytes.now ≤ fmmu_place 4 }
-    ensures memory { (ms : List Manager) → memory.new ≡ memory_written ms (record { from = from; bytes = bytes.now }) memory.old }
-    ensures some { (ms : List Manager) (busy : Bool) → result ≡ some_byte_written ms busy (record { from = from; bytes = bytes.now }) }
+    ensures memory { (ms : List SyncManager) → memory.new ≡ memory_written ms (record { from = from; bytes = bytes.now }) memory.old }
+    ensures some { (ms : List SyncManager) (busy : Bool) → result ≡ some_byte_written ms busy (record { from = from; bytes = bytes.now }) }
 {
     store_slice(memory, from, bytes);
     !bytes.is_empty()
@@ -176,7 +176,7 @@ fn write_fmmus(memory: &mut [u8], from: usize, bytes: &[u8]) -> bool
 /// written, is asked once for each part of which all or none are.
 fn write_parts(
     memory: &mut [u8],
-    managers: &[Manager],
+    managers: &[SyncManager],
     is_busy: bool,
     from: usize,
     bytes: &[u8],
@@ -202,7 +202,7 @@ fn write_parts(
 
 /// The end of the bytes from `start` on, and below `end`, of which a datagram writes all or none, and of which the
 /// memory itself keeps all or none: one register, or bytes of the RAM, or behind it, that are alike.
-fn end_of_written(managers: &[Manager], start: usize, end: usize) -> usize
+fn end_of_written(managers: &[SyncManager], start: usize, end: usize) -> usize
     requires { start < end }
     ensures inside { (start < result) × (result ≤ end) }
     ensures aside { start < ram_end → result ≤ ram_end }
@@ -221,7 +221,7 @@ fn end_of_written(managers: &[Manager], start: usize, end: usize) -> usize
 fn store_part(memory: &mut [u8], owner: Option<usize>, start: usize, bytes: &[u8])
     requires room { length memory.old ≡ ram_end }
     requires aside { start < ram_end → start + length bytes.now ≤ ram_end }
-    ensures { (ms : List Manager) → (ram_start ≤ start → owner ≡ governor_of ms start)
+    ensures { (ms : List SyncManager) → (ram_start ≤ start → owner ≡ governor_of ms start)
         → ((a : ℕ) → start ≤ a → a < start + length bytes.now → is_kept ms a ≡ is_kept ms start)
         → memory.new ≡ retold memory.old (λ a. if within start (length bytes.now) a
         then (if is_kept ms a then Some (slice_index bytes.now (a - start)) else None) else None) }

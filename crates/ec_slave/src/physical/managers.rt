@@ -12,13 +12,13 @@ use crate::reach::{governor, read_manager, write_manager};
 use crate::runs::are_ungoverned;
 use ec_bits::within;
 use ec_regs::registers::manager_address;
-use ec_regs::{ManagerSettings, decode_manager, is_stored};
-use ec_sync::{Manager, Reach, Touching, Writing};
+use ec_regs::{SyncManagerSettings, decode_manager, is_stored};
+use ec_sync::{Reach, SyncManager, Touching, Writing};
 
 /// The bytes of a datagram, as a manager below these lower-numbered ones takes them.
 #[derive(Clone, Copy)]
 struct Bytes<'a> {
-    lower: &'a [Manager],
+    lower: &'a [SyncManager],
     from: usize,
     bytes: &'a [u8],
 }
@@ -117,7 +117,7 @@ fn is_configured(from: usize, bytes: &[u8], number: usize) -> bool
 }
 
 /// Byte k of a manager's eight after a datagram.
-fn byte_after(manager: &Manager, from: usize, bytes: &[u8], number: usize, k: usize) -> u8
+fn byte_after(manager: &SyncManager, from: usize, bytes: &[u8], number: usize, k: usize) -> u8
     requires manager { number < 4 }
     requires byte { k < 8 }
     ensures { result ≡ unwrap_or (setting_for (record { from = from; bytes = bytes.now }) number k) (manager_byte manager.now k) }
@@ -126,7 +126,12 @@ fn byte_after(manager: &Manager, from: usize, bytes: &[u8], number: usize, k: us
 }
 
 /// The settings of a manager after a datagram.
-fn settings_after(manager: &Manager, from: usize, bytes: &[u8], number: usize) -> ManagerSettings
+fn settings_after(
+    manager: &SyncManager,
+    from: usize,
+    bytes: &[u8],
+    number: usize,
+) -> SyncManagerSettings
     requires { number < 4 }
     ensures { result ≡ settings_written (record { from = from; bytes = bytes.now }) number manager.now }
 {
@@ -145,8 +150,8 @@ fn settings_after(manager: &Manager, from: usize, bytes: &[u8], number: usize) -
 /// One manager meets a datagram.
 #[tactic(auto, unfolding(crate::specs::Physical::physical_manager))]
 fn access_manager(
-    lower: &[Manager],
-    manager: &mut Manager,
+    lower: &[SyncManager],
+    manager: &mut SyncManager,
     number: usize,
     reads: bool,
     writes: bool,
@@ -166,8 +171,8 @@ fn access_manager(
 
 /// One manager meets a datagram that leaves its settings.
 fn take_access(
-    lower: &[Manager],
-    manager: &mut Manager,
+    lower: &[SyncManager],
+    manager: &mut SyncManager,
     reads: bool,
     writes: bool,
     from: usize,
@@ -188,7 +193,7 @@ fn take_access(
 /// Each of the four managers meets a datagram, from the last to the first, so that each finds the lower-numbered ones as
 /// they were.
 pub(crate) fn access_managers(
-    managers: &mut [Manager],
+    managers: &mut [SyncManager],
     reads: bool,
     writes: bool,
     from: usize,

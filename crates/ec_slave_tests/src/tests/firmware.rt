@@ -3,8 +3,9 @@ use super::steps::Step::{
     Answers, Asks, Faults, Gets, Outputs, Puts, Replies, Sends, Serves, Shows, Sizes, Writes,
 };
 use super::steps::{Step, bytes_of, pass_frame, take_all};
+use ec_device::{Device, Entry, Mailbox, Pdo, SlaveType};
 use ec_frame::Command::Aprd;
-use ec_regs::{Device, Entry, Listed, Mailbox, Pdo, SlaveType};
+use ec_listed::Listed;
 use ec_slave::Slave;
 use std::alloc::Global;
 use std::process::Abort;

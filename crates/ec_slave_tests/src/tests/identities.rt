@@ -1,5 +1,5 @@
 //! Slaves of any identity.
-use ec_regs::{Identity, SlaveType};
+use ec_device::{Identity, SlaveType};
 use ec_slave::Slave;
 use std::alloc::{AllocError, Global};
 use std::process::Abort;
@@ -13,7 +13,7 @@ fn switched_on(alloc: Global, vendor: u32, serial: u32) -> Result<Option<u8>, Al
         revision: serial,
         serial,
     };
-    let slave = Slave::new(alloc, SlaveType::plain(alloc), identity)?;
+    let slave = Slave::new(alloc, SlaveType::without_pdos(alloc), identity)?;
     Ok(slave.byte(0x0130))
 }
 

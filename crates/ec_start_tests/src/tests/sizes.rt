@@ -1,6 +1,6 @@
 //! Start-ups of every number of slaves, and the texts of their failures.
 use crate::tests::startup_of;
-use ec_regs::Device;
+use ec_device::Device;
 use ec_start::{Phase, StartError};
 use std::alloc::{AllocError, Global};
 use std::test::Fail;

@@ -1,7 +1,7 @@
 //! All that a table holds, a line for each row.
 ghost use Rattle.std.specs.Prelude.{◌<◌, length};
 
-use ec_regs::{Entry, Mailbox, Pdo};
+use ec_device::{Entry, Mailbox, Pdo};
 use ec_table::{Direction, LinkRow, SlaveRow, Table, TypeRow};
 use std::alloc::{AllocError, Global};
 

@@ -4,7 +4,7 @@ ghost use Rattle.std.specs.Prelude.{◌<◌, length};
 use crate::tests::described::push_table;
 use crate::tests::examples::{SMALL_MACHINE, THREE_SLAVES};
 use crate::tests::{SMALL_MACHINE_READ, THREE_SLAVES_READ, push_many};
-use ec_regs::Face;
+use ec_device::Face;
 use ec_table::{Table, read_table};
 use std::alloc::Global;
 use std::process::Abort;

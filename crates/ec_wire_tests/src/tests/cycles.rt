@@ -152,9 +152,9 @@ fn each_call_fails_on_many_slaves(rt: HostRuntime) -> Result<(), Fail> {
 struct Spent;
 
 impl Wire for Spent {
-    ghost use Rattle.ec_wire.specs.Wires.{most_failed, silent};
+    ghost use Rattle.ec_wire.specs.Wires.{max_failed, silent};
 
-    ghost state = { λ w. silent most_failed };
+    ghost state = { λ w. silent max_failed };
 
     fn failures(&self) -> u64 {
         u64::MAX

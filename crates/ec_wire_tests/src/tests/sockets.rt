@@ -6,7 +6,7 @@ use crate::tests::machines::{
     THREE_SLAVES, are_up, plan_of, ring_of, set, startup_of, three_slaves, value_of,
 };
 use ec_cycle::Master;
-use ec_link::{Plan, Predicted};
+use ec_link::{ExpectedCounters, Plan};
 use ec_ring::Ring;
 use ec_start::Startup;
 use ec_wire::{
@@ -292,7 +292,7 @@ fn run_taken<W: Wire>(master: &mut Master<'_>, wire: &mut W, number: u64) -> boo
     match run_cycle(master, wire) {
         Ok(report) => {
             report.is_taken()
-                && report.counters().as_slice() == [Some(Predicted::Lrw(6))].as_slice()
+                && report.counters().as_slice() == [Some(ExpectedCounters::Lrw(6))].as_slice()
         }
         Err(_) => false,
     }

@@ -7,7 +7,7 @@ use crate::tests::cases::Part::{Gone, One, Two};
 use crate::tests::steps::{made, new_world, pass_slaves, reads, rise};
 use crate::tests::{TABLE, TWO_UNITS, WITHOUT_LRW};
 use ec_cycle::Report;
-use ec_link::{Plan, Predicted, compile};
+use ec_link::{ExpectedCounters, Plan, compile};
 use ec_table::{Table, read_table};
 use ec_world::Event::{AppPut, Begin, Close, Fault, Lose, Reset, Return};
 use ec_world::{Event, World};
@@ -133,16 +133,16 @@ fn shows_taken(world: &World<'_>, units: &[bool]) -> bool {
 }
 
 /// The working counters of what comes back of a part.
-fn counters_of(part: Part) -> Option<Predicted> {
+fn counters_of(part: Part) -> Option<ExpectedCounters> {
     match part {
-        One(counter) => Some(Predicted::Lrw(counter)),
-        Two(write, read) => Some(Predicted::Split { write, read }),
+        One(counter) => Some(ExpectedCounters::Lrw(counter)),
+        Two(write, read) => Some(ExpectedCounters::Split { write, read }),
         Gone => None,
     }
 }
 
 /// Whether these are the counters of what comes back of parts.
-fn are_counters(counters: &[Option<Predicted>], parts: &[Part]) -> bool {
+fn are_counters(counters: &[Option<ExpectedCounters>], parts: &[Part]) -> bool {
     for (counters, part) in counters.iter().zip(parts.iter()) {
         if *counters != counters_of(*part) {
             return false;

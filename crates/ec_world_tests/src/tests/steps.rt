@@ -4,8 +4,8 @@ ghost use Rattle.ec_link.specs.Faults.{compile_fault};
 ghost use Rattle.ec_link.specs.Plan.{plan_of};
 
 use ec_cycle::Report;
-use ec_link::{Plan, Predicted, compile};
-use ec_regs::Identity;
+use ec_device::Identity;
+use ec_link::{ExpectedCounters, Plan, compile};
 use ec_start::StartError;
 use ec_table::{Table, read_table};
 use ec_world::{Event, Progress, World};
@@ -37,7 +37,7 @@ pub enum Step<'a> {
     /// The byte that an application read last.
     Byte(Option<u8>),
     /// What the last closing said: which units were taken, the counters of each part, and the AL word.
-    Reports(&'a [bool], &'a [Option<Predicted>], u16),
+    Reports(&'a [bool], &'a [Option<ExpectedCounters>], u16),
     /// No cycle was closed yet.
     NoReport,
 }
@@ -88,7 +88,7 @@ pub fn rise(world: &mut World<'_>) {
 fn is_report(
     report: &Report,
     units: &[bool],
-    counters: &[Option<Predicted>],
+    counters: &[Option<ExpectedCounters>],
     al_word: u16,
 ) -> bool {
     report.units_taken() == units

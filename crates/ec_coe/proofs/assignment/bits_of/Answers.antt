@@ -1,6 +1,6 @@
 use Rattle.std.proofs.Common.{◌≤◌, ◌==◌, length, sym, arith}
-use Rattle.ec_regs.specs.declared.slave_type.Pdo.{Pdo}
-use Rattle.ec_regs.specs.Types.{pdo_bits}
+use Rattle.ec_device.specs.declared.slave_type.Pdo.{Pdo}
+use Rattle.ec_device.specs.Types.{pdo_bits}
 use Rattle.ec_coe.proofs.Finding.{find-all}
 use Rattle.ec_coe.proofs.assignment.bits_of.Goals as goal
 

@@ -1,6 +1,6 @@
 use Rattle.std.proofs.Common.{◌≡◌, ◌*◌, ◌≤◌, take}
 use Rattle.std.specs.Prelude.{sum_by}
-use Rattle.ec_regs.specs.Objects.{bits_at}
+use Rattle.ec_device.specs.Objects.{bits_at}
 use Rattle.ec_coe.proofs.assignment.sum_of_bits.Given as goal
 
 abbrev pub invariant-loop-index : goal.invariant-loop-index

@@ -8,15 +8,15 @@ use Rattle.ec_fmmu.proofs.touching.is_touched_by_write_bits.Goals as goal
 pub loop-bit-init : goal.loop-bit-init
 loop-bit-init c = none_below_zero _
 
-pub returns-then-is_brought : goal.returns-then-is_brought
-returns-then-is_brought c =
+pub returns-then-is_bit_written : goal.returns-then-is_bit_written
+returns-then-is_bit_written c =
     let p : Place = record { from = c.args.from; bits = c.args.bits } in
-    sym (any_below_from 8 (λ j. is_some (data_bit_for c.args.fmmus.now p (8 * c.args.address + j))) c.loop-bit.bit (omega arith) (ap (λ (n : ℕ). is_some (data_bit_for c.args.fmmus.now p (8 * n + c.loop-bit.bit))) (sym c.from.ensures) ∙ sym c.if-is_brought.ensures))
+    sym (any_below_from 8 (λ j. is_some (data_bit_for c.args.fmmus.now p (8 * c.args.address + j))) c.loop-bit.bit (omega arith) (ap (λ (n : ℕ). is_some (data_bit_for c.args.fmmus.now p (8 * n + c.loop-bit.bit))) (sym c.from.ensures) ∙ sym c.if-is_bit_written.ensures))
 
 pub loop-bit-preserved : goal.loop-bit-preserved
 loop-bit-preserved c =
     let p : Place = record { from = c.args.from; bits = c.args.bits } in
-    one_more_false c.loop-bit.bit (λ j. is_some (data_bit_for c.args.fmmus.now p (8 * c.args.address + j))) (ap (λ (n : ℕ). is_some (data_bit_for c.args.fmmus.now p (8 * n + c.loop-bit.bit))) (sym c.from.ensures) ∙ sym c.if-is_brought.ensures) c.loop-bit.invariant
+    one_more_false c.loop-bit.bit (λ j. is_some (data_bit_for c.args.fmmus.now p (8 * c.args.address + j))) (ap (λ (n : ℕ). is_some (data_bit_for c.args.fmmus.now p (8 * n + c.loop-bit.bit))) (sym c.from.ensures) ∙ sym c.if-is_bit_written.ensures) c.loop-bit.invariant
 
 pub returns : goal.returns
 returns c =

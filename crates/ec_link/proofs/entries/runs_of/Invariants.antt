@@ -1,5 +1,5 @@
 use Rattle.std.proofs.Common.{◌≡◌, ◌*◌, ◌≤◌, take}
-use Rattle.ec_regs.specs.Objects.{bits_of}
+use Rattle.ec_device.specs.Objects.{bits_of}
 use Rattle.ec_link.specs.Entries.{names_twice}
 use Rattle.ec_link.specs.Objects.{HasRuns}
 use Rattle.ec_link.proofs.entries.runs_of.Given as goal

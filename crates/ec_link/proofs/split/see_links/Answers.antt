@@ -1,7 +1,7 @@
 use Rattle.std.proofs.Common.{◌≡◌, ◌∙◌, ◌<◌, List, sym, ap, subst, get_or, length, slice_set}
 use Rattle.std.proofs.lemmas.List.{length-set, get_or_default}
 use Rattle.ec_table.specs.declared.rows.LinkRow.{LinkRow}
-use Rattle.ec_link.specs.Seen.{seen_more, nothing_seen}
+use Rattle.ec_link.specs.VariableUse.{seen_more, nothing_seen}
 use Rattle.ec_link.proofs.SeenLinks.{seen_step}
 use Rattle.ec_link.proofs.split.see_links.Goals as goal
 

@@ -1,5 +1,5 @@
 use Rattle.std.proofs.Common.{take}
-use Rattle.ec_link.specs.Seen.{AreSeen}
+use Rattle.ec_link.specs.VariableUse.{AreSeen}
 use Rattle.ec_link.proofs.split.see_links.Given as goal
 
 abbrev pub invariant-loop-link : goal.invariant-loop-link

@@ -1,5 +1,5 @@
 use Rattle.std.proofs.Common.{◌∙◌, ◌-◌, ◌+◌, is_some, sym, ap, subst}
-use Rattle.ec_script.specs.declared.said.Said.TheVariants.{Nothing}
+use Rattle.ec_script.specs.declared.said.LineOutput.TheVariants.{Nothing}
 use Rattle.ec_script.specs.Work.{Starts, last_turn}
 use Rattle.ec_script.proofs.Turning.{ended_turn, no_turn, none_left, one_less, stopped_turn, turned}
 use Rattle.ec_script.proofs.Seeing.{sees_then}

@@ -1,4 +1,4 @@
-use Rattle.ec_script.specs.declared.line.Act.TheVariants.{Cycle, Input, Ready}
+use Rattle.ec_script.specs.declared.line.LineAction.TheVariants.{Cycle, Input, Ready}
 use Rattle.ec_script.proofs.Plans.{act_keeps}
 use Rattle.ec_script.proofs.run.watch_act.Goals as goal
 

@@ -1,7 +1,7 @@
 use Rattle.std.proofs.Common.{ℕ, ◌≡◌, ◌≤◌, ◌+◌, ◌⊎◌, ap, subst, arith, inl, inr}
 use Rattle.ec_sync.specs.Bounds.{span_end_of}
 use Rattle.ec_sync.specs.declared.bounds.Bounds.{Bounds}
-use Rattle.ec_sync.specs.Manager.{Manager}
+use Rattle.ec_sync.specs.SyncManager.{SyncManager}
 use Rattle.ec_slave.proofs.AlikeBytes.{governs_cut, front_cut}
 use Rattle.ec_slave.proofs.runs.cut_at_borders.Goals as goal
 
@@ -11,7 +11,7 @@ shorter start stop longer border less h = elim h [ inl x ↦ inl (omega arith) |
 
 pub returns-clause-governs : goal.returns-clause-governs
 returns-clause-governs c = λ a lo hi.
-    let m : Manager = c.args.manager.now in
+    let m : SyncManager = c.args.manager.now in
     let b = c.bounds-bounds.ensures in
     let first : c.bounds-bounds.result.first ≡ m.settings.start = ap (λ (x : Bounds). x.first) b in
     let span_end : c.bounds-bounds.result.span_end ≡ span_end_of m.settings = ap (λ (x : Bounds). x.span_end) b in
@@ -23,7 +23,7 @@ returns-clause-governs c = λ a lo hi.
 
 pub returns-clause-front : goal.returns-clause-front
 returns-clause-front c = λ here a lo hi.
-    let m : Manager = c.args.manager.now in
+    let m : SyncManager = c.args.manager.now in
     let b = c.bounds-bounds.ensures in
     let value_end : c.bounds-bounds.result.value_end ≡ m.settings.start + m.settings.length = ap (λ (x : Bounds). x.value_end) b in
     let side = subst (λ (n : ℕ). (c.cut-inside.result ≤ n) ⊎ (n ≤ c.args.start)) value_end c.cut-inside.ensures.aside in

@@ -1,5 +1,5 @@
-use Rattle.ec_regs.specs.Types.{first_output_index, first_input_index}
-use Rattle.ec_regs.proofs.Limits.{few_bits}
+use Rattle.ec_device.specs.Types.{first_output_index, first_input_index}
+use Rattle.ec_device.proofs.Limits.{few_bits}
 use Rattle.ec_start.proofs.Seeks.{first_upload, second_upload}
 use Rattle.ec_start.proofs.requests.upload_in.Goals as goal
 

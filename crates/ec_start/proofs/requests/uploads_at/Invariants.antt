@@ -1,6 +1,6 @@
 use Rattle.std.proofs.Common.{◌≡◌, drop}
 use Rattle.std.specs.List.{flat_map}
-use Rattle.ec_regs.specs.Objects.{pdo_at}
+use Rattle.ec_device.specs.Objects.{pdo_at}
 use Rattle.ec_start.specs.Scripts.{pdo_read}
 use Rattle.ec_start.specs.Seeking.{seek}
 use Rattle.ec_start.proofs.requests.uploads_at.Given as goal

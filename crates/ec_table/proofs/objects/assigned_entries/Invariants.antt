@@ -1,5 +1,5 @@
 use Rattle.std.proofs.Common.{◌≡◌, take}
-use Rattle.ec_regs.specs.Objects.{assigned_entries}
+use Rattle.ec_device.specs.Objects.{assigned_entries}
 use Rattle.ec_table.proofs.objects.assigned_entries.Given as goal
 
 abbrev pub invariant-loop-index : goal.invariant-loop-index

@@ -1,7 +1,7 @@
 use Rattle.std.proofs.Common.{◌∙◌, ap, Some, List}
-use Rattle.ec_regs.specs.declared.slave_type.Pdo.{Pdo}
-use Rattle.ec_regs.specs.Types.{first_output_index, first_input_index}
-use Rattle.ec_regs.specs.Objects.{pdo_at}
+use Rattle.ec_device.specs.declared.slave_type.Pdo.{Pdo}
+use Rattle.ec_device.specs.Types.{first_output_index, first_input_index}
+use Rattle.ec_device.specs.Objects.{pdo_at}
 use Rattle.ec_coe.specs.Objects.{Dictionary}
 use Rattle.ec_coe.proofs.Finding.{few-found, found-first, found-second}
 use Rattle.ec_coe.proofs.dictionary.Dictionary.pdo.Goals as goal

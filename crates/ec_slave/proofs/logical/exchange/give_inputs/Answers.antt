@@ -4,7 +4,7 @@ use Rattle.ec_bits.proofs.AnyLaws.{if_true}
 use Rattle.ec_bits.specs.Bits.{copied}
 use Rattle.ec_fmmu.specs.Applied.{Place}
 use Rattle.ec_fmmu.specs.Areas.{area}
-use Rattle.ec_sync.specs.Manager.{may_read}
+use Rattle.ec_sync.specs.SyncManager.{may_read}
 use Rattle.ec_sync.proofs.Lengths.{buffer_length_set}
 use Rattle.ec_slave.proofs.Usual.{copied_into}
 use Rattle.ec_slave.proofs.logical.exchange.give_inputs.Goals as goal

@@ -3,7 +3,7 @@ use Rattle.std.proofs.lemmas.Bool.{and_from, lt-ltb}
 use Rattle.ec_bits.proofs.AnyLaws.{if_true, if_false}
 use Rattle.ec_fmmu.specs.Applied.{Place}
 use Rattle.ec_fmmu.specs.Areas.{area}
-use Rattle.ec_sync.specs.Manager.{may_write}
+use Rattle.ec_sync.specs.SyncManager.{may_write}
 use Rattle.ec_slave.specs.Exchange.{with_published}
 use Rattle.ec_slave.proofs.Usual.{outputs_are}
 use Rattle.ec_slave.proofs.logical.exchange.take_outputs.Goals as goal

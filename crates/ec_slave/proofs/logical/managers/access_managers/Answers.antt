@@ -1,5 +1,5 @@
 use Rattle.std.proofs.Common.{ℕ, ◌≡◌, ◌+◌, ◌-◌, ◌*◌, ◌&&◌, List, ◌++◌, length, take, drop, get_or, set, ◌∙◌, ap, arith}
-use Rattle.ec_sync.specs.Manager.{Manager}
+use Rattle.ec_sync.specs.SyncManager.{SyncManager}
 use Rattle.ec_fmmu.specs.Applied.{Place, touched_by_writing}
 use Rattle.ec_slave.specs.Managers.{is_ungoverned, is_written_by}
 use Rattle.ec_slave.proofs.Exchanges.{one_exchanged, exchanged_from, exchanged_from-step, exchanged_from-end, written_from}
@@ -8,16 +8,16 @@ use Rattle.ec_slave.proofs.logical.managers.access_managers.Goals as goal
 
 pub loop-k-preserved : goal.loop-k-preserved
 loop-k-preserved c =
-    let ms : List Manager = c.args.managers.now in
-    let before : List Manager = c.loop-k.managers in
+    let ms : List SyncManager = c.args.managers.now in
+    let before : List SyncManager = c.loop-k.managers in
     let fs = c.args.fmmus.now in
     let bytes = c.args.bytes.now in
     let p : Place = record { from = c.args.from; bits = 8 * length bytes } in
     let n : ℕ = 3 - c.loop-k.k in
-    let d : Manager = c.index-rest-0.result in
-    let x : Manager = c.access_manager-is_written.new.manager in
-    let lower : List Manager = c.split_at_mut-lower.result.0.now in
-    let rest : List Manager = c.split_at_mut-lower.result.1.now in
+    let d : SyncManager = c.index-rest-0.result in
+    let x : SyncManager = c.access_manager-is_written.new.manager in
+    let lower : List SyncManager = c.split_at_mut-lower.result.0.now in
+    let rest : List SyncManager = c.split_at_mut-lower.result.1.now in
     let front : lower ≡ take n before = c.split_at_mut-lower.ensures.front in
     let back : rest ≡ drop n before = c.split_at_mut-lower.ensures.back in
     let more : 4 - c.loop-k.k ≡ n + 1 = omega arith in

@@ -1,8 +1,8 @@
 use Rattle.std.proofs.Common.{ℕ, ◌≡◌, ◌+◌, ◌-◌, ◌*◌, ◌<◌, ◌∙◌, Some, List, length, ap, subst, sym, arith, is_some, true}
 use Rattle.ec_bits.specs.Bits.{bit, copied, zeros}
 use Rattle.ec_bits.proofs.AnyLaws.{if_true}
-use Rattle.ec_regs.specs.declared.manager.ManagerSettings.{ManagerSettings}
-use Rattle.ec_sync.specs.Manager.{Manager, ring_written}
+use Rattle.ec_regs.specs.declared.manager.SyncManagerSettings.{SyncManagerSettings}
+use Rattle.ec_sync.specs.SyncManager.{SyncManager, ring_written}
 use Rattle.ec_fmmu.specs.Applied.{Place, touched_by_writing}
 use Rattle.ec_slave.specs.Managers.{is_ungoverned, is_written_by}
 use Rattle.ec_slave.specs.Logical.{plain_bit}
@@ -16,11 +16,11 @@ returns-in-Some c =
     let fs = access.fmmus.now in
     let bytes : List ℕ = access.bytes.now in
     let p : Place = record { from = access.from; bits = 8 * length bytes } in
-    let m : Manager = c.args.manager.now in
+    let m : SyncManager = c.args.manager.now in
     let at : ℕ = c.in-Some.at in
-    let all = λ (a b : ManagerSettings). (k : ℕ) → k < 8 * b.length → plain_bit lower fs p bytes (8 * a.start + k) ≡ Some (bit bytes (at + k)) in
-    let first : all m.settings c.settings-len.result = subst (λ (a : ManagerSettings). all a c.settings-len.result) c.settings-start.ensures c.in-Some.ensures.bits in
-    let here : all m.settings m.settings = subst (λ (b : ManagerSettings). all m.settings b) c.settings-len.ensures first in
+    let all = λ (a b : SyncManagerSettings). (k : ℕ) → k < 8 * b.length → plain_bit lower fs p bytes (8 * a.start + k) ≡ Some (bit bytes (at + k)) in
+    let first : all m.settings c.settings-len.result = subst (λ (a : SyncManagerSettings). all a c.settings-len.result) c.settings-start.ensures c.in-Some.ensures.bits in
+    let here : all m.settings m.settings = subst (λ (b : SyncManagerSettings). all m.settings b) c.settings-len.ensures first in
     let may = c.if-not-may_write.ensures in
     let inside = may.inside in
     let written : is_written_by (touched_by_writing fs p) (is_ungoverned lower) m ≡ true
@@ -28,6 +28,6 @@ returns-in-Some c =
     record {
       written = sym written;
       after = c.store.ensures
-          ∙ (ap (λ (a : ManagerSettings). ring_written m (copied (zeros m.settings.length) 0 bytes (at + 8 * (m.settings.start - a.start)) (8 * m.settings.length))) c.settings-start.ensures
+          ∙ (ap (λ (a : SyncManagerSettings). ring_written m (copied (zeros m.settings.length) 0 bytes (at + 8 * (m.settings.start - a.start)) (8 * m.settings.length))) c.settings-start.ensures
           ∙ (ap (ring_written m) (wholly-copied lower fs p bytes m.settings.start m.settings.length at here) ∙ sym (if_true _ _ _ written)));
     }

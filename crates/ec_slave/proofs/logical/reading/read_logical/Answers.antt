@@ -1,7 +1,7 @@
 use Rattle.std.proofs.Common.{ℕ, ◌≡◌, ◌<◌, ◌*◌, ◌&&◌, Bool, List, [], ◌∷◌, length, get_or, ◌∙◌, ap, arith}
 use Rattle.std.proofs.lemmas.List.{get_or_default}
 use Rattle.ec_regs.specs.declared.fmmu.FmmuSettings.{FmmuSettings}
-use Rattle.ec_sync.specs.Manager.{Manager, no_manager, may_read}
+use Rattle.ec_sync.specs.SyncManager.{SyncManager, no_manager, may_read}
 use Rattle.ec_sync.specs.Governing.{covers}
 use Rattle.ec_fmmu.specs.Applied.{Place, touched_by_reading}
 use Rattle.ec_slave.specs.State.{manager_at}
@@ -9,7 +9,7 @@ use Rattle.ec_slave.proofs.Sights.{Readable, four, overlay-read, any-read}
 use Rattle.ec_slave.proofs.logical.reading.read_logical.Goals as goal
 
 -- the truth value that was found for a manager
-same : (ms : List Manager) (fs : List FmmuSettings) (p : Place) (n : ℕ) (m : Manager) (b : Bool) → n < length ms → m ≡ get_or ms n m
+same : (ms : List SyncManager) (fs : List FmmuSettings) (p : Place) (n : ℕ) (m : SyncManager) (b : Bool) → n < length ms → m ≡ get_or ms n m
     → b ≡ (covers (touched_by_reading fs p) m && may_read m) → b ≡ (covers (touched_by_reading fs p) (manager_at ms n) && may_read (manager_at ms n))
 same ms fs p n m b l e h = h ∙ ap (λ x. covers (touched_by_reading fs p) x && may_read x) (e ∙ get_or_default ms n m no_manager l)
 

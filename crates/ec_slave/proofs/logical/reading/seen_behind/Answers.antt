@@ -2,13 +2,13 @@ use Rattle.std.proofs.Common.{ℕ, ◌≡◌, ◌*◌, ◌-◌, ◌%◌, Some, [
 use Rattle.std.proofs.lemmas.Bool.{and_from}
 use Rattle.ec_bits.specs.Bits.{bit}
 use Rattle.ec_bits.proofs.AnyLaws.{if_true}
-use Rattle.ec_sync.specs.Manager.{Manager, shown}
+use Rattle.ec_sync.specs.SyncManager.{SyncManager, shown}
 use Rattle.ec_slave.proofs.Sights.{bit-byte}
 use Rattle.ec_slave.proofs.logical.reading.seen_behind.Goals as goal
 
 pub returns-then-is_readable : goal.returns-then-is_readable
 returns-then-is_readable c =
-    let m : Manager = c.args.manager.now in
+    let m : SyncManager = c.args.manager.now in
     let q : ℕ = c.args.physical in
     let b : c.get.result ≡ bit (shown m) (q - 8 * m.settings.start)
     = c.get.ensures ∙ (ap (λ x. bit (x ∷ []) (q % 8)) c.shown_byte-byte.ensures ∙ bit-byte (shown m) (m.settings.start) q c.requires) in

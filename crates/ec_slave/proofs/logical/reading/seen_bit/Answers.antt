@@ -1,6 +1,6 @@
 use Rattle.std.proofs.Common.{ℕ, ◌≡◌, ◌≤◌, ◌/◌, Some, sym, ◌∙◌, subst}
 use Rattle.std.proofs.lemmas.List.{get_or_default}
-use Rattle.ec_sync.specs.Manager.{Manager, no_manager}
+use Rattle.ec_sync.specs.SyncManager.{SyncManager, no_manager}
 use Rattle.ec_sync.specs.Governing.{governor}
 use Rattle.ec_slave.specs.State.{manager_at}
 use Rattle.ec_slave.proofs.Sights.{governor-start, governor-below}
@@ -14,4 +14,4 @@ seen_behind-requires c =
     let g : governor ms a ≡ Some n = sym c.governor.ensures.value ∙ c.in-Some.is in
     let same : c.index-managers-place.result ≡ manager_at ms n
     = c.index-managers-place.is ∙ get_or_default ms n (c.index-managers-place.result) no_manager (governor-below ms a n g) in
-    subst (λ (m : Manager). m.settings.start ≤ a) (sym same) (governor-start ms a n g)
+    subst (λ (m : SyncManager). m.settings.start ≤ a) (sym same) (governor-start ms a n g)

@@ -1,8 +1,8 @@
 use Rattle.std.proofs.Common.{ℕ, ◌≡◌, ◌<◌, ◌≤◌, ◌+◌, ◌-◌, ◌*◌, ◌/◌, ◌∙◌, Bool, true, false, Some, None, is_some, List, length, get_or, sym, ap, arith}
 use Rattle.std.proofs.lemmas.List.{get_or_default}
 use Rattle.ec_bits.specs.Bits.{bit}
-use Rattle.ec_regs.specs.declared.manager.ManagerSettings.{ManagerSettings}
-use Rattle.ec_sync.specs.Manager.{Manager, no_manager, shown}
+use Rattle.ec_regs.specs.declared.manager.SyncManagerSettings.{SyncManagerSettings}
+use Rattle.ec_sync.specs.SyncManager.{SyncManager, no_manager, shown}
 use Rattle.ec_sync.specs.Governing.{governor, in_first_buffer}
 use Rattle.ec_slave.specs.State.{manager_at}
 use Rattle.ec_slave.specs.Sights.{seen_bit}
@@ -35,19 +35,19 @@ returns-then-not-sight-place-clause-bits c =
     (c.requires.governed ((c.args.physical + (i - c.args.to)) / 8) (omega arith) (omega arith)))).0
 
 -- the manager that an index gave is the one of that number, and begins at the run or before it
-begins : (ms : List Manager) (q n : ℕ) (d : Manager) → governor ms (q / 8) ≡ Some n → (get_or ms n d ≡ manager_at ms n) × ((get_or ms n d).settings.start ≤ q / 8)
+begins : (ms : List SyncManager) (q n : ℕ) (d : SyncManager) → governor ms (q / 8) ≡ Some n → (get_or ms n d ≡ manager_at ms n) × ((get_or ms n d).settings.start ≤ q / 8)
 begins ms q n d g =
     let same : get_or ms n d ≡ manager_at ms n = get_or_default ms n d no_manager (governor-below ms (q / 8) n g) in
     let lo : (manager_at ms n).settings.start ≤ q / 8 = governor-start ms (q / 8) n g in
-    let st : (get_or ms n d).settings.start ≡ (manager_at ms n).settings.start = ap (λ (x : Manager). x.settings.start) same in
+    let st : (get_or ms n d).settings.start ≡ (manager_at ms n).settings.start = ap (λ (x : SyncManager). x.settings.start) same in
     (same, omega (arith, lo, st))
 
 -- no bit of the run shows a thing, behind the end of the value
-unseen : (memory : List ℕ) (ms : List Manager) (rd : List Bool) (n q last : ℕ) (m : Manager) → (m ≡ manager_at ms n)
+unseen : (memory : List ℕ) (ms : List SyncManager) (rd : List Bool) (n q last : ℕ) (m : SyncManager) → (m ≡ manager_at ms n)
     → false ≡ in_first_buffer m last → in_first_buffer (manager_at ms n) (q / 8) ≡ in_first_buffer (manager_at ms n) last
     → governor ms (q / 8) ≡ Some n → seen_bit memory ms rd q ≡ None
 unseen memory ms rd n q last m same behind alike g =
-    behind_value memory ms rd n q (alike ∙ sym (behind ∙ ap (λ (x : Manager). in_first_buffer x last) same)) g
+    behind_value memory ms rd n q (alike ∙ sym (behind ∙ ap (λ (x : SyncManager). in_first_buffer x last) same)) g
 
 pub returns-then-not-in_first_buffer-clause-any : goal.returns-then-not-in_first_buffer-clause-any
 returns-then-not-in_first_buffer-clause-any c =
@@ -85,7 +85,7 @@ overflow_sub-last-2 c =
     let q : ℕ = c.args.physical in
     let g : governor ms (q / 8) ≡ Some c.args.place = c.requires.governed (q / 8) (omega arith) (omega arith) in
     let lo = (begins ms q c.args.place c.index-sight-place.result g).1 in
-    let st : c.settings-start.result.start ≡ (get_or ms c.args.place c.index-sight-place.result).settings.start = ap (λ (x : ManagerSettings). x.start) c.settings-start.ensures in
+    let st : c.settings-start.result.start ≡ (get_or ms c.args.place c.index-sight-place.result).settings.start = ap (λ (x : SyncManagerSettings). x.start) c.settings-start.ensures in
     let some = c.requires.some in
     omega (arith, lo, st, some)
 
@@ -95,7 +95,7 @@ overflow_sub-physical c =
     let q : ℕ = c.args.physical in
     let g : governor ms (q / 8) ≡ Some c.args.place = c.requires.governed (q / 8) (omega arith) (omega arith) in
     let lo = (begins ms q c.args.place c.index-sight-place.result g).1 in
-    let st : c.settings-start.result.start ≡ (get_or ms c.args.place c.index-sight-place.result).settings.start = ap (λ (x : ManagerSettings). x.start) c.settings-start.ensures in
+    let st : c.settings-start.result.start ≡ (get_or ms c.args.place c.index-sight-place.result).settings.start = ap (λ (x : SyncManagerSettings). x.start) c.settings-start.ensures in
     omega (arith, lo, st)
 
 pub copy_by_words-requires-clause-there : goal.copy_by_words-requires-clause-there
@@ -104,19 +104,19 @@ copy_by_words-requires-clause-there c =
     let q : ℕ = c.args.physical in
     let g : governor ms (q / 8) ≡ Some c.args.place = c.requires.governed (q / 8) (omega arith) (omega arith) in
     let lo = (begins ms q c.args.place c.index-sight-place.result g).1 in
-    let st : c.settings-start.result.start ≡ (get_or ms c.args.place c.index-sight-place.result).settings.start = ap (λ (x : ManagerSettings). x.start) c.settings-start.ensures in
+    let st : c.settings-start.result.start ≡ (get_or ms c.args.place c.index-sight-place.result).settings.start = ap (λ (x : SyncManagerSettings). x.start) c.settings-start.ensures in
     let some = c.requires.some in
     omega (arith, lo, st, some)
 
 -- each bit of the run shows a bit of the value
-shows : (memory : List ℕ) (ms : List Manager) (rd : List Bool) (n q0 k start last : ℕ) (m : Manager) (value : List ℕ)
+shows : (memory : List ℕ) (ms : List SyncManager) (rd : List Bool) (n q0 k start last : ℕ) (m : SyncManager) (value : List ℕ)
     → (m ≡ manager_at ms n) → start ≡ m.settings.start → start ≤ q0 / 8 → value ≡ shown m → get_or rd n false ≡ true
     → governor ms ((q0 + k) / 8) ≡ Some n → true ≡ in_first_buffer m last → (q0 + k) / 8 ≤ last
     → seen_bit memory ms rd (q0 + k) ≡ Some (bit value (q0 - 8 * start + k))
 shows memory ms rd n q0 k start last m value same st lo v r g front below =
-    let front_2 : in_first_buffer (manager_at ms n) last ≡ true = sym (front ∙ ap (λ (x : Manager). in_first_buffer x last) same) in
-    let st_2 : start ≡ (manager_at ms n).settings.start = st ∙ ap (λ (x : Manager). x.settings.start) same in
-    let v_2 : value ≡ shown (manager_at ms n) = v ∙ ap (λ (x : Manager). shown x) same in
+    let front_2 : in_first_buffer (manager_at ms n) last ≡ true = sym (front ∙ ap (λ (x : SyncManager). in_first_buffer x last) same) in
+    let st_2 : start ≡ (manager_at ms n).settings.start = st ∙ ap (λ (x : SyncManager). x.settings.start) same in
+    let v_2 : value ≡ shown (manager_at ms n) = v ∙ ap (λ (x : SyncManager). shown x) same in
     let at : q0 + k - 8 * (manager_at ms n).settings.start ≡ q0 - 8 * start + k = omega (arith, st_2, lo) in
     readable_value memory ms rd n (q0 + k) last r g front_2 below
     ∙ (ap (λ (i : ℕ). Some (bit (shown (manager_at ms n)) i)) at ∙ ap (λ (xs : List ℕ). Some (bit xs (q0 - 8 * start + k))) (sym v_2))
@@ -127,10 +127,10 @@ returns-clause-bits c =
     let ms = s.managers.now in
     let q : ℕ = c.args.physical in
     let n : ℕ = c.args.place in
-    let m : Manager = get_or ms n c.index-sight-place.result in
+    let m : SyncManager = get_or ms n c.index-sight-place.result in
     let g : governor ms (q / 8) ≡ Some n = c.requires.governed (q / 8) (omega arith) (omega arith) in
     let b = begins ms q n c.index-sight-place.result g in
-    let st : c.settings-start.result.start ≡ m.settings.start = ap (λ (x : ManagerSettings). x.start) c.settings-start.ensures in
+    let st : c.settings-start.result.start ≡ m.settings.start = ap (λ (x : SyncManagerSettings). x.start) c.settings-start.ensures in
     let lo = b.1 in
     let r : get_or s.readable.now n false ≡ true = c.if-not-sight-place.false in
     let front : true ≡ in_first_buffer m ((q + c.args.count - 1) / 8) = sym c.if-not-in_first_buffer.false ∙ c.in_first_buffer.ensures in
@@ -145,13 +145,13 @@ returns-clause-any c =
     let ms = s.managers.now in
     let q : ℕ = c.args.physical in
     let n : ℕ = c.args.place in
-    let m : Manager = get_or ms n c.index-sight-place.result in
+    let m : SyncManager = get_or ms n c.index-sight-place.result in
     let g : governor ms (q / 8) ≡ Some n = c.requires.governed (q / 8) (omega arith) (omega arith) in
     let b = begins ms q n c.index-sight-place.result g in
     let r : get_or s.readable.now n false ≡ true = c.if-not-sight-place.false in
     let some = c.requires.some in
     let front : true ≡ in_first_buffer m ((q + c.args.count - 1) / 8) = sym c.if-not-in_first_buffer.false ∙ c.in_first_buffer.ensures in
-    let front_2 : in_first_buffer (manager_at ms n) ((q + c.args.count - 1) / 8) ≡ true = sym (front ∙ ap (λ (x : Manager). in_first_buffer x ((q + c.args.count - 1) / 8)) b.0) in
+    let front_2 : in_first_buffer (manager_at ms n) ((q + c.args.count - 1) / 8) ≡ true = sym (front ∙ ap (λ (x : SyncManager). in_first_buffer x ((q + c.args.count - 1) / 8)) b.0) in
     let one : is_some (seen_bit s.memory.now ms s.readable.now q) ≡ true
     = ap is_some (readable_value s.memory.now ms s.readable.now n q ((q + c.args.count - 1) / 8) r g front_2 (omega (arith, some))) in
     sym (run_counts (8 * length c.args.bytes.now) (seen_bit s.memory.now ms s.readable.now) q c.args.to c.args.count c.requires.some c.requires.inside one)

@@ -1,6 +1,6 @@
 use Rattle.std.proofs.Common.{ℕ, ◌≡◌, ◌+◌, ◌-◌, ◌<◌, ◌≤◌, ◌∙◌, ap, sym, arith, length, take, drop, slice_index, List, Bool, Option, Some, None, if◌then◌else◌}
 use Rattle.ec_bits.specs.Bits.{within}
-use Rattle.ec_sync.specs.Manager.{Manager}
+use Rattle.ec_sync.specs.SyncManager.{SyncManager}
 use Rattle.ec_slave.specs.Physical.{Window, is_kept, may_write_byte, retold}
 use Rattle.ec_slave.proofs.Choices.{any-none, any-joined}
 use Rattle.ec_slave.proofs.Told.{told_along, told-none, told-next_at, retold-along, length-part, get-part}
@@ -13,7 +13,7 @@ loop-done-init c = record { inside = omega arith; memory = told-none _ _ _; some
 pub loop-done-preserved : goal.loop-done-preserved
 loop-done-preserved c =
     let w : Window = record { from = c.args.from; bytes = c.args.bytes.now } in
-    let ms : List Manager = c.args.managers.now in
+    let ms : List SyncManager = c.args.managers.now in
     let n : ℕ = c.loop-done.done in
     let m : ℕ = c.end_of_written.result - (w.from + n) in
     let lo = c.end_of_written.ensures.inside.0 in
@@ -55,7 +55,7 @@ store_part-requires-clause-aside c = λ below.
 pub returns-clause-memory : goal.returns-clause-memory
 returns-clause-memory c =
     let w : Window = record { from = c.args.from; bytes = c.args.bytes.now } in
-    let ms : List Manager = c.args.managers.now in
+    let ms : List SyncManager = c.args.managers.now in
     let inside = c.loop-done.invariant.inside in
     let test = c.loop-done-test.false in
     let e : c.loop-done.done ≡ length c.args.bytes.now = omega (arith, inside, test) in

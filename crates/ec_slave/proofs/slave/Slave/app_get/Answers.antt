@@ -1,5 +1,5 @@
 use Rattle.std.proofs.Common.{◌≡◌, ◌<◌, ◌∙◌, ap, sym, arith, length}
-use Rattle.ec_sync.specs.Manager.{Manager, app_got, after_get}
+use Rattle.ec_sync.specs.SyncManager.{SyncManager, app_got, after_get}
 use Rattle.ec_slave.specs.State.{SlaveState, manager_at}
 use Rattle.ec_slave.specs.Application.{is_running, with_manager}
 use Rattle.ec_slave.proofs.Applications.{got_after, indexed}
@@ -15,4 +15,4 @@ returns-clause-after c =
     ap (λ (x : SlaveState). with_manager x 2 c.app_get.new.self) c.self.view_is
     ∙ got_after s c.args.place c.app_get.new.self
     (sym (ap is_running al) ∙ (sym (c.is_running.ensures ∙ ap is_running c.state.ensures) ∙ c.if-not-is_running.false))
-    (c.app_get.ensures.after ∙ ap (λ (m : Manager). after_get m (app_got m c.args.place)) here)
+    (c.app_get.ensures.after ∙ ap (λ (m : SyncManager). after_get m (app_got m c.args.place)) here)

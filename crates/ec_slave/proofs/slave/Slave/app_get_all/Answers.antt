@@ -1,5 +1,5 @@
 use Rattle.std.proofs.Common.{◌≡◌, ◌<◌, ◌∙◌, None, ap, sym, arith, length}
-use Rattle.ec_sync.specs.Manager.{Manager}
+use Rattle.ec_sync.specs.SyncManager.{SyncManager}
 use Rattle.ec_slave.specs.State.{SlaveState, manager_at}
 use Rattle.ec_slave.specs.Application.{get_size, with_manager}
 use Rattle.ec_slave.proofs.Applications.{indexed}
@@ -15,7 +15,7 @@ returns-then-output_count-gt0 c =
     let there = c.if-output_count-gt0.true in
     let some : 0 < get_size s = omega (arith, size, there) in
     ap (λ (x : SlaveState). with_manager x 2 c.app_get_all.new.self) c.self.view_is
-    ∙ (ap (with_manager s 2) (c.app_get_all.ensures ∙ ap (λ (m : Manager). with_view m None) here)
+    ∙ (ap (with_manager s 2) (c.app_get_all.ensures ∙ ap (λ (m : SyncManager). with_view m None) here)
     ∙ sym (all_taken s c.is_sound.ensures some))
 
 pub returns-else-output_count-gt0 : goal.returns-else-output_count-gt0

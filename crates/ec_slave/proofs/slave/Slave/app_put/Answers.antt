@@ -1,5 +1,5 @@
 use Rattle.std.proofs.Common.{◌≡◌, ◌<◌, ◌∙◌, ap, sym, arith, length, unwrap_or}
-use Rattle.ec_sync.specs.Manager.{Manager, app_put}
+use Rattle.ec_sync.specs.SyncManager.{SyncManager, app_put}
 use Rattle.ec_slave.specs.State.{SlaveState, manager_at}
 use Rattle.ec_slave.specs.Application.{is_running, with_manager}
 use Rattle.ec_slave.proofs.Applications.{put_after, indexed}
@@ -15,4 +15,4 @@ returns-clause-after c =
     ap (λ (x : SlaveState). with_manager x 3 c.app_put.new.self) c.self.view_is
     ∙ put_after s c.args.place c.args.byte c.app_put.new.self
     (sym (ap is_running al) ∙ (sym (c.is_running.ensures ∙ ap is_running c.state.ensures) ∙ c.if-not-is_running.false))
-    (c.app_put.ensures.after ∙ ap (λ (m : Manager). unwrap_or (app_put m c.args.place c.args.byte) m) here)
+    (c.app_put.ensures.after ∙ ap (λ (m : SyncManager). unwrap_or (app_put m c.args.place c.args.byte) m) here)

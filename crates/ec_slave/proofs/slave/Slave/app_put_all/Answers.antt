@@ -1,5 +1,5 @@
 use Rattle.std.proofs.Common.{◌≡◌, ◌<◌, ◌∙◌, ap, sym, arith, length}
-use Rattle.ec_sync.specs.Manager.{Manager, may_app_put}
+use Rattle.ec_sync.specs.SyncManager.{SyncManager, may_app_put}
 use Rattle.ec_slave.specs.State.{SlaveState, manager_at}
 use Rattle.ec_slave.specs.Application.{with_manager}
 use Rattle.ec_slave.proofs.Applications.{indexed}
@@ -12,7 +12,7 @@ app_put_all-requires-clause-allowed c =
     let four : 3 < length c.self.inside.managers.items = omega (arith, c.self.invariant.four) in
     let here : c.index_mut.result.now ≡ manager_at s.managers 3 = indexed _ s.managers 3 _ four c.index_mut.ensures.value (ap (λ (x : SlaveState). x.managers) c.self.view_is) in
     let some : 0 < length c.args.inputs.now = not_empty c.is_empty.result (length c.args.inputs.now) c.is_empty.ensures c.if-not-is_empty.true in
-    ap (λ (m : Manager). may_app_put m) here ∙ allowed_put s c.args.inputs.now c.is_sound.ensures c.requires some
+    ap (λ (m : SyncManager). may_app_put m) here ∙ allowed_put s c.args.inputs.now c.is_sound.ensures c.requires some
 
 pub app_put_all-requires-clause-long : goal.app_put_all-requires-clause-long
 app_put_all-requires-clause-long c =
@@ -20,7 +20,7 @@ app_put_all-requires-clause-long c =
     let four : 3 < length c.self.inside.managers.items = omega (arith, c.self.invariant.four) in
     let here : c.index_mut.result.now ≡ manager_at s.managers 3 = indexed _ s.managers 3 _ four c.index_mut.ensures.value (ap (λ (x : SlaveState). x.managers) c.self.view_is) in
     let some : 0 < length c.args.inputs.now = not_empty c.is_empty.result (length c.args.inputs.now) c.is_empty.ensures c.if-not-is_empty.true in
-    whole_put s c.args.inputs.now c.is_sound.ensures c.requires some ∙ ap (λ (m : Manager). length m.buffer.published) (sym here)
+    whole_put s c.args.inputs.now c.is_sound.ensures c.requires some ∙ ap (λ (m : SyncManager). length m.buffer.published) (sym here)
 
 pub returns-then-not-is_empty : goal.returns-then-not-is_empty
 returns-then-not-is_empty c =
@@ -29,7 +29,7 @@ returns-then-not-is_empty c =
     let here : c.index_mut.result.now ≡ manager_at s.managers 3 = indexed _ s.managers 3 _ four c.index_mut.ensures.value (ap (λ (x : SlaveState). x.managers) c.self.view_is) in
     let some : 0 < length c.args.inputs.now = not_empty c.is_empty.result (length c.args.inputs.now) c.is_empty.ensures c.if-not-is_empty.true in
     ap (λ (x : SlaveState). with_manager x 3 c.app_put_all.new.self) c.self.view_is
-    ∙ (ap (with_manager s 3) (c.app_put_all.ensures ∙ ap (λ (m : Manager). with_published m c.args.inputs.now) here)
+    ∙ (ap (with_manager s 3) (c.app_put_all.ensures ∙ ap (λ (m : SyncManager). with_published m c.args.inputs.now) here)
     ∙ sym (all_put s c.args.inputs.now c.is_sound.ensures c.requires some))
 
 pub returns-else-not-is_empty : goal.returns-else-not-is_empty

@@ -1,5 +1,5 @@
 use Rattle.std.proofs.Common.{◌≡◌, ◌∙◌, ◌++◌, ℕ, List, length, take, drop, arith, ap}
-use Rattle.ec_sync.specs.Manager.{Manager}
+use Rattle.ec_sync.specs.SyncManager.{SyncManager}
 use Rattle.ec_al.specs.declared.state.State.{State}
 use Rattle.ec_al.specs.declared.transition.Checks.{Checks}
 use Rattle.ec_al.specs.Al.{Al, stepped}
@@ -21,7 +21,7 @@ returns c =
     let checks : c.checks-checks.result ≡ checks_of s = c.checks-checks.ensures in
     let old : c.state-old.result ≡ s.al.state = c.state-old.ensures ∙ ap (λ (x : Al). x.state) al in
     let new : c.state-new.result ≡ a.state = c.state-new.ensures in
-    let met : List Manager = c.enter_state.new.managers in
+    let met : List SyncManager = c.enter_state.new.managers in
     let own = c.deref_mut.ensures.value in
     let ok = c.self.inside.managers.ok in
     let long = c.enter_state.auto.managers in

@@ -2,7 +2,7 @@ use Rattle.std.proofs.Common.{ℕ, ◌≡◌, ◌+◌, ◌*◌, ◌∙◌, ◌&&
 use Rattle.std.specs.Int.{from_bool}
 use Rattle.ec_fmmu.specs.Applied.{Place}
 use Rattle.ec_fmmu.specs.Areas.{Area, area}
-use Rattle.ec_sync.specs.Manager.{Manager, may_read}
+use Rattle.ec_sync.specs.SyncManager.{SyncManager, may_read}
 use Rattle.ec_slave.specs.State.{SlaveState, MetBytes, manager_at}
 use Rattle.ec_slave.specs.Roles.{is_reading, is_writing}
 use Rattle.ec_slave.specs.Mapped.{weight}
@@ -48,7 +48,7 @@ returns-clause-bytes c =
       | then-reads w ↦
           let reading : is_reading role ≡ true = sym c.reads.ensures ∙ w.if-reads.true in
           w.bytes-is ∙ (w.give_area-is_read.ensures.bytes
-          ∙ (ap (λ (m : Manager). if nat_lt 0 a.ins && may_read m then inputs_into a p m.buffer.published bytes else bytes) third
+          ∙ (ap (λ (m : SyncManager). if nat_lt 0 a.ins && may_read m then inputs_into a p m.buffer.published bytes else bytes) third
           ∙ sym (law ∙ ap (λ (b : Bool). if b && gives s a then inputs_into a p (inputs_of s) bytes else bytes) reading)))
       | else-reads w ↦
           let reading : is_reading role ≡ false = sym c.reads.ensures ∙ w.if-reads.false in
@@ -79,7 +79,7 @@ returns-clause-added c =
     let read : c.if-reads.is_read ≡ (is_reading role && gives s a) = elim c.if-reads.branch [
       | then-reads w ↦
           let reading : is_reading role ≡ true = sym c.reads.ensures ∙ w.if-reads.true in
-          w.is_read-is ∙ (w.give_area-is_read.ensures.given ∙ (ap (λ (m : Manager). nat_lt 0 a.ins && may_read m) third ∙ sym (ap (λ (b : Bool). b && gives s a) reading)))
+          w.is_read-is ∙ (w.give_area-is_read.ensures.given ∙ (ap (λ (m : SyncManager). nat_lt 0 a.ins && may_read m) third ∙ sym (ap (λ (b : Bool). b && gives s a) reading)))
       | else-reads w ↦
           let reading : is_reading role ≡ false = sym c.reads.ensures ∙ w.if-reads.false in
           w.is_read-is ∙ (w.if-reads.false ∙ sym (ap (λ (b : Bool). b && gives s a) reading))

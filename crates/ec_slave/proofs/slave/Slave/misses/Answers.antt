@@ -14,7 +14,7 @@ returns c =
     let fs : List FmmuSettings = c.self.inside.fmmus in
     let memory = ap (λ (x : SlaveState). x.memory) c.self.view_is in
     let same : fs ≡ fmmus s = c.self.invariant.decoded ∙ ap fmmus_of memory in
-    OnTrue_from c.is_missed.result (Misses s p) (λ t. record {
-      reads = subst (λ (gs : List FmmuSettings). (i : ℕ) → i < p.bits → target (readers gs) (p.from + i) ≡ None) same (OnTrue_at t c.is_missed.ensures.reads);
-      writes = subst (λ (gs : List FmmuSettings). (q : ℕ) → data_bit_for gs p q ≡ None) same (OnTrue_at t c.is_missed.ensures.writes);
+    OnTrue_from c.is_outside.result (Misses s p) (λ t. record {
+      reads = subst (λ (gs : List FmmuSettings). (i : ℕ) → i < p.bits → target (readers gs) (p.from + i) ≡ None) same (OnTrue_at t c.is_outside.ensures.reads);
+      writes = subst (λ (gs : List FmmuSettings). (q : ℕ) → data_bit_for gs p q ≡ None) same (OnTrue_at t c.is_outside.ensures.writes);
     })

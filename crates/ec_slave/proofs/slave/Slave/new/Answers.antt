@@ -1,5 +1,5 @@
 use Rattle.std.proofs.Common.{◌∙◌, ap, sym, length, arith}
-use Rattle.ec_sii.specs.Image.{image_of}
+use Rattle.ec_sii.specs.SiiImage.{image_of}
 use Rattle.ec_sii.specs.Port.{Sii}
 use Rattle.ec_coe.specs.Objects.{Dictionary}
 use Rattle.ec_slave.specs.State.{fmmus_of}

@@ -1,7 +1,7 @@
 use Rattle.std.proofs.Common.{[], ◌≡◌, ◌*◌, ◌++◌, length, take, drop, arith, List, ℕ, ap, ◌∙◌, true, false}
 use Rattle.ec_bits.proofs.BitLaws.{length-overlay}
 use Rattle.ec_regs.specs.declared.fmmu.FmmuSettings.{FmmuSettings}
-use Rattle.ec_sync.specs.Manager.{Manager}
+use Rattle.ec_sync.specs.SyncManager.{SyncManager}
 use Rattle.ec_fmmu.specs.Applied.{Place}
 use Rattle.ec_slave.specs.State.{SlaveState, fmmus_of, with_memory}
 use Rattle.ec_slave.specs.Logical.{logical_managers}
@@ -12,7 +12,7 @@ use Rattle.ec_slave.proofs.slave.Slave.read_bits.Goals as goal
 pub returns-clause-slave : goal.returns-clause-slave
 returns-clause-slave c =
     let s : SlaveState = c.args.self.now in
-    let new : List Manager = c.access_managers.new.managers in
+    let new : List SyncManager = c.access_managers.new.managers in
     let fs : List FmmuSettings = c.self.inside.fmmus in
     let ok = c.self.inside.managers.ok in
     let own = c.deref_mut.ensures.value in
@@ -27,4 +27,4 @@ returns-clause-slave c =
     let place : q ≡ p = ap (λ (n : ℕ). record { from = c.args.from; bits = 8 * n }) same in
     ap (λ (x : SlaveState). with_memory x c.self.inside.memory.items (take c.self.inside.managers.len (new ++ drop (length new) c.self.inside.managers.items))) c.self.view_is
     ∙ slave_read s _ _ fs p q c.args.bytes.now c.read_logical-is_read.new.bytes memory (c.self.invariant.decoded ∙ ap fmmus_of memory) place
-    (front ∙ (c.access_managers.ensures.after ∙ ap (λ (ms : List Manager). logical_managers [] true false fs q c.read_logical-is_read.new.bytes ms) (own ∙ managers)))
+    (front ∙ (c.access_managers.ensures.after ∙ ap (λ (ms : List SyncManager). logical_managers [] true false fs q c.read_logical-is_read.new.bytes ms) (own ∙ managers)))

@@ -3,7 +3,7 @@ use Rattle.std.proofs.lemmas.Bool.{cases_lt}
 use Rattle.ec_bits.specs.Bits.{any_below}
 use Rattle.ec_bits.proofs.AnyLaws.{any_below_from}
 use Rattle.ec_regs.specs.Memory.{ram_start}
-use Rattle.ec_sync.specs.Manager.{Manager}
+use Rattle.ec_sync.specs.SyncManager.{SyncManager}
 use Rattle.ec_sync.specs.Governing.{governor}
 use Rattle.ec_slave.specs.State.{SlaveState}
 use Rattle.ec_slave.specs.Physical.{Window, byte_read, may_read_byte, touches}
@@ -30,9 +30,9 @@ loop-done-preserved c =
     let inv = c.loop-done.invariant in
     let same : c.deref-in-loop-done.result.now ≡ s.managers = c.deref-in-loop-done.ensures.value ∙ ap (λ (x : SlaveState). x.managers) c.self.view_is in
     let same_2 : c.deref-in-loop-done-2.result.now ≡ s.managers = c.deref-in-loop-done-2.ensures.value ∙ ap (λ (x : SlaveState). x.managers) c.self.view_is in
-    let is : c.reads_byte.result ≡ p n = c.reads_byte.ensures.value ∙ ap (λ (ms : List Manager). may_read_byte ms (touches w) (w.from + n)) same_2 in
+    let is : c.reads_byte.result ≡ p n = c.reads_byte.ensures.value ∙ ap (λ (ms : List SyncManager). may_read_byte ms (touches w) (w.from + n)) same_2 in
     let alike : (i : ℕ) → n ≤ i → i < n + m → p i ≡ p n
-    = λ i a b. subst (λ (ms : List Manager). may_read_byte ms (touches w) (w.from + i) ≡ may_read_byte ms (touches w) (w.from + n)) same
+    = λ i a b. subst (λ (ms : List SyncManager). may_read_byte ms (touches w) (w.from + i) ≡ may_read_byte ms (touches w) (w.from + n)) same
     (c.end_of_part.ensures.reads (touches w) (w.from + i) (omega arith) (omega (arith, b, lo))) in
     let fits : n + m ≤ length w.bytes = omega (arith, lo, hi) in
     elim c.if-reads_byte.branch [
@@ -60,8 +60,8 @@ read_part-requires-clause-memory c = λ i a b.
     let same_2 : c.deref-in-loop-done-2.result.now ≡ s.managers = c.deref-in-loop-done-2.ensures.value ∙ ap (λ (x : SlaveState). x.managers) c.self.view_is in
     let alike = c.end_of_part.ensures.reads (touches w) (w.from + i) (omega (arith, a)) (omega (arith, b, lo)) in
     read-inside s.managers (touches w) (w.from + i)
-    (subst (λ (ms : List Manager). may_read_byte ms (touches w) (w.from + i) ≡ may_read_byte ms (touches w) (w.from + n)) same alike
-    ∙ (ap (λ (ms : List Manager). may_read_byte ms (touches w) (w.from + n)) (sym same_2) ∙ (sym c.reads_byte.ensures.value ∙ c.if-reads_byte.true)))
+    (subst (λ (ms : List SyncManager). may_read_byte ms (touches w) (w.from + i) ≡ may_read_byte ms (touches w) (w.from + n)) same alike
+    ∙ (ap (λ (ms : List SyncManager). may_read_byte ms (touches w) (w.from + n)) (sym same_2) ∙ (sym c.reads_byte.ensures.value ∙ c.if-reads_byte.true)))
 
 pub read_part-requires-clause-owner : goal.read_part-requires-clause-owner
 read_part-requires-clause-owner c = λ a ram lo hi.
@@ -74,8 +74,8 @@ read_part-requires-clause-owner c = λ a ram lo hi.
       | inl x ↦ absurd (let y = c.end_of_part.ensures.registers x in omega (arith, y, ram, hi, begin))
       | inr x ↦ x
     ] in
-    c.owner_of-owner.ensures.value high ∙ (ap (λ (ms : List Manager). governor ms first) same
-    ∙ sym (subst (λ (ms : List Manager). governor ms a ≡ governor ms first) same_2 (c.end_of_part.ensures.owner a ram lo (omega (arith, hi, begin)))))
+    c.owner_of-owner.ensures.value high ∙ (ap (λ (ms : List SyncManager). governor ms first) same
+    ∙ sym (subst (λ (ms : List SyncManager). governor ms a ≡ governor ms first) same_2 (c.end_of_part.ensures.owner a ram lo (omega (arith, hi, begin)))))
 
 pub returns-clause-bytes : goal.returns-clause-bytes
 returns-clause-bytes c =

@@ -1,7 +1,7 @@
 use Rattle.std.proofs.Common.{◌≡◌, ◌<◌, ◌∙◌, ◌+◌, ◌%◌, ℕ, Bool, length, arith, ap, sym, slice_set, length-set}
-use Rattle.ec_sync.specs.Manager.{Manager, message_put}
+use Rattle.ec_sync.specs.SyncManager.{SyncManager, message_put}
 use Rattle.ec_coe.specs.declared.message.Message.{Message}
-use Rattle.ec_regs.specs.declared.manager.ManagerSettings.{ManagerSettings}
+use Rattle.ec_regs.specs.declared.manager.SyncManagerSettings.{SyncManagerSettings}
 use Rattle.ec_coe.specs.ReplyBytes.{reply_bytes}
 use Rattle.ec_coe.specs.Objects.{Dictionary}
 use Rattle.ec_coe.specs.Answers.{Answer, answered}
@@ -40,7 +40,7 @@ returns c =
     let same : by ≡ answer_to s r = ap (λ (b : Bool). answered b c.self.inside.dictionary r (reply_counter c.self.inside.replies)) preop
     ∙ ap (λ (x : SlaveState). answered (is_preop s.al.state) (dictionary_of x) r (reply_counter x.replies)) c.self.view_is in
     let there : c.index.result.now ≡ manager_at s.managers 1 = indexed _ s.managers 1 _ four c.index.ensures managers in
-    let room : c.settings-room.result.length ≡ (manager_at s.managers 1).settings.length = ap (λ (x : ManagerSettings). x.length) (c.settings-room.ensures ∙ ap (λ (m : Manager). m.settings) there) in
+    let room : c.settings-room.result.length ≡ (manager_at s.managers 1).settings.length = ap (λ (x : SyncManagerSettings). x.length) (c.settings-room.ensures ∙ ap (λ (m : SyncManager). m.settings) there) in
     let after : c.answer-reply.new.self ≡ (answer_to s r).dictionary = c.answer-reply.ensures.after ∙ ap (λ (x : Answer). x.dictionary) same in
     let told : c.as_slice.result.now ≡ bytes_to s r
     = c.as_slice.ensures.value ∙ (c.reply_bytes-bytes.ensures.bytes
@@ -58,5 +58,5 @@ returns c =
     ∙ replied-by s r c.answer-reply.new.self c.mailbox_put.new.self
     after
     (c.mailbox_put.ensures.after
-    ∙ (ap (λ (m : Manager). message_put m c.as_slice.result.now) here
+    ∙ (ap (λ (m : SyncManager). message_put m c.as_slice.result.now) here
     ∙ ap (message_put (manager_at s.managers 1)) told))

@@ -1,8 +1,8 @@
 use Rattle.std.proofs.Common.{◌≡◌, ◌∙◌, ap, length, arith, List, replicate}
-use Rattle.ec_regs.specs.Types.{SlaveKind}
+use Rattle.ec_device.specs.Types.{SlaveKind}
 use Rattle.ec_dl.specs.DataLink.{new_data_link}
 use Rattle.ec_sii.specs.Port.{idle_port}
-use Rattle.ec_sync.specs.Manager.{Manager}
+use Rattle.ec_sync.specs.SyncManager.{SyncManager}
 use Rattle.ec_slave.specs.State.{SlaveState, power_on}
 use Rattle.ec_slave.proofs.Assigning.{reset-as-new}
 use Rattle.ec_slave.proofs.Exchanges.{take_front}
@@ -15,7 +15,7 @@ returns c =
     let managers_ok = c.self.inside.managers.ok in
     let room = c.self.invariant.room in
     let four = c.self.invariant.four in
-    let managers : List Manager = c.reset_managers.new.managers in
+    let managers : List SyncManager = c.reset_managers.new.managers in
     let whole : c.self.inside.memory.len ≡ 12288 = omega (arith, ok, room) in
     reset-as-new c.self.inside.dictionary c.reset-3.new.self _ _ _ _ _
     c.reset-3.ensures

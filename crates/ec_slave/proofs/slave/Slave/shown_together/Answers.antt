@@ -1,8 +1,8 @@
 use Rattle.std.proofs.Common.{ℕ, ◌+◌, ◌-◌, ◌<◌, ◌≡◌, ◌∙◌, Option, List, length, ap, sym, subst, arith, slice_index}
 use Rattle.std.specs.Option.{IfSome}
 use Rattle.std.proofs.lemmas.Option.{IfSome_then}
-use Rattle.ec_regs.specs.declared.manager.ManagerSettings.{ManagerSettings}
-use Rattle.ec_sync.specs.Manager.{Manager, shown}
+use Rattle.ec_regs.specs.declared.manager.SyncManagerSettings.{SyncManagerSettings}
+use Rattle.ec_sync.specs.SyncManager.{SyncManager, shown}
 use Rattle.ec_slave.specs.State.{SlaveState, manager_at}
 use Rattle.ec_slave.proofs.Applications.{indexed}
 use Rattle.ec_slave.proofs.Windows.{plain-byte, governed-byte}
@@ -28,8 +28,8 @@ returns-in_ok-at-in-Some-clause-bytes c =
     let there : n < length s.managers = subst (λ (o : Option ℕ). IfSome o (λ k. k < length s.managers)) c.in-Some.is c.requires.within in
     let here : c.index-manager.result.now ≡ manager_at s.managers n
     = indexed c.self.inside.managers.items s.managers n (c.index-manager.result.now) (omega (arith, there, ap length managers)) c.index-manager.ensures managers in
-    let m : Manager = manager_at s.managers n in
-    let start : c.settings-start.result.start ≡ m.settings.start = ap (λ (x : ManagerSettings). x.start) c.settings-start.ensures ∙ ap (λ (x : Manager). x.settings.start) here in
+    let m : SyncManager = manager_at s.managers n in
+    let start : c.settings-start.result.start ≡ m.settings.start = ap (λ (x : SyncManagerSettings). x.start) c.settings-start.ensures ∙ ap (λ (x : SyncManager). x.settings.start) here in
     let value : c.shown.result.now ≡ shown m = c.shown.ensures ∙ ap shown here in
     let low = c.in_ok-at-in-Some.ensures.0 in
     let at = c.in_ok-at-in-Some.ensures.1 in

@@ -1,5 +1,5 @@
 use Rattle.std.proofs.Common.{◌≡◌, ◌<◌, ◌∙◌, length, arith, ap}
-use Rattle.ec_sync.specs.Manager.{message_taken}
+use Rattle.ec_sync.specs.SyncManager.{message_taken}
 use Rattle.ec_slave.specs.State.{SlaveState, manager_at}
 use Rattle.ec_slave.specs.Application.{with_manager}
 use Rattle.ec_slave.proofs.Applications.{indexed}

@@ -2,7 +2,7 @@ use Rattle.std.proofs.Common.{[], ◌≡◌, ◌*◌, ◌++◌, length, take, dr
 use Rattle.std.proofs.lemmas.Grind.{common_steps}
 use Rattle.ec_bits.specs.Bits.{overlay}
 use Rattle.ec_regs.specs.declared.fmmu.FmmuSettings.{FmmuSettings}
-use Rattle.ec_sync.specs.Manager.{Manager}
+use Rattle.ec_sync.specs.SyncManager.{SyncManager}
 use Rattle.ec_fmmu.specs.Applied.{Place}
 use Rattle.ec_slave.specs.State.{SlaveState, fmmus_of, with_memory}
 use Rattle.ec_slave.specs.Logical.{logical_managers, plain_bit}
@@ -42,7 +42,7 @@ returns-clause-slave c =
     let long = c.write_logical-in_memory.auto.memory in
     let front : take c.self.inside.memory.len (new ++ drop (length new) c.self.inside.memory.items) ≡ new
     = take_front new _ c.self.inside.memory.len (omega (arith, ap length own, ok, long)) in
-    let met : List Manager = c.access_managers-in_manager.new.managers in
+    let met : List SyncManager = c.access_managers-in_manager.new.managers in
     let own_2 = c.deref_mut-2.ensures.value in
     let ok_2 = c.self.inside.managers.ok in
     let long_2 = c.access_managers-in_manager.auto.managers in
@@ -53,9 +53,9 @@ returns-clause-slave c =
     ∙ slave_written s c.args.reading _ _ fs p c.args.bytes.now
     (front ∙ (c.write_logical-in_memory.ensures.memory
     ∙ (ap (λ (xs : List ℕ). overlay xs (plain_bit c.deref.result.now fs p c.args.bytes.now)) (own ∙ memory)
-    ∙ ap (λ (ms : List Manager). overlay s.memory (plain_bit ms fs p c.args.bytes.now)) (c.deref.ensures.value ∙ managers))))
+    ∙ ap (λ (ms : List SyncManager). overlay s.memory (plain_bit ms fs p c.args.bytes.now)) (c.deref.ensures.value ∙ managers))))
     (c.self.invariant.decoded ∙ ap fmmus_of memory)
-    (front_2 ∙ (c.access_managers-in_manager.ensures.after ∙ ap (λ (ms : List Manager). logical_managers [] c.args.reading true fs p c.args.bytes.now ms) (own_2 ∙ managers)))
+    (front_2 ∙ (c.access_managers-in_manager.ensures.after ∙ ap (λ (ms : List SyncManager). logical_managers [] c.args.reading true fs p c.args.bytes.now ms) (own_2 ∙ managers)))
 
 pub returns-clause-some : goal.returns-clause-some
 returns-clause-some c =

@@ -1,7 +1,7 @@
 use Rattle.std.proofs.Common.{◌≡◌, ◌+◌, ◌&&◌, ◌++◌, length, take, drop, arith, List, ℕ, ap, ◌∙◌, sym, if◌then◌else◌, nat_lt}
 use Rattle.std.proofs.lemmas.Grind.{common_steps}
 use Rattle.ec_regs.specs.declared.fmmu.FmmuSettings.{FmmuSettings}
-use Rattle.ec_sync.specs.Manager.{Manager}
+use Rattle.ec_sync.specs.SyncManager.{SyncManager}
 use Rattle.ec_slave.specs.State.{fmmus_of}
 use Rattle.ec_slave.specs.Physical.{Window, memory_written}
 use Rattle.ec_slave.proofs.Decoded.{decoded-kept}
@@ -14,7 +14,7 @@ pub invariant_of-self : goal.invariant_of-self
 invariant_of-self c =
     let w : Window = record { from = c.args.from; bytes = c.args.bytes.now } in
     let old : List ℕ = c.deref_mut.result.now in
-    let ms : List Manager = c.deref.result.now in
+    let ms : List SyncManager = c.deref.result.now in
     let new : List ℕ = c.write_physical-is_some.new.memory in
     let fs : List FmmuSettings = c.self.inside.fmmus in
     let own = c.deref_mut.ensures.value in

@@ -1,5 +1,5 @@
 use Rattle.std.proofs.Common.{◌∙◌, sym, ap, List, length, false}
-use Rattle.ec_link.specs.declared.settings.Settings.{Settings}
+use Rattle.ec_link.specs.declared.settings.SlavePlan.{SlavePlan}
 use Rattle.ec_start.specs.Verdicts.{verdict}
 use Rattle.ec_start.specs.Running.{StartState, is_ended, action_of, type_of, judged}
 use Rattle.ec_start.specs.Answered.{answered}
@@ -29,5 +29,5 @@ returns c =
     let told = c.read_data.ensures false at.datagram at.good at.there in
     take_kept c.args.self.now c.judge.new.self c.args.payload.now i.step.action c.in-Sent.number c.in-Some.span c.read_counter.result c.read_data.result.now at sent is count told
     (c.judge.ensures ∙ ap (judged c.args.self.now) (c.verdict_on-verdict.ensures
-    ∙ (ap (λ (ps : List Settings). verdict (length ps) i.place i.seen (type_of ps) i.step.action (answered c.read_counter.result c.read_data.result.now)) c.as_slice.ensures
+    ∙ (ap (λ (ps : List SlavePlan). verdict (length ps) i.place i.seen (type_of ps) i.step.action (answered c.read_counter.result c.read_data.result.now)) c.as_slice.ensures
     ∙ ap (λ (t : StartState). verdict (length t.plan) t.place t.seen (type_of t.plan) i.step.action (answered c.read_counter.result c.read_data.result.now)) c.self.view_is)))

@@ -1,8 +1,8 @@
 use Rattle.std.proofs.Common.{◌∙◌, ap, length, sym, List}
-use Rattle.ec_link.specs.declared.settings.Settings.{Settings}
+use Rattle.ec_link.specs.declared.settings.SlavePlan.{SlavePlan}
 use Rattle.ec_start.specs.Running.{StartState}
 use Rattle.ec_cycle.specs.Master.{MasterState}
-use Rattle.ec_rise.proofs.SwitchedOn.{slaves-of}
+use Rattle.ec_bringup.proofs.SwitchedOn.{slaves-of}
 use Rattle.ec_world.proofs.Plans.{begun_plan}
 use Rattle.ec_world.proofs.Newly.{usable-of, few-of}
 use Rattle.ec_world.proofs.world.World.new.Goals as goal
@@ -15,7 +15,7 @@ ends_of-requires-clause-usable c = usable-of c.args.table.now c.args.plan.now c.
 
 pub switched_on-requires : goal.switched_on-requires
 switched_on-requires c =
-    c.requires.one_each ∙ (sym (slaves-of c.args.table.now c.args.plan.now c.version-version.ensures.sound c.requires.accepted c.requires.plan) ∙ ap (λ (xs : List Settings). length xs) (sym c.slaves.ensures.value))
+    c.requires.one_each ∙ (sym (slaves-of c.args.table.now c.args.plan.now c.version-version.ensures.sound c.requires.accepted c.requires.plan) ∙ ap (λ (xs : List SlavePlan). length xs) (sym c.slaves.ensures.value))
 
 pub invariant_of-result : goal.invariant_of-result
 invariant_of-result c = record {

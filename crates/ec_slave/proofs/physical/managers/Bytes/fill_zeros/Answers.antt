@@ -1,7 +1,7 @@
 use Rattle.std.proofs.Common.{◌≡◌, ◌+◌, ◌-◌, ◌≤◌, ◌<◌, length, ℕ, List, Option, None, is_some, is_none, ◌∙◌, sym, ap, arith, if◌then◌else◌}
 use Rattle.std.proofs.lemmas.List.{set-get_or}
 use Rattle.ec_bits.proofs.AnyLaws.{if_true, if_false, within_parts}
-use Rattle.ec_sync.specs.Manager.{Manager}
+use Rattle.ec_sync.specs.SyncManager.{SyncManager}
 use Rattle.ec_sync.specs.Governing.{governor}
 use Rattle.ec_slave.specs.Physical.{Window, byte_from, retold}
 use Rattle.ec_slave.proofs.Choices.{none-from}
@@ -11,7 +11,7 @@ use Rattle.ec_slave.proofs.physical.managers.Bytes.fill_zeros.Goals as goal
 use Rattle.ec_slave.proofs.physical.managers.Bytes.fill_zeros.Goals.{then-is_none, else-is_none}
 
 -- byte k of a value that begins at `start`
-abbrev byte_under : List Manager → Window → ℕ → ℕ → Option ℕ
+abbrev byte_under : List SyncManager → Window → ℕ → ℕ → Option ℕ
 byte_under lower w start k = if is_none (governor lower (start + k)) then byte_from w (start + k) else None
 
 pub loop-k-init : goal.loop-k-init

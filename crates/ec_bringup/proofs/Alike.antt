@@ -1,0 +1,213 @@
+-- Slaves that differ in nothing that a start-up knows of.
+use Rattle.std.proofs.Common.{ℕ, ◌+◌, ◌*◌, ◌<◌, ◌≡◌, Bool, false, Option, Some, None, refl, sym, ◌∙◌, ap, subst, inl, inr, arith, List, length, slice_index}
+use Rattle.ec_device.specs.Types.{SlaveKind}
+use Rattle.ec_regs.specs.declared.manager.SyncManagerSettings.{SyncManagerSettings}
+use Rattle.ec_sync.specs.Buffer.{emptied_buffer}
+use Rattle.ec_sync.specs.SyncManager.{SyncManager, buffer_length}
+use Rattle.ec_al.specs.declared.state.State.{State}
+use Rattle.ec_al.specs.declared.state.State.TheVariants.{Init, PreOp, SafeOp, Op}
+use Rattle.ec_al.specs.Al.{Al}
+use Rattle.ec_slave.specs.State.{SlaveState, manager_at, station_of}
+use Rattle.ec_coe.specs.Objects.{Assignment, all_assigned}
+use Rattle.ec_bringup.specs.Stages.{Rise, Stays, Climbs, Claim, Talk, Config, Stage, Before, Called, Down, Up, answered}
+use Rattle.ec_bringup.specs.Standing.{IsOfKind, unviewed, HoldsZeros, IsConfigured, IsAssigned, Claims, IsSilent, Talks, IsInInit, IsIn, StaysIn, Rises, IsUpAt, AreClear, IsDownAt, Reached, IsGone, HadFault, Stands}
+
+-- the control word in a memory
+abbrev pub word_of : List ℕ → ℕ
+word_of m = slice_index m 0x0120 + 256 * slice_index m 0x0121
+
+-- a manager but for its buffer
+pub record SameFront (m n : SyncManager) : Type 0 where
+  pub settings : n.settings ≡ m.settings
+  pub locked : n.locked ≡ m.locked
+  pub mail : n.mail ≡ m.mail
+
+pub front-refl : (m : SyncManager) → SameFront m m
+front-refl m = record { settings = refl; locked = refl; mail = refl }
+
+pub record SameFronts (ms ns : List SyncManager) : Type 0 where
+  pub four : length ns ≡ length ms
+  pub each : (n : ℕ) → SameFront (manager_at ms n) (manager_at ns n)
+  pub outputs : unviewed (manager_at ns 2).buffer ≡ unviewed (manager_at ms 2).buffer
+
+pub fronts-refl : (ms : List SyncManager) → SameFronts ms ms
+fronts-refl ms = record { four = refl; each = λ n. front-refl (manager_at ms n); outputs = refl }
+
+-- all but the AL state machine, the inputs, the view of the outputs, and an SII that becomes idle
+pub record Alike (s t : SlaveState) : Type 0 where
+  pub kind : t.kind ≡ s.kind
+  pub room : length t.memory ≡ length s.memory
+  -- the registers that a start-up knows of
+  pub memory : (a : ℕ) → a < 0x0800 → slice_index t.memory a ≡ slice_index s.memory a
+  pub managers : SameFronts s.managers t.managers
+  pub idle : s.sii.busy ≡ false → t.sii.busy ≡ false
+  pub outs : t.outs ≡ s.outs
+  pub ins : t.ins ≡ s.ins
+
+pub station-alike : (s t : SlaveState) → Alike s t → station_of t ≡ station_of s
+station-alike s t a = ap (λ (x : ℕ). x + 256 * slice_index t.memory 0x0011) (a.memory 0x0010 (omega arith)) ∙ ap (λ (x : ℕ). slice_index s.memory 0x0010 + 256 * x) (a.memory 0x0011 (omega arith))
+
+pub word-alike : (s t : SlaveState) → Alike s t → word_of t.memory ≡ word_of s.memory
+word-alike s t a = ap (λ (x : ℕ). x + 256 * slice_index t.memory 0x0121) (a.memory 0x0120 (omega arith)) ∙ ap (λ (x : ℕ). slice_index s.memory 0x0120 + 256 * x) (a.memory 0x0121 (omega arith))
+
+pub slave-alike : (kind : SlaveKind) (s t : SlaveState) → Alike s t → (t.al.state ≡ Init → s.al.state ≡ Init) → IsOfKind kind s → IsOfKind kind t
+slave-alike kind s t a init h = record {
+  kind_is = a.kind ∙ h.kind_is;
+  room = a.room ∙ h.room;
+  four = a.managers.four ∙ h.four;
+  outs = ap (λ (x : Assignment). length x.slots) a.outs ∙ h.outs;
+  ins = ap (λ (x : Assignment). length x.slots) a.ins ∙ h.ins;
+  fixed = λ e. let f = h.fixed e in record {
+    outs = a.outs ∙ (f.outs ∙ ap (λ (k : SlaveKind). all_assigned k.outputs) (sym a.kind));
+    ins = a.ins ∙ (f.ins ∙ ap (λ (k : SlaveKind). all_assigned k.inputs) (sym a.kind));
+  };
+  unlocked_in_init = λ e n l. (a.managers.each n).locked ∙ h.unlocked_in_init (init e) n l;
+}
+
+zeros-alike : (s t : SlaveState) → Alike s t → HoldsZeros (manager_at s.managers 2) → HoldsZeros (manager_at t.managers 2)
+zeros-alike s t a h = a.managers.outputs ∙ (h ∙ ap (λ (m : SyncManagerSettings). emptied_buffer (buffer_length m)) (sym (a.managers.each 2).settings))
+
+pub configured-alike : (i : ℕ) (c : Config) (s t : SlaveState) → Alike s t → IsConfigured i c s → IsConfigured i c t
+configured-alike i c s t a h = record {
+  station_is = station-alike s t a ∙ h.station_is;
+  settings = λ n l. (a.managers.each n).settings ∙ h.settings n l;
+  fmmus = λ n k l b. a.memory (0x0600 + 16 * n + k) (omega arith) ∙ h.fmmus n k l b;
+  idle = λ e. a.idle (h.idle e);
+  no_messages = λ n l b. (a.managers.each n).mail ∙ h.no_messages n l b;
+  outputs = zeros-alike s t a h.outputs;
+}
+
+pub claims-alike : (c : Claim) (a b : Assignment) → b ≡ a → Claims c a → Claims c b
+claims-alike c a b e h = subst (Claims c) (sym e) h
+
+pub assigned-alike : (c : Config) (s t : SlaveState) → Alike s t → IsAssigned c s → IsAssigned c t
+assigned-alike c s t a h = record {
+  outs = claims-alike c.outs s.outs t.outs a.outs h.outs;
+  ins = claims-alike c.ins s.ins t.ins a.ins h.ins;
+}
+
+pub silent-alike : (c : Config) (s t : SlaveState) → Alike s t → IsSilent c s → IsSilent c t
+silent-alike c s t a h = record {
+  no_message = (a.managers.each 0).mail ∙ h.no_message;
+  no_reply = (a.managers.each 1).mail ∙ h.no_reply;
+  assigned = assigned-alike c s t a h.assigned;
+}
+
+pub talks-alike : (i : ℕ) (c : Config) (o : Option Talk) (s t : SlaveState) → Alike s t → Talks i c o s → Talks i c o t
+talks-alike i c None s t a h = silent-alike c s t a h
+talks-alike i c (Some k) s t a (inl h) = inl (record {
+  mailboxes = h.mailboxes;
+  request = h.request;
+  mailbox_message = (a.managers.each 0).mail ∙ h.mailbox_message;
+  no_reply = (a.managers.each 1).mail ∙ h.no_reply;
+  assigned = assigned-alike c s t a h.assigned;
+})
+talks-alike i c (Some k) s t a (inr h) = inr (record {
+  mailboxes = h.mailboxes;
+  whole = h.whole;
+  no_message = (a.managers.each 0).mail ∙ h.no_message;
+  raw = h.raw;
+  reply = (a.managers.each 1).mail ∙ h.reply;
+  done = λ e. assigned-alike (answered c k.request) s t a (h.done e);
+})
+
+pub up-rest : (i : ℕ) (c : Config) (s t : SlaveState) → Alike s t → Rises c.rise t → IsUpAt i c s → IsUpAt i c t
+up-rest i c s t a r h = record {
+  configured = configured-alike i c s t a h.configured;
+  unlocked = λ n l. (a.managers.each n).locked ∙ h.unlocked n l;
+  rises = r;
+  talks = talks-alike i c c.talk s t a h.talks;
+  quiet = h.quiet;
+}
+
+clear-alike : (s t : SlaveState) → Alike s t → AreClear s → AreClear t
+clear-alike s t a h = record {
+  settings = λ n l. (a.managers.each n).settings ∙ h.settings n l;
+  no_messages = λ n l. (a.managers.each n).mail ∙ h.no_messages n l;
+  outputs = zeros-alike s t a h.outputs;
+}
+
+pub down-rest : (f m : Bool) (s t : SlaveState) → Alike s t → IsInInit t → IsDownAt f m s → IsDownAt f m t
+down-rest f m s t a n h = record {
+  init = n;
+  fmmus = λ e k l. a.memory (0x0600 + k) (omega arith) ∙ h.fmmus e k l;
+  managers = λ e. clear-alike s t a (h.managers e);
+}
+
+pub init-alike : (s t : SlaveState) → word_of t.memory ≡ word_of s.memory → t.al ≡ s.al → IsInInit s → IsInInit t
+init-alike s t a e h = record {
+  state = ap (λ (x : Al). x.state) e ∙ h.state;
+  no_error = ap (λ (x : Al). x.error) e ∙ h.no_error;
+  asked = λ q. a ∙ h.asked (ap (λ (x : Al). x.requested) (sym e) ∙ q);
+}
+
+in-alike : (state : State) (s t : SlaveState) → t.al ≡ s.al → IsIn state s → IsIn state t
+in-alike state s t e h = record {
+  state_is = ap (λ (x : Al). x.state) e ∙ h.state_is;
+  no_error = ap (λ (x : Al). x.error) e ∙ h.no_error;
+  no_request = ap (λ (x : Al). x.requested) e ∙ h.no_request;
+}
+
+stays-alike : (state : State) (s t : SlaveState) → word_of t.memory ≡ word_of s.memory → t.al ≡ s.al → StaysIn state s → StaysIn state t
+stays-alike Init s t a e h = init-alike s t a e h
+stays-alike PreOp s t a e h = in-alike PreOp s t e h
+stays-alike SafeOp s t a e h = in-alike SafeOp s t e h
+stays-alike Op s t a e h = in-alike Op s t e h
+
+pub rises-alike : (r : Rise) (s t : SlaveState) → word_of t.memory ≡ word_of s.memory → t.al ≡ s.al → Rises r s → Rises r t
+rises-alike (Stays state) s t a e h = stays-alike state s t a e h
+rises-alike (Climbs from to) s t a e (up, inl h) = (
+  up,
+  inl (record {
+    state = ap (λ (x : Al). x.state) e ∙ h.state;
+    no_error = ap (λ (x : Al). x.error) e ∙ h.no_error;
+    request = ap (λ (x : Al). x.requested) e ∙ h.request;
+    control_is = a ∙ h.control_is;
+  }),
+)
+rises-alike (Climbs from to) s t a e (up, inr (inl h)) = (up, inr (inl (in-alike to s t e h)))
+rises-alike (Climbs from to) s t a e (up, inr (inr h)) = (
+  up,
+  inr (inr (record {
+    state = ap (λ (x : Al). x.state) e ∙ h.state;
+    error = ap (λ (x : Al). x.error) e ∙ h.error;
+    no_request = ap (λ (x : Al). x.requested) e ∙ h.no_request;
+  })),
+)
+
+pub reached-alike : (i : ℕ) (st : Stage) (s t : SlaveState) → Alike s t → t.al ≡ s.al → Reached i st s → Reached i st t
+reached-alike i Before s t a e h = tt
+reached-alike i Called s t a e (inl h) = inl (ap (λ (x : Al). x.requested) e ∙ h.0, word-alike s t a ∙ h.1)
+reached-alike i Called s t a e (inr h) = inr (init-alike s t (word-alike s t a) e h)
+reached-alike i (Down f m) s t a e h = down-rest f m s t a (init-alike s t (word-alike s t a) e h.init) h
+reached-alike i (Up c) s t a e h = up-rest i c s t a (rises-alike c.rise s t (word-alike s t a) e h.rises) h
+
+pub faulted-alike : (i : ℕ) (st : Stage) (s t : SlaveState) → Alike s t → t.al ≡ s.al → HadFault i st s → HadFault i st t
+faulted-alike i Before s t a e h = absurd h
+faulted-alike i Called s t a e h = absurd h
+faulted-alike i (Down f m) s t a e h = absurd h
+faulted-alike i (Up c) s t a e h = let k = h.faulted in record {
+  top = h.top;
+  quiet = h.quiet;
+  faulted = record {
+    configured = configured-alike i c s t a k.configured;
+    silent = silent-alike c s t a k.silent;
+    state = ap (λ (x : Al). x.state) e ∙ k.state;
+    error = ap (λ (x : Al). x.error) e ∙ k.error;
+    no_request = ap (λ (x : Al). x.requested) e ∙ k.no_request;
+    locked = (a.managers.each 2).locked ∙ k.locked;
+    unlocked = λ n l ne. (a.managers.each n).locked ∙ k.unlocked n l ne;
+  };
+}
+
+-- what changes a slave that is gone in nothing, and another one in nothing that is known of it
+pub stands-alike : (kind : SlaveKind) (i : ℕ) (st : Stage) (trouble : Bool) (s t : SlaveState)
+    → Alike s t → t.al ≡ s.al → (IsGone st s → t ≡ s) → Stands kind i st trouble s → Stands kind i st trouble t
+stands-alike kind i st trouble s t a e g h = record {
+  slave = slave-alike kind s t a (λ q. ap (λ (x : Al). x.state) (sym e) ∙ q) h.slave;
+  at = elim h.at [
+    | inl r ↦ inl (reached-alike i st s t a e r)
+    | inr (f, inl x) ↦ inr (f, inl (subst (λ (y : SlaveState). IsGone st y) (sym (g x)) x))
+    | inr (f, inr x) ↦ inr (f, inr (faulted-alike i st s t a e x))
+  ];
+}

@@ -1,0 +1,183 @@
+-- What the requests of a start-up leave known of the assignment objects.
+use Rattle.std.proofs.Common.{ℕ, zero, suc, ◌+◌, ◌≡◌, ◌==◌, Bool, true, false, not, Option, Some, None, refl, sym, ◌∙◌, ap, subst, arith, List, [], ◌∷◌, ◌++◌, length, take, append_assoc, length-append}
+use Rattle.std.specs.List.{flat_map}
+use Rattle.std.proofs.lemmas.Bool.{eq-eqb, ne_eqb, both_ways}
+use Rattle.std.proofs.lemmas.List.{length-map}
+use Rattle.ec_bits.proofs.AnyLaws.{if_true, if_false}
+use Rattle.ec_device.specs.declared.slave_type.Entry.{Entry}
+use Rattle.ec_device.specs.declared.slave_type.Pdo.{Pdo}
+use Rattle.ec_device.specs.declared.slave_type.Mailbox.{Mailbox}
+use Rattle.ec_device.specs.Types.{SlaveKind}
+use Rattle.ec_slave.specs.State.{SlaveState}
+use Rattle.ec_coe.specs.declared.value.SdoValue.{SdoValue}
+use Rattle.ec_coe.specs.Objects.{Assignment, assigned, all_assigned, indices, byte_value, word_value, output_assignment, input_assignment, has_some}
+use Rattle.ec_device.specs.Objects.{pdo_at}
+use Rattle.ec_link.specs.declared.settings.SlavePlan.{SlavePlan}
+use Rattle.ec_start.specs.declared.action.SdoRequest.{SdoRequest}
+use Rattle.ec_start.specs.declared.action.Transfer.{Transfer}
+use Rattle.ec_start.specs.declared.action.Transfer.TheVariants.{Upload}
+use Rattle.ec_start.specs.Scripts.{requests, downloads, entries_read, pdo_read, slots_written, assignment_written}
+use Rattle.ec_bringup.specs.Stages.{Claim, Config, no_claim, claimed, answered, answered_by, talked_over, asked_all, prepared}
+use Rattle.ec_bringup.specs.Instants.{claim_of}
+use Rattle.ec_bringup.specs.Standing.{Claims, IsAssigned, IsOfKind}
+use Rattle.ec_start.specs.Planned.{IsStartable}
+
+pub talked-append : (c : Config) (rs qs : List SdoRequest) → talked_over c (rs ++ qs) ≡ talked_over (talked_over c rs) qs
+talked-append c [] qs = refl
+talked-append c (r ∷ rs) qs = talked-append (answered c r) rs qs
+
+-- of the outputs, or of the inputs
+abbrev pub claim_at : Bool → Config → Claim
+claim_at true c = c.outs
+claim_at false c = c.ins
+
+abbrev pub object_at : Bool → ℕ
+object_at true = output_assignment
+object_at false = input_assignment
+
+-- ---- uploads leave all as it is known
+
+abbrev pub AreUploads : List SdoRequest → Type 0
+AreUploads [] = Unit {0}
+AreUploads (r ∷ rs) = ((v : SdoValue) × (r.transfer ≡ Upload v)) × AreUploads rs
+
+uploads-append : (rs qs : List SdoRequest) → AreUploads rs → AreUploads qs → AreUploads (rs ++ qs)
+uploads-append [] qs h k = k
+uploads-append (r ∷ rs) qs h k = (h.0, uploads-append rs qs h.1 k)
+
+entries-upload : (index k : ℕ) (es : List Entry) → AreUploads (entries_read index k es)
+entries-upload index k [] = tt
+entries-upload index k (e ∷ es) = ((_, refl), entries-upload index (k + 1) es)
+
+pdo-uploads : (o : Option Pdo) → AreUploads (pdo_read o)
+pdo-uploads None = tt
+pdo-uploads (Some p) = ((_, refl), entries-upload p.index 1 p.entries)
+
+pub all-upload : (ps : List Pdo) (indices : List ℕ) → AreUploads (flat_map (λ index. pdo_read (pdo_at ps index)) indices)
+all-upload ps [] = tt
+all-upload ps (i ∷ is) = uploads-append (pdo_read (pdo_at ps i)) _ (pdo-uploads (pdo_at ps i)) (all-upload ps is)
+
+pub uploads-keep : (o : Bool) (c : Config) (rs : List SdoRequest) → AreUploads rs → claim_at o (talked_over c rs) ≡ claim_at o c
+uploads-keep o c [] h = refl
+uploads-keep o c (r ∷ rs) h = uploads-keep o (answered c r) rs h.1 ∙ (ap (λ (x : Transfer). claim_at o (answered_by c r x)) h.0.1 ∙ same o)
+  where
+    same : (o : Bool) → claim_at o (record c { talk = None }) ≡ claim_at o c
+    same true = refl
+    same false = refl
+
+-- ---- downloads to the one object, and to the other
+
+pub own-claim : (o : Bool) (c : Config) (subindex : ℕ) (v : SdoValue) → claim_at o (answered c (downloads (object_at o) subindex v)) ≡ claimed (claim_at o c) subindex v.number
+own-claim true c subindex v = refl
+own-claim false c subindex v = refl
+
+pub other-claim : (o : Bool) (c : Config) (subindex : ℕ) (v : SdoValue) → claim_at (not o) (answered c (downloads (object_at o) subindex v)) ≡ claim_at (not o) c
+other-claim true c subindex v = refl
+other-claim false c subindex v = refl
+
+pub slots-own : (o : Bool) (c : Config) (n : Option ℕ) (S xs : List ℕ) → claim_at o c ≡ record { count = n; slots = S } → claim_at o (talked_over c (slots_written (object_at o) (length S + 1) xs)) ≡ record { count = n; slots = S ++ xs }
+slots-own o c n S [] h = h ∙ ap (λ (x : List ℕ). record { count = n; slots = x }) (sym (append-none S))
+  where
+    append-none : (S : List ℕ) → S ++ [] ≡ S
+    append-none [] = refl
+    append-none (y ∷ S) = ap (λ (x : List ℕ). y ∷ x) (append-none S)
+slots-own o c n S (x ∷ xs) h =
+    let r : SdoRequest = downloads (object_at o) (length S + 1) (word_value x) in
+    let e : claim_at o (answered c r) ≡ record { count = n; slots = S ++ x ∷ [] }
+    = own-claim o c (length S + 1) (word_value x) ∙ (ap (λ (k : Claim). claimed k (length S + 1) x) h
+    ∙ (if_false (length S + 1 == 0) _ _ (ne_eqb (length S + 1) 0 (λ q. omega (arith, q))) ∙ ap (λ (y : List ℕ). record { count = n; slots = y }) (if_true (length S + 1 == length S + 1) (S ++ x ∷ []) [] (eq-eqb (length S + 1) (length S + 1) refl)))) in
+    let l : length (S ++ x ∷ []) + 1 ≡ length S + 1 + 1 = ap (λ (k : ℕ). k + 1) (length-append S (x ∷ [])) in
+    subst (λ (k : ℕ). claim_at o (talked_over (answered c r) (slots_written (object_at o) k xs)) ≡ record { count = n; slots = S ++ x ∷ xs }) l
+    (slots-own o (answered c r) n (S ++ x ∷ []) xs e ∙ ap (λ (y : List ℕ). record { count = n; slots = y }) (append_assoc S (x ∷ []) xs))
+
+slots-other : (o : Bool) (c : Config) (k : ℕ) (xs : List ℕ) → claim_at (not o) (talked_over c (slots_written (object_at o) k xs)) ≡ claim_at (not o) c
+slots-other o c k [] = refl
+slots-other o c k (x ∷ xs) = slots-other o (answered c (downloads (object_at o) k (word_value x))) (k + 1) xs ∙ other-claim o c k (word_value x)
+
+-- the whole of one object
+pub assigned-own : (o : Bool) (c : Config) (xs : List ℕ) (b : Bool) → claim_at o c ≡ no_claim → claim_at o (talked_over c (assignment_written (object_at o) xs b)) ≡ claim_of xs b
+assigned-own o c xs false h = h
+assigned-own o c [] true h = own-claim o c 0 (byte_value 0)
+assigned-own o c (x ∷ xs) true h =
+    let c1 : Config = answered c (downloads (object_at o) 0 (byte_value 0)) in
+    let c2 : Config = talked_over c1 (slots_written (object_at o) 1 (x ∷ xs)) in
+    let a : claim_at o c1 ≡ record { count = Some 0; slots = [] } = own-claim o c 0 (byte_value 0) in
+    let b : claim_at o c2 ≡ record { count = Some 0; slots = x ∷ xs } = slots-own o c1 (Some 0) [] (x ∷ xs) a in
+    ap (claim_at o) (talked-append c1 (slots_written (object_at o) 1 (x ∷ xs)) (downloads (object_at o) 0 (byte_value (length (x ∷ xs))) ∷ []))
+    ∙ (own-claim o c2 0 (byte_value (length (x ∷ xs))) ∙ (ap (λ (k : Claim). claimed k 0 (length (x ∷ xs))) b
+    ∙ ap (λ (y : List ℕ). record { count = Some (length (x ∷ xs)); slots = y }) (if_false (length (x ∷ xs) == 0) [] (x ∷ xs) (ne_eqb (length (x ∷ xs)) 0 (λ q. omega (arith, q))))))
+
+pub assigned-other : (o : Bool) (c : Config) (xs : List ℕ) (b : Bool) → claim_at (not o) (talked_over c (assignment_written (object_at o) xs b)) ≡ claim_at (not o) c
+assigned-other o c xs false = refl
+assigned-other o c [] true = other-claim o c 0 (byte_value 0)
+assigned-other o c (x ∷ xs) true =
+    let c1 : Config = answered c (downloads (object_at o) 0 (byte_value 0)) in
+    let c2 : Config = talked_over c1 (slots_written (object_at o) 1 (x ∷ xs)) in
+    ap (claim_at (not o)) (talked-append c1 (slots_written (object_at o) 1 (x ∷ xs)) (downloads (object_at o) 0 (byte_value (length (x ∷ xs))) ∷ []))
+    ∙ (other-claim o c2 0 (byte_value (length (x ∷ xs))) ∙ (slots-other o c1 1 (x ∷ xs) ∙ other-claim o c 0 (byte_value 0)))
+
+-- ---- all requests of a slave
+
+pub requests-claim : (p : SlavePlan) → ((talked_over (prepared p) (requests p)).outs ≡ claim_of p.outputs (has_some p.kind.outputs)) × ((talked_over (prepared p) (requests p)).ins ≡ claim_of p.inputs (has_some p.kind.inputs))
+requests-claim p =
+    let u1 : List SdoRequest = flat_map (λ index. pdo_read (pdo_at p.kind.outputs index)) p.outputs in
+    let u2 : List SdoRequest = flat_map (λ index. pdo_read (pdo_at p.kind.inputs index)) p.inputs in
+    let a1 : List SdoRequest = assignment_written output_assignment p.outputs (has_some p.kind.outputs) in
+    let a2 : List SdoRequest = assignment_written input_assignment p.inputs (has_some p.kind.inputs) in
+    let c1 : Config = talked_over (prepared p) u1 in
+    let c2 : Config = talked_over c1 u2 in
+    let c3 : Config = talked_over c2 a1 in
+    let whole : talked_over (prepared p) (requests p) ≡ talked_over c3 a2
+    = talked-append (prepared p) u1 (u2 ++ (a1 ++ a2)) ∙ (talked-append c1 u2 (a1 ++ a2) ∙ talked-append c2 a1 a2) in
+    let o2 : c2.outs ≡ no_claim = uploads-keep true c1 u2 (all-upload p.kind.inputs p.inputs) ∙ uploads-keep true (prepared p) u1 (all-upload p.kind.outputs p.outputs) in
+    let i2 : c2.ins ≡ no_claim = uploads-keep false c1 u2 (all-upload p.kind.inputs p.inputs) ∙ uploads-keep false (prepared p) u1 (all-upload p.kind.outputs p.outputs) in (
+      ap (λ (c : Config). c.outs) whole ∙ (assigned-other false c3 p.inputs (has_some p.kind.inputs) ∙ assigned-own true c2 p.outputs (has_some p.kind.outputs) o2),
+      ap (λ (c : Config). c.ins) whole ∙ assigned-own false c3 p.inputs (has_some p.kind.inputs) (assigned-other true c2 p.outputs (has_some p.kind.outputs) ∙ i2),
+    )
+
+-- what such a claim says of a slave
+pub claim-holds : (xs : List ℕ) (a : Assignment) → Claims (claim_of xs true) a → assigned a ≡ xs
+claim-holds xs a h = ap (λ (k : ℕ). take k a.slots) (h.count_is (length xs) refl) ∙ h.slots_are
+
+-- ---- the assignment at the end of the script
+
+take-whole : (xs : List ℕ) → take (length xs) xs ≡ xs
+take-whole [] = refl
+take-whole (x ∷ xs) = ap (λ (ys : List ℕ). x ∷ ys) (take-whole xs)
+
+take-none : (xs : List ℕ) (n : ℕ) → length xs ≡ 0 → take n xs ≡ []
+take-none [] zero e = refl
+take-none [] (suc n) e = refl
+take-none (x ∷ xs) n e = absurd (omega (arith, e))
+
+none-there : (ps : List Pdo) → has_some ps ≡ false → length ps ≡ 0
+none-there [] e = refl
+none-there (p ∷ ps) e = absurd (both_ways true e refl)
+
+by-some : (b : Bool) (xs : List ℕ) (a : Assignment) → (b ≡ false → assigned a ≡ xs) → Claims (claim_of xs b) a → assigned a ≡ xs
+by-some true xs a h c = claim-holds xs a c
+by-some false xs a h c = h refl
+
+assigned-whole : (xs : List ℕ) (a : Assignment) (ps : List Pdo) → a ≡ all_assigned ps → xs ≡ indices ps → assigned a ≡ xs
+assigned-whole xs a ps e f =
+    let l : length (indices ps) ≡ length ps = length-map ps (λ (p : Pdo). p.index) in
+    ap assigned e ∙ (ap (λ (k : ℕ). take k (indices ps)) (sym l) ∙ (take-whole (indices ps) ∙ sym f))
+
+-- the assignment is the plan's, with a mailbox or without
+pub assignment-held : (p : SlavePlan) (o : Option Mailbox) (s : SlaveState) → p.kind.mailbox ≡ o → IsStartable p → IsOfKind p.kind s → IsAssigned (asked_all (prepared p) p o) s
+    → (assigned s.outs ≡ p.outputs) × (assigned s.ins ≡ p.inputs)
+assignment-held p None s e h k a =
+    let f = k.fixed e in
+    let q = h.all_assigned e in (
+      assigned-whole p.outputs s.outs p.kind.outputs (f.outs ∙ ap (λ (x : SlaveKind). all_assigned x.outputs) k.kind_is) q.0,
+      assigned-whole p.inputs s.ins p.kind.inputs (f.ins ∙ ap (λ (x : SlaveKind). all_assigned x.inputs) k.kind_is) q.1,
+    )
+assignment-held p (Some b) s e h k a =
+    let r = requests-claim p in (
+      by-some (has_some p.kind.outputs) p.outputs s.outs
+          (λ z. take-none s.outs.slots s.outs.count (k.outs ∙ none-there p.kind.outputs z) ∙ sym (h.no_outs z))
+          (subst (λ (c : Claim). Claims c s.outs) r.0 a.outs),
+      by-some (has_some p.kind.inputs) p.inputs s.ins
+          (λ z. take-none s.ins.slots s.ins.count (k.ins ∙ none-there p.kind.inputs z) ∙ sym (h.no_ins z))
+          (subst (λ (c : Claim). Claims c s.ins) r.1 a.ins),
+    )

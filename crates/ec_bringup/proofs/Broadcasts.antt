@@ -1,0 +1,222 @@
+-- The broadcasts of a start-up at any slave.
+use Rattle.std.proofs.Common.{ℕ, zero, suc, ◌+◌, ◌-◌, ◌*◌, ◌/◌, ◌%◌, ◌<◌, ◌≡◌, Bool, true, false, refl, sym, ◌∙◌, ap, subst, inl, inr, arith, List, [], ◌∷◌, length, slice_index}
+use Rattle.std.proofs.lemmas.Bool.{or_left, or_right}
+use Rattle.ec_bits.specs.Bits.{zeros, any_below}
+use Rattle.ec_bits.proofs.AnyLaws.{if_true, if_false, within_true, within_below, within_above}
+use Rattle.ec_device.specs.Types.{SlaveKind}
+use Rattle.ec_regs.specs.Memory.{is_stored}
+use Rattle.ec_regs.specs.Managers.{no_settings}
+use Rattle.ec_sync.specs.SyncManager.{SyncManager, empty_manager}
+use Rattle.ec_frame.specs.declared.command.Command.{Command}
+use Rattle.ec_frame.specs.declared.command.Command.TheVariants.{Bwr}
+use Rattle.ec_frame.specs.Datagram.{Datagram, adp_of, ado_of}
+use Rattle.ec_al.specs.Al.{Al, requesting}
+use Rattle.ec_slave.specs.Roles.{role_of, adp_after, is_reading, is_writing}
+use Rattle.ec_slave.specs.State.{SlaveState, manager_at, station_of}
+use Rattle.ec_slave.specs.Physical.{Window, touches, physical_after, is_configured}
+use Rattle.ec_slave.specs.Meeting.{window_of, slave_met, datagram_met}
+use Rattle.ec_slave.specs.Checking.{control_word}
+use Rattle.ec_start.specs.declared.action.Action.{Action}
+use Rattle.ec_start.specs.declared.action.Action.TheVariants.{AskInit, ClearFmmus, ClearManagers, ClearStations}
+use Rattle.ec_start.specs.Actions.{datagram_of}
+use Rattle.ec_bringup.specs.Stages.{Stage, Called, Down, after}
+use Rattle.ec_bringup.specs.Standing.{HoldsZeros, IsInInit, AreClear, IsDownAt, Stands}
+use Rattle.ec_bringup.specs.Frames.{IsWriting, Arrives, IsOther, MayRepeat, Met}
+use Rattle.ec_bringup.proofs.Resets.{get_or-zeros}
+use Rattle.ec_slave.specs.Interface.{Wrote, set_by}
+use Rattle.ec_slave.proofs.RegisterAccess.{registers_written as wrote, managers_aside as unconfigured}
+use Rattle.ec_bringup.proofs.Writes.{slave-wrote}
+use Rattle.ec_bringup.proofs.Owns.{window-sent}
+use Rattle.ec_slave.specs.Interface.{OnlyWrites}
+use Rattle.ec_slave.proofs.Meetings.{writes_meet, goes_on}
+
+-- ---- a broadcast write
+
+reads-none : (s : SlaveState) (d : Datagram) → d.command ≡ Bwr → is_reading (role_of d.command (adp_of d) (station_of s)) ≡ false
+reads-none s d c = ap (λ (x : Command). is_reading (role_of x (adp_of d) (station_of s))) c
+
+writes-all : (s : SlaveState) (d : Datagram) → d.command ≡ Bwr → is_writing (role_of d.command (adp_of d) (station_of s)) ≡ true
+writes-all s d c = ap (λ (x : Command). is_writing (role_of x (adp_of d) (station_of s))) c
+
+pub broadcast-writes : (s : SlaveState) (d : Datagram) → d.command ≡ Bwr → OnlyWrites s d
+broadcast-writes s d c = record { writes = writes-all s d c; reads = reads-none s d c }
+
+pub broadcast-write : (s : SlaveState) (d : Datagram) → d.command ≡ Bwr → slave_met s d ≡ physical_after s false true (window_of d)
+broadcast-write s d c = (writes_meet s d (broadcast-writes s d c)).slave
+
+-- the datagram goes on as it came, with its ADP grown
+writing-on : (s : SlaveState) (e d : Datagram) (j : ℕ) → d.command ≡ Bwr → IsWriting e d (j % 65536) → IsWriting e (datagram_met s d) ((j + 1) % 65536)
+writing-on s e d j c h =
+    let o = goes_on s d in
+    let same : ado_of d ≡ d.address / 65536 = refl in
+    let low : ((adp_of d + 1) % 65536 + 65536 * ado_of d) % 65536 ≡ (j + 1) % 65536 = let a = h.adp_is in omega (arith, a) in
+    let high : ((adp_of d + 1) % 65536 + 65536 * ado_of d) / 65536 ≡ ado_of d = omega arith in
+    let address : (datagram_met s d).address ≡ (adp_of d + 1) % 65536 + 65536 * ado_of d
+    = o.address ∙ ap (λ (x : Command). adp_after x (adp_of d) + 65536 * ado_of d) c in
+    record {
+      command = o.command ∙ h.command;
+      ado = ap (λ (x : ℕ). x / 65536) address ∙ (high ∙ h.ado);
+      adp_is = ap (λ (x : ℕ). x % 65536) address ∙ low;
+      bytes = (writes_meet s d (broadcast-writes s d c)).bytes ∙ h.bytes;
+    }
+
+pub window-is : (e d : Datagram) (adp : ℕ) (w : Window) → IsWriting e d adp → window_of e ≡ w → window_of d ≡ w
+window-is e d adp w h q = ap (λ (x : ℕ). record { from = x; bytes = d.data_bytes }) h.ado ∙ (ap (λ (x : List ℕ). record { from = ado_of e; bytes = x }) h.bytes ∙ q)
+
+-- what each slave owes at such an action
+pub pass-broadcast : (kind : SlaveKind) (i : ℕ) (st : Stage) (trouble : Bool) (a : Action) (number : ℕ) (e d : Datagram) (s : SlaveState) (w : Window)
+    → e.command ≡ Bwr → window_of e ≡ w → (IsOther a i → ⊥) → (MayRepeat a (datagram_met s d) → ⊥)
+    → (Stands kind i st trouble s → Stands kind i (after i st a) trouble (physical_after s false true w))
+    → IsWriting e d (i % 65536) → Stands kind i st trouble s
+    → Met kind i st trouble a (datagram_met s d) (slave_met s d) × IsWriting e (datagram_met s d) ((i + 1) % 65536)
+pass-broadcast kind i st trouble a number e d s w c win one never step h stands =
+    let q : slave_met s d ≡ physical_after s false true w = broadcast-write s d (h.command ∙ c) ∙ ap (λ (x : Window). physical_after s false true x) (window-is e d (i % 65536) w h win) in (
+      record {
+        other = λ o. absurd (one o);
+        repeated = λ o. absurd (never o);
+        ended = λ _. subst (λ (t : SlaveState). Stands kind i (after i st a) trouble t) (sym q) (step stands);
+      },
+      writing-on s e d i (h.command ∙ c) h,
+    )
+
+-- ---- INIT is asked for
+
+abbrev pub init-asked : Window
+init-asked = record { from = 0x0120; bytes = 0x11 ∷ 0 ∷ [] }
+
+init-called : (kind : SlaveKind) (i : ℕ) (st : Stage) (trouble : Bool) (s : SlaveState) → Stands kind i st trouble s → Stands kind i Called trouble (physical_after s false true init-asked)
+init-called kind i st trouble s h =
+    let w : Wrote init-asked s (physical_after s false true init-asked) = wrote s init-asked (omega arith) in
+    let room = h.slave.room in
+    record {
+      slave = slave-wrote kind init-asked s (physical_after s false true init-asked) w h.slave;
+      at = inl (inl (
+        ap (λ (x : Al). x.requested) (w.al ∙ if_true (touches init-asked 0x0120) (requesting s.al) s.al refl),
+        ap (λ (x : ℕ). x + 256 * slice_index (physical_after s false true init-asked).memory 0x0121) (w.taken 0x0120 (omega arith) (omega arith) refl refl refl)
+            ∙ ap (λ (x : ℕ). 0x11 + 256 * x) (w.taken 0x0121 (omega arith) (omega arith) refl refl refl),
+      ));
+    }
+
+pub pass-ask-init : (kind : SlaveKind) (i : ℕ) (st : Stage) (trouble : Bool) (number : ℕ) (d : Datagram) (s : SlaveState)
+    → Arrives AskInit number i d → Stands kind i st trouble s → Met kind i st trouble AskInit (datagram_met s d) (slave_met s d) × Arrives AskInit number (i + 1) (datagram_met s d)
+pass-ask-init kind i st trouble number d s arrives h =
+    pass-broadcast kind i st trouble AskInit number (datagram_of AskInit number) d s init-asked refl (window-sent Bwr 0 0x0120 (0x11 ∷ 0 ∷ []) number) (λ o. o) (λ o. o)
+    (λ k. init-called kind i st trouble s k) arrives h
+
+-- ---- the registers are cleared
+
+pub down-of : (kind : SlaveKind) (i : ℕ) (f m : Bool) (trouble : Bool) (s : SlaveState) → Stands kind i (Down f m) trouble s → IsDownAt f m s
+down-of kind i f m trouble s h = elim h.at [
+  | inl r ↦ r
+  | inr (t, inl g) ↦ absurd g
+  | inr (t, inr g) ↦ absurd g
+]
+
+-- a write that doesn't touch the AL control word leaves a slave in INIT there
+pub init-wrote : (w : Window) (s t : SlaveState) → length s.memory ≡ 0x3000 → touches w 0x0120 ≡ false → touches w 0x0121 ≡ false → Wrote w s t → IsInInit s → IsInInit t
+init-wrote w s t room a b h k =
+    let e : t.al ≡ s.al = h.al ∙ if_false _ _ _ a in
+    let c : control_word t ≡ control_word s
+    = ap (λ (x : ℕ). x + 256 * slice_index t.memory 0x0121) (h.untouched 0x0120 (omega arith) a) ∙ ap (λ (x : ℕ). slice_index s.memory 0x0120 + 256 * x) (h.untouched 0x0121 (omega arith) b) in
+    record {
+      state = ap (λ (x : Al). x.state) e ∙ k.state;
+      no_error = ap (λ (x : Al). x.error) e ∙ k.no_error;
+      asked = λ q. c ∙ k.asked (ap (λ (x : Al). x.requested) (sym e) ∙ q);
+    }
+
+clear-wrote : (w : Window) (s t : SlaveState) → length s.managers ≡ 4 → ((n : ℕ) → n < 4 → is_configured w n ≡ false) → Wrote w s t → AreClear s → AreClear t
+clear-wrote w s t four u h k = record {
+  settings = λ n l. ap (λ (m : SyncManager). m.settings) (h.managers n (omega (arith, four, l)) ∙ if_false _ _ _ (u n l)) ∙ k.settings n l;
+  no_messages = λ n l. ap (λ (m : SyncManager). m.mail) (h.managers n (omega (arith, four, l)) ∙ if_false _ _ _ (u n l)) ∙ k.no_messages n l;
+  outputs = subst HoldsZeros (sym (h.managers 2 (omega (arith, four)) ∙ if_false _ _ _ (u 2 (omega arith)))) k.outputs;
+}
+
+abbrev pub fmmus-cleared : Window
+fmmus-cleared = record { from = 0x0600; bytes = zeros 64 }
+
+clear-fmmus : (kind : SlaveKind) (i : ℕ) (f m : Bool) (trouble : Bool) (s : SlaveState) → Stands kind i (Down f m) trouble s → Stands kind i (Down true m) trouble (physical_after s false true fmmus-cleared)
+clear-fmmus kind i f m trouble s h =
+    let w : Wrote fmmus-cleared s (physical_after s false true fmmus-cleared) = wrote s fmmus-cleared (omega arith) in
+    let k = down-of kind i f m trouble s h in
+    let room = h.slave.room in
+    record {
+      slave = slave-wrote kind fmmus-cleared s (physical_after s false true fmmus-cleared) w h.slave;
+      at = inl (record {
+        init = init-wrote fmmus-cleared s (physical_after s false true fmmus-cleared) room refl refl w k.init;
+        fmmus = λ e b l. w.taken (0x0600 + b) (omega (arith, room, l)) (omega (arith, l)) (within_true 0x0600 64 (0x0600 + b) (omega arith) (omega (arith, l))) (stored-fmmu b l)
+            (within_below 0x0800 32 (0x0600 + b) (omega (arith, l))) ∙ get_or-zeros 64 (0x0600 + b - 0x0600);
+        managers = λ e. clear-wrote fmmus-cleared s (physical_after s false true fmmus-cleared) h.slave.four (λ n l. unconfigured fmmus-cleared n (inl (omega arith))) w (k.managers e);
+      });
+    }
+  where
+    stored-fmmu : (b : ℕ) → b < 64 → is_stored (0x0600 + b) ≡ true
+    stored-fmmu b l = or_right _ _ (or_right _ _ (or_left _ _ (within_true 0x0600 64 (0x0600 + b) (omega arith) (omega (arith, l)))))
+
+pub pass-clear-fmmus : (kind : SlaveKind) (i : ℕ) (f m : Bool) (trouble : Bool) (number : ℕ) (d : Datagram) (s : SlaveState)
+    → Arrives ClearFmmus number i d → Stands kind i (Down f m) trouble s → Met kind i (Down f m) trouble ClearFmmus (datagram_met s d) (slave_met s d) × Arrives ClearFmmus number (i + 1) (datagram_met s d)
+pass-clear-fmmus kind i f m trouble number d s arrives h =
+    pass-broadcast kind i (Down f m) trouble ClearFmmus number (datagram_of ClearFmmus number) d s fmmus-cleared refl (window-sent Bwr 0 0x0600 (zeros 64) number) (λ o. o) (λ o. o)
+    (λ k. clear-fmmus kind i f m trouble s k) arrives h
+
+-- ---- managers
+
+abbrev pub managers-cleared : Window
+managers-cleared = record { from = 0x0800; bytes = zeros 32 }
+
+cleared-by : (n : ℕ) (m : SyncManager) → n < 4 → set_by managers-cleared n m ≡ empty_manager no_settings m.locked
+unfolding any_below
+cleared-by zero m l = refl
+cleared-by (suc zero) m l = refl
+cleared-by (suc (suc zero)) m l = refl
+cleared-by (suc (suc (suc zero))) m l = refl
+cleared-by (suc (suc (suc (suc n)))) m l = absurd (omega arith)
+
+clear-managers : (kind : SlaveKind) (i : ℕ) (f m : Bool) (trouble : Bool) (s : SlaveState) → Stands kind i (Down f m) trouble s → Stands kind i (Down f true) trouble (physical_after s false true managers-cleared)
+clear-managers kind i f m trouble s h =
+    let w : Wrote managers-cleared s (physical_after s false true managers-cleared) = wrote s managers-cleared (omega arith) in
+    let k = down-of kind i f m trouble s h in
+    let room = h.slave.room in
+    let four = h.slave.four in
+    record {
+      slave = slave-wrote kind managers-cleared s (physical_after s false true managers-cleared) w h.slave;
+      at = inl (record {
+        init = init-wrote managers-cleared s (physical_after s false true managers-cleared) room refl refl w k.init;
+        fmmus = λ e b l. w.untouched (0x0600 + b) (omega (arith, room, l)) (within_below 0x0800 32 (0x0600 + b) (omega (arith, l))) ∙ k.fmmus e b l;
+        managers = λ e. record {
+          settings = λ n l. ap (λ (x : SyncManager). x.settings) (w.managers n (omega (arith, four, l)) ∙ cleared-by n (manager_at s.managers n) l);
+          no_messages = λ n l. ap (λ (x : SyncManager). x.mail) (w.managers n (omega (arith, four, l)) ∙ cleared-by n (manager_at s.managers n) l);
+          outputs = subst HoldsZeros (sym (w.managers 2 (omega (arith, four)) ∙ cleared-by 2 (manager_at s.managers 2) (omega arith))) refl;
+        };
+      });
+    }
+
+pub pass-clear-managers : (kind : SlaveKind) (i : ℕ) (f m : Bool) (trouble : Bool) (number : ℕ) (d : Datagram) (s : SlaveState)
+    → Arrives ClearManagers number i d → Stands kind i (Down f m) trouble s → Met kind i (Down f m) trouble ClearManagers (datagram_met s d) (slave_met s d) × Arrives ClearManagers number (i + 1) (datagram_met s d)
+pass-clear-managers kind i f m trouble number d s arrives h =
+    pass-broadcast kind i (Down f m) trouble ClearManagers number (datagram_of ClearManagers number) d s managers-cleared refl (window-sent Bwr 0 0x0800 (zeros 32) number) (λ o. o) (λ o. o)
+    (λ k. clear-managers kind i f m trouble s k) arrives h
+
+-- ---- station addresses
+
+abbrev pub stations-cleared : Window
+stations-cleared = record { from = 0x0010; bytes = zeros 2 }
+
+clear-stations : (kind : SlaveKind) (i : ℕ) (f m : Bool) (trouble : Bool) (s : SlaveState) → Stands kind i (Down f m) trouble s → Stands kind i (Down f m) trouble (physical_after s false true stations-cleared)
+clear-stations kind i f m trouble s h =
+    let w : Wrote stations-cleared s (physical_after s false true stations-cleared) = wrote s stations-cleared (omega arith) in
+    let k = down-of kind i f m trouble s h in
+    let room = h.slave.room in
+    record {
+      slave = slave-wrote kind stations-cleared s (physical_after s false true stations-cleared) w h.slave;
+      at = inl (record {
+        init = init-wrote stations-cleared s (physical_after s false true stations-cleared) room refl refl w k.init;
+        fmmus = λ e b l. w.untouched (0x0600 + b) (omega (arith, room, l)) (within_above 0x0010 2 (0x0600 + b) (omega arith)) ∙ k.fmmus e b l;
+        managers = λ e. clear-wrote stations-cleared s (physical_after s false true stations-cleared) h.slave.four (λ n l. unconfigured stations-cleared n (inl (omega arith))) w (k.managers e);
+      });
+    }
+
+pub pass-clear-stations : (kind : SlaveKind) (i : ℕ) (f m : Bool) (trouble : Bool) (number : ℕ) (d : Datagram) (s : SlaveState)
+    → Arrives ClearStations number i d → Stands kind i (Down f m) trouble s → Met kind i (Down f m) trouble ClearStations (datagram_met s d) (slave_met s d) × Arrives ClearStations number (i + 1) (datagram_met s d)
+pass-clear-stations kind i f m trouble number d s arrives h =
+    pass-broadcast kind i (Down f m) trouble ClearStations number (datagram_of ClearStations number) d s stations-cleared refl (window-sent Bwr 0 0x0010 (zeros 2) number) (λ o. o) (λ o. o)
+    (λ k. clear-stations kind i f m trouble s k) arrives h

@@ -1,0 +1,313 @@
+-- From one frame to the next, and from the first to the last: an undisturbed start-up goes on as its script says.
+use Rattle.std.proofs.Common.{ℕ, zero, suc, ◌+◌, ◌^◌, ◌<◌, ◌≤◌, ◌≡◌, true, false, refl, sym, ◌∙◌, ap, subst, arith, List, [], ◌∷◌, length, map, drop, get_or, nat_lt}
+use Rattle.std.proofs.lemmas.Bool.{lt-ltb, le-ltb}
+use Rattle.std.proofs.lemmas.List.{length-map}
+use Rattle.ec_bits.proofs.AnyLaws.{if_true, if_false}
+use Rattle.ec_device.specs.declared.slave_type.Device.{Device}
+use Rattle.ec_device.specs.Types.{SlaveKind}
+use Rattle.ec_frame.specs.Datagram.{Datagram, IsDatagram}
+use Rattle.ec_slave.specs.State.{SlaveState}
+use Rattle.ec_slave.specs.Meeting.{datagram_met}
+use Rattle.ec_slave.specs.Serving.{served}
+use Rattle.ec_link.specs.declared.settings.SlavePlan.{SlavePlan}
+use Rattle.ec_start.specs.declared.action.Action.{Action}
+use Rattle.ec_start.specs.declared.action.Action.TheVariants.{CountSlaves, AskInit, AwaitInit, ClearFmmus, ClearManagers, ClearStations, NameSlave, AskWord, AwaitWord, SetManager, SetFmmu, AskState, AwaitState, SendRequest, AwaitReply}
+use Rattle.ec_start.specs.Actions.{datagram_of}
+use Rattle.ec_start.specs.Scripts.{script}
+use Rattle.ec_start.specs.Verdicts.{with_word, verdict}
+use Rattle.ec_start.specs.Running.{StartState, action_of, type_of, sending, advanced, with_shown, judged}
+use Rattle.ec_start.specs.declared.phase.Phase.TheVariants.{Idle, Ready}
+use Rattle.ec_bringup.specs.Stages.{Stage, Up, Config, after}
+use Rattle.ec_bringup.specs.Instants.{Leads}
+use Rattle.ec_bringup.specs.Standing.{Stands}
+use Rattle.ec_bringup.specs.Frames.{MayEnd}
+use Rattle.ec_bringup.specs.Undisturbed.{all_passed, all_met, Rising, frame_at, turned}
+use Rattle.ec_bringup.specs.BringUp.{rising}
+use Rattle.ec_bringup.specs.Applied.{TurnsTo, Stays, Turns}
+use Rattle.ec_bringup.proofs.PassLaws.{take-law}
+use Rattle.ec_bringup.proofs.Messages.{stands-served}
+use Rattle.ec_bringup.proofs.Sendable.{IsSendable, datagram-good}
+use Rattle.ec_bringup.proofs.Commands.{word_of}
+use Rattle.ec_bringup.proofs.Shown.{Tells}
+use Rattle.ec_bringup.proofs.Next.{Prior, Prompted, Bless}
+use Rattle.ec_bringup.proofs.Passed.{Each, Priors, After, pass-all, spelled-served}
+use Rattle.ec_bringup.proofs.Applying.{Stood, stood-applied, each-applied, applied-length}
+use Rattle.ec_bringup.proofs.Goes.{wanted, IsInside, Told, sets-out, comes-back}
+
+-- ---- what is asked of the actions ahead
+
+abbrev pub Blessed : SlaveKind → ℕ → Stage → List Action → Type 0
+Blessed kind i st [] = Unit {0}
+Blessed kind i st (a ∷ rest) = Bless kind i st a × Blessed kind i (after i st a) rest
+
+-- each behind the one before it
+abbrev pub Chained : ℕ → Action → List Action → Type 0
+Chained n p [] = Unit {0}
+Chained n p (a ∷ rest) = Prompted p a × IsInside n a × IsSendable a × Chained n a rest
+
+abbrev pub first_of : List Action → Action
+first_of [] = CountSlaves
+first_of (a ∷ rest) = a
+
+-- ---- the words seen
+
+abbrev pub seen_by : (ℕ → Device) → Device → Action → Device
+seen_by types seen (AwaitWord t which) = with_word seen which (word_of (types t) which)
+seen_by types seen _ = seen
+
+tells-more : (t : Device) (seen : Device) (which : ℕ) → which < 2 → Tells t seen which → Tells t (with_word seen which (word_of t which)) (suc which)
+tells-more t seen zero l h = refl
+tells-more t seen (suc zero) l h = (h, refl)
+tells-more t seen (suc (suc which)) l h = absurd (omega (arith, l))
+
+told-next : (types : ℕ → Device) (seen : Device) (n : ℕ) (a b : Action) → IsInside n b → Prompted a b → Told types seen a → Told types (seen_by types seen a) b
+told-next types seen n a CountSlaves i p h = tt
+told-next types seen n a AskInit i p h = tt
+told-next types seen n a AwaitInit i p h = tt
+told-next types seen n a ClearFmmus i p h = tt
+told-next types seen n a ClearManagers i p h = tt
+told-next types seen n a ClearStations i p h = tt
+told-next types seen n a (NameSlave t) i p h = tt
+told-next types seen n a (AskWord t zero) i p h = tt
+told-next types seen n a (AskWord t (suc which)) i p h =
+    subst (λ (x : Action). Told types (seen_by types seen x) (AskWord t (suc which))) (sym p)
+    (tells-more (types t) seen which (let l = i.1 in omega (arith, l)) (subst (λ (x : Action). Told types seen x) p h))
+told-next types seen n a (AwaitWord t which) i p h =
+    subst (λ (x : Action). Told types (seen_by types seen x) (AwaitWord t which)) (sym p) (subst (λ (x : Action). Told types seen x) p h)
+told-next types seen n a (SetManager t k m) i p h = tt
+told-next types seen n a (SetFmmu t k f) i p h = tt
+told-next types seen n a (AskState t to) i p h = tt
+told-next types seen n a (AwaitState t to) i p h = tt
+told-next types seen n a (SendRequest t counter b r) i p h = tt
+told-next types seen n a (AwaitReply t b r) i p h = tt
+
+-- ---- the start-up goes on
+
+judged-wanted : (types : ℕ → Device) (s : StartState) (a : Action) → action_of s ≡ a → judged s (wanted types a) ≡ advanced s (seen_by types s.seen a)
+judged-wanted types s CountSlaves e = refl
+judged-wanted types s AskInit e = refl
+judged-wanted types s AwaitInit e = refl
+judged-wanted types s ClearFmmus e = refl
+judged-wanted types s ClearManagers e = refl
+judged-wanted types s ClearStations e = refl
+judged-wanted types s (NameSlave t) e = refl
+judged-wanted types s (AskWord t which) e = refl
+judged-wanted types s (AwaitWord t which) e = ap (λ (x : Action). advanced s (with_shown s x (word_of (types t) which))) e
+judged-wanted types s (SetManager t k m) e = refl
+judged-wanted types s (SetFmmu t k f) e = refl
+judged-wanted types s (AskState t to) e = refl
+judged-wanted types s (AwaitState t to) e = refl
+judged-wanted types s (SendRequest t counter b r) e = refl
+judged-wanted types s (AwaitReply t b r) e = refl
+
+-- a verdict that is wanted ends the action
+ends-by : (n step : ℕ) (seen : Device) (types : ℕ → Device) (a : Action) (d : Datagram) → verdict n step seen types a d ≡ wanted types a → MayEnd a d
+ends-by n step seen types a d e = by a e
+  where
+    by : (x : Action) → verdict n step seen types a d ≡ wanted types x → MayEnd a d
+    by (AwaitWord t which) q = (take-law n step seen types a d).1 (word_of (types t) which) q
+    by CountSlaves q = (take-law n step seen types a d).0 q
+    by AskInit q = (take-law n step seen types a d).0 q
+    by AwaitInit q = (take-law n step seen types a d).0 q
+    by ClearFmmus q = (take-law n step seen types a d).0 q
+    by ClearManagers q = (take-law n step seen types a d).0 q
+    by ClearStations q = (take-law n step seen types a d).0 q
+    by (NameSlave t) q = (take-law n step seen types a d).0 q
+    by (AskWord t which) q = (take-law n step seen types a d).0 q
+    by (SetManager t k m) q = (take-law n step seen types a d).0 q
+    by (SetFmmu t k f) q = (take-law n step seen types a d).0 q
+    by (AskState t to) q = (take-law n step seen types a d).0 q
+    by (AwaitState t to) q = (take-law n step seen types a d).0 q
+    by (SendRequest t counter b r) q = (take-law n step seen types a d).0 q
+    by (AwaitReply t b r) q = (take-law n step seen types a d).0 q
+
+-- ---- places in the script
+
+abbrev get_action : List Action → ℕ → Action
+get_action xs k = get_or xs k CountSlaves
+
+pub record SplitAt (xs : List Action) (k : ℕ) (a : Action) (rest : List Action) : Type 0 where
+  pub here : get_action xs k ≡ a
+  pub on : drop (k + 1) xs ≡ rest
+  pub size : k + 1 + length rest ≡ length xs
+
+no-cons : (a : Action) (rest : List Action) → (let e : List Action = [] in e ≡ a ∷ rest) → ⊥
+no-cons a rest e = cc
+
+pub split-at : (xs : List Action) (k : ℕ) (a : Action) (rest : List Action) → drop k xs ≡ a ∷ rest → SplitAt xs k a rest
+split-at [] zero a rest e = absurd (no-cons a rest e)
+split-at [] (suc k) a rest e = absurd (no-cons a rest e)
+split-at (x ∷ xs) zero a rest e = record {
+  here = ap (λ (l : List Action). get_action l 0) e;
+  on = ap (drop 1) e;
+  size = let q : suc (length xs) ≡ suc (length rest) = ap length e in omega (arith, q);
+}
+split-at (x ∷ xs) (suc k) a rest e =
+    let r = split-at xs k a rest e in
+    let z : suc k + 1 ≡ suc (k + 1) = omega arith in
+    let size = r.size in
+    record { here = r.here; on = ap (λ (n : ℕ). drop n (x ∷ xs)) z ∙ r.on; size = omega (arith, size) }
+
+-- ---- slaves by their places
+
+each-served : (P Q : ℕ → SlaveState → Type 0) (j n : ℕ) (ss : List SlaveState) → j + length ss ≤ n → ((i : ℕ) (s : SlaveState) → i < n → P i s → Q i (served s)) → Each P j ss → Each Q j (map served ss)
+each-served P Q j n [] l f h = tt
+each-served P Q j n (s ∷ ss) l f h = (f j s (omega (arith, l)) h.0, each-served P Q (j + 1) n ss (omega (arith, l)) f h.1)
+
+pub each-bound : (P Q : ℕ → SlaveState → Type 0) (j n : ℕ) (ss : List SlaveState) → j + length ss ≤ n → ((i : ℕ) (s : SlaveState) → i < n → P i s → Q i s) → Each P j ss → Each Q j ss
+each-bound P Q j n [] l f h = tt
+each-bound P Q j n (s ∷ ss) l f h = (f j s (omega (arith, l)) h.0, each-bound P Q (j + 1) n ss (omega (arith, l)) f h.1)
+
+all-met-length : (ss : List SlaveState) (d : Datagram) → length (all_met ss d) ≡ length ss
+all-met-length [] d = refl
+all-met-length (s ∷ ss) d = ap (λ (k : ℕ). suc k) (all-met-length ss (datagram_met s d))
+
+-- ---- one frame
+
+-- the plan, as far as it matters to the walk
+pub record IsPath (ps : List SlavePlan) (kinds : ℕ → SlaveKind) : Type 0 where
+  pub some : 0 < length ps
+  pub few : length ps ≤ 64
+  pub types : (t : ℕ) → t < length ps → type_of ps t ≡ (kinds t).device
+  pub big : (t which : ℕ) → t < length ps → word_of (type_of ps t) which < 2 ^ 32
+
+pub record IsNow (ps : List SlavePlan) (kinds : ℕ → SlaveKind) (ends : ℕ → Config) (stages : ℕ → Stage) (a : Action) (rest : List Action) (r : Rising) : Type 0 where
+  pub plan_is : r.start.plan ≡ ps
+  pub idle : r.start.phase ≡ Idle
+  pub ahead : drop r.start.place (script ps) ≡ a ∷ rest
+  pub count : length r.slaves ≡ length ps
+  pub told : Told (type_of ps) r.start.seen a
+  pub inside : IsInside (length ps) a
+  pub sendable : IsSendable a
+  pub chained : Chained (length ps) a rest
+  pub leads : (i : ℕ) → i < length ps → Leads i (stages i) (a ∷ rest) (Up (ends i))
+  pub blessed : (i : ℕ) → i < length ps → Blessed (kinds i) i (stages i) (a ∷ rest)
+  pub each : Each (λ i s. Stood (kinds i) i (stages i) a s) 0 r.slaves
+
+priors-now : (ps : List SlavePlan) (kinds : ℕ → SlaveKind) (ends : ℕ → Config) (stages : ℕ → Stage) (a : Action) (rest : List Action) (r : Rising) → IsNow ps kinds ends stages a rest r → Priors kinds stages a 0 r.slaves
+priors-now ps kinds ends stages a rest r h =
+    each-bound (λ i s. Stood (kinds i) i (stages i) a s) (λ i s. Prior (kinds i) i (stages i) a s) 0 (length ps) r.slaves (let c = h.count in omega (arith, c))
+    (λ i s l k. record { stands = k.stands; spelled = k.spelled; fits = (h.leads i l).0; bless = (h.blessed i l).0; sure = k.sure }) h.each
+
+back-some : (ps : List SlavePlan) (kinds : ℕ → SlaveKind) (stages : ℕ → Stage) (a : Action) (step number : ℕ) (seen : Device) (ss : List SlaveState) → IsPath ps kinds → length ss ≡ length ps → IsInside (length ps) a → Told (type_of ps) seen a
+    → IsDatagram (datagram_of a number) → Priors kinds stages a 0 ss → verdict (length ps) step seen (type_of ps) a (all_passed ss (datagram_of a number)) ≡ wanted (type_of ps) a
+back-some ps kinds stages a step number seen [] path e inside told good h = absurd (let some = path.some in omega (arith, some, e))
+back-some ps kinds stages a step number seen (s ∷ ss) path e inside told good h =
+    subst (λ (n : ℕ). verdict n step seen (type_of ps) a (all_passed (s ∷ ss) (datagram_of a number)) ≡ wanted (type_of ps) a) e
+    (comes-back step seen (type_of ps) kinds stages number a s ss (let few = path.few in omega (arith, few, e)) (λ t l. path.types t (omega (arith, l, e))) (λ t which l. path.big t which (omega (arith, l, e)))
+    (subst (λ (n : ℕ). IsInside n a) (sym e) inside) told good h)
+
+-- what the frame leads to
+pub record HasTurned (ps : List SlavePlan) (kinds : ℕ → SlaveKind) (stages : ℕ → Stage) (a : Action) (rest : List Action) (r : Rising) : Type 0 where
+  pub start : (turned r).start ≡ advanced (sending r.start) (seen_by (type_of ps) r.start.seen a)
+  pub each : Each (λ i s. Stood (kinds i) i (after i (stages i) a) (first_of rest) s) 0 (turned r).slaves
+  pub count : length (turned r).slaves ≡ length ps
+
+chained-first : (n : ℕ) (a : Action) (rest : List Action) → Chained n a rest → Prompted a (first_of rest)
+chained-first n a [] h = tt
+chained-first n a (b ∷ rest) h = h.0
+
+has-turned : (ps : List SlavePlan) (kinds : ℕ → SlaveKind) (ends : ℕ → Config) (stages : ℕ → Stage) (a : Action) (rest : List Action) (r : Rising) → IsPath ps kinds → IsNow ps kinds ends stages a rest r → HasTurned ps kinds stages a rest r
+has-turned ps kinds ends stages a rest r path h =
+    let number : ℕ = r.start.next in
+    let sp = split-at (script ps) r.start.place a rest h.ahead in
+    let act : action_of r.start ≡ a = ap (λ (q : List SlavePlan). get_action (script q) r.start.place) h.plan_is ∙ sp.here in
+    let good : IsDatagram (datagram_of a number) = datagram-good a number h.sendable in
+    let prior = priors-now ps kinds ends stages a rest r h in
+    let back : verdict (length ps) r.start.place r.start.seen (type_of ps) a (all_passed r.slaves (datagram_of a number)) ≡ wanted (type_of ps) a
+    = back-some ps kinds stages a r.start.place number r.start.seen r.slaves path h.count h.inside h.told good prior in
+    let v : verdict (length r.start.plan) r.start.place r.start.seen (type_of r.start.plan) (action_of r.start) (all_passed r.slaves (datagram_of (action_of r.start) number)) ≡ wanted (type_of ps) a
+    = ap (λ (q : List SlavePlan). verdict (length q) r.start.place r.start.seen (type_of q) (action_of r.start) (all_passed r.slaves (datagram_of (action_of r.start) number))) h.plan_is
+    ∙ (ap (λ (x : Action). verdict (length ps) r.start.place r.start.seen (type_of ps) x (all_passed r.slaves (datagram_of x number))) act ∙ back) in
+    let done : MayEnd a (all_passed r.slaves (datagram_of a number)) = ends-by (length ps) r.start.place r.start.seen (type_of ps) a (all_passed r.slaves (datagram_of a number)) back in
+    let all = pass-all kinds stages a (first_of rest) number 0 r.slaves (datagram_of a number) (let c = h.count in let few = path.few in omega (arith, c, few)) good (chained-first (length ps) a rest h.chained) (sets-out a number) prior in
+    let size : length (all_met r.slaves (datagram_of a number)) ≡ length ps = all-met-length r.slaves (datagram_of a number) ∙ h.count in
+    let next : Each (λ i s. Stood (kinds i) i (after i (stages i) a) (first_of rest) s) 0 (map served (all_met r.slaves (datagram_of a number)))
+    = each-served (λ i t. After (kinds i) i (stages i) a (first_of rest) (all_passed r.slaves (datagram_of a number)) t) (λ i s. Stood (kinds i) i (after i (stages i) a) (first_of rest) s) 0 (length ps)
+    (all_met r.slaves (datagram_of a number)) (omega (arith, size))
+    (λ i t l k. record {
+      stands = stands-served (kinds i) i (after i (stages i) a) false t (k.met.ended done);
+      spelled = spelled-served (kinds i).device t k.spelled;
+      sure = k.sure (k.met.ended done);
+    }) all in
+    record {
+      start = ap (judged (sending r.start)) v ∙ judged-wanted (type_of ps) (sending r.start) a act;
+      each = subst (λ (x : Action). Each (λ i s. Stood (kinds i) i (after i (stages i) a) (first_of rest) s) 0 (map served (all_met r.slaves (datagram_of x number)))) (sym act) next;
+      count = length-map (all_met r.slaves (datagram_of (action_of r.start) number)) served ∙ (all-met-length r.slaves (datagram_of (action_of r.start) number) ∙ h.count);
+    }
+
+-- ---- all frames
+
+-- an instant before the end: no frame is outstanding, and the next number counts the frames
+pub record IsWaiting (number : ℕ) (r : Rising) : Type 0 where
+  pub idle : r.start.phase ≡ Idle
+  pub numbers : r.start.next ≡ number
+  pub good : IsDatagram (frame_at r)
+
+good-now : (ps : List SlavePlan) (kinds : ℕ → SlaveKind) (ends : ℕ → Config) (stages : ℕ → Stage) (a : Action) (rest : List Action) (r : Rising) → IsNow ps kinds ends stages a rest r → IsDatagram (frame_at r)
+good-now ps kinds ends stages a rest r h =
+    let sp = split-at (script ps) r.start.place a rest h.ahead in
+    let act : action_of r.start ≡ a = ap (λ (q : List SlavePlan). get_action (script q) r.start.place) h.plan_is ∙ sp.here in
+    subst (λ (x : Action). IsDatagram (datagram_of x r.start.next)) (sym act) (datagram-good a r.start.next h.sendable)
+
+pub record HasRisen (n : ℕ) (kinds : ℕ → SlaveKind) (ends : ℕ → Config) (number : ℕ) (r : Rising) : Type 0 where
+  pub count : length r.slaves ≡ n
+  pub ready : r.start.phase ≡ Ready
+  pub numbers : r.start.next ≡ number
+  pub each : Each (λ i s. Stands (kinds i) i (Up (ends i)) false s) 0 r.slaves
+
+-- no turn is left
+no-more : (j : ℕ) (a e : Rising) → j ≡ 0 → TurnsTo j a e → e ≡ a
+no-more zero a e z (Stays _) = refl
+no-more (suc j) a e z t = absurd (omega (arith, z))
+
+pub rises : (ps : List SlavePlan) (kinds : ℕ → SlaveKind) (ends : ℕ → Config) (stages : ℕ → Stage) (a : Action) (rest : List Action) (r : Rising) → IsPath ps kinds → IsNow ps kinds ends stages a rest r
+    → (k : ℕ) (e : Rising) → TurnsTo k r e → (k < suc (length rest) → IsWaiting (r.start.next + k) e) × (k ≡ suc (length rest) → HasRisen (length ps) kinds ends (r.start.next + k) e)
+rises ps kinds ends stages a rest r path h zero e (Stays _) =
+    let z : r.start.next ≡ r.start.next + 0 = omega arith in
+    (λ l. record { idle = h.idle; good = good-now ps kinds ends stages a rest r h; numbers = z }, λ q. absurd (omega (arith, q)))
+rises ps kinds ends stages a [] r path h (suc k) e (Turns _ _ _ ss app more) = (
+  λ l. absurd (omega (arith, l)),
+  λ q.
+      let t = has-turned ps kinds ends stages a [] r path h in
+      let sp = split-at (script ps) r.start.place a [] h.ahead in
+      let size = sp.size in
+      let over : nat_lt (r.start.place + 1) (length (script r.start.plan)) ≡ false
+      = ap (λ (x : List SlavePlan). nat_lt (r.start.place + 1) (length (script x))) h.plan_is ∙ le-ltb _ _ (omega (arith, size)) in
+      let count : length ss ≡ length ps = applied-length (turned r).slaves ss app ∙ t.count in
+      let n : (turned r).start.next ≡ r.start.next + 1 = ap (λ (s : StartState). s.next) t.start in
+      let m : (turned r).start.next ≡ r.start.next + suc k = omega (arith, n, q) in
+      subst (λ (x : Rising). HasRisen (length ps) kinds ends (r.start.next + suc k) x) (sym (no-more k (rising (turned r).start ss) e (omega (arith, q)) more)) (record {
+        count = count;
+        ready = ap (λ (s : StartState). s.phase) t.start ∙ if_false _ _ _ over;
+        numbers = m;
+        each = each-bound (λ i s. Stood (kinds i) i (after i (stages i) a) CountSlaves s) (λ i s. Stands (kinds i) i (Up (ends i)) false s) 0 (length ps) ss (omega (arith, count))
+            (λ i s l k. subst (λ (x : Stage). Stands (kinds i) i x false s) (h.leads i l).1 k.stands)
+            (each-applied (λ i s. Stood (kinds i) i (after i (stages i) a) CountSlaves s) 0 (turned r).slaves ss (λ i s t g q. stood-applied (kinds i) i (after i (stages i) a) CountSlaves s t g q) app t.each);
+      }),
+)
+rises ps kinds ends stages a (b ∷ rest) r path h (suc k) e (Turns _ _ _ ss app more) =
+    let t = has-turned ps kinds ends stages a (b ∷ rest) r path h in
+    let sp = split-at (script ps) r.start.place a (b ∷ rest) h.ahead in
+    let size = sp.size in
+    let on : nat_lt (r.start.place + 1) (length (script r.start.plan)) ≡ true
+    = ap (λ (q : List SlavePlan). nat_lt (r.start.place + 1) (length (script q))) h.plan_is ∙ lt-ltb _ _ (omega (arith, size)) in
+    let both : (k < suc (length rest) → IsWaiting ((turned r).start.next + k) e) × (k ≡ suc (length rest) → HasRisen (length ps) kinds ends ((turned r).start.next + k) e)
+    = rises ps kinds ends (λ i. after i (stages i) a) b rest (rising (turned r).start ss) path (record {
+      plan_is = ap (λ (s : StartState). s.plan) t.start ∙ h.plan_is;
+      idle = ap (λ (s : StartState). s.phase) t.start ∙ if_true _ _ _ on;
+      ahead = ap (λ (s : StartState). drop s.place (script ps)) t.start ∙ sp.on;
+      count = applied-length (turned r).slaves ss app ∙ t.count;
+      told = subst (λ (s : StartState). Told (type_of ps) s.seen b) (sym t.start) (told-next (type_of ps) r.start.seen (length ps) a b h.chained.1 h.chained.0 h.told);
+      inside = h.chained.1;
+      sendable = h.chained.2;
+      chained = h.chained.3;
+      leads = λ i l. (h.leads i l).1;
+      blessed = λ i l. (h.blessed i l).1;
+      each = each-applied (λ i s. Stood (kinds i) i (after i (stages i) a) b s) 0 (turned r).slaves ss (λ i s t g q. stood-applied (kinds i) i (after i (stages i) a) b s t g q) app t.each;
+    }) k e more in
+    let n : (turned r).start.next ≡ r.start.next + 1 = ap (λ (s : StartState). s.next) t.start in
+    let m : (turned r).start.next + k ≡ r.start.next + suc k = omega (arith, n) in (
+      λ l. let w = both.0 (omega (arith, l)) in record { idle = w.idle; good = w.good; numbers = w.numbers ∙ m },
+      λ q. let w = both.1 (omega (arith, q)) in record { count = w.count; ready = w.ready; numbers = w.numbers ∙ m; each = w.each },
+    )

@@ -1,0 +1,155 @@
+-- Whatever happens to a slave, it stays a device of its type.
+use Rattle.std.proofs.lemmas.Bool.{cases_Bool}
+use Rattle.std.proofs.Common.{inl, inr, ℕ, ◌<◌, ◌≤◌, ◌≡◌, Bool, true, false, Option, Some, None, refl, sym, ◌∙◌, ap, subst, arith, if◌then◌else◌, List, length, set, unwrap_or}
+use Rattle.ec_device.specs.Types.{SlaveKind}
+use Rattle.ec_device.specs.declared.slave_type.Identity.{Identity}
+use Rattle.ec_frame.specs.Datagram.{Datagram}
+use Rattle.ec_sii.specs.Port.{Sii}
+use Rattle.ec_sii.specs.declared.image.SiiImage.{SiiImage}
+use Rattle.ec_al.specs.Al as al
+use Rattle.ec_sync.specs.SyncManager.{SyncManager, app_put}
+use Rattle.ec_sync.specs.Buffer.{Got}
+use Rattle.ec_slave.specs.State.{SlaveState, power_on, manager_at}
+use Rattle.ec_slave.specs.Meeting.{slave_met}
+use Rattle.std.specs.Prelude.{option_map}
+use Rattle.ec_bringup.specs.Standing.{IsOfKind}
+use Rattle.ec_slave.specs.Application.{is_running, with_manager, input_put, output_got, output_taken}
+use Rattle.ec_slave.specs.Serving.{served}
+use Rattle.ec_slave.specs.Faulting.{faulted}
+use Rattle.ec_link.specs.declared.settings.SlavePlan.{SlavePlan}
+use Rattle.ec_bringup.specs.Undisturbed.{IsDevice, plan_at, slave_of}
+use Rattle.ec_slave.proofs.FirmwareSteps.{settles}
+use Rattle.ec_slave.proofs.Inside.{inside_kept}
+use Rattle.ec_slave.proofs.Meetings.{faults}
+use Rattle.ec_slave.proofs.Serves.{settings_kept}
+use Rattle.ec_slave.proofs.SwitchedOn.{switched_on}
+use Rattle.ec_bringup.specs.Starting.{Starting, slave_at}
+use Rattle.ec_bringup.specs.Runs.{with_begun, AreStartable, Happens, Sends, Passes, Loses, Returns, Strays, Closes, Serves, Puts, Gets, Faults, Resets, Runs, Stops, Steps, Begins}
+use Rattle.ec_bringup.specs.ComesUp.{IsTrue, AreTrue, AgainLaw}
+use Rattle.ec_bringup.proofs.Composes.{set_one}
+use Rattle.ec_bringup.proofs.Theorem.{IsGood, runs-good, happens-plan, begun-plan, new-good}
+
+-- identity and image stay
+pub record Same (s t : SlaveState) : Type 0 where
+  pub identity : t.identity ≡ s.identity
+  pub image : t.sii.image ≡ s.sii.image
+
+pub same-refl : (s : SlaveState) → Same s s
+same-refl s = record { identity = refl; image = refl }
+
+pub true-on : (kind : SlaveKind) (s t : SlaveState) → Same s t → IsTrue kind s → IsTrue kind t
+true-on kind s t e h = record {
+  image = ap (λ (i : SiiImage). i.identity) e.image ∙ (h.image ∙ sym e.identity);
+  vendor = ap (λ (i : Identity). i.vendor) e.identity ∙ h.vendor;
+  product = ap (λ (i : Identity). i.product) e.identity ∙ h.product;
+  revision = ap (λ (i : Identity). i.revision) e.identity ∙ h.revision;
+}
+
+-- ---- any datagram
+
+pub met-same : (s : SlaveState) (d : Datagram) → Same s (slave_met s d)
+met-same s d = let k = inside_kept s d in record { identity = k.identity; image = k.image }
+
+-- ---- the other events
+
+pub served-same : (s : SlaveState) → Same s (served s)
+served-same s = record { identity = (settings_kept s).identity; image = (settles s).image }
+
+put-by : (s : SlaveState) (b : Bool) (o : Option SyncManager) → Same s (unwrap_or (if b then option_map (with_manager s 3) o else None) s)
+put-by s true None = same-refl s
+put-by s true (Some m) = record { identity = refl; image = refl }
+put-by s false o = same-refl s
+
+pub put-same : (s : SlaveState) (place byte : ℕ) → Same s (unwrap_or (input_put s place byte) s)
+put-same s place byte = put-by s (is_running s.al.state) (app_put (manager_at s.managers 3) place byte)
+
+pub got-by : (s : SlaveState) (o : Option Got) → Same s (output_taken s o)
+got-by s None = same-refl s
+got-by s (Some got) = record { identity = refl; image = refl }
+
+pub fault-same : (s : SlaveState) → Same s (faulted s)
+fault-same s = elim (cases_Bool (al.is_operational s.al.state)) [
+  | inl e ↦ subst (Same s) (sym ((faults s).in_op e)) (record { identity = refl; image = refl })
+  | inr e ↦ subst (Same s) (sym ((faults s).elsewhere e)) (same-refl s)
+]
+
+-- an identity of the type's device
+pub on-true : (kind type : SlaveKind) (identity : Identity) → identity.vendor ≡ kind.device.vendor → identity.product ≡ kind.device.product → identity.revision ≡ kind.device.revision → IsTrue kind (power_on type identity)
+on-true kind type identity vendor product revision =
+    let on = switched_on type identity in record {
+      image = ap (λ (p : Sii). p.image.identity) on.sii ∙ sym on.identity_is;
+      vendor = ap (λ (i : Identity). i.vendor) on.identity_is ∙ vendor;
+      product = ap (λ (i : Identity). i.product) on.identity_is ∙ product;
+      revision = ap (λ (i : Identity). i.revision) on.identity_is ∙ revision;
+    }
+
+pub reset-true : (kind : SlaveKind) (s : SlaveState) → IsTrue kind s → IsTrue kind (power_on s.kind s.identity)
+reset-true kind s h = on-true kind s.kind s.identity h.vendor h.product h.revision
+
+-- ---- worlds
+
+-- one slave is set
+set-true : (w : Starting) (k : ℕ) (t : SlaveState) (slaves : length w.slaves ≡ length w.start.plan) → k < length w.start.plan → IsTrue (plan_at w.start.plan k).kind t → AreTrue w
+    → (i : ℕ) → i < length w.start.plan → IsTrue (plan_at w.start.plan i).kind (slave_at (set w.slaves k t) i)
+set-true w k t e l m h i b = set_one (λ n s. IsTrue (plan_at w.start.plan n).kind s) w.slaves k t i (omega (arith, e, l)) (λ q. m) (λ q. h.each i b)
+
+by-slaves : (w v : Starting) → v.start.plan ≡ w.start.plan → ((i : ℕ) → i < length w.start.plan → IsTrue (plan_at w.start.plan i).kind (slave_of v.slaves i)) → AreTrue v
+by-slaves w v e h = record { each = subst (λ (ps : List SlavePlan). (i : ℕ) → i < length ps → IsTrue (plan_at ps i).kind (slave_of v.slaves i)) (sym e) h }
+
+kept : (w v : Starting) (ss : List SlaveState) → v.start.plan ≡ w.start.plan → v.slaves ≡ ss → ((i : ℕ) → i < length w.start.plan → IsTrue (plan_at w.start.plan i).kind (slave_of ss i)) → AreTrue v
+kept w v ss p e h = by-slaves w v p (λ i l. subst (λ (xs : List SlaveState). IsTrue (plan_at w.start.plan i).kind (slave_of xs i)) (sym e) (h i l))
+
+one-on : (w : Starting) (k : ℕ) (t : SlaveState) → length w.slaves ≡ length w.start.plan → k < length w.start.plan → Same (slave_at w.slaves k) t → AreTrue w
+    → (i : ℕ) → i < length w.start.plan → IsTrue (plan_at w.start.plan i).kind (slave_of (set w.slaves k t) i)
+one-on w k t e l q h = set-true w k t e l (true-on (plan_at w.start.plan k).kind (slave_at w.slaves k) t q (h.each k l)) h
+
+happens-true : (w v : Starting) → length w.slaves ≡ length w.start.plan → Happens w v → AreTrue w → AreTrue v
+happens-true w v n (Sends idle good e) h = kept w v w.slaves (happens-plan w v (Sends idle good e)) (ap (λ (x : Starting). x.slaves) e) h.each
+happens-true w v n (Passes c full l e) h = kept w v (set w.slaves c.passed (slave_met (slave_at w.slaves c.passed) c.datagram)) (happens-plan w v (Passes c full l e)) (ap (λ (x : Starting). x.slaves) e)
+    (one-on w c.passed (slave_met (slave_at w.slaves c.passed) c.datagram) n l (met-same (slave_at w.slaves c.passed) c.datagram) h)
+happens-true w v n (Loses c full e) h = kept w v w.slaves (happens-plan w v (Loses c full e)) (ap (λ (x : Starting). x.slaves) e) h.each
+happens-true w v n (Returns c full l sent e) h = kept w v w.slaves (happens-plan w v (Returns c full l sent e)) (ap (λ (x : Starting). x.slaves) e) h.each
+happens-true w v n (Strays c f full failed e) h = kept w v w.slaves (happens-plan w v (Strays c f full failed e)) (ap (λ (x : Starting). x.slaves) e) h.each
+happens-true w v n (Closes number sent e) h = kept w v w.slaves (happens-plan w v (Closes number sent e)) (ap (λ (x : Starting). x.slaves) e) h.each
+happens-true w v n (Serves k l e) h = kept w v (set w.slaves k (served (slave_at w.slaves k))) (happens-plan w v (Serves k l e)) (ap (λ (x : Starting). x.slaves) e)
+    (one-on w k (served (slave_at w.slaves k)) n l (served-same (slave_at w.slaves k)) h)
+happens-true w v n (Puts k place byte l e) h = kept w v (set w.slaves k (unwrap_or (input_put (slave_at w.slaves k) place byte) (slave_at w.slaves k))) (happens-plan w v (Puts k place byte l e)) (ap (λ (x : Starting). x.slaves) e)
+    (one-on w k (unwrap_or (input_put (slave_at w.slaves k) place byte) (slave_at w.slaves k)) n l (put-same (slave_at w.slaves k) place byte) h)
+happens-true w v n (Gets k place l e) h = kept w v (set w.slaves k (output_taken (slave_at w.slaves k) (output_got (slave_at w.slaves k) place))) (happens-plan w v (Gets k place l e)) (ap (λ (x : Starting). x.slaves) e)
+    (one-on w k (output_taken (slave_at w.slaves k) (output_got (slave_at w.slaves k) place)) n l (got-by (slave_at w.slaves k) (output_got (slave_at w.slaves k) place)) h)
+happens-true w v n (Faults k l op e) h = kept w v (set w.slaves k (faulted (slave_at w.slaves k))) (happens-plan w v (Faults k l op e)) (ap (λ (x : Starting). x.slaves) e)
+    (one-on w k (faulted (slave_at w.slaves k)) n l (fault-same (slave_at w.slaves k)) h)
+happens-true w v n (Resets k l e) h = kept w v (set w.slaves k (power_on (slave_at w.slaves k).kind (slave_at w.slaves k).identity)) (happens-plan w v (Resets k l e)) (ap (λ (x : Starting). x.slaves) e)
+    (set-true w k (power_on (slave_at w.slaves k).kind (slave_at w.slaves k).identity) n l (reset-true (plan_at w.start.plan k).kind (slave_at w.slaves k) (h.each k l)) h)
+
+-- the length of the slaves is that of the plan at every instant: by the runs so far
+runs-true : (ps : List SlavePlan) → AreStartable ps → (w v : Starting) → Runs w v → IsGood ps w → AreTrue w → AreTrue v
+runs-true ps planned w v (Stops x) g h = h
+runs-true ps planned w v (Steps x u y e r) g h =
+    runs-true ps planned u v r (runs-good ps planned w u (Steps w u u e (Stops u)) g) (happens-true w u g.starts.slaves.slaves e h)
+runs-true ps planned w v (Begins x y f failed empty r) g h =
+    runs-true ps planned (with_begun w) v r (runs-good ps planned w (with_begun w) (Begins w (with_begun w) f failed empty (Stops (with_begun w))) g) (by-slaves w (with_begun w) (begun-plan w) h.each)
+
+pub device-of : (kind : SlaveKind) (s : SlaveState) → IsOfKind kind s → IsTrue kind s → IsDevice kind s
+device-of kind s k h = record {
+  slave = k;
+  spelled = record {
+    vendor = ap (λ (i : Identity). i.vendor) h.image ∙ h.vendor;
+    product = ap (λ (i : Identity). i.product) h.image ∙ h.product;
+    revision = ap (λ (i : Identity). i.revision) h.image ∙ h.revision;
+  };
+}
+
+pub again : AgainLaw
+again ps plans w v new first r =
+    let planned : AreStartable ps = record { each = plans.planned } in
+    let g0 : IsGood ps w = new-good ps planned w new in
+    let g : IsGood ps v = runs-good ps planned w v r g0 in
+    let t : AreTrue v = runs-true ps planned w v r g0 first in
+    let sl = g.starts.slaves in
+    record {
+      count = sl.slaves ∙ ap length g.plan_is;
+      few = subst (λ (qs : List SlavePlan). length qs ≤ 64) g.plan_is sl.few;
+      each = subst (λ (qs : List SlavePlan). (i : ℕ) → i < length qs → IsDevice (plan_at qs i).kind (slave_of v.slaves i)) g.plan_is
+          (λ i l. device-of (plan_at v.start.plan i).kind (slave_of v.slaves i) (sl.each i l) (t.each i l));
+    }

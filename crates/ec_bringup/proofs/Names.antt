@@ -1,0 +1,165 @@
+-- A slave gets its station address.
+use Rattle.std.proofs.Common.{ℕ, zero, suc, ◌+◌, ◌-◌, ◌*◌, ◌/◌, ◌%◌, ◌<◌, ◌≡◌, ◌≢◌, Bool, true, false, Option, Some, None, refl, sym, ◌∙◌, ap, subst, inl, inr, arith, List, [], ◌∷◌, length, slice_index}
+use Rattle.std.proofs.lemmas.Bool.{eq-eqb, both_ways, cases_eq}
+use Rattle.ec_bits.proofs.AnyLaws.{if_true, if_false, within_above}
+use Rattle.ec_device.specs.Types.{SlaveKind}
+use Rattle.ec_regs.specs.Managers.{no_settings}
+use Rattle.ec_regs.specs.Fmmus.{fmmu_bytes, no_fmmu}
+use Rattle.ec_sync.specs.SyncManager.{SyncManager}
+use Rattle.ec_frame.specs.declared.command.Command.{Command}
+use Rattle.ec_frame.specs.declared.command.Command.TheVariants.{Apwr}
+use Rattle.ec_frame.specs.Datagram.{Datagram, IsDatagram, adp_of, ado_of}
+use Rattle.ec_frame.specs.Fields.{with_adp}
+use Rattle.ec_slave.specs.Roles.{role_of, adp_after, is_reading, is_writing}
+use Rattle.ec_slave.specs.State.{SlaveState, Met as Meeting, manager_at, station_of}
+use Rattle.ec_slave.specs.Physical.{Window, physical_after}
+use Rattle.ec_slave.specs.Meeting.{window_of, meets, slave_met, datagram_met}
+use Rattle.ec_slave.proofs.Bystanders.{other_position_passes}
+use Rattle.ec_start.specs.Plans.{settings_at, fmmu_at}
+use Rattle.ec_start.specs.declared.action.Action.TheVariants.{NameSlave}
+use Rattle.ec_start.specs.Actions.{station, datagram_of}
+use Rattle.ec_bringup.specs.Stages.{Stage, Before, Called, Down, Up, fresh, after, Fits, IsClear}
+use Rattle.ec_bringup.specs.Standing.{HoldsZeros, AreClear, IsDownAt, IsUpAt, Stands}
+use Rattle.ec_bringup.specs.Frames.{IsWriting, Arrives, Met}
+use Rattle.ec_bringup.proofs.Passing.{others-stay, other-met}
+use Rattle.ec_bringup.proofs.Resets.{get_or-zeros}
+use Rattle.ec_slave.specs.Interface.{Wrote}
+use Rattle.ec_slave.proofs.RegisterAccess.{registers_written as wrote, managers_aside as unconfigured}
+use Rattle.ec_bringup.proofs.Writes.{slave-wrote}
+use Rattle.ec_bringup.proofs.Owns.{window-sent}
+use Rattle.ec_bringup.proofs.Broadcasts.{down-of, init-wrote}
+use Rattle.ec_slave.specs.Interface.{OnlyWrites}
+use Rattle.ec_slave.proofs.Meetings.{writes_meet, goes_on}
+
+-- ---- the meeting
+
+reads-none : (s : SlaveState) (d : Datagram) → d.command ≡ Apwr → adp_of d ≡ 0 → is_reading (role_of d.command (adp_of d) (station_of s)) ≡ false
+reads-none s d c e = ap (λ (x : Command). is_reading (role_of x (adp_of d) (station_of s))) c ∙ ap is_reading (if_true _ _ _ (eq-eqb _ _ e))
+
+writes-all : (s : SlaveState) (d : Datagram) → d.command ≡ Apwr → adp_of d ≡ 0 → is_writing (role_of d.command (adp_of d) (station_of s)) ≡ true
+writes-all s d c e = ap (λ (x : Command). is_writing (role_of x (adp_of d) (station_of s))) c ∙ ap is_writing (if_true _ _ _ (eq-eqb _ _ e))
+
+-- the slave at this position is told to write
+pub position-writes : (s : SlaveState) (d : Datagram) → d.command ≡ Apwr → adp_of d ≡ 0 → OnlyWrites s d
+position-writes s d c e = record { writes = writes-all s d c e; reads = reads-none s d c e }
+
+position-write : (s : SlaveState) (d : Datagram) → d.command ≡ Apwr → adp_of d ≡ 0 → slave_met s d ≡ physical_after s false true (window_of d)
+position-write s d c e = (writes_meet s d (position-writes s d c e)).slave
+
+position-on : (s : SlaveState) (e d : Datagram) (adp : ℕ) → d.command ≡ Apwr → adp_of d ≡ 0 → IsWriting e d adp → IsWriting e (datagram_met s d) ((adp + 1) % 65536)
+position-on s e d adp c z h =
+    let o = goes_on s d in
+    let low : ((adp_of d + 1) % 65536 + 65536 * ado_of d) % 65536 ≡ (adp + 1) % 65536 = let a = h.adp_is in omega (arith, a) in
+    let high : ((adp_of d + 1) % 65536 + 65536 * ado_of d) / 65536 ≡ ado_of d = omega arith in
+    let address : (datagram_met s d).address ≡ (adp_of d + 1) % 65536 + 65536 * ado_of d
+    = o.address ∙ ap (λ (x : Command). adp_after x (adp_of d) + 65536 * ado_of d) c in
+    record {
+      command = o.command ∙ h.command;
+      ado = ap (λ (x : ℕ). x / 65536) address ∙ (high ∙ h.ado);
+      adp_is = ap (λ (x : ℕ). x % 65536) address ∙ low;
+      bytes = (writes_meet s d (position-writes s d c z)).bytes ∙ h.bytes;
+    }
+
+-- ---- at its position
+
+abbrev pub naming : ℕ → Window
+naming i = record { from = 0x0010; bytes = station i % 256 ∷ station i / 256 ∷ [] }
+
+settings-none : (n : ℕ) → settings_at fresh.managers n ≡ no_settings
+settings-none zero = refl
+settings-none (suc zero) = refl
+settings-none (suc (suc zero)) = refl
+settings-none (suc (suc (suc zero))) = refl
+settings-none (suc (suc (suc (suc n)))) = refl
+
+fmmu-none : (n : ℕ) → fmmu_at fresh.fmmus n ≡ no_fmmu
+fmmu-none zero = refl
+fmmu-none (suc zero) = refl
+fmmu-none (suc (suc zero)) = refl
+fmmu-none (suc (suc (suc zero))) = refl
+fmmu-none (suc (suc (suc (suc n)))) = refl
+
+no-bytes : (k : ℕ) → slice_index (fmmu_bytes no_fmmu) k ≡ 0
+no-bytes k = get_or-zeros 16 k
+
+none-some : (x : ℕ) → (let o : Option ℕ = None in o ≡ Some x) → ⊥
+none-some x e = cc
+
+named-up : (i : ℕ) (s t : SlaveState) → Wrote (naming i) s t → length s.memory ≡ 0x3000 → length s.managers ≡ 4 → ((n : ℕ) → n < 4 → (manager_at s.managers n).locked ≡ false) → IsDownAt true true s → IsUpAt i fresh t
+named-up i s t h room four unlocked k =
+    let clear : AreClear s = k.managers refl in
+    let same : (n : ℕ) → n < 4 → manager_at t.managers n ≡ manager_at s.managers n
+    = λ n l. h.managers n (omega (arith, four, l)) ∙ if_false _ _ _ (unconfigured (naming i) n (inl (omega arith))) in
+    record {
+      configured = record {
+        station_is = ap (λ (x : ℕ). x + 256 * slice_index t.memory 0x0011) (h.taken 0x0010 (omega (arith, room)) (omega arith) refl refl refl)
+            ∙ (ap (λ (x : ℕ). station i % 256 + 256 * x) (h.taken 0x0011 (omega (arith, room)) (omega arith) refl refl refl) ∙ whole (station i));
+        settings = λ n l. ap (λ (m : SyncManager). m.settings) (same n l) ∙ (clear.settings n l ∙ sym (settings-none n));
+        fmmus = λ n b l m. h.untouched (0x0600 + 16 * n + b) (omega (arith, room, l, m)) (within_above 0x0010 2 (0x0600 + 16 * n + b) (omega arith))
+            ∙ (subst (λ (x : ℕ). slice_index s.memory x ≡ 0) (adds n b) (k.fmmus refl (16 * n + b) (omega (arith, l, m))) ∙ sym (ap (λ f. slice_index (fmmu_bytes f) b) (fmmu-none n) ∙ no-bytes b));
+        idle = λ e. absurd (both_ways false refl e);
+        no_messages = λ n a l. ap (λ (m : SyncManager). m.mail) (same n l) ∙ clear.no_messages n l;
+        outputs = subst HoldsZeros (sym (same 2 (omega arith))) clear.outputs;
+      };
+      unlocked = λ n l. ap (λ (m : SyncManager). m.locked) (same n l) ∙ unlocked n l;
+      rises = init-wrote (naming i) s t room refl refl h k.init;
+      talks = record {
+        no_message = ap (λ (m : SyncManager). m.mail) (same 0 (omega arith)) ∙ clear.no_messages 0 (omega arith);
+        no_reply = ap (λ (m : SyncManager). m.mail) (same 1 (omega arith)) ∙ clear.no_messages 1 (omega arith);
+        assigned = record { outs = record { count_is = λ x e. absurd (none-some x e); slots_are = refl }; ins = record { count_is = λ x e. absurd (none-some x e); slots_are = refl } };
+      };
+      quiet = λ _. refl;
+    }
+  where
+    whole : (n : ℕ) → n % 256 + 256 * (n / 256) ≡ n
+    whole n = omega arith
+
+    adds : (n b : ℕ) → 0x0600 + (16 * n + b) ≡ 0x0600 + 16 * n + b
+    adds n b = omega arith
+
+clear-is : (P : Stage → Type 0) (st : Stage) → IsClear st → P (Down true true) → P st
+clear-is P (Down true true) c h = h
+clear-is P (Down true false) c h = absurd c
+clear-is P (Down false m) c h = absurd c
+clear-is P Before c h = absurd c
+clear-is P Called c h = absurd c
+clear-is P (Up x) c h = absurd c
+
+pub pass-name : (kind : SlaveKind) (i t : ℕ) (st : Stage) (trouble : Bool) (number : ℕ) (d : Datagram) (s : SlaveState)
+    → i < 64 → Fits i st (NameSlave t) → IsDatagram d → Arrives (NameSlave t) number i d → Stands kind i st trouble s
+    → Met kind i st trouble (NameSlave t) (datagram_met s d) (slave_met s d) × Arrives (NameSlave t) number (i + 1) (datagram_met s d)
+pass-name kind i t st trouble number d s l fits good arrives h = elim (cases_eq t i) [
+  | inl e ↦
+      let adp : adp_of d ≡ 0 = let a = arrives.adp_is in omega (arith, a, e, l) in
+      let next : ((65536 - t + i) % 65536 + 1) % 65536 ≡ (65536 - t + (i + 1)) % 65536 = omega (arith, e, l) in
+      let win : window_of d ≡ naming t = ap (λ (x : ℕ). record { from = x; bytes = d.data_bytes }) arrives.ado
+      ∙ (ap (λ (x : List ℕ). record { from = ado_of (datagram_of (NameSlave t) number); bytes = x }) arrives.bytes ∙ window-sent Apwr (65536 - t) 0x0010 (station t % 256 ∷ station t / 256 ∷ []) number) in
+      let q : slave_met s d ≡ physical_after s false true (naming i) = position-write s d arrives.command adp ∙ (ap (λ (x : Window). physical_after s false true x) win ∙ ap (λ (x : ℕ). physical_after s false true (naming x)) e) in (
+        record {
+          other = λ o. absurd (o e);
+          repeated = λ o. absurd o;
+          ended = λ _. subst (λ (x : SlaveState). Stands kind i (after i st (NameSlave t)) trouble x) (sym q) (subst (λ (x : Stage). Stands kind i x trouble (physical_after s false true (naming i))) (sym (if_true _ _ _ (eq-eqb t i e)))
+              (up (clear-is (λ x. Stands kind i x trouble s → Stands kind i (Down true true) trouble s) st (fits.1 e) (λ z. z) h)));
+        },
+        subst (λ (x : ℕ). IsWriting (datagram_of (NameSlave t) number) (datagram_met s d) x) next (position-on s (datagram_of (NameSlave t) number) d ((65536 - t + i) % 65536) arrives.command adp arrives),
+      )
+  | inr ne ↦
+      let lt = fits.0 in
+      let adp : adp_of d ≢ 0 = λ z. let a = arrives.adp_is in omega (arith, a, ne, l, lt, z) in
+      let m : meets s d ≡ record { slave = s; datagram = with_adp d ((adp_of d + 1) % 65536) } = other_position_passes s d good (inr (inl arrives.command)) adp in
+      let next : ((adp_of d + 1) % 65536 + 65536 * (d.address / 65536)) % 65536 ≡ (65536 - t + (i + 1)) % 65536 = let a = arrives.adp_is in omega (arith, a, l, lt) in
+      let high : ((adp_of d + 1) % 65536 + 65536 * (d.address / 65536)) / 65536 ≡ ado_of d = omega arith in
+      subst (λ (x : Meeting). Met kind i st trouble (NameSlave t) x.datagram x.slave × Arrives (NameSlave t) number (i + 1) x.datagram) (sym m) (
+        other-met kind i st trouble (NameSlave t) _ s (others-stay t i (Up fresh) st ne) h,
+        record { command = arrives.command; ado = high ∙ arrives.ado; adp_is = next; bytes = arrives.bytes },
+      )
+]
+  where
+    up : Stands kind i (Down true true) trouble s → Stands kind i (Up fresh) trouble (physical_after s false true (naming i))
+    up k =
+        let w : Wrote (naming i) s (physical_after s false true (naming i)) = wrote s (naming i) (omega arith) in
+        let r : IsDownAt true true s = down-of kind i true true trouble s k in
+        record {
+          slave = slave-wrote kind (naming i) s (physical_after s false true (naming i)) w k.slave;
+          at = inl (named-up i s (physical_after s false true (naming i)) w k.slave.room k.slave.four (k.slave.unlocked_in_init r.init.state) r);
+        }

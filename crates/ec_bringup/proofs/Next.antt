@@ -1,0 +1,284 @@
+-- What the firmware steps after a frame prepare for the next action.
+use Rattle.std.proofs.Common.{ℕ, zero, suc, ◌+◌, ◌*◌, ◌%◌, ◌<◌, ◌≡◌, ◌==◌, true, false, Option, Some, None, refl, sym, ◌∙◌, ap, subst, inl, inr, arith, if◌then◌else◌, List, [], ◌∷◌, length}
+use Rattle.std.proofs.lemmas.Bool.{both_ways, eq-eqb}
+use Rattle.ec_bits.proofs.AnyLaws.{if_true}
+use Rattle.ec_device.specs.declared.slave_type.Mailbox.{Mailbox}
+use Rattle.ec_device.specs.Types.{SlaveKind}
+use Rattle.ec_frame.specs.declared.command.Command.TheVariants.{Fpwr}
+use Rattle.ec_frame.specs.Datagram.{Datagram}
+use Rattle.ec_al.specs.declared.state.State.{State}
+use Rattle.ec_al.specs.declared.state.State.TheVariants.{Init, PreOp}
+use Rattle.ec_al.specs.States.{state_number}
+use Rattle.ec_al.specs.Al.{Al, requesting}
+use Rattle.ec_sii.specs.Laws.{read_command}
+use Rattle.ec_slave.specs.State.{SlaveState, station_of, manager_at}
+use Rattle.ec_slave.specs.Physical.{Window, touches, physical_after}
+use Rattle.ec_slave.specs.Meeting.{slave_met}
+use Rattle.ec_slave.specs.Checking.{checks_of}
+use Rattle.ec_slave.specs.Serving.{served}
+use Rattle.ec_start.specs.Plans.{settings_at}
+use Rattle.ec_start.specs.declared.action.Action.{Action}
+use Rattle.ec_start.specs.declared.action.Action.TheVariants.{CountSlaves, AskInit, AwaitInit, ClearFmmus, ClearManagers, ClearStations, NameSlave, AskWord, AwaitWord, SetManager, SetFmmu, AskState, AwaitState, SendRequest, AwaitReply}
+use Rattle.ec_start.specs.declared.action.SdoRequest.{SdoRequest}
+use Rattle.ec_start.specs.Actions.{station, sent, datagram_of, word_place, filled, request_bytes}
+use Rattle.ec_bringup.specs.Stages.{Rise, Stays, Climbs, Config, Stage, Before, Called, Down, Up, Talk, told, climbing, after, Fits, CanClimb}
+use Rattle.ec_bringup.specs.Standing.{IsOfKind, IsIn, Rises, Claims, IsSent, IsSilent, Talks, IsUpAt, Reached, Stands}
+use Rattle.ec_bringup.specs.Frames.{Arrives, Untouched}
+use Rattle.ec_bringup.specs.Undisturbed.{IsSpelled}
+use Rattle.ec_bringup.proofs.Owns.{own-write, window-sent}
+use Rattle.ec_slave.proofs.RegisterAccess.{registers_written as wrote}
+use Rattle.ec_bringup.proofs.Sends.{sending, delivered}
+use Rattle.ec_bringup.proofs.Messages.{stands-served}
+use Rattle.ec_slave.proofs.FirmwareSteps.{settles}
+use Rattle.ec_bringup.proofs.Commands.{Passes, IsThere, granted, word_of, HasFound, word-found}
+use Rattle.ec_bringup.proofs.Shown.{HasReply}
+use Rattle.ec_bringup.proofs.Requests.{Answers, replied}
+
+-- ---- what is asked of an action at a stage
+
+-- a slave that holds what is known at a stage, as far as the checks of the AL state machine look at it
+pub record Holds (kind : SlaveKind) (c : Config) (s : SlaveState) : Type 0 where
+  pub slave : IsOfKind kind s
+  pub settings : (n : ℕ) → n < 4 → (manager_at s.managers n).settings ≡ settings_at c.managers n
+  pub unlocked : (n : ℕ) → n < 4 → (manager_at s.managers n).locked ≡ false
+  pub outs : Claims c.outs s.outs
+  pub ins : Claims c.ins s.ins
+
+-- the step up is granted
+abbrev pub Grants : SlaveKind → Config → State → Type 0
+Grants kind c to = (s : SlaveState) → Holds kind c s → Passes (checks_of s) to
+
+-- the request is answered as it should be
+pub record Talkable (kind : SlaveKind) (c : Config) (r : SdoRequest) : Type 0 where
+  pub rise : c.rise ≡ Stays PreOp
+  pub idle : c.idle ≡ true
+  pub box : Mailbox
+  pub boxed : kind.mailbox ≡ Some box
+  pub good : Answers kind c.outs c.ins r
+
+-- what the action of slave i asks of a configuration
+abbrev pub Bears : SlaveKind → Config → Action → Type 0
+Bears kind c (AskWord t which) = which < 3
+Bears kind c (AwaitWord t which) = which < 3
+Bears kind c (AskState t to) = Grants kind c to
+Bears kind c (SendRequest t counter b r) = Talkable kind c r
+Bears kind c _ = Unit {0}
+
+abbrev pub BearsAt : SlaveKind → Stage → Action → Type 0
+BearsAt kind (Up c) a = Bears kind c a
+BearsAt kind _ a = Unit {0}
+
+abbrev pub Bless : SlaveKind → ℕ → Stage → Action → Type 0
+Bless kind i st CountSlaves = Unit {0}
+Bless kind i st AskInit = Unit {0}
+Bless kind i st AwaitInit = Unit {0}
+Bless kind i st ClearFmmus = Unit {0}
+Bless kind i st ClearManagers = Unit {0}
+Bless kind i st ClearStations = Unit {0}
+Bless kind i st (NameSlave t) = Unit {0}
+Bless kind i st (AskWord t which) = t ≡ i → BearsAt kind st (AskWord t which)
+Bless kind i st (AwaitWord t which) = t ≡ i → BearsAt kind st (AwaitWord t which)
+Bless kind i st (SetManager t n m) = t ≡ i → BearsAt kind st (SetManager t n m)
+Bless kind i st (SetFmmu t n f) = t ≡ i → BearsAt kind st (SetFmmu t n f)
+Bless kind i st (AskState t to) = t ≡ i → BearsAt kind st (AskState t to)
+Bless kind i st (AwaitState t to) = t ≡ i → BearsAt kind st (AwaitState t to)
+Bless kind i st (SendRequest t counter b r) = t ≡ i → BearsAt kind st (SendRequest t counter b r)
+Bless kind i st (AwaitReply t b r) = t ≡ i → BearsAt kind st (AwaitReply t b r)
+
+-- ---- what a slave shows before an action
+
+abbrev pub Sure : SlaveKind → ℕ → Action → SlaveState → Type 0
+Sure kind i CountSlaves s = Unit {0}
+Sure kind i AskInit s = Unit {0}
+Sure kind i AwaitInit s = IsThere Init s
+Sure kind i ClearFmmus s = Unit {0}
+Sure kind i ClearManagers s = Unit {0}
+Sure kind i ClearStations s = Unit {0}
+Sure kind i (NameSlave t) s = Unit {0}
+Sure kind i (AskWord t which) s = s.sii.busy ≡ false
+Sure kind i (AwaitWord t which) s = t ≡ i → HasFound (word_of kind.device which) s.sii
+Sure kind i (SetManager t n m) s = Unit {0}
+Sure kind i (SetFmmu t n f) s = Unit {0}
+Sure kind i (AskState t to) s = Unit {0}
+Sure kind i (AwaitState t to) s = t ≡ i → IsThere to s
+Sure kind i (SendRequest t counter b r) s = Unit {0}
+Sure kind i (AwaitReply t b r) s = t ≡ i → HasReply t r b.send_size s
+
+-- each wait stands right behind what it waits for
+abbrev pub Prompted : Action → Action → Type 0
+Prompted a CountSlaves = Unit {0}
+Prompted a AskInit = Unit {0}
+Prompted a AwaitInit = a ≡ AskInit
+Prompted a ClearFmmus = Unit {0}
+Prompted a ClearManagers = Unit {0}
+Prompted a ClearStations = Unit {0}
+Prompted a (NameSlave t) = Unit {0}
+Prompted a (AskWord t zero) = Unit {0}
+Prompted a (AskWord t (suc which)) = a ≡ AwaitWord t which
+Prompted a (AwaitWord t which) = a ≡ AskWord t which
+Prompted a (SetManager t n m) = Unit {0}
+Prompted a (SetFmmu t n f) = Unit {0}
+Prompted a (AskState t to) = Unit {0}
+Prompted a (AwaitState t to) = a ≡ AskState t to
+Prompted a (SendRequest t counter b r) = Unit {0}
+Prompted a (AwaitReply t b r) = (counter : ℕ) × (a ≡ SendRequest t counter b r)
+
+pub record Prior (kind : SlaveKind) (i : ℕ) (st : Stage) (a : Action) (s : SlaveState) : Type 0 where
+  pub stands : Stands kind i st false s
+  pub spelled : IsSpelled kind.device s
+  pub fits : Fits i st a
+  pub bless : Bless kind i st a
+  pub sure : Sure kind i a s
+
+-- ---- an undisturbed slave has reached its stage
+
+pub reached-of : (kind : SlaveKind) (i : ℕ) (st : Stage) (s : SlaveState) → Stands kind i st false s → Reached i st s
+reached-of kind i st s h = elim h.at [
+  | inl r ↦ r
+  | inr (t, x) ↦ absurd (both_ways false refl t)
+]
+
+pub up-of : (kind : SlaveKind) (i : ℕ) (c : Config) (s : SlaveState) → Stands kind i (Up c) false s → IsUpAt i c s
+up-of kind i c s h = reached-of kind i (Up c) s h
+
+-- what an action for it leads to
+pub mine-after : (P : Stage → Type 0) (i : ℕ) (x y : Stage) → P (if i == i then x else y) → P x
+mine-after P i x y h = subst P (if_true _ _ _ (eq-eqb i i refl)) h
+
+-- ---- INIT
+
+pub next-init : (kind : SlaveKind) (i : ℕ) (t : SlaveState) → Stands kind i Called false t → IsThere Init (served t)
+next-init kind i t h = by (reached-of kind i Called (served t) (stands-served kind i Called false t h))
+  where
+    by : Reached i Called (served t) → IsThere Init (served t)
+    by (inl r) = absurd (both_ways (served t).al.requested (settles t).no_request r.0)
+    by (inr r) = record { state_is = r.state; no_error = r.no_error }
+
+-- ---- the datagram of its own action, as it comes to the slave
+
+own-datagram : (i : ℕ) (e d : Datagram) → Untouched i i e d → d ≡ e
+own-datagram i e d h = h.to_come (omega arith)
+
+own-slave : (s t : SlaveState) (i ado : ℕ) (bytes : List ℕ) (number : ℕ) (d : Datagram) → station_of s ≡ station i → i < 64 → d ≡ sent Fpwr (station i) ado bytes number → t ≡ slave_met s d
+    → t ≡ physical_after s false true (record { from = ado; bytes = bytes })
+own-slave s t i ado bytes number d e l q m =
+    m ∙ (ap (slave_met s) q ∙ (own-write s (sent Fpwr (station i) ado bytes number) refl (let a : (station i % 65536 + 65536 * ado) % 65536 ≡ station_of s = omega (arith, e, l) in a)
+    ∙ ap (λ (w : Window). physical_after s false true w) (window-sent Fpwr (station i) ado bytes number)))
+
+-- ---- a word of the SII
+
+next-word : (kind : SlaveKind) (i which : ℕ) (c : Config) (number : ℕ) (d : Datagram) (s t : SlaveState) → i < 64 → Prior kind i (Up c) (AskWord i which) s → Arrives (AskWord i which) number i d → t ≡ slave_met s d
+    → HasFound (word_of kind.device which) (served t).sii
+next-word kind i which c number d s t l h arrives m =
+    let u : IsUpAt i c s = up-of kind i c s h.stands in
+    let n6 : length (read_command (word_place which)) ≡ 6 = refl in
+    let q : t ≡ physical_after s false true (record { from = 0x0502; bytes = read_command (word_place which) })
+    = own-slave s t i 0x0502 (read_command (word_place which)) number d u.configured.station_is l (own-datagram i (datagram_of (AskWord i which) number) d arrives) m in
+    let w = wrote s (record { from = 0x0502; bytes = read_command (word_place which) }) (omega (arith, n6)) in
+    word-found kind.device s t which (h.bless refl) h.sure h.spelled (ap (λ (x : SlaveState). x.sii) q ∙ w.sii)
+
+-- ---- a state
+
+abbrev asked-window : State → Window
+asked-window to = record { from = 0x0120; bytes = state_number to ∷ 0 ∷ [] }
+
+asks-now : (s t : SlaveState) (to : State) → t ≡ physical_after s false true (asked-window to) → t.al.requested ≡ true
+asks-now s t to q =
+    let w = wrote s (asked-window to) (omega arith) in
+    ap (λ (x : SlaveState). x.al.requested) q ∙ ap (λ (x : Al). x.requested) (w.al ∙ if_true (touches (asked-window to) 0x0120) (requesting s.al) s.al refl)
+
+-- what is held at a stage without a message
+holds-of : (kind : SlaveKind) (i : ℕ) (c : Config) (s : SlaveState) → c.talk ≡ None → IsOfKind kind s → IsUpAt i c s → Holds kind c s
+holds-of kind i c s none h u =
+    let silent : IsSilent c s = subst (λ (o : Option Talk). Talks i c o s) none u.talks in
+    record { slave = h; settings = u.configured.settings; unlocked = u.unlocked; outs = silent.assigned.outs; ins = silent.assigned.ins }
+
+risen : (kind : SlaveKind) (i : ℕ) (c : Config) (r : Rise) (to : State) (t : SlaveState) → CanClimb r to → Grants kind c to → Holds kind c t → t.al.requested ≡ true → Rises (climbing r to) t → IsThere to (served t)
+risen kind i c (Climbs from other) to t can g h asks rises = absurd can
+risen kind i c (Stays from) to t can g h asks (up, inl q) = granted t from to up q (g t h)
+risen kind i c (Stays from) to t can g h asks (up, inr (inl q)) = absurd (both_ways t.al.requested q.no_request asks)
+risen kind i c (Stays from) to t can g h asks (up, inr (inr q)) = absurd (both_ways t.al.requested q.no_request asks)
+
+next-state : (kind : SlaveKind) (i : ℕ) (to : State) (c : Config) (number : ℕ) (d : Datagram) (s t : SlaveState) → i < 64 → Prior kind i (Up c) (AskState i to) s → Arrives (AskState i to) number i d → t ≡ slave_met s d
+    → Stands kind i (Up (told c (AskState i to))) false t → IsThere to (served t)
+next-state kind i to c number d s t l h arrives m stood =
+    let u : IsUpAt i c s = up-of kind i c s h.stands in
+    let v : IsUpAt i (record c { rise = climbing c.rise to }) t = up-of kind i (record c { rise = climbing c.rise to }) t stood in
+    let can = h.fits.2 refl in
+    let q : t ≡ physical_after s false true (asked-window to)
+    = own-slave s t i 0x0120 (state_number to ∷ 0 ∷ []) number d u.configured.station_is l (own-datagram i (datagram_of (AskState i to) number) d arrives) m in
+    let held = holds-of kind i (record c { rise = climbing c.rise to }) t can.0 stood.slave v in
+    risen kind i c c.rise to t can.1 (h.bless refl) (record { slave = held.slave; settings = held.settings; unlocked = held.unlocked; outs = held.outs; ins = held.ins })
+    (asks-now s t to q) v.rises
+
+-- ---- a reply
+
+sent-of : (i : ℕ) (k : Talk) (c : Config) (t : SlaveState) (raw : List ℕ) → (manager_at t.managers 0).mail ≡ Some raw → Talks i c (Some k) t → IsSent k c t
+sent-of i k c t raw e (inl h) = h
+sent-of i k c t raw e (inr h) = absurd (let f : None ≡ Some raw = sym h.no_message ∙ e in cc)
+
+next-reply : (kind : SlaveKind) (i counter : ℕ) (b : Mailbox) (r : SdoRequest) (c : Config) (number : ℕ) (d : Datagram) (s t : SlaveState) → i < 64 → Prior kind i (Up c) (SendRequest i counter b r) s
+    → Arrives (SendRequest i counter b r) number i d → t ≡ slave_met s d → Stands kind i (Up (told c (SendRequest i counter b r))) false t → HasReply i r b.send_size (served t)
+next-reply kind i counter b r c number d s t l h arrives m stood =
+    let u : IsUpAt i c s = up-of kind i c s h.stands in
+    let k : Talk = record { mailbox = b; counter = counter; request = r } in
+    let v : IsUpAt i (record c { talk = Some k }) t = up-of kind i (record c { talk = Some k }) t stood in
+    let can = h.fits.2 refl in
+    let z = h.bless refl in
+    let silent : IsSilent c s = subst (λ (o : Option Talk). Talks i c o s) can.1 u.talks in
+    let q : t ≡ physical_after s false true (sending b counter r)
+    = own-slave s t i b.receive_start (filled b.receive_size (request_bytes counter r)) number d u.configured.station_is l (own-datagram i (datagram_of (SendRequest i counter b r) number) d arrives) m in
+    let w = delivered i counter c b r s h.stands.slave.four can.2 u silent.no_message in
+    let mailbox_message : (manager_at t.managers 0).mail ≡ Some (sending b counter r).bytes = ap (λ (x : SlaveState). (manager_at x.managers 0).mail) q ∙ w.mailbox_message in
+    let lies : IsSent k (record c { talk = Some k }) t = sent-of i k (record c { talk = Some k }) t (sending b counter r).bytes mailbox_message v.talks in
+    let preop : IsIn PreOp t = subst (λ (x : Rise). Rises x t) z.rise v.rises in
+    replied kind i (record c { talk = Some k }) k z.box t stood.slave z.boxed v.configured v.unlocked preop (v.configured.idle z.idle) lies z.good
+
+-- ---- all of them
+
+-- what a slave that the frame passed shows before the next action
+abbrev Shows : SlaveKind → ℕ → Stage → ℕ → Datagram → SlaveState → SlaveState → Action → Action → Type 0
+Shows kind i st number d s t a b = Prior kind i st a s → Arrives a number i d → Stands kind i (after i st a) false t → Sure kind i b (served t)
+
+word-shows : (kind : SlaveKind) (i which : ℕ) (st : Stage) (number : ℕ) (d : Datagram) (s t : SlaveState) → i < 64 → t ≡ slave_met s d → Shows kind i st number d s t (AskWord i which) (AwaitWord i which)
+word-shows kind i which (Up c) number d s t l m h r k e = next-word kind i which c number d s t l h r m
+word-shows kind i which Before number d s t l m h r k e = absurd h.fits.1
+word-shows kind i which Called number d s t l m h r k e = absurd h.fits.1
+word-shows kind i which (Down x y) number d s t l m h r k e = absurd h.fits.1
+
+state-shows : (kind : SlaveKind) (i : ℕ) (to : State) (st : Stage) (number : ℕ) (d : Datagram) (s t : SlaveState) → i < 64 → t ≡ slave_met s d → Shows kind i st number d s t (AskState i to) (AwaitState i to)
+state-shows kind i to (Up c) number d s t l m h r k e = next-state kind i to c number d s t l h r m (mine-after (λ x. Stands kind i x false t) i _ _ k)
+state-shows kind i to Before number d s t l m h r k e = absurd h.fits.1
+state-shows kind i to Called number d s t l m h r k e = absurd h.fits.1
+state-shows kind i to (Down x y) number d s t l m h r k e = absurd h.fits.1
+
+reply-shows : (kind : SlaveKind) (i counter : ℕ) (b : Mailbox) (q : SdoRequest) (st : Stage) (number : ℕ) (d : Datagram) (s t : SlaveState) → i < 64 → t ≡ slave_met s d
+    → Shows kind i st number d s t (SendRequest i counter b q) (AwaitReply i b q)
+reply-shows kind i counter b q (Up c) number d s t l m h r k e = next-reply kind i counter b q c number d s t l h r m (mine-after (λ x. Stands kind i x false t) i _ _ k)
+reply-shows kind i counter b q Before number d s t l m h r k e = absurd h.fits.1
+reply-shows kind i counter b q Called number d s t l m h r k e = absurd h.fits.1
+reply-shows kind i counter b q (Down x y) number d s t l m h r k e = absurd h.fits.1
+
+pub next-sure : (kind : SlaveKind) (i : ℕ) (st : Stage) (number : ℕ) (d : Datagram) (s t : SlaveState) (a b : Action) → i < 64 → t ≡ slave_met s d → Prompted a b → Shows kind i st number d s t a b
+next-sure kind i st number d s t a CountSlaves l m p = λ h r k. tt
+next-sure kind i st number d s t a AskInit l m p = λ h r k. tt
+next-sure kind i st number d s t a AwaitInit l m p = subst (λ (x : Action). Shows kind i st number d s t x AwaitInit) (sym p) (λ h r k. next-init kind i t k)
+next-sure kind i st number d s t a ClearFmmus l m p = λ h r k. tt
+next-sure kind i st number d s t a ClearManagers l m p = λ h r k. tt
+next-sure kind i st number d s t a ClearStations l m p = λ h r k. tt
+next-sure kind i st number d s t a (NameSlave x) l m p = λ h r k. tt
+next-sure kind i st number d s t a (AskWord x zero) l m p = λ h r k. (settles t).idle
+next-sure kind i st number d s t a (AskWord x (suc which)) l m p = λ h r k. (settles t).idle
+next-sure kind i st number d s t a (AwaitWord x which) l m p =
+    λ h r k e. subst (λ (y : ℕ). Shows kind i st number d s t (AskWord y which) (AwaitWord y which)) (sym e) (word-shows kind i which st number d s t l m)
+    (subst (λ (y : Action). Prior kind i st y s) p h) (subst (λ (y : Action). Arrives y number i d) p r) (subst (λ (y : Action). Stands kind i (after i st y) false t) p k) e
+next-sure kind i st number d s t a (SetManager x n q) l m p = λ h r k. tt
+next-sure kind i st number d s t a (SetFmmu x n q) l m p = λ h r k. tt
+next-sure kind i st number d s t a (AskState x to) l m p = λ h r k. tt
+next-sure kind i st number d s t a (AwaitState x to) l m p =
+    λ h r k e. subst (λ (y : ℕ). Shows kind i st number d s t (AskState y to) (AwaitState y to)) (sym e) (state-shows kind i to st number d s t l m)
+    (subst (λ (y : Action). Prior kind i st y s) p h) (subst (λ (y : Action). Arrives y number i d) p r) (subst (λ (y : Action). Stands kind i (after i st y) false t) p k) e
+next-sure kind i st number d s t a (SendRequest x counter b q) l m p = λ h r k. tt
+next-sure kind i st number d s t a (AwaitReply x b q) l m (counter, p) =
+    λ h r k e. subst (λ (y : ℕ). Shows kind i st number d s t (SendRequest y counter b q) (AwaitReply y b q)) (sym e) (reply-shows kind i counter b q st number d s t l m)
+    (subst (λ (y : Action). Prior kind i st y s) p h) (subst (λ (y : Action). Arrives y number i d) p r) (subst (λ (y : Action). Stands kind i (after i st y) false t) p k) e

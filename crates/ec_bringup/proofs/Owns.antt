@@ -1,0 +1,181 @@
+-- A datagram of a start-up at the slave that it is for.
+use Rattle.std.proofs.Common.{ℕ, ◌+◌, ◌*◌, ◌/◌, ◌%◌, ◌<◌, ◌≤◌, ◌≡◌, ◌⊎◌, Bool, true, false, Option, None, refl, sym, ◌∙◌, ap, subst, inl, inr, arith, List, [], ◌∷◌, length, slice_index}
+use Rattle.std.proofs.lemmas.Bool.{eq-eqb}
+use Rattle.ec_bits.proofs.AnyLaws.{if_true, if_false, within_below, within_above}
+use Rattle.ec_device.specs.Types.{SlaveKind}
+use Rattle.ec_sync.specs.SyncManager.{SyncManager}
+use Rattle.ec_frame.specs.declared.command.Command.{Command}
+use Rattle.ec_frame.specs.declared.command.Command.TheVariants.{Fpwr}
+use Rattle.ec_frame.specs.Datagram.{Datagram, IsDatagram, adp_of, ado_of}
+use Rattle.ec_al.specs.declared.state.State.{State}
+use Rattle.ec_al.specs.declared.state.State.TheVariants.{Init, PreOp, SafeOp, Op}
+use Rattle.ec_al.specs.States.{state_number}
+use Rattle.ec_al.specs.Al.{Al, requesting}
+use Rattle.ec_sii.specs.Port.{Sii, written}
+use Rattle.ec_slave.specs.Roles.{role_of, adp_after, is_reading, is_writing}
+use Rattle.ec_slave.specs.State.{SlaveState, Met as Meeting, manager_at, station_of, power_on}
+use Rattle.ec_slave.specs.Physical.{Window, touches, physical_after}
+use Rattle.ec_slave.specs.Meeting.{window_of, meets, slave_met, datagram_met}
+use Rattle.ec_slave.proofs.Bystanders.{other_station_passes}
+use Rattle.ec_slave.specs.Checking.{control_word}
+use Rattle.ec_start.specs.declared.action.Action.{Action}
+use Rattle.ec_start.specs.declared.action.Action.TheVariants.{AskState}
+use Rattle.ec_start.specs.Actions.{station, at, sent}
+use Rattle.ec_bringup.specs.Stages.{Rise, Stays, Climbs, Config, Stage, Up, Talk, told, climbing, after, CanTell, CanClimb}
+use Rattle.ec_bringup.specs.Standing.{HoldsZeros, IsOfKind, IsConfigured, Rises, IsSilent, Talks, IsUpAt, IsTop, Stands}
+use Rattle.ec_slave.specs.Interface.{OnlyWrites}
+use Rattle.ec_slave.proofs.Meetings.{writes_meet, goes_on}
+use Rattle.ec_bringup.specs.Frames.{Untouched, ReadsOn, Arrives, IsOther, MayRepeat, Met}
+use Rattle.ec_bringup.proofs.Alike.{claims-alike}
+use Rattle.ec_bringup.proofs.Passing.{IsOne, one-ask-state, station-zero}
+use Rattle.ec_slave.specs.Interface.{Wrote}
+use Rattle.ec_slave.proofs.RegisterAccess.{registers_written as wrote, managers_aside as unconfigured}
+use Rattle.ec_bringup.proofs.Writes.{slave-wrote}
+
+-- ---- the meeting
+
+reads-none : (s : SlaveState) (d : Datagram) → d.command ≡ Fpwr → adp_of d ≡ station_of s → is_reading (role_of d.command (adp_of d) (station_of s)) ≡ false
+reads-none s d c e = ap (λ (x : Command). is_reading (role_of x (adp_of d) (station_of s))) c ∙ ap is_reading (if_true _ _ _ (eq-eqb _ _ e))
+
+writes-all : (s : SlaveState) (d : Datagram) → d.command ≡ Fpwr → adp_of d ≡ station_of s → is_writing (role_of d.command (adp_of d) (station_of s)) ≡ true
+writes-all s d c e = ap (λ (x : Command). is_writing (role_of x (adp_of d) (station_of s))) c ∙ ap is_writing (if_true _ _ _ (eq-eqb _ _ e))
+
+-- the slave that is meant is told to write
+pub own-writes : (s : SlaveState) (d : Datagram) → d.command ≡ Fpwr → adp_of d ≡ station_of s → OnlyWrites s d
+own-writes s d c e = record { writes = writes-all s d c e; reads = reads-none s d c e }
+
+pub own-write : (s : SlaveState) (d : Datagram) → d.command ≡ Fpwr → adp_of d ≡ station_of s → slave_met s d ≡ physical_after s false true (window_of d)
+own-write s d c e = (writes_meet s d (own-writes s d c e)).slave
+
+-- a slave that is gone isn't met
+gone-passes : (i : ℕ) (s : SlaveState) (d : Datagram) → i < 64 → IsDatagram d → d.command ≡ Fpwr → adp_of d ≡ station i → s ≡ power_on s.kind s.identity
+    → meets s d ≡ record { slave = s; datagram = d }
+gone-passes i s d l good c e g = other_station_passes s d good (inr (inl c)) (λ q. let z = station-zero s g in let a : adp_of d ≡ station_of s = q in omega (arith, e, z, a))
+
+-- the heading stays
+reads-on : (s : SlaveState) (d e : Datagram) → ReadsOn e d → d.command ≡ Fpwr → ReadsOn e (datagram_met s d)
+reads-on s d e g c =
+    let same : adp_of d + 65536 * ado_of d ≡ d.address = omega arith in
+    let o = goes_on s d in
+    record { command = o.command ∙ g.command; address = o.address ∙ (ap (λ (x : Command). adp_after x (adp_of d) + 65536 * ado_of d) c ∙ (same ∙ g.address)) }
+
+pub window-sent : (c : Command) (adp ado : ℕ) (bytes : List ℕ) (number : ℕ) → window_of (sent c adp ado bytes number) ≡ record { from = ado; bytes = bytes }
+window-sent c adp ado bytes number = let e : (adp % 65536 + 65536 * ado) / 65536 ≡ ado = omega arith in ap (λ (x : ℕ). record { from = x; bytes = bytes }) e
+
+-- ---- a write of registers at its slave
+
+pub pass-own : (kind : SlaveKind) (i : ℕ) (c : Config) (trouble : Bool) (a : Action) (number : ℕ) (d : Datagram) (s : SlaveState) (w : Window)
+    → (one : IsOne a i number) → i < 64 → one.e.command ≡ Fpwr → window_of one.e ≡ w → one.ado < 65536 → after i (Up c) a ≡ Up (told c a) → (MayRepeat a (datagram_met s d) → ⊥) → (IsOther a i → ⊥)
+    → (IsTop c.rise → ⊥)
+    → (IsOfKind kind s → IsUpAt i c s → IsOfKind kind (physical_after s false true w))
+    → (IsOfKind kind s → IsUpAt i c s → IsUpAt i (told c a) (physical_after s false true w))
+    → IsDatagram d → Arrives a number i d → Stands kind i (Up c) trouble s
+    → Met kind i (Up c) trouble a (datagram_met s d) (slave_met s d) × Arrives a number (i + 1) (datagram_met s d)
+pass-own kind i c trouble a number d s w one l cm win ado aft never self low keeps up good arrives h =
+    let u : Untouched i i one.e d = one.arrives i d arrives in
+    let e : d ≡ one.e = u.to_come (omega arith) in
+    let cmd : d.command ≡ Fpwr = u.gone_by.command ∙ cm in
+    let adp : adp_of d ≡ station i = let x = u.gone_by.address in let y = one.address in omega (arith, x, y, at, ado) in
+    let on : Arrives a number (i + 1) (datagram_met s d) = one.arrived (i + 1) (datagram_met s d) (record { to_come = λ k. absurd (omega arith); gone_by = reads-on s d one.e u.gone_by cmd }) in (
+      record {
+        other = λ o. absurd (self o);
+        repeated = λ r. absurd (never r);
+        ended = λ _. subst (λ (x : Stage). Stands kind i x trouble (slave_met s d)) (sym aft) (stood h e cmd adp);
+      },
+      on,
+    )
+  where
+    stood : Stands kind i (Up c) trouble s → d ≡ one.e → d.command ≡ Fpwr → adp_of d ≡ station i → Stands kind i (Up (told c a)) trouble (slave_met s d)
+    stood h e cmd adp = elim h.at [
+      | inl r ↦
+          let q : slave_met s d ≡ physical_after s false true w = own-write s d cmd (adp ∙ sym r.configured.station_is) ∙ ap (λ (x : Window). physical_after s false true x) (ap window_of e ∙ win) in
+          subst (λ (t : SlaveState). Stands kind i (Up (told c a)) trouble t) (sym q) (record { slave = keeps h.slave r; at = inl (up h.slave r) })
+      | inr (f, inl g) ↦
+          subst (λ (x : Meeting). Stands kind i (Up (told c a)) trouble x.slave) (sym (gone-passes i s d l good cmd adp g)) (record { slave = h.slave; at = inr (f, inl g) })
+      | inr (f, inr g) ↦ absurd (low g.top)
+    ]
+
+-- ---- a state is asked for
+
+abbrev asking : State → Window
+asking state = record { from = 0x0120; bytes = state_number state ∷ 0 ∷ [] }
+
+-- a register that it leaves
+ask-leaves : (state : State) (s t : SlaveState) (a : ℕ) → Wrote (asking state) s t → a < length s.memory → (a < 0x0120) ⊎ (0x0122 ≤ a) → slice_index t.memory a ≡ slice_index s.memory a
+ask-leaves state s t a h l o = h.untouched a l (elim o [ inl b ↦ within_below 0x0120 2 a b | inr b ↦ within_above 0x0120 2 a b ])
+
+ask-manager : (state : State) (s t : SlaveState) (n : ℕ) → Wrote (asking state) s t → length s.managers ≡ 4 → n < 4 → manager_at t.managers n ≡ manager_at s.managers n
+ask-manager state s t n h e l = h.managers n (omega arith) ∙ if_false _ _ _ (unconfigured (asking state) n (inl (omega arith)))
+
+ask-busy : (p : Sii) (state : State) → (written p 0x0120 (state_number state ∷ 0 ∷ [])).busy ≡ p.busy
+unfolding written
+ask-busy p state = by p.busy refl
+  where
+    by : (b : Bool) → p.busy ≡ b → (written p 0x0120 (state_number state ∷ 0 ∷ [])).busy ≡ p.busy
+    by true e = ap (λ (q : Sii). q.busy) (if_true _ _ _ e)
+    by false e = ap (λ (q : Sii). q.busy) (if_false _ _ _ e)
+
+ask-configured : (i : ℕ) (c : Config) (state : State) (s t : SlaveState) → Wrote (asking state) s t → length s.memory ≡ 0x3000 → length s.managers ≡ 4
+    → IsConfigured i c s → IsConfigured i (record c { rise = climbing c.rise state }) t
+ask-configured i c state s t h room four k = record {
+  station_is = ap (λ (x : ℕ). x + 256 * slice_index t.memory 0x0011) (ask-leaves state s t 0x0010 h (omega arith) (inl (omega arith)))
+      ∙ (ap (λ (x : ℕ). slice_index s.memory 0x0010 + 256 * x) (ask-leaves state s t 0x0011 h (omega arith) (inl (omega arith))) ∙ k.station_is);
+  settings = λ n l. ap (λ (m : SyncManager). m.settings) (ask-manager state s t n h four l) ∙ k.settings n l;
+  fmmus = λ n b l m. ask-leaves state s t (0x0600 + 16 * n + b) h (omega arith) (inr (omega arith)) ∙ k.fmmus n b l m;
+  idle = λ e. ap (λ (q : Sii). q.busy) h.sii ∙ (ask-busy s.sii state ∙ k.idle e);
+  no_messages = λ n l m. ap (λ (x : SyncManager). x.mail) (ask-manager state s t n h four m) ∙ k.no_messages n l m;
+  outputs = subst HoldsZeros (sym (ask-manager state s t 2 h four (omega arith))) k.outputs;
+}
+
+ask-control : (state : State) (s t : SlaveState) → Wrote (asking state) s t → length s.memory ≡ 0x3000 → control_word t ≡ state_number state
+ask-control state s t h room =
+    ap (λ (x : ℕ). x + 256 * slice_index t.memory 0x0121) (h.taken 0x0120 (omega arith) (omega arith) refl refl refl)
+    ∙ (ap (λ (x : ℕ). state_number state + 256 * x) (h.taken 0x0121 (omega arith) (omega arith) refl refl refl) ∙ zero-more (state_number state))
+  where
+    zero-more : (n : ℕ) → n + 256 * 0 ≡ n
+    zero-more n = omega arith
+
+ask-rises : (r : Rise) (state : State) (s t : SlaveState) → CanClimb r state → control_word t ≡ state_number state → t.al ≡ requesting s.al → Rises r s → Rises (climbing r state) t
+ask-rises (Climbs from other) state s t can w a h = absurd can
+ask-rises (Stays Init) state s t can w a h = (can, inl (record { state = ap (λ (x : Al). x.state) a ∙ h.state; no_error = ap (λ (x : Al). x.error) a ∙ h.no_error; request = ap (λ (x : Al). x.requested) a; control_is = w }))
+ask-rises (Stays PreOp) state s t can w a h = (can, inl (record { state = ap (λ (x : Al). x.state) a ∙ h.state_is; no_error = ap (λ (x : Al). x.error) a ∙ h.no_error; request = ap (λ (x : Al). x.requested) a; control_is = w }))
+ask-rises (Stays SafeOp) state s t can w a h = (can, inl (record { state = ap (λ (x : Al). x.state) a ∙ h.state_is; no_error = ap (λ (x : Al). x.error) a ∙ h.no_error; request = ap (λ (x : Al). x.requested) a; control_is = w }))
+ask-rises (Stays Op) state s t can w a h = (can, inl (record { state = ap (λ (x : Al). x.state) a ∙ h.state_is; no_error = ap (λ (x : Al). x.error) a ∙ h.no_error; request = ap (λ (x : Al). x.requested) a; control_is = w }))
+
+ask-silent : (c : Config) (r : Rise) (state : State) (s t : SlaveState) → Wrote (asking state) s t → length s.managers ≡ 4 → IsSilent c s → IsSilent (record c { rise = r }) t
+ask-silent c r state s t h four k = record {
+  no_message = ap (λ (m : SyncManager). m.mail) (ask-manager state s t 0 h four (omega arith)) ∙ k.no_message;
+  no_reply = ap (λ (m : SyncManager). m.mail) (ask-manager state s t 1 h four (omega arith)) ∙ k.no_reply;
+  assigned = record {
+    outs = claims-alike c.outs s.outs t.outs h.outs k.assigned.outs;
+    ins = claims-alike c.ins s.ins t.ins h.ins k.assigned.ins;
+  };
+}
+
+pub ask-up : (i : ℕ) (c : Config) (state : State) (s t : SlaveState) → Wrote (asking state) s t → length s.memory ≡ 0x3000 → length s.managers ≡ 4 → c.talk ≡ None → CanClimb c.rise state
+    → IsUpAt i c s → IsUpAt i (record c { rise = climbing c.rise state }) t
+ask-up i c state s t h room four none can u = record {
+  configured = ask-configured i c state s t h room four u.configured;
+  unlocked = λ n l. ap (λ (m : SyncManager). m.locked) (ask-manager state s t n h four l) ∙ u.unlocked n l;
+  rises = ask-rises c.rise state s t can (ask-control state s t h room) (h.al ∙ if_true (touches (asking state) 0x0120) (requesting s.al) s.al refl) u.rises;
+  talks = subst (λ (o : Option Talk). Talks i (record c { rise = climbing c.rise state }) o t) (sym none)
+      (ask-silent c (climbing c.rise state) state s t h four (subst (λ (o : Option Talk). Talks i c o s) none u.talks));
+  quiet = λ _. none;
+}
+
+low-top : (r : Rise) (state : State) → CanClimb r state → IsTop r → ⊥
+low-top (Stays Op) state can top = can
+low-top (Stays Init) state can top = top
+low-top (Stays PreOp) state can top = top
+low-top (Stays SafeOp) state can top = top
+low-top (Climbs from other) state can top = can
+
+pub pass-ask-state : (kind : SlaveKind) (i : ℕ) (c : Config) (trouble : Bool) (state : State) (number : ℕ) (d : Datagram) (s : SlaveState)
+    → i < 64 → CanTell c (AskState i state) → IsDatagram d → Arrives (AskState i state) number i d → Stands kind i (Up c) trouble s
+    → Met kind i (Up c) trouble (AskState i state) (datagram_met s d) (slave_met s d) × Arrives (AskState i state) number (i + 1) (datagram_met s d)
+pass-ask-state kind i c trouble state number d s l can good arrives h =
+    pass-own kind i c trouble (AskState i state) number d s (asking state) (one-ask-state i state number) l refl (window-sent Fpwr (station i) 0x0120 (state_number state ∷ 0 ∷ []) number) (omega arith)
+    (if_true _ _ _ (eq-eqb i i refl)) (λ r. r) (λ o. o refl) (low-top c.rise state can.1)
+    (λ k u. slave-wrote kind (asking state) s (physical_after s false true (asking state)) (wrote s (asking state) (omega arith)) k)
+    (λ k u. ask-up i c state s (physical_after s false true (asking state)) (wrote s (asking state) (omega arith)) k.room k.four can.0 can.1 u)
+    good arrives h

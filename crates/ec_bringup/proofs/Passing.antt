@@ -1,0 +1,127 @@
+-- A frame of a start-up at a slave that its second datagram is not for.
+use Rattle.std.proofs.Common.{ℕ, ◌+◌, ◌*◌, ◌%◌, ◌<◌, ◌≡◌, ◌≢◌, ◌⊎◌, Bool, refl, sym, ◌∙◌, ap, subst, inl, inr, arith, slice_index}
+use Rattle.std.proofs.lemmas.Bool.{cases_eq, ne_eqb}
+use Rattle.ec_bits.proofs.AnyLaws.{if_false}
+use Rattle.ec_device.specs.Types.{SlaveKind}
+use Rattle.ec_frame.specs.declared.command.Command.{Command}
+use Rattle.ec_frame.specs.declared.command.Command.TheVariants.{Fprd, Fpwr, Fprw}
+use Rattle.ec_frame.specs.Datagram.{Datagram, IsDatagram}
+use Rattle.ec_slave.specs.State.{SlaveState, Met as Meeting, station_of, power_on}
+use Rattle.ec_slave.specs.Meeting.{meets, slave_met, datagram_met}
+use Rattle.ec_slave.proofs.Bystanders.{other_station_passes}
+use Rattle.ec_start.specs.declared.action.Action.{Action}
+use Rattle.ec_start.specs.declared.action.Action.TheVariants.{AskWord, AwaitWord, SetManager, SetFmmu, AskState, AwaitState, SendRequest, AwaitReply}
+use Rattle.ec_start.specs.declared.action.SdoRequest.{SdoRequest}
+use Rattle.ec_start.specs.Actions.{station, at, datagram_of}
+use Rattle.ec_bringup.specs.Stages.{Stage, Before, Called, Down, Up, if_mine, after, Fits, FitsMine, IsUp}
+use Rattle.ec_bringup.specs.Standing.{Stands}
+use Rattle.ec_slave.proofs.SwitchedOn.{switched_on}
+use Rattle.ec_bringup.specs.Frames.{Untouched, ReadsOn, Arrives, IsOther, Met}
+
+-- ---- station addresses
+
+pub station-zero : (s : SlaveState) → s ≡ power_on s.kind s.identity → station_of s ≡ 0
+station-zero s e =
+    let on = switched_on s.kind s.identity in
+    ap station_of e ∙ (ap (λ (x : ℕ). x + 256 * slice_index (power_on s.kind s.identity).memory 0x0011) (on.memory 0x0010) ∙ ap (λ (x : ℕ). 0 + 256 * x) (on.memory 0x0011))
+
+-- a slave that has its station address, or lost it
+station-up : (kind : SlaveKind) (i : ℕ) (st : Stage) (trouble : Bool) (s : SlaveState) → IsUp st → Stands kind i st trouble s → (station_of s ≡ station i) ⊎ (station_of s ≡ 0)
+station-up kind i Before trouble s u h = absurd u
+station-up kind i Called trouble s u h = absurd u
+station-up kind i (Down f m) trouble s u h = absurd u
+station-up kind i (Up c) trouble s u h = elim h.at [
+  | inl r ↦ inl r.configured.station_is
+  | inr (e, inl g) ↦ inr (station-zero s g)
+  | inr (e, inr g) ↦ inl g.faulted.configured.station_is
+]
+
+-- ---- a datagram for another slave passes
+
+is-one : (c : Command) → (c ≡ Fprd) ⊎ (c ≡ Fpwr) → (c ≡ Fprd) ⊎ ((c ≡ Fpwr) ⊎ (c ≡ Fprw))
+is-one c (inl e) = inl e
+is-one c (inr e) = inr (inl e)
+
+pub one-passes : (kind : SlaveKind) (i t : ℕ) (st : Stage) (trouble : Bool) (s : SlaveState) (e d : Datagram) (ado : ℕ)
+    → i < 64 → t < 64 → t ≢ i → IsUp st → Stands kind i st trouble s → IsDatagram d → (e.command ≡ Fprd) ⊎ (e.command ≡ Fpwr) → e.address ≡ at (station t) ado → ReadsOn e d
+    → meets s d ≡ record { slave = s; datagram = d }
+one-passes kind i t st trouble s e d ado li lt ne up h good c at same =
+    other_station_passes s d good (is-one d.command (subst (λ (x : Command). (x ≡ Fprd) ⊎ (x ≡ Fpwr)) (sym same.command) c))
+    (λ q. elim (station-up kind i st trouble s up h) [
+      | inl z ↦ ne (let a : d.address % 65536 ≡ station_of s = q in let b = same.address in omega (arith, a, b, at, z))
+      | inr z ↦ let a : d.address % 65536 ≡ station_of s = q in let b = same.address in omega (arith, a, b, at, z)
+    ])
+
+untouched-on : (t i : ℕ) (e d : Datagram) → Untouched t i e d → Untouched t (i + 1) e d
+untouched-on t i e d h = record { to_come = λ l. h.to_come (omega arith); gone_by = h.gone_by }
+
+-- what a slave that the action is not for owes
+pub other-met : (kind : SlaveKind) (i : ℕ) (st : Stage) (trouble : Bool) (a : Action) (d : Datagram) (s : SlaveState)
+    → after i st a ≡ st → Stands kind i st trouble s → Met kind i st trouble a d s
+other-met kind i st trouble a d s e h = record { other = λ _. h; repeated = λ _. h; ended = λ _. subst (λ (x : Stage). Stands kind i x trouble s) (sym e) h }
+
+-- of an action for one slave, as a datagram: which slave, its datagram, and its ADO
+pub record IsOne (a : Action) (t : ℕ) (number : ℕ) : Type 0 where
+  pub e : Datagram
+  pub ado : ℕ
+  pub command : (e.command ≡ Fprd) ⊎ (e.command ≡ Fpwr)
+  pub address : e.address ≡ at (station t) ado
+  pub arrives : (j : ℕ) (d : Datagram) → Arrives a number j d → Untouched t j e d
+  pub arrived : (j : ℕ) (d : Datagram) → Untouched t j e d → Arrives a number j d
+  pub fits : (i : ℕ) (st : Stage) → Fits i st a → (t < 64) × IsUp st × (t ≡ i → FitsMine st a)
+  pub others : (i : ℕ) (st : Stage) → t ≢ i → after i st a ≡ st
+  pub is_other : (i : ℕ) → t ≢ i → IsOther a i
+
+pub others-stay : (t i : ℕ) (x y : Stage) → t ≢ i → if_mine t i x y ≡ y
+others-stay t i x y ne = if_false _ _ _ (ne_eqb t i ne)
+
+abbrev pub one-ask-word : (t which number : ℕ) → IsOne (AskWord t which) t number
+one-ask-word t which number = record { e = datagram_of (AskWord t which) number; ado = 0x0502; command = inr refl; address = refl; arrives = λ j d h. h; arrived = λ j d h. h; fits = λ i st h. h; others = λ i st ne. others-stay t i _ _ ne; is_other = λ i ne. ne }
+
+abbrev pub one-await-word : (t which number : ℕ) → IsOne (AwaitWord t which) t number
+one-await-word t which number = record { e = datagram_of (AwaitWord t which) number; ado = 0x0502; command = inl refl; address = refl; arrives = λ j d h. h; arrived = λ j d h. h; fits = λ i st h. h; others = λ i st ne. others-stay t i _ _ ne; is_other = λ i ne. ne }
+
+abbrev pub one-ask-state : (t : ℕ) (state : _) (number : ℕ) → IsOne (AskState t state) t number
+one-ask-state t state number = record { e = datagram_of (AskState t state) number; ado = 0x0120; command = inr refl; address = refl; arrives = λ j d h. h; arrived = λ j d h. h; fits = λ i st h. h; others = λ i st ne. others-stay t i _ _ ne; is_other = λ i ne. ne }
+
+abbrev pub one-await-state : (t : ℕ) (state : _) (number : ℕ) → IsOne (AwaitState t state) t number
+one-await-state t state number = record { e = datagram_of (AwaitState t state) number; ado = 0x0130; command = inl refl; address = refl; arrives = λ j d h. h; arrived = λ j d h. h; fits = λ i st h. h; others = λ i st ne. others-stay t i _ _ ne; is_other = λ i ne. ne }
+
+abbrev pub one-set-manager : (t n : ℕ) (m : _) (number : ℕ) → IsOne (SetManager t n m) t number
+one-set-manager t n m number = record { e = datagram_of (SetManager t n m) number; ado = 0x0800 + 8 * n; command = inr refl; address = refl; arrives = λ j d h. h; arrived = λ j d h. h; fits = λ i st h. h; others = λ i st ne. others-stay t i _ _ ne; is_other = λ i ne. ne }
+
+abbrev pub one-set-fmmu : (t n : ℕ) (f : _) (number : ℕ) → IsOne (SetFmmu t n f) t number
+one-set-fmmu t n f number = record { e = datagram_of (SetFmmu t n f) number; ado = 0x0600 + 16 * n; command = inr refl; address = refl; arrives = λ j d h. h; arrived = λ j d h. h; fits = λ i st h. h; others = λ i st ne. others-stay t i _ _ ne; is_other = λ i ne. ne }
+
+abbrev pub one-send : (t counter : ℕ) (b : _) (r : SdoRequest) (number : ℕ) → IsOne (SendRequest t counter b r) t number
+one-send t counter b r number = record { e = datagram_of (SendRequest t counter b r) number; ado = b.receive_start; command = inr refl; address = refl; arrives = λ j d h. h; arrived = λ j d h. h; fits = λ i st h. h; others = λ i st ne. others-stay t i _ _ ne; is_other = λ i ne. ne }
+
+abbrev pub one-await-reply : (t : ℕ) (b : _) (r : SdoRequest) (number : ℕ) → IsOne (AwaitReply t b r) t number
+one-await-reply t b r number = record { e = datagram_of (AwaitReply t b r) number; ado = b.send_start; command = inl refl; address = refl; arrives = λ j d h. h; arrived = λ j d h. h; fits = λ i st h. h; others = λ i st ne. others-stay t i _ _ ne; is_other = λ i ne. ne }
+
+-- ---- an action for one slave, at another
+
+pub pass-other : (kind : SlaveKind) (i t : ℕ) (st : Stage) (trouble : Bool) (a : Action) (number : ℕ) (d : Datagram) (s : SlaveState)
+    → IsOne a t number → t ≢ i → i < 64 → Fits i st a → IsDatagram d → Arrives a number i d → Stands kind i st trouble s
+    → Met kind i st trouble a (datagram_met s d) (slave_met s d) × Arrives a number (i + 1) (datagram_met s d)
+pass-other kind i t st trouble a number d s one ne l fits good arrives h =
+    let f = one.fits i st fits in
+    let u = one.arrives i d arrives in
+    let m : meets s d ≡ record { slave = s; datagram = d } = one-passes kind i t st trouble s one.e d one.ado l f.0 ne f.1 h good one.command one.address u.gone_by in
+    subst (λ (x : Meeting). Met kind i st trouble a x.datagram x.slave × Arrives a number (i + 1) x.datagram) (sym m)
+    (other-met kind i st trouble a d s (one.others i st ne) h, one.arrived (i + 1) d (untouched-on t i one.e d u))
+
+-- a slave that was passed, when the frame passes a later one
+pub later-one : (kind : SlaveKind) (i : ℕ) (st : Stage) (trouble : Bool) (other : SlaveKind) (j t : ℕ) (sj : Stage) (had : Bool) (a : Action) (number : ℕ) (d : Datagram) (s r : SlaveState)
+    → IsOne a t number → i < j → j < 64 → Fits j sj a → IsDatagram d → Arrives a number j d → Stands other j sj had r
+    → Met kind i st trouble a d s → Met kind i st trouble a (datagram_met r d) s
+later-one kind i st trouble other j t sj had a number d s r one l lj fits good arrives h m = elim (cases_eq t j) [
+  | inl e ↦
+      let ne : t ≢ i = λ q. omega (arith, e, q, l) in
+      other-met kind i st trouble a (datagram_met r d) s (one.others i st ne) (m.other (one.is_other i ne))
+  | inr ne ↦
+      let f = one.fits j sj fits in
+      let u = one.arrives j d arrives in
+      let p : meets r d ≡ record { slave = r; datagram = d } = one-passes other j t sj had r one.e d one.ado lj f.0 ne f.1 h good one.command one.address u.gone_by in
+      subst (λ (x : Datagram). Met kind i st trouble a x s) (sym (ap (λ (x : Meeting). x.datagram) p)) m
+]

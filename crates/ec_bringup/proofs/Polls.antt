@@ -1,0 +1,259 @@
+-- A poll of registers at the slave that it is for.
+use Rattle.std.proofs.Common.{ℕ, ◌+◌, ◌*◌, ◌%◌, ◌<◌, ◌≤◌, ◌≡◌, ◌≢◌, ◌⊎◌, Bool, true, false, Option, None, refl, sym, ◌∙◌, ap, subst, inl, inr, arith, List, length, slice_index}
+use Rattle.std.specs.Int.{bit_at, from_bool}
+use Rattle.std.proofs.lemmas.Bool.{eq-eqb, both_ways}
+use Rattle.ec_bits.specs.Bits.{zeros}
+use Rattle.ec_bits.proofs.AnyLaws.{if_true}
+use Rattle.ec_device.specs.Types.{SlaveKind}
+use Rattle.ec_regs.specs.Memory.{ram_start}
+use Rattle.ec_frame.specs.declared.command.Command.{Command}
+use Rattle.ec_frame.specs.declared.command.Command.TheVariants.{Fprd}
+use Rattle.ec_frame.specs.Datagram.{Datagram, IsDatagram, adp_of, ado_of}
+use Rattle.ec_al.specs.declared.state.State.{State}
+use Rattle.ec_al.specs.declared.state.State.TheVariants.{Init, PreOp, SafeOp, Op}
+use Rattle.ec_al.specs.States.{state_number}
+use Rattle.ec_slave.specs.Roles.{role_of, adp_after, is_reading, is_writing, is_joining}
+use Rattle.ec_slave.specs.State.{SlaveState, Met as Meeting, station_of, power_on}
+use Rattle.ec_slave.specs.Physical.{Window, touches, physical_after, byte_at, byte_read, retold}
+use Rattle.ec_slave.specs.Meeting.{window_of, meets, slave_met, datagram_met}
+use Rattle.ec_slave.proofs.Bystanders.{other_station_passes}
+use Rattle.ec_slave.specs.Interface.{OnlyReads}
+use Rattle.ec_slave.proofs.Meetings.{reads_meet, goes_on}
+use Rattle.ec_slave.proofs.RegisterAccess.{registers_open, registers_read, shows_itself}
+use Rattle.ec_slave.proofs.Bytes.{reads_by_byte}
+use Rattle.ec_start.specs.declared.action.Action.{Action}
+use Rattle.ec_start.specs.declared.action.Action.TheVariants.{AwaitState, AwaitWord}
+use Rattle.ec_start.specs.Actions.{station, at}
+use Rattle.ec_bringup.specs.Stages.{Rise, Stays, Climbs, Config, Stage, Up, Talk, told, after, CanTell, IsClimbing, IsStepUp, IsLow}
+use Rattle.ec_bringup.specs.Standing.{IsConfigured, IsIn, StaysIn, Rises, IsSilent, Talks, IsUpAt, Reached, IsGone, IsFaulted, IsTop, HadFault, Stands}
+use Rattle.ec_bringup.specs.Frames.{Untouched, ReadsOn, Arrives, IsOther, MayEnd, Met}
+use Rattle.ec_bringup.proofs.Passing.{IsOne, one-await-state, one-await-word, station-zero}
+use Rattle.ec_bringup.proofs.Owns.{window-sent}
+
+pub reads : (s : SlaveState) (d : Datagram) → d.command ≡ Fprd → adp_of d ≡ station_of s → is_reading (role_of d.command (adp_of d) (station_of s)) ≡ true
+reads s d c e = ap (λ (x : Command). is_reading (role_of x (adp_of d) (station_of s))) c ∙ ap is_reading (if_true _ _ _ (eq-eqb _ _ e))
+
+pub writes-none : (s : SlaveState) (d : Datagram) → d.command ≡ Fprd → adp_of d ≡ station_of s → is_writing (role_of d.command (adp_of d) (station_of s)) ≡ false
+writes-none s d c e = ap (λ (x : Command). is_writing (role_of x (adp_of d) (station_of s))) c ∙ ap is_writing (if_true _ _ _ (eq-eqb _ _ e))
+
+joins-none : (s : SlaveState) (d : Datagram) → d.command ≡ Fprd → adp_of d ≡ station_of s → is_joining (role_of d.command (adp_of d) (station_of s)) ≡ false
+joins-none s d c e = ap (λ (x : Command). is_joining (role_of x (adp_of d) (station_of s))) c ∙ ap is_joining (if_true _ _ _ (eq-eqb _ _ e))
+
+-- the slave that is meant is told to read
+pub own-reads : (s : SlaveState) (d : Datagram) → d.command ≡ Fprd → adp_of d ≡ station_of s → OnlyReads s d
+own-reads s d c e = record { reads = reads s d c e; writes = writes-none s d c e; joins = joins-none s d c e }
+
+pub read-slave : (s : SlaveState) (d : Datagram) → d.command ≡ Fprd → adp_of d ≡ station_of s → slave_met s d ≡ physical_after s true false (window_of d)
+read-slave s d c e = (reads_meet s d (own-reads s d c e)).slave
+
+pub read-bytes : (s : SlaveState) (d : Datagram) → d.command ≡ Fprd → adp_of d ≡ station_of s → (datagram_met s d).data_bytes ≡ retold d.data_bytes (byte_read s false (window_of d))
+read-bytes s d c e = (reads_meet s d (own-reads s d c e)).bytes
+
+pub reads-on : (s : SlaveState) (d e : Datagram) → ReadsOn e d → d.command ≡ Fprd → ReadsOn e (datagram_met s d)
+reads-on s d e g c =
+    let same : adp_of d + 65536 * ado_of d ≡ d.address = omega arith in
+    let o = goes_on s d in
+    record { command = o.command ∙ g.command; address = o.address ∙ (ap (λ (x : Command). adp_after x (adp_of d) + 65536 * ado_of d) c ∙ (same ∙ g.address)) }
+
+pub gone-passes : (i : ℕ) (s : SlaveState) (d : Datagram) → i < 64 → IsDatagram d → d.command ≡ Fprd → adp_of d ≡ station i → s ≡ power_on s.kind s.identity
+    → meets s d ≡ record { slave = s; datagram = d }
+gone-passes i s d l good c e g = other_station_passes s d good (inl c) (λ q. let z = station-zero s g in let a : adp_of d ≡ station_of s = q in omega (arith, e, z, a))
+
+-- byte k of the data, of a datagram on registers
+pub read-byte : (s : SlaveState) (d : Datagram) (w : Window) (k : ℕ) → d.command ≡ Fprd → adp_of d ≡ station_of s → window_of d ≡ w → w.from + length w.bytes ≤ ram_start → k < length w.bytes
+    → slice_index (datagram_met s d).data_bytes k ≡ byte_at s (w.from + k)
+read-byte s d w k c e win l b =
+    ap (λ (xs : List ℕ). slice_index xs k) (read-bytes s d c e)
+    ∙ (ap (λ (v : Window). slice_index (retold v.bytes (byte_read s false v)) k) win
+    ∙ (reads_by_byte s false w k b).given (registers_open s.managers (touches w) (w.from + k) (omega (arith, l, b))).reads)
+
+-- ---- a poll of registers: the slave stays, and what it shows is known
+
+pub pass-poll : (kind : SlaveKind) (i : ℕ) (c : Config) (trouble : Bool) (a : Action) (number : ℕ) (d : Datagram) (s : SlaveState) (w : Window)
+    → (one : IsOne a i number) → i < 64 → one.e.command ≡ Fprd → window_of one.e ≡ w → one.ado < 65536 → w.from + length w.bytes ≤ ram_start
+    → after i (Up c) a ≡ Up (told c a) → (IsOther a i → ⊥)
+    → (((k : ℕ) → k < length w.bytes → slice_index (datagram_met s d).data_bytes k ≡ byte_at s (w.from + k)) → MayEnd a (datagram_met s d) → IsUpAt i c s → IsUpAt i (told c a) s)
+    → (IsFaulted i c s → IsFaulted i (told c a) s)
+    → IsDatagram d → Arrives a number i d → Stands kind i (Up c) trouble s
+    → Met kind i (Up c) trouble a (datagram_met s d) (slave_met s d) × Arrives a number (i + 1) (datagram_met s d)
+pass-poll kind i c trouble a number d s w one l cm win ado registers aft self up faulted good arrives h =
+    let u : Untouched i i one.e d = one.arrives i d arrives in
+    let e : d ≡ one.e = u.to_come (omega arith) in
+    let cmd : d.command ≡ Fprd = u.gone_by.command ∙ cm in
+    let adp : adp_of d ≡ station i = let x = u.gone_by.address in let y = one.address in omega (arith, x, y, at, ado) in
+    let at_w : window_of d ≡ w = ap window_of e ∙ win in
+    (by h.at cmd adp at_w, one.arrived (i + 1) (datagram_met s d) (record { to_come = λ k. absurd (omega arith); gone_by = reads-on s d one.e u.gone_by cmd }))
+  where
+    stays : d.command ≡ Fprd → adp_of d ≡ station_of s → window_of d ≡ w → slave_met s d ≡ s
+    stays cmd e q = read-slave s d cmd e ∙ (ap (λ (x : Window). physical_after s true false x) q ∙ registers_read s w registers)
+
+    by : Reached i (Up c) s ⊎ ((trouble ≡ true) × (IsGone (Up c) s ⊎ HadFault i (Up c) s)) → d.command ≡ Fprd → adp_of d ≡ station i → window_of d ≡ w → Met kind i (Up c) trouble a (datagram_met s d) (slave_met s d)
+    by (inl r) cmd adp q =
+        let st : adp_of d ≡ station_of s = adp ∙ sym r.configured.station_is in
+        let same : slave_met s d ≡ s = stays cmd st q in record {
+          other = λ o. absurd (self o);
+          repeated = λ _. subst (λ (t : SlaveState). Stands kind i (Up c) trouble t) (sym same) h;
+          ended = λ m. subst (λ (t : SlaveState). Stands kind i (after i (Up c) a) trouble t) (sym same) (subst (λ (x : Stage). Stands kind i x trouble s) (sym aft)
+              (record { slave = h.slave; at = inl (up (λ k b. read-byte s d w k cmd st q registers b) m r) }));
+        }
+    by (inr (f, inl g)) cmd adp q =
+        let same : slave_met s d ≡ s = ap (λ (x : Meeting). x.slave) (gone-passes i s d l good cmd adp g) in record {
+          other = λ o. absurd (self o);
+          repeated = λ _. subst (λ (t : SlaveState). Stands kind i (Up c) trouble t) (sym same) h;
+          ended = λ m. subst (λ (t : SlaveState). Stands kind i (after i (Up c) a) trouble t) (sym same) (subst (λ (x : Stage). Stands kind i x trouble s) (sym aft)
+              (record { slave = h.slave; at = inr (f, inl g) }));
+        }
+    by (inr (f, inr g)) cmd adp q =
+        let same : slave_met s d ≡ s = stays cmd (adp ∙ sym g.faulted.configured.station_is) q in record {
+          other = λ o. absurd (self o);
+          repeated = λ _. subst (λ (t : SlaveState). Stands kind i (Up c) trouble t) (sym same) h;
+          ended = λ m. subst (λ (t : SlaveState). Stands kind i (after i (Up c) a) trouble t) (sym same) (subst (λ (x : Stage). Stands kind i x trouble s) (sym aft)
+              (record { slave = h.slave; at = inr (f, inr (faulted g)) }));
+        }
+
+-- ---- the AL status
+
+-- a status that ends a wait
+shows-state : (st to : State) (e : Bool) → bit_at (state_number st + 16 * from_bool e) 4 ≢ 1 → (state_number st + 16 * from_bool e) % 32 ≡ state_number to → (e ≡ false) × (state_number st ≡ state_number to)
+shows-state Init to true b n = absurd (b refl)
+shows-state PreOp to true b n = absurd (b refl)
+shows-state SafeOp to true b n = absurd (b refl)
+shows-state Op to true b n = absurd (b refl)
+shows-state Init to false b n = (refl, n)
+shows-state PreOp to false b n = (refl, n)
+shows-state SafeOp to false b n = (refl, n)
+shows-state Op to false b n = (refl, n)
+
+not-yet : (from to : State) → IsStepUp from to → state_number from ≡ state_number to → ⊥
+not-yet Init PreOp h e = omega (arith, e)
+not-yet PreOp SafeOp h e = omega (arith, e)
+not-yet SafeOp Op h e = omega (arith, e)
+not-yet Init Init h e = h
+not-yet Init SafeOp h e = h
+not-yet Init Op h e = h
+not-yet PreOp Init h e = h
+not-yet PreOp PreOp h e = h
+not-yet PreOp Op h e = h
+not-yet SafeOp Init h e = h
+not-yet SafeOp PreOp h e = h
+not-yet SafeOp SafeOp h e = h
+not-yet Op to h e = h
+
+in-stays : (from to : State) (s : SlaveState) → IsStepUp from to → IsIn to s → StaysIn to s
+in-stays from PreOp s h k = k
+in-stays from SafeOp s h k = k
+in-stays from Op s h k = k
+in-stays Init Init s h k = absurd h
+in-stays PreOp Init s h k = absurd h
+in-stays SafeOp Init s h k = absurd h
+in-stays Op Init s h k = absurd h
+
+await-rises : (r : Rise) (to : State) (s : SlaveState) → IsClimbing r to → s.al.error ≡ false → state_number s.al.state ≡ state_number to → Rises r s → StaysIn to s
+await-rises (Stays from) to s can e n h = absurd can
+await-rises (Climbs from other) to s (step, same) e n (up, inl h) = absurd (not-yet from to step (ap state_number (sym h.state) ∙ n))
+await-rises (Climbs from other) to s (step, same) e n (up, inr (inl h)) = in-stays from to s step (subst (λ (x : State). IsIn x s) same h)
+await-rises (Climbs from other) to s (step, same) e n (up, inr (inr h)) = absurd (both_ways s.al.error e h.error)
+
+pub rise-configured : (i : ℕ) (c : Config) (r : Rise) (s : SlaveState) → IsConfigured i c s → IsConfigured i (record c { rise = r }) s
+rise-configured i c r s k = record { station_is = k.station_is; settings = k.settings; fmmus = k.fmmus; idle = k.idle; no_messages = k.no_messages; outputs = k.outputs }
+
+pub rise-silent : (c : Config) (r : Rise) (s : SlaveState) → IsSilent c s → IsSilent (record c { rise = r }) s
+rise-silent c r s k = record { no_message = k.no_message; no_reply = k.no_reply; assigned = record { outs = k.assigned.outs; ins = k.assigned.ins } }
+
+rise-talks : (i : ℕ) (c : Config) (r : Rise) (s : SlaveState) → c.talk ≡ None → Talks i c c.talk s → Talks i (record c { rise = r }) c.talk s
+rise-talks i c r s none h = subst (λ (o : Option Talk). Talks i (record c { rise = r }) o s) (sym none) (rise-silent c r s (subst (λ (o : Option Talk). Talks i c o s) none h))
+
+await-up : (i : ℕ) (c : Config) (to : State) (s : SlaveState) (d : Datagram) → c.talk ≡ None → IsClimbing c.rise to
+    → slice_index d.data_bytes 0 ≡ byte_at s 0x0130 → MayEnd (AwaitState i to) d → IsUpAt i c s → IsUpAt i (record c { rise = Stays to }) s
+await-up i c to s d none can e m u =
+    let b : slice_index d.data_bytes 0 ≡ state_number s.al.state + 16 * from_bool s.al.error = e ∙ (shows_itself s).status in
+    let k = shows-state s.al.state to s.al.error (subst (λ (x : ℕ). bit_at x 4 ≢ 1) b m.1) (subst (λ (x : ℕ). x % 32 ≡ state_number to) b m.2) in
+    record {
+      configured = rise-configured i c (Stays to) s u.configured;
+      unlocked = u.unlocked;
+      rises = await-rises c.rise to s can k.0 k.1 u.rises;
+      talks = rise-talks i c (Stays to) s none u.talks;
+      quiet = λ _. none;
+    }
+
+top-climbs : (r : Rise) (to : State) → IsClimbing r to → IsTop r → IsTop (Stays to)
+top-climbs (Stays from) to can top = absurd can
+top-climbs (Climbs SafeOp Op) to (step, same) top = subst (λ (x : State). IsTop (Stays x)) same tt
+top-climbs (Climbs SafeOp Init) to can top = absurd top
+top-climbs (Climbs SafeOp PreOp) to can top = absurd top
+top-climbs (Climbs SafeOp SafeOp) to can top = absurd top
+top-climbs (Climbs Init other) to can top = absurd top
+top-climbs (Climbs PreOp other) to can top = absurd top
+top-climbs (Climbs Op other) to can top = absurd top
+
+await-faulted : (i : ℕ) (c : Config) (to : State) (s : SlaveState) → IsClimbing c.rise to → IsFaulted i c s → IsFaulted i (record c { rise = Stays to }) s
+await-faulted i c to s can h = let k = h.faulted in record {
+  top = top-climbs c.rise to can h.top;
+  quiet = h.quiet;
+  faulted = record {
+    configured = rise-configured i c (Stays to) s k.configured;
+    silent = rise-silent c (Stays to) s k.silent;
+    state = k.state;
+    error = k.error;
+    no_request = k.no_request;
+    locked = k.locked;
+    unlocked = k.unlocked;
+  };
+}
+
+pub pass-await-state : (kind : SlaveKind) (i : ℕ) (c : Config) (trouble : Bool) (state : State) (number : ℕ) (d : Datagram) (s : SlaveState)
+    → i < 64 → CanTell c (AwaitState i state) → IsDatagram d → Arrives (AwaitState i state) number i d → Stands kind i (Up c) trouble s
+    → Met kind i (Up c) trouble (AwaitState i state) (datagram_met s d) (slave_met s d) × Arrives (AwaitState i state) number (i + 1) (datagram_met s d)
+pass-await-state kind i c trouble state number d s l can good arrives h =
+    pass-poll kind i c trouble (AwaitState i state) number d s (record { from = 0x0130; bytes = zeros 6 }) (one-await-state i state number) l refl
+    (window-sent Fprd (station i) 0x0130 (zeros 6) number) (omega arith) (omega arith)
+    (if_true _ _ _ (eq-eqb i i refl)) (λ o. o refl)
+    (λ shown m u. await-up i c state s (datagram_met s d) can.0 can.1 (shown 0 (omega arith)) m u)
+    (λ g. await-faulted i c state s can.1 g)
+    good arrives h
+
+-- ---- the SII
+
+busy-by : (b e : Bool) → bit_at (0 + 256 * (from_bool b + 32 * from_bool e + 128 * from_bool b)) 15 ≢ 1 → b ≡ false
+busy-by true true n = absurd (n refl)
+busy-by true false n = absurd (n refl)
+busy-by false e n = refl
+
+idle-configured : (i : ℕ) (c : Config) (s : SlaveState) → s.sii.busy ≡ false → IsConfigured i c s → IsConfigured i (record c { idle = true }) s
+idle-configured i c s e k = record { station_is = k.station_is; settings = k.settings; fmmus = k.fmmus; idle = λ _. e; no_messages = k.no_messages; outputs = k.outputs }
+
+idle-silent : (c : Config) (s : SlaveState) → IsSilent c s → IsSilent (record c { idle = true }) s
+idle-silent c s k = record { no_message = k.no_message; no_reply = k.no_reply; assigned = record { outs = k.assigned.outs; ins = k.assigned.ins } }
+
+low-top : (r : Rise) → IsLow r → IsTop r → ⊥
+low-top (Stays Init) low top = top
+low-top (Stays PreOp) low top = top
+low-top (Stays SafeOp) low top = low
+low-top (Stays Op) low top = low
+low-top (Climbs from to) low top = low
+
+word-up : (i : ℕ) (c : Config) (s : SlaveState) (which : ℕ) (d : Datagram) → c.talk ≡ None
+    → slice_index d.data_bytes 0 ≡ byte_at s 0x0502 → slice_index d.data_bytes 1 ≡ byte_at s 0x0503 → MayEnd (AwaitWord i which) d → IsUpAt i c s → IsUpAt i (record c { idle = true }) s
+word-up i c s which d none e f m u =
+    let a : slice_index d.data_bytes 0 ≡ 0 = e ∙ (shows_itself s).sii_low in
+    let b = f ∙ (shows_itself s).sii_high in
+    let n : bit_at (0 + 256 * (from_bool s.sii.busy + 32 * from_bool s.sii.error + 128 * from_bool s.sii.busy)) 15 ≢ 1
+    = subst (λ (x : ℕ). bit_at (0 + 256 * x) 15 ≢ 1) b (subst (λ (x : ℕ). bit_at (x + 256 * slice_index d.data_bytes 1) 15 ≢ 1) a m.1) in
+    record {
+      configured = idle-configured i c s (busy-by s.sii.busy s.sii.error n) u.configured;
+      unlocked = u.unlocked;
+      rises = u.rises;
+      talks = subst (λ (o : Option Talk). Talks i (record c { idle = true }) o s) (sym none) (idle-silent c s (subst (λ (o : Option Talk). Talks i c o s) none u.talks));
+      quiet = λ _. none;
+    }
+
+pub pass-await-word : (kind : SlaveKind) (i which : ℕ) (c : Config) (trouble : Bool) (number : ℕ) (d : Datagram) (s : SlaveState)
+    → i < 64 → CanTell c (AwaitWord i which) → IsDatagram d → Arrives (AwaitWord i which) number i d → Stands kind i (Up c) trouble s
+    → Met kind i (Up c) trouble (AwaitWord i which) (datagram_met s d) (slave_met s d) × Arrives (AwaitWord i which) number (i + 1) (datagram_met s d)
+pass-await-word kind i which c trouble number d s l can good arrives h =
+    pass-poll kind i c trouble (AwaitWord i which) number d s (record { from = 0x0502; bytes = zeros 10 }) (one-await-word i which number) l refl
+    (window-sent Fprd (station i) 0x0502 (zeros 10) number) (omega arith) (omega arith)
+    (if_true _ _ _ (eq-eqb i i refl)) (λ o. o refl)
+    (λ shown m u. word-up i c s which (datagram_met s d) can.1 (shown 0 (omega arith)) (shown 1 (omega arith)) m u)
+    (λ g. absurd (low-top c.rise can.0 g.top))
+    good arrives h

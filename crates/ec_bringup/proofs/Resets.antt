@@ -1,0 +1,78 @@
+-- A slave that is reset stands where it stood, if it has no station address yet, and else is gone.
+use Rattle.std.proofs.Common.{ℕ, zero, suc, ◌+◌, ◌≡◌, ◌⊎◌, Bool, true, refl, sym, ◌∙◌, ap, subst, inl, inr, List, [], ◌∷◌, length, get_or}
+use Rattle.std.proofs.lemmas.Bool.{both_ways}
+use Rattle.std.proofs.lemmas.List.{length-map}
+use Rattle.ec_bits.specs.Bits.{zeros}
+use Rattle.ec_device.specs.declared.slave_type.Identity.{Identity}
+use Rattle.ec_device.specs.declared.slave_type.Pdo.{Pdo}
+use Rattle.ec_device.specs.Types.{SlaveKind}
+use Rattle.ec_sync.specs.SyncManager.{SyncManager, no_manager}
+use Rattle.ec_coe.specs.Objects.{Assignment, all_assigned}
+use Rattle.ec_al.specs.Al.{Al}
+use Rattle.ec_slave.specs.State.{manager_at, power_on}
+use Rattle.ec_slave.proofs.SwitchedOn.{switched_on}
+use Rattle.ec_bringup.specs.Stages.{Stage, Before, Called, Down, Up}
+use Rattle.ec_bringup.specs.Standing.{IsOfKind, HoldsZeros, IsInInit, IsDownAt, Reached, IsGone, HadFault, Stands}
+
+pub get_or-zeros : (n k : ℕ) → get_or (zeros n) k 0 ≡ 0
+get_or-zeros zero k = refl
+get_or-zeros (suc n) zero = refl
+get_or-zeros (suc n) (suc k) = get_or-zeros n k
+
+empty_at : (n : ℕ) → manager_at (no_manager ∷ no_manager ∷ no_manager ∷ no_manager ∷ []) n ≡ no_manager
+empty_at zero = refl
+empty_at (suc zero) = refl
+empty_at (suc (suc zero)) = refl
+empty_at (suc (suc (suc zero))) = refl
+empty_at (suc (suc (suc (suc n)))) = refl
+
+pub power_on_is : (kind : SlaveKind) (identity : Identity) → IsOfKind kind (power_on kind identity)
+power_on_is kind identity =
+    let on = switched_on kind identity in record {
+      kind_is = on.kind_is;
+      room = on.room;
+      four = ap length on.managers;
+      outs = ap (λ (a : Assignment). length a.slots) on.outs ∙ length-map kind.outputs (λ (p : Pdo). p.index);
+      ins = ap (λ (a : Assignment). length a.slots) on.ins ∙ length-map kind.inputs (λ (p : Pdo). p.index);
+      fixed = λ _. record {
+        outs = on.outs ∙ ap (λ (k : SlaveKind). all_assigned k.outputs) (sym on.kind_is);
+        ins = on.ins ∙ ap (λ (k : SlaveKind). all_assigned k.inputs) (sym on.kind_is);
+      };
+      unlocked_in_init = λ _ n l. ap (λ (ms : List SyncManager). (manager_at ms n).locked) on.managers ∙ ap (λ (m : SyncManager). m.locked) (empty_at n);
+    }
+
+power_on_init : (kind : SlaveKind) (identity : Identity) → IsInInit (power_on kind identity)
+power_on_init kind identity =
+    let on = switched_on kind identity in record {
+      state = ap (λ (a : Al). a.state) on.al;
+      no_error = ap (λ (a : Al). a.error) on.al;
+      asked = λ e. absurd (both_ways (power_on kind identity).al.requested (ap (λ (a : Al). a.requested) on.al) e);
+    }
+
+power_on_down : (kind : SlaveKind) (identity : Identity) (f m : Bool) → IsDownAt f m (power_on kind identity)
+power_on_down kind identity f m =
+    let on = switched_on kind identity in record {
+      init = power_on_init kind identity;
+      fmmus = λ _ k l. on.memory (0x0600 + k);
+      managers = λ _. record {
+        settings = λ n l. ap (λ (ms : List SyncManager). (manager_at ms n).settings) on.managers ∙ ap (λ (x : SyncManager). x.settings) (empty_at n);
+        no_messages = λ n l. ap (λ (ms : List SyncManager). (manager_at ms n).mail) on.managers ∙ ap (λ (x : SyncManager). x.mail) (empty_at n);
+        outputs = subst (λ (ms : List SyncManager). HoldsZeros (manager_at ms 2)) (sym on.managers) refl;
+      };
+    }
+
+power_on_same : (kind : SlaveKind) (identity : Identity) → power_on kind identity ≡ power_on (power_on kind identity).kind (power_on kind identity).identity
+power_on_same kind identity =
+    let on = switched_on kind identity in
+    sym (ap (λ (k : SlaveKind). power_on k (power_on kind identity).identity) on.kind_is ∙ ap (λ (i : Identity). power_on kind i) on.identity_is)
+
+pub reset_reached : (kind : SlaveKind) (identity : Identity) (i : ℕ) (st : Stage)
+    → Reached i st (power_on kind identity) ⊎ ((true ≡ true) × (IsGone st (power_on kind identity) ⊎ HadFault i st (power_on kind identity)))
+reset_reached kind identity i Before = inl tt
+reset_reached kind identity i Called = inl (inr (power_on_init kind identity))
+reset_reached kind identity i (Down f m) = inl (power_on_down kind identity f m)
+reset_reached kind identity i (Up c) = inr (refl, inl (power_on_same kind identity))
+
+-- whatever it was
+pub reset_stands : (kind : SlaveKind) (identity : Identity) (i : ℕ) (st : Stage) → Stands kind i st true (power_on kind identity)
+reset_stands kind identity i st = record { slave = power_on_is kind identity; at = reset_reached kind identity i st }

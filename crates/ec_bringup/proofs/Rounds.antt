@@ -1,0 +1,48 @@
+-- A start-up's frame of two datagrams past all slaves: the first is a NOP, and the frame that comes back is taken.
+use Rattle.std.proofs.Common.{ℕ, ◌≡◌, refl, sym, ◌∙◌, ap, subst, List, [], ◌∷◌, length}
+use Rattle.ec_frame.specs.declared.command.Command.{Command}
+use Rattle.ec_frame.specs.Datagram.{Datagram, IsDatagram}
+use Rattle.ec_slave.specs.State.{SlaveState, Met}
+use Rattle.ec_slave.proofs.Meetings.{datagrams_stay as meets-keeps, logical_meet}
+use Rattle.ec_slave.specs.Meeting.{Passed, slave_met, datagram_met, passes}
+use Rattle.ec_slave.proofs.Bystanders.{heading_stays}
+use Rattle.ec_start.specs.Actions.{datagram_of, numbered}
+use Rattle.ec_start.specs.Running.{action_of, Shape, shape, IsStartAnswer}
+use Rattle.ec_bringup.specs.Undisturbed.{all_passed, all_met, RoundLaw}
+use Rattle.ec_ring.specs.Rings.{passes_ring}
+
+pub two-pass : (s : SlaveState) (number : ℕ) (d : Datagram) → passes s (numbered number 0 ∷ d ∷ []) ≡ record { slave = slave_met s d; datagrams = numbered number 0 ∷ datagram_met s d ∷ [] }
+two-pass s number d = ap (λ (m : Met). record { slave = (passes m.slave (d ∷ [])).slave; datagrams = m.datagram ∷ (passes m.slave (d ∷ [])).datagrams }) ((logical_meet s (numbered number 0)).nop refl)
+
+frame-all : (ss : List SlaveState) (number : ℕ) (d : Datagram) → (passes_ring ss (numbered number 0 ∷ d ∷ [])).datagrams ≡ numbered number 0 ∷ all_passed ss d ∷ []
+frame-all [] number d = refl
+frame-all (s ∷ ss) number d = ap (λ (p : Passed). (passes_ring ss p.datagrams).datagrams) (two-pass s number d) ∙ frame-all ss number (datagram_met s d)
+
+slaves-all : (ss : List SlaveState) (number : ℕ) (d : Datagram) → (passes_ring ss (numbered number 0 ∷ d ∷ [])).slaves ≡ all_met ss d
+slaves-all [] number d = refl
+slaves-all (s ∷ ss) number d = ap (λ (p : Passed). p.slave ∷ (passes_ring ss p.datagrams).slaves) (two-pass s number d) ∙ ap (λ (xs : List SlaveState). slave_met s d ∷ xs) (slaves-all ss number (datagram_met s d))
+
+shape-by : (c1 c2 : Command) (i j n m : ℕ) → c1 ≡ c2 → i ≡ j → n ≡ m → (let x : Shape = record { command = c1; index = i; bytes = n } in let y : Shape = record { command = c2; index = j; bytes = m } in x ≡ y)
+shape-by c1 c2 i j n m a b c =
+    ap (λ (x : Command). record { command = x; index = i; bytes = n }) a
+    ∙ (ap (λ (x : ℕ). record { command = c2; index = x; bytes = n }) b ∙ ap (λ (x : ℕ). record { command = c2; index = j; bytes = x }) c)
+
+shape-stays : (ss : List SlaveState) (d : Datagram) → IsDatagram d → shape (all_passed ss d) ≡ shape d
+shape-stays [] d good = refl
+shape-stays (s ∷ ss) d good =
+    let h = heading_stays s d good in
+    shape-stays ss (datagram_met s d) (meets-keeps s d good).0
+    ∙ shape-by (datagram_met s d).command d.command (datagram_met s d).index d.index (length (datagram_met s d).data_bytes) (length d.data_bytes) h.command h.index h.data_length
+
+pub round : RoundLaw
+round s number ss good =
+    let d : Datagram = datagram_of (action_of s) number in
+    let e = frame-all ss number (datagram_of (action_of s) number) in
+    record {
+      datagrams = e;
+      slaves = slaves-all ss number (datagram_of (action_of s) number);
+      answer = subst (λ (ds : List Datagram). IsStartAnswer s number ds) (sym e) (record {
+        shapes = ap (λ (x : Shape). shape (numbered number 0) ∷ x ∷ []) (shape-stays ss (datagram_of (action_of s) number) good);
+        number_is = refl;
+      });
+    }

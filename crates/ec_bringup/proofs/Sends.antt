@@ -1,0 +1,254 @@
+-- A request is put into a slave's mailbox.
+use Rattle.std.proofs.Common.{ℕ, zero, suc, ◌+◌, ◌-◌, ◌*◌, ◌/◌, ◌%◌, ◌<◌, ◌≤◌, ◌≡◌, ◌==◌, ◌&&◌, ◌||◌, not, Bool, true, false, Option, Some, None, refl, sym, ◌∙◌, ap, subst, inl, inr, arith, List, [], ◌∷◌, length, slice_index, is_none, nat_lt, nat_le, length-append}
+use Rattle.std.proofs.lemmas.Bool.{eq-eqb, cases_Bool, and_parts, and_from, and_left, and_right, eqb-true, leb-true}
+use Rattle.std.proofs.lemmas.List.{length-replicate}
+use Rattle.ec_bits.specs.Bits.{zeros, any_below}
+use Rattle.ec_bits.proofs.AnyLaws.{if_true, if_false, within_true, within_below, any_below_from}
+use Rattle.ec_regs.specs.declared.manager.SyncManagerSettings.{SyncManagerSettings}
+use Rattle.ec_device.specs.declared.slave_type.Mailbox.{Mailbox}
+use Rattle.ec_device.specs.Types.{SlaveKind}
+use Rattle.ec_regs.specs.Memory.{ram_start, ram_end}
+use Rattle.ec_regs.specs.Managers.{no_settings, is_set, is_mailbox, is_buffered, is_master_written, is_master_read, span}
+use Rattle.ec_sync.specs.SyncManager.{SyncManager, may_write, is_enabled, ring_written}
+use Rattle.ec_sync.specs.Governing.{covers}
+use Rattle.ec_frame.specs.declared.command.Command.TheVariants.{Fpwr}
+use Rattle.ec_frame.specs.Datagram.{Datagram, IsDatagram}
+use Rattle.ec_al.specs.Al.{Al}
+use Rattle.ec_slave.specs.State.{SlaveState, manager_at}
+use Rattle.ec_coe.specs.Objects.{Assignment, all_assigned}
+use Rattle.ec_slave.specs.Managers.{is_ungoverned, is_written_by}
+use Rattle.ec_slave.specs.Physical.{Window, touches, is_configured, physical_value, physical_manager, physical_managers, physical_after}
+use Rattle.ec_slave.specs.Meeting.{slave_met, datagram_met}
+use Rattle.ec_slave.proofs.Bytes.{writes_by_byte}
+use Rattle.ec_coe.proofs.ReadBack.{length-message}
+use Rattle.ec_start.specs.Plans.{settings_at}
+use Rattle.ec_start.specs.declared.action.Action.TheVariants.{SendRequest}
+use Rattle.ec_start.specs.declared.action.SdoRequest.{SdoRequest}
+use Rattle.ec_start.specs.Actions.{station, filled, request_bytes, request_message}
+use Rattle.ec_bringup.specs.Stages.{Config, Up, Talk, CanTell}
+use Rattle.ec_start.specs.Planned.{AreMailboxes, IsRequest}
+use Rattle.ec_bringup.specs.Standing.{HoldsZeros, IsOfKind, IsSilent, Talks, IsUpAt, IsTop, Stands}
+use Rattle.ec_bringup.specs.Frames.{Arrives, Met}
+use Rattle.ec_bringup.proofs.Alike.{claims-alike, rises-alike}
+use Rattle.ec_bringup.proofs.Passing.{one-send}
+use Rattle.ec_slave.proofs.RegisterAccess.{accesses_leave, managers_accessed, whole_values, managers_aside as unconfigured}
+use Rattle.ec_bringup.proofs.Owns.{window-sent, pass-own}
+use Rattle.ec_bringup.proofs.Sets.{aside-busy, low-top}
+
+-- ---- one manager
+
+written-not-read : (m : SyncManagerSettings) → is_master_read m ≡ true → is_master_written m ≡ false
+written-not-read m h = elim (cases_Bool (is_master_written m)) [
+  | inr e ↦ e
+  | inl e ↦ absurd (let a = eqb-true (m.control / 4 % 4) 0 h in let b = eqb-true (m.control / 4 % 4) 1 e in omega (arith, a, b))
+]
+
+pub unset-write : (m : SyncManager) → is_set m.settings ≡ false → may_write m ≡ false
+unset-write m e = and_left _ _ (and_left _ _ e)
+
+pub none-set : (m : SyncManagerSettings) → m ≡ no_settings → is_set m ≡ false
+unfolding is_set
+none-set m e = ap is_set e
+
+-- a manager that may not be written stays
+pub met-stays : (lower : List SyncManager) (w : Window) (n : ℕ) (m : SyncManager) → is_configured w n ≡ false → may_write m ≡ false → physical_manager lower false true w n m ≡ m
+met-stays lower w n m u e = (managers_accessed lower w n m).written u ∙ if_false _ _ _ (and_left (may_write m) _ e)
+
+met-written : (lower : List SyncManager) (w : Window) (n : ℕ) (m : SyncManager) → is_configured w n ≡ false → is_written_by (touches w) (is_ungoverned lower) m ≡ true → physical_manager lower false true w n m ≡ ring_written m (physical_value lower w m.settings.start m.settings.length)
+met-written lower w n m u e = (managers_accessed lower w n m).written u ∙ if_true _ _ _ e
+
+-- ---- four managers
+
+pub four-of : (ms : List SyncManager) → length ms ≡ 4 → ms ≡ manager_at ms 0 ∷ manager_at ms 1 ∷ manager_at ms 2 ∷ manager_at ms 3 ∷ []
+four-of [] e = absurd (omega (arith, e))
+four-of (a ∷ []) e = absurd (omega (arith, e))
+four-of (a ∷ b ∷ []) e = absurd (omega (arith, e))
+four-of (a ∷ b ∷ c ∷ []) e = absurd (omega (arith, e))
+four-of (a ∷ b ∷ c ∷ d ∷ []) e = refl
+four-of (a ∷ b ∷ c ∷ d ∷ x ∷ xs) e = absurd (omega (arith, e))
+
+abbrev pub sending : Mailbox → ℕ → SdoRequest → Window
+sending b counter r = record { from = b.receive_start; bytes = filled b.receive_size (request_bytes counter r) }
+
+pub request-length : (counter : ℕ) (r : SdoRequest) → length (request_bytes counter r) ≡ 16
+request-length counter r = length-message (request_message counter r)
+
+pub sending-length : (b : Mailbox) (counter : ℕ) (r : SdoRequest) → 16 ≤ b.receive_size → length (sending b counter r).bytes ≡ b.receive_size
+sending-length b counter r l =
+    let a = request-length counter r in
+    let e = length-append (request_bytes counter r) (zeros (b.receive_size - length (request_bytes counter r))) in
+    let f = length-replicate {A = ℕ} (b.receive_size - length (request_bytes counter r)) 0 in
+    omega (arith, a, e, f, l)
+
+-- a set manager lies in the RAM
+pub set-lies : (m : SyncManagerSettings) → is_set m ≡ true → (ram_start ≤ m.start) × (m.start + span m ≤ ram_end)
+unfolding is_set
+set-lies m h =
+    let a = (and_parts (m.activate % 2 == 1) _ h).1 in
+    let b = (and_parts (is_mailbox m || is_buffered m) _ a).1 in
+    let c = (and_parts (is_master_written m || is_master_read m) _ b).1 in
+    let d = (and_parts (nat_lt 0 m.length) _ c).1 in
+    let e = and_parts (nat_le ram_start m.start) _ d in
+    (leb-true ram_start m.start e.0, leb-true (m.start + span m) ram_end e.1)
+
+-- the four managers after the request was written
+pub sent-managers : (i counter : ℕ) (c : Config) (b : Mailbox) (r : SdoRequest) (s : SlaveState) → length s.managers ≡ 4 → AreMailboxes b c.managers → IsUpAt i c s → (manager_at s.managers 0).mail ≡ None
+    → physical_managers [] false true (sending b counter r) 0 s.managers
+    ≡ record (manager_at s.managers 0) { mail = Some (sending b counter r).bytes } ∷ manager_at s.managers 1 ∷ manager_at s.managers 2 ∷ manager_at s.managers 3 ∷ []
+sent-managers i counter c b r s four h u none =
+    let w : Window = sending b counter r in
+    let m0 = manager_at s.managers 0 in let m1 = manager_at s.managers 1 in let m2 = manager_at s.managers 2 in let m3 = manager_at s.managers 3 in
+    let e0 = u.configured.settings 0 (omega arith) in let e1 = u.configured.settings 1 (omega arith) in
+    let e2 = u.configured.settings 2 (omega arith) in let e3 = u.configured.settings 3 (omega arith) in
+    let start : m0.settings.start ≡ b.receive_start = ap (λ (x : SyncManagerSettings). x.start) e0 ∙ h.receive_start in
+    let len : m0.settings.length ≡ b.receive_size = ap (λ (x : SyncManagerSettings). x.length) e0 ∙ h.receive_length in
+    let long : length (sending b counter r).bytes ≡ b.receive_size = sending-length b counter r h.receive_some in
+    let ram = (set-lies (settings_at c.managers 0) h.receive_set).0 in
+    let rs = h.receive_start in
+    let some = h.receive_some in
+    let free : (n : ℕ) → n < 4 → is_configured (sending b counter r) n ≡ false = λ n l. unconfigured (sending b counter r) n (inr (omega (arith, ram, rs, l))) in
+    let cov : covers (touches (sending b counter r)) m0 ≡ true = and_from _ _ (within_true b.receive_start (length (sending b counter r).bytes) m0.settings.start (omega (arith, start)) (omega (arith, start, long, some)))
+    (within_true b.receive_start (length (sending b counter r).bytes) (m0.settings.start + m0.settings.length - 1) (omega (arith, start, len, some)) (omega (arith, start, len, long, some))) in
+    let box : is_mailbox m0.settings ≡ true = ap is_mailbox e0 ∙ h.receive_mailbox in
+    let may : may_write m0 ≡ true = and_from _ _ (and_from _ _ (ap is_set e0 ∙ h.receive_set) (ap not (u.unlocked 0 (omega arith)))) (and_from _ _ (ap is_master_written e0 ∙ h.receive_written) (if_true _ _ _ box ∙ ap is_none none)) in
+    let touched : touches (sending b counter r) (m0.settings.start + 0) ≡ true = within_true b.receive_start (length (sending b counter r).bytes) (m0.settings.start + 0) (omega (arith, start)) (omega (arith, start, long, some)) in
+    let own : any_below m0.settings.length (λ k. touches (sending b counter r) (m0.settings.start + k) && is_ungoverned [] (m0.settings.start + k)) ≡ true
+    = any_below_from m0.settings.length (λ k. touches (sending b counter r) (m0.settings.start + k) && is_ungoverned [] (m0.settings.start + k)) 0 (omega (arith, len, some)) (and_from _ _ touched refl) in
+    let value : physical_value [] (sending b counter r) m0.settings.start m0.settings.length ≡ (sending b counter r).bytes
+    = ap (λ (x : ℕ). physical_value [] (sending b counter r) x m0.settings.length) start ∙ (ap (λ (x : ℕ). physical_value [] (sending b counter r) b.receive_start x) (len ∙ sym long) ∙ whole_values (sending b counter r)) in
+    let first : physical_manager [] false true (sending b counter r) 0 m0 ≡ record m0 { mail = Some (sending b counter r).bytes }
+    = met-written [] (sending b counter r) 0 m0 (free 0 (omega arith)) (and_from _ _ may (and_from _ _ cov own)) ∙ (ap (ring_written m0) value ∙ if_true _ _ _ box) in
+    let no1 : may_write m1 ≡ false = and_right (is_enabled m1) _ (and_left _ _ (written-not-read m1.settings (ap is_master_read e1 ∙ h.send_read))) in
+    let no2 : may_write m2 ≡ false = unset-write m2 (none-set m2.settings (e2 ∙ h.no_outputs)) in
+    let no3 : may_write m3 ≡ false = unset-write m3 (none-set m3.settings (e3 ∙ h.no_inputs)) in
+    ap (λ (ms : List SyncManager). physical_managers [] false true (sending b counter r) 0 ms) (four-of s.managers four)
+    ∙ list4 _ _ _ _ _ _ _ _ first (met-stays (m0 ∷ []) (sending b counter r) 1 m1 (free 1 (omega arith)) no1)
+    (met-stays (m0 ∷ m1 ∷ []) (sending b counter r) 2 m2 (free 2 (omega arith)) no2)
+    (met-stays (m0 ∷ m1 ∷ m2 ∷ []) (sending b counter r) 3 m3 (free 3 (omega arith)) no3)
+  where
+    list4 : (a b c d x y z v : SyncManager) → a ≡ x → b ≡ y → c ≡ z → d ≡ v → a ∷ b ∷ c ∷ d ∷ [] ≡ x ∷ y ∷ z ∷ v ∷ []
+    list4 a b c d x y z v p q r s =
+        ap (λ (k : SyncManager). k ∷ b ∷ c ∷ d ∷ []) p ∙ (ap (λ (k : SyncManager). x ∷ k ∷ c ∷ d ∷ []) q ∙ (ap (λ (k : SyncManager). x ∷ y ∷ k ∷ d ∷ []) r ∙ ap (λ (k : SyncManager). x ∷ y ∷ z ∷ k ∷ []) s))
+
+-- ---- the slave
+
+pub record Delivered (b : Mailbox) (counter : ℕ) (r : SdoRequest) (s t : SlaveState) : Type 0 where
+  pub kind : t.kind ≡ s.kind
+  pub room : length t.memory ≡ length s.memory
+  pub memory : (a : ℕ) → a < ram_start → a < length s.memory → slice_index t.memory a ≡ slice_index s.memory a
+  pub count : length t.managers ≡ 4
+  pub mailbox_message : (manager_at t.managers 0).mail ≡ Some (sending b counter r).bytes
+  pub settings : (n : ℕ) → n < 4 → (manager_at t.managers n).settings ≡ (manager_at s.managers n).settings
+  pub locked : (n : ℕ) → n < 4 → (manager_at t.managers n).locked ≡ (manager_at s.managers n).locked
+  pub mail : (n : ℕ) → 1 ≤ n → n < 4 → (manager_at t.managers n).mail ≡ (manager_at s.managers n).mail
+  pub outputs : manager_at t.managers 2 ≡ manager_at s.managers 2
+  pub al : t.al ≡ s.al
+  pub busy : t.sii.busy ≡ s.sii.busy
+  pub outs : t.outs ≡ s.outs
+  pub ins : t.ins ≡ s.ins
+
+abbrev with_message : List SyncManager → List ℕ → List SyncManager
+with_message ms x = record (manager_at ms 0) { mail = Some x } ∷ manager_at ms 1 ∷ manager_at ms 2 ∷ manager_at ms 3 ∷ []
+
+mailbox_message-settings : (ms : List SyncManager) (x : List ℕ) (n : ℕ) → n < 4 → (manager_at (with_message ms x) n).settings ≡ (manager_at ms n).settings
+mailbox_message-settings ms x zero l = refl
+mailbox_message-settings ms x (suc zero) l = refl
+mailbox_message-settings ms x (suc (suc zero)) l = refl
+mailbox_message-settings ms x (suc (suc (suc zero))) l = refl
+mailbox_message-settings ms x (suc (suc (suc (suc n)))) l = absurd (omega (arith, l))
+
+mailbox_message-locked : (ms : List SyncManager) (x : List ℕ) (n : ℕ) → n < 4 → (manager_at (with_message ms x) n).locked ≡ (manager_at ms n).locked
+mailbox_message-locked ms x zero l = refl
+mailbox_message-locked ms x (suc zero) l = refl
+mailbox_message-locked ms x (suc (suc zero)) l = refl
+mailbox_message-locked ms x (suc (suc (suc zero))) l = refl
+mailbox_message-locked ms x (suc (suc (suc (suc n)))) l = absurd (omega (arith, l))
+
+mailbox_message-mail : (ms : List SyncManager) (x : List ℕ) (n : ℕ) → 1 ≤ n → n < 4 → (manager_at (with_message ms x) n).mail ≡ (manager_at ms n).mail
+mailbox_message-mail ms x zero a l = absurd (omega (arith, a))
+mailbox_message-mail ms x (suc zero) a l = refl
+mailbox_message-mail ms x (suc (suc zero)) a l = refl
+mailbox_message-mail ms x (suc (suc (suc zero))) a l = refl
+mailbox_message-mail ms x (suc (suc (suc (suc n)))) a l = absurd (omega (arith, l))
+
+pub delivered : (i counter : ℕ) (c : Config) (b : Mailbox) (r : SdoRequest) (s : SlaveState) → length s.managers ≡ 4 → AreMailboxes b c.managers → IsUpAt i c s → (manager_at s.managers 0).mail ≡ None
+    → Delivered b counter r s (physical_after s false true (sending b counter r))
+delivered i counter c b r s four h u none =
+    let w : Window = sending b counter r in
+    let x : List ℕ = (sending b counter r).bytes in
+    let e = sent-managers i counter c b r s four h u none in
+    let ram = (set-lies (settings_at c.managers 0) h.receive_set).0 in
+    let rs = h.receive_start in
+    subst (Delivered b counter r s) (sym (accesses_leave s (sending b counter r)).written) (record {
+      kind = refl;
+      room = (writes_by_byte s.managers (sending b counter r) s.memory).0;
+      memory = λ a l k. ((writes_by_byte s.managers (sending b counter r) s.memory).1 a k).untouched (within_below b.receive_start (length (sending b counter r).bytes) a (omega (arith, ram, rs, l)));
+      count = ap length e;
+      mailbox_message = ap (λ (ms : List SyncManager). (manager_at ms 0).mail) e;
+      settings = λ n l. ap (λ (ms : List SyncManager). (manager_at ms n).settings) e ∙ mailbox_message-settings s.managers x n l;
+      locked = λ n l. ap (λ (ms : List SyncManager). (manager_at ms n).locked) e ∙ mailbox_message-locked s.managers x n l;
+      mail = λ n a l. ap (λ (ms : List SyncManager). (manager_at ms n).mail) e ∙ mailbox_message-mail s.managers x n a l;
+      outputs = ap (λ (ms : List SyncManager). manager_at ms 2) e;
+      al = if_false _ _ _ (within_below b.receive_start (length (sending b counter r).bytes) 0x0120 (omega (arith, ram, rs)));
+      busy = aside-busy (sending b counter r) s.sii (omega (arith, ram, rs));
+      outs = refl;
+      ins = refl;
+    })
+
+delivered-slave : (kind : SlaveKind) (b : Mailbox) (counter : ℕ) (r : SdoRequest) (s t : SlaveState) → Delivered b counter r s t → IsOfKind kind s → IsOfKind kind t
+delivered-slave kind b counter r s t a h = record {
+  kind_is = a.kind ∙ h.kind_is;
+  room = a.room ∙ h.room;
+  four = a.count;
+  outs = ap (λ (x : Assignment). length x.slots) a.outs ∙ h.outs;
+  ins = ap (λ (x : Assignment). length x.slots) a.ins ∙ h.ins;
+  fixed = λ e. let f = h.fixed e in record {
+    outs = a.outs ∙ (f.outs ∙ ap (λ (k : SlaveKind). all_assigned k.outputs) (sym a.kind));
+    ins = a.ins ∙ (f.ins ∙ ap (λ (k : SlaveKind). all_assigned k.inputs) (sym a.kind));
+  };
+  unlocked_in_init = λ e n l. a.locked n l ∙ h.unlocked_in_init (ap (λ (x : Al). x.state) (sym a.al) ∙ e) n l;
+}
+
+delivered-up : (i counter : ℕ) (c : Config) (b : Mailbox) (r : SdoRequest) (s t : SlaveState) → length s.memory ≡ 0x3000 → c.talk ≡ None → AreMailboxes b c.managers → IsRequest r → (IsTop c.rise → ⊥)
+    → Delivered b counter r s t → IsUpAt i c s → IsUpAt i (record c { talk = Some (record { mailbox = b; counter = counter; request = r }) }) t
+delivered-up i counter c b r s t room none boxes q low h u =
+    let silent : IsSilent c s = subst (λ (o : Option Talk). Talks i c o s) none u.talks in
+    let byte = λ (a : ℕ) (l : a < 0x0800). h.memory a (omega (arith, l)) (omega (arith, room, l)) in
+    record {
+      configured = record {
+        station_is = ap (λ (x : ℕ). x + 256 * slice_index t.memory 0x0011) (byte 0x0010 (omega arith)) ∙ (ap (λ (x : ℕ). slice_index s.memory 0x0010 + 256 * x) (byte 0x0011 (omega arith)) ∙ u.configured.station_is);
+        settings = λ n l. h.settings n l ∙ u.configured.settings n l;
+        fmmus = λ n k l m. byte (0x0600 + 16 * n + k) (omega (arith, l, m)) ∙ u.configured.fmmus n k l m;
+        idle = λ e. h.busy ∙ u.configured.idle e;
+        no_messages = λ n a l. h.mail n (omega (arith, a)) l ∙ u.configured.no_messages n a l;
+        outputs = subst HoldsZeros (sym h.outputs) u.configured.outputs;
+      };
+      unlocked = λ n l. h.locked n l ∙ u.unlocked n l;
+      rises = rises-alike c.rise s t (ap (λ (x : ℕ). x + 256 * slice_index t.memory 0x0121) (byte 0x0120 (omega arith)) ∙ ap (λ (x : ℕ). slice_index s.memory 0x0120 + 256 * x) (byte 0x0121 (omega arith))) h.al u.rises;
+      talks = inl (record {
+        mailboxes = boxes;
+        request = q;
+        mailbox_message = h.mailbox_message;
+        no_reply = h.mail 1 (omega arith) (omega arith) ∙ silent.no_reply;
+        assigned = record {
+          outs = claims-alike c.outs s.outs t.outs h.outs silent.assigned.outs;
+          ins = claims-alike c.ins s.ins t.ins h.ins silent.assigned.ins;
+        };
+      });
+      quiet = λ top. absurd (low top);
+    }
+
+pub pass-send : (kind : SlaveKind) (i counter : ℕ) (b : Mailbox) (r : SdoRequest) (c : Config) (trouble : Bool) (number : ℕ) (d : Datagram) (s : SlaveState)
+    → i < 64 → CanTell c (SendRequest i counter b r) → IsDatagram d → Arrives (SendRequest i counter b r) number i d → Stands kind i (Up c) trouble s
+    → Met kind i (Up c) trouble (SendRequest i counter b r) (datagram_met s d) (slave_met s d) × Arrives (SendRequest i counter b r) number (i + 1) (datagram_met s d)
+pass-send kind i counter b r c trouble number d s l can good arrives h =
+    let low = can.0 in let none = can.1 in let boxes = can.2 in let q = can.3 in
+    let lies = set-lies (settings_at c.managers 0) boxes.receive_set in
+    let rs = boxes.receive_start in
+    let silent = λ (u : IsUpAt i c s). subst (λ (o : Option Talk). Talks i c o s) none u.talks in
+    pass-own kind i c trouble (SendRequest i counter b r) number d s (sending b counter r) (one-send i counter b r number) l refl
+    (window-sent Fpwr (station i) b.receive_start (filled b.receive_size (request_bytes counter r)) number) (let a = lies.1 in omega (arith, a, rs))
+    (if_true _ _ _ (eq-eqb i i refl)) (λ o. o) (λ o. o refl) (low-top c.rise low)
+    (λ k u. delivered-slave kind b counter r s (physical_after s false true (sending b counter r)) (delivered i counter c b r s k.four boxes u (silent u).no_message) k)
+    (λ k u. delivered-up i counter c b r s (physical_after s false true (sending b counter r)) k.room none boxes q (low-top c.rise low) (delivered i counter c b r s k.four boxes u (silent u).no_message) u)
+    good arrives h

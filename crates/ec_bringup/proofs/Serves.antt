@@ -1,0 +1,356 @@
+-- A firmware step of a slave that stands at a stage: the AL request, and the SII read.
+use Rattle.std.proofs.Common.{ℕ, zero, suc, ◌<◌, ◌≡◌, ◌⊎◌, ◌&&◌, not, Bool, true, false, refl, sym, ◌∙◌, ap, subst, inl, inr, arith, List, [], ◌∷◌, length, map, set, if◌then◌else◌, length-set, get_or-set_same, get_or-set_other, slice_index, Result, Ok, Err}
+use Rattle.std.proofs.lemmas.Bool.{both_ways, cases_Bool, and_left, and_right, cases_eq}
+use Rattle.std.proofs.lemmas.List.{length-map}
+use Rattle.ec_bits.proofs.AnyLaws.{if_false}
+use Rattle.ec_device.specs.Types.{SlaveKind}
+use Rattle.ec_sync.specs.SyncManager.{SyncManager, no_manager, zeros_published}
+use Rattle.ec_al.specs.declared.state.State.{State}
+use Rattle.ec_al.specs.declared.state.State.TheVariants.{Init, PreOp, SafeOp, Op}
+use Rattle.ec_al.specs.declared.status_code.StatusCode.{StatusCode}
+use Rattle.ec_al.specs.declared.status_code.StatusCode.TheVariants.{InvalidMailboxConfiguration, InvalidOutputConfiguration, InvalidInputConfiguration}
+use Rattle.ec_al.specs.declared.transition.Checks.{Checks}
+use Rattle.ec_al.specs.States.{state_number, code_number}
+use Rattle.ec_al.specs.Transitions.{answer, requested_by, acknowledges}
+use Rattle.ec_al.specs.Al.{Al, decided, answered}
+use Rattle.ec_al.specs.Al as al
+use Rattle.ec_slave.specs.State.{SlaveState, manager_at}
+use Rattle.ec_slave.specs.Checking.{control_word, checks_of}
+use Rattle.ec_slave.specs.Serving.{unlocked_empty, managers_entered, with_al, request_decided, read_finished}
+use Rattle.ec_sii.specs.Port.{Sii}
+use Rattle.ec_slave.proofs.FirmwareSteps.{decided as requests_decided, finished}
+use Rattle.ec_slave.proofs.SwitchedOn.{switched_on}
+use Rattle.ec_bringup.specs.Stages.{Rise, Stays, Climbs, Config, Stage, Before, Called, Down, Up, IsStepUp}
+use Rattle.ec_bringup.specs.Standing.{unviewed, IsOfKind, IsInInit, Rises, IsUpAt, IsDownAt, Reached, IsGone, HadFault, Stands}
+use Rattle.ec_bringup.proofs.Alike.{SameFront, front-refl, SameFronts, fronts-refl, Alike, slave-alike, stands-alike, down-rest, up-rest}
+
+-- ---- the managers, where a state is entered
+
+map-at : (ms : List SyncManager) (n : ℕ) → (manager_at (map unlocked_empty ms) n).settings ≡ (manager_at ms n).settings
+map-at [] n = refl
+map-at (m ∷ ms) zero = refl
+map-at (m ∷ ms) (suc n) = map-at ms n
+
+map-unlocked : (ms : List SyncManager) (n : ℕ) → (manager_at (map unlocked_empty ms) n).locked ≡ false
+map-unlocked [] n = refl
+map-unlocked (m ∷ ms) zero = refl
+map-unlocked (m ∷ ms) (suc n) = map-unlocked ms n
+
+-- manager 3 published zeros: all managers are the same from the front
+zeros-front : (ms : List SyncManager) → 3 < length ms → SameFronts ms (set ms 3 (zeros_published (manager_at ms 3)))
+zeros-front ms l = record {
+  four = length-set ms 3 _;
+  each = λ n. elim (cases_eq n 3) [
+    | inl e ↦ subst (λ (k : ℕ). SameFront (manager_at ms k) (manager_at (set ms 3 (zeros_published (manager_at ms 3))) k)) (sym e)
+        (subst (λ (m : SyncManager). SameFront (manager_at ms 3) m) (sym (get_or-set_same ms 3 (zeros_published (manager_at ms 3)) no_manager l))
+        (record { settings = refl; locked = refl; mail = refl }))
+    | inr ne ↦ subst (λ (m : SyncManager). SameFront (manager_at ms n) m) (sym (get_or-set_other ms 3 n (zeros_published (manager_at ms 3)) no_manager ne)) (front-refl (manager_at ms n))
+  ];
+  outputs = ap (λ (m : SyncManager). unviewed m.buffer) (get_or-set_other ms 3 2 (zeros_published (manager_at ms 3)) no_manager (λ q. omega (arith, q)));
+}
+
+-- no state is left for INIT
+abbrev NoFall : State → State → Type 0
+NoFall Init new = Unit {0}
+NoFall old Init = ⊥
+NoFall old new = Unit {0}
+
+entered-front : (old new : State) (ms : List SyncManager) → 3 < length ms → NoFall old new → SameFronts ms (managers_entered old new ms)
+entered-front Init Init ms l h = fronts-refl ms
+entered-front Init PreOp ms l h = fronts-refl ms
+entered-front Init SafeOp ms l h = fronts-refl ms
+entered-front Init Op ms l h = fronts-refl ms
+entered-front PreOp Init ms l h = absurd h
+entered-front PreOp PreOp ms l h = fronts-refl ms
+entered-front PreOp SafeOp ms l h = zeros-front ms l
+entered-front PreOp Op ms l h = fronts-refl ms
+entered-front SafeOp Init ms l h = absurd h
+entered-front SafeOp PreOp ms l h = fronts-refl ms
+entered-front SafeOp SafeOp ms l h = fronts-refl ms
+entered-front SafeOp Op ms l h = fronts-refl ms
+entered-front Op Init ms l h = absurd h
+entered-front Op PreOp ms l h = fronts-refl ms
+entered-front Op SafeOp ms l h = fronts-refl ms
+entered-front Op Op ms l h = fronts-refl ms
+
+-- INIT entered from another state: all unlocked
+abbrev Falls : State → State → Type 0
+Falls Init new = ⊥
+Falls old Init = Unit {0}
+Falls old new = ⊥
+
+pub cases_fall : (old new : State) → NoFall old new ⊎ Falls old new
+cases_fall Init new = inl tt
+cases_fall PreOp Init = inr tt
+cases_fall SafeOp Init = inr tt
+cases_fall Op Init = inr tt
+cases_fall PreOp PreOp = inl tt
+cases_fall PreOp SafeOp = inl tt
+cases_fall PreOp Op = inl tt
+cases_fall SafeOp PreOp = inl tt
+cases_fall SafeOp SafeOp = inl tt
+cases_fall SafeOp Op = inl tt
+cases_fall Op PreOp = inl tt
+cases_fall Op SafeOp = inl tt
+cases_fall Op Op = inl tt
+
+falls-entered : (old new : State) (ms : List SyncManager) → Falls old new → managers_entered old new ms ≡ map unlocked_empty ms
+falls-entered Init new ms h = absurd h
+falls-entered PreOp Init ms h = refl
+falls-entered SafeOp Init ms h = refl
+falls-entered Op Init ms h = refl
+falls-entered PreOp PreOp ms h = absurd h
+falls-entered PreOp SafeOp ms h = absurd h
+falls-entered PreOp Op ms h = absurd h
+falls-entered SafeOp PreOp ms h = absurd h
+falls-entered SafeOp SafeOp ms h = absurd h
+falls-entered SafeOp Op ms h = absurd h
+falls-entered Op PreOp ms h = absurd h
+falls-entered Op SafeOp ms h = absurd h
+falls-entered Op Op ms h = absurd h
+
+no_fall-init : (old new : State) → NoFall old new → new ≡ Init → old ≡ Init
+no_fall-init Init new h e = refl
+no_fall-init PreOp Init h e = absurd h
+no_fall-init SafeOp Init h e = absurd h
+no_fall-init Op Init h e = absurd h
+no_fall-init PreOp PreOp h e = cc
+no_fall-init PreOp SafeOp h e = cc
+no_fall-init PreOp Op h e = cc
+no_fall-init SafeOp PreOp h e = cc
+no_fall-init SafeOp SafeOp h e = cc
+no_fall-init SafeOp Op h e = cc
+no_fall-init Op PreOp h e = cc
+no_fall-init Op SafeOp h e = cc
+no_fall-init Op Op h e = cc
+
+-- ---- the AL state machine is given another state
+
+pub al-alike : (s : SlaveState) (a : Al) → 3 < length s.managers → NoFall s.al.state a.state → Alike s (with_al s a)
+al-alike s a l h = record {
+  kind = refl;
+  room = refl;
+  memory = λ x l. refl;
+  managers = entered-front s.al.state a.state s.managers l h;
+  idle = λ e. e;
+  outs = refl;
+  ins = refl;
+}
+
+al-slave : (kind : SlaveKind) (s : SlaveState) (a : Al) → IsOfKind kind s → IsOfKind kind (with_al s a)
+al-slave kind s a h =
+    let l : 3 < length s.managers = let e = h.four in omega arith in
+    elim (cases_fall s.al.state a.state) [
+      | inl n ↦ slave-alike kind s (with_al s a) (al-alike s a l n) (no_fall-init s.al.state a.state n) h
+      | inr f ↦ record {
+        kind_is = h.kind_is;
+        room = h.room;
+        four = ap length (falls-entered s.al.state a.state s.managers f) ∙ (length-map s.managers unlocked_empty ∙ h.four);
+        outs = h.outs;
+        ins = h.ins;
+        fixed = λ e. let g = h.fixed e in record { outs = g.outs; ins = g.ins };
+        unlocked_in_init = λ e n k. ap (λ (ms : List SyncManager). (manager_at ms n).locked) (falls-entered s.al.state a.state s.managers f) ∙ map-unlocked s.managers n;
+      }
+    ]
+
+-- ---- what is decided
+
+-- 0x0011 leads to INIT
+decided-init : (a : Al) (checks : Checks) → decided a 0x0011 checks ≡ al.power_on
+decided-init a checks =
+    if_false _ (al.ignored a) _ (and_right a.error _ refl) ∙ ap (λ r. answered a r) (init a.state)
+  where
+    init : (st : State) → answer st (requested_by 0x0011) checks ≡ Ok Init
+    init Init = refl
+    init PreOp = refl
+    init SafeOp = refl
+    init Op = refl
+
+-- a step up without an error is granted or refused
+pub data Climbed (from to : State) (a : Al) : Type 0 where
+  Granted : a ≡ record { state = to; error = false; code = 0; requested = false } → Climbed from to a
+  Refused : (code : ℕ) → a ≡ record { state = from; error = true; code = code; requested = false } → Climbed from to a
+
+pub by_answer : (a : Al) (from to : State) (r : Result State StatusCode) → a.state ≡ from → (r ≡ Ok to) ⊎ ((code : StatusCode) × (r ≡ Err code)) → Climbed from to (answered a r)
+by_answer a from to r e (inl g) = subst (λ (x : Result State StatusCode). Climbed from to (answered a x)) (sym g) (Granted refl)
+by_answer a from to r e (inr (code, g)) = subst (λ (x : Result State StatusCode). Climbed from to (answered a x)) (sym g) (Refused (code_number code) (ap (λ (t : State). record { state = t; error = true; code = code_number code; requested = false }) e))
+
+-- what a step up is answered
+pub answer-climb : (from to : State) (checks : Checks) → IsStepUp from to
+    → (answer from (requested_by (state_number to)) checks ≡ Ok to) ⊎ ((code : StatusCode) × (answer from (requested_by (state_number to)) checks ≡ Err code))
+answer-climb Init PreOp checks h = mailbox checks.mailbox
+  where
+    mailbox : (b : Bool) → ((if b then Ok PreOp else Err InvalidMailboxConfiguration) ≡ Ok PreOp) ⊎ ((code : StatusCode) × ((if b then Ok PreOp else Err InvalidMailboxConfiguration) ≡ Err code))
+    mailbox true = inl refl
+    mailbox false = inr (InvalidMailboxConfiguration, refl)
+answer-climb PreOp SafeOp checks h = process checks.outputs checks.inputs
+  where
+    process : (b c : Bool) → ((if b then (if c then Ok SafeOp else Err InvalidInputConfiguration) else Err InvalidOutputConfiguration) ≡ Ok SafeOp) ⊎ ((code : StatusCode) × ((if b then (if c then Ok SafeOp else Err InvalidInputConfiguration) else Err InvalidOutputConfiguration) ≡ Err code))
+    process true true = inl refl
+    process true false = inr (InvalidInputConfiguration, refl)
+    process false c = inr (InvalidOutputConfiguration, refl)
+answer-climb SafeOp Op checks h = inl refl
+answer-climb Init Init checks h = absurd h
+answer-climb Init SafeOp checks h = absurd h
+answer-climb Init Op checks h = absurd h
+answer-climb PreOp Init checks h = absurd h
+answer-climb PreOp PreOp checks h = absurd h
+answer-climb PreOp Op checks h = absurd h
+answer-climb SafeOp Init checks h = absurd h
+answer-climb SafeOp PreOp checks h = absurd h
+answer-climb SafeOp SafeOp checks h = absurd h
+answer-climb Op to checks h = absurd h
+
+pub decided-climb : (a : Al) (from to : State) (control : ℕ) (checks : Checks) → IsStepUp from to → a.state ≡ from → a.error ≡ false → control ≡ state_number to
+    → Climbed from to (decided a control checks)
+decided-climb a from to control checks up e n c =
+    let d : decided a control checks ≡ answered a (answer from (requested_by (state_number to)) checks)
+    = if_false (a.error && not (acknowledges control)) (al.ignored a) _ (and_left _ _ n)
+    ∙ (ap (λ (k : ℕ). answered a (answer a.state (requested_by k) checks)) c
+    ∙ ap (λ (t : State). answered a (answer t (requested_by (state_number to)) checks)) e) in
+    subst (λ (x : Al). Climbed from to x) (sym d) (by_answer a from to _ e (answer-climb from to checks up))
+
+-- ---- the request decided
+
+pub no_fall-up : (from to : State) → IsStepUp from to → NoFall from to
+no_fall-up Init to h = tt
+no_fall-up PreOp SafeOp h = tt
+no_fall-up SafeOp Op h = tt
+no_fall-up PreOp Init h = absurd h
+no_fall-up PreOp PreOp h = absurd h
+no_fall-up PreOp Op h = absurd h
+no_fall-up SafeOp Init h = absurd h
+no_fall-up SafeOp PreOp h = absurd h
+no_fall-up SafeOp SafeOp h = absurd h
+no_fall-up Op to h = absurd h
+
+no_fall-same : (s : State) → NoFall s s
+no_fall-same Init = tt
+no_fall-same PreOp = tt
+no_fall-same SafeOp = tt
+no_fall-same Op = tt
+
+deciding : SlaveState → Al
+deciding s = al.decided s.al (control_word s) (checks_of s)
+
+waits-none : (s : SlaveState) → s.al.requested ≡ false → request_decided s ≡ s
+waits-none s e = (requests_decided s).rests e
+
+decided-is : (s : SlaveState) → s.al.requested ≡ true → request_decided s ≡ with_al s (al.decided s.al (control_word s) (checks_of s))
+decided-is s e = (requests_decided s).decides e
+
+-- asked for INIT
+pub init-decided : (s : SlaveState) → s.al.requested ≡ true → control_word s ≡ 0x0011 → request_decided s ≡ with_al s al.power_on
+init-decided s e c = decided-is s e ∙ (ap (λ (k : ℕ). with_al s (al.decided s.al k (checks_of s))) c ∙ ap (λ (a : Al). with_al s a) (decided-init s.al (checks_of s)))
+
+pub in-init : (s : SlaveState) → IsInInit (with_al s al.power_on)
+in-init s = record { state = refl; no_error = refl; asked = λ e. absurd (both_ways false refl e) }
+
+pub slave-decided : (kind : SlaveKind) (s : SlaveState) → IsOfKind kind s → IsOfKind kind (request_decided s)
+slave-decided kind s h = elim (cases_Bool s.al.requested) [
+  | inl e ↦ subst (λ (t : SlaveState). IsOfKind kind t) (sym (decided-is s e)) (al-slave kind s (al.decided s.al (control_word s) (checks_of s)) h)
+  | inr e ↦ subst (λ (t : SlaveState). IsOfKind kind t) (sym (waits-none s e)) h
+]
+
+-- what a slave in INIT is after it
+pub data Kept (s t : SlaveState) : Type 0 where
+  Same : t ≡ s → Kept s t
+  Turned : t ≡ with_al s al.power_on → s.al.state ≡ Init → Kept s t
+
+kept-init : (s : SlaveState) → IsInInit s → Kept s (request_decided s)
+kept-init s h = elim (cases_Bool s.al.requested) [
+  | inl e ↦ Turned (init-decided s e (h.asked e)) h.state
+  | inr e ↦ Same (waits-none s e)
+]
+
+-- a slave that turned in INIT keeps all but its AL machine
+turned-alike : (s : SlaveState) → s.al.state ≡ Init → 3 < length s.managers → Alike s (with_al s al.power_on)
+turned-alike s e l = al-alike s al.power_on l (subst (λ (t : State). NoFall t Init) (sym e) tt)
+
+climbed-rises : (s : SlaveState) (from to : State) (a : Al) → IsStepUp from to → Climbed from to a → Rises (Climbs from to) (with_al s a)
+climbed-rises s from to a up (Granted e) = (up, inr (inl (record { state_is = ap (λ (x : Al). x.state) e; no_error = ap (λ (x : Al). x.error) e; no_request = ap (λ (x : Al). x.requested) e })))
+climbed-rises s from to a up (Refused code e) = (up, inr (inr (record { state = ap (λ (x : Al). x.state) e; error = ap (λ (x : Al). x.error) e; no_request = ap (λ (x : Al). x.requested) e })))
+
+pub climbed-no_fall : (from to : State) (a : Al) → IsStepUp from to → Climbed from to a → NoFall from a.state
+climbed-no_fall from to a up (Granted e) = subst (λ (t : State). NoFall from t) (sym (ap (λ (x : Al). x.state) e)) (no_fall-up from to up)
+climbed-no_fall from to a up (Refused code e) = subst (λ (t : State). NoFall from t) (sym (ap (λ (x : Al). x.state) e)) (no_fall-same from)
+
+up-decided : (i : ℕ) (c : Config) (r : Rise) (s : SlaveState) → c.rise ≡ r → 3 < length s.managers → Rises r s → IsUpAt i c s → IsUpAt i c (request_decided s)
+up-decided i c (Stays Init) s e l h u = kept (kept-init s h)
+  where
+    kept : Kept s (request_decided s) → IsUpAt i c (request_decided s)
+    kept (Same q) = subst (λ (t : SlaveState). IsUpAt i c t) (sym q) u
+    kept (Turned q z) = subst (λ (t : SlaveState). IsUpAt i c t) (sym q)
+        (up-rest i c s (with_al s al.power_on) (turned-alike s z l) (subst (λ (x : Rise). Rises x (with_al s al.power_on)) (sym e) (in-init s)) u)
+up-decided i c (Stays PreOp) s e l h u = subst (λ (t : SlaveState). IsUpAt i c t) (sym (waits-none s h.no_request)) u
+up-decided i c (Stays SafeOp) s e l h u = subst (λ (t : SlaveState). IsUpAt i c t) (sym (waits-none s h.no_request)) u
+up-decided i c (Stays Op) s e l h u = subst (λ (t : SlaveState). IsUpAt i c t) (sym (waits-none s h.no_request)) u
+up-decided i c (Climbs from to) s e l (up, inl h) u =
+    let a : Al = al.decided s.al (control_word s) (checks_of s) in
+    let d : Climbed from to a = decided-climb s.al from to (control_word s) (checks_of s) up h.state h.no_error h.control_is in
+    let n : NoFall s.al.state a.state = subst (λ (t : State). NoFall t a.state) (sym h.state) (climbed-no_fall from to a up d) in
+    subst (λ (t : SlaveState). IsUpAt i c t) (sym (decided-is s h.request))
+    (up-rest i c s (with_al s a) (al-alike s a l n) (subst (λ (x : Rise). Rises x (with_al s a)) (sym e) (climbed-rises s from to a up d)) u)
+up-decided i c (Climbs from to) s e l (up, inr (inl h)) u = subst (λ (t : SlaveState). IsUpAt i c t) (sym (waits-none s h.no_request)) u
+up-decided i c (Climbs from to) s e l (up, inr (inr h)) u = subst (λ (t : SlaveState). IsUpAt i c t) (sym (waits-none s h.no_request)) u
+
+reached-decided : (i : ℕ) (st : Stage) (s : SlaveState) → 3 < length s.managers → Reached i st s → Reached i st (request_decided s)
+reached-decided i Before s l h = tt
+reached-decided i Called s l (inl h) = inr (subst (λ (t : SlaveState). IsInInit t) (sym (init-decided s h.0 h.1)) (in-init s))
+reached-decided i Called s l (inr h) = inr (kept (kept-init s h))
+  where
+    kept : Kept s (request_decided s) → IsInInit (request_decided s)
+    kept (Same q) = subst (λ (t : SlaveState). IsInInit t) (sym q) h
+    kept (Turned q z) = subst (λ (t : SlaveState). IsInInit t) (sym q) (in-init s)
+reached-decided i (Down f m) s l h = kept (kept-init s h.init)
+  where
+    kept : Kept s (request_decided s) → IsDownAt f m (request_decided s)
+    kept (Same q) = subst (λ (t : SlaveState). IsDownAt f m t) (sym q) h
+    kept (Turned q z) = subst (λ (t : SlaveState). IsDownAt f m t) (sym q) (down-rest f m s (with_al s al.power_on) (turned-alike s z l) (in-init s) h)
+reached-decided i (Up c) s l h = up-decided i c c.rise s refl l h.rises h
+
+gone-waits : (st : Stage) (s : SlaveState) → IsGone st s → s.al.requested ≡ false
+gone-waits Before s h = absurd h
+gone-waits Called s h = absurd h
+gone-waits (Down f m) s h = absurd h
+gone-waits (Up c) s h = ap (λ (t : SlaveState). t.al.requested) h ∙ ap (λ (a : Al). a.requested) (switched_on s.kind s.identity).al
+
+fault-waits : (i : ℕ) (st : Stage) (s : SlaveState) → HadFault i st s → s.al.requested ≡ false
+fault-waits i Before s h = absurd h
+fault-waits i Called s h = absurd h
+fault-waits i (Down f m) s h = absurd h
+fault-waits i (Up c) s h = h.faulted.no_request
+
+pub stands-decided : (kind : SlaveKind) (i : ℕ) (st : Stage) (trouble : Bool) (s : SlaveState) → Stands kind i st trouble s → Stands kind i st trouble (request_decided s)
+stands-decided kind i st trouble s h = record {
+  slave = slave-decided kind s h.slave;
+  at = elim h.at [
+    | inl r ↦ inl (reached-decided i st s (let e = h.slave.four in omega arith) r)
+    | inr (t, inl g) ↦ inr (t, inl (subst (λ (x : SlaveState). IsGone st x) (sym (waits-none s (gone-waits st s g))) g))
+    | inr (t, inr g) ↦ inr (t, inr (subst (λ (x : SlaveState). HadFault i st x) (sym (waits-none s (fault-waits i st s g))) g))
+  ];
+}
+
+-- ---- the SII read finished
+
+finished-alike : (s : SlaveState) → Alike s (read_finished s)
+finished-alike s =
+    let f = finished s in record {
+      kind = ap (λ (t : SlaveState). t.kind) f.is;
+      room = ap (λ (t : SlaveState). length t.memory) f.is;
+      memory = λ x l. ap (λ (t : SlaveState). slice_index t.memory x) f.is;
+      managers = subst (λ (t : SlaveState). SameFronts s.managers t.managers) (sym f.is) (fronts-refl s.managers);
+      idle = λ e. f.idle;
+      outs = ap (λ (t : SlaveState). t.outs) f.is;
+      ins = ap (λ (t : SlaveState). t.ins) f.is;
+    }
+
+gone-idle : (st : Stage) (s : SlaveState) → IsGone st s → s.sii.busy ≡ false
+gone-idle Before s h = absurd h
+gone-idle Called s h = absurd h
+gone-idle (Down f m) s h = absurd h
+gone-idle (Up c) s h = ap (λ (t : SlaveState). t.sii.busy) h ∙ ap (λ (p : Sii). p.busy) (switched_on s.kind s.identity).sii
+
+pub stands-finished : (kind : SlaveKind) (i : ℕ) (st : Stage) (trouble : Bool) (s : SlaveState) → Stands kind i st trouble s → Stands kind i st trouble (read_finished s)
+stands-finished kind i st trouble s h =
+    stands-alike kind i st trouble s (read_finished s) (finished-alike s) (ap (λ (t : SlaveState). t.al) (finished s).is) (λ g. (finished s).rests (gone-idle st s g)) h

@@ -1,0 +1,145 @@
+-- The polls of a start-up at a slave that has what is waited for: one poll ends the wait.
+use Rattle.std.proofs.Common.{ℕ, zero, suc, ◌+◌, ◌*◌, ◌%◌, ◌^◌, ◌<◌, ◌≤◌, ◌≡◌, ◌==◌, ◌&&◌, not, Bool, true, false, Some, refl, sym, ◌∙◌, ap, arith, List, length, slice_index, is_some}
+use Rattle.std.specs.Int.{bit_at, to_le_bytes, w32, from_bool}
+use Rattle.std.proofs.lemmas.Nat.{from_le_bytes-to_le_bytes_4}
+use Rattle.std.proofs.lemmas.Bool.{eq-eqb, and_from}
+use Rattle.std.proofs.lemmas.List.{length-replicate}
+use Rattle.ec_bits.specs.Bits.{zeros}
+use Rattle.ec_bits.proofs.AnyLaws.{if_true, if_false}
+use Rattle.ec_device.specs.declared.slave_type.Device.{Device}
+use Rattle.ec_device.specs.declared.slave_type.Mailbox.{Mailbox}
+use Rattle.ec_regs.specs.Memory.{ram_start}
+use Rattle.ec_frame.specs.declared.command.Command.TheVariants.{Fprd}
+use Rattle.ec_frame.specs.Datagram.{Datagram, adp_of}
+use Rattle.ec_al.specs.declared.state.State.{State}
+use Rattle.ec_al.specs.declared.state.State.TheVariants.{Init, PreOp, SafeOp, Op}
+use Rattle.ec_al.specs.States.{state_number}
+use Rattle.ec_sync.specs.SyncManager.{may_read}
+use Rattle.ec_slave.specs.State.{SlaveState, station_of, manager_at}
+use Rattle.ec_slave.specs.Physical.{Window, byte_at, byte_read, retold, some_byte_read}
+use Rattle.ec_slave.specs.Meeting.{window_of, datagram_met}
+use Rattle.ec_coe.specs.Messages.{message_read}
+use Rattle.ec_start.specs.declared.action.Action.TheVariants.{AwaitWord, AwaitState, AwaitReply}
+use Rattle.ec_start.specs.declared.action.SdoRequest.{SdoRequest}
+use Rattle.ec_start.specs.Actions.{station, sent, datagram_of}
+use Rattle.ec_start.specs.declared.verdict.Verdict.TheVariants.{Next, Shows}
+use Rattle.ec_start.specs.Verdicts.{with_word, is_device, word_at, long_at, word_verdict, state_verdict, message_verdict, verdict}
+use Rattle.ec_slave.proofs.RegisterAccess.{shows_itself}
+use Rattle.ec_bringup.proofs.Owns.{window-sent}
+use Rattle.ec_bringup.proofs.Polls.{read-byte, read-bytes}
+use Rattle.ec_bringup.proofs.Receives.{Boxes, asking, read-counter, some-read, raw-read}
+use Rattle.ec_bringup.proofs.Counts.{register-shows}
+use Rattle.ec_bringup.proofs.Commands.{IsThere, HasFound, word_of}
+
+-- byte k of the data that comes back
+back : (s : SlaveState) (i ado n number k : ℕ) → station_of s ≡ station i → i < 64 → ado + n ≤ ram_start → k < n
+    → slice_index (datagram_met s (sent Fprd (station i) ado (zeros n) number)).data_bytes k ≡ byte_at s (ado + k)
+back s i ado n number k e l r b =
+    let z = length-replicate {A = ℕ} n 0 in
+    read-byte s (sent Fprd (station i) ado (zeros n) number) (record { from = ado; bytes = zeros n }) k refl
+    (let a : (station i % 65536 + 65536 * ado) % 65536 ≡ station_of s = omega (arith, e, l) in a) (window-sent Fprd (station i) ado (zeros n) number) (omega (arith, r, z)) (omega (arith, b, z))
+
+-- ---- a state
+
+good-state : (st : State) → (bit_at (state_number st) 4 == 1) ≡ false
+good-state Init = refl
+good-state PreOp = refl
+good-state SafeOp = refl
+good-state Op = refl
+
+same-state : (st : State) → (state_number st % 32 == state_number st) ≡ true
+same-state Init = refl
+same-state PreOp = refl
+same-state SafeOp = refl
+same-state Op = refl
+
+pub state-ends : (i : ℕ) (state : State) (bytes : List ℕ) → slice_index bytes 0 ≡ state_number state → state_verdict i state bytes ≡ Next
+state-ends i state bytes e =
+    if_false _ _ _ (ap (λ (x : ℕ). bit_at x 4 == 1) e ∙ good-state state) ∙ if_true _ _ _ (ap (λ (x : ℕ). x % 32 == state_number state) e ∙ same-state state)
+
+pub await-state-ends : (n step : ℕ) (seen : Device) (types : ℕ → Device) (s : SlaveState) (i : ℕ) (state : State) (number : ℕ) → station_of s ≡ station i → i < 64 → IsThere state s
+    → verdict n step seen types (AwaitState i state) (datagram_met s (datagram_of (AwaitState i state) number)) ≡ Next
+await-state-ends n step seen types s i state number e l h =
+    let d = datagram_met s (datagram_of (AwaitState i state) number) in
+    let b : slice_index (datagram_met s (datagram_of (AwaitState i state) number)).data_bytes 0 ≡ state_number state
+    = back s i 0x0130 6 number 0 e l (omega arith) (omega arith) ∙ ((shows_itself s).status ∙ (ap (λ (x : State). state_number x + 16 * from_bool s.al.error) h.state_is ∙ (ap (λ (x : Bool). state_number state + 16 * from_bool x) h.no_error ∙ more (state_number state)))) in
+    if_true _ _ _ (eq-eqb _ 1 (register-shows s i 0x0130 (zeros 6) number 0 e l (omega arith) (omega arith)))
+    ∙ state-ends i state (datagram_met s (datagram_of (AwaitState i state) number)).data_bytes b
+  where
+    more : (n : ℕ) → n + 16 * 0 ≡ n
+    more n = omega arith
+
+-- ---- a word
+
+spells : (n : ℕ) → n < 2 ^ 32 → slice_index (to_le_bytes w32 n) 0 + 256 * slice_index (to_le_bytes w32 n) 1 + 65536 * slice_index (to_le_bytes w32 n) 2 + 16777216 * slice_index (to_le_bytes w32 n) 3 ≡ n
+spells n l = let e = from_le_bytes-to_le_bytes_4 n l in omega (arith, e)
+
+long-spells : (bytes : List ℕ) (n : ℕ) → n < 2 ^ 32 → ((j : ℕ) → j < 4 → slice_index bytes (6 + j) ≡ slice_index (to_le_bytes w32 n) j) → long_at bytes 6 ≡ n
+long-spells bytes n l h =
+    let a = h 0 (omega arith) in let b = h 1 (omega arith) in let c = h 2 (omega arith) in let d = h 3 (omega arith) in
+    let e = spells n l in
+    omega (arith, a, b, c, d, e)
+
+-- the words that this slave has shown before are the type's
+abbrev pub Tells : Device → Device → ℕ → Type 0
+Tells t s zero = Unit {0}
+Tells t s (suc zero) = s.vendor ≡ t.vendor
+Tells t s (suc (suc which)) = (s.vendor ≡ t.vendor) × (s.product ≡ t.product)
+
+fits : (t : Device) (s : Device) (which : ℕ) → which < 3 → Tells t s which → ((which == 2) && not (is_device t (with_word s which (word_of t which)))) ≡ false
+fits t s zero l h = refl
+fits t s (suc zero) l h = refl
+fits t s (suc (suc zero)) l h =
+    ap not (and_from _ _ (eq-eqb t.vendor s.vendor (sym h.0)) (and_from _ _ (eq-eqb t.product s.product (sym h.1)) (eq-eqb t.revision t.revision refl)))
+fits t s (suc (suc (suc which))) l h = absurd (omega (arith, l))
+
+pub word-ends : (t : Device) (seen : Device) (i which : ℕ) (bytes : List ℕ) → which < 3 → Tells t seen which → word_at bytes 0 ≡ 0 → long_at bytes 6 ≡ word_of t which
+    → word_verdict t seen i which bytes ≡ Shows (word_of t which)
+word-ends t seen i which bytes l h z e =
+    if_false _ _ _ (ap (λ (x : ℕ). bit_at x 13 == 1) z)
+    ∙ (if_false _ _ _ (ap (λ (x : ℕ). bit_at x 15 == 1) z)
+    ∙ (if_false _ _ _ (ap (λ (x : ℕ). (which == 2) && not (is_device t (with_word seen which x))) e ∙ fits t seen which l h)
+    ∙ ap (λ (x : ℕ). Shows x) e))
+
+pub await-word-ends : (n step : ℕ) (seen : Device) (types : ℕ → Device) (s : SlaveState) (i which : ℕ) (number : ℕ) → station_of s ≡ station i → i < 64 → which < 3
+    → word_of (types i) which < 2 ^ 32 → Tells (types i) seen which → HasFound (word_of (types i) which) s.sii
+    → verdict n step seen types (AwaitWord i which) (datagram_met s (datagram_of (AwaitWord i which) number)) ≡ Shows (word_of (types i) which)
+await-word-ends n step seen types s i which number e l w big told h =
+    let bytes : List ℕ = (datagram_met s (datagram_of (AwaitWord i which) number)).data_bytes in
+    let low : slice_index (datagram_met s (datagram_of (AwaitWord i which) number)).data_bytes 0 ≡ 0 = back s i 0x0502 10 number 0 e l (omega arith) (omega arith) ∙ (shows_itself s).sii_low in
+    let high : slice_index (datagram_met s (datagram_of (AwaitWord i which) number)).data_bytes 1 ≡ 0
+    = back s i 0x0502 10 number 1 e l (omega arith) (omega arith) ∙ ((shows_itself s).sii_high ∙ (ap (λ (x : Bool). from_bool x + 32 * from_bool s.sii.error + 128 * from_bool x) h.idle ∙ ap (λ (x : Bool). 0 + 32 * from_bool x + 128 * 0) h.no_error)) in
+    if_true _ _ _ (eq-eqb _ 1 (register-shows s i 0x0502 (zeros 10) number 0 e l (omega arith) (omega arith)))
+    ∙ word-ends (types i) seen i which (datagram_met s (datagram_of (AwaitWord i which) number)).data_bytes w told
+    (omega (arith, low, high))
+    (long-spells (datagram_met s (datagram_of (AwaitWord i which) number)).data_bytes (word_of (types i) which) big
+    (λ j b. back s i 0x0502 10 number (6 + j) e l (omega arith) (omega (arith, b)) ∙ (moved j ∙ ((shows_itself s).sii_found j b ∙ ap (λ (x : ℕ). slice_index (to_le_bytes w32 x) j) h.found_is))))
+  where
+    moved : (j : ℕ) → byte_at s (0x0502 + (6 + j)) ≡ byte_at s (0x0508 + j)
+    moved j = let q : 0x0502 + (6 + j) ≡ 0x0508 + j = omega arith in ap (byte_at s) q
+
+-- ---- a reply
+
+-- the reply that is wanted lies in manager 1
+pub record HasReply (i : ℕ) (r : SdoRequest) (size : ℕ) (s : SlaveState) : Type 0 where
+  pub raw : List ℕ
+  pub long : length raw ≡ size
+  pub mail : (manager_at s.managers 1).mail ≡ Some raw
+  pub fits : message_verdict i r (message_read raw) ≡ Next
+
+pub await-reply-ends : (n step : ℕ) (seen : Device) (types : ℕ → Device) (s : SlaveState) (i : ℕ) (b : Mailbox) (r : SdoRequest) (number : ℕ) → station_of s ≡ station i → i < 64
+    → Boxes b s → HasReply i r b.send_size s
+    → verdict n step seen types (AwaitReply i b r) (datagram_met s (datagram_of (AwaitReply i b r) number)) ≡ Next
+await-reply-ends n step seen types s i b r number e l bx h =
+    let d : Datagram = datagram_of (AwaitReply i b r) number in
+    let adp : adp_of (datagram_of (AwaitReply i b r) number) ≡ station_of s = omega (arith, e, l) in
+    let w : window_of (datagram_of (AwaitReply i b r) number) ≡ asking b = window-sent Fprd (station i) b.send_start (zeros b.send_size) number in
+    let full : may_read (manager_at s.managers 1) ≡ true = and_from _ _ bx.enabled (and_from _ _ bx.read (if_true _ _ _ bx.box ∙ ap is_some h.mail)) in
+    let sum : (datagram_met s (datagram_of (AwaitReply i b r) number)).counter ≡ 1
+    = read-counter s (datagram_of (AwaitReply i b r) number) refl adp ∙ (ap (λ (x : Window). (0 + from_bool (some_byte_read s.managers x)) % 65536) w
+    ∙ ap (λ (x : Bool). (0 + from_bool x) % 65536) (some-read b s true bx full)) in
+    let bytes : (datagram_met s (datagram_of (AwaitReply i b r) number)).data_bytes ≡ h.raw
+    = read-bytes s (datagram_of (AwaitReply i b r) number) refl adp ∙ (ap (λ (x : Window). retold x.bytes (byte_read s false x)) w ∙ raw-read b s h.raw bx h.mail h.long full) in
+    if_false _ _ _ (ap (λ (x : ℕ). x == 0) sum)
+    ∙ (if_true _ _ _ (ap (λ (x : ℕ). x == 1) sum)
+    ∙ (ap (λ (x : List ℕ). message_verdict i r (message_read x)) bytes ∙ h.fits))

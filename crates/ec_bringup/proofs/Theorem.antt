@@ -1,0 +1,378 @@
+-- Every run of a world that starts up: up to the step that makes it ready, and from then on without a cycle.
+use Rattle.std.proofs.Common.{ℕ, ◌+◌, ◌-◌, ◌*◌, ◌%◌, ◌<◌, ◌≤◌, ◌≡◌, ◌==◌, Bool, true, false, Option, Some, None, refl, sym, ◌∙◌, ap, subst, inl, inr, arith, if◌then◌else◌, List, [], ◌∷◌, length, get_or, replicate, drop}
+use Rattle.std.proofs.lemmas.Bool.{cases_Bool, and_parts, eqb-true}
+use Rattle.std.proofs.lemmas.List.{length-replicate}
+use Rattle.ec_bits.proofs.AnyLaws.{if_true, if_false}
+use Rattle.ec_device.specs.Types.{SlaveKind}
+use Rattle.ec_frame.specs.Datagram.{Datagram, IsDatagram}
+use Rattle.ec_slave.specs.State.{SlaveState, power_on}
+use Rattle.ec_slave.specs.Meeting.{slave_met, datagram_met, passes as passes_all}
+use Rattle.ec_slave.specs.Serving.{served}
+use Rattle.ec_link.specs.declared.settings.SlavePlan.{SlavePlan}
+use Rattle.ec_start.specs.declared.action.Action.{Action}
+use Rattle.ec_start.specs.declared.action.Action.TheVariants.{CountSlaves, AskInit, AwaitInit, ClearFmmus, ClearManagers, ClearStations, NameSlave, AskWord, AwaitWord, SetManager, SetFmmu, AskState, AwaitState, SendRequest, AwaitReply}
+use Rattle.ec_start.specs.Actions.{datagram_of, numbered}
+use Rattle.ec_start.specs.Scripts.{script}
+use Rattle.ec_start.specs.declared.error.StartError.{StartError}
+use Rattle.ec_start.specs.declared.error.StartError.TheVariants.{Lost, TooSlow}
+use Rattle.ec_start.specs.declared.verdict.Verdict.{Verdict}
+use Rattle.ec_start.specs.declared.verdict.Verdict.TheVariants.{Next, Shows, Again, Fails}
+use Rattle.ec_start.specs.Verdicts.{verdict}
+use Rattle.ec_start.specs.Running.{StartState, sending, action_of, type_of, taken, judged, begun}
+use Rattle.ec_start.specs.declared.phase.Phase.TheVariants.{Idle, Sent, Ready, Failed}
+use Rattle.ec_bringup.specs.Stages.{Config, Talk, Stage, Before, Up, end_of}
+use Rattle.ec_bringup.specs.Instants.{Leads, AreAhead, IsBetween, Instant, Between, UnderWay, Adrift, Over, IsReady, Starts, LaterLaw, TakeLaw, SlaveLaw}
+use Rattle.ec_bringup.specs.Standing.{IsOfKind, IsConfigured, IsSilent, IsUpAt, IsFaultedAt, Talks, Stands}
+use Rattle.ec_bringup.specs.Frames.{Arrives}
+use Rattle.ec_bringup.proofs.Rounds.{two-pass}
+use Rattle.ec_bringup.proofs.Resets.{power_on_is, reset_stands}
+use Rattle.ec_bringup.proofs.Events.{fault-stands, put-stands, got-stands}
+use Rattle.ec_bringup.proofs.Messages.{stands-served}
+use Rattle.ec_bringup.proofs.PassLaws.{pass-law, later-law, take-law}
+use Rattle.ec_bringup.proofs.Keeps.{slave-law}
+use Rattle.ec_start.specs.Planned.{IsStartable}
+use Rattle.ec_bringup.proofs.Assigns.{assignment-held}
+use Rattle.ec_bringup.proofs.Ends.{script-leads, asked-frame}
+use Rattle.ec_bringup.specs.Starting.{Carried, Starting, slave_at, trouble_at, kind_at, no_plan, AreSlaves}
+use Rattle.ec_bringup.specs.Runs.{is_idle, is_beginning, with_passed, with_start, with_sent, with_begun, with_empty, with_lost, AreStartable, ends_of, Happens, Sends, Passes, Loses, Returns, Strays, Closes, Serves, Puts, Gets, Faults, Resets, Runs, Stops, Steps, Begins, HoldsAll, Works, HasFault, Shown, Working, Faulted, WasReset, StartUpLaw, IsNew}
+use Rattle.ec_bringup.proofs.Composes.{pass-starts, pass-slaves, take-starts, slave-starts, Keeps}
+
+-- ---- the laws
+
+later : LaterLaw
+later kind i st trouble other j sj had a number d s t l b f good r h m = later-law kind i st trouble other j sj had a number d s t l b good f r h m
+
+takes : TakeLaw
+takes n step seen ps a d = take-law n step seen (type_of ps) a d
+
+keeps : SlaveLaw
+keeps kind s d h = slave-law kind s d h
+
+-- ---- a frame is sent
+
+sent-arrives : (a : Action) (number : ℕ) → Arrives a number 0 (datagram_of a number)
+sent-arrives CountSlaves number = record { command = refl; ado = refl; data_length = refl }
+sent-arrives AskInit number = record { command = refl; ado = refl; adp_is = refl; bytes = refl }
+sent-arrives AwaitInit number = record { command = refl; ado = refl; data_length = refl }
+sent-arrives ClearFmmus number = record { command = refl; ado = refl; adp_is = refl; bytes = refl }
+sent-arrives ClearManagers number = record { command = refl; ado = refl; adp_is = refl; bytes = refl }
+sent-arrives ClearStations number = record { command = refl; ado = refl; adp_is = refl; bytes = refl }
+sent-arrives (NameSlave t) number = let e : ((65536 - t) % 65536 + 65536 * 0x0010) % 65536 ≡ (65536 - t + 0) % 65536 = omega arith in record { command = refl; ado = refl; adp_is = e; bytes = refl }
+sent-arrives (AskWord t which) number = record { to_come = λ l. refl; gone_by = record { command = refl; address = refl } }
+sent-arrives (AwaitWord t which) number = record { to_come = λ l. refl; gone_by = record { command = refl; address = refl } }
+sent-arrives (SetManager t n m) number = record { to_come = λ l. refl; gone_by = record { command = refl; address = refl } }
+sent-arrives (SetFmmu t n f) number = record { to_come = λ l. refl; gone_by = record { command = refl; address = refl } }
+sent-arrives (AskState t to) number = record { to_come = λ l. refl; gone_by = record { command = refl; address = refl } }
+sent-arrives (AwaitState t to) number = record { to_come = λ l. refl; gone_by = record { command = refl; address = refl } }
+sent-arrives (SendRequest t counter b r) number = record { to_come = λ l. refl; gone_by = record { command = refl; address = refl } }
+sent-arrives (AwaitReply t b r) number = record { to_come = λ l. refl; gone_by = record { command = refl; address = refl } }
+
+-- the first frame clears the flags: whatever slaves stood at, a start-up leads them from before its first action on
+abbrev cleared : Starting → Starting
+cleared w = record { start = w.start; slaves = w.slaves; troubles = replicate (length w.start.plan) false; slot = w.slot }
+
+from-before : (ps : List SlavePlan) (i : ℕ) (st end : Stage) → i < length ps → Leads i st (script ps) end → Leads i Before (script ps) end
+from-before [] i st end l h = absurd (omega (arith, l))
+from-before (p ∷ ps) i st end l h = h
+
+cleared-between : (ends : ℕ → Config) (w : Starting) → AreSlaves w → IsBetween ends w → w.start.place ≡ 0 → IsBetween ends (cleared w)
+cleared-between ends w h b e = record {
+  idle = b.idle;
+  empty = b.empty;
+  inside = b.inside;
+  stages = λ i. Before;
+  ahead = record {
+    each = λ i l. subst (λ (k : ℕ). Leads i Before (drop k (script w.start.plan)) (Up (ends i))) (sym e)
+        (from-before w.start.plan i (b.stages i) (Up (ends i)) l (subst (λ (k : ℕ). Leads i (b.stages i) (drop k (script w.start.plan)) (Up (ends i))) e (b.ahead.each i l)));
+  };
+  stand = record { each = λ i l. record { slave = h.each i l; at = inl tt } };
+}
+
+cleared-slaves : (w : Starting) → AreSlaves w → AreSlaves (cleared w)
+cleared-slaves w h = record { slaves = h.slaves; troubles = length-replicate {A = Bool} (length w.start.plan) false; few = h.few; each = h.each }
+
+-- with these flags
+abbrev sent-with : Starting → List Bool → Starting
+sent-with w flags = record {
+  start = sending w.start;
+  slaves = w.slaves;
+  troubles = flags;
+  slot = Some (record { number = w.start.next; passed = 0; datagram = datagram_of (action_of w.start) w.start.next });
+}
+
+sent-between : (ends : ℕ → Config) (w : Starting) → AreSlaves w → IsDatagram (datagram_of (action_of w.start) w.start.next) → IsBetween ends w → Starts ends (sent-with w w.troubles)
+sent-between ends w h good b = record {
+  slaves = record { slaves = h.slaves; troubles = h.troubles; few = h.few; each = h.each };
+  instant = UnderWay (record {
+    carried = record { number = w.start.next; passed = 0; datagram = datagram_of (action_of w.start) w.start.next };
+    sent = refl;
+    full = refl;
+    inside = b.inside;
+    few = omega arith;
+    stages = b.stages;
+    ahead = b.ahead;
+    good = good;
+    arrives = sent-arrives (action_of w.start) w.start.next;
+    met = record { passed = λ i l. absurd (omega (arith, l)); to_come = λ i l m. b.stand.each i m };
+  });
+}
+
+sent-starts : (ends : ℕ → Config) (w : Starting) → AreSlaves w → IsDatagram (datagram_of (action_of w.start) w.start.next) → IsBetween ends w → Starts ends (with_sent w)
+sent-starts ends w h good b = elim (cases_Bool (is_beginning w.start)) [
+  | inl on ↦
+      let place : w.start.place ≡ 0 = eqb-true w.start.place 0 (and_parts (is_idle w.start.phase) (w.start.place == 0) on).1 in
+      subst (λ (flags : List Bool). Starts ends (sent-with w flags)) (sym (if_true (is_beginning w.start) (replicate (length w.start.plan) false) w.troubles on))
+      (sent-between ends (cleared w) (cleared-slaves w h) good (cleared-between ends w h b place))
+  | inr off ↦
+      subst (λ (flags : List Bool). Starts ends (sent-with w flags)) (sym (if_false (is_beginning w.start) (replicate (length w.start.plan) false) w.troubles off))
+      (sent-between ends w h good b)
+]
+
+-- ---- a start-up begins, in a new world or after a failure
+
+begun-at : (ps : List SlavePlan) (number : ℕ) → ((begun ps number).plan ≡ ps) × ((begun ps number).place ≡ 0) × ((begun ps number).phase ≡ Idle)
+unfolding begun
+begun-at ps number = (refl, refl, refl)
+
+some-script : (ps : List SlavePlan) → 0 < length (script ps)
+some-script [] = omega arith
+some-script (p ∷ ps) = omega arith
+
+script-ahead : (ps : List SlavePlan) → length ps ≤ 64 → AreStartable ps → AreAhead ps (script ps) (ends_of ps) (λ i. Before)
+script-ahead [] few h = record { each = λ i l. absurd (omega (arith, l)) }
+script-ahead (p ∷ ps) few h = record { each = λ i l. script-leads no_plan p ps i l few (h.each i l) }
+
+pub begun-starts : (w : Starting) → AreSlaves w → AreStartable w.start.plan → Starts (ends_of w.start.plan) (with_begun w)
+unfolding begun
+begun-starts w h planned = record {
+  slaves = record { slaves = h.slaves; troubles = h.troubles; few = h.few; each = h.each };
+  instant = Between (record {
+    idle = refl;
+    empty = refl;
+    inside = some-script w.start.plan;
+    stages = λ i. Before;
+    ahead = script-ahead w.start.plan h.few planned;
+    stand = record { each = λ i l. record { slave = h.each i l; at = inl tt } };
+  });
+}
+
+-- ---- the events of a world that starts up
+
+none-some : (c : Carried) → (let o : Option Carried = None in o ≡ Some c) → ⊥
+none-some c e = cc
+
+some-same : (b c : Carried) → (let o : Option Carried = Some b in o ≡ Some c) → b ≡ c
+some-same b c e = cc
+
+idle-sent : (n : ℕ) → Idle ≡ Sent n → ⊥
+idle-sent n e = cc
+
+idle-failed : (f : StartError) → Idle ≡ Failed f → ⊥
+idle-failed f e = cc
+
+idle-ready : Idle ≡ Ready → ⊥
+idle-ready e = cc
+
+sent-failed : (n : ℕ) (f : StartError) → Sent n ≡ Failed f → ⊥
+sent-failed n f e = cc
+
+failed-ready : (f : StartError) → Failed f ≡ Ready → ⊥
+failed-ready f e = cc
+
+sent-ready : (n : ℕ) → Sent n ≡ Ready → ⊥
+sent-ready n e = cc
+
+over : (ends : ℕ → Config) (v : Starting) (f : StartError) → AreSlaves v → v.start.phase ≡ Failed f → Starts ends v
+over ends v f h e = record { slaves = h; instant = Over (record { failure = f; failed = e }) }
+
+same-slaves : (w : Starting) (s : StartState) (o : Option Carried) → s.plan ≡ w.start.plan → AreSlaves w → AreSlaves (record { start = s; slaves = w.slaves; troubles = w.troubles; slot = o })
+same-slaves w s o e h = record {
+  slaves = h.slaves ∙ ap length (sym e);
+  troubles = h.troubles ∙ ap length (sym e);
+  few = subst (λ (ps : List SlavePlan). length ps ≤ 64) (sym e) h.few;
+  each = subst (λ (ps : List SlavePlan). (i : ℕ) → i < length ps → IsOfKind (kind_at ps i) (slave_at w.slaves i)) (sym e) h.each;
+}
+
+-- a slave by itself
+served-keeps : (kind : SlaveKind) (b : Bool) (s : SlaveState) → Keeps kind b s b (served s)
+served-keeps kind b s = record {
+  slave = λ h. (stands-served kind 0 Before b s (record { slave = h; at = inl tt })).slave;
+  stands = λ i st h. stands-served kind i st b s h;
+}
+
+pub happens-starts : (ends : ℕ → Config) (w v : Starting) → Happens w v → Starts ends w → Starts ends v
+happens-starts ends w v (Sends idle good e) h = subst (Starts ends) (sym e) (by h.instant)
+  where
+    by : Instant ends w → Starts ends (with_sent w)
+    by (Between b) = sent-starts ends w h.slaves good b
+    by (UnderWay b) = absurd (idle-sent _ (sym idle ∙ b.sent))
+    by (Adrift b) = absurd (idle-sent _ (sym idle ∙ b.sent))
+    by (Over b) = absurd (idle-failed _ (sym idle ∙ b.failed))
+    by (IsReady b) = absurd (idle-ready (sym idle ∙ b.ready))
+happens-starts ends w v (Passes c full l e) h = subst (Starts ends) (sym e) (by h.instant)
+  where
+    by : Instant ends w → Starts ends (with_passed w c)
+    by (Between b) = absurd (none-some c (sym b.empty ∙ full))
+    by (UnderWay b) =
+        let q : b.carried ≡ c = some-same b.carried c (sym b.full ∙ full) in
+        subst (λ (x : Carried). Starts ends (with_passed w x)) q (pass-starts keeps pass-law later ends w h.slaves b (subst (λ (x : Carried). x.passed < length w.start.plan) (sym q) l))
+    by (Adrift b) = absurd (none-some c (sym b.empty ∙ full))
+    by (Over b) = over ends (with_passed w c) b.failure (pass-slaves keeps w c l h.slaves) b.failed
+    by (IsReady b) = absurd (none-some c (sym b.empty ∙ full))
+happens-starts ends w v (Loses c full e) h = subst (Starts ends) (sym e) (by h.instant)
+  where
+    by : Instant ends w → Starts ends (with_empty w)
+    by (Between b) = absurd (none-some c (sym b.empty ∙ full))
+    by (UnderWay b) = record { slaves = same-slaves w w.start None refl h.slaves; instant = Adrift (record { number = b.carried.number; sent = b.sent; empty = refl }) }
+    by (Adrift b) = absurd (none-some c (sym b.empty ∙ full))
+    by (Over b) = over ends (with_empty w) b.failure (same-slaves w w.start None refl h.slaves) b.failed
+    by (IsReady b) = absurd (none-some c (sym b.empty ∙ full))
+happens-starts ends w v (Returns c full l sent e) h = subst (Starts ends) (sym e) (by h.instant)
+  where
+    by : Instant ends w → Starts ends (with_start w (taken w.start c.datagram))
+    by (Between b) = absurd (none-some c (sym b.empty ∙ full))
+    by (UnderWay b) =
+        let q : b.carried ≡ c = some-same b.carried c (sym b.full ∙ full) in
+        subst (λ (x : Carried). Starts ends (with_start w (taken w.start x.datagram))) q (take-starts takes ends w h.slaves b (ap (λ (x : Carried). x.passed) q ∙ l))
+    by (Adrift b) = absurd (none-some c (sym b.empty ∙ full))
+    by (Over b) = absurd (sent-failed _ _ (sym sent ∙ b.failed))
+    by (IsReady b) = absurd (sent-ready _ (sym sent ∙ b.ready))
+happens-starts ends w v (Strays c f full failed e) h = subst (Starts ends) (sym e) (over ends (with_empty w) f (same-slaves w w.start None refl h.slaves) failed)
+happens-starts ends w v (Closes number sent e) h = subst (Starts ends) (sym e) (over ends (with_lost w) Lost (same-slaves w (record w.start { phase = Failed Lost }) w.slot refl h.slaves) refl)
+happens-starts ends w v (Serves k l e) h = subst (Starts ends) (sym e) (slave-starts ends w k _ _ l (served-keeps (kind_at w.start.plan k) (trouble_at w.troubles k) (slave_at w.slaves k)) h)
+happens-starts ends w v (Puts k place byte l e) h = subst (Starts ends) (sym e) (slave-starts ends w k _ _ l (record {
+  slave = λ q. (put-stands (kind_at w.start.plan k) 0 Before (trouble_at w.troubles k) (slave_at w.slaves k) place byte (record { slave = q; at = inl tt })).slave;
+  stands = λ i st q. put-stands (kind_at w.start.plan k) i st (trouble_at w.troubles k) (slave_at w.slaves k) place byte q;
+}) h)
+happens-starts ends w v (Gets k place l e) h = subst (Starts ends) (sym e) (slave-starts ends w k _ _ l (record {
+  slave = λ q. (got-stands (kind_at w.start.plan k) 0 Before (trouble_at w.troubles k) (slave_at w.slaves k) place (record { slave = q; at = inl tt })).slave;
+  stands = λ i st q. got-stands (kind_at w.start.plan k) i st (trouble_at w.troubles k) (slave_at w.slaves k) place q;
+}) h)
+happens-starts ends w v (Faults k l op e) h = subst (Starts ends) (sym e) (slave-starts ends w k _ _ l (record {
+  slave = λ q. (fault-stands (kind_at w.start.plan k) 0 Before (trouble_at w.troubles k) (slave_at w.slaves k) op (record { slave = q; at = inl tt })).slave;
+  stands = λ i st q. fault-stands (kind_at w.start.plan k) i st (trouble_at w.troubles k) (slave_at w.slaves k) op q;
+}) h)
+happens-starts ends w v (Resets k l e) h =
+    let is : (slave_at w.slaves k).kind ≡ kind_at w.start.plan k = (h.slaves.each k l).kind_is in
+    subst (Starts ends) (sym e) (slave-starts ends w k _ _ l (record {
+      slave = λ q. subst (λ (x : SlaveKind). IsOfKind x (power_on (slave_at w.slaves k).kind (slave_at w.slaves k).identity)) is (power_on_is (slave_at w.slaves k).kind (slave_at w.slaves k).identity);
+      stands = λ i st q. subst (λ (x : SlaveKind). Stands x i st true (power_on (slave_at w.slaves k).kind (slave_at w.slaves k).identity)) is (reset_stands (slave_at w.slaves k).kind (slave_at w.slaves k).identity i st);
+    }) h)
+
+-- ---- what a slave holds when the start-up is ready
+
+end-idle : (p : SlavePlan) → (end_of p).idle ≡ true
+end-idle p = (asked-frame p p.kind.mailbox).idle
+
+end-talk : (p : SlavePlan) → (end_of p).talk ≡ None
+end-talk p = (asked-frame p p.kind.mailbox).talk
+
+all-held : (i : ℕ) (p : SlavePlan) (s : SlaveState) → IsStartable p → IsOfKind p.kind s → IsConfigured i (end_of p) s → IsSilent (end_of p) s → HoldsAll i p s
+all-held i p s planned slave configured silent =
+    let q = assignment-held p p.kind.mailbox s refl planned slave (record { outs = silent.assigned.outs; ins = silent.assigned.ins }) in
+    record { configured = configured; silent = silent; no_read = configured.idle (end-idle p); outs = q.0; ins = q.1 }
+
+up-works : (i : ℕ) (p : SlavePlan) (s : SlaveState) → IsStartable p → IsOfKind p.kind s → IsUpAt i (end_of p) s → Works i p s
+up-works i p s planned slave u = record {
+  holds = all-held i p s planned slave u.configured (subst (λ (o : Option Talk). Talks i (end_of p) o s) (end-talk p) u.talks);
+  in_op = u.rises;
+  unlocked = u.unlocked;
+}
+
+up-fault : (i : ℕ) (p : SlavePlan) (s : SlaveState) → IsStartable p → IsOfKind p.kind s → IsFaultedAt i (end_of p) s → HasFault i p s
+up-fault i p s planned slave u = record {
+  holds = all-held i p s planned slave u.configured u.silent;
+  state = u.state;
+  error = u.error;
+  no_request = u.no_request;
+  locked = u.locked;
+  unlocked = u.unlocked;
+}
+
+pub stands-shown : (i : ℕ) (p : SlavePlan) (trouble : Bool) (s : SlaveState) → IsStartable p → Stands p.kind i (Up (end_of p)) trouble s → Shown i p trouble s
+stands-shown i p trouble s planned h = elim h.at [
+  | inl r ↦ Working (up-works i p s planned h.slave r)
+  | inr (t, inl g) ↦ WasReset t g
+  | inr (t, inr g) ↦ Faulted t (up-fault i p s planned h.slave g.faulted)
+]
+
+-- A world whose start-up is ready: each slave that doesn't work had a fault or a reset in this start-up.
+pub ready-shown : (w : Starting) → AreStartable w.start.plan → Starts (ends_of w.start.plan) w → w.start.phase ≡ Ready → (i : ℕ) → i < length w.start.plan
+    → Shown i (get_or w.start.plan i no_plan) (trouble_at w.troubles i) (slave_at w.slaves i)
+ready-shown w planned h ready i l = by h.instant
+  where
+    by : Instant (ends_of w.start.plan) w → Shown i (get_or w.start.plan i no_plan) (trouble_at w.troubles i) (slave_at w.slaves i)
+    by (IsReady b) = stands-shown i (get_or w.start.plan i no_plan) (trouble_at w.troubles i) (slave_at w.slaves i) (planned.each i l) (b.stand.each i l)
+    by (Between b) = absurd (idle-ready (sym b.idle ∙ ready))
+    by (UnderWay b) = absurd (sent-ready _ (sym b.sent ∙ ready))
+    by (Adrift b) = absurd (sent-ready _ (sym b.sent ∙ ready))
+    by (Over b) = absurd (failed-ready _ (sym b.failed ∙ ready))
+
+-- ---- whole runs
+
+again-plan : (s : StartState) (b : Bool) → (let t : StartState = if b then record s { phase = Failed (TooSlow s.place) } else record s { polls = s.polls + 1; phase = Idle } in t.plan) ≡ s.plan
+again-plan s true = refl
+again-plan s false = refl
+
+judged-plan : (s : StartState) (x : Verdict) → (judged s x).plan ≡ s.plan
+judged-plan s Next = refl
+judged-plan s (Shows value) = refl
+judged-plan s Again = again-plan s (s.polls + 1 == 1000)
+judged-plan s (Fails f) = refl
+
+pub taken-plan : (s : StartState) (d : Datagram) → (taken s d).plan ≡ s.plan
+taken-plan s d = judged-plan s (verdict (length s.plan) s.place s.seen (type_of s.plan) (action_of s) d)
+
+pub happens-plan : (w v : Starting) → Happens w v → v.start.plan ≡ w.start.plan
+happens-plan w v (Sends idle good e) = ap (λ (x : Starting). x.start.plan) e
+happens-plan w v (Passes c full l e) = ap (λ (x : Starting). x.start.plan) e
+happens-plan w v (Loses c full e) = ap (λ (x : Starting). x.start.plan) e
+happens-plan w v (Returns c full l sent e) = ap (λ (x : Starting). x.start.plan) e ∙ taken-plan w.start c.datagram
+happens-plan w v (Strays c f full failed e) = ap (λ (x : Starting). x.start.plan) e
+happens-plan w v (Closes number sent e) = ap (λ (x : Starting). x.start.plan) e
+happens-plan w v (Serves k l e) = ap (λ (x : Starting). x.start.plan) e
+happens-plan w v (Puts k place byte l e) = ap (λ (x : Starting). x.start.plan) e
+happens-plan w v (Gets k place l e) = ap (λ (x : Starting). x.start.plan) e
+happens-plan w v (Faults k l op e) = ap (λ (x : Starting). x.start.plan) e
+happens-plan w v (Resets k l e) = ap (λ (x : Starting). x.start.plan) e
+
+pub begun-plan : (w : Starting) → (with_begun w).start.plan ≡ w.start.plan
+unfolding begun
+begun-plan w = refl
+
+pub record IsGood (ps : List SlavePlan) (w : Starting) : Type 0 where
+  pub plan_is : w.start.plan ≡ ps
+  pub starts : Starts (ends_of ps) w
+
+pub runs-good : (ps : List SlavePlan) → AreStartable ps → (w v : Starting) → Runs w v → IsGood ps w → IsGood ps v
+runs-good ps planned w v (Stops x) h = h
+runs-good ps planned w v (Steps x u y e r) h =
+    runs-good ps planned u v r (record { plan_is = happens-plan w u e ∙ h.plan_is; starts = happens-starts (ends_of ps) w u e h.starts })
+runs-good ps planned w v (Begins x y f failed empty r) h =
+    runs-good ps planned (with_begun w) v r (record {
+      plan_is = begun-plan w ∙ h.plan_is;
+      starts = subst (λ (qs : List SlavePlan). Starts (ends_of qs) (with_begun w)) h.plan_is (begun-starts w h.starts.slaves (subst AreStartable (sym h.plan_is) planned));
+    })
+
+pub new-good : (ps : List SlavePlan) → AreStartable ps → (w : Starting) → IsNew ps w → IsGood ps w
+new-good ps planned w new = record {
+  plan_is = new.plan_is;
+  starts = subst (λ (x : Starting). Starts (ends_of ps) x) (sym new.start)
+      (subst (λ (qs : List SlavePlan). Starts (ends_of qs) (with_begun w)) new.plan_is (begun-starts w new.slaves (subst AreStartable (sym new.plan_is) planned)));
+}
+
+pub start-up : StartUpLaw
+start-up ps planned w v new r ready i l =
+    let first : IsGood ps w = record {
+      plan_is = new.plan_is;
+      starts = subst (λ (x : Starting). Starts (ends_of ps) x) (sym new.start)
+          (subst (λ (qs : List SlavePlan). Starts (ends_of qs) (with_begun w)) new.plan_is (begun-starts w new.slaves (subst AreStartable (sym new.plan_is) planned)));
+    } in
+    let g : IsGood ps v = runs-good ps planned w v r first in
+    subst (λ (qs : List SlavePlan). Shown i (get_or qs i no_plan) (trouble_at v.troubles i) (slave_at v.slaves i)) g.plan_is
+    (ready-shown v (subst AreStartable (sym g.plan_is) planned) (subst (λ (qs : List SlavePlan). Starts (ends_of qs) v) (sym g.plan_is) g.starts) ready i (subst (λ (qs : List SlavePlan). i < length qs) (sym g.plan_is) l))
+
+-- ---- a frame's two datagrams at a slave: the first is a NOP, so the second alone counts
+
+pub frame-passes : (s : SlaveState) (number : ℕ) (d : Datagram) → passes_all s (numbered number 0 ∷ d ∷ []) ≡ record { slave = slave_met s d; datagrams = numbered number 0 ∷ datagram_met s d ∷ [] }
+frame-passes s number d = two-pass s number d

@@ -1,0 +1,5 @@
+use Rattle.ec_bringup.proofs.Devices.{again}
+use Rattle.ec_bringup.proofs.laws.again.Goals as goal
+
+pub returns : goal.returns
+returns c = again

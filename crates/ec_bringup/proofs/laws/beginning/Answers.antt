@@ -1,0 +1,5 @@
+use Rattle.ec_bringup.proofs.Beginnings.{beginning}
+use Rattle.ec_bringup.proofs.laws.beginning.Goals as goal
+
+pub returns : goal.returns
+returns c = beginning

@@ -1,0 +1,5 @@
+use Rattle.ec_bringup.proofs.Up.{comes-up}
+use Rattle.ec_bringup.proofs.laws.comes_up.Goals as goal
+
+pub returns : goal.returns
+returns c = comes-up

@@ -1,0 +1,5 @@
+use Rattle.ec_bringup.proofs.CompleteLaws.{are-plans}
+use Rattle.ec_bringup.proofs.laws.compiled_plans.Goals as goal
+
+pub returns : goal.returns
+returns c = are-plans

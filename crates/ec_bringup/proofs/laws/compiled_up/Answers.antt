@@ -1,0 +1,5 @@
+use Rattle.ec_bringup.proofs.Up.{compiled-up}
+use Rattle.ec_bringup.proofs.laws.compiled_up.Goals as goal
+
+pub returns : goal.returns
+returns c = compiled-up

@@ -1,0 +1,5 @@
+use Rattle.ec_bringup.proofs.Genuine.{stays}
+use Rattle.ec_bringup.proofs.laws.devices_stay_devices.Goals as goal
+
+pub returns : goal.returns
+returns c = stays

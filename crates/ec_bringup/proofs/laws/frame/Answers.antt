@@ -1,0 +1,5 @@
+use Rattle.ec_bringup.proofs.PassLaws.{pass-law}
+use Rattle.ec_bringup.proofs.laws.frame.Goals as goal
+
+pub returns : goal.returns
+returns c = pass-law

@@ -1,0 +1,5 @@
+use Rattle.ec_bringup.proofs.Keeping.{gone-is-silent}
+use Rattle.ec_bringup.proofs.laws.gone.Goals as goal
+
+pub returns : goal.returns
+returns c = gone-is-silent

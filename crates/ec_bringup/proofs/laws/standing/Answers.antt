@@ -1,0 +1,5 @@
+use Rattle.ec_bringup.proofs.Keeping.{stays-standing}
+use Rattle.ec_bringup.proofs.laws.standing.Goals as goal
+
+pub returns : goal.returns
+returns c = stays-standing

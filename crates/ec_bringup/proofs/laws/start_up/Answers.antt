@@ -1,0 +1,5 @@
+use Rattle.ec_bringup.proofs.Theorem.{start-up}
+use Rattle.ec_bringup.proofs.laws.start_up.Goals as goal
+
+pub returns : goal.returns
+returns c = start-up

@@ -1,0 +1,7 @@
+use Rattle.std.proofs.Common.{◌≡◌, map, take, drop, ◌++◌, length}
+use Rattle.ec_slave.specs.Serving.{served}
+use Rattle.ec_bringup.proofs.turns.serve_all.Given as goal
+
+-- the slaves before the place have served, the others not yet
+abbrev pub invariant-loop-place : goal.invariant-loop-place
+invariant-loop-place l = (l.ring ≡ map served (take l.place l.initial.ring) ++ drop l.place l.initial.ring) × (l.place-end ≡ length l.initial.ring)

@@ -1,0 +1,44 @@
+-- A start-up between whose frames the slaves' applications step.
+use Rattle.std.specs.Prelude.{ℕ, zero, suc, ◌+◌, ◌<◌, ◌≡◌, List, [], ◌∷◌, length, true, Option}
+use Rattle.ec_sync.specs.Buffer.{Buffer}
+use Rattle.ec_slave.specs.State.{SlaveState, manager_at}
+use Rattle.ec_slave.specs.Application.{is_running, with_manager}
+use Rattle.ec_link.specs.declared.settings.SlavePlan.{SlavePlan}
+use Rattle.ec_start.specs.Scripts.{script}
+use Rattle.ec_start.specs.Running.{begun}
+use Rattle.ec_bringup.specs.Undisturbed.{Rising, turned, ArePlans, AreDevices}
+use Rattle.ec_bringup.specs.BringUp.{rising}
+use Rattle.ec_bringup.specs.ComesUp.{IsOnItsWay, IsUpAndWorks}
+
+-- what the application has still to read of the outputs
+abbrev pub with_view : SlaveState → Option (List ℕ) → SlaveState
+with_view s view = with_manager s 2 (record (manager_at s.managers 2) { buffer = record (manager_at s.managers 2).buffer { view = view } })
+
+-- what it has written of the inputs
+abbrev pub with_inputs : SlaveState → Buffer → SlaveState
+with_inputs s inputs = with_manager s 3 (record (manager_at s.managers 3) { buffer = inputs })
+
+-- All that an application can change of its slave, in SAFEOP and in OP: how far it has read the outputs, and the inputs.
+pub data Applied : SlaveState → SlaveState → Type 0 where
+  Rests : (s : SlaveState) → Applied s s
+  Reads : (s t : SlaveState) (view : Option (List ℕ)) → is_running s.al.state ≡ true → Applied (with_view s view) t → Applied s t
+  Writes : (s t : SlaveState) (inputs : Buffer) → is_running s.al.state ≡ true → Applied (with_inputs s inputs) t → Applied s t
+
+-- that of each slave
+abbrev pub AreApplied : List SlaveState → List SlaveState → Type 0
+AreApplied [] [] = Unit {0}
+AreApplied [] (t ∷ ts) = ⊥
+AreApplied (s ∷ ss) [] = ⊥
+AreApplied (s ∷ ss) (t ∷ ts) = Applied s t × AreApplied ss ts
+
+-- so many turns, behind each of which the applications step
+pub data TurnsTo : ℕ → Rising → Rising → Type 0 where
+  Stays : (r : Rising) → TurnsTo zero r r
+  Turns : (n : ℕ) (r e : Rising) (ss : List SlaveState) → AreApplied (turned r).slaves ss → TurnsTo n (rising (turned r).start ss) e → TurnsTo (suc n) r e
+
+-- Whatever applications do between its frames, a start-up that nothing else disturbs is Ready after as many frames as its script
+-- has actions, and not before.
+abbrev pub AppliedUpLaw : Type 0
+AppliedUpLaw =
+    (ps : List SlavePlan) → ArePlans ps → (from : ℕ) (ss : List SlaveState) → AreDevices ps ss → (k : ℕ) (e : Rising) → TurnsTo k (rising (begun ps from) ss) e
+    → (k < length (script ps) → IsOnItsWay (from + k) e) × (k ≡ length (script ps) → IsUpAndWorks ps (from + k) e)

@@ -1,0 +1,66 @@
+-- A start-up that nothing disturbs ends Ready.
+use Rattle.std.specs.Prelude.{ℕ, ◌+◌, ◌<◌, ◌≡◌, List, length, None}
+use Rattle.ec_slave.specs.State.{SlaveState}
+use Rattle.ec_table.specs.Contents.{Contents}
+use Rattle.ec_table.specs.Sound as table
+use Rattle.ec_link.specs.Faults.{compile_fault}
+use Rattle.ec_link.specs.Plan.{plan_of}
+use Rattle.ec_link.specs.declared.settings.SlavePlan.{SlavePlan}
+use Rattle.ec_start.specs.Scripts.{script}
+use Rattle.ec_start.specs.declared.phase.Phase.TheVariants.{Idle, Ready}
+use Rattle.ec_start.specs.Running.{begun}
+use Rattle.ec_frame.specs.Datagram.{IsDatagram}
+use Rattle.ec_bringup.specs.Undisturbed.{Rising, frame_at, turns, plan_at, slave_of, ArePlans, AreDevices}
+use Rattle.ec_device.specs.Types.{SlaveKind}
+use Rattle.ec_bringup.specs.Starting.{Starting}
+use Rattle.ec_bringup.specs.Runs.{Works, IsNew, Runs}
+
+-- it ended Ready, with every slave working as the plan says
+pub record IsUpAndWorks (ps : List SlavePlan) (number : ℕ) (r : Rising) : Type 0 where
+  pub ready : r.start.phase ≡ Ready
+  pub next_number : r.start.next ≡ number
+  pub count : length r.slaves ≡ length ps
+  pub work : (i : ℕ) → i < length ps → Works i (plan_at ps i) (slave_of r.slaves i)
+
+-- it hasn't ended, each frame so far took one number, and the next one can be sent
+pub record IsOnItsWay (number : ℕ) (r : Rising) : Type 0 where
+  pub idle : r.start.phase ≡ Idle
+  pub next_number : r.start.next ≡ number
+  pub good : IsDatagram (frame_at r)
+
+-- Of every plan, from devices of its types in any state: where each frame passes all slaves, each slave serves once and the
+-- frame comes back, the start-up is Ready after as many frames as its script has actions, and not before.
+abbrev pub ComesUpLaw : Type 0
+ComesUpLaw =
+    (ps : List SlavePlan) → ArePlans ps → (from : ℕ) (ss : List SlaveState) → AreDevices ps ss
+    → let r : Rising = record { start = begun ps from; slaves = ss } in
+    IsUpAndWorks ps (from + length (script ps)) (turns (length (script ps)) r)
+    × ((k : ℕ) → k < length (script ps) → IsOnItsWay (from + k) (turns k r))
+
+-- The plan of a table that `compile` accepts is one.
+abbrev pub CompiledPlansLaw : Type 0
+CompiledPlansLaw = (t : Contents) → table.IsSound t → compile_fault t ≡ None → ArePlans (plan_of t).slaves
+
+-- So an undisturbed start-up of it ends Ready too.
+abbrev pub CompiledUpLaw : Type 0
+CompiledUpLaw =
+    (t : Contents) → table.IsSound t → compile_fault t ≡ None → (from : ℕ) (ss : List SlaveState) → AreDevices (plan_of t).slaves ss
+    → let r : Rising = record { start = begun (plan_of t).slaves from; slaves = ss } in
+    IsUpAndWorks (plan_of t).slaves (from + length (script (plan_of t).slaves)) (turns (length (script (plan_of t).slaves)) r)
+    × ((k : ℕ) → k < length (script (plan_of t).slaves) → IsOnItsWay (from + k) (turns k r))
+
+-- ---- whatever happened before
+
+-- its SII has its own identity, and that is the type's, the serial number aside
+pub record IsTrue (kind : SlaveKind) (s : SlaveState) : Type 0 where
+  pub image : s.sii.image.identity ≡ s.identity
+  pub vendor : s.identity.vendor ≡ kind.device.vendor
+  pub product : s.identity.product ≡ kind.device.product
+  pub revision : s.identity.revision ≡ kind.device.revision
+
+pub record AreTrue (w : Starting) : Type 0 where
+  pub each : (i : ℕ) → i < length w.start.plan → IsTrue (plan_at w.start.plan i).kind (slave_of w.slaves i)
+
+-- After any run of a new world, disturbed as it may be, its slaves are devices: from there too a start-up comes up.
+abbrev pub AgainLaw : Type 0
+AgainLaw = (ps : List SlavePlan) → ArePlans ps → (w v : Starting) → IsNew ps w → AreTrue w → Runs w v → AreDevices ps v.slaves

@@ -1,0 +1,235 @@
+-- How far a start-up has brought one slave: what the actions so far have told it. Nothing of a slave's memory occurs here.
+use Rattle.std.specs.Prelude.{ℕ, ◌+◌, ◌<◌, ◌≡◌, ◌==◌, List, [], ◌∷◌, ◌++◌, length, set, Bool, true, false, if◌then◌else◌, Option, Some, None}
+use Rattle.ec_regs.specs.declared.manager.SyncManagerSettings.{SyncManagerSettings}
+use Rattle.ec_regs.specs.declared.fmmu.FmmuSettings.{FmmuSettings}
+use Rattle.ec_device.specs.declared.slave_type.Mailbox.{Mailbox}
+use Rattle.ec_regs.specs.Managers.{no_settings}
+use Rattle.ec_regs.specs.Fmmus.{no_fmmu}
+use Rattle.ec_al.specs.declared.state.State.{State}
+use Rattle.ec_al.specs.declared.state.State.TheVariants.{Init, PreOp, SafeOp, Op}
+use Rattle.ec_coe.specs.Objects.{output_assignment, input_assignment}
+use Rattle.ec_start.specs.Plans.{settings_at}
+use Rattle.ec_start.specs.declared.action.Action.{Action}
+use Rattle.ec_start.specs.declared.action.Action.TheVariants.{CountSlaves, AskInit, AwaitInit, ClearFmmus, ClearManagers, ClearStations, NameSlave, AskWord, AwaitWord, SetManager, SetFmmu, AskState, AwaitState, SendRequest, AwaitReply}
+use Rattle.ec_start.specs.declared.action.SdoRequest.{SdoRequest}
+use Rattle.ec_start.specs.declared.action.Transfer.{Transfer}
+use Rattle.ec_start.specs.declared.action.Transfer.TheVariants.{Download, Upload}
+use Rattle.ec_link.specs.declared.settings.SlavePlan.{SlavePlan}
+use Rattle.ec_start.specs.Scripts.{requests}
+use Rattle.ec_start.specs.Planned.{AreMailboxes, IsRequest}
+
+-- what is known of the AL state machine
+pub data Rise : Type 0 where
+  -- in this state, without an error
+  Stays : State → Rise
+  -- in the first state, and asked for the second
+  Climbs : State → State → Rise
+
+-- what is known of an assignment object: the count, and the first slots
+pub record Claim : Type 0 where
+  pub count : Option ℕ
+  pub slots : List ℕ
+
+abbrev pub no_claim : Claim
+no_claim = record { count = None; slots = [] }
+
+-- a request that was sent and not answered yet
+pub record Talk : Type 0 where
+  pub mailbox : Mailbox
+  pub counter : ℕ
+  pub request : SdoRequest
+
+pub record Config : Type 0 where
+  pub managers : List SyncManagerSettings
+  pub fmmus : List FmmuSettings
+  -- whether the SII is known not to be busy
+  pub idle : Bool
+  pub talk : Option Talk
+  pub outs : Claim
+  pub ins : Claim
+  pub rise : Rise
+
+pub data Stage : Type 0 where
+  -- nothing was asked of it in this start-up
+  Before : Stage
+  -- it was asked for INIT
+  Called : Stage
+  -- in INIT; whether its FMMUs and its managers were cleared
+  Down : (fmmus managers : Bool) → Stage
+  -- it has its station address
+  Up : Config → Stage
+
+-- as it gets its station address
+abbrev pub fresh : Config
+fresh = record {
+  managers = no_settings ∷ no_settings ∷ no_settings ∷ no_settings ∷ [];
+  fmmus = no_fmmu ∷ no_fmmu ∷ no_fmmu ∷ no_fmmu ∷ [];
+  idle = false;
+  talk = None;
+  outs = no_claim;
+  ins = no_claim;
+  rise = Stays Init;
+}
+
+-- ---- what an action does
+
+abbrev pub slot_claimed : Claim → ℕ → ℕ → Claim
+slot_claimed c subindex value =
+    record { count = c.count; slots = if subindex == length c.slots + 1 then c.slots ++ value ∷ [] else [] }
+
+abbrev pub claimed : Claim → ℕ → ℕ → Claim
+claimed c subindex value =
+    if subindex == 0 then record { count = Some value; slots = if value == 0 then [] else c.slots } else slot_claimed c subindex value
+
+abbrev pub answered_by : Config → SdoRequest → Transfer → Config
+answered_by c r (Upload v) = record c { talk = None }
+answered_by c r (Download v) =
+    if r.index == output_assignment then record c { talk = None; outs = claimed c.outs r.subindex v.number }
+    else (if r.index == input_assignment then record c { talk = None; ins = claimed c.ins r.subindex v.number }
+    else record c { talk = None })
+
+-- what is known once the reply to the request has come and fits
+abbrev pub answered : Config → SdoRequest → Config
+answered c r = answered_by c r r.transfer
+
+abbrev pub climbing : Rise → State → Rise
+climbing (Stays state) wanted = Climbs state wanted
+climbing (Climbs state other) wanted = Climbs state wanted
+
+-- what an action does to the slave that it is for
+abbrev pub told : Config → Action → Config
+told c (AskWord i which) = record c { idle = false }
+told c (AwaitWord i which) = record c { idle = true }
+told c (SetManager i n m) = record c { managers = set c.managers n m }
+told c (SetFmmu i n f) = record c { fmmus = set c.fmmus n f }
+told c (AskState i state) = record c { rise = climbing c.rise state }
+told c (AwaitState i state) = record c { rise = Stays state }
+told c (SendRequest i counter b r) = record c { talk = Some (record { mailbox = b; counter = counter; request = r }) }
+told c (AwaitReply i b r) = answered c r
+told c _ = c
+
+abbrev pub told_at : Stage → Action → Stage
+told_at (Up c) a = Up (told c a)
+told_at st a = st
+
+abbrev pub if_mine : ℕ → ℕ → Stage → Stage → Stage
+if_mine t i mine others = if t == i then mine else others
+
+abbrev pub after : ℕ → Stage → Action → Stage
+after i st CountSlaves = st
+after i st AskInit = Called
+after i st AwaitInit = Down false false
+after i (Down f m) ClearFmmus = Down true m
+after i (Down f m) ClearManagers = Down f true
+after i st ClearFmmus = st
+after i st ClearManagers = st
+after i st ClearStations = st
+after i st (NameSlave t) = if_mine t i (Up fresh) st
+after i st (AskWord t which) = if_mine t i (told_at st (AskWord t which)) st
+after i st (AwaitWord t which) = if_mine t i (told_at st (AwaitWord t which)) st
+after i st (SetManager t n m) = if_mine t i (told_at st (SetManager t n m)) st
+after i st (SetFmmu t n f) = if_mine t i (told_at st (SetFmmu t n f)) st
+after i st (AskState t state) = if_mine t i (told_at st (AskState t state)) st
+after i st (AwaitState t state) = if_mine t i (told_at st (AwaitState t state)) st
+after i st (SendRequest t counter b r) = if_mine t i (told_at st (SendRequest t counter b r)) st
+after i st (AwaitReply t b r) = if_mine t i (told_at st (AwaitReply t b r)) st
+
+-- ---- which action may come at a stage
+
+-- one step up
+abbrev pub IsStepUp : State → State → Type 0
+IsStepUp Init PreOp = Unit {0}
+IsStepUp PreOp SafeOp = Unit {0}
+IsStepUp SafeOp Op = Unit {0}
+IsStepUp _ _ = ⊥
+
+abbrev pub CanClimb : Rise → State → Type 0
+CanClimb (Stays from) to = IsStepUp from to
+CanClimb (Climbs from other) to = ⊥
+
+abbrev pub IsClimbing : Rise → State → Type 0
+IsClimbing (Stays from) to = ⊥
+IsClimbing (Climbs from other) to = IsStepUp from to × (other ≡ to)
+
+-- below SAFEOP
+abbrev pub IsLow : Rise → Type 0
+IsLow (Stays Init) = Unit {0}
+IsLow (Stays PreOp) = Unit {0}
+IsLow _ = ⊥
+
+abbrev pub CanTell : Config → Action → Type 0
+CanTell c (AskWord i which) = IsLow c.rise × (c.talk ≡ None)
+CanTell c (AwaitWord i which) = IsLow c.rise × (c.talk ≡ None)
+CanTell c (SetManager i n m) = IsLow c.rise × (n < length c.managers) × (length c.managers ≡ 4) × (c.talk ≡ None)
+CanTell c (SetFmmu i n f) = IsLow c.rise × (n < length c.fmmus) × (length c.fmmus ≡ 4) × (c.talk ≡ None)
+CanTell c (AskState i state) = (c.talk ≡ None) × CanClimb c.rise state
+CanTell c (AwaitState i state) = (c.talk ≡ None) × IsClimbing c.rise state
+CanTell c (SendRequest i counter b r) = IsLow c.rise × (c.talk ≡ None) × AreMailboxes b c.managers × IsRequest r
+CanTell c (AwaitReply i b r) = IsLow c.rise × ((counter : ℕ) × (c.talk ≡ Some (record { mailbox = b; counter = counter; request = r }))) × AreMailboxes b c.managers
+CanTell c _ = ⊥
+
+abbrev pub IsUp : Stage → Type 0
+IsUp (Up c) = Unit {0}
+IsUp _ = ⊥
+
+abbrev pub FitsMine : Stage → Action → Type 0
+FitsMine (Up c) a = CanTell c a
+FitsMine _ a = ⊥
+
+-- an action for one slave: every slave has its station address, and it may be told to the one
+abbrev pub FitsOne : ℕ → ℕ → Stage → Action → Type 0
+FitsOne t i st a = (t < 64) × IsUp st × (t ≡ i → FitsMine st a)
+
+abbrev pub IsDown : Stage → Type 0
+IsDown (Down f m) = Unit {0}
+IsDown _ = ⊥
+
+abbrev pub IsCalled : Stage → Type 0
+IsCalled Called = Unit {0}
+IsCalled _ = ⊥
+
+abbrev pub IsClear : Stage → Type 0
+IsClear (Down true true) = Unit {0}
+IsClear _ = ⊥
+
+abbrev pub Fits : ℕ → Stage → Action → Type 0
+Fits i st CountSlaves = Unit {0}
+Fits i st AskInit = Unit {0}
+Fits i st AwaitInit = IsCalled st
+Fits i st ClearFmmus = IsDown st
+Fits i st ClearManagers = IsDown st
+Fits i st ClearStations = IsDown st
+Fits i st (NameSlave t) = (t < 64) × (t ≡ i → IsClear st)
+Fits i st (AskWord t which) = FitsOne t i st (AskWord t which)
+Fits i st (AwaitWord t which) = FitsOne t i st (AwaitWord t which)
+Fits i st (SetManager t n m) = FitsOne t i st (SetManager t n m)
+Fits i st (SetFmmu t n f) = FitsOne t i st (SetFmmu t n f)
+Fits i st (AskState t state) = FitsOne t i st (AskState t state)
+Fits i st (AwaitState t state) = FitsOne t i st (AwaitState t state)
+Fits i st (SendRequest t counter b r) = FitsOne t i st (SendRequest t counter b r)
+Fits i st (AwaitReply t b r) = FitsOne t i st (AwaitReply t b r)
+
+-- ---- the configurations on the way
+
+abbrev pub talked_over : Config → List SdoRequest → Config
+talked_over c [] = c
+talked_over c (r ∷ rs) = talked_over (answered c r) rs
+
+abbrev pub asked_all : Config → SlavePlan → Option Mailbox → Config
+asked_all c p None = c
+asked_all c p (Some b) = talked_over c (requests p)
+
+-- identified, with its mailboxes, in PREOP
+abbrev pub prepared : SlavePlan → Config
+prepared p = record {
+  managers = settings_at p.managers 0 ∷ settings_at p.managers 1 ∷ no_settings ∷ no_settings ∷ [];
+  fmmus = fresh.fmmus;
+  idle = true;
+  talk = None;
+  outs = fresh.outs;
+  ins = fresh.ins;
+  rise = Stays PreOp;
+}
+
+abbrev pub end_of : SlavePlan → Config
+end_of p = record (asked_all (prepared p) p p.kind.mailbox) { managers = p.managers; fmmus = p.fmmus; rise = Stays Op }

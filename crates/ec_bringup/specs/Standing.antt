@@ -1,0 +1,189 @@
+-- That a slave stands at a stage of a start-up.
+use Rattle.std.specs.Prelude.{ℕ, ◌+◌, ◌<◌, ◌≤◌, ◌≡◌, ◌≢◌, ◌⊎◌, List, length, take, slice_index, Bool, true, false, Option, Some, None}
+use Rattle.std.specs.Option.{ForSome}
+use Rattle.ec_regs.specs.Memory.{fmmus, fmmu_place, ram_end}
+use Rattle.ec_regs.specs.Words.{al_word}
+use Rattle.ec_regs.specs.Managers.{no_settings}
+use Rattle.ec_regs.specs.Fmmus.{fmmu_bytes}
+use Rattle.ec_device.specs.Types.{SlaveKind}
+use Rattle.ec_sync.specs.Buffer.{Buffer, emptied_buffer}
+use Rattle.ec_sync.specs.SyncManager.{SyncManager, buffer_length}
+use Rattle.ec_al.specs.declared.state.State.{State}
+use Rattle.ec_al.specs.declared.state.State.TheVariants.{Init, SafeOp, Op}
+use Rattle.ec_al.specs.States.{state_number}
+use Rattle.ec_slave.specs.State.{SlaveState, manager_at, station_of, power_on}
+use Rattle.ec_coe.specs.Objects.{Assignment, all_assigned}
+use Rattle.ec_slave.specs.Checking.{control_word}
+use Rattle.ec_coe.specs.Messages.{message_read}
+use Rattle.ec_start.specs.Plans.{settings_at, fmmu_at}
+use Rattle.ec_start.specs.Actions.{station, filled, request_bytes}
+use Rattle.ec_start.specs.declared.verdict.Verdict.TheVariants.{Next}
+use Rattle.ec_start.specs.Verdicts.{message_verdict}
+use Rattle.ec_bringup.specs.Stages.{Rise, Stays, Climbs, Claim, Talk, Config, Stage, Before, Called, Down, Up, answered, IsStepUp}
+use Rattle.ec_start.specs.Planned.{AreMailboxes, IsRequest}
+
+-- ---- at every instant of a world
+
+-- the assignment of a slave without a mailbox can't be changed
+pub record HasAll (s : SlaveState) : Type 0 where
+  pub outs : s.outs ≡ all_assigned s.kind.outputs
+  pub ins : s.ins ≡ all_assigned s.kind.inputs
+
+pub record IsOfKind (kind : SlaveKind) (s : SlaveState) : Type 0 where
+  pub kind_is : s.kind ≡ kind
+  pub room : length s.memory ≡ ram_end
+  pub four : length s.managers ≡ 4
+  pub outs : length s.outs.slots ≡ length kind.outputs
+  pub ins : length s.ins.slots ≡ length kind.inputs
+  pub fixed : kind.mailbox ≡ None → HasAll s
+  pub unlocked_in_init : s.al.state ≡ Init → (n : ℕ) → n < 4 → (manager_at s.managers n).locked ≡ false
+
+-- ---- what is known by the actions so far
+
+-- a buffer but for its reader's view
+abbrev pub unviewed : Buffer → Buffer
+unviewed b = record b { view = None }
+
+-- It holds what its settings left: zeros, and no draft. A reader's view may be open.
+abbrev pub HoldsZeros : SyncManager → Type 0
+HoldsZeros m = unviewed m.buffer ≡ emptied_buffer (buffer_length m.settings)
+
+-- what was set is held, and the outputs are zeros
+pub record IsConfigured (i : ℕ) (c : Config) (s : SlaveState) : Type 0 where
+  pub station_is : station_of s ≡ station i
+  pub settings : (n : ℕ) → n < 4 → (manager_at s.managers n).settings ≡ settings_at c.managers n
+  pub fmmus : (n k : ℕ) → n < 4 → k < 16 → slice_index s.memory (fmmu_place n + k) ≡ slice_index (fmmu_bytes (fmmu_at c.fmmus n)) k
+  pub idle : c.idle ≡ true → s.sii.busy ≡ false
+  pub no_messages : (n : ℕ) → 2 ≤ n → n < 4 → (manager_at s.managers n).mail ≡ None
+  pub outputs : HoldsZeros (manager_at s.managers 2)
+
+-- the control word by which phase 1 asks for INIT, with the acknowledgement of errors (ETG.1000.6, "AL control")
+abbrev pub init_request : ℕ
+init_request = al_word (state_number Init) true
+
+-- in INIT without an error; a request that waits can only be phase 1's
+pub record IsInInit (s : SlaveState) : Type 0 where
+  pub state : s.al.state ≡ Init
+  pub no_error : s.al.error ≡ false
+  pub asked : s.al.requested ≡ true → control_word s ≡ init_request
+
+-- in a state, without an error or a request
+pub record IsIn (state : State) (s : SlaveState) : Type 0 where
+  pub state_is : s.al.state ≡ state
+  pub no_error : s.al.error ≡ false
+  pub no_request : s.al.requested ≡ false
+
+abbrev pub StaysIn : State → SlaveState → Type 0
+StaysIn Init s = IsInInit s
+StaysIn state s = IsIn state s
+
+-- not decided yet
+pub record IsAsked (from : State) (control : ℕ) (s : SlaveState) : Type 0 where
+  pub state : s.al.state ≡ from
+  pub no_error : s.al.error ≡ false
+  pub request : s.al.requested ≡ true
+  pub control_is : control_word s ≡ control
+
+-- refused
+pub record IsRefused (from : State) (s : SlaveState) : Type 0 where
+  pub state : s.al.state ≡ from
+  pub error : s.al.error ≡ true
+  pub no_request : s.al.requested ≡ false
+
+abbrev pub Rises : Rise → SlaveState → Type 0
+Rises (Stays state) s = StaysIn state s
+Rises (Climbs from to) s = IsStepUp from to × (IsAsked from (state_number to) s ⊎ (IsIn to s ⊎ IsRefused from s))
+
+pub record Claims (c : Claim) (a : Assignment) : Type 0 where
+  pub count_is : ForSome c.count (λ n. a.count ≡ n)
+  pub slots_are : take (length c.slots) a.slots ≡ c.slots
+
+pub record IsAssigned (c : Config) (s : SlaveState) : Type 0 where
+  pub outs : Claims c.outs s.outs
+  pub ins : Claims c.ins s.ins
+
+-- the request lies in manager 0
+pub record IsSent (t : Talk) (c : Config) (s : SlaveState) : Type 0 where
+  pub mailboxes : AreMailboxes t.mailbox c.managers
+  pub request : IsRequest t.request
+  pub mailbox_message : (manager_at s.managers 0).mail ≡ Some (filled t.mailbox.receive_size (request_bytes t.counter t.request))
+  pub no_reply : (manager_at s.managers 1).mail ≡ None
+  pub assigned : IsAssigned c s
+
+-- the reply lies in manager 1; if it is one that fits, the request was done
+pub record IsReplied (i : ℕ) (t : Talk) (c : Config) (s : SlaveState) : Type 0 where
+  pub mailboxes : AreMailboxes t.mailbox c.managers
+  pub no_message : (manager_at s.managers 0).mail ≡ None
+  pub raw : List ℕ
+  pub whole : length raw ≡ t.mailbox.send_size
+  pub reply : (manager_at s.managers 1).mail ≡ Some raw
+  pub done : message_verdict i t.request (message_read raw) ≡ Next → IsAssigned (answered c t.request) s
+
+pub record IsSilent (c : Config) (s : SlaveState) : Type 0 where
+  pub no_message : (manager_at s.managers 0).mail ≡ None
+  pub no_reply : (manager_at s.managers 1).mail ≡ None
+  pub assigned : IsAssigned c s
+
+abbrev pub Talks : ℕ → Config → Option Talk → SlaveState → Type 0
+Talks i c None s = IsSilent c s
+Talks i c (Some t) s = IsSent t c s ⊎ IsReplied i t c s
+
+abbrev pub IsTop : Rise → Type 0
+IsTop (Stays Op) = Unit {0}
+IsTop (Climbs SafeOp Op) = Unit {0}
+IsTop _ = ⊥
+
+pub record IsUpAt (i : ℕ) (c : Config) (s : SlaveState) : Type 0 where
+  pub configured : IsConfigured i c s
+  pub unlocked : (n : ℕ) → n < 4 → (manager_at s.managers n).locked ≡ false
+  pub rises : Rises c.rise s
+  pub talks : Talks i c c.talk s
+  -- messages are over before SAFEOP is left
+  pub quiet : IsTop c.rise → c.talk ≡ None
+
+pub record AreClear (s : SlaveState) : Type 0 where
+  pub settings : (n : ℕ) → n < 4 → (manager_at s.managers n).settings ≡ no_settings
+  pub no_messages : (n : ℕ) → n < 4 → (manager_at s.managers n).mail ≡ None
+  pub outputs : HoldsZeros (manager_at s.managers 2)
+
+pub record IsDownAt (f m : Bool) (s : SlaveState) : Type 0 where
+  pub init : IsInInit s
+  pub fmmus : f ≡ true → (k : ℕ) → k < 64 → slice_index s.memory (fmmus + k) ≡ 0
+  pub managers : m ≡ true → AreClear s
+
+abbrev pub Reached : ℕ → Stage → SlaveState → Type 0
+Reached i Before s = Unit {0}
+Reached i Called s = ((s.al.requested ≡ true) × (control_word s ≡ init_request)) ⊎ IsInInit s
+Reached i (Down f m) s = IsDownAt f m s
+Reached i (Up c) s = IsUpAt i c s
+
+-- ---- with faults and resets
+
+-- it was reset since it got its station address
+abbrev pub IsGone : Stage → SlaveState → Type 0
+IsGone (Up c) s = s ≡ power_on s.kind s.identity
+IsGone _ s = ⊥
+
+-- it had a fault in OP
+pub record IsFaultedAt (i : ℕ) (c : Config) (s : SlaveState) : Type 0 where
+  pub configured : IsConfigured i c s
+  pub silent : IsSilent c s
+  pub state : s.al.state ≡ SafeOp
+  pub error : s.al.error ≡ true
+  pub no_request : s.al.requested ≡ false
+  pub locked : (manager_at s.managers 2).locked ≡ true
+  pub unlocked : (n : ℕ) → n < 4 → n ≢ 2 → (manager_at s.managers n).locked ≡ false
+
+pub record IsFaulted (i : ℕ) (c : Config) (s : SlaveState) : Type 0 where
+  pub top : IsTop c.rise
+  pub quiet : c.talk ≡ None
+  pub faulted : IsFaultedAt i c s
+
+abbrev pub HadFault : ℕ → Stage → SlaveState → Type 0
+HadFault i (Up c) s = IsFaulted i c s
+HadFault i _ s = ⊥
+
+-- `trouble` is the slave's flag: it had a fault or a reset in this start-up
+pub record Stands (kind : SlaveKind) (i : ℕ) (st : Stage) (trouble : Bool) (s : SlaveState) : Type 0 where
+  pub slave : IsOfKind kind s
+  pub at : Reached i st s ⊎ ((trouble ≡ true) × (IsGone st s ⊎ HadFault i st s))

@@ -1,0 +1,18 @@
+-- What is shown of a plan.
+use Rattle.std.proofs.Common.{◌≡◌, List, ℕ, sym, subst}
+use Rattle.ec_table.specs.Contents.{Contents}
+use Rattle.ec_link.specs.Plan.{plan_of}
+use Rattle.ec_text.specs.HeaderText.{header_text}
+use Rattle.ec_text.specs.PlanText.{plan_text}
+use Rattle.ec_commands.specs.declared.plan.PlanForm.{PlanForm}
+use Rattle.ec_commands.specs.declared.plan.PlanForm.TheVariants.{Fixed, Explained, Header}
+use Rattle.ec_commands.specs.Planning.{IsShown}
+
+pub shown_fixed : (form : PlanForm) (table : Contents) (answer : List ℕ) → form ≡ Fixed → answer ≡ plan_text table.version (plan_of table) → IsShown form table answer
+shown_fixed form table answer is same = subst (λ f. IsShown f table answer) (sym is) same
+
+pub shown_explained : (form : PlanForm) (table : Contents) (answer : List ℕ) → form ≡ Explained → IsShown form table answer
+shown_explained form table answer is = subst (λ f. IsShown f table answer) (sym is) tt
+
+pub shown_header : (form : PlanForm) (table : Contents) (answer : List ℕ) → form ≡ Header → answer ≡ header_text table.variables → IsShown form table answer
+shown_header form table answer is same = subst (λ f. IsShown f table answer) (sym is) same

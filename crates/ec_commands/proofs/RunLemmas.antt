@@ -1,0 +1,65 @@
+-- The exit statuses that there are, and how a run ends to which arguments were given.
+use Rattle.std.proofs.Common.{◌≡◌, ℕ, List, [], ◌∷◌, ◌==◌, ◌||◌, inl, inr, Bool, true, false, Option, Result, Ok, Err, String, Global, refl, sym, subst, arith}
+use Rattle.std.specs.declared.io.Error.{Error}
+use Rattle.std.specs.declared.vec.IntoIter.{IntoIter}
+use Rattle.std.specs.Prelude.{Contains, if◌then◌else◌}
+use Rattle.ec_console.specs.declared.refusal.Refusal.{Refusal}
+use Rattle.ec_console.specs.Refusals.{number_of, status_of}
+use Rattle.ec_console.specs.declared.refusal.Refusal.TheVariants.{Memory}
+use Rattle.ec_captured.specs.Capturing.{EndsCaptured}
+use Rattle.ec_commands.specs.Running.{Ends, EndsAlone, EndsGiven, EndsUnread, Stream, Tells, TellsWith, given_words}
+use Rattle.ec_args.specs.Requests.{Reads}
+use Rattle.ec_args.specs.declared.request.Notice.{Notice}
+use Rattle.ec_args.specs.declared.request.Request.{Request}
+use Rattle.ec_args.specs.declared.request.Request.TheVariants.{Pass, Plan, Decode, Encode, Sim, Loop, Segment, Master}
+
+three_to_five : (b c : Bool) → Contains {X = ℕ} (0 ∷ 2 ∷ 3 ∷ 4 ∷ 5 ∷ []) (if b then 4 else (if c then 5 else 3))
+three_to_five true c = (3, omega arith, refl)
+three_to_five false true = (4, omega arith, refl)
+three_to_five false false = (2, omega arith, refl)
+
+-- each refusal ends the program with 3, 4 or 5
+pub status_known : (refusal : Refusal) → Contains {X = ℕ} (0 ∷ 2 ∷ 3 ∷ 4 ∷ 5 ∷ []) (status_of refusal)
+status_known refusal = let n = number_of refusal in three_to_five (n == 37 || (n == 41 || (n == 42 || n == 43))) (n == 45)
+
+pub tells_known : (faults : Stream) (status : ℕ) (ended : Result Unit Refusal) → Tells faults status ended → Contains {X = ℕ} (0 ∷ 2 ∷ 3 ∷ 4 ∷ 5 ∷ []) status
+tells_known faults status (Ok done) told = subst (Contains {X = ℕ} (0 ∷ 2 ∷ 3 ∷ 4 ∷ 5 ∷ [])) (sym told.0) (0, omega arith, refl)
+tells_known faults status (Err refusal) told = subst (Contains {X = ℕ} (0 ∷ 2 ∷ 3 ∷ 4 ∷ 5 ∷ [])) (sym told.0) (status_known refusal)
+
+pub tells_with_known : (more : List ℕ) (faults : Stream) (status : ℕ) (ended : Result Unit Refusal) → TellsWith more faults status ended → Contains {X = ℕ} (0 ∷ 2 ∷ 3 ∷ 4 ∷ 5 ∷ []) status
+tells_with_known more faults status (Ok done) told = subst (Contains {X = ℕ} (0 ∷ 2 ∷ 3 ∷ 4 ∷ 5 ∷ [])) (sym told.0) (0, omega arith, refl)
+tells_with_known more faults status (Err refusal) told = subst (Contains {X = ℕ} (0 ∷ 2 ∷ 3 ∷ 4 ∷ 5 ∷ [])) (sym told.0) (status_known refusal)
+
+-- what leaves the input and the application alone leaves the input alone
+ends_unread : {R A : Type 0} (read : Result Request Notice) (old new : R) (app_old app_new : A) → EndsAlone read old new app_old app_new → EndsUnread read old new
+ends_unread (Ok (Pass n f)) old new app_old app_new alone = alone.0
+ends_unread (Ok (Plan h e)) old new app_old app_new alone = tt
+ends_unread (Ok (Decode t e)) old new app_old app_new alone = tt
+ends_unread (Ok Encode) old new app_old app_new alone = tt
+ends_unread (Ok (Sim l c e)) old new app_old app_new alone = tt
+ends_unread (Ok (Loop n c e)) old new app_old app_new alone = tt
+ends_unread (Ok (Segment n p d f i c e)) old new app_old app_new alone = tt
+ends_unread (Ok (Master a d m c e)) old new app_old app_new alone = tt
+ends_unread (Err told) old new app_old app_new alone = alone.0
+
+-- a run on the arguments that were given, as texts
+pub given_ends : {R A : Type 0} (given : Result (IntoIter (String Global) Global) Error) (words : IntoIter (String Global) Global) (texts : List (List ℕ))
+    (known : Option (List ℕ)) (old new : R) (app_old app_new : A) (output faults : Stream) (status : ℕ) → given ≡ Ok words → texts ≡ given_words words
+    → ((read : Result Request Notice) × Reads texts read × Ends read known output faults status × EndsAlone read old new app_old app_new)
+    → EndsGiven given known old new output faults status
+given_ends given words texts known old new app_old app_new output faults status is same run =
+    subst (λ g. EndsGiven g known old new output faults status) (sym is)
+    (inl (run.0, subst (λ ts. Reads ts run.0) same run.1, run.2, ends_unread run.0 old new app_old app_new run.3))
+
+-- and one for which memory ran out before
+pub given_lost : {R : Type 0} (given : Result (IntoIter (String Global) Global) Error) (words : IntoIter (String Global) Global) (known : Option (List ℕ)) (input : R)
+    (output : Option (List ℕ)) (faults : Stream) (status : ℕ) → given ≡ Ok words → Tells faults status (Err Memory)
+    → EndsGiven given known input input (record { old = output; new = output }) faults status
+given_lost given words known input output faults status is told =
+    subst (λ g. EndsGiven g known input input (record { old = output; new = output }) faults status) (sym is) (inr (refl, refl, told))
+
+-- what holds of each end of a command that has a capture
+pub captured_more : (P Q : Result Unit Refusal → Type 0) (N M : Type 0) → ((r : Result Unit Refusal) → P r → Q r) → (N → M) → (r : Result Unit Refusal) → EndsCaptured P N r → EndsCaptured Q M r
+captured_more P Q N M more nothing r (inl ends) = inl (more r ends)
+captured_more P Q N M more nothing r (inr (inl (cut, done))) = inr (inl (cut, more (Ok tt) done))
+captured_more P Q N M more nothing r (inr (inr (refusal, is, why, none))) = inr (inr (refusal, is, why, nothing none))

@@ -1,0 +1,38 @@
+-- What `ecat plan` answers (this project's profile).
+use Rattle.std.specs.Prelude.{◌≡◌, ℕ, List, Bool, true, false, Option, None, Result, Ok}
+use Rattle.ec_table.specs.Contents.{Contents}
+use Rattle.ec_table.specs.Reading.{table_of}
+use Rattle.ec_link.specs.Faults.{compile_fault}
+use Rattle.ec_link.specs.Plan.{plan_of}
+use Rattle.ec_text.specs.HeaderText.{header_text}
+use Rattle.ec_text.specs.PlanText.{plan_text}
+use Rattle.ec_console.specs.declared.refusal.Refusal.{Refusal}
+use Rattle.ec_console.specs.Given.{GivesText, RefusesTable}
+use Rattle.ec_console.specs.Printing.{Prints}
+use Rattle.ec_commands.specs.declared.plan.PlanForm.{PlanForm}
+use Rattle.ec_commands.specs.declared.plan.PlanForm.TheVariants.{Fixed, Explained, Header}
+
+-- the form that is asked for, by whether it is to be a header and whether it is to be explained
+abbrev pub form_of : (header explained : Bool) → PlanForm
+form_of true explained = Header
+form_of false true = Explained
+form_of false false = Fixed
+
+-- the plan in a form; of a plan that is explained, the text is free
+abbrev pub IsShown : PlanForm → Contents → List ℕ → Type 0
+IsShown Fixed table answer = answer ≡ plan_text table.version (plan_of table)
+IsShown Explained table answer = Unit {0}
+IsShown Header table answer = answer ≡ header_text table.variables
+
+-- the text states a table without a fault, and this shows its plan
+abbrev pub IsPlanAnswer : PlanForm → List ℕ → List ℕ → Type 0
+IsPlanAnswer form text answer =
+    (table : Contents) × (table_of text ≡ Ok table) × (compile_fault table ≡ None) × IsShown form table answer
+
+-- what `ecat plan` prints, by what the input gives
+abbrev pub AnswersPlan : PlanForm → Option (List ℕ) → List ℕ → Type 0
+AnswersPlan form known printed = (text : List ℕ) × GivesText known text × IsPlanAnswer form text printed
+
+-- how it ends, by what the writer holds before and after
+abbrev pub RunsPlan : PlanForm → Option (List ℕ) → Option (List ℕ) → Option (List ℕ) → Result Unit Refusal → Type 0
+RunsPlan form known = Prints (AnswersPlan form known) (RefusesTable known)

@@ -1,0 +1,151 @@
+-- How a run of `ecat` ends, whatever it was asked for (this project's profile).
+use Rattle.std.specs.Prelude.{◌≡◌, ◌≢◌, ◌⊎◌, ℕ, Bool, true, false, List, [], ◌∷◌, ◌++◌, map, Option, None, Some, Result, Ok, Err, codes}
+use Rattle.std.specs.IoError.{error_kind}
+use Rattle.std.specs.Vec.Iter.{into_iter_items}
+use Rattle.std.specs.declared.alloc.Global.{Global}
+use Rattle.std.specs.declared.io.Error.{Error}
+use Rattle.std.specs.declared.io.ErrorKind.TheVariants.{OutOfMemory}
+use Rattle.std.specs.declared.string.String.{String}
+use Rattle.std.specs.declared.vec.IntoIter.{IntoIter}
+use Rattle.std.specs.String.{string_bytes}
+use Rattle.ec_args.specs.Requests.{Command, PassOf, PlanOf, DecodeOf, EncodeOf, SimOf, LoopOf, SegmentOf, MasterOf, Reads, command_of}
+use Rattle.ec_args.specs.declared.request.Notice.{Notice}
+use Rattle.ec_args.specs.declared.request.Notice.TheVariants as notice
+use Rattle.ec_args.specs.declared.request.Request.{Request}
+use Rattle.ec_console.specs.declared.refusal.Refusal.{Refusal}
+use Rattle.ec_console.specs.declared.refusal.Refusal.TheVariants.{Memory}
+use Rattle.ec_commands.specs.Explaining.{MayTell, is_explained}
+use Rattle.ec_loop.specs.Looping.{RunsLoop}
+use Rattle.ec_commands.specs.Passing.{RunsPass}
+use Rattle.ec_commands.specs.Planning.{RunsPlan, form_of}
+use Rattle.ec_console.specs.Printing.{IsTold, Shows}
+use Rattle.ec_console.specs.Refusals.{line_of, status_of}
+use Rattle.ec_captured.specs.Capturing.{EndsWith}
+use Rattle.ec_live.specs.Living.{RunsLive}
+use Rattle.ec_master.specs.Mastering.{RunsMaster}
+use Rattle.ec_segment.specs.Serving.{RunsCardSegment, RunsSegment}
+use Rattle.ec_translate.specs.Remarking.{RunsDecodeWith}
+use Rattle.ec_translate.specs.Translating.{RunsEncode}
+use Rattle.ec_sim.specs.Simulating.{RunsSim}
+use Rattle.ec_why.specs.declared.wanted.Reasons.{Reasons}
+use Rattle.ec_why.specs.Reasons.{reasons_of}
+
+-- what a stream holds before and after, where it is known
+pub record Stream : Type 0 where
+  pub old : Option (List ℕ)
+  pub new : Option (List ℕ)
+
+-- nothing is told of a command while it runs
+abbrev pub IsQuiet : Stream → Type 0
+IsQuiet told = told.new ≡ told.old
+
+-- `ecat segment` on a port; or on the card whose socket has a descriptor, where one is given, and nothing is told
+abbrev pub RunsSegmentOn : (descriptor : Option ℕ) → (frames port : ℕ) → (full : Bool) → (given : Option (List ℕ)) → (output told : Stream) → Result Unit Refusal → Type 0
+RunsSegmentOn None frames port full given output told ended = RunsSegment frames port full given output.old output.new told.old told.new ended
+RunsSegmentOn (Some descriptor) frames port full given output told ended = RunsCardSegment frames full given output.old output.new ended × IsQuiet told
+
+-- nothing is printed or told
+abbrev pub IsStill : (output told : Stream) → Type 0
+IsStill output told = IsQuiet output × IsQuiet told
+
+-- and with a capture, if its file is named
+abbrev pub RunsSegmentAt : (descriptor : Option ℕ) → (frames port : ℕ) → (full : Bool) → (file : Option (List ℕ)) → (given : Option (List ℕ)) → (output told : Stream) → Result Unit Refusal → Type 0
+RunsSegmentAt descriptor frames port full file given output told ended =
+    EndsWith file (RunsSegmentOn descriptor frames port full given output told) (IsStill output told) ended
+
+-- `ecat sim`, whose lines are run as a script, or as they come, and which tells why they say `no`, where it explains
+abbrev pub RunsLines : (live explained : Bool) → (given : Option (List ℕ)) → (output : Stream) → Result Unit Refusal → Type 0
+RunsLines false explained given output ended = RunsSim (reasons_of explained) given output.old output.new ended
+RunsLines true explained given output ended = RunsLive (reasons_of explained) given output.old output.new ended
+
+-- `ecat master`, which tells why lines can't be done, where reasons are told, with a capture if its file is named
+abbrev pub RunsMasterWith : Reasons → (file : Option (List ℕ)) → (given : Option (List ℕ)) → (output : Stream) → Result Unit Refusal → Type 0
+RunsMasterWith reasons file given output ended = EndsWith file (λ ended. RunsMaster reasons given output.old output.new ended) (IsQuiet output) ended
+
+-- what a command does with the output, and what is told of it while it runs, by what the input gives, where that is known
+abbrev pub Runs : Command → (given : Option (List ℕ)) → (output told : Stream) → Result Unit Refusal → Type 0
+Runs (PassOf slaves text) given output told ended = RunsPass slaves text output.old output.new ended × IsQuiet told
+Runs (PlanOf header explained) given output told ended = RunsPlan (form_of header explained) given output.old output.new ended × IsQuiet told
+Runs (DecodeOf table explained) given output told ended = RunsDecodeWith table explained given output.old output.new ended × IsQuiet told
+Runs EncodeOf given output told ended = RunsEncode given output.old output.new ended × IsQuiet told
+Runs (SimOf live capture explained) given output told ended = RunsLines live explained given output ended × IsQuiet told
+Runs (LoopOf cycles capture explained) given output told ended =
+    EndsWith capture (λ ended. RunsLoop cycles given output.old output.new told.old told.new ended) (IsStill output told) ended
+Runs (SegmentOf frames port descriptor full idle capture explained) given output told ended =
+    RunsSegmentAt descriptor frames port full capture given output told ended
+Runs (MasterOf to descriptor patience capture explained) given output told ended = RunsMasterWith (reasons_of explained) capture given output ended × IsQuiet told
+
+-- what a command leaves alone: one that reads no input leaves it as it is, and one with no simulated application steps
+-- none
+abbrev pub LeavesAlone : {R A : Type 0} → Command → (input_old input_new : R) → (app_old app_new : A) → Type 0
+LeavesAlone (PassOf slaves text) input_old input_new app_old app_new = (input_new ≡ input_old) × (app_new ≡ app_old)
+LeavesAlone (PlanOf header explained) input_old input_new app_old app_new = app_new ≡ app_old
+LeavesAlone (DecodeOf table explained) input_old input_new app_old app_new = app_new ≡ app_old
+LeavesAlone EncodeOf input_old input_new app_old app_new = app_new ≡ app_old
+LeavesAlone (SimOf live capture explained) input_old input_new app_old app_new = app_new ≡ app_old
+LeavesAlone (LoopOf cycles capture explained) input_old input_new app_old app_new = Unit {0}
+LeavesAlone (SegmentOf frames port descriptor full idle capture explained) input_old input_new app_old app_new = Unit {0}
+LeavesAlone (MasterOf to descriptor patience capture explained) input_old input_new app_old app_new = app_new ≡ app_old
+
+-- the exit status of a run, and what is told of it: a refusal's line
+abbrev pub Tells : Stream → ℕ → Result Unit Refusal → Type 0
+Tells faults status (Ok done) = (status ≡ 0) × (faults.new ≡ faults.old)
+Tells faults status (Err refusal) = (status ≡ status_of refusal) × IsTold (line_of refusal) faults.old faults.new
+
+-- the same of a run that may explain a refusal: what is told begins with its line, and behind that there is more
+abbrev pub TellsWith : List ℕ → Stream → ℕ → Result Unit Refusal → Type 0
+TellsWith more faults status (Ok done) = (status ≡ 0) × (faults.new ≡ faults.old)
+TellsWith more faults status (Err refusal) = (status ≡ status_of refusal) × IsTold (line_of refusal ++ more) faults.old faults.new
+
+-- how a run ends that was asked for a command, or that has to tell something in place of one
+abbrev pub Ends : Result Request Notice → (given : Option (List ℕ)) → (output faults : Stream) → ℕ → Type 0
+Ends (Ok request) given output faults status =
+    (ended : Result Unit Refusal) × (noted : Option (List ℕ)) × (more : List ℕ) × Runs (command_of request) given output (record { old = faults.old; new = noted }) ended
+    × MayTell (is_explained (command_of request)) more × TellsWith more (record { old = noted; new = faults.new }) status ended
+Ends (Err notice.Memory) given output faults status = (output.new ≡ output.old) × Tells faults status (Err Memory)
+Ends (Err (notice.Help text)) given output faults status = (ended : Result Unit Refusal) × Shows (string_bytes text) output.old output.new ended × Tells faults status ended
+Ends (Err (notice.Usage text)) given output faults status = (status ≡ 2) × (output.new ≡ output.old) × IsTold (string_bytes text) faults.old faults.new
+
+-- what a run leaves alone
+abbrev pub EndsAlone : {R A : Type 0} → Result Request Notice → (input_old input_new : R) → (app_old app_new : A) → Type 0
+EndsAlone (Ok request) input_old input_new app_old app_new = LeavesAlone (command_of request) input_old input_new app_old app_new
+EndsAlone (Err told) input_old input_new app_old app_new = (input_new ≡ input_old) × (app_new ≡ app_old)
+
+-- what a command leaves of the input: all of it, where it reads none
+abbrev pub LeavesInput : {R : Type 0} → Command → (old new : R) → Type 0
+LeavesInput (PassOf slaves text) old new = new ≡ old
+LeavesInput (PlanOf header explained) old new = Unit {0}
+LeavesInput (DecodeOf table explained) old new = Unit {0}
+LeavesInput EncodeOf old new = Unit {0}
+LeavesInput (SimOf live capture explained) old new = Unit {0}
+LeavesInput (LoopOf cycles capture explained) old new = Unit {0}
+LeavesInput (SegmentOf frames port descriptor full idle capture explained) old new = Unit {0}
+LeavesInput (MasterOf to descriptor patience capture explained) old new = Unit {0}
+
+-- what a run leaves of it: all, too, where there is something to tell in place of a command
+abbrev pub EndsUnread : {R : Type 0} → Result Request Notice → (old new : R) → Type 0
+EndsUnread (Ok request) old new = LeavesInput (command_of request) old new
+EndsUnread (Err told) old new = new ≡ old
+
+-- what is told where an argument isn't text
+abbrev pub not_text : List ℕ
+not_text = codes "error: an argument of the command line isn't text" ++ 10 ∷ []
+
+-- the arguments that an iterator still gives, as texts
+abbrev pub given_words : IntoIter (String Global) Global → List (List ℕ)
+given_words given = map string_bytes (into_iter_items given)
+
+-- what is told of arguments that can't be read, by the error that the system gave: that memory ran out, or that one isn't text
+abbrev pub TellsUnread : Error → (faults : Stream) → ℕ → Type 0
+TellsUnread error faults status =
+    ((error_kind error ≡ OutOfMemory) × Tells faults status (Err Memory))
+    ⊎ ((error_kind error ≢ OutOfMemory) × (status ≡ 2) × IsTold not_text faults.old faults.new)
+
+-- how a run ends to which the system gave these arguments: as with them; or, where memory runs out before they are read or
+-- they can't be read, with nothing read or printed, and what is told in its place
+abbrev pub EndsGiven : {R : Type 0} → Result (IntoIter (String Global) Global) Error → (known : Option (List ℕ)) → (input_old input_new : R) → (output faults : Stream) → ℕ → Type 0
+EndsGiven (Ok given) known input_old input_new output faults status =
+    ((read : Result Request Notice) × Reads (given_words given) read × Ends read known output faults status × EndsUnread read input_old input_new)
+    ⊎ ((input_new ≡ input_old) × (output.new ≡ output.old) × Tells faults status (Err Memory))
+EndsGiven (Err error) known input_old input_new output faults status =
+    (input_new ≡ input_old) × (output.new ≡ output.old) × TellsUnread error faults status

@@ -1,0 +1,208 @@
+//! The helps beside what they speak of: each refusal that a command tells stands in its help by number and name, and each
+//! limit of an argument as it is kept.
+
+use crate::tests::{expect_usage, holds, run_in_memory};
+use ec_commands::{Refusal, ScriptError};
+use ec_device::Device;
+use ec_frame::FrameError;
+use ec_link::{LinkError, LinkFault};
+use ec_start::StartError;
+use ec_table::{Fault, Place, Section, TableError};
+use ec_wire::RunError;
+use std::fs::Files;
+use std::net::Net;
+use std::process::Abort;
+use std::test::Fail;
+use std::time::Clock;
+
+const PLACE: Place = Place {
+    section: Section::Top,
+    element: 0,
+};
+
+const OF_PASS: [Refusal; 9] = [
+    Refusal::Memory,
+    Refusal::Frame(FrameError::Short),
+    Refusal::Frame(FrameError::BadType),
+    Refusal::Frame(FrameError::BadLength),
+    Refusal::Frame(FrameError::BadMore),
+    Refusal::Frame(FrameError::BadCommand),
+    Refusal::Frame(FrameError::TooLong),
+    Refusal::BadHex,
+    Refusal::Output,
+];
+
+const OF_PLAN: [Refusal; 19] = [
+    Refusal::Memory,
+    Refusal::Table(TableError::Refused(Fault::Toml)),
+    Refusal::Table(TableError::Refused(Fault::BadKey(PLACE))),
+    Refusal::Table(TableError::Refused(Fault::BadValue(PLACE))),
+    Refusal::Table(TableError::Refused(Fault::TwiceNamed(PLACE))),
+    Refusal::Table(TableError::Refused(Fault::UnknownName(PLACE))),
+    Refusal::Link(LinkError::Refused(LinkFault::WrongDirection(0))),
+    Refusal::Link(LinkError::Refused(LinkFault::NoEntry(0))),
+    Refusal::Link(LinkError::Refused(LinkFault::OutsideEntry(0))),
+    Refusal::Link(LinkError::Refused(LinkFault::LinkedTwice(0))),
+    Refusal::Link(LinkError::Refused(LinkFault::EntryTwice(0))),
+    Refusal::Link(LinkError::Refused(LinkFault::TooManyBits(0))),
+    Refusal::Link(LinkError::Refused(LinkFault::TooManySlaves(0))),
+    Refusal::Link(LinkError::Refused(LinkFault::TooManyParts(0))),
+    Refusal::Link(LinkError::Refused(LinkFault::AreasOverlap(0))),
+    Refusal::Link(LinkError::Refused(LinkFault::OutsideRam(0))),
+    Refusal::Link(LinkError::Refused(LinkFault::SplitVariable(0))),
+    Refusal::Output,
+    Refusal::Input,
+];
+
+const OF_SIM: [Refusal; 5] = [
+    Refusal::Memory,
+    Refusal::Script(ScriptError::BadScript(1)),
+    Refusal::Unmet(1),
+    Refusal::Output,
+    Refusal::Input,
+];
+
+const NO_DEVICE: Device = Device {
+    vendor: 0,
+    product: 0,
+    revision: 0,
+};
+
+const OF_LOOP: [Refusal; 15] = [
+    Refusal::Memory,
+    Refusal::Start(StartError::BadMailbox { slave: 0 }),
+    Refusal::Start(StartError::Count { seen: 0 }),
+    Refusal::Start(StartError::Identity {
+        slave: 0,
+        seen: NO_DEVICE,
+    }),
+    Refusal::Start(StartError::Counter { step: 0 }),
+    Refusal::Start(StartError::AlError { slave: 0, code: 0 }),
+    Refusal::Start(StartError::Abort { slave: 0, code: 0 }),
+    Refusal::Start(StartError::TooSlow { step: 0 }),
+    Refusal::Start(StartError::Lost),
+    Refusal::Start(StartError::NumbersSpent),
+    Refusal::Start(StartError::Mapping {
+        slave: 0,
+        index: 0,
+        subindex: 0,
+        seen: 0,
+    }),
+    Refusal::Run(RunError::Wire),
+    Refusal::Output,
+    Refusal::Input,
+    Refusal::Socket,
+];
+
+const OF_SEGMENT: [Refusal; 4] = [
+    Refusal::Memory,
+    Refusal::Output,
+    Refusal::Input,
+    Refusal::Socket,
+];
+
+const OF_MASTER: [Refusal; 5] = [
+    Refusal::Memory,
+    Refusal::Unmet(1),
+    Refusal::Output,
+    Refusal::Input,
+    Refusal::Socket,
+];
+
+const OF_DECODE: [Refusal; 4] = [
+    Refusal::Memory,
+    Refusal::BadHex,
+    Refusal::Output,
+    Refusal::Input,
+];
+
+const OF_ENCODE: [Refusal; 4] = [
+    Refusal::Memory,
+    Refusal::Script(ScriptError::BadScript(1)),
+    Refusal::Output,
+    Refusal::Input,
+];
+
+/// The help of a command has these refusals, each by its number and its name.
+fn expect_listed<H: AllocGlobal + Net + Files + Clock + Abort>(
+    rt: &H,
+    command: &str,
+    refusals: &[Refusal],
+) -> Result<(), Fail> {
+    let help = run_in_memory(rt, &["ecat", command, "--help"], b"");
+    for refusal in refusals {
+        let (number, name) = (refusal.number(), refusal.name());
+        let words = format!(in rt.alloc(); " {number} {name} ")?;
+        assert!(rt; holds(help.printed.as_slice(), words.as_bytes()), "{words}");
+    }
+    Ok(())
+}
+
+#[test]
+fn helps_list_the_refusals(rt: HostRuntime) -> Result<(), Fail> {
+    expect_listed(&rt, "pass", &OF_PASS)?;
+    expect_listed(&rt, "plan", &OF_PLAN)?;
+    expect_listed(&rt, "decode", &OF_DECODE)?;
+    expect_listed(&rt, "encode", &OF_ENCODE)?;
+    expect_listed(&rt, "sim", &OF_SIM)?;
+    expect_listed(&rt, "loop", &OF_LOOP)?;
+    expect_listed(&rt, "segment", &OF_SEGMENT)?;
+    expect_listed(&rt, "master", &OF_MASTER)
+}
+
+#[test]
+fn helps_say_the_limits(rt: HostRuntime) {
+    for (command, limit) in [
+        ("pass", "How many slaves the ring has, 0 to 64"),
+        ("loop", "How many cycles are run, 0 to 1000"),
+        (
+            "segment",
+            "The UDP port on 127.0.0.1, 1 to 65535 [default: 34980]",
+        ),
+        ("segment", "0 to 86400; 0 is without an end [default: 60]"),
+        (
+            "segment",
+            "In its place, the descriptor of a network card's open raw socket, 0 to 1023",
+        ),
+        (
+            "master",
+            "The IPv4 address and the UDP port of the segment [default: 127.0.0.1:34980]",
+        ),
+        (
+            "master",
+            "How many milliseconds it waits for an answer, 1 to 60000 [default: 500]",
+        ),
+    ] {
+        expect_usage(&rt, &["ecat", command, "--help"], 0, "", limit);
+    }
+}
+
+#[test]
+fn the_limits_are_kept(rt: HostRuntime) {
+    for (args, limits) in [
+        (["ecat", "pass", "--slaves", "65"], "65 is not in 0..=64"),
+        (
+            ["ecat", "loop", "--cycles", "1001"],
+            "1001 is not in 0..=1000",
+        ),
+        (["ecat", "segment", "--port", "0"], "0 is not in 1..=65535"),
+        (
+            ["ecat", "segment", "--idle", "86401"],
+            "86401 is not in 0..=86400",
+        ),
+        (
+            ["ecat", "master", "--patience", "0"],
+            "0 is not in 1..=60000",
+        ),
+        (
+            ["ecat", "master", "--patience", "60001"],
+            "60001 is not in 1..=60000",
+        ),
+        (
+            ["ecat", "master", "--descriptor", "1024"],
+            "1024 is not in 0..=1023",
+        ),
+    ] {
+        expect_usage(&rt, &args, 2, "error: invalid value", limits);
+    }
+}

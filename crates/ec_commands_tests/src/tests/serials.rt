@@ -1,0 +1,96 @@
+//! The serial number of a slave, read over a socket from the words of its SII.
+ghost use Rattle.std.specs.Prelude.{◌≡◌, None};
+ghost use Rattle.ec_link.specs.Faults.{compile_fault};
+ghost use Rattle.ec_link.specs.Plan.{plan_of};
+
+use crate::tests::Idle;
+use ec_bringup::slaves_of;
+use ec_commands::{UdpWire, print_served_segment};
+use ec_link::{Plan, compile};
+use ec_ring::Ring;
+use ec_table::{Table, read_table};
+use std::alloc::Global;
+use std::net::{Ipv4Addr, Net, SocketAddr, UdpSocket};
+use std::test::Fail;
+
+/// A table of one slave, whose serial number is 1042.
+const ONE_SLAVE: &str =
+    r#"type = [ { name = "di4", vendor = 0xABCD, product = 2, revision = 1, out_start = 0, in_start = 0x1100, txpdo = [ { index = 0x1A00, entries = [[0x6000, 1, 4]] } ] } ]
+slave = [ { name = "s0", type = "di4", serial = 1042 } ]
+"#;
+
+/// The first slave is to read its SII from word 0x0E on: control and address at 0x0502.
+const ASK: &str = "12100201000002050600000000010e0000000000";
+
+/// What it read, at 0x0508; and the same as it comes back, with 1042 in it.
+const READ: &str = "101001020000080504000000000000000000";
+
+const BACK: &str = "101001020100080504000000120400000100";
+
+/// A port on 127.0.0.1.
+fn here(port: u16) -> SocketAddr {
+    SocketAddr::from((Ipv4Addr::LOCALHOST, port))
+}
+
+/// Sends a frame that is written in hex.
+fn send(alloc: Global, client: &UdpSocket, port: u16, frame: &str) -> Result<(), Fail> {
+    let bytes = hex::decode(alloc, frame)?;
+    client.send_to(&bytes, here(port))?;
+    Ok(())
+}
+
+/// The next frame that comes back, in hex.
+fn back(alloc: Global, client: &UdpSocket) -> Result<String, Fail> {
+    let mut buffer = [0; 1500];
+    let (count, _) = client.recv_from(&mut buffer)?;
+    Ok(hex::encode(alloc, &buffer[..count.min(1500)])?)
+}
+
+/// Serves two frames, and answers what is printed. What it is, is told by no clause here, so that the comparisons behind it
+/// carry nothing of it.
+fn serve(alloc: Global, slaves: &mut Ring, wire: &mut UdpWire) -> Vec<u8> {
+    let mut output = Vec::new(alloc);
+    let _ = print_served_segment(slaves, &mut Idle, wire, 2, &mut output);
+    output
+}
+
+/// The slaves of a table.
+fn ring_of_plan(alloc: Global, table: &Table, plan: &Plan) -> Result<Ring, Fail>
+    requires accepted { compile_fault table.now ≡ None }
+    requires plan { plan.now ≡ plan_of table.now }
+{
+    Ok(slaves_of(alloc, table, plan)?)
+}
+
+/// The slaves of a table that was read.
+fn ring_of_table(alloc: Global, table: &Table) -> Result<Ring, Fail> {
+    let plan = compile(alloc, table)?;
+    ring_of_plan(alloc, table, &plan)
+}
+
+/// The one slave.
+fn one_slave(alloc: Global) -> Result<Ring, Fail> {
+    let table = read_table(alloc, ONE_SLAVE)?;
+    ring_of_table(alloc, &table)
+}
+
+/// Reads the serial number over a socket: what is printed, and what came back of the second frame.
+fn read_serial<R: Net + AllocGlobal>(rt: &R) -> Result<(Vec<u8>, String), Fail> {
+    let mut slaves = one_slave(rt.alloc())?;
+    let mut wire = UdpWire::bind(rt, 0)?;
+    let client = UdpSocket::bind(rt, here(0))?;
+    send(rt.alloc(), &client, wire.port(), ASK)?;
+    send(rt.alloc(), &client, wire.port(), READ)?;
+    let printed = serve(rt.alloc(), &mut slaves, &mut wire);
+    let _ = back(rt.alloc(), &client)?;
+    Ok((printed, back(rt.alloc(), &client)?))
+}
+
+// A served slave shows the serial number that its table gives it.
+#[test]
+fn shows_the_serial_number(rt: HostRuntime) -> Result<(), Fail> {
+    let (printed, seen) = read_serial(&rt)?;
+    assert_eq!(rt; printed.as_slice(), b"served 2 refused 0\n".as_slice());
+    assert_eq!(rt; seen.as_str(), BACK);
+    Ok(())
+}

@@ -1,0 +1,6 @@
+use Rattle.ec_device.specs.Types.{first_input_index}
+use Rattle.ec_device.proofs.Limits.{few_bits}
+use Rattle.ec_device.proofs.slave_type.SlaveType.input_bits.Goals as goal
+
+pub bits_of-requires-clause-small : goal.bits_of-requires-clause-small
+bits_of-requires-clause-small c = few_bits first_input_index _ c.inputs.ensures.limits

@@ -1,0 +1,50 @@
+-- What a plan sets in a slave: its four sync managers and its four FMMUs (ETG.1000.4; that manager 0 and 1 are the
+-- mailboxes, 2 the outputs, 3 the inputs, and FMMU 0 the outputs, 1 the inputs, is this project's profile).
+use Rattle.std.specs.Prelude.{ℕ, ◌+◌, ◌==◌, ◌&&◌, ◌||◌, Bool, true, false, nat_lt, if◌then◌else◌, List, [], ◌∷◌, Option, Some, None}
+use Rattle.std.specs.List.{list_any}
+use Rattle.ec_bits.specs.Bits.{bytes_of_bits}
+use Rattle.ec_device.specs.declared.slave_type.Mailbox.{Mailbox}
+use Rattle.ec_regs.specs.declared.manager.SyncManagerSettings.{SyncManagerSettings}
+use Rattle.ec_regs.specs.declared.fmmu.FmmuSettings.{FmmuSettings}
+use Rattle.ec_regs.specs.Managers.{no_settings, area_settings, span, mailbox_out_control, mailbox_in_control, outputs_control, inputs_control}
+use Rattle.ec_regs.specs.Memory.{ram_start, ram_end}
+use Rattle.ec_regs.specs.Fmmus.{no_fmmu}
+use Rattle.ec_fmmu.specs.Runs.{run_settings}
+
+-- ---- managers
+
+-- mailbox out: the ring writes it
+abbrev pub receive_manager : Option Mailbox → SyncManagerSettings
+receive_manager None = no_settings
+receive_manager (Some m) = area_settings m.receive_start m.receive_size mailbox_out_control
+
+-- mailbox in: the ring reads it
+abbrev pub send_manager : Option Mailbox → SyncManagerSettings
+send_manager None = no_settings
+send_manager (Some m) = area_settings m.send_start m.send_size mailbox_in_control
+
+-- process data: as many bytes as its bits need, and none without bits
+abbrev pub process_manager : ℕ → ℕ → ℕ → SyncManagerSettings
+process_manager start bits control = if bits == 0 then no_settings else area_settings start (bytes_of_bits bits) control
+
+unfoldable pub managers_of : Option Mailbox → (out_start in_start outs ins : ℕ) → List SyncManagerSettings
+managers_of mailbox out_start in_start outs ins =
+    receive_manager mailbox ∷ send_manager mailbox ∷ process_manager out_start outs outputs_control ∷ process_manager in_start ins inputs_control ∷ []
+
+-- two spans share a byte; a manager that isn't set has none
+abbrev pub meet : SyncManagerSettings → SyncManagerSettings → Bool
+meet m n = nat_lt m.start (n.start + span n) && nat_lt n.start (m.start + span m)
+
+abbrev pub some_meet : List SyncManagerSettings → Bool
+some_meet [] = false
+some_meet (m ∷ ms) = list_any (meet m) ms || some_meet ms
+
+-- a span leaves the RAM
+abbrev pub leaves_ram : SyncManagerSettings → Bool
+leaves_ram m = nat_lt 0 m.length && (nat_lt m.start ram_start || nat_lt ram_end (m.start + span m))
+
+-- ---- FMMUs
+
+-- outputs and inputs share the area: both begin at its first bit
+abbrev pub fmmus_of : (from out_start in_start outs ins : ℕ) → List FmmuSettings
+fmmus_of from out_start in_start outs ins = run_settings false true from outs out_start ∷ run_settings true false from ins in_start ∷ no_fmmu ∷ no_fmmu ∷ []

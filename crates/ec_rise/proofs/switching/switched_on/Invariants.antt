@@ -1,6 +1,0 @@
-use Rattle.std.proofs.Common.{◌≡◌, take}
-use Rattle.ec_rise.specs.SwitchedOn.{switched_on}
-use Rattle.ec_rise.proofs.switching.switched_on.Given as goal
-
-abbrev pub invariant-loop-place : goal.invariant-loop-place
-invariant-loop-place l = l.all.items ≡ switched_on (take l.place l.slaves) (take l.place l.identities)

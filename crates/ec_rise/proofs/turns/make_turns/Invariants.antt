@@ -1,6 +1,0 @@
-use Rattle.ec_rise.specs.BringUp.{rising}
-use Rattle.ec_rise.proofs.BringUp.{AreTurns}
-use Rattle.ec_rise.proofs.turns.make_turns.Given as goal
-
-abbrev pub invariant-loop : goal.invariant-loop
-invariant-loop l = AreTurns (rising l.initial.startup l.initial.ring) l.startup l.ring l.counter
