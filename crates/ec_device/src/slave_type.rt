@@ -3,7 +3,7 @@ ghost use Rattle.std.specs.Prelude.{◌≡◌, ◌≤◌, ◌↔◌, length, All
 ghost use Rattle.std.specs.Option.{option_copied};
 ghost use Rattle.ec_device.specs.Types.{IsEntry, IsPdo, ArePdos, IsMailbox, IsFace, IsWithinLimits, device_identity, device_of, pdo_bits, pdos_bits, plain_kind, first_output_index, first_input_index};
 
-use crate::listed::Listed;
+use ec_listed::Listed;
 use std::alloc::{AllocError, Global};
 use std::marker::Model;
 

@@ -1,6 +1,6 @@
 -- The constants of the code are the numbers of the definitions: both compute to one literal.
 use Rattle.std.proofs.Common.{refl}
-use Rattle.ec_regs.specs.Constants.{ConstantsAreTheRegisters, ConstantsAreTheControls, ConstantsAreTheLimits}
+use Rattle.ec_regs.specs.Constants.{ConstantsAreTheRegisters, ConstantsAreTheControls}
 
 pub registers : ConstantsAreTheRegisters
 registers = record {
@@ -29,6 +29,3 @@ registers = record {
 
 pub controls : ConstantsAreTheControls
 controls = record { mailbox_out = refl; mailbox_in = refl; outputs = refl; inputs = refl }
-
-pub limits : ConstantsAreTheLimits
-limits = record { outputs = refl; inputs = refl; indices = refl; pdos = refl; entries = refl; entry_bits = refl; smallest_mailbox = refl; largest_mailbox = refl; name = refl }

@@ -2,10 +2,8 @@
 use Rattle.std.specs.Prelude.{◌≡◌, ◌+◌, ◌*◌}
 use Rattle.ec_regs.specs.declared.registers.TheConstants.{NUMBER_OF_FMMUS, NUMBER_OF_SYNC_MANAGERS, RAM_SIZE, STATION_ADDRESS, AL_CONTROL, AL_STATUS, AL_STATUS_CODE, SII_CONTROL, SII_ADDRESS, SII_DATA, FMMUS, FMMUS_END, FMMU_SIZE, SYNC_MANAGERS, SYNC_MANAGERS_END, MANAGER_SIZE, RAM_START, RAM_END, FMMU_COUNT, MANAGER_COUNT, RAM_KIB}
 use Rattle.ec_regs.specs.declared.manager.TheConstants.{CONTROL_MAILBOX_OUT, CONTROL_MAILBOX_IN, CONTROL_OUTPUTS, CONTROL_INPUTS}
-use Rattle.ec_device.specs.declared.slave_type.TheConstants.{FIRST_OUTPUT_INDEX, FIRST_INPUT_INDEX, PDO_INDICES, MAX_PDOS, MAX_ENTRIES, MAX_ENTRY_BITS, MIN_MAILBOX_SIZE, MAX_MAILBOX_SIZE, MAX_NAME}
 use Rattle.ec_regs.specs.Memory.{number_of_fmmus, number_of_sync_managers, ram_size, station_address, al_control, al_status, al_status_code, sii_control, sii_address, sii_data, fmmu_place, manager_place, ram_start, ram_end}
 use Rattle.ec_regs.specs.Managers.{mailbox_out_control, mailbox_in_control, outputs_control, inputs_control}
-use Rattle.ec_device.specs.Types.{first_output_index, first_input_index}
 
 -- the places of the registers, and what the first three of them say
 pub record ConstantsAreTheRegisters : Type 0 where
@@ -37,15 +35,3 @@ pub record ConstantsAreTheControls : Type 0 where
   pub mailbox_in : CONTROL_MAILBOX_IN ≡ mailbox_in_control
   pub outputs : CONTROL_OUTPUTS ≡ outputs_control
   pub inputs : CONTROL_INPUTS ≡ inputs_control
-
--- the limits of a type
-pub record ConstantsAreTheLimits : Type 0 where
-  pub outputs : FIRST_OUTPUT_INDEX ≡ first_output_index
-  pub inputs : FIRST_INPUT_INDEX ≡ first_input_index
-  pub indices : PDO_INDICES ≡ 512
-  pub pdos : MAX_PDOS ≡ 16
-  pub entries : MAX_ENTRIES ≡ 64
-  pub entry_bits : MAX_ENTRY_BITS ≡ 64
-  pub smallest_mailbox : MIN_MAILBOX_SIZE ≡ 16
-  pub largest_mailbox : MAX_MAILBOX_SIZE ≡ 1024
-  pub name : MAX_NAME ≡ 32

@@ -1,10 +1,9 @@
 //! Laws of the definitions: each is the contract of a function that does nothing.
 
 ghost use Rattle.ec_regs.specs.Memory.{AccessIsTheTable};
-ghost use Rattle.ec_regs.specs.Constants.{ConstantsAreTheRegisters, ConstantsAreTheControls, ConstantsAreTheLimits};
+ghost use Rattle.ec_regs.specs.Constants.{ConstantsAreTheRegisters, ConstantsAreTheControls};
 ghost use Rattle.ec_regs.specs.Managers.{ManagerIsReadBack, UsualAreasAreSet};
 ghost use Rattle.ec_regs.specs.Fmmus.{FmmuIsReadBack};
-ghost use Rattle.ec_device.specs.Objects.{BitsAssignedAreOfEntries};
 ghost use Rattle.ec_regs.specs.Words.{AlIsReadBack, SiiIsReadBack};
 
 /// Which register bytes take writes, as a table.
@@ -23,12 +22,6 @@ pub fn constants_are_the_registers()
 #[tactic(auto, using(crate::proofs::Constants::controls))]
 pub fn constants_are_the_controls()
     ensures { ConstantsAreTheControls }
-{}
-
-/// The limit constants are the limits of a type.
-#[tactic(auto, using(crate::proofs::Constants::limits))]
-pub fn constants_are_the_limits()
-    ensures { ConstantsAreTheLimits }
 {}
 
 /// The settings of a sync manager are read back from their bytes.
@@ -55,10 +48,4 @@ pub fn sii_is_read_back()
 #[tactic(auto, using(crate::proofs::Areas::usual_areas))]
 pub fn usual_areas_are_set()
     ensures { UsualAreasAreSet }
-{}
-
-/// PDOs have as many bits as their entries.
-#[tactic(auto, using(crate::proofs::Objects::bits_assigned_law))]
-pub fn bits_assigned_are_of_entries()
-    ensures { BitsAssignedAreOfEntries }
 {}

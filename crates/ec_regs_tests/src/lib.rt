@@ -1,4 +1,4 @@
-//! Records of registers and types of slaves, by the public calls of `ec_regs`.
+//! Records of registers, by the public calls of `ec_regs`.
 #![tactic(auto)]
 
 #[cfg(test)]
