@@ -1,1 +1,2 @@
+-- one event, and then by induction the runs of them
 pub mod RunLemmas

@@ -1,1 +1,2 @@
+-- what comes through in Ethernet frames
 pub mod Through

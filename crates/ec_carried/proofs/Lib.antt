@@ -1,1 +1,2 @@
+-- the part that is found has as many bytes as the datagram
 pub mod Finding

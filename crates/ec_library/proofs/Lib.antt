@@ -1,2 +1,4 @@
+-- the machine values of handles
 pub mod Handles
+-- what was done to what is behind a handle is what was done to it in its box
 pub mod Leading

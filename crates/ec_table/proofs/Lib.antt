@@ -1,16 +1,32 @@
+-- the map of a TOML table beside its members
 pub mod Lookups
+-- a name's place, and one more name
 pub mod Naming
+-- one row of a section, and the end
 pub mod InOrder
+-- what a value that was read meets, along a chain of tests
 pub mod Meets
+-- the parts of a type as the reader finds them, each with its ranges, beside the limits of a slave's type
 pub mod Ranges
+-- what was read is sound
 pub mod SoundReads
+-- what was read is sound
 pub mod SoundRows
+-- how many entries and bits a slave's objects have
 pub mod ObjectLemmas
+-- a sound table is sound whether or not it is shown in full
 pub mod Shown
+-- each fault of an element carries the element's place
 pub mod Placed
+-- a sound table, written out, is read
 pub mod Written
+-- a sound table, written out, is read
 pub mod WrittenRows
+-- a sound table, written out, is read
 pub mod WrittenWhole
+-- a section, element by element
 pub mod ElementByElement
+-- the faults of a document before its elements
 pub mod DocumentFaults
+-- what is left out has its default
 pub mod Defaults

@@ -1,1 +1,2 @@
+-- a payload more, noted
 pub mod Tapping

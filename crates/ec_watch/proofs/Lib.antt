@@ -1,1 +1,2 @@
+-- what is seen of an event, noted
 pub mod Watching
