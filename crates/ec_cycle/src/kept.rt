@@ -91,7 +91,7 @@ fn same_counters(one: ExpectedCounters, other: ExpectedCounters) -> bool
     match (one, other) {
         (ExpectedCounters::Lrw(n), ExpectedCounters::Lrw(m)) => n == m,
         (ExpectedCounters::Split { write, read }, ExpectedCounters::Split { write: v, read: q }) =>
-            { write == v && read == q }
+            write == v && read == q,
         _ => false,
     }
 }
