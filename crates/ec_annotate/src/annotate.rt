@@ -22,23 +22,6 @@ pub struct Links<'a> {
     pub plan: &'a Plan,
 }
 
-/// A text with the remarks on the payloads that lines of hex spell.
-fn woven(
-    alloc: Global,
-    decoded: &Decoded,
-    text: &str,
-    named: bool,
-    links: Option<Links<'_>>,
-) -> Result<String, AllocError>
-    requires { ForSome links (λ links. IsUsable links.plan.now) }
-    ensures woven { IfOk result (λ answer. IsWoven (string_bytes decoded.now.text) (string_bytes answer)) }
-    ensures same { IfOk result (λ answer. without_indented (string_bytes answer)
-        ≡ without_indented (string_bytes decoded.now.text)) }
-{
-    let remarks = remarks_of(alloc, text, named, links)?;
-    weave(alloc, decoded.text.as_str(), remarks.as_slice())
-}
-
 /// What `ec_decode::decode_text` prints of a text, with remarks for people behind its lines: where `named`
 /// says so, what each datagram says by the standard's names, and what is wrong with a payload that is no
 /// frame; and which variables a datagram carries by the links, if there are any. Each line of a remark is indented, so that `ec_decode::encode_text` reads the
@@ -60,4 +43,21 @@ pub fn annotate_text(
         text,
         is_whole: decoded.is_whole,
     })
+}
+
+/// A text with the remarks on the payloads that lines of hex spell.
+fn woven(
+    alloc: Global,
+    decoded: &Decoded,
+    text: &str,
+    named: bool,
+    links: Option<Links<'_>>,
+) -> Result<String, AllocError>
+    requires { ForSome links (λ links. IsUsable links.plan.now) }
+    ensures woven { IfOk result (λ answer. IsWoven (string_bytes decoded.now.text) (string_bytes answer)) }
+    ensures same { IfOk result (λ answer. without_indented (string_bytes answer)
+        ≡ without_indented (string_bytes decoded.now.text)) }
+{
+    let remarks = remarks_of(alloc, text, named, links)?;
+    weave(alloc, decoded.text.as_str(), remarks.as_slice())
 }

@@ -11,75 +11,43 @@ use ec_remark::{Seen, first_seen, write_remarks};
 use hex::FromHexError;
 use std::alloc::{AllocError, Global};
 
-/// What is wrong with a payload that is no frame (ETG.1000.4, "EtherCAT frame structure").
-fn fault_text(error: FrameError) -> &'static str {
-    match error {
-        FrameError::Short => "it ends before its header, or before what the header says",
-        FrameError::BadType => "bits 12 to 15 of its header aren't 1, the type of datagrams",
-        FrameError::BadLength => "there a datagram has less room than it says it has bytes",
-        FrameError::BadMore => "the datagram there says wrongly whether another follows",
-        FrameError::BadCommand => "the command of the datagram there is none of 0 to 14",
-        FrameError::TooLong => "its header says more than 1470 bytes",
-    }
-}
-
-/// Adds which variables a datagram carries.
-fn write_variables(
+/// The remarks on the lines that a text of hex is printed as, in their order, up to the first line of the
+/// text that isn't hex.
+pub(crate) fn remarks_of(
     alloc: Global,
-    text: &mut String,
-    seen: Seen<'_>,
-    links: Links<'_>,
-) -> Result<(), AllocError>
-    requires { IsUsable links.plan.now }
-{
-    let told = Told {
-        command: seen.command,
-        address: seen.address,
-        content: seen.content,
-        counter: seen.counter,
-    };
-    write_process(alloc, text, links.table, links.plan, told)
-}
-
-/// The remarks on a datagram.
-fn remark_on(
-    alloc: Global,
-    seen: Seen<'_>,
+    text: &str,
     named: bool,
     links: Option<Links<'_>>,
-) -> Result<String, AllocError>
+) -> Result<Vec<String>, AllocError>
     requires { ForSome links (λ links. IsUsable links.plan.now) }
 {
-    let mut remark = String::new(alloc);
-    if named {
-        write_remarks(alloc, &mut remark, seen)?;
+    let mut remarks = Vec::new(alloc);
+    for line in text.lines() {
+        if !line.is_empty() && !add_line(alloc, &mut remarks, line, named, links)? {
+            break;
+        }
     }
-    if let Some(links) = links {
-        write_variables(alloc, &mut remark, seen, links)?;
-    }
-    Ok(remark)
+    Ok(remarks)
 }
 
-/// Adds the remarks on so many datagrams that stand at the front of some bytes.
-fn add_datagrams(
+/// Adds the remarks on a line of hex, and answers whether it is hex.
+fn add_line(
     alloc: Global,
     remarks: &mut Vec<String>,
-    count: usize,
-    bytes: &[u8],
+    line: &str,
     named: bool,
     links: Option<Links<'_>>,
-) -> Result<(), AllocError>
+) -> Result<bool, AllocError>
     requires { ForSome links (λ links. IsUsable links.plan.now) }
 {
-    let mut rest = bytes;
-    for _ in 0..count {
-        let Some((seen, after)) = first_seen(rest) else {
-            return Ok(());
-        };
-        remarks.push(remark_on(alloc, seen, named, links)?)?;
-        rest = after;
+    match hex::decode(alloc, line) {
+        Ok(payload) => {
+            add_payload(alloc, remarks, payload.as_slice(), named, links)?;
+            Ok(true)
+        }
+        Err(FromHexError::OutOfMemory) => Err(AllocError),
+        Err(_) => Ok(false),
     }
-    Ok(())
 }
 
 /// Adds the remarks on the lines of a payload: of a frame's own line there are none.
@@ -110,41 +78,73 @@ fn add_payload(
     }
 }
 
-/// Adds the remarks on a line of hex, and answers whether it is hex.
-fn add_line(
+/// Adds the remarks on so many datagrams that stand at the front of some bytes.
+fn add_datagrams(
     alloc: Global,
     remarks: &mut Vec<String>,
-    line: &str,
+    count: usize,
+    bytes: &[u8],
     named: bool,
     links: Option<Links<'_>>,
-) -> Result<bool, AllocError>
+) -> Result<(), AllocError>
     requires { ForSome links (λ links. IsUsable links.plan.now) }
 {
-    match hex::decode(alloc, line) {
-        Ok(payload) => {
-            add_payload(alloc, remarks, payload.as_slice(), named, links)?;
-            Ok(true)
-        }
-        Err(FromHexError::OutOfMemory) => Err(AllocError),
-        Err(_) => Ok(false),
+    let mut rest = bytes;
+    for _ in 0..count {
+        let Some((seen, after)) = first_seen(rest) else {
+            return Ok(());
+        };
+        remarks.push(remark_on(alloc, seen, named, links)?)?;
+        rest = after;
     }
+    Ok(())
 }
 
-/// The remarks on the lines that a text of hex is printed as, in their order, up to the first line of the
-/// text that isn't hex.
-pub(crate) fn remarks_of(
+/// The remarks on a datagram.
+fn remark_on(
     alloc: Global,
-    text: &str,
+    seen: Seen<'_>,
     named: bool,
     links: Option<Links<'_>>,
-) -> Result<Vec<String>, AllocError>
+) -> Result<String, AllocError>
     requires { ForSome links (λ links. IsUsable links.plan.now) }
 {
-    let mut remarks = Vec::new(alloc);
-    for line in text.lines() {
-        if !line.is_empty() && !add_line(alloc, &mut remarks, line, named, links)? {
-            break;
-        }
+    let mut remark = String::new(alloc);
+    if named {
+        write_remarks(alloc, &mut remark, seen)?;
     }
-    Ok(remarks)
+    if let Some(links) = links {
+        write_variables(alloc, &mut remark, seen, links)?;
+    }
+    Ok(remark)
+}
+
+/// Adds which variables a datagram carries.
+fn write_variables(
+    alloc: Global,
+    text: &mut String,
+    seen: Seen<'_>,
+    links: Links<'_>,
+) -> Result<(), AllocError>
+    requires { IsUsable links.plan.now }
+{
+    let told = Told {
+        command: seen.command,
+        address: seen.address,
+        content: seen.content,
+        counter: seen.counter,
+    };
+    write_process(alloc, text, links.table, links.plan, told)
+}
+
+/// What is wrong with a payload that is no frame (ETG.1000.4, "EtherCAT frame structure").
+fn fault_text(error: FrameError) -> &'static str {
+    match error {
+        FrameError::Short => "it ends before its header, or before what the header says",
+        FrameError::BadType => "bits 12 to 15 of its header aren't 1, the type of datagrams",
+        FrameError::BadLength => "there a datagram has less room than it says it has bytes",
+        FrameError::BadMore => "the datagram there says wrongly whether another follows",
+        FrameError::BadCommand => "the command of the datagram there is none of 0 to 14",
+        FrameError::TooLong => "its header says more than 1470 bytes",
+    }
 }

@@ -86,88 +86,68 @@ pub enum Notice {
     Usage(String),
 }
 
-/// What the arguments of `pass` ask for; none where one of them is missing, as of the other commands.
-fn read_pass<'a>(given: &ArgMatches<'a>) -> Option<Request<'a>>
-    ensures some { IfSome result (IsAskedAs (codes "pass") (rows_of (found_of given.now))) }
-    ensures none { IfNone result (IsNeverAsked (codes "pass") (rows_of (found_of given.now))) }
+/// What the arguments ask for, the first of which is the program's name. It is what `clap`'s own
+/// specification finds in them where nothing is wrong with any of them; else the notice says what
+/// to tell the user.
+pub fn read_args<'a, S: AsStr>(alloc: Global, args: &'a [S]) -> Result<Request<'a>, Notice>
+    ensures { Reads (map S.text args.entry.now) result }
 {
-    Some(Request::Pass {
-        slaves: given.get_one::<u8>("slaves")?,
-        frame: given.get_str("frame")?,
-    })
+    read_request(alloc, args).map_err(|error| notice_of(alloc, &error))
 }
 
-/// What those of `plan` ask for.
-fn read_plan<'a>(given: &ArgMatches<'a>) -> Request<'a>
-    ensures { IsAskedAs (codes "plan") (rows_of (found_of given.now)) result }
+/// What an error of `clap` has to say, as a text of its own.
+fn notice_of(alloc: Global, error: &Error) -> Notice
+    ensures { IsNotice (kind_of error.now) result }
 {
-    Request::Plan {
-        header: given.get_flag("header"),
-        explained: given.get_flag("explain"),
+    notice_for(error.kind(), error.to_string(alloc))
+}
+
+/// What there is to say of an error of this kind, whose text is made, or can't be for want of memory.
+fn notice_for(kind: ErrorKind, text: Result<String, AllocError>) -> Notice
+    ensures { IsNoticeFor kind text result }
+{
+    if kind == ErrorKind::OutOfMemory {
+        return Notice::Memory;
+    }
+    match (text, kind) {
+        (Err(_), _) => Notice::Memory,
+        (Ok(text), ErrorKind::DisplayHelp | ErrorKind::DisplayVersion) => Notice::Help(text),
+        (Ok(text), _) => Notice::Usage(text),
     }
 }
 
-/// What those of `decode` ask for.
-fn read_decode<'a>(given: &ArgMatches<'a>) -> Request<'a>
-    ensures { IsAskedAs (codes "decode") (rows_of (found_of given.now)) result }
+/// What the arguments ask for, or `clap`'s error.
+fn read_request<'a, S: AsStr>(alloc: Global, args: &'a [S]) -> Result<Request<'a>, Error>
+    ensures faultless { OnOk result (fault_of ecat (map S.text args.entry.now) ≡ []) }
+    ensures found { IfOk result (Asks (subcommand_of ecat (map S.text args.entry.now))) }
+    ensures fault { IfErr result (λ error. IsFault (map S.text args.entry.now) (kind_of error)) }
 {
-    Request::Decode {
-        table: given.get_str("table"),
-        explained: given.get_flag("explain"),
+    let mut command = command(alloc)?;
+    let matches = command.try_get_matches_from_mut(args)?;
+    match read_matches(&matches) {
+        Some(request) => Ok(request),
+        None => Err(no_command(&mut command)),
     }
 }
 
-/// What those of `sim` ask for.
-fn read_sim<'a>(given: &ArgMatches<'a>) -> Request<'a>
-    ensures { IsAskedAs (codes "sim") (rows_of (found_of given.now)) result }
+/// The error of arguments in which `clap` found nothing wrong, and no command either.
+fn no_command(command: &mut Command<'_>) -> Error
+    ensures { (kind_of result ≡ ErrorKind.OutOfMemory)
+        ⊎ (kind_of result ≡ ErrorKind.MissingSubcommand) }
 {
-    Request::Sim {
-        live: given.get_flag("live"),
-        capture: given.get_str("capture"),
-        explained: given.get_flag("explain"),
+    match command.error(ErrorKind::MissingSubcommand, "no command was given") {
+        Ok(error) => error,
+        Err(error) => error.into(),
     }
 }
 
-/// What those of `loop` ask for.
-fn read_loop<'a>(given: &ArgMatches<'a>) -> Option<Request<'a>>
-    ensures some { IfSome result (IsAskedAs (codes "loop") (rows_of (found_of given.now))) }
-    ensures none { IfNone result (IsNeverAsked (codes "loop") (rows_of (found_of given.now))) }
+/// What the command asks for that `clap` met.
+fn read_matches<'a>(matches: &ArgMatches<'a>) -> Option<Request<'a>>
+    ensures some { IfSome result (Asks (subcommand_rows_of matches.now)) }
+    ensures none { IfNone result (MeetsCommand (subcommand_rows_of matches.now) → ⊥) }
 {
-    Some(Request::Loop {
-        cycles: given.get_one::<u16>("cycles")?,
-        capture: given.get_str("capture"),
-        explained: given.get_flag("explain"),
-    })
-}
-
-/// What those of `segment` ask for.
-fn read_segment<'a>(given: &ArgMatches<'a>) -> Option<Request<'a>>
-    ensures some { IfSome result (IsAskedAs (codes "segment") (rows_of (found_of given.now))) }
-    ensures none { IfNone result (IsNeverAsked (codes "segment") (rows_of (found_of given.now))) }
-{
-    Some(Request::Segment {
-        frames: given.get_one::<u32>("frames")?,
-        port: given.get_one::<u16>("port")?,
-        descriptor: given.get_one::<u16>("descriptor"),
-        full: given.get_flag("full"),
-        idle: given.get_one::<u32>("idle")?,
-        capture: given.get_str("capture"),
-        explained: given.get_flag("explain"),
-    })
-}
-
-/// What those of `master` ask for.
-fn read_master<'a>(given: &ArgMatches<'a>) -> Option<Request<'a>>
-    ensures some { IfSome result (IsAskedAs (codes "master") (rows_of (found_of given.now))) }
-    ensures none { IfNone result (IsNeverAsked (codes "master") (rows_of (found_of given.now))) }
-{
-    Some(Request::Master {
-        to: given.get_str("to")?,
-        descriptor: given.get_one::<u16>("descriptor"),
-        patience: given.get_one::<u16>("patience")?,
-        capture: given.get_str("capture"),
-        explained: given.get_flag("explain"),
-    })
+    let (name, given) = matches.subcommand()?;
+    read_command(name, given)
 }
 
 /// What the arguments of the command `name` ask for.
@@ -189,66 +169,86 @@ fn read_command<'a>(name: &str, given: &ArgMatches<'a>) -> Option<Request<'a>>
     }
 }
 
-/// What the command asks for that `clap` met.
-fn read_matches<'a>(matches: &ArgMatches<'a>) -> Option<Request<'a>>
-    ensures some { IfSome result (Asks (subcommand_rows_of matches.now)) }
-    ensures none { IfNone result (MeetsCommand (subcommand_rows_of matches.now) → ⊥) }
+/// What those of `master` ask for.
+fn read_master<'a>(given: &ArgMatches<'a>) -> Option<Request<'a>>
+    ensures some { IfSome result (IsAskedAs (codes "master") (rows_of (found_of given.now))) }
+    ensures none { IfNone result (IsNeverAsked (codes "master") (rows_of (found_of given.now))) }
 {
-    let (name, given) = matches.subcommand()?;
-    read_command(name, given)
+    Some(Request::Master {
+        to: given.get_str("to")?,
+        descriptor: given.get_one::<u16>("descriptor"),
+        patience: given.get_one::<u16>("patience")?,
+        capture: given.get_str("capture"),
+        explained: given.get_flag("explain"),
+    })
 }
 
-/// The error of arguments in which `clap` found nothing wrong, and no command either.
-fn no_command(command: &mut Command<'_>) -> Error
-    ensures { (kind_of result ≡ ErrorKind.OutOfMemory)
-        ⊎ (kind_of result ≡ ErrorKind.MissingSubcommand) }
+/// What those of `segment` ask for.
+fn read_segment<'a>(given: &ArgMatches<'a>) -> Option<Request<'a>>
+    ensures some { IfSome result (IsAskedAs (codes "segment") (rows_of (found_of given.now))) }
+    ensures none { IfNone result (IsNeverAsked (codes "segment") (rows_of (found_of given.now))) }
 {
-    match command.error(ErrorKind::MissingSubcommand, "no command was given") {
-        Ok(error) => error,
-        Err(error) => error.into(),
+    Some(Request::Segment {
+        frames: given.get_one::<u32>("frames")?,
+        port: given.get_one::<u16>("port")?,
+        descriptor: given.get_one::<u16>("descriptor"),
+        full: given.get_flag("full"),
+        idle: given.get_one::<u32>("idle")?,
+        capture: given.get_str("capture"),
+        explained: given.get_flag("explain"),
+    })
+}
+
+/// What those of `loop` ask for.
+fn read_loop<'a>(given: &ArgMatches<'a>) -> Option<Request<'a>>
+    ensures some { IfSome result (IsAskedAs (codes "loop") (rows_of (found_of given.now))) }
+    ensures none { IfNone result (IsNeverAsked (codes "loop") (rows_of (found_of given.now))) }
+{
+    Some(Request::Loop {
+        cycles: given.get_one::<u16>("cycles")?,
+        capture: given.get_str("capture"),
+        explained: given.get_flag("explain"),
+    })
+}
+
+/// What those of `sim` ask for.
+fn read_sim<'a>(given: &ArgMatches<'a>) -> Request<'a>
+    ensures { IsAskedAs (codes "sim") (rows_of (found_of given.now)) result }
+{
+    Request::Sim {
+        live: given.get_flag("live"),
+        capture: given.get_str("capture"),
+        explained: given.get_flag("explain"),
     }
 }
 
-/// What the arguments ask for, or `clap`'s error.
-fn read_request<'a, S: AsStr>(alloc: Global, args: &'a [S]) -> Result<Request<'a>, Error>
-    ensures faultless { OnOk result (fault_of ecat (map S.text args.entry.now) ≡ []) }
-    ensures found { IfOk result (Asks (subcommand_of ecat (map S.text args.entry.now))) }
-    ensures fault { IfErr result (λ error. IsFault (map S.text args.entry.now) (kind_of error)) }
+/// What those of `decode` ask for.
+fn read_decode<'a>(given: &ArgMatches<'a>) -> Request<'a>
+    ensures { IsAskedAs (codes "decode") (rows_of (found_of given.now)) result }
 {
-    let mut command = command(alloc)?;
-    let matches = command.try_get_matches_from_mut(args)?;
-    match read_matches(&matches) {
-        Some(request) => Ok(request),
-        None => Err(no_command(&mut command)),
+    Request::Decode {
+        table: given.get_str("table"),
+        explained: given.get_flag("explain"),
     }
 }
 
-/// What there is to say of an error of this kind, whose text is made, or can't be for want of memory.
-fn notice_for(kind: ErrorKind, text: Result<String, AllocError>) -> Notice
-    ensures { IsNoticeFor kind text result }
+/// What those of `plan` ask for.
+fn read_plan<'a>(given: &ArgMatches<'a>) -> Request<'a>
+    ensures { IsAskedAs (codes "plan") (rows_of (found_of given.now)) result }
 {
-    if kind == ErrorKind::OutOfMemory {
-        return Notice::Memory;
-    }
-    match (text, kind) {
-        (Err(_), _) => Notice::Memory,
-        (Ok(text), ErrorKind::DisplayHelp | ErrorKind::DisplayVersion) => Notice::Help(text),
-        (Ok(text), _) => Notice::Usage(text),
+    Request::Plan {
+        header: given.get_flag("header"),
+        explained: given.get_flag("explain"),
     }
 }
 
-/// What an error of `clap` has to say, as a text of its own.
-fn notice_of(alloc: Global, error: &Error) -> Notice
-    ensures { IsNotice (kind_of error.now) result }
+/// What the arguments of `pass` ask for; none where one of them is missing, as of the other commands.
+fn read_pass<'a>(given: &ArgMatches<'a>) -> Option<Request<'a>>
+    ensures some { IfSome result (IsAskedAs (codes "pass") (rows_of (found_of given.now))) }
+    ensures none { IfNone result (IsNeverAsked (codes "pass") (rows_of (found_of given.now))) }
 {
-    notice_for(error.kind(), error.to_string(alloc))
-}
-
-/// What the arguments ask for, the first of which is the program's name. It is what `clap`'s own
-/// specification finds in them where nothing is wrong with any of them; else the notice says what
-/// to tell the user.
-pub fn read_args<'a, S: AsStr>(alloc: Global, args: &'a [S]) -> Result<Request<'a>, Notice>
-    ensures { Reads (map S.text args.entry.now) result }
-{
-    read_request(alloc, args).map_err(|error| notice_of(alloc, &error))
+    Some(Request::Pass {
+        slaves: given.get_one::<u8>("slaves")?,
+        frame: given.get_str("frame")?,
+    })
 }

@@ -5,46 +5,6 @@ ghost use Rattle.ec_bits.specs.Bits.{bit, with_number, copied};
 
 use crate::copying::{copy_part, shift_bytes};
 
-/// The 64 bits from a byte on, as a number.
-#[inline(always)]
-fn word_at(bytes: &[u8], at: usize) -> u64
-    requires { at + 8 ≤ length bytes.now }
-    ensures { (i : ℕ) → i < 64 → bit_at result i ≡ from_bool (bit bytes.now (8 * at + i)) }
-{
-    let mut eight = [0; 8];
-    eight.copy_from_slice(&bytes[at..at + 8]);
-    u64::from_le_bytes(eight)
-}
-
-/// Writes a number over the 64 bits from a byte on.
-#[inline(always)]
-fn set_word(dst: &mut [u8], at: usize, word: u64)
-    requires inside { at + 8 ≤ length dst.old }
-    requires small { (k : ℕ) → slice_index dst.old k < 256 }
-    ensures { dst.new ≡ with_number dst.old (8 * at) 64 word }
-{
-    dst[at..at + 8].copy_from_slice(&word.to_le_bytes());
-}
-
-/// Writes a number over the 64 bits from a byte on.
-#[inline(always)]
-fn put_word(dst: &mut [u8], at: usize, word: u64)
-    requires { at + 8 ≤ length dst.old }
-    ensures { dst.new ≡ with_number dst.old (8 * at) 64 word }
-{
-    set_word(dst, at, word);
-}
-
-/// Writes bytes over bytes.
-fn paste_slice(dst: &mut [u8], at: usize, src: &[u8], start: usize, count: usize)
-    requires inside { at + count ≤ length dst.old }
-    requires there { start + count ≤ length src.now }
-    requires small { (k : ℕ) → slice_index dst.old k < 256 }
-    ensures { dst.new ≡ copied dst.old (8 * at) src.now (8 * start) (8 * count) }
-{
-    dst[at..at + count].copy_from_slice(&src[start..start + count]);
-}
-
 /// Copies the `count` bytes of `src` from `start` on to the place `at` of `dst`, at once: what
 /// [`copy_bits`] does to their bits.
 ///
@@ -55,70 +15,6 @@ pub fn copy_slice(dst: &mut [u8], at: usize, src: &[u8], start: usize, count: us
     ensures { dst.new ≡ copied dst.old (8 * at) src.now (8 * start) (8 * count) }
 {
     paste_slice(dst, at, src, start, count);
-}
-
-/// The 64 bits from a place inside the first of two words, a byte apart, on.
-#[inline(always)]
-fn shifted_word(low: u64, high: u64, shift: usize) -> u64
-    requires some { 0 < shift }
-    requires inside { shift < 8 }
-    requires apart { (i : ℕ) → 8 ≤ i → i < 64 → bit_at low i ≡ bit_at high (i - 8) }
-    ensures { (i : ℕ) → i < 64 → bit_at result i ≡ (if nat_lt i (64 - shift) then bit_at low (shift + i) else bit_at high (shift + i - 8)) }
-{
-    (low >> shift) | (high << (8 - shift))
-}
-
-/// Copies 64 bits that begin with a byte of `dst` and inside a byte of `src`.
-#[inline(always)]
-fn shift_word(dst: &mut [u8], at: usize, src: &[u8], start: usize, shift: usize)
-    requires some { 0 < shift }
-    requires small { shift < 8 }
-    requires inside { at + 8 ≤ length dst.old }
-    requires there { start + 8 < length src.now }
-    ensures { dst.new ≡ copied dst.old (8 * at) src.now (8 * start + shift) 64 }
-{
-    let low = word_at(src, start);
-    let high = word_at(src, start + 1);
-    put_word(dst, at, shifted_word(low, high, shift));
-}
-
-/// Fills `dst` with the bits of `src` from a place inside its first byte on.
-fn shift_over(dst: &mut [u8], src: &[u8], shift: usize)
-    requires some { 0 < shift }
-    requires small { shift < 8 }
-    requires there { length dst.old < length src.now }
-    ensures { dst.new ≡ copied dst.old 0 src.now shift (8 * length dst.old) }
-{
-    for w in 0..dst.len() / 8 {
-        shift_word(dst, 8 * w, src, 8 * w, shift);
-    }
-    let done = 8 * (dst.len() / 8);
-    shift_bytes(dst, done, src, done, shift, dst.len() - done);
-}
-
-/// Copies whole bytes of `dst` from bits that begin inside a byte of `src`. Both parts are cut
-/// first, so that the loop has no ranges of its own and the compiler makes it wide.
-fn shift_run(dst: &mut [u8], at: usize, src: &[u8], start: usize, shift: usize, count: usize)
-    requires some { 0 < shift }
-    requires small { shift < 8 }
-    requires inside { at + count ≤ length dst.old }
-    requires there { start + count < length src.now }
-    ensures { dst.new ≡ copied dst.old (8 * at) src.now (8 * start + shift) (8 * count) }
-{
-    shift_over(&mut dst[at..at + count], &src[start..], shift);
-}
-
-/// Copies whole bytes of `dst`.
-fn move_bytes(dst: &mut [u8], at: usize, src: &[u8], from: usize, count: usize)
-    requires inside { at + count ≤ length dst.old }
-    requires there { from + 8 * count ≤ 8 * length src.now }
-    ensures { dst.new ≡ copied dst.old (8 * at) src.now from (8 * count) }
-{
-    if from % 8 == 0 {
-        copy_slice(dst, at, src, from / 8, count);
-    } else if count > 0 {
-        shift_run(dst, at, src, from / 8, from % 8, count);
-    }
 }
 
 /// Copies the `count` bits of `src` from `from` on to the place `to` of `dst`, as [`copy_bits`]
@@ -139,4 +35,108 @@ pub fn copy_by_words(dst: &mut [u8], to: usize, src: &[u8], from: usize, count: 
     copy_part(dst, to, src, from, head);
     move_bytes(dst, (to + head) / 8, src, from + head, whole);
     copy_part(dst, to + done, src, from + done, count - done);
+}
+
+/// Writes bytes over bytes.
+fn paste_slice(dst: &mut [u8], at: usize, src: &[u8], start: usize, count: usize)
+    requires inside { at + count ≤ length dst.old }
+    requires there { start + count ≤ length src.now }
+    requires small { (k : ℕ) → slice_index dst.old k < 256 }
+    ensures { dst.new ≡ copied dst.old (8 * at) src.now (8 * start) (8 * count) }
+{
+    dst[at..at + count].copy_from_slice(&src[start..start + count]);
+}
+
+/// Writes a number over the 64 bits from a byte on.
+#[inline(always)]
+fn put_word(dst: &mut [u8], at: usize, word: u64)
+    requires { at + 8 ≤ length dst.old }
+    ensures { dst.new ≡ with_number dst.old (8 * at) 64 word }
+{
+    set_word(dst, at, word);
+}
+
+/// Writes a number over the 64 bits from a byte on.
+#[inline(always)]
+fn set_word(dst: &mut [u8], at: usize, word: u64)
+    requires inside { at + 8 ≤ length dst.old }
+    requires small { (k : ℕ) → slice_index dst.old k < 256 }
+    ensures { dst.new ≡ with_number dst.old (8 * at) 64 word }
+{
+    dst[at..at + 8].copy_from_slice(&word.to_le_bytes());
+}
+
+/// The 64 bits from a byte on, as a number.
+#[inline(always)]
+fn word_at(bytes: &[u8], at: usize) -> u64
+    requires { at + 8 ≤ length bytes.now }
+    ensures { (i : ℕ) → i < 64 → bit_at result i ≡ from_bool (bit bytes.now (8 * at + i)) }
+{
+    let mut eight = [0; 8];
+    eight.copy_from_slice(&bytes[at..at + 8]);
+    u64::from_le_bytes(eight)
+}
+
+/// Copies whole bytes of `dst`.
+fn move_bytes(dst: &mut [u8], at: usize, src: &[u8], from: usize, count: usize)
+    requires inside { at + count ≤ length dst.old }
+    requires there { from + 8 * count ≤ 8 * length src.now }
+    ensures { dst.new ≡ copied dst.old (8 * at) src.now from (8 * count) }
+{
+    if from % 8 == 0 {
+        copy_slice(dst, at, src, from / 8, count);
+    } else if count > 0 {
+        shift_run(dst, at, src, from / 8, from % 8, count);
+    }
+}
+
+/// Copies whole bytes of `dst` from bits that begin inside a byte of `src`. Both parts are cut
+/// first, so that the loop has no ranges of its own and the compiler makes it wide.
+fn shift_run(dst: &mut [u8], at: usize, src: &[u8], start: usize, shift: usize, count: usize)
+    requires some { 0 < shift }
+    requires small { shift < 8 }
+    requires inside { at + count ≤ length dst.old }
+    requires there { start + count < length src.now }
+    ensures { dst.new ≡ copied dst.old (8 * at) src.now (8 * start + shift) (8 * count) }
+{
+    shift_over(&mut dst[at..at + count], &src[start..], shift);
+}
+
+/// Fills `dst` with the bits of `src` from a place inside its first byte on.
+fn shift_over(dst: &mut [u8], src: &[u8], shift: usize)
+    requires some { 0 < shift }
+    requires small { shift < 8 }
+    requires there { length dst.old < length src.now }
+    ensures { dst.new ≡ copied dst.old 0 src.now shift (8 * length dst.old) }
+{
+    for w in 0..dst.len() / 8 {
+        shift_word(dst, 8 * w, src, 8 * w, shift);
+    }
+    let done = 8 * (dst.len() / 8);
+    shift_bytes(dst, done, src, done, shift, dst.len() - done);
+}
+
+/// Copies 64 bits that begin with a byte of `dst` and inside a byte of `src`.
+#[inline(always)]
+fn shift_word(dst: &mut [u8], at: usize, src: &[u8], start: usize, shift: usize)
+    requires some { 0 < shift }
+    requires small { shift < 8 }
+    requires inside { at + 8 ≤ length dst.old }
+    requires there { start + 8 < length src.now }
+    ensures { dst.new ≡ copied dst.old (8 * at) src.now (8 * start + shift) 64 }
+{
+    let low = word_at(src, start);
+    let high = word_at(src, start + 1);
+    put_word(dst, at, shifted_word(low, high, shift));
+}
+
+/// The 64 bits from a place inside the first of two words, a byte apart, on.
+#[inline(always)]
+fn shifted_word(low: u64, high: u64, shift: usize) -> u64
+    requires some { 0 < shift }
+    requires inside { shift < 8 }
+    requires apart { (i : ℕ) → 8 ≤ i → i < 64 → bit_at low i ≡ bit_at high (i - 8) }
+    ensures { (i : ℕ) → i < 64 → bit_at result i ≡ (if nat_lt i (64 - shift) then bit_at low (shift + i) else bit_at high (shift + i - 8)) }
+{
+    (low >> shift) | (high << (8 - shift))
 }

@@ -3,42 +3,6 @@ ghost use Rattle.std.specs.Prelude.{◌≡◌, ◌<◌, ◌≤◌, ◌+◌, ◌-
 ghost use Rattle.std.specs.Int.{bit_at, from_bool};
 ghost use Rattle.ec_bits.specs.Bits.{bit, copied, within, bytes_touched};
 
-/// The eight bits of `bytes` from a place on, with zeros past their end.
-fn fetch(bytes: &[u8], from: usize) -> u8
-    requires { from < 8 * length bytes.now }
-    ensures { (j : ℕ) → j < 8 → bit_at result j ≡ from_bool (bit bytes.now (from + j)) }
-{
-    let low = u16::from(bytes[from / 8]);
-    let high = if from / 8 < bytes.len() - 1 {
-        u16::from(bytes[from / 8 + 1])
-    } else {
-        0
-    };
-    (((256 * high + low) >> (from % 8)) % 256) as u8
-}
-
-/// One masked write: the bits of `byte` from `shift` on, `count` of them, become those of `value`.
-fn merge(byte: u8, value: u8, shift: usize, count: usize) -> u8
-    requires some { 0 < count }
-    requires inside { shift + count ≤ 8 }
-    ensures { (j : ℕ) → j < 8 → bit_at result j ≡ (if within shift count j then bit_at value (j - shift) else bit_at byte j) }
-{
-    let mask = (255u8 >> (8 - count)) << shift;
-    (byte & !mask) | ((value << shift) & mask)
-}
-
-/// Copies bits into one byte of `dst`.
-fn copy_into_byte(dst: &mut [u8], to: usize, src: &[u8], from: usize, count: usize)
-    requires some { 0 < count }
-    requires byte { to % 8 + count ≤ 8 }
-    requires inside { to + count ≤ 8 * length dst.old }
-    requires there { from + count ≤ 8 * length src.now }
-    ensures { dst.new ≡ copied dst.old to src.now from count }
-{
-    let value = fetch(src, from);
-    dst[to / 8] = merge(dst[to / 8], value, to % 8, count);
-}
-
 /// Copies bits into one byte of `dst`, or none, and answers in how many turns.
 pub(crate) fn copy_part(dst: &mut [u8], to: usize, src: &[u8], from: usize, count: usize) -> usize
     requires byte { to % 8 + count ≤ 8 }
@@ -52,30 +16,6 @@ pub(crate) fn copy_part(dst: &mut [u8], to: usize, src: &[u8], from: usize, coun
     }
     copy_into_byte(dst, to, src, from, count);
     1
-}
-
-/// The eight bits from a place inside the lower one of two bytes on.
-fn shifted(low: u8, high: u8, shift: usize) -> u8
-    requires some { 0 < shift }
-    requires inside { shift < 8 }
-    ensures { (j : ℕ) → j < 8 → bit_at result j ≡ bit_at (256 * high + low) (shift + j) }
-{
-    (low >> shift) | (high << (8 - shift))
-}
-
-/// Copies bits that begin with a byte of both, byte by byte.
-fn copy_bytes(dst: &mut [u8], at: usize, src: &[u8], start: usize, count: usize) -> usize
-    requires inside { at + count ≤ length dst.old }
-    requires there { start + count ≤ length src.now }
-    ensures bits { dst.new ≡ copied dst.old (8 * at) src.now (8 * start) (8 * count) }
-    ensures turns { result ≡ count }
-{
-    let mut turns = 0;
-    for k in 0..count {
-        dst[at + k] = src[start + k];
-        turns += 1;
-    }
-    turns
 }
 
 /// Copies bits that begin with a byte of `dst` and inside a byte of `src`, byte by byte.
@@ -102,22 +42,6 @@ pub(crate) fn shift_bytes(
     turns
 }
 
-/// Copies whole bytes of `dst`, and answers how many.
-fn copy_whole(dst: &mut [u8], at: usize, src: &[u8], from: usize, count: usize) -> usize
-    requires inside { at + count ≤ length dst.old }
-    requires there { from + 8 * count ≤ 8 * length src.now }
-    ensures bits { dst.new ≡ copied dst.old (8 * at) src.now from (8 * count) }
-    ensures turns { result ≡ count }
-{
-    if count == 0 {
-        return 0;
-    }
-    if from % 8 == 0 {
-        return copy_bytes(dst, at, src, from / 8, count);
-    }
-    shift_bytes(dst, at, src, from / 8, from % 8, count)
-}
-
 /// Copies the `count` bits of `src` from `from` on to the place `to` of `dst`, and answers in how
 /// many turns. A turn is one masked write of a byte of `dst`, so there are as many as bytes of
 /// `dst` that hold a copied bit. The ends of both runs, counted in bits, fit a `usize`.
@@ -136,4 +60,80 @@ pub fn copy_bits(dst: &mut [u8], to: usize, src: &[u8], from: usize, count: usiz
     let middle = copy_whole(dst, (to + head) / 8, src, from + head, whole);
     let last = copy_part(dst, to + done, src, from + done, count - done);
     first + middle + last
+}
+
+/// Copies bits into one byte of `dst`.
+fn copy_into_byte(dst: &mut [u8], to: usize, src: &[u8], from: usize, count: usize)
+    requires some { 0 < count }
+    requires byte { to % 8 + count ≤ 8 }
+    requires inside { to + count ≤ 8 * length dst.old }
+    requires there { from + count ≤ 8 * length src.now }
+    ensures { dst.new ≡ copied dst.old to src.now from count }
+{
+    let value = fetch(src, from);
+    dst[to / 8] = merge(dst[to / 8], value, to % 8, count);
+}
+
+/// One masked write: the bits of `byte` from `shift` on, `count` of them, become those of `value`.
+fn merge(byte: u8, value: u8, shift: usize, count: usize) -> u8
+    requires some { 0 < count }
+    requires inside { shift + count ≤ 8 }
+    ensures { (j : ℕ) → j < 8 → bit_at result j ≡ (if within shift count j then bit_at value (j - shift) else bit_at byte j) }
+{
+    let mask = (255u8 >> (8 - count)) << shift;
+    (byte & !mask) | ((value << shift) & mask)
+}
+
+/// The eight bits of `bytes` from a place on, with zeros past their end.
+fn fetch(bytes: &[u8], from: usize) -> u8
+    requires { from < 8 * length bytes.now }
+    ensures { (j : ℕ) → j < 8 → bit_at result j ≡ from_bool (bit bytes.now (from + j)) }
+{
+    let low = u16::from(bytes[from / 8]);
+    let high = if from / 8 < bytes.len() - 1 {
+        u16::from(bytes[from / 8 + 1])
+    } else {
+        0
+    };
+    (((256 * high + low) >> (from % 8)) % 256) as u8
+}
+
+/// Copies bits that begin with a byte of both, byte by byte.
+fn copy_bytes(dst: &mut [u8], at: usize, src: &[u8], start: usize, count: usize) -> usize
+    requires inside { at + count ≤ length dst.old }
+    requires there { start + count ≤ length src.now }
+    ensures bits { dst.new ≡ copied dst.old (8 * at) src.now (8 * start) (8 * count) }
+    ensures turns { result ≡ count }
+{
+    let mut turns = 0;
+    for k in 0..count {
+        dst[at + k] = src[start + k];
+        turns += 1;
+    }
+    turns
+}
+
+/// The eight bits from a place inside the lower one of two bytes on.
+fn shifted(low: u8, high: u8, shift: usize) -> u8
+    requires some { 0 < shift }
+    requires inside { shift < 8 }
+    ensures { (j : ℕ) → j < 8 → bit_at result j ≡ bit_at (256 * high + low) (shift + j) }
+{
+    (low >> shift) | (high << (8 - shift))
+}
+
+/// Copies whole bytes of `dst`, and answers how many.
+fn copy_whole(dst: &mut [u8], at: usize, src: &[u8], from: usize, count: usize) -> usize
+    requires inside { at + count ≤ length dst.old }
+    requires there { from + 8 * count ≤ 8 * length src.now }
+    ensures bits { dst.new ≡ copied dst.old (8 * at) src.now from (8 * count) }
+    ensures turns { result ≡ count }
+{
+    if count == 0 {
+        return 0;
+    }
+    if from % 8 == 0 {
+        return copy_bytes(dst, at, src, from / 8, count);
+    }
+    shift_bytes(dst, at, src, from / 8, from % 8, count)
 }

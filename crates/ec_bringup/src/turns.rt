@@ -16,13 +16,37 @@ use ec_frame::Frame;
 use ec_ring::Ring;
 use ec_start::{NextFrame, Startup};
 
-/// Each slave serves once, in order.
-fn serve_all(ring: &mut Ring)
-    ensures { ring.new ≡ map served ring.old }
+/// Brings the slaves of a ring up: turn after turn the next frame of the start-up passes all of them, each serves once, and the
+/// frame is taken back, until the start-up has ended. It always ends, and is never given up. A new start-up of a plan that the
+/// link compiler made ends Ready over devices of the plan's types, whatever state they are in, after exactly one frame for each
+/// action of its script, and then every slave works as planned.
+///
+/// No frame of the start-up may be outstanding.
+pub fn bring_up(startup: &mut Startup, ring: &mut Ring)
+    requires { is_sent startup.old.phase ≡ false }
+    ensures steps { IsBroughtTo (rising startup.old ring.old) (rising startup.new ring.new) }
+    ensures plan { startup.new.plan ≡ startup.old.plan }
+    ensures ended { is_ended startup.new.phase ≡ true }
+    ensures not_given_up { startup.old.phase ≡ Idle → startup.new.phase ≢ Failed Lost }
+    ensures up { (ps : List SlavePlan) (from : ℕ) → ArePlans ps → startup.old ≡ begun ps from → AreDevices ps ring.old
+        → from + length (script ps) ≤ last_number → IsUpAndWorks ps (from + length (script ps)) (rising startup.new ring.new) }
 {
-    for place in 0..ring.len() {
-        ring.slave_mut(place).serve();
+    make_turns(startup, ring)
+}
+
+/// Turns until there is no next frame.
+fn make_turns(startup: &mut Startup, ring: &mut Ring)
+    requires { is_sent startup.old.phase ≡ false }
+    ensures { IsBroughtTo (rising startup.old ring.old) (rising startup.new ring.new) }
+{
+    let mut frame = Frame::new();
+    // each turn takes a number
+    for _ in startup.next_number()..u64::MAX {
+        if !turn(startup, ring, &mut frame) {
+            return;
+        }
     }
+    turn(startup, ring, &mut frame);
 }
 
 /// One turn: the next frame is written, passes all slaves, each slave serves once, and the frame is taken back. It answers
@@ -45,35 +69,11 @@ fn turn(startup: &mut Startup, ring: &mut Ring, frame: &mut Frame) -> bool
     true
 }
 
-/// Turns until there is no next frame.
-fn make_turns(startup: &mut Startup, ring: &mut Ring)
-    requires { is_sent startup.old.phase ≡ false }
-    ensures { IsBroughtTo (rising startup.old ring.old) (rising startup.new ring.new) }
+/// Each slave serves once, in order.
+fn serve_all(ring: &mut Ring)
+    ensures { ring.new ≡ map served ring.old }
 {
-    let mut frame = Frame::new();
-    // each turn takes a number
-    for _ in startup.next_number()..u64::MAX {
-        if !turn(startup, ring, &mut frame) {
-            return;
-        }
+    for place in 0..ring.len() {
+        ring.slave_mut(place).serve();
     }
-    turn(startup, ring, &mut frame);
-}
-
-/// Brings the slaves of a ring up: turn after turn the next frame of the start-up passes all of them, each serves once, and the
-/// frame is taken back, until the start-up has ended. It always ends, and is never given up. A new start-up of a plan that the
-/// link compiler made ends Ready over devices of the plan's types, whatever state they are in, after exactly one frame for each
-/// action of its script, and then every slave works as planned.
-///
-/// No frame of the start-up may be outstanding.
-pub fn bring_up(startup: &mut Startup, ring: &mut Ring)
-    requires { is_sent startup.old.phase ≡ false }
-    ensures steps { IsBroughtTo (rising startup.old ring.old) (rising startup.new ring.new) }
-    ensures plan { startup.new.plan ≡ startup.old.plan }
-    ensures ended { is_ended startup.new.phase ≡ true }
-    ensures not_given_up { startup.old.phase ≡ Idle → startup.new.phase ≢ Failed Lost }
-    ensures up { (ps : List SlavePlan) (from : ℕ) → ArePlans ps → startup.old ≡ begun ps from → AreDevices ps ring.old
-        → from + length (script ps) ≤ last_number → IsUpAndWorks ps (from + length (script ps)) (rising startup.new ring.new) }
-{
-    make_turns(startup, ring)
 }

@@ -46,55 +46,6 @@ const PASSED: [u8; ETHERNET_HEADER] = [
     255, 255, 255, 255, 255, 255, 0x02, 0x00, 0x00, 0x45, 0x43, 0x01, 0x88, 0xA4,
 ];
 
-/// How many bytes go behind so many, to a multiple of four.
-#[tactic(auto, unfolding(crate::specs::Blocks::padding))]
-fn padding(count: usize) -> usize
-    ensures value { result ≡ padding count }
-    ensures few { result ≤ 3 }
-{
-    (4 - count % 4) % 4
-}
-
-/// Writes so many zeros.
-#[tactic(auto, using(crate::proofs::Growing::few_zeros))]
-fn write_zeros<W: Write>(count: usize, file: &mut W) -> Result<(), WriteFault>
-    requires { count ≤ 4 }
-    ensures { Writes (zeros count) (W.contents file.old) (W.contents file.new) result }
-{
-    write_bytes(&[0; 4][..count], file)
-}
-
-/// Writes numbers of four bytes each.
-fn write_numbers<W: Write>(numbers: &[u32], file: &mut W) -> Result<(), WriteFault>
-    ensures { Writes (flat_map number numbers.now) (W.contents file.old) (W.contents file.new) result }
-{
-    for number in numbers {
-        write_bytes(&number.to_le_bytes(), file)?;
-    }
-    Ok(())
-}
-
-/// Writes an option, and that there are no more.
-fn write_options<W: Write>(code: u8, text: &str, file: &mut W) -> Result<(), WriteFault>
-    requires { length text.now < 2 ^ 16 }
-    ensures { Writes (options_bytes code text.now) (W.contents file.old) (W.contents file.new) result }
-{
-    write_bytes(&[code, 0], file)?;
-    write_bytes(&(text.len() as u16).to_le_bytes(), file)?;
-    write_bytes(text.as_bytes(), file)?;
-    write_zeros(padding(text.len()), file)?;
-    write_zeros(4, file)
-}
-
-/// How many bytes an option with so many has, and the end of options behind it.
-fn options_size(count: usize) -> u32
-    requires { count < 2 ^ 16 }
-    ensures value { result ≡ 8 + count + padding count }
-    ensures few { result ≤ 65546 }
-{
-    (8 + count + padding(count)) as u32
-}
-
 /// Writes the head of a file.
 ///
 /// # Errors
@@ -121,47 +72,6 @@ pub fn write_interface<W: Write>(name: &str, file: &mut W) -> Result<(), WriteFa
     write_numbers(&[size], file)
 }
 
-/// How many bytes a comment has, where there is one.
-fn comment_size(comment: Option<&str>) -> u32
-    requires { IsComment (option_map (λ t. t.now) comment) }
-    ensures size { result ≡ length (comment_bytes (option_map (λ t. t.now) comment.entry)) }
-    ensures few { result ≤ 65546 }
-{
-    match comment {
-        None => 0,
-        Some(text) => options_size(text.len()),
-    }
-}
-
-/// Writes a comment, where there is one.
-fn write_comment<W: Write>(comment: Option<&str>, file: &mut W) -> Result<(), WriteFault>
-    requires { IsComment (option_map (λ t. t.now) comment) }
-    ensures { Writes (comment_bytes (option_map (λ t. t.now) comment.entry)) (W.contents file.old) (W.contents file.new) result }
-{
-    match comment {
-        None => Ok(()),
-        Some(text) => write_options(COMMENT, text, file),
-    }
-}
-
-/// The Ethernet header of a frame that has passed a slave, or hasn't.
-#[tactic(auto, using(crate::proofs::Spelled::sent_spelled, crate::proofs::Spelled::passed_spelled))]
-fn ethernet_head(passed: bool) -> &'static [u8; ETHERNET_HEADER]
-    ensures { result.now ≡ ethernet_head passed }
-{
-    if passed { &PASSED } else { &SENT }
-}
-
-/// Writes the Ethernet frame of a payload, filled up to a multiple of four.
-fn write_frame<W: Write>(passed: bool, payload: &[u8], file: &mut W) -> Result<(), WriteFault>
-    requires { length payload.now ≤ 1500 }
-    ensures { Writes (ethernet_head passed ++ (payload.now ++ zeros (padding (ethernet_size payload.now)))) (W.contents file.old) (W.contents file.new) result }
-{
-    write_bytes(ethernet_head(passed), file)?;
-    write_bytes(payload, file)?;
-    write_zeros(padding(ETHERNET_HEADER + payload.len()), file)
-}
-
 /// Writes a packet.
 ///
 /// # Errors
@@ -180,4 +90,94 @@ pub fn write_packet<W: Write>(packet: &Packet<'_>, file: &mut W) -> Result<(), W
     write_frame(packet.passed, packet.payload, file)?;
     write_comment(packet.comment, file)?;
     write_numbers(&[size], file)
+}
+
+/// How many bytes an option with so many has, and the end of options behind it.
+fn options_size(count: usize) -> u32
+    requires { count < 2 ^ 16 }
+    ensures value { result ≡ 8 + count + padding count }
+    ensures few { result ≤ 65546 }
+{
+    (8 + count + padding(count)) as u32
+}
+
+/// Writes an option, and that there are no more.
+fn write_options<W: Write>(code: u8, text: &str, file: &mut W) -> Result<(), WriteFault>
+    requires { length text.now < 2 ^ 16 }
+    ensures { Writes (options_bytes code text.now) (W.contents file.old) (W.contents file.new) result }
+{
+    write_bytes(&[code, 0], file)?;
+    write_bytes(&(text.len() as u16).to_le_bytes(), file)?;
+    write_bytes(text.as_bytes(), file)?;
+    write_zeros(padding(text.len()), file)?;
+    write_zeros(4, file)
+}
+
+/// Writes numbers of four bytes each.
+fn write_numbers<W: Write>(numbers: &[u32], file: &mut W) -> Result<(), WriteFault>
+    ensures { Writes (flat_map number numbers.now) (W.contents file.old) (W.contents file.new) result }
+{
+    for number in numbers {
+        write_bytes(&number.to_le_bytes(), file)?;
+    }
+    Ok(())
+}
+
+/// Writes so many zeros.
+#[tactic(auto, using(crate::proofs::Growing::few_zeros))]
+fn write_zeros<W: Write>(count: usize, file: &mut W) -> Result<(), WriteFault>
+    requires { count ≤ 4 }
+    ensures { Writes (zeros count) (W.contents file.old) (W.contents file.new) result }
+{
+    write_bytes(&[0; 4][..count], file)
+}
+
+/// How many bytes go behind so many, to a multiple of four.
+#[tactic(auto, unfolding(crate::specs::Blocks::padding))]
+fn padding(count: usize) -> usize
+    ensures value { result ≡ padding count }
+    ensures few { result ≤ 3 }
+{
+    (4 - count % 4) % 4
+}
+
+/// Writes the Ethernet frame of a payload, filled up to a multiple of four.
+fn write_frame<W: Write>(passed: bool, payload: &[u8], file: &mut W) -> Result<(), WriteFault>
+    requires { length payload.now ≤ 1500 }
+    ensures { Writes (ethernet_head passed ++ (payload.now ++ zeros (padding (ethernet_size payload.now)))) (W.contents file.old) (W.contents file.new) result }
+{
+    write_bytes(ethernet_head(passed), file)?;
+    write_bytes(payload, file)?;
+    write_zeros(padding(ETHERNET_HEADER + payload.len()), file)
+}
+
+/// The Ethernet header of a frame that has passed a slave, or hasn't.
+#[tactic(auto, using(crate::proofs::Spelled::sent_spelled, crate::proofs::Spelled::passed_spelled))]
+fn ethernet_head(passed: bool) -> &'static [u8; ETHERNET_HEADER]
+    ensures { result.now ≡ ethernet_head passed }
+{
+    if passed { &PASSED } else { &SENT }
+}
+
+/// Writes a comment, where there is one.
+fn write_comment<W: Write>(comment: Option<&str>, file: &mut W) -> Result<(), WriteFault>
+    requires { IsComment (option_map (λ t. t.now) comment) }
+    ensures { Writes (comment_bytes (option_map (λ t. t.now) comment.entry)) (W.contents file.old) (W.contents file.new) result }
+{
+    match comment {
+        None => Ok(()),
+        Some(text) => write_options(COMMENT, text, file),
+    }
+}
+
+/// How many bytes a comment has, where there is one.
+fn comment_size(comment: Option<&str>) -> u32
+    requires { IsComment (option_map (λ t. t.now) comment) }
+    ensures size { result ≡ length (comment_bytes (option_map (λ t. t.now) comment.entry)) }
+    ensures few { result ≤ 65546 }
+{
+    match comment {
+        None => 0,
+        Some(text) => options_size(text.len()),
+    }
 }

@@ -30,34 +30,6 @@ impl<W: Write + Drop> Model for Recorder<W> {
     ghost view = { λ r. record { file = W.contents r.file; interfaces = r.interfaces; is_whole = r.is_whole } };
 }
 
-/// Writes interfaces of these names, one after the other.
-fn write_interfaces<W: Write, S: AsStr>(names: &[S], file: &mut W) -> Result<(), WriteFault>
-    requires { All IsText (map S.text names.now) }
-    ensures { Writes (blocks_bytes (map interface_block (map S.text names.now))) (W.contents file.old) (W.contents file.new) result }
-{
-    for name in names {
-        write_interface(name.as_str(), file)?;
-    }
-    Ok(())
-}
-
-/// Writes a packet, if it is at one of so many interfaces and has no more payload than an Ethernet frame. Whether it is
-/// written.
-#[tactic(auto, using(crate::proofs::Growing::no_part))]
-fn write_fitting<W: Write>(packet: &Packet<'_>, interfaces: usize, file: &mut W) -> bool
-    requires { IsComment (option_map (λ t. t.now) packet.now.comment) }
-    ensures all { result ≡ true
-        → Appends (W.contents file.old) (W.contents file.new) (block_bytes (packet_block (seen_as packet.now))) }
-    ensures part { result ≡ false
-        → AppendsPart (W.contents file.old) (W.contents file.new) (block_bytes (packet_block (seen_as packet.now))) }
-{
-    let _time = packet.time;
-    if packet.interface >= interfaces.min(MAX_INTERFACES) || packet.payload.len() > MAX_PAYLOAD {
-        return false;
-    }
-    write_packet(packet, file).is_ok()
-}
-
 impl<W: Write + Drop> Recorder<W> {
     /// Begins a capture in a file, with interfaces of these names, the first of which has number 0.
     ///
@@ -118,4 +90,32 @@ impl<W: Write + Drop> Recorder<W> {
             _ => Err(WriteFault),
         }
     }
+}
+
+/// Writes a packet, if it is at one of so many interfaces and has no more payload than an Ethernet frame. Whether it is
+/// written.
+#[tactic(auto, using(crate::proofs::Growing::no_part))]
+fn write_fitting<W: Write>(packet: &Packet<'_>, interfaces: usize, file: &mut W) -> bool
+    requires { IsComment (option_map (λ t. t.now) packet.now.comment) }
+    ensures all { result ≡ true
+        → Appends (W.contents file.old) (W.contents file.new) (block_bytes (packet_block (seen_as packet.now))) }
+    ensures part { result ≡ false
+        → AppendsPart (W.contents file.old) (W.contents file.new) (block_bytes (packet_block (seen_as packet.now))) }
+{
+    let _time = packet.time;
+    if packet.interface >= interfaces.min(MAX_INTERFACES) || packet.payload.len() > MAX_PAYLOAD {
+        return false;
+    }
+    write_packet(packet, file).is_ok()
+}
+
+/// Writes interfaces of these names, one after the other.
+fn write_interfaces<W: Write, S: AsStr>(names: &[S], file: &mut W) -> Result<(), WriteFault>
+    requires { All IsText (map S.text names.now) }
+    ensures { Writes (blocks_bytes (map interface_block (map S.text names.now))) (W.contents file.old) (W.contents file.new) result }
+{
+    for name in names {
+        write_interface(name.as_str(), file)?;
+    }
+    Ok(())
 }

@@ -16,38 +16,6 @@ pub type Recording<F> = Recorder<BufWriter<F>>;
 /// The capture of a command, if there is to be one.
 pub type Capture<F> = Option<Recording<F>>;
 
-/// Whether a name is short enough for an interface.
-fn is_text(name: &str) -> bool
-    ensures { result ≡ true → IsText name.now }
-{
-    name.len() <= MAX_TEXT
-}
-
-/// A name, or none where it is longer than that of an interface may be.
-fn short(name: &str) -> &str
-    ensures { IsText result.now }
-{
-    if is_text(name) { name } else { "" }
-}
-
-/// Opens a file and begins a capture in it, with interfaces of these names.
-fn open_recorder<H: AllocGlobal + Files>(
-    rt: &H,
-    path: &str,
-    names: &[&str],
-) -> Result<Recording<H::File>, Refusal>
-    requires { All IsText (map (λ t. t.now) names.now) }
-    ensures { IfErr result IsUnopened }
-{
-    let Ok(file) = File::create(rt, path) else {
-        return Err(Refusal::Output);
-    };
-    let Ok(file) = BufWriter::new(rt.alloc(), file) else {
-        return Err(Refusal::Memory);
-    };
-    Recorder::open(file, names).map_err(|_| Refusal::Output)
-}
-
 /// Opens the file of a capture with one interface, of this name.
 ///
 /// # Errors
@@ -61,19 +29,6 @@ pub fn open_capture<H: AllocGlobal + Files>(
     ensures { IfErr result IsUnopened }
 {
     Ok(Some(open_recorder(rt, path, &[short(name)])?))
-}
-
-/// The interfaces of a segment: the master's, and one behind each slave, by its name.
-#[tactic(auto, using(crate::proofs::CaptureLemmas::texts_more))]
-fn interfaces_of<'t>(alloc: Global, table: &'t Table) -> Result<Vec<&'t str>, AllocError>
-    ensures { IfOk result (λ names. All IsText (map (λ t. t.now) names.items)) }
-{
-    let mut names = Vec::new(alloc);
-    names.push("master")?;
-    for slave in table.slaves() {
-        names.push(short(slave.name.as_str()))?;
-    }
-    Ok(names)
 }
 
 /// Opens the file of a capture of the frames of a table's segment: an interface `master`, and one behind each slave.
@@ -119,4 +74,49 @@ pub fn close_capture<F: Write + Drop>(
         Some(recording) => finish_recording(ended, recording),
         None => ended,
     }
+}
+
+/// Opens a file and begins a capture in it, with interfaces of these names.
+fn open_recorder<H: AllocGlobal + Files>(
+    rt: &H,
+    path: &str,
+    names: &[&str],
+) -> Result<Recording<H::File>, Refusal>
+    requires { All IsText (map (λ t. t.now) names.now) }
+    ensures { IfErr result IsUnopened }
+{
+    let Ok(file) = File::create(rt, path) else {
+        return Err(Refusal::Output);
+    };
+    let Ok(file) = BufWriter::new(rt.alloc(), file) else {
+        return Err(Refusal::Memory);
+    };
+    Recorder::open(file, names).map_err(|_| Refusal::Output)
+}
+
+/// A name, or none where it is longer than that of an interface may be.
+fn short(name: &str) -> &str
+    ensures { IsText result.now }
+{
+    if is_text(name) { name } else { "" }
+}
+
+/// Whether a name is short enough for an interface.
+fn is_text(name: &str) -> bool
+    ensures { result ≡ true → IsText name.now }
+{
+    name.len() <= MAX_TEXT
+}
+
+/// The interfaces of a segment: the master's, and one behind each slave, by its name.
+#[tactic(auto, using(crate::proofs::CaptureLemmas::texts_more))]
+fn interfaces_of<'t>(alloc: Global, table: &'t Table) -> Result<Vec<&'t str>, AllocError>
+    ensures { IfOk result (λ names. All IsText (map (λ t. t.now) names.items)) }
+{
+    let mut names = Vec::new(alloc);
+    names.push("master")?;
+    for slave in table.slaves() {
+        names.push(short(slave.name.as_str()))?;
+    }
+    Ok(names)
 }

@@ -49,23 +49,6 @@ pub enum Patience {
     For(Duration),
 }
 
-/// A socket waits so long from now on.
-fn set_patience(socket: &UdpSocket, patience: Patience) -> bool {
-    let wait = match patience {
-        Patience::Endless => None,
-        Patience::For(wait) => Some(wait),
-    };
-    socket.set_read_timeout(wait).is_ok()
-}
-
-/// How many frames are read in one receive.
-fn reads_of(own: Sender, patience: Patience) -> u64 {
-    match (own, patience) {
-        (Sender::Master, Patience::For(_)) => MAX_FOREIGN,
-        _ => u64::MAX,
-    }
-}
-
 impl CardWire {
     /// A wire over a raw socket of a network card that was opened elsewhere and is bound to the card and to the type 0x88A4.
     /// Frames go from `own`, and it closes the socket in the end.
@@ -149,4 +132,21 @@ impl Wire for CardWire {
             }
         }
     }
+}
+
+/// How many frames are read in one receive.
+fn reads_of(own: Sender, patience: Patience) -> u64 {
+    match (own, patience) {
+        (Sender::Master, Patience::For(_)) => MAX_FOREIGN,
+        _ => u64::MAX,
+    }
+}
+
+/// A socket waits so long from now on.
+fn set_patience(socket: &UdpSocket, patience: Patience) -> bool {
+    let wait = match patience {
+        Patience::Endless => None,
+        Patience::For(wait) => Some(wait),
+    };
+    socket.set_read_timeout(wait).is_ok()
 }

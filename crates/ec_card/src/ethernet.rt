@@ -40,21 +40,6 @@ impl Sender {
     }
 }
 
-fn append(frame: &mut EthernetFrame, bytes: &[u8])
-    requires { length frame.old.items + length bytes.now ≤ 1486 }
-    ensures { frame.new.items ≡ frame.old.items ++ bytes.now }
-{
-    let _ = frame.try_extend_from_slice(bytes);
-}
-
-fn append_zeros(frame: &mut EthernetFrame, count: usize)
-    requires few { count ≤ 46 }
-    requires room { length frame.old.items + count ≤ 1486 }
-    ensures { frame.new.items ≡ frame.old.items ++ replicate count 0 }
-{
-    append(frame, &[0; LEAST_PAYLOAD][..count]);
-}
-
 /// The frame in which one sends a payload: to all, from the sender, of type 0x88A4, with zeros
 /// behind it up to 60 bytes.
 pub fn framed(sender: Sender, payload: &[u8]) -> EthernetFrame
@@ -70,22 +55,6 @@ pub fn framed(sender: Sender, payload: &[u8]) -> EthernetFrame
     frame
 }
 
-/// Whether bytes are these.
-fn are(bytes: &[u8], wanted: &[u8]) -> bool
-    ensures { IsTrue result ↔ (bytes.now ≡ wanted.now) }
-{
-    bytes == wanted
-}
-
-/// Whether a frame with this heading is handed on: its type is that of EtherCAT, and its source not
-/// one's own.
-fn is_handed_on(own: Sender, heading: &[u8]) -> bool
-    requires { length heading.now ≡ 14 }
-    ensures { IsTrue result ↔ IsHandedOn own heading.now }
-{
-    are(&heading[12..], &ETHER_TYPE) && !are(&heading[6..12], &own.source())
-}
-
 /// What is handed on of a frame that came: all that stands behind its type. Of another type, of
 /// fewer than 14 bytes, and of one's own, it is nothing.
 #[tactic(auto, using(crate::proofs::Through::handed_on, crate::proofs::Through::not_handed_on))]
@@ -99,4 +68,35 @@ pub fn payload_of<'a>(own: Sender, frame: &'a [u8]) -> Option<&'a [u8]>
     } else {
         None
     }
+}
+
+fn append_zeros(frame: &mut EthernetFrame, count: usize)
+    requires few { count ≤ 46 }
+    requires room { length frame.old.items + count ≤ 1486 }
+    ensures { frame.new.items ≡ frame.old.items ++ replicate count 0 }
+{
+    append(frame, &[0; LEAST_PAYLOAD][..count]);
+}
+
+fn append(frame: &mut EthernetFrame, bytes: &[u8])
+    requires { length frame.old.items + length bytes.now ≤ 1486 }
+    ensures { frame.new.items ≡ frame.old.items ++ bytes.now }
+{
+    let _ = frame.try_extend_from_slice(bytes);
+}
+
+/// Whether a frame with this heading is handed on: its type is that of EtherCAT, and its source not
+/// one's own.
+fn is_handed_on(own: Sender, heading: &[u8]) -> bool
+    requires { length heading.now ≡ 14 }
+    ensures { IsTrue result ↔ IsHandedOn own heading.now }
+{
+    are(&heading[12..], &ETHER_TYPE) && !are(&heading[6..12], &own.source())
+}
+
+/// Whether bytes are these.
+fn are(bytes: &[u8], wanted: &[u8]) -> bool
+    ensures { IsTrue result ↔ (bytes.now ≡ wanted.now) }
+{
+    bytes == wanted
 }

@@ -20,42 +20,6 @@ pub struct Carried {
     pub number: u64,
 }
 
-/// The links of a direction.
-fn links_of(plan: &Plan, direction: Direction) -> &[Link]
-    ensures { result.now ≡ links_of direction plan.now }
-{
-    match direction {
-        Direction::Out => plan.out_links(),
-        Direction::In => plan.in_links(),
-    }
-}
-
-/// Whether the data of a part carry the bits of a link.
-fn is_carried(plan: &Plan, part: usize, link: &Link) -> bool
-    requires { IsPlaced plan.now link.now }
-    ensures { result ≡ is_carried plan.now part link.now }
-{
-    plan.part_of(link.slave) == part && link.count <= 64
-}
-
-/// The bits of a link in the data of its part.
-fn carried_by(plan: &Plan, part: usize, content: &[u8], link: &Link) -> Carried
-    requires usable { IsUsable plan.now }
-    requires part { part < length plan.now.parts }
-    requires whole { length content.now ≡ (part_at plan.now.parts part).bytes }
-    requires placed { IsPlaced plan.now link.now }
-    requires here { part_of plan.now link.now.slave ≡ part }
-    requires few { link.now.count ≤ 64 }
-    ensures { result ≡ carried_by plan.now part content.now link.now }
-{
-    let first = 8 * plan.parts()[part].address as usize;
-    let from = plan.settings(link.slave).from + link.object_bit - first;
-    Carried {
-        link: *link,
-        number: read_bits(content, from, link.count),
-    }
-}
-
 /// What the data of a part carry of the variables of a direction, in the order of the plan's links. The
 /// error is want of memory.
 ///
@@ -82,13 +46,49 @@ pub fn carried_bits(
     Ok(found)
 }
 
-/// Whether two directions are one.
-fn same_direction(one: Direction, other: Direction) -> bool
-    ensures { result ≡ same_direction one other }
+/// The place of the variable that has a bit of the image of a direction.
+pub fn variable_at(plan: &Plan, direction: Direction, bit: usize) -> Option<usize>
+    ensures value { result ≡ variable_of plan.now direction bit }
+    ensures there { IfSome result (λ place. place < length plan.now.variables) }
 {
-    match (one, other) {
-        (Direction::Out, Direction::Out) | (Direction::In, Direction::In) => true,
-        (Direction::Out, Direction::In) | (Direction::In, Direction::Out) => false,
+    plan.variables()
+        .iter()
+        .position(|variable| has_bit(variable, direction, bit))
+}
+
+/// The bits of a link in the data of its part.
+fn carried_by(plan: &Plan, part: usize, content: &[u8], link: &Link) -> Carried
+    requires usable { IsUsable plan.now }
+    requires part { part < length plan.now.parts }
+    requires whole { length content.now ≡ (part_at plan.now.parts part).bytes }
+    requires placed { IsPlaced plan.now link.now }
+    requires here { part_of plan.now link.now.slave ≡ part }
+    requires few { link.now.count ≤ 64 }
+    ensures { result ≡ carried_by plan.now part content.now link.now }
+{
+    let first = 8 * plan.parts()[part].address as usize;
+    let from = plan.settings(link.slave).from + link.object_bit - first;
+    Carried {
+        link: *link,
+        number: read_bits(content, from, link.count),
+    }
+}
+
+/// Whether the data of a part carry the bits of a link.
+fn is_carried(plan: &Plan, part: usize, link: &Link) -> bool
+    requires { IsPlaced plan.now link.now }
+    ensures { result ≡ is_carried plan.now part link.now }
+{
+    plan.part_of(link.slave) == part && link.count <= 64
+}
+
+/// The links of a direction.
+fn links_of(plan: &Plan, direction: Direction) -> &[Link]
+    ensures { result.now ≡ links_of direction plan.now }
+{
+    match direction {
+        Direction::Out => plan.out_links(),
+        Direction::In => plan.in_links(),
     }
 }
 
@@ -100,12 +100,12 @@ fn has_bit(variable: &Variable, direction: Direction, bit: usize) -> bool
         && within(variable.from, usize::from(variable.bits), bit)
 }
 
-/// The place of the variable that has a bit of the image of a direction.
-pub fn variable_at(plan: &Plan, direction: Direction, bit: usize) -> Option<usize>
-    ensures value { result ≡ variable_of plan.now direction bit }
-    ensures there { IfSome result (λ place. place < length plan.now.variables) }
+/// Whether two directions are one.
+fn same_direction(one: Direction, other: Direction) -> bool
+    ensures { result ≡ same_direction one other }
 {
-    plan.variables()
-        .iter()
-        .position(|variable| has_bit(variable, direction, bit))
+    match (one, other) {
+        (Direction::Out, Direction::Out) | (Direction::In, Direction::In) => true,
+        (Direction::Out, Direction::In) | (Direction::In, Direction::Out) => false,
+    }
 }

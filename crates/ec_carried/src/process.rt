@@ -51,35 +51,6 @@ impl ProcessCommand {
     }
 }
 
-/// Whether a datagram over these bytes carries the data of a part.
-fn is_of(part: &PartPlan, split: bool, address: u32, size: usize) -> bool
-    ensures { result ≡ is_of split address size part.now }
-{
-    part.address == address
-        && part.bytes == size
-        && ((part.split && split) || !(part.split || split))
-}
-
-/// The place of the part that a datagram over these bytes carries the data of.
-fn find_part(plan: &Plan, split: bool, address: u32, size: usize) -> Option<usize>
-    ensures value { result ≡ position (is_of split address size) plan.now.parts }
-    ensures there { IfSome result (λ part. part < length plan.now.parts) }
-{
-    plan.parts()
-        .iter()
-        .position(|part| is_of(part, split, address, size))
-}
-
-/// The part of a plan that a datagram of a way is of.
-fn find_by(plan: &Plan, address: u32, size: usize, way: ProcessCommand) -> Option<Process>
-    ensures value { result ≡ process_by plan.now address size way }
-    ensures there { IfSome result (λ process. process.part < length plan.now.parts) }
-    ensures whole { IfSome result (λ process. size ≡ (part_at plan.now.parts process.part).bytes) }
-{
-    let part = find_part(plan, way.is_split(), address, size)?;
-    Some(Process { part, way })
-}
-
 /// The part of a plan that a datagram with a command, a logical address and so many bytes of data is of,
 /// and how it moves the part's data; none where it is no process datagram of the plan.
 pub fn find_process(plan: &Plan, command: Command, address: u32, size: usize) -> Option<Process>
@@ -102,4 +73,33 @@ pub fn predicted_counter(plan: &Plan, process: Process) -> Option<usize>
         (ProcessCommand::Read, ExpectedCounters::Split { write: _, read }) => Some(read),
         _ => None,
     }
+}
+
+/// The part of a plan that a datagram of a way is of.
+fn find_by(plan: &Plan, address: u32, size: usize, way: ProcessCommand) -> Option<Process>
+    ensures value { result ≡ process_by plan.now address size way }
+    ensures there { IfSome result (λ process. process.part < length plan.now.parts) }
+    ensures whole { IfSome result (λ process. size ≡ (part_at plan.now.parts process.part).bytes) }
+{
+    let part = find_part(plan, way.is_split(), address, size)?;
+    Some(Process { part, way })
+}
+
+/// The place of the part that a datagram over these bytes carries the data of.
+fn find_part(plan: &Plan, split: bool, address: u32, size: usize) -> Option<usize>
+    ensures value { result ≡ position (is_of split address size) plan.now.parts }
+    ensures there { IfSome result (λ part. part < length plan.now.parts) }
+{
+    plan.parts()
+        .iter()
+        .position(|part| is_of(part, split, address, size))
+}
+
+/// Whether a datagram over these bytes carries the data of a part.
+fn is_of(part: &PartPlan, split: bool, address: u32, size: usize) -> bool
+    ensures { result ≡ is_of split address size part.now }
+{
+    part.address == address
+        && part.bytes == size
+        && ((part.split && split) || !(part.split || split))
 }

@@ -24,43 +24,61 @@ pub struct Told<'a> {
     pub counter: u16,
 }
 
-/// Adds which part a datagram is of, and the predicted counter beside the one that came.
-fn write_part(
+/// Adds what a datagram carries, for people, in lines, where it is a process datagram of the plan: its
+/// part with the predicted counter beside the one that came, and each variable with its value. Of a
+/// datagram that no slave has answered these are outputs alone; an output is left out where its slave has
+/// put inputs over it. The error is want of memory.
+pub fn write_process(
+    alloc: Global,
     text: &mut String,
+    table: &Table,
     plan: &Plan,
-    process: Process,
-    counter: u16,
+    told: Told<'_>,
 ) -> Result<(), AllocError>
-    requires { process.part < length plan.now.parts }
+    requires { IsUsable plan.now }
 {
-    let (part, unit) = (process.part, plan.unit_of_part(process.part));
-    write!(
-        text,
-        "process data of part {part}, sync unit {unit}: counter {counter}"
-    )?;
-    let Some(predicted) = predicted_counter(plan, process) else {
-        return text.push_str("\n");
+    let Some(process) = find_process(plan, told.command, told.address, told.content.len()) else {
+        return Ok(());
     };
-    let counter = usize::from(counter);
-    if counter == predicted {
-        writeln!(text, " as predicted")
-    } else if counter == 0 {
-        writeln!(
-            text,
-            ", predicted {predicted}: as it is sent, or no slave took part"
-        )
-    } else {
-        writeln!(text, ", predicted {predicted}: not each slave took part")
+    write_part(text, plan, process, told.counter)?;
+    if process.way != ProcessCommand::Read {
+        write_direction(alloc, text, table, plan, process, Direction::Out, told)?;
     }
+    if process.way != ProcessCommand::Write && told.counter > 0 {
+        write_direction(alloc, text, table, plan, process, Direction::In, told)?;
+    }
+    Ok(())
 }
 
-/// Adds the bits of a variable, where a link doesn't join all of them.
-fn write_bits(text: &mut String, first: usize, count: usize, all: u8) -> Result<(), AllocError> {
-    if count == usize::from(all) {
-        return Ok(());
+/// Adds what the data of a part carry of the variables of a direction.
+fn write_direction(
+    alloc: Global,
+    text: &mut String,
+    table: &Table,
+    plan: &Plan,
+    process: Process,
+    direction: Direction,
+    told: Told<'_>,
+) -> Result<(), AllocError>
+    requires usable { IsUsable plan.now }
+    requires part { process.part < length plan.now.parts }
+    requires whole { length told.content.now ≡ (part_at plan.now.parts process.part).bytes }
+{
+    let found = carried_bits(alloc, plan, process.part, direction, told.content)?;
+    for one in found.as_slice() {
+        if direction == Direction::Out && told.counter > 0 && is_covered(plan, &one.link) {
+            continue;
+        }
+        write_carried(text, table, plan, direction, one)?;
     }
-    let last = first.saturating_add(count).saturating_sub(1);
-    write!(text, " bits {first} to {last}")
+    Ok(())
+}
+
+/// Whether the slave of an output puts inputs over its bits.
+fn is_covered(plan: &Plan, link: &Link) -> bool {
+    plan.slaves()
+        .get(link.slave)
+        .is_some_and(|settings| link.object_bit < settings.share.ins)
 }
 
 /// Adds a variable and its value in some process data.
@@ -90,59 +108,41 @@ fn write_carried(
     writeln!(text, " = {number} ({number:#x}), slave {slave}")
 }
 
-/// Whether the slave of an output puts inputs over its bits.
-fn is_covered(plan: &Plan, link: &Link) -> bool {
-    plan.slaves()
-        .get(link.slave)
-        .is_some_and(|settings| link.object_bit < settings.share.ins)
+/// Adds the bits of a variable, where a link doesn't join all of them.
+fn write_bits(text: &mut String, first: usize, count: usize, all: u8) -> Result<(), AllocError> {
+    if count == usize::from(all) {
+        return Ok(());
+    }
+    let last = first.saturating_add(count).saturating_sub(1);
+    write!(text, " bits {first} to {last}")
 }
 
-/// Adds what the data of a part carry of the variables of a direction.
-fn write_direction(
-    alloc: Global,
+/// Adds which part a datagram is of, and the predicted counter beside the one that came.
+fn write_part(
     text: &mut String,
-    table: &Table,
     plan: &Plan,
     process: Process,
-    direction: Direction,
-    told: Told<'_>,
+    counter: u16,
 ) -> Result<(), AllocError>
-    requires usable { IsUsable plan.now }
-    requires part { process.part < length plan.now.parts }
-    requires whole { length told.content.now ≡ (part_at plan.now.parts process.part).bytes }
+    requires { process.part < length plan.now.parts }
 {
-    let found = carried_bits(alloc, plan, process.part, direction, told.content)?;
-    for one in found.as_slice() {
-        if direction == Direction::Out && told.counter > 0 && is_covered(plan, &one.link) {
-            continue;
-        }
-        write_carried(text, table, plan, direction, one)?;
-    }
-    Ok(())
-}
-
-/// Adds what a datagram carries, for people, in lines, where it is a process datagram of the plan: its
-/// part with the predicted counter beside the one that came, and each variable with its value. Of a
-/// datagram that no slave has answered these are outputs alone; an output is left out where its slave has
-/// put inputs over it. The error is want of memory.
-pub fn write_process(
-    alloc: Global,
-    text: &mut String,
-    table: &Table,
-    plan: &Plan,
-    told: Told<'_>,
-) -> Result<(), AllocError>
-    requires { IsUsable plan.now }
-{
-    let Some(process) = find_process(plan, told.command, told.address, told.content.len()) else {
-        return Ok(());
+    let (part, unit) = (process.part, plan.unit_of_part(process.part));
+    write!(
+        text,
+        "process data of part {part}, sync unit {unit}: counter {counter}"
+    )?;
+    let Some(predicted) = predicted_counter(plan, process) else {
+        return text.push_str("\n");
     };
-    write_part(text, plan, process, told.counter)?;
-    if process.way != ProcessCommand::Read {
-        write_direction(alloc, text, table, plan, process, Direction::Out, told)?;
+    let counter = usize::from(counter);
+    if counter == predicted {
+        writeln!(text, " as predicted")
+    } else if counter == 0 {
+        writeln!(
+            text,
+            ", predicted {predicted}: as it is sent, or no slave took part"
+        )
+    } else {
+        writeln!(text, ", predicted {predicted}: not each slave took part")
     }
-    if process.way != ProcessCommand::Write && told.counter > 0 {
-        write_direction(alloc, text, table, plan, process, Direction::In, told)?;
-    }
-    Ok(())
 }

@@ -42,44 +42,6 @@ pub fn find_pdo(pdos: &[Pdo], index: u16) -> Option<&Pdo>
     pdos.iter().find(|pdo| pdo.index == index)
 }
 
-/// How many bits the PDO with an index has, 0 where there is none.
-fn bits_of(pdos: &[Pdo], index: u16) -> usize
-    requires { All (λ p. (length p.entries ≤ 64) × (pdo_bits p ≤ 4096)) pdos.now }
-    ensures value { result ≡ bits_at pdos.now index }
-    ensures small { result ≤ 4096 }
-{
-    match find_pdo(pdos, index) {
-        Some(pdo) => pdo.bits(),
-        None => 0,
-    }
-}
-
-/// How many bits the PDOs with these indices have together.
-fn sum_of_bits(pdos: &[Pdo], indices: &[u16]) -> usize
-    requires few { length indices.now < 256 }
-    requires small { All (λ p. (length p.entries ≤ 64) × (pdo_bits p ≤ 4096)) pdos.now }
-    ensures value { result ≡ bits_assigned pdos.now indices.now }
-    ensures limit { result < 2 ^ 20 }
-{
-    let mut total = 0;
-    for index in indices {
-        total += bits_of(pdos, *index);
-    }
-    total
-}
-
-/// Whether no index stands twice.
-fn are_distinct(indices: &[u16]) -> bool
-    ensures { result ≡ distinct indices.now }
-{
-    for (i, index) in indices.iter().enumerate() {
-        if indices[i + 1..].contains(index) {
-            return false;
-        }
-    }
-    true
-}
-
 impl Assignment {
     /// Every PDO of a direction, in order.
     ///
@@ -131,50 +93,6 @@ impl Assignment {
         Some(SdoValue::word(*slot))
     }
 
-    /// Whether so many slots may count: there are so many, no index stands twice in them, and their PDOs fit a direction.
-    fn takes_count(&self, pdos: &[Pdo], count: u32) -> bool
-        requires slots { length self.now.slots ≡ length pdos.now }
-        requires few { length pdos.now < 256 }
-        requires small { All (λ p. (length p.entries ≤ 64) × (pdo_bits p ≤ 4096)) pdos.now }
-        ensures { result ≡ takes_count_of pdos.now self.now count }
-    {
-        let count = count as usize;
-        if count > pdos.len() {
-            return false;
-        }
-        let indices = &self.slots[..count];
-        are_distinct(indices) && sum_of_bits(pdos, indices) <= MAX_BITS
-    }
-
-    /// Whether a value may stand at a subindex.
-    fn takes_value(&self, pdos: &[Pdo], subindex: u8, number: u32) -> bool
-        requires slots { length self.now.slots ≡ length pdos.now }
-        requires few { length pdos.now < 256 }
-        requires small { All (λ p. (length p.entries ≤ 64) × (pdo_bits p ≤ 4096)) pdos.now }
-        requires word { number < 2 ^ 16 }
-        ensures { result ≡ takes_value_of pdos.now self.now subindex number }
-    {
-        if subindex == 0 {
-            self.takes_count(pdos, number)
-        } else {
-            find_pdo(pdos, number as u16).is_some()
-        }
-    }
-
-    /// Sets the count, or a slot.
-    fn set_value(&mut self, subindex: u8, number: u16)
-        requires count { subindex ≡ 0 → (number ≤ length self.old.slots) × (number < 256) }
-        requires slot { subindex ≤ length self.old.slots }
-        ensures after { self.new ≡ with_value self.old subindex number }
-        ensures slots { length self.new.slots ≡ length self.old.slots }
-    {
-        if subindex == 0 {
-            self.count = number as u8;
-        } else {
-            self.slots[subindex as usize - 1] = number;
-        }
-    }
-
     /// A download to the object, whose subindex is there.
     ///
     /// # Errors
@@ -217,6 +135,88 @@ impl Assignment {
     {
         assign_all(&mut self.slots, pdos);
         self.count = pdos.len() as u8;
+    }
+
+    /// Sets the count, or a slot.
+    fn set_value(&mut self, subindex: u8, number: u16)
+        requires count { subindex ≡ 0 → (number ≤ length self.old.slots) × (number < 256) }
+        requires slot { subindex ≤ length self.old.slots }
+        ensures after { self.new ≡ with_value self.old subindex number }
+        ensures slots { length self.new.slots ≡ length self.old.slots }
+    {
+        if subindex == 0 {
+            self.count = number as u8;
+        } else {
+            self.slots[subindex as usize - 1] = number;
+        }
+    }
+
+    /// Whether a value may stand at a subindex.
+    fn takes_value(&self, pdos: &[Pdo], subindex: u8, number: u32) -> bool
+        requires slots { length self.now.slots ≡ length pdos.now }
+        requires few { length pdos.now < 256 }
+        requires small { All (λ p. (length p.entries ≤ 64) × (pdo_bits p ≤ 4096)) pdos.now }
+        requires word { number < 2 ^ 16 }
+        ensures { result ≡ takes_value_of pdos.now self.now subindex number }
+    {
+        if subindex == 0 {
+            self.takes_count(pdos, number)
+        } else {
+            find_pdo(pdos, number as u16).is_some()
+        }
+    }
+
+    /// Whether so many slots may count: there are so many, no index stands twice in them, and their PDOs fit a direction.
+    fn takes_count(&self, pdos: &[Pdo], count: u32) -> bool
+        requires slots { length self.now.slots ≡ length pdos.now }
+        requires few { length pdos.now < 256 }
+        requires small { All (λ p. (length p.entries ≤ 64) × (pdo_bits p ≤ 4096)) pdos.now }
+        ensures { result ≡ takes_count_of pdos.now self.now count }
+    {
+        let count = count as usize;
+        if count > pdos.len() {
+            return false;
+        }
+        let indices = &self.slots[..count];
+        are_distinct(indices) && sum_of_bits(pdos, indices) <= MAX_BITS
+    }
+}
+
+/// Whether no index stands twice.
+fn are_distinct(indices: &[u16]) -> bool
+    ensures { result ≡ distinct indices.now }
+{
+    for (i, index) in indices.iter().enumerate() {
+        if indices[i + 1..].contains(index) {
+            return false;
+        }
+    }
+    true
+}
+
+/// How many bits the PDOs with these indices have together.
+fn sum_of_bits(pdos: &[Pdo], indices: &[u16]) -> usize
+    requires few { length indices.now < 256 }
+    requires small { All (λ p. (length p.entries ≤ 64) × (pdo_bits p ≤ 4096)) pdos.now }
+    ensures value { result ≡ bits_assigned pdos.now indices.now }
+    ensures limit { result < 2 ^ 20 }
+{
+    let mut total = 0;
+    for index in indices {
+        total += bits_of(pdos, *index);
+    }
+    total
+}
+
+/// How many bits the PDO with an index has, 0 where there is none.
+fn bits_of(pdos: &[Pdo], index: u16) -> usize
+    requires { All (λ p. (length p.entries ≤ 64) × (pdo_bits p ≤ 4096)) pdos.now }
+    ensures value { result ≡ bits_at pdos.now index }
+    ensures small { result ≤ 4096 }
+{
+    match find_pdo(pdos, index) {
+        Some(pdo) => pdo.bits(),
+        None => 0,
     }
 }
 

@@ -56,50 +56,6 @@ pub fn entry_number(entry: &Entry) -> u32
     0x1_0000 * entry.index as u32 + 0x100 * entry.subindex as u32 + entry.bits as u32
 }
 
-/// The value at a subindex of the identity object.
-fn identity_value(identity: &Identity, subindex: u8) -> Option<SdoValue>
-    ensures { result ≡ slice_get (identity_values identity.now) subindex }
-{
-    match subindex {
-        0 => Some(SdoValue::byte(4)),
-        1 => Some(SdoValue::long(identity.vendor)),
-        2 => Some(SdoValue::long(identity.product)),
-        3 => Some(SdoValue::long(identity.revision)),
-        4 => Some(SdoValue::long(identity.serial)),
-        _ => None,
-    }
-}
-
-/// The value at a subindex of a PDO's mapping object.
-fn pdo_value(pdo: &Pdo, subindex: u8) -> Option<SdoValue>
-    requires { length pdo.now.entries < 256 }
-    ensures { result ≡ slice_get (pdo_values pdo.now) subindex }
-{
-    if subindex == 0 {
-        return Some(SdoValue::byte(pdo.entries.len() as u8));
-    }
-    let entry = pdo.entries.as_slice().get(subindex as usize - 1)?;
-    Some(SdoValue::long(entry_number(entry)))
-}
-
-/// What the value of an object is, where the object is there.
-fn found(value: Option<SdoValue>) -> Result<SdoValue, AbortCode>
-    ensures { result ≡ value_or_abort value }
-{
-    value.ok_or(AbortCode::NoSubindex)
-}
-
-/// The command of the response to an upload, by a normal or by an expedited transfer.
-fn upload_command(is_normal: bool, size: ValueSize) -> SdoCommand
-    ensures { result ≡ (if is_normal then OtherCommand normal_upload else UploadResponse size) }
-{
-    if is_normal {
-        SdoCommand::Other(NORMAL_UPLOAD)
-    } else {
-        SdoCommand::UploadResponse(size)
-    }
-}
-
 impl Dictionary {
     /// The objects of a slave of a type that was just switched on: every PDO is assigned, in order. No later call takes
     /// memory.
@@ -175,17 +131,6 @@ impl Dictionary {
         self.ins.bits(self.kind.inputs())
     }
 
-    /// The mapping object of a PDO of the type.
-    fn pdo(&self, index: u16) -> Option<&Pdo>
-        ensures value { option_copied result ≡ pdo_at (self.now.kind.outputs ++ self.now.kind.inputs) index }
-        ensures few { IfSome result (λ p. length p.now.entries ≤ 64) }
-    {
-        match find_pdo(self.kind.outputs(), index) {
-            Some(pdo) => Some(pdo),
-            None => find_pdo(self.kind.inputs(), index),
-        }
-    }
-
     /// The value at an index and a subindex. That of a name of more than four letters is how many they are.
     ///
     /// # Errors
@@ -205,40 +150,6 @@ impl Dictionary {
                 Some(pdo) => found(pdo_value(pdo, subindex)),
                 None => self.shown(index, subindex),
             },
-        }
-    }
-
-    /// How many bytes the mailbox has through which the slave sends; 0 where it has none.
-    fn room(&self) -> usize
-        ensures { result ≡ send_room self.now.kind.mailbox }
-    {
-        match self.kind.mailbox() {
-            Some(mailbox) => mailbox.send_size as usize,
-            None => 0,
-        }
-    }
-
-    /// The value at an index and a subindex of the objects that a full slave has besides.
-    ///
-    /// # Errors
-    ///
-    /// As of `upload`; each index has no object where the slave isn't full.
-    fn shown(&self, index: u16, subindex: u8) -> Result<SdoValue, AbortCode>
-        ensures { result ≡ value_at (shown_values self.now.kind.face (send_room self.now.kind.mailbox) index) subindex }
-    {
-        match self.kind.face() {
-            Some(face) => face_value(face, self.room(), index, subindex),
-            None => Err(AbortCode::NoObject),
-        }
-    }
-
-    /// Whether the slave is full and its name too long for an expedited transfer.
-    fn has_long_name(&self) -> bool
-        ensures { result ≡ has_long_name self.now.kind.face }
-    {
-        match self.kind.face() {
-            Some(face) => is_long(face.name.as_slice()),
-            None => false,
         }
     }
 
@@ -326,5 +237,94 @@ impl Dictionary {
     {
         self.outs.reset(self.kind.outputs());
         self.ins.reset(self.kind.inputs());
+    }
+
+    /// The mapping object of a PDO of the type.
+    fn pdo(&self, index: u16) -> Option<&Pdo>
+        ensures value { option_copied result ≡ pdo_at (self.now.kind.outputs ++ self.now.kind.inputs) index }
+        ensures few { IfSome result (λ p. length p.now.entries ≤ 64) }
+    {
+        match find_pdo(self.kind.outputs(), index) {
+            Some(pdo) => Some(pdo),
+            None => find_pdo(self.kind.inputs(), index),
+        }
+    }
+
+    /// Whether the slave is full and its name too long for an expedited transfer.
+    fn has_long_name(&self) -> bool
+        ensures { result ≡ has_long_name self.now.kind.face }
+    {
+        match self.kind.face() {
+            Some(face) => is_long(face.name.as_slice()),
+            None => false,
+        }
+    }
+
+    /// The value at an index and a subindex of the objects that a full slave has besides.
+    ///
+    /// # Errors
+    ///
+    /// As of `upload`; each index has no object where the slave isn't full.
+    fn shown(&self, index: u16, subindex: u8) -> Result<SdoValue, AbortCode>
+        ensures { result ≡ value_at (shown_values self.now.kind.face (send_room self.now.kind.mailbox) index) subindex }
+    {
+        match self.kind.face() {
+            Some(face) => face_value(face, self.room(), index, subindex),
+            None => Err(AbortCode::NoObject),
+        }
+    }
+
+    /// How many bytes the mailbox has through which the slave sends; 0 where it has none.
+    fn room(&self) -> usize
+        ensures { result ≡ send_room self.now.kind.mailbox }
+    {
+        match self.kind.mailbox() {
+            Some(mailbox) => mailbox.send_size as usize,
+            None => 0,
+        }
+    }
+}
+
+/// The command of the response to an upload, by a normal or by an expedited transfer.
+fn upload_command(is_normal: bool, size: ValueSize) -> SdoCommand
+    ensures { result ≡ (if is_normal then OtherCommand normal_upload else UploadResponse size) }
+{
+    if is_normal {
+        SdoCommand::Other(NORMAL_UPLOAD)
+    } else {
+        SdoCommand::UploadResponse(size)
+    }
+}
+
+/// What the value of an object is, where the object is there.
+fn found(value: Option<SdoValue>) -> Result<SdoValue, AbortCode>
+    ensures { result ≡ value_or_abort value }
+{
+    value.ok_or(AbortCode::NoSubindex)
+}
+
+/// The value at a subindex of a PDO's mapping object.
+fn pdo_value(pdo: &Pdo, subindex: u8) -> Option<SdoValue>
+    requires { length pdo.now.entries < 256 }
+    ensures { result ≡ slice_get (pdo_values pdo.now) subindex }
+{
+    if subindex == 0 {
+        return Some(SdoValue::byte(pdo.entries.len() as u8));
+    }
+    let entry = pdo.entries.as_slice().get(subindex as usize - 1)?;
+    Some(SdoValue::long(entry_number(entry)))
+}
+
+/// The value at a subindex of the identity object.
+fn identity_value(identity: &Identity, subindex: u8) -> Option<SdoValue>
+    ensures { result ≡ slice_get (identity_values identity.now) subindex }
+{
+    match subindex {
+        0 => Some(SdoValue::byte(4)),
+        1 => Some(SdoValue::long(identity.vendor)),
+        2 => Some(SdoValue::long(identity.product)),
+        3 => Some(SdoValue::long(identity.revision)),
+        4 => Some(SdoValue::long(identity.serial)),
+        _ => None,
     }
 }

@@ -44,56 +44,6 @@ pub(crate) fn has_room(name: &[u8], room: usize) -> bool
     MESSAGE_LENGTH + name.len() <= room
 }
 
-/// The size of a value of so many bytes.
-fn size_of_bytes(count: usize) -> ValueSize
-    ensures { result ≡ size_of count }
-{
-    match count {
-        1 => ValueSize::One,
-        2 => ValueSize::Two,
-        3 => ValueSize::Three,
-        _ => ValueSize::Four,
-    }
-}
-
-/// The value of the device name: its letters, the first in the lowest byte; of a long name how many it has.
-fn name_value(name: &[u8]) -> SdoValue
-    requires { length name.now ≤ 32 }
-    ensures { result ≡ value_of_name name.now }
-{
-    if is_long(name) {
-        return SdoValue::long(name.len() as u32);
-    }
-    SdoValue {
-        size: size_of_bytes(name.len()),
-        number: byte_at(name, 0) as u32
-            + 0x100 * byte_at(name, 1) as u32
-            + 0x1_0000 * byte_at(name, 2) as u32
-            + 0x100_0000 * byte_at(name, 3) as u32,
-    }
-}
-
-/// The value at a subindex of an object that has no other.
-fn only(value: SdoValue, subindex: u8) -> Option<SdoValue>
-    ensures { result ≡ slice_get (value ∷ []) subindex }
-{
-    (subindex == 0).then_some(value)
-}
-
-/// What a sync manager is for: mailbox out 1, mailbox in 2, outputs 3, inputs 4; at subindex 0 how many there are.
-fn manager_type(subindex: u8) -> Option<SdoValue>
-    ensures { result ≡ slice_get manager_types_values subindex }
-{
-    match subindex {
-        0 => Some(SdoValue::byte(4)),
-        1 => Some(SdoValue::byte(1)),
-        2 => Some(SdoValue::byte(2)),
-        3 => Some(SdoValue::byte(3)),
-        4 => Some(SdoValue::byte(4)),
-        _ => None,
-    }
-}
-
 /// The value at an index and a subindex of the objects that a face shows, through a mailbox of so many bytes.
 ///
 /// # Errors
@@ -120,4 +70,54 @@ pub(crate) fn face_value(
         _ => return Err(AbortCode::NoObject),
     };
     value.ok_or(AbortCode::NoSubindex)
+}
+
+/// What a sync manager is for: mailbox out 1, mailbox in 2, outputs 3, inputs 4; at subindex 0 how many there are.
+fn manager_type(subindex: u8) -> Option<SdoValue>
+    ensures { result ≡ slice_get manager_types_values subindex }
+{
+    match subindex {
+        0 => Some(SdoValue::byte(4)),
+        1 => Some(SdoValue::byte(1)),
+        2 => Some(SdoValue::byte(2)),
+        3 => Some(SdoValue::byte(3)),
+        4 => Some(SdoValue::byte(4)),
+        _ => None,
+    }
+}
+
+/// The value at a subindex of an object that has no other.
+fn only(value: SdoValue, subindex: u8) -> Option<SdoValue>
+    ensures { result ≡ slice_get (value ∷ []) subindex }
+{
+    (subindex == 0).then_some(value)
+}
+
+/// The value of the device name: its letters, the first in the lowest byte; of a long name how many it has.
+fn name_value(name: &[u8]) -> SdoValue
+    requires { length name.now ≤ 32 }
+    ensures { result ≡ value_of_name name.now }
+{
+    if is_long(name) {
+        return SdoValue::long(name.len() as u32);
+    }
+    SdoValue {
+        size: size_of_bytes(name.len()),
+        number: byte_at(name, 0) as u32
+            + 0x100 * byte_at(name, 1) as u32
+            + 0x1_0000 * byte_at(name, 2) as u32
+            + 0x100_0000 * byte_at(name, 3) as u32,
+    }
+}
+
+/// The size of a value of so many bytes.
+fn size_of_bytes(count: usize) -> ValueSize
+    ensures { result ≡ size_of count }
+{
+    match count {
+        1 => ValueSize::One,
+        2 => ValueSize::Two,
+        3 => ValueSize::Three,
+        _ => ValueSize::Four,
+    }
 }

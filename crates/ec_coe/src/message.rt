@@ -204,16 +204,6 @@ pub fn read_message(mailbox: &[u8]) -> Result<Message, BadMailbox>
     })
 }
 
-/// Refuses a mailbox that is too short for a message.
-fn test_room(mailbox: &[u8]) -> Result<(), BadMailbox>
-    ensures { MatchResult result (λ _. message_length ≤ length mailbox.now) (λ _. length mailbox.now < message_length) }
-{
-    if mailbox.len() < MESSAGE_LENGTH {
-        return Err(BadMailbox);
-    }
-    Ok(())
-}
-
 /// Writes a message to the front of a mailbox, and zeros behind it. The caller knows that the message is one that bytes can
 /// spell, as `Message::bytes` says.
 ///
@@ -229,5 +219,15 @@ pub fn write_message(message: &Message, mailbox: &mut [u8]) -> Result<(), BadMai
     test_room(mailbox)?;
     mailbox.fill(0);
     mailbox[..MESSAGE_LENGTH].copy_from_slice(&message.bytes());
+    Ok(())
+}
+
+/// Refuses a mailbox that is too short for a message.
+fn test_room(mailbox: &[u8]) -> Result<(), BadMailbox>
+    ensures { MatchResult result (λ _. message_length ≤ length mailbox.now) (λ _. length mailbox.now < message_length) }
+{
+    if mailbox.len() < MESSAGE_LENGTH {
+        return Err(BadMailbox);
+    }
     Ok(())
 }

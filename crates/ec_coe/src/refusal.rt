@@ -42,12 +42,41 @@ impl MailboxError {
     }
 }
 
-/// A mailbox error reply.
-fn error_reply(error: MailboxError, counter: u8) -> RefusalBytes
+/// What a full slave answers to these bytes of the mailbox that the master wrote, with this counter, where they are no SDO
+/// request by an expedited transfer: a mailbox error where the protocol isn't CoE, the service is another than SDO requests
+/// and SDO information, or an SDO request is too short; an SDO information error to SDO information; and an abort to a request
+/// for a longer transfer (ETG.1000.4, "Mailbox error"; ETG.1000.6, "SDO information error" and "Abort SDO transfer"). Bytes
+/// past the end read 0.
+#[tactic(auto, unfolding(crate::specs::Refusals::refusal_bytes))]
+pub fn refuse(raw: &[u8], counter: u8) -> RefusalBytes
     requires { counter < 8 }
-    ensures { result.items ≡ error_reply_of error counter }
+    ensures { result.items ≡ refusal_bytes raw.now counter }
 {
-    gathered(&[4, 0, 0, 0, 0, 16 * counter, 1, 0, error.number(), 0])
+    if byte_at(raw, 5) % 16 != COE {
+        return error_reply(MailboxError::UnsupportedProtocol, counter);
+    }
+    match byte_at(raw, 7) / 16 {
+        SDO_INFORMATION => information_error(counter),
+        SDO_REQUEST if word_at(raw, 0) > BYTES_AFTER_HEADER => transfer_abort(raw, counter),
+        SDO_REQUEST => error_reply(MailboxError::TooShort, counter),
+        _ => error_reply(MailboxError::UnsupportedService, counter),
+    }
+}
+
+/// An abort of the transfer that a request asks for.
+fn transfer_abort(raw: &[u8], counter: u8) -> RefusalBytes
+    requires { counter < 8 }
+    ensures { result.items ≡ message_bytes (transfer_abort_of raw.now counter) }
+{
+    let abort = Message {
+        counter,
+        service: Service::Request,
+        command: SdoCommand::Abort,
+        index: word_at(raw, 9),
+        subindex: byte_at(raw, 11),
+        value: AbortCode::InvalidCommand.number(),
+    };
+    gathered(&abort.bytes())
 }
 
 /// An SDO information error: the access to an object isn't supported.
@@ -75,39 +104,10 @@ fn information_error(counter: u8) -> RefusalBytes
     ])
 }
 
-/// An abort of the transfer that a request asks for.
-fn transfer_abort(raw: &[u8], counter: u8) -> RefusalBytes
+/// A mailbox error reply.
+fn error_reply(error: MailboxError, counter: u8) -> RefusalBytes
     requires { counter < 8 }
-    ensures { result.items ≡ message_bytes (transfer_abort_of raw.now counter) }
+    ensures { result.items ≡ error_reply_of error counter }
 {
-    let abort = Message {
-        counter,
-        service: Service::Request,
-        command: SdoCommand::Abort,
-        index: word_at(raw, 9),
-        subindex: byte_at(raw, 11),
-        value: AbortCode::InvalidCommand.number(),
-    };
-    gathered(&abort.bytes())
-}
-
-/// What a full slave answers to these bytes of the mailbox that the master wrote, with this counter, where they are no SDO
-/// request by an expedited transfer: a mailbox error where the protocol isn't CoE, the service is another than SDO requests
-/// and SDO information, or an SDO request is too short; an SDO information error to SDO information; and an abort to a request
-/// for a longer transfer (ETG.1000.4, "Mailbox error"; ETG.1000.6, "SDO information error" and "Abort SDO transfer"). Bytes
-/// past the end read 0.
-#[tactic(auto, unfolding(crate::specs::Refusals::refusal_bytes))]
-pub fn refuse(raw: &[u8], counter: u8) -> RefusalBytes
-    requires { counter < 8 }
-    ensures { result.items ≡ refusal_bytes raw.now counter }
-{
-    if byte_at(raw, 5) % 16 != COE {
-        return error_reply(MailboxError::UnsupportedProtocol, counter);
-    }
-    match byte_at(raw, 7) / 16 {
-        SDO_INFORMATION => information_error(counter),
-        SDO_REQUEST if word_at(raw, 0) > BYTES_AFTER_HEADER => transfer_abort(raw, counter),
-        SDO_REQUEST => error_reply(MailboxError::TooShort, counter),
-        _ => error_reply(MailboxError::UnsupportedService, counter),
-    }
+    gathered(&[4, 0, 0, 0, 0, 16 * counter, 1, 0, error.number(), 0])
 }

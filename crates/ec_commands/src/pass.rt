@@ -21,33 +21,6 @@ const NO_IDENTITY: Identity = Identity {
     serial: 0,
 };
 
-/// A ring of that many slaves at power-on, without PDOs.
-fn plain_ring(alloc: Global, slaves: usize) -> Result<Ring, AllocError>
-    ensures { IfOk result (λ ring. ring ≡ replicate slaves plain_slave) }
-{
-    let mut ring = Vec::with_capacity(alloc, slaves)?;
-    for _ in 0..slaves {
-        ring.push(Slave::new(alloc, SlaveType::without_pdos(alloc), NO_IDENTITY)?)?;
-    }
-    Ok(Ring::new(ring))
-}
-
-/// The payload that the text spells.
-fn read_payload(alloc: Global, text: &str) -> Result<Vec<u8>, Refusal>
-    ensures spelled { IfOk result (λ payload. SpellsPayload text.now payload.items) }
-    ensures refused { IfErr result (IsPassRefusal text.now) }
-{
-    let payload = match hex::decode(alloc, text) {
-        Ok(payload) => payload,
-        Err(FromHexError::OutOfMemory) => return Err(Refusal::Memory),
-        Err(_) => return Err(Refusal::BadHex),
-    };
-    if payload.len() > MAX_FRAME_LEN {
-        return Err(Refusal::Frame(FrameError::TooLong));
-    }
-    Ok(payload)
-}
-
 /// The frame that the text spells in hex digits of either case, as it comes back from a ring of
 /// that many slaves at power-on without PDOs, in lower-case hex. The text is the payload of a UDP
 /// datagram to port 34980 (0x88A4). Refused are, in this order, a text that isn't hex, more than
@@ -75,4 +48,31 @@ pub fn print_pass<W: Write>(
     let mut answer = pass_hex(alloc, slaves, text)?;
     answer.push('\n')?;
     print_text(answer.as_bytes(), output)
+}
+
+/// The payload that the text spells.
+fn read_payload(alloc: Global, text: &str) -> Result<Vec<u8>, Refusal>
+    ensures spelled { IfOk result (λ payload. SpellsPayload text.now payload.items) }
+    ensures refused { IfErr result (IsPassRefusal text.now) }
+{
+    let payload = match hex::decode(alloc, text) {
+        Ok(payload) => payload,
+        Err(FromHexError::OutOfMemory) => return Err(Refusal::Memory),
+        Err(_) => return Err(Refusal::BadHex),
+    };
+    if payload.len() > MAX_FRAME_LEN {
+        return Err(Refusal::Frame(FrameError::TooLong));
+    }
+    Ok(payload)
+}
+
+/// A ring of that many slaves at power-on, without PDOs.
+fn plain_ring(alloc: Global, slaves: usize) -> Result<Ring, AllocError>
+    ensures { IfOk result (λ ring. ring ≡ replicate slaves plain_slave) }
+{
+    let mut ring = Vec::with_capacity(alloc, slaves)?;
+    for _ in 0..slaves {
+        ring.push(Slave::new(alloc, SlaveType::without_pdos(alloc), NO_IDENTITY)?)?;
+    }
+    Ok(Ring::new(ring))
 }

@@ -39,30 +39,6 @@ impl PlanForm {
     }
 }
 
-/// The plan of the table in a form.
-#[tactic(auto, using(crate::proofs::PlanLemmas::shown_fixed, crate::proofs::PlanLemmas::shown_explained, crate::proofs::PlanLemmas::shown_header))]
-fn text_of(alloc: Global, form: PlanForm, table: &Table, plan: &Plan) -> Result<String, Refusal>
-    requires { plan.now ≡ plan_of table.now }
-    ensures shown { IfOk result (λ answer. IsShown form table.now (string_bytes answer)) }
-    ensures memory { IfErr result (λ refusal. refusal ≡ Refusal.Memory) }
-{
-    match form {
-        PlanForm::Fixed => Ok(plan_text(alloc, table.version(), plan)?),
-        PlanForm::Explained => Ok(explain_text(alloc, table, plan)?),
-        PlanForm::Header => Ok(header_text(alloc, table)?),
-    }
-}
-
-/// The plan of a table that was read, in a form.
-fn show_table(alloc: Global, form: PlanForm, table: &Table) -> Result<String, Refusal>
-    ensures accepted { OnOk result (compile_fault table.now ≡ None) }
-    ensures answer { IfOk result (λ answer. IsShown form table.now (string_bytes answer)) }
-    ensures refused { IfErr result (IsLinkRefusal table.now) }
-{
-    let plan = compile(alloc, table)?;
-    text_of(alloc, form, table, &plan)
-}
-
 /// The plan of the table that the text states, in a form.
 pub fn show_plan(alloc: Global, form: PlanForm, text: &str) -> Result<String, Refusal>
     ensures answer { IfOk result (λ answer. IsPlanAnswer form text.now (string_bytes answer)) }
@@ -92,5 +68,29 @@ pub fn print_plan<R: Read, W: Write>(
             behind.explain(alloc, text.as_str(), &refusal);
             Err(refusal)
         }
+    }
+}
+
+/// The plan of a table that was read, in a form.
+fn show_table(alloc: Global, form: PlanForm, table: &Table) -> Result<String, Refusal>
+    ensures accepted { OnOk result (compile_fault table.now ≡ None) }
+    ensures answer { IfOk result (λ answer. IsShown form table.now (string_bytes answer)) }
+    ensures refused { IfErr result (IsLinkRefusal table.now) }
+{
+    let plan = compile(alloc, table)?;
+    text_of(alloc, form, table, &plan)
+}
+
+/// The plan of the table in a form.
+#[tactic(auto, using(crate::proofs::PlanLemmas::shown_fixed, crate::proofs::PlanLemmas::shown_explained, crate::proofs::PlanLemmas::shown_header))]
+fn text_of(alloc: Global, form: PlanForm, table: &Table, plan: &Plan) -> Result<String, Refusal>
+    requires { plan.now ≡ plan_of table.now }
+    ensures shown { IfOk result (λ answer. IsShown form table.now (string_bytes answer)) }
+    ensures memory { IfErr result (λ refusal. refusal ≡ Refusal.Memory) }
+{
+    match form {
+        PlanForm::Fixed => Ok(plan_text(alloc, table.version(), plan)?),
+        PlanForm::Explained => Ok(explain_text(alloc, table, plan)?),
+        PlanForm::Header => Ok(header_text(alloc, table)?),
     }
 }

@@ -17,26 +17,6 @@ use std::time::Clock;
 /// What is told where an argument can't be read.
 const NOT_TEXT: &str = "error: an argument of the command line isn't text\n";
 
-/// All arguments that are given, in order.
-fn collected(alloc: Global, given: Args) -> Result<Vec<String>, AllocError>
-    ensures { IfOk result (λ args. args.items ≡ into_iter_items given) }
-{
-    given.collect(alloc)
-}
-
-/// Tells that the arguments can't be read, by the system's error, and answers the exit status.
-fn tell_unread<F: Write>(error: &io::Error, faults: &mut F) -> u8
-    ensures tells { TellsUnread error.now
-        (record { old = F.contents faults.old; new = F.contents faults.new }) result }
-    ensures status { Contains (2 ∷ 3 ∷ []) result }
-{
-    if error.kind() == ErrorKind::OutOfMemory {
-        return tell_and_end(&Refusal::Memory, faults);
-    }
-    tell_text(NOT_TEXT.as_bytes(), faults);
-    2
-}
-
 /// Runs the program `ecat` on the arguments that `std::env::args` gives, as `run_command` does, and
 /// answers its exit status. Slaves that it simulates show their outputs as their inputs. Where an
 /// argument isn't text the status is 2, as for others that ask for no command.
@@ -61,4 +41,24 @@ pub fn run_program<H: AllocGlobal + Net + Files + Clock, R: Read, W: Write, F: W
         Ok(args) => run_command(rt, args.as_slice(), input, output, faults, &mut Echo),
         Err(_) => tell_and_end(&Refusal::Memory, faults),
     }
+}
+
+/// Tells that the arguments can't be read, by the system's error, and answers the exit status.
+fn tell_unread<F: Write>(error: &io::Error, faults: &mut F) -> u8
+    ensures tells { TellsUnread error.now
+        (record { old = F.contents faults.old; new = F.contents faults.new }) result }
+    ensures status { Contains (2 ∷ 3 ∷ []) result }
+{
+    if error.kind() == ErrorKind::OutOfMemory {
+        return tell_and_end(&Refusal::Memory, faults);
+    }
+    tell_text(NOT_TEXT.as_bytes(), faults);
+    2
+}
+
+/// All arguments that are given, in order.
+fn collected(alloc: Global, given: Args) -> Result<Vec<String>, AllocError>
+    ensures { IfOk result (λ args. args.items ≡ into_iter_items given) }
+{
+    given.collect(alloc)
 }

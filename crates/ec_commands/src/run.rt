@@ -37,63 +37,109 @@ struct SegmentPlace {
     idle: u32,
 }
 
-/// Runs `ecat segment`, on a port or a card, with a capture or without.
-fn run_segment<H: AllocGlobal + Net + Files + Clock, R: Read, W: Write, F: Write>(
+/// Runs the command that the arguments ask for, the first of which is the program's name, and
+/// answers the exit status: 0 done, also where help was asked for and is on the output; 2 the
+/// arguments ask for no command; 3 refused; 4 a fault of input or output; 5 what a script expects
+/// wasn't so. What failed is told on `faults`, with an explanation behind it where the arguments ask
+/// for one, and a fault in writing it changes nothing.
+///
+/// Simulated slaves take their inputs from `app`, and a command that reads a text reads `input`.
+pub fn run_command<H: AllocGlobal + Net + Files + Clock, S: AsStr, R: Read, W: Write, F: Write>(
     rt: &H,
-    frames: u32,
-    place: SegmentPlace,
-    capture: Option<&str>,
+    args: &[S],
     input: &mut R,
     output: &mut W,
     faults: &mut F,
     app: &mut dyn App,
-    behind: &mut Explanation,
-) -> Result<(), Refusal>
-    ensures runs { RunsSegmentAt place.descriptor frames place.port place.full (option_map (λ file. file.now) capture.entry)
-        (R.remaining input.old) (record { old = W.contents output.old; new = W.contents output.new })
-        (record { old = F.contents faults.old; new = F.contents faults.new }) result }
-    ensures explains { IsLeft behind.old behind.new }
+) -> u8
+    // What `clap`'s specification finds in the arguments decides how the run ends, and what it
+    // leaves alone.
+    ensures ends { (read : Result RequestValue NoticeValue) × Reads (map S.text args.now) read
+        × Ends read (R.remaining input.old)
+        (record { old = W.contents output.old; new = W.contents output.new })
+        (record { old = F.contents faults.old; new = F.contents faults.new }) result
+        × EndsAlone read input.old input.new app.old app.new }
+    ensures status { Contains (0 ∷ 2 ∷ 3 ∷ 4 ∷ 5 ∷ []) result }
+    ensures unprinted { result ≡ 2 → output.new ≡ output.old }
 {
-    let (port, full, idle) = (place.port, place.full, place.idle);
-    match (place.descriptor, capture) {
-        (None, None) => {
-            print_segment(
-                rt, frames, port, full, idle, input, output, faults, app, behind,
-            )
+    end_run(rt, read_args(rt.alloc(), args), input, output, faults, app)
+}
+
+/// Ends a run whose arguments were read: runs the command, or tells what there is to tell in its
+/// place, and answers the exit status.
+fn end_run<H: AllocGlobal + Net + Files + Clock, R: Read, W: Write, F: Write>(
+    rt: &H,
+    read: Result<Request<'_>, Notice>,
+    input: &mut R,
+    output: &mut W,
+    faults: &mut F,
+    app: &mut dyn App,
+) -> u8
+    ensures ends { Ends read.entry (R.remaining input.old)
+        (record { old = W.contents output.old; new = W.contents output.new })
+        (record { old = F.contents faults.old; new = F.contents faults.new }) result }
+    ensures alone { EndsAlone read.entry input.old input.new app.old app.new }
+    ensures status { Contains (0 ∷ 2 ∷ 3 ∷ 4 ∷ 5 ∷ []) result }
+    ensures unprinted { result ≡ 2 → output.new ≡ output.old }
+{
+    match read {
+        Ok(request) => {
+            let mut behind = Explanation::new(rt.alloc(), is_explained(&request));
+            let ended = run_request(rt, request, input, output, faults, app, &mut behind);
+            explain_fault(rt.alloc(), &ended, &mut behind);
+            explained_status(ended, behind.as_bytes(), faults)
         }
-        (None, Some(file)) => {
-            capture_segment(
-                rt, frames, port, full, idle, file, input, output, faults, app, behind,
-            )
-        }
-        (Some(card), None) => {
-            print_card_segment(rt, frames, card, full, idle, input, output, app, behind)
-        }
-        (Some(card), Some(file)) => {
-            capture_card_segment(
-                rt, frames, card, full, idle, file, input, output, app, behind,
-            )
+        Err(Notice::Memory) => exit_status(Err(Refusal::Memory), faults),
+        Err(Notice::Help(text)) => exit_status(print_text(text.as_bytes(), output), faults),
+        Err(Notice::Usage(text)) => {
+            tell_text(text.as_bytes(), faults);
+            2
         }
     }
 }
 
-/// Runs `ecat master`, with a capture or without.
-fn run_master<H: AllocGlobal + Net + Files + Clock, R: Read, W: Write>(
-    rt: &H,
-    reasons: Reasons,
-    way: Connection<'_>,
-    capture: Option<&str>,
-    input: &mut R,
-    output: &mut W,
-    behind: &mut Explanation,
-) -> Result<(), Refusal>
-    ensures runs { RunsMasterWith reasons (option_map (λ file. file.now) capture.entry) (R.remaining input.old)
-        (record { old = W.contents output.old; new = W.contents output.new }) result }
-    ensures explains { IsLeft behind.old behind.new }
+/// Explains a fault of the input, the output or a socket, if a run ended by one.
+fn explain_fault(alloc: Global, ended: &Result<(), Refusal>, behind: &mut Explanation)
+    ensures { IsLeft behind.old behind.new }
 {
-    match capture {
-        None => print_master(rt, reasons, way, input, output, behind),
-        Some(file) => capture_master(rt, reasons, way, file, input, output, behind),
+    if let Err(refusal) = ended {
+        behind.explain_stream(alloc, refusal);
+    }
+}
+
+/// The exit status of a run, a refusal of which is told with more behind its line.
+fn explained_status<F: Write>(ended: Result<(), Refusal>, more: &[u8], faults: &mut F) -> u8
+    ensures { TellsWith more.now (record { old = F.contents faults.old; new = F.contents faults.new })
+        result ended }
+{
+    match ended {
+        Ok(()) => 0,
+        Err(refusal) => tell_explained(&refusal, more, faults),
+    }
+}
+
+/// The exit status of a run. A refusal is told; a fault in telling it changes nothing.
+fn exit_status<F: Write>(ended: Result<(), Refusal>, faults: &mut F) -> u8
+    ensures { Tells (record { old = F.contents faults.old; new = F.contents faults.new })
+        result ended }
+{
+    match ended {
+        Ok(()) => 0,
+        Err(refusal) => tell_and_end(&refusal, faults),
+    }
+}
+
+/// Whether a command is to explain a refusal.
+fn is_explained(request: &Request<'_>) -> bool
+    ensures { result ≡ is_explained (command_of request.now) }
+{
+    match *request {
+        Request::Pass { .. } | Request::Decode { .. } | Request::Encode => false,
+        Request::Plan { explained, .. }
+        | Request::Sim { explained, .. }
+        | Request::Loop { explained, .. }
+        | Request::Segment { explained, .. }
+        | Request::Master { explained, .. } => explained,
     }
 }
 
@@ -186,108 +232,62 @@ fn run_request<H: AllocGlobal + Net + Files + Clock, R: Read, W: Write, F: Write
     }
 }
 
-/// Whether a command is to explain a refusal.
-fn is_explained(request: &Request<'_>) -> bool
-    ensures { result ≡ is_explained (command_of request.now) }
-{
-    match *request {
-        Request::Pass { .. } | Request::Decode { .. } | Request::Encode => false,
-        Request::Plan { explained, .. }
-        | Request::Sim { explained, .. }
-        | Request::Loop { explained, .. }
-        | Request::Segment { explained, .. }
-        | Request::Master { explained, .. } => explained,
-    }
-}
-
-/// The exit status of a run. A refusal is told; a fault in telling it changes nothing.
-fn exit_status<F: Write>(ended: Result<(), Refusal>, faults: &mut F) -> u8
-    ensures { Tells (record { old = F.contents faults.old; new = F.contents faults.new })
-        result ended }
-{
-    match ended {
-        Ok(()) => 0,
-        Err(refusal) => tell_and_end(&refusal, faults),
-    }
-}
-
-/// The exit status of a run, a refusal of which is told with more behind its line.
-fn explained_status<F: Write>(ended: Result<(), Refusal>, more: &[u8], faults: &mut F) -> u8
-    ensures { TellsWith more.now (record { old = F.contents faults.old; new = F.contents faults.new })
-        result ended }
-{
-    match ended {
-        Ok(()) => 0,
-        Err(refusal) => tell_explained(&refusal, more, faults),
-    }
-}
-
-/// Explains a fault of the input, the output or a socket, if a run ended by one.
-fn explain_fault(alloc: Global, ended: &Result<(), Refusal>, behind: &mut Explanation)
-    ensures { IsLeft behind.old behind.new }
-{
-    if let Err(refusal) = ended {
-        behind.explain_stream(alloc, refusal);
-    }
-}
-
-/// Ends a run whose arguments were read: runs the command, or tells what there is to tell in its
-/// place, and answers the exit status.
-fn end_run<H: AllocGlobal + Net + Files + Clock, R: Read, W: Write, F: Write>(
+/// Runs `ecat master`, with a capture or without.
+fn run_master<H: AllocGlobal + Net + Files + Clock, R: Read, W: Write>(
     rt: &H,
-    read: Result<Request<'_>, Notice>,
+    reasons: Reasons,
+    way: Connection<'_>,
+    capture: Option<&str>,
+    input: &mut R,
+    output: &mut W,
+    behind: &mut Explanation,
+) -> Result<(), Refusal>
+    ensures runs { RunsMasterWith reasons (option_map (λ file. file.now) capture.entry) (R.remaining input.old)
+        (record { old = W.contents output.old; new = W.contents output.new }) result }
+    ensures explains { IsLeft behind.old behind.new }
+{
+    match capture {
+        None => print_master(rt, reasons, way, input, output, behind),
+        Some(file) => capture_master(rt, reasons, way, file, input, output, behind),
+    }
+}
+
+/// Runs `ecat segment`, on a port or a card, with a capture or without.
+fn run_segment<H: AllocGlobal + Net + Files + Clock, R: Read, W: Write, F: Write>(
+    rt: &H,
+    frames: u32,
+    place: SegmentPlace,
+    capture: Option<&str>,
     input: &mut R,
     output: &mut W,
     faults: &mut F,
     app: &mut dyn App,
-) -> u8
-    ensures ends { Ends read.entry (R.remaining input.old)
-        (record { old = W.contents output.old; new = W.contents output.new })
+    behind: &mut Explanation,
+) -> Result<(), Refusal>
+    ensures runs { RunsSegmentAt place.descriptor frames place.port place.full (option_map (λ file. file.now) capture.entry)
+        (R.remaining input.old) (record { old = W.contents output.old; new = W.contents output.new })
         (record { old = F.contents faults.old; new = F.contents faults.new }) result }
-    ensures alone { EndsAlone read.entry input.old input.new app.old app.new }
-    ensures status { Contains (0 ∷ 2 ∷ 3 ∷ 4 ∷ 5 ∷ []) result }
-    ensures unprinted { result ≡ 2 → output.new ≡ output.old }
+    ensures explains { IsLeft behind.old behind.new }
 {
-    match read {
-        Ok(request) => {
-            let mut behind = Explanation::new(rt.alloc(), is_explained(&request));
-            let ended = run_request(rt, request, input, output, faults, app, &mut behind);
-            explain_fault(rt.alloc(), &ended, &mut behind);
-            explained_status(ended, behind.as_bytes(), faults)
+    let (port, full, idle) = (place.port, place.full, place.idle);
+    match (place.descriptor, capture) {
+        (None, None) => {
+            print_segment(
+                rt, frames, port, full, idle, input, output, faults, app, behind,
+            )
         }
-        Err(Notice::Memory) => exit_status(Err(Refusal::Memory), faults),
-        Err(Notice::Help(text)) => exit_status(print_text(text.as_bytes(), output), faults),
-        Err(Notice::Usage(text)) => {
-            tell_text(text.as_bytes(), faults);
-            2
+        (None, Some(file)) => {
+            capture_segment(
+                rt, frames, port, full, idle, file, input, output, faults, app, behind,
+            )
+        }
+        (Some(card), None) => {
+            print_card_segment(rt, frames, card, full, idle, input, output, app, behind)
+        }
+        (Some(card), Some(file)) => {
+            capture_card_segment(
+                rt, frames, card, full, idle, file, input, output, app, behind,
+            )
         }
     }
-}
-
-/// Runs the command that the arguments ask for, the first of which is the program's name, and
-/// answers the exit status: 0 done, also where help was asked for and is on the output; 2 the
-/// arguments ask for no command; 3 refused; 4 a fault of input or output; 5 what a script expects
-/// wasn't so. What failed is told on `faults`, with an explanation behind it where the arguments ask
-/// for one, and a fault in writing it changes nothing.
-///
-/// Simulated slaves take their inputs from `app`, and a command that reads a text reads `input`.
-pub fn run_command<H: AllocGlobal + Net + Files + Clock, S: AsStr, R: Read, W: Write, F: Write>(
-    rt: &H,
-    args: &[S],
-    input: &mut R,
-    output: &mut W,
-    faults: &mut F,
-    app: &mut dyn App,
-) -> u8
-    // What `clap`'s specification finds in the arguments decides how the run ends, and what it
-    // leaves alone.
-    ensures ends { (read : Result RequestValue NoticeValue) × Reads (map S.text args.now) read
-        × Ends read (R.remaining input.old)
-        (record { old = W.contents output.old; new = W.contents output.new })
-        (record { old = F.contents faults.old; new = F.contents faults.new }) result
-        × EndsAlone read input.old input.new app.old app.new }
-    ensures status { Contains (0 ∷ 2 ∷ 3 ∷ 4 ∷ 5 ∷ []) result }
-    ensures unprinted { result ≡ 2 → output.new ≡ output.old }
-{
-    end_run(rt, read_args(rt.alloc(), args), input, output, faults, app)
 }

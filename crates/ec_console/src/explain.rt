@@ -27,69 +27,6 @@ impl Model for Explanation {
     ghost view = { λ e. record { is_wanted = e.is_wanted; text = string_bytes e.text } };
 }
 
-/// What there is to explain of a refusal; the line of a script is one of a script that begins at a byte
-/// of its text.
-fn cause_of(refusal: &Refusal, from: usize) -> Option<Cause> {
-    match *refusal {
-        Refusal::Table(TableError::Refused(fault)) => Some(Cause::Table(fault)),
-        Refusal::Link(LinkError::Refused(fault)) => Some(Cause::Link(fault)),
-        Refusal::Start(error) => Some(Cause::Start(error)),
-        Refusal::Run(RunError::Refused(error)) => Some(Cause::Cycle(error)),
-        Refusal::Run(RunError::Wire) => Some(Cause::Wire),
-        Refusal::Script(ScriptError::BadScript(line)) => Some(Cause::Script { from, line }),
-        Refusal::Unmet(count) => Some(Cause::Unmet(count)),
-        _ => None,
-    }
-}
-
-/// A refusal of a link table explained; nothing where there is nothing to explain.
-fn table_text(alloc: Global, table: &str, refusal: &Refusal) -> Result<String, AllocError> {
-    match cause_of(refusal, 0) {
-        Some(cause) => explanation(alloc, table, cause),
-        None => Ok(String::new(alloc)),
-    }
-}
-
-/// A refusal of a link table and a script explained.
-fn script_text(alloc: Global, text: &str, refusal: &Refusal) -> Result<String, AllocError> {
-    let (table, script) = split_script(text);
-    let from = text.len().saturating_sub(script.len());
-    match cause_of(refusal, from) {
-        Some(cause @ Cause::Script { .. }) => explanation(alloc, text, cause),
-        Some(cause) => {
-            let mut told = explanation(alloc, table, cause)?;
-            if cause == Cause::Table(Fault::Toml) && table.len() == text.len() {
-                told.push_str(
-                    "There is no line `%%`, so all lines were read as lines of the table.\n",
-                )?;
-            }
-            Ok(told)
-        }
-        None => Ok(String::new(alloc)),
-    }
-}
-
-/// What a fault of the input, the output or a socket means, and what to do; nothing of other refusals, which have a text at
-/// fault.
-fn stream_text(refusal: &Refusal) -> Option<&'static str> {
-    match refusal {
-        Refusal::Output => Some(
-            "What was to be printed, or the file of the capture, couldn't be written; what was written before stays.\n\
-            To do: see whether whoever reads standard output is still there, and whether the disk is full.\n",
-        ),
-        Refusal::Input => Some(
-            "The input couldn't be read, isn't text in UTF-8, or is longer than 1048576 bytes.\n\
-            To do: see where standard input comes from, and save the text as UTF-8.\n",
-        ),
-        Refusal::Socket => Some(
-            "There is no socket as it is asked for: its port is in use or its address isn't this system's, its \
-            descriptor is no open socket, or no payload came in time.\n\
-            To do: take another port, open the card as `tools/with_card` does, or start the other side in time.\n",
-        ),
-        _ => None,
-    }
-}
-
 impl Explanation {
     /// None yet.
     pub fn new(alloc: Global, is_wanted: bool) -> Explanation
@@ -106,13 +43,6 @@ impl Explanation {
         ensures { result.now ≡ self.now.text }
     {
         self.text.as_bytes()
-    }
-
-    /// A text becomes this one's, if memory was there for it.
-    fn keep(&mut self, made: Result<String, AllocError>) {
-        if let Ok(text) = made {
-            self.text = text;
-        }
     }
 
     /// Explains the refusal of a link table, if that is wanted and memory is there for it.
@@ -140,5 +70,75 @@ impl Explanation {
         if self.is_wanted {
             self.keep(script_text(alloc, text, refusal));
         }
+    }
+
+    /// A text becomes this one's, if memory was there for it.
+    fn keep(&mut self, made: Result<String, AllocError>) {
+        if let Ok(text) = made {
+            self.text = text;
+        }
+    }
+}
+
+/// What a fault of the input, the output or a socket means, and what to do; nothing of other refusals, which have a text at
+/// fault.
+fn stream_text(refusal: &Refusal) -> Option<&'static str> {
+    match refusal {
+        Refusal::Output => Some(
+            "What was to be printed, or the file of the capture, couldn't be written; what was written before stays.\n\
+            To do: see whether whoever reads standard output is still there, and whether the disk is full.\n",
+        ),
+        Refusal::Input => Some(
+            "The input couldn't be read, isn't text in UTF-8, or is longer than 1048576 bytes.\n\
+            To do: see where standard input comes from, and save the text as UTF-8.\n",
+        ),
+        Refusal::Socket => Some(
+            "There is no socket as it is asked for: its port is in use or its address isn't this system's, its \
+            descriptor is no open socket, or no payload came in time.\n\
+            To do: take another port, open the card as `tools/with_card` does, or start the other side in time.\n",
+        ),
+        _ => None,
+    }
+}
+
+/// A refusal of a link table and a script explained.
+fn script_text(alloc: Global, text: &str, refusal: &Refusal) -> Result<String, AllocError> {
+    let (table, script) = split_script(text);
+    let from = text.len().saturating_sub(script.len());
+    match cause_of(refusal, from) {
+        Some(cause @ Cause::Script { .. }) => explanation(alloc, text, cause),
+        Some(cause) => {
+            let mut told = explanation(alloc, table, cause)?;
+            if cause == Cause::Table(Fault::Toml) && table.len() == text.len() {
+                told.push_str(
+                    "There is no line `%%`, so all lines were read as lines of the table.\n",
+                )?;
+            }
+            Ok(told)
+        }
+        None => Ok(String::new(alloc)),
+    }
+}
+
+/// A refusal of a link table explained; nothing where there is nothing to explain.
+fn table_text(alloc: Global, table: &str, refusal: &Refusal) -> Result<String, AllocError> {
+    match cause_of(refusal, 0) {
+        Some(cause) => explanation(alloc, table, cause),
+        None => Ok(String::new(alloc)),
+    }
+}
+
+/// What there is to explain of a refusal; the line of a script is one of a script that begins at a byte
+/// of its text.
+fn cause_of(refusal: &Refusal, from: usize) -> Option<Cause> {
+    match *refusal {
+        Refusal::Table(TableError::Refused(fault)) => Some(Cause::Table(fault)),
+        Refusal::Link(LinkError::Refused(fault)) => Some(Cause::Link(fault)),
+        Refusal::Start(error) => Some(Cause::Start(error)),
+        Refusal::Run(RunError::Refused(error)) => Some(Cause::Cycle(error)),
+        Refusal::Run(RunError::Wire) => Some(Cause::Wire),
+        Refusal::Script(ScriptError::BadScript(line)) => Some(Cause::Script { from, line }),
+        Refusal::Unmet(count) => Some(Cause::Unmet(count)),
+        _ => None,
     }
 }

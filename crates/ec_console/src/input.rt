@@ -10,18 +10,15 @@ use std::io::{ErrorKind, Read};
 /// The most bytes of an input.
 const MAX_INPUT: usize = 1 << 20;
 
-/// What `input` gives, up to one byte more than an input may have. An interrupted read is made again.
-fn read_bytes<R: Read>(alloc: Global, input: &mut R) -> Result<Vec<u8>, Refusal>
-    ensures known { IfOk result (λ bytes.
-        IfSome (R.remaining input.old) (λ all. bytes.items ≡ take (2 ^ 20 + 1) all)) }
-    ensures refused { IfErr result IsReadRefusal }
+/// All that `input` gives, as text. `Refusal::Input` is told where a read is refused, where it gives
+/// more than 2^20 bytes, and where they are no text in UTF-8. An interrupted read is made again.
+pub fn read_text<R: Read>(alloc: Global, input: &mut R) -> Result<String, Refusal>
+    ensures whole { IfOk result (λ text. GivesText (R.remaining input.old) (string_bytes text)) }
+    ensures short { IfOk result (λ text. length (string_bytes text) ≤ 2 ^ 20) }
+    ensures refused { IfErr result (IsInputRefusal (R.remaining input.old)) }
 {
-    let mut bytes = Vec::new(alloc);
-    match input.take(MAX_INPUT as u64 + 1).read_to_end(&mut bytes) {
-        Ok(_) => Ok(bytes),
-        Err(error) if error.kind() == ErrorKind::OutOfMemory => Err(Refusal::Memory),
-        Err(_) => Err(Refusal::Input),
-    }
+    let bytes = read_bytes(alloc, input)?;
+    text_of(bytes)
 }
 
 /// The text that these bytes are.
@@ -36,13 +33,16 @@ fn text_of(bytes: Vec<u8>) -> Result<String, Refusal>
     String::from_utf8(bytes).map_err(|_| Refusal::Input)
 }
 
-/// All that `input` gives, as text. `Refusal::Input` is told where a read is refused, where it gives
-/// more than 2^20 bytes, and where they are no text in UTF-8. An interrupted read is made again.
-pub fn read_text<R: Read>(alloc: Global, input: &mut R) -> Result<String, Refusal>
-    ensures whole { IfOk result (λ text. GivesText (R.remaining input.old) (string_bytes text)) }
-    ensures short { IfOk result (λ text. length (string_bytes text) ≤ 2 ^ 20) }
-    ensures refused { IfErr result (IsInputRefusal (R.remaining input.old)) }
+/// What `input` gives, up to one byte more than an input may have. An interrupted read is made again.
+fn read_bytes<R: Read>(alloc: Global, input: &mut R) -> Result<Vec<u8>, Refusal>
+    ensures known { IfOk result (λ bytes.
+        IfSome (R.remaining input.old) (λ all. bytes.items ≡ take (2 ^ 20 + 1) all)) }
+    ensures refused { IfErr result IsReadRefusal }
 {
-    let bytes = read_bytes(alloc, input)?;
-    text_of(bytes)
+    let mut bytes = Vec::new(alloc);
+    match input.take(MAX_INPUT as u64 + 1).read_to_end(&mut bytes) {
+        Ok(_) => Ok(bytes),
+        Err(error) if error.kind() == ErrorKind::OutOfMemory => Err(Refusal::Memory),
+        Err(_) => Err(Refusal::Input),
+    }
 }

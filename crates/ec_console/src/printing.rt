@@ -7,28 +7,6 @@ ghost use Rattle.ec_console.specs.Refusals.{line_of, status_of};
 use crate::Refusal;
 use std::io::{ErrorKind, Write};
 
-/// Writes all of a text; a refused write leaves some first part of it.
-fn write_text<W: Write>(text: &[u8], output: &mut W) -> Result<(), Refusal>
-    ensures all { OnOk result (Appends (W.contents output.old) (W.contents output.new) text.now) }
-    ensures part { OnErr result
-        (AppendsPart (W.contents output.old) (W.contents output.new) text.now) }
-    ensures fault { IfErr result (λ refusal. refusal ≡ Refusal.Output) }
-{
-    let mut written = 0;
-    for _ in 0..u64::MAX {
-        if written == text.len() {
-            return Ok(());
-        }
-        match output.write(&text[written..]) {
-            Ok(0) => return Err(Refusal::Output),
-            Ok(count) => written += count,
-            Err(error) if error.kind() == ErrorKind::Interrupted => {}
-            Err(_) => return Err(Refusal::Output),
-        }
-    }
-    Err(Refusal::Output)
-}
-
 /// Writes a text and hands on what is written. `Refusal::Output` is the only error: a write or the
 /// flush was refused, and what is written by then is a first part of the text.
 pub fn print_text<W: Write>(text: &[u8], output: &mut W) -> Result<(), Refusal>
@@ -69,6 +47,37 @@ pub fn tell_and_end<F: Write>(refusal: &Refusal, faults: &mut F) -> u8
     refusal.status()
 }
 
+/// The same, and it answers the exit status of the refusal.
+pub fn tell_explained<F: Write>(refusal: &Refusal, more: &[u8], faults: &mut F) -> u8
+    ensures status { result ≡ status_of refusal.now }
+    ensures told { IsTold (line_of refusal.now ++ more.now) (F.contents faults.old) (F.contents faults.new) }
+{
+    tell_both(refusal, more, faults);
+    refusal.status()
+}
+
+/// Writes all of a text; a refused write leaves some first part of it.
+fn write_text<W: Write>(text: &[u8], output: &mut W) -> Result<(), Refusal>
+    ensures all { OnOk result (Appends (W.contents output.old) (W.contents output.new) text.now) }
+    ensures part { OnErr result
+        (AppendsPart (W.contents output.old) (W.contents output.new) text.now) }
+    ensures fault { IfErr result (λ refusal. refusal ≡ Refusal.Output) }
+{
+    let mut written = 0;
+    for _ in 0..u64::MAX {
+        if written == text.len() {
+            return Ok(());
+        }
+        match output.write(&text[written..]) {
+            Ok(0) => return Err(Refusal::Output),
+            Ok(count) => written += count,
+            Err(error) if error.kind() == ErrorKind::Interrupted => {}
+            Err(_) => return Err(Refusal::Output),
+        }
+    }
+    Err(Refusal::Output)
+}
+
 /// Tells a refusal and more behind its line. A fault in telling it changes nothing.
 fn tell_both<F: Write>(refusal: &Refusal, more: &[u8], faults: &mut F)
     ensures { IsTold (line_of refusal.now ++ more.now) (F.contents faults.old) (F.contents faults.new) }
@@ -77,13 +86,4 @@ fn tell_both<F: Write>(refusal: &Refusal, more: &[u8], faults: &mut F)
         Ok(()) => tell_text(more, faults),
         Err(_) => {}
     }
-}
-
-/// The same, and it answers the exit status of the refusal.
-pub fn tell_explained<F: Write>(refusal: &Refusal, more: &[u8], faults: &mut F) -> u8
-    ensures status { result ≡ status_of refusal.now }
-    ensures told { IsTold (line_of refusal.now ++ more.now) (F.contents faults.old) (F.contents faults.new) }
-{
-    tell_both(refusal, more, faults);
-    refusal.status()
 }

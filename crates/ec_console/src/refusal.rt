@@ -79,57 +79,6 @@ impl fmt::Display for Values {
     }
 }
 
-/// The section and the place of a table's fault.
-fn values_of_place(place: Option<Place>) -> Values
-    ensures { listed result ≡ place_values place }
-{
-    match place {
-        None => Values::Empty,
-        Some(place) => Values::Two(u64::from(place.section.number()), place.element as u64),
-    }
-}
-
-/// The place of a plan's fault, or how many there are; or the line of a script's.
-fn values_of_fault(value: Option<usize>) -> Values
-    ensures { listed result ≡ link_values value }
-{
-    match value {
-        None => Values::Empty,
-        Some(value) => Values::One(value as u64),
-    }
-}
-
-/// What a start-up saw as it failed: a slave or a step first.
-fn values_of_start(error: StartError) -> Values
-    ensures { listed result ≡ error_values error }
-{
-    match error {
-        StartError::BadMailbox { slave } => Values::One(slave as u64),
-        StartError::Count { seen } => Values::One(u64::from(seen)),
-        StartError::Identity { slave, seen } => Values::Four(
-            slave as u64,
-            u64::from(seen.vendor),
-            u64::from(seen.product),
-            u64::from(seen.revision),
-        ),
-        StartError::Counter { step } | StartError::TooSlow { step } => Values::One(step as u64),
-        StartError::AlError { slave, code } => Values::Two(slave as u64, u64::from(code)),
-        StartError::Abort { slave, code } => Values::Two(slave as u64, u64::from(code)),
-        StartError::Lost | StartError::NumbersSpent => Values::Empty,
-        StartError::Mapping {
-            slave,
-            index,
-            subindex,
-            seen,
-        } => Values::Four(
-            slave as u64,
-            u64::from(index),
-            u64::from(subindex),
-            u64::from(seen),
-        ),
-    }
-}
-
 impl Refusal {
     ghost use Rattle.std.specs.Prelude.{◌≡◌};
     ghost use Rattle.ec_console.specs.Refusals.{listed, name_of, number_of, status_of, values_of};
@@ -202,28 +151,6 @@ impl Refusal {
             37 | 41 | 42 | 43 => 4,
             45 => 5,
             _ => 3,
-        }
-    }
-}
-
-/// Adds values to a line, each in decimal with a blank before it.
-fn push_values<const N: usize>(line: &mut ArrayString<N>, values: Values)
-    requires { array_string_len line.old + 84 ≤ N }
-    ensures bytes { line.new.bytes ≡ line.old.bytes ++ values_text (listed values) }
-    ensures room { array_string_len line.new ≤ array_string_len line.old + 84 }
-{
-    match values {
-        Values::Empty => {}
-        Values::One(value) => push_value(line, value),
-        Values::Two(first, second) => {
-            push_value(line, first);
-            push_value(line, second);
-        }
-        Values::Four(first, second, third, fourth) => {
-            push_value(line, first);
-            push_value(line, second);
-            push_value(line, third);
-            push_value(line, fourth);
         }
     }
 }
@@ -372,5 +299,78 @@ impl<T: Drop> From<AllocFailed<T>> for Refusal {
 
     fn from(_error: AllocFailed<T>) -> Refusal {
         Refusal::Memory
+    }
+}
+
+/// What a start-up saw as it failed: a slave or a step first.
+fn values_of_start(error: StartError) -> Values
+    ensures { listed result ≡ error_values error }
+{
+    match error {
+        StartError::BadMailbox { slave } => Values::One(slave as u64),
+        StartError::Count { seen } => Values::One(u64::from(seen)),
+        StartError::Identity { slave, seen } => Values::Four(
+            slave as u64,
+            u64::from(seen.vendor),
+            u64::from(seen.product),
+            u64::from(seen.revision),
+        ),
+        StartError::Counter { step } | StartError::TooSlow { step } => Values::One(step as u64),
+        StartError::AlError { slave, code } => Values::Two(slave as u64, u64::from(code)),
+        StartError::Abort { slave, code } => Values::Two(slave as u64, u64::from(code)),
+        StartError::Lost | StartError::NumbersSpent => Values::Empty,
+        StartError::Mapping {
+            slave,
+            index,
+            subindex,
+            seen,
+        } => Values::Four(
+            slave as u64,
+            u64::from(index),
+            u64::from(subindex),
+            u64::from(seen),
+        ),
+    }
+}
+
+/// The place of a plan's fault, or how many there are; or the line of a script's.
+fn values_of_fault(value: Option<usize>) -> Values
+    ensures { listed result ≡ link_values value }
+{
+    match value {
+        None => Values::Empty,
+        Some(value) => Values::One(value as u64),
+    }
+}
+
+/// The section and the place of a table's fault.
+fn values_of_place(place: Option<Place>) -> Values
+    ensures { listed result ≡ place_values place }
+{
+    match place {
+        None => Values::Empty,
+        Some(place) => Values::Two(u64::from(place.section.number()), place.element as u64),
+    }
+}
+
+/// Adds values to a line, each in decimal with a blank before it.
+fn push_values<const N: usize>(line: &mut ArrayString<N>, values: Values)
+    requires { array_string_len line.old + 84 ≤ N }
+    ensures bytes { line.new.bytes ≡ line.old.bytes ++ values_text (listed values) }
+    ensures room { array_string_len line.new ≤ array_string_len line.old + 84 }
+{
+    match values {
+        Values::Empty => {}
+        Values::One(value) => push_value(line, value),
+        Values::Two(first, second) => {
+            push_value(line, first);
+            push_value(line, second);
+        }
+        Values::Four(first, second, third, fourth) => {
+            push_value(line, first);
+            push_value(line, second);
+            push_value(line, third);
+            push_value(line, fourth);
+        }
     }
 }

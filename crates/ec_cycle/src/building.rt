@@ -14,30 +14,32 @@ use ec_regs::registers;
 /// The most that one has which goes by an LWR and an LRD.
 const MAX_SPLIT: usize = 705;
 
-/// Appends a datagram that has room.
-fn append(builder: &mut Builder, command: Command, index: u8, address: u32, content: &[u8])
-    requires { length (joined builder.old) + 12 + length content.now ≤ 1470 }
-    ensures { builder.new ≡ builder.old ++ new_datagram command index address content.now ∷ [] }
+/// The cyclic frame of a part, with these outputs.
+#[tactic(auto, using(ec_frame::proofs::Builds::joined_push))]
+pub fn build(part: &PartPlan, number: u64, place: usize, sent: &[u8]) -> Frame
+    requires place { place < 65536 }
+    requires size { length sent.now ≡ part.now.bytes }
+    requires small { (if part.now.split then 2 * part.now.bytes + 12 else part.now.bytes) ≤ 1422 }
+    ensures { IsFrame result.items (bare_payload (cyclic_datagrams part.now number place 0 (zeros 2) sent.now (returned_first part.now sent.now) [])) }
 {
-    let _ = builder.add(command, index, address, content);
-}
-
-/// The bytes that name a frame: the cycle's number and the part.
-fn name_of(number: u64, part: usize) -> [u8; 10]
-    requires { part < 65536 }
-    ensures { result ≡ to_le_bytes w64 number ++ to_le_bytes w16 part }
-{
-    let mut name = [0; 10];
-    name[..8].copy_from_slice(&number.to_le_bytes());
-    name[8..].copy_from_slice(&(part as u16).to_le_bytes());
-    name
-}
-
-/// What an LRD brings, as much as the longest has.
-fn nothing() -> [u8; MAX_SPLIT]
-    ensures { result ≡ zeros 705 }
-{
-    [0; MAX_SPLIT]
+    let index = (number % 256) as u8;
+    let mut builder = Builder::new();
+    append(
+        &mut builder,
+        Command::Nop,
+        index,
+        0,
+        &name_of(number, place),
+    );
+    append(
+        &mut builder,
+        Command::Brd,
+        index,
+        address_of(0, registers::AL_STATUS as u16),
+        &[0, 0],
+    );
+    append_process(&mut builder, part, number, sent);
+    builder.finish()
 }
 
 /// Appends the process datagrams of a part, with these outputs.
@@ -66,30 +68,28 @@ fn append_process(builder: &mut Builder, part: &PartPlan, number: u64, sent: &[u
     }
 }
 
-/// The cyclic frame of a part, with these outputs.
-#[tactic(auto, using(ec_frame::proofs::Builds::joined_push))]
-pub fn build(part: &PartPlan, number: u64, place: usize, sent: &[u8]) -> Frame
-    requires place { place < 65536 }
-    requires size { length sent.now ≡ part.now.bytes }
-    requires small { (if part.now.split then 2 * part.now.bytes + 12 else part.now.bytes) ≤ 1422 }
-    ensures { IsFrame result.items (bare_payload (cyclic_datagrams part.now number place 0 (zeros 2) sent.now (returned_first part.now sent.now) [])) }
+/// What an LRD brings, as much as the longest has.
+fn nothing() -> [u8; MAX_SPLIT]
+    ensures { result ≡ zeros 705 }
 {
-    let index = (number % 256) as u8;
-    let mut builder = Builder::new();
-    append(
-        &mut builder,
-        Command::Nop,
-        index,
-        0,
-        &name_of(number, place),
-    );
-    append(
-        &mut builder,
-        Command::Brd,
-        index,
-        address_of(0, registers::AL_STATUS as u16),
-        &[0, 0],
-    );
-    append_process(&mut builder, part, number, sent);
-    builder.finish()
+    [0; MAX_SPLIT]
+}
+
+/// The bytes that name a frame: the cycle's number and the part.
+fn name_of(number: u64, part: usize) -> [u8; 10]
+    requires { part < 65536 }
+    ensures { result ≡ to_le_bytes w64 number ++ to_le_bytes w16 part }
+{
+    let mut name = [0; 10];
+    name[..8].copy_from_slice(&number.to_le_bytes());
+    name[8..].copy_from_slice(&(part as u16).to_le_bytes());
+    name
+}
+
+/// Appends a datagram that has room.
+fn append(builder: &mut Builder, command: Command, index: u8, address: u32, content: &[u8])
+    requires { length (joined builder.old) + 12 + length content.now ≤ 1470 }
+    ensures { builder.new ≡ builder.old ++ new_datagram command index address content.now ∷ [] }
+{
+    let _ = builder.add(command, index, address, content);
 }

@@ -84,54 +84,6 @@ impl Model for Returned {
     ghost view = { λ r. if r.is_kept then Some (record { broadcast = r.broadcast; al_word = r.al_word; counters = r.counters; bytes = r.content }) else None };
 }
 
-/// Whether counters are the same, each by itself.
-fn same_counters(one: ExpectedCounters, other: ExpectedCounters) -> bool
-    ensures { result ≡ same_counters one other }
-{
-    match (one, other) {
-        (ExpectedCounters::Lrw(n), ExpectedCounters::Lrw(m)) => n == m,
-        (ExpectedCounters::Split { write, read }, ExpectedCounters::Split { write: v, read: q }) =>
-            write == v && read == q,
-        _ => false,
-    }
-}
-
-/// The word of two bytes; a byte that isn't there is 0.
-fn word_of(bytes: &[u8]) -> u16
-    ensures { result ≡ slice_index bytes.now 0 + 256 * slice_index bytes.now 1 }
-{
-    let low = bytes.first().copied().unwrap_or(0);
-    let high = bytes.get(1).copied().unwrap_or(0);
-    u16::from(low) + 256 * u16::from(high)
-}
-
-/// The working counters of the process datagrams of a frame whose first datagrams stand at these places.
-#[tactic(auto, using(crate::proofs::Places::place_steps))]
-fn counters_in(split: bool, payload: &[u8], spans: &[DatagramSpan; 4]) -> Counters
-    requires { (ds : List Datagram) × FirstStand payload.now spans.now ds }
-    ensures { (ds : List Datagram) → FirstStand payload.now spans.now ds → result ≡ counters_by split ds }
-{
-    let first = counter_at(payload, spans[2]);
-    if split {
-        Counters::split(first, counter_at(payload, spans[3]))
-    } else {
-        Counters::lrw(first)
-    }
-}
-
-/// The data that brings the inputs, in a frame whose first datagrams stand at these places.
-#[tactic(auto, using(crate::proofs::Places::place_steps))]
-fn inputs_in<'a>(split: bool, payload: &'a [u8], spans: &[DatagramSpan; 4]) -> &'a [u8]
-    requires { (ds : List Datagram) × FirstStand payload.now spans.now ds }
-    ensures { (ds : List Datagram) → FirstStand payload.now spans.now ds → result.now ≡ bytes_at ds (input_place split) }
-{
-    if split {
-        data_at(payload, spans[3])
-    } else {
-        data_at(payload, spans[2])
-    }
-}
-
 impl Returned {
     /// Nothing came back.
     pub fn new() -> Returned
@@ -209,5 +161,53 @@ impl Returned {
         ensures { result ≡ word_of_kept self.now }
     {
         if self.is_kept { self.al_word } else { 0 }
+    }
+}
+
+/// The data that brings the inputs, in a frame whose first datagrams stand at these places.
+#[tactic(auto, using(crate::proofs::Places::place_steps))]
+fn inputs_in<'a>(split: bool, payload: &'a [u8], spans: &[DatagramSpan; 4]) -> &'a [u8]
+    requires { (ds : List Datagram) × FirstStand payload.now spans.now ds }
+    ensures { (ds : List Datagram) → FirstStand payload.now spans.now ds → result.now ≡ bytes_at ds (input_place split) }
+{
+    if split {
+        data_at(payload, spans[3])
+    } else {
+        data_at(payload, spans[2])
+    }
+}
+
+/// The working counters of the process datagrams of a frame whose first datagrams stand at these places.
+#[tactic(auto, using(crate::proofs::Places::place_steps))]
+fn counters_in(split: bool, payload: &[u8], spans: &[DatagramSpan; 4]) -> Counters
+    requires { (ds : List Datagram) × FirstStand payload.now spans.now ds }
+    ensures { (ds : List Datagram) → FirstStand payload.now spans.now ds → result ≡ counters_by split ds }
+{
+    let first = counter_at(payload, spans[2]);
+    if split {
+        Counters::split(first, counter_at(payload, spans[3]))
+    } else {
+        Counters::lrw(first)
+    }
+}
+
+/// The word of two bytes; a byte that isn't there is 0.
+fn word_of(bytes: &[u8]) -> u16
+    ensures { result ≡ slice_index bytes.now 0 + 256 * slice_index bytes.now 1 }
+{
+    let low = bytes.first().copied().unwrap_or(0);
+    let high = bytes.get(1).copied().unwrap_or(0);
+    u16::from(low) + 256 * u16::from(high)
+}
+
+/// Whether counters are the same, each by itself.
+fn same_counters(one: ExpectedCounters, other: ExpectedCounters) -> bool
+    ensures { result ≡ same_counters one other }
+{
+    match (one, other) {
+        (ExpectedCounters::Lrw(n), ExpectedCounters::Lrw(m)) => n == m,
+        (ExpectedCounters::Split { write, read }, ExpectedCounters::Split { write: v, read: q }) =>
+            write == v && read == q,
+        _ => false,
     }
 }

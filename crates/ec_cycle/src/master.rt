@@ -77,241 +77,6 @@ impl<'p> Model for Master<'p> {
     ghost invariant = { λ m. IsMaster m.plan.now m.runs m.input_runs m.expected m.outputs.items m.inputs.items m.frames.items m.kept.items m.number };
 }
 
-/// So many bytes as have room for bits, all 0.
-fn image_of(alloc: Global, bits: usize) -> Result<Vec<u8>, AllocError>
-    ensures { IfOk result (λ v. v.items ≡ zeros (bytes_of_bits bits)) }
-{
-    vec![in alloc; 0; bits / 8 + (bits % 8 + 7) / 8]
-}
-
-/// The predicted counters of each part.
-fn counters_of(alloc: Global, plan: &Plan) -> Result<Listed<ExpectedCounters>, AllocError>
-    ensures count { IfOk result (λ ps. length ps ≡ length plan.now.parts) }
-    ensures each { IfOk result (λ ps. (k : ℕ) (d : ExpectedCounters) → k < length plan.now.parts → get_or ps k d ≡ predicted plan.now k) }
-{
-    let mut expected = Listed::new(alloc);
-    for part in 0..plan.parts().len() {
-        expected.push(plan.predicted(part))?;
-    }
-    Ok(expected)
-}
-
-/// Room for what comes back of so many parts.
-fn nothing_kept(alloc: Global, count: usize) -> Result<Vec<Returned>, AllocError>
-    ensures { IfOk result (λ v. length v.items ≡ count) }
-{
-    let mut kept = Vec::new(alloc);
-    for n in 0..count {
-        kept.push(Returned::new())?;
-    }
-    Ok(kept)
-}
-
-/// Every unit is taken, as long as no part of it is judged.
-fn all_taken() -> [bool; 256]
-    ensures { result ≡ replicate 256 true }
-{
-    [true; 256]
-}
-
-/// Whether a part was kept and is good.
-#[tactic(auto, using(crate::proofs::Judging::good_is))]
-fn is_good(plan: &Plan, expected: &[ExpectedCounters], kept: &[Returned], part: usize) -> bool
-    requires there { part < length plan.now.parts }
-    requires kept { length kept.now ≡ length plan.now.parts }
-    requires count { length expected.now ≡ length plan.now.parts }
-    requires counters { (k : ℕ) (d : ExpectedCounters) → k < length plan.now.parts → get_or expected.now k d ≡ predicted plan.now k }
-    ensures { result ≡ is_good plan.now part (get_or kept.now part None) }
-{
-    let slaves = plan.slaves().len();
-    kept[part].came_back_as(slaves, expected[part])
-}
-
-/// A unit isn't taken any more where one of its parts isn't good.
-fn judge(taken: &mut [bool; 256], unit: u8, is_good: bool)
-    ensures judged { taken.new ≡ set taken.old unit (get_or taken.old unit false && is_good) }
-    ensures small { unit < 256 }
-{
-    let unit = usize::from(unit);
-    taken[unit] = taken[unit] && is_good;
-}
-
-/// Whether each unit's parts were all kept and are good, by the number of the unit.
-fn judged(plan: &Plan, expected: &[ExpectedCounters], kept: &[Returned]) -> [bool; 256]
-    requires kept { length kept.now ≡ length plan.now.parts }
-    requires count { length expected.now ≡ length plan.now.parts }
-    requires counters { (k : ℕ) (d : ExpectedCounters) → k < length plan.now.parts → get_or expected.now k d ≡ predicted plan.now k }
-    ensures size { length result ≡ 256 }
-    ensures judged { (u : ℕ) → u < 256 → get_or result u false ≡ unit_taken plan.now kept.now u }
-{
-    let mut taken = all_taken();
-    for k in 0..plan.parts().len() {
-        let is_good = is_good(plan, expected, kept, k);
-        judge(&mut taken, plan.unit_of_part(k), is_good);
-    }
-    taken
-}
-
-/// Copies the input bits of a link out of what its part brought back.
-fn copy_input(input: InputRun, kept: &[Returned], inputs: &mut [u8])
-    requires there { input.part < length kept.now }
-    requires fits { FitsRun (length inputs.old) (length (bytes_of (get_or kept.now input.part None))) input.run }
-    ensures { inputs.new ≡ run_copied (bytes_of (get_or kept.now input.part None)) input.run inputs.old }
-{
-    let run = input.run;
-    let bytes = kept[input.part].bytes();
-    copy_by_words(inputs, run.to, bytes, run.from, run.count);
-}
-
-/// Copies the input bits of a link, if the unit is taken.
-fn take_input(input: InputRun, taken: &[bool; 256], kept: &[Returned], inputs: &mut [u8])
-    requires { get_or taken.now input.unit false ≡ true → (input.part < length kept.now) × FitsRun (length inputs.old) (length (bytes_of (get_or kept.now input.part None))) input.run }
-    ensures copied { inputs.new ≡ (if get_or taken.now input.unit false then run_copied (bytes_of (get_or kept.now input.part None)) input.run inputs.old else inputs.old) }
-    ensures small { input.unit < 256 }
-{
-    if taken[usize::from(input.unit)] {
-        copy_input(input, kept, inputs);
-    }
-}
-
-/// Copies the linked input bits of each unit that is taken out of what its parts brought back.
-fn take_inputs(
-    plan: &Plan,
-    runs: &[InputRun],
-    taken: &[bool; 256],
-    kept: &[Returned],
-    inputs: &mut [u8],
-)
-    requires usable { IsUsable plan.now }
-    requires runs { runs.now ≡ input_runs plan.now }
-    requires size { length taken.now ≡ 256 }
-    requires taken { (u : ℕ) → u < 256 → get_or taken.now u false ≡ unit_taken plan.now kept.now u }
-    requires kept { length kept.now ≡ length plan.now.parts }
-    requires sizes { (k : ℕ) (q : KeptPart) → get_or kept.now k None ≡ Some q → length q.bytes ≡ (part_at plan.now.parts k).bytes }
-    requires room { length inputs.old ≡ bytes_of_bits plan.now.in_bits }
-    requires few { plan.now.in_bits < 2 ^ 64 }
-    ensures { inputs.new ≡ inputs_closed plan.now kept.now inputs.old }
-{
-    for input in runs {
-        take_input(*input, taken, kept, inputs);
-    }
-}
-
-/// Room for the process data of a part, all 0.
-fn blank() -> [u8; 1422]
-    ensures { result ≡ zeros 1422 }
-{
-    [0; 1422]
-}
-
-/// The frame of a part, for an image of the outputs.
-fn frame_for(plan: &Plan, part: usize, runs: &[BitRun], number: u64, image: &[u8]) -> Frame
-    requires usable { IsUsable plan.now }
-    requires there { part < length plan.now.parts }
-    requires runs { runs.now ≡ output_runs plan.now part }
-    requires image { length image.now ≡ bytes_of_bits plan.now.out_bits }
-    requires few { plan.now.out_bits < 2 ^ 64 }
-    ensures spelled { IsFrame result.items (bare_payload (sent_datagrams plan.now number part image.now)) }
-    ensures made { IsMade plan.now part result.items }
-{
-    let place = plan.parts()[part];
-    let mut room = blank();
-    let sent = &mut room[..place.bytes];
-    fill(plan, part, runs, image, sent);
-    build(&place, number, part, sent)
-}
-
-/// A frame for each part, for an image of the outputs; `begin` gives it its number.
-fn frames_of(
-    alloc: Global,
-    plan: &Plan,
-    runs: &[Listed<BitRun>],
-    image: &[u8],
-) -> Result<Vec<SentFrame>, AllocError>
-    requires usable { IsUsable plan.now }
-    requires count { length runs.now ≡ length plan.now.parts }
-    requires runs { (k : ℕ) → k < length plan.now.parts → get_or runs.now k [] ≡ output_runs plan.now k }
-    requires image { length image.now ≡ bytes_of_bits plan.now.out_bits }
-    requires few { plan.now.out_bits < 2 ^ 64 }
-    ensures count { IfOk result (λ v. length v.items ≡ length plan.now.parts) }
-    ensures made { IfOk result (λ v. (k : ℕ) → k < length plan.now.parts → IsMade plan.now k (get_or v.items k [])) }
-{
-    let mut frames = Vec::new(alloc);
-    for part in 0..plan.parts().len() {
-        let frame = frame_for(plan, part, runs[part].as_slice(), 0, image);
-        frames.push(SentFrame::new(frame))?;
-    }
-    Ok(frames)
-}
-
-/// The frame of each part gets the number of a cycle, and the outputs of an image.
-fn make_frames(
-    plan: &Plan,
-    runs: &[Listed<BitRun>],
-    number: u64,
-    image: &[u8],
-    frames: &mut [SentFrame],
-)
-    requires usable { IsUsable plan.now }
-    requires count { length runs.now ≡ length plan.now.parts }
-    requires runs { (k : ℕ) → k < length plan.now.parts → get_or runs.now k [] ≡ output_runs plan.now k }
-    requires image { length image.now ≡ bytes_of_bits plan.now.out_bits }
-    requires few { plan.now.out_bits < 2 ^ 64 }
-    requires frames { length frames.old ≡ length plan.now.parts }
-    requires made { (k : ℕ) → k < length plan.now.parts → IsMade plan.now k (get_or frames.old k []) }
-    ensures spelled { (k : ℕ) → k < length plan.now.parts → IsFrame (get_or frames.new k []) (bare_payload (sent_datagrams plan.now number k image.now)) }
-    ensures made { (k : ℕ) → k < length plan.now.parts → IsMade plan.now k (get_or frames.new k []) }
-{
-    for part in 0..frames.len() {
-        frames[part].renew(plan, part, runs[part].as_slice(), number, image);
-    }
-}
-
-/// Forgets what came back.
-fn forget(kept: &mut [Returned])
-    ensures { (k : ℕ) → k < length kept.new → get_or kept.new k None ≡ None }
-{
-    for part in kept.iter_mut() {
-        part.forget();
-    }
-}
-
-/// Whether a number has at most so many bits.
-fn is_short(value: u64, bits: u8) -> bool
-    requires some { 1 ≤ bits }
-    requires few { bits ≤ 64 }
-    ensures { result ≡ nat_lt value (2 ^ bits) }
-{
-    bits == 64 || value < 1u64 << bits
-}
-
-/// Whether a variable is an output that holds the value.
-fn can_hold(plan: &Plan, variable: usize, value: u64) -> bool
-    requires { IsUsable plan.now }
-    ensures { result ≡ holds_value value (slice_get plan.now.variables variable) }
-{
-    if variable >= plan.variables().len() {
-        return false;
-    }
-    let place = plan.variables()[variable];
-    match place.direction {
-        Direction::Out => is_short(value, place.bits),
-        Direction::In => false,
-    }
-}
-
-/// Writes the bits of a variable of the outputs.
-fn write_variable(image: &mut [u8], plan: &Plan, variable: usize, value: u64)
-    requires usable { IsUsable plan.now }
-    requires image { length image.old ≡ bytes_of_bits plan.now.out_bits }
-    requires few { plan.now.out_bits < 2 ^ 64 }
-    requires holds { holds_value value (slice_get plan.now.variables variable) ≡ true }
-    ensures { image.new ≡ value_put image.old value (slice_get plan.now.variables variable) }
-{
-    let place = plan.variables()[variable];
-    write_bits(image, place.from, usize::from(place.bits), value);
-}
-
 impl<'p> Master<'p> {
     /// A master of a plan. It isn't ready, and all bits of its process image are 0. No later call takes memory.
     ///
@@ -501,4 +266,239 @@ impl<'p> Master<'p> {
     {
         self.number.take();
     }
+}
+
+/// Writes the bits of a variable of the outputs.
+fn write_variable(image: &mut [u8], plan: &Plan, variable: usize, value: u64)
+    requires usable { IsUsable plan.now }
+    requires image { length image.old ≡ bytes_of_bits plan.now.out_bits }
+    requires few { plan.now.out_bits < 2 ^ 64 }
+    requires holds { holds_value value (slice_get plan.now.variables variable) ≡ true }
+    ensures { image.new ≡ value_put image.old value (slice_get plan.now.variables variable) }
+{
+    let place = plan.variables()[variable];
+    write_bits(image, place.from, usize::from(place.bits), value);
+}
+
+/// Whether a variable is an output that holds the value.
+fn can_hold(plan: &Plan, variable: usize, value: u64) -> bool
+    requires { IsUsable plan.now }
+    ensures { result ≡ holds_value value (slice_get plan.now.variables variable) }
+{
+    if variable >= plan.variables().len() {
+        return false;
+    }
+    let place = plan.variables()[variable];
+    match place.direction {
+        Direction::Out => is_short(value, place.bits),
+        Direction::In => false,
+    }
+}
+
+/// Whether a number has at most so many bits.
+fn is_short(value: u64, bits: u8) -> bool
+    requires some { 1 ≤ bits }
+    requires few { bits ≤ 64 }
+    ensures { result ≡ nat_lt value (2 ^ bits) }
+{
+    bits == 64 || value < 1u64 << bits
+}
+
+/// Forgets what came back.
+fn forget(kept: &mut [Returned])
+    ensures { (k : ℕ) → k < length kept.new → get_or kept.new k None ≡ None }
+{
+    for part in kept.iter_mut() {
+        part.forget();
+    }
+}
+
+/// The frame of each part gets the number of a cycle, and the outputs of an image.
+fn make_frames(
+    plan: &Plan,
+    runs: &[Listed<BitRun>],
+    number: u64,
+    image: &[u8],
+    frames: &mut [SentFrame],
+)
+    requires usable { IsUsable plan.now }
+    requires count { length runs.now ≡ length plan.now.parts }
+    requires runs { (k : ℕ) → k < length plan.now.parts → get_or runs.now k [] ≡ output_runs plan.now k }
+    requires image { length image.now ≡ bytes_of_bits plan.now.out_bits }
+    requires few { plan.now.out_bits < 2 ^ 64 }
+    requires frames { length frames.old ≡ length plan.now.parts }
+    requires made { (k : ℕ) → k < length plan.now.parts → IsMade plan.now k (get_or frames.old k []) }
+    ensures spelled { (k : ℕ) → k < length plan.now.parts → IsFrame (get_or frames.new k []) (bare_payload (sent_datagrams plan.now number k image.now)) }
+    ensures made { (k : ℕ) → k < length plan.now.parts → IsMade plan.now k (get_or frames.new k []) }
+{
+    for part in 0..frames.len() {
+        frames[part].renew(plan, part, runs[part].as_slice(), number, image);
+    }
+}
+
+/// A frame for each part, for an image of the outputs; `begin` gives it its number.
+fn frames_of(
+    alloc: Global,
+    plan: &Plan,
+    runs: &[Listed<BitRun>],
+    image: &[u8],
+) -> Result<Vec<SentFrame>, AllocError>
+    requires usable { IsUsable plan.now }
+    requires count { length runs.now ≡ length plan.now.parts }
+    requires runs { (k : ℕ) → k < length plan.now.parts → get_or runs.now k [] ≡ output_runs plan.now k }
+    requires image { length image.now ≡ bytes_of_bits plan.now.out_bits }
+    requires few { plan.now.out_bits < 2 ^ 64 }
+    ensures count { IfOk result (λ v. length v.items ≡ length plan.now.parts) }
+    ensures made { IfOk result (λ v. (k : ℕ) → k < length plan.now.parts → IsMade plan.now k (get_or v.items k [])) }
+{
+    let mut frames = Vec::new(alloc);
+    for part in 0..plan.parts().len() {
+        let frame = frame_for(plan, part, runs[part].as_slice(), 0, image);
+        frames.push(SentFrame::new(frame))?;
+    }
+    Ok(frames)
+}
+
+/// The frame of a part, for an image of the outputs.
+fn frame_for(plan: &Plan, part: usize, runs: &[BitRun], number: u64, image: &[u8]) -> Frame
+    requires usable { IsUsable plan.now }
+    requires there { part < length plan.now.parts }
+    requires runs { runs.now ≡ output_runs plan.now part }
+    requires image { length image.now ≡ bytes_of_bits plan.now.out_bits }
+    requires few { plan.now.out_bits < 2 ^ 64 }
+    ensures spelled { IsFrame result.items (bare_payload (sent_datagrams plan.now number part image.now)) }
+    ensures made { IsMade plan.now part result.items }
+{
+    let place = plan.parts()[part];
+    let mut room = blank();
+    let sent = &mut room[..place.bytes];
+    fill(plan, part, runs, image, sent);
+    build(&place, number, part, sent)
+}
+
+/// Room for the process data of a part, all 0.
+fn blank() -> [u8; 1422]
+    ensures { result ≡ zeros 1422 }
+{
+    [0; 1422]
+}
+
+/// Copies the linked input bits of each unit that is taken out of what its parts brought back.
+fn take_inputs(
+    plan: &Plan,
+    runs: &[InputRun],
+    taken: &[bool; 256],
+    kept: &[Returned],
+    inputs: &mut [u8],
+)
+    requires usable { IsUsable plan.now }
+    requires runs { runs.now ≡ input_runs plan.now }
+    requires size { length taken.now ≡ 256 }
+    requires taken { (u : ℕ) → u < 256 → get_or taken.now u false ≡ unit_taken plan.now kept.now u }
+    requires kept { length kept.now ≡ length plan.now.parts }
+    requires sizes { (k : ℕ) (q : KeptPart) → get_or kept.now k None ≡ Some q → length q.bytes ≡ (part_at plan.now.parts k).bytes }
+    requires room { length inputs.old ≡ bytes_of_bits plan.now.in_bits }
+    requires few { plan.now.in_bits < 2 ^ 64 }
+    ensures { inputs.new ≡ inputs_closed plan.now kept.now inputs.old }
+{
+    for input in runs {
+        take_input(*input, taken, kept, inputs);
+    }
+}
+
+/// Copies the input bits of a link, if the unit is taken.
+fn take_input(input: InputRun, taken: &[bool; 256], kept: &[Returned], inputs: &mut [u8])
+    requires { get_or taken.now input.unit false ≡ true → (input.part < length kept.now) × FitsRun (length inputs.old) (length (bytes_of (get_or kept.now input.part None))) input.run }
+    ensures copied { inputs.new ≡ (if get_or taken.now input.unit false then run_copied (bytes_of (get_or kept.now input.part None)) input.run inputs.old else inputs.old) }
+    ensures small { input.unit < 256 }
+{
+    if taken[usize::from(input.unit)] {
+        copy_input(input, kept, inputs);
+    }
+}
+
+/// Copies the input bits of a link out of what its part brought back.
+fn copy_input(input: InputRun, kept: &[Returned], inputs: &mut [u8])
+    requires there { input.part < length kept.now }
+    requires fits { FitsRun (length inputs.old) (length (bytes_of (get_or kept.now input.part None))) input.run }
+    ensures { inputs.new ≡ run_copied (bytes_of (get_or kept.now input.part None)) input.run inputs.old }
+{
+    let run = input.run;
+    let bytes = kept[input.part].bytes();
+    copy_by_words(inputs, run.to, bytes, run.from, run.count);
+}
+
+/// Whether each unit's parts were all kept and are good, by the number of the unit.
+fn judged(plan: &Plan, expected: &[ExpectedCounters], kept: &[Returned]) -> [bool; 256]
+    requires kept { length kept.now ≡ length plan.now.parts }
+    requires count { length expected.now ≡ length plan.now.parts }
+    requires counters { (k : ℕ) (d : ExpectedCounters) → k < length plan.now.parts → get_or expected.now k d ≡ predicted plan.now k }
+    ensures size { length result ≡ 256 }
+    ensures judged { (u : ℕ) → u < 256 → get_or result u false ≡ unit_taken plan.now kept.now u }
+{
+    let mut taken = all_taken();
+    for k in 0..plan.parts().len() {
+        let is_good = is_good(plan, expected, kept, k);
+        judge(&mut taken, plan.unit_of_part(k), is_good);
+    }
+    taken
+}
+
+/// A unit isn't taken any more where one of its parts isn't good.
+fn judge(taken: &mut [bool; 256], unit: u8, is_good: bool)
+    ensures judged { taken.new ≡ set taken.old unit (get_or taken.old unit false && is_good) }
+    ensures small { unit < 256 }
+{
+    let unit = usize::from(unit);
+    taken[unit] = taken[unit] && is_good;
+}
+
+/// Whether a part was kept and is good.
+#[tactic(auto, using(crate::proofs::Judging::good_is))]
+fn is_good(plan: &Plan, expected: &[ExpectedCounters], kept: &[Returned], part: usize) -> bool
+    requires there { part < length plan.now.parts }
+    requires kept { length kept.now ≡ length plan.now.parts }
+    requires count { length expected.now ≡ length plan.now.parts }
+    requires counters { (k : ℕ) (d : ExpectedCounters) → k < length plan.now.parts → get_or expected.now k d ≡ predicted plan.now k }
+    ensures { result ≡ is_good plan.now part (get_or kept.now part None) }
+{
+    let slaves = plan.slaves().len();
+    kept[part].came_back_as(slaves, expected[part])
+}
+
+/// Every unit is taken, as long as no part of it is judged.
+fn all_taken() -> [bool; 256]
+    ensures { result ≡ replicate 256 true }
+{
+    [true; 256]
+}
+
+/// Room for what comes back of so many parts.
+fn nothing_kept(alloc: Global, count: usize) -> Result<Vec<Returned>, AllocError>
+    ensures { IfOk result (λ v. length v.items ≡ count) }
+{
+    let mut kept = Vec::new(alloc);
+    for n in 0..count {
+        kept.push(Returned::new())?;
+    }
+    Ok(kept)
+}
+
+/// The predicted counters of each part.
+fn counters_of(alloc: Global, plan: &Plan) -> Result<Listed<ExpectedCounters>, AllocError>
+    ensures count { IfOk result (λ ps. length ps ≡ length plan.now.parts) }
+    ensures each { IfOk result (λ ps. (k : ℕ) (d : ExpectedCounters) → k < length plan.now.parts → get_or ps k d ≡ predicted plan.now k) }
+{
+    let mut expected = Listed::new(alloc);
+    for part in 0..plan.parts().len() {
+        expected.push(plan.predicted(part))?;
+    }
+    Ok(expected)
+}
+
+/// So many bytes as have room for bits, all 0.
+fn image_of(alloc: Global, bits: usize) -> Result<Vec<u8>, AllocError>
+    ensures { IfOk result (λ v. v.items ≡ zeros (bytes_of_bits bits)) }
+{
+    vec![in alloc; 0; bits / 8 + (bits % 8 + 7) / 8]
 }

@@ -8,32 +8,6 @@ ghost use Rattle.ec_cycle.specs.Matching.{SameAt, SameFrom, StandsFor, FirstStan
 
 use ec_frame::{DatagramCursor, DatagramSpan, Header, read_counter, read_data};
 
-/// Whether datagram `n` of what came in is datagram `n` of what was sent.
-fn is_same(n: usize, part: &[u8], sent: &[u8]) -> bool
-    requires part { IsSpelling part.now }
-    requires sent { IsSpelling sent.now }
-    ensures { (m : Bool) (d : Datagram) (k : Bool) (e : Datagram) → IsDatagram d → IsDatagram e → part.now ≡ spelling m d
-        → sent.now ≡ spelling k e → (result ≡ true) ↔ SameAt n d e }
-{
-    let (ours, theirs) = (Header::read(sent), Header::read(part));
-    theirs.command.number() == ours.command.number()
-        && theirs.index == ours.index
-        && theirs.data_length == ours.data_length
-        && (n > 0 || read_data(part) == read_data(sent))
-        && (n < 2 || theirs.address == ours.address)
-}
-
-/// The place of the next datagram; no place after the last.
-fn next_place(places: &mut DatagramCursor, payload: &[u8]) -> DatagramSpan
-    requires { (ds : List Datagram) × IsAhead payload.now places.old ds }
-    ensures { (ds : List Datagram) → IsAhead payload.now places.old ds → StepsOn payload.now places.new result ds }
-{
-    match places.next(payload) {
-        Some(span) => span,
-        None => DatagramSpan { from: 0, to: 0 },
-    }
-}
-
 /// Where the first four datagrams of a frame stand.
 pub fn first_places(payload: &[u8]) -> [DatagramSpan; 4]
     requires { (p : Payload) × IsFrame payload.now p }
@@ -45,27 +19,6 @@ pub fn first_places(payload: &[u8]) -> [DatagramSpan; 4]
         spans[n] = next_place(&mut places, payload);
     }
     spans
-}
-
-/// Whether the next datagrams of two frames are the same.
-fn next_is_same(
-    n: usize,
-    places: &mut DatagramCursor,
-    payload: &[u8],
-    sent_places: &mut DatagramCursor,
-    sent: &[u8],
-) -> bool
-    requires payload { (ds : List Datagram) × IsAhead payload.now places.old ds }
-    requires sent { (es : List Datagram) × IsAhead sent.now sent_places.old es }
-    ensures { (ds : List Datagram) (es : List Datagram) → IsAhead payload.now places.old ds → IsAhead sent.now sent_places.old es
-        → NextAre n payload.now places.new sent.now sent_places.new ds es result }
-{
-    let here = next_place(places, payload);
-    let there = next_place(sent_places, sent);
-    if here.to == 0 || there.to == 0 {
-        return false;
-    }
-    is_same(n, &payload[here.from..here.to], &sent[there.from..there.to])
 }
 
 /// Whether a frame of `count` datagrams answers a frame that was sent: as many datagrams, of the same commands, indices and
@@ -117,4 +70,51 @@ pub fn named_part(payload: &[u8], span: DatagramSpan) -> Option<usize>
         return None;
     }
     Some(usize::from(name[8]) + 256 * usize::from(name[9]))
+}
+
+/// The place of the next datagram; no place after the last.
+fn next_place(places: &mut DatagramCursor, payload: &[u8]) -> DatagramSpan
+    requires { (ds : List Datagram) × IsAhead payload.now places.old ds }
+    ensures { (ds : List Datagram) → IsAhead payload.now places.old ds → StepsOn payload.now places.new result ds }
+{
+    match places.next(payload) {
+        Some(span) => span,
+        None => DatagramSpan { from: 0, to: 0 },
+    }
+}
+
+/// Whether datagram `n` of what came in is datagram `n` of what was sent.
+fn is_same(n: usize, part: &[u8], sent: &[u8]) -> bool
+    requires part { IsSpelling part.now }
+    requires sent { IsSpelling sent.now }
+    ensures { (m : Bool) (d : Datagram) (k : Bool) (e : Datagram) → IsDatagram d → IsDatagram e → part.now ≡ spelling m d
+        → sent.now ≡ spelling k e → (result ≡ true) ↔ SameAt n d e }
+{
+    let (ours, theirs) = (Header::read(sent), Header::read(part));
+    theirs.command.number() == ours.command.number()
+        && theirs.index == ours.index
+        && theirs.data_length == ours.data_length
+        && (n > 0 || read_data(part) == read_data(sent))
+        && (n < 2 || theirs.address == ours.address)
+}
+
+/// Whether the next datagrams of two frames are the same.
+fn next_is_same(
+    n: usize,
+    places: &mut DatagramCursor,
+    payload: &[u8],
+    sent_places: &mut DatagramCursor,
+    sent: &[u8],
+) -> bool
+    requires payload { (ds : List Datagram) × IsAhead payload.now places.old ds }
+    requires sent { (es : List Datagram) × IsAhead sent.now sent_places.old es }
+    ensures { (ds : List Datagram) (es : List Datagram) → IsAhead payload.now places.old ds → IsAhead sent.now sent_places.old es
+        → NextAre n payload.now places.new sent.now sent_places.new ds es result }
+{
+    let here = next_place(places, payload);
+    let there = next_place(sent_places, sent);
+    if here.to == 0 || there.to == 0 {
+        return false;
+    }
+    is_same(n, &payload[here.from..here.to], &sent[there.from..there.to])
 }

@@ -21,15 +21,34 @@ const STATUS: usize = NAME + OVERHEAD + 10;
 /// In a frame: where the process datagrams begin, behind the two bytes of the AL status.
 const PROCESS: usize = STATUS + OVERHEAD + 2;
 
-/// The number of a cycle goes into the first two datagrams of a frame; these bytes are they, behind the frame's header.
-fn renumber(front: &mut [u8], number: u64)
-    requires { length front.old ≡ 38 }
-    ensures { (a b : ℕ) (more : Bool) (n k : ℕ) → front.old ≡ a ∷ b ∷ front_bytes more n k → front.new ≡ a ∷ b ∷ front_bytes more number k }
+/// The process data of a part, for an image of the outputs.
+#[tactic(auto, using(crate::proofs::Runs::fill_steps))]
+pub fn fill(plan: &Plan, part: usize, runs: &[BitRun], image: &[u8], sent: &mut [u8])
+    requires usable { IsUsable plan.now }
+    requires runs { runs.now ≡ output_runs plan.now part }
+    requires image { length image.now ≡ bytes_of_bits plan.now.out_bits }
+    requires few { plan.now.out_bits < 2 ^ 64 }
+    requires blank { sent.old ≡ zeros (part_at plan.now.parts part).bytes }
+    ensures { sent.new ≡ process_bytes plan.now part image.now }
 {
-    let index = (number % 256) as u8;
-    front[NAME + INDEX] = index;
-    front[NAME + HEADER_LEN..NAME + HEADER_LEN + 8].copy_from_slice(&number.to_le_bytes());
-    front[STATUS + INDEX] = index;
+    copy_runs(sent, image, runs);
+}
+
+/// The frame of a part gets the number of a cycle and the outputs of an image.
+pub fn renew(frame: &mut [u8], plan: &Plan, part: usize, runs: &[BitRun], number: u64, image: &[u8])
+    requires usable { IsUsable plan.now }
+    requires there { part < length plan.now.parts }
+    requires runs { runs.now ≡ output_runs plan.now part }
+    requires image { length image.now ≡ bytes_of_bits plan.now.out_bits }
+    requires few { plan.now.out_bits < 2 ^ 64 }
+    requires made { IsMade plan.now part frame.old }
+    ensures { IsFrame frame.new (bare_payload (sent_datagrams plan.now number part image.now)) }
+{
+    let place = plan.parts()[part];
+    let (front, process) = frame.split_at_mut(PROCESS);
+    renumber(front, number);
+    renumber_process(process, &place, number);
+    refill(process, plan, part, runs, image);
 }
 
 /// The number of a cycle goes into the process datagrams of a part.
@@ -47,30 +66,15 @@ fn renumber_process(process: &mut [u8], part: &PartPlan, number: u64)
     }
 }
 
-/// The process data of a part, for an image of the outputs.
-#[tactic(auto, using(crate::proofs::Runs::fill_steps))]
-pub fn fill(plan: &Plan, part: usize, runs: &[BitRun], image: &[u8], sent: &mut [u8])
-    requires usable { IsUsable plan.now }
-    requires runs { runs.now ≡ output_runs plan.now part }
-    requires image { length image.now ≡ bytes_of_bits plan.now.out_bits }
-    requires few { plan.now.out_bits < 2 ^ 64 }
-    requires blank { sent.old ≡ zeros (part_at plan.now.parts part).bytes }
-    ensures { sent.new ≡ process_bytes plan.now part image.now }
+/// The number of a cycle goes into the first two datagrams of a frame; these bytes are they, behind the frame's header.
+fn renumber(front: &mut [u8], number: u64)
+    requires { length front.old ≡ 38 }
+    ensures { (a b : ℕ) (more : Bool) (n k : ℕ) → front.old ≡ a ∷ b ∷ front_bytes more n k → front.new ≡ a ∷ b ∷ front_bytes more number k }
 {
-    copy_runs(sent, image, runs);
-}
-
-/// The outputs of an image go where those of another one stand. What isn't linked is 0, and stays so.
-#[tactic(auto, using(crate::proofs::Runs::refresh_steps))]
-fn refresh(plan: &Plan, part: usize, runs: &[BitRun], image: &[u8], sent: &mut [u8])
-    requires usable { IsUsable plan.now }
-    requires runs { runs.now ≡ output_runs plan.now part }
-    requires image { length image.now ≡ bytes_of_bits plan.now.out_bits }
-    requires few { plan.now.out_bits < 2 ^ 64 }
-    requires made { (was : List ℕ) × (sent.old ≡ process_bytes plan.now part was) }
-    ensures { sent.new ≡ process_bytes plan.now part image.now }
-{
-    copy_runs(sent, image, runs);
+    let index = (number % 256) as u8;
+    front[NAME + INDEX] = index;
+    front[NAME + HEADER_LEN..NAME + HEADER_LEN + 8].copy_from_slice(&number.to_le_bytes());
+    front[STATUS + INDEX] = index;
 }
 
 /// The outputs of an image go into the process datagrams of a part.
@@ -92,19 +96,15 @@ fn refill(process: &mut [u8], plan: &Plan, part: usize, runs: &[BitRun], image: 
     refresh(plan, part, runs, image, sent);
 }
 
-/// The frame of a part gets the number of a cycle and the outputs of an image.
-pub fn renew(frame: &mut [u8], plan: &Plan, part: usize, runs: &[BitRun], number: u64, image: &[u8])
+/// The outputs of an image go where those of another one stand. What isn't linked is 0, and stays so.
+#[tactic(auto, using(crate::proofs::Runs::refresh_steps))]
+fn refresh(plan: &Plan, part: usize, runs: &[BitRun], image: &[u8], sent: &mut [u8])
     requires usable { IsUsable plan.now }
-    requires there { part < length plan.now.parts }
     requires runs { runs.now ≡ output_runs plan.now part }
     requires image { length image.now ≡ bytes_of_bits plan.now.out_bits }
     requires few { plan.now.out_bits < 2 ^ 64 }
-    requires made { IsMade plan.now part frame.old }
-    ensures { IsFrame frame.new (bare_payload (sent_datagrams plan.now number part image.now)) }
+    requires made { (was : List ℕ) × (sent.old ≡ process_bytes plan.now part was) }
+    ensures { sent.new ≡ process_bytes plan.now part image.now }
 {
-    let place = plan.parts()[part];
-    let (front, process) = frame.split_at_mut(PROCESS);
-    renumber(front, number);
-    renumber_process(process, &place, number);
-    refill(process, plan, part, runs, image);
+    copy_runs(sent, image, runs);
 }

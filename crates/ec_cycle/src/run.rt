@@ -82,15 +82,37 @@ impl Adjoining for InputRun {
     }
 }
 
-/// The last run with the next one, if that adjoins; else the last one is done, and the next one is the last.
-fn go_on<R: Adjoining>(done: &mut Listed<R>, last: R, next: R) -> Result<R, AllocError>
-    ensures { IfOk result (λ r. (rest : List R) → done.new ++ merged_from R.adjoins R.joined r rest ≡ done.old ++ merged_from R.adjoins R.joined last (next ∷ rest)) }
+/// Copies run after run.
+#[tactic(auto, using(crate::proofs::Runs::copy_steps))]
+pub fn copy_runs(dst: &mut [u8], src: &[u8], runs: &[BitRun])
+    requires { AllByRecursion (FitsRun (length dst.old) (length src.now)) runs.now }
+    ensures { dst.new ≡ runs_copied src.now runs.now dst.old }
 {
-    if last.adjoins(next) {
-        return Ok(last.joined(next));
+    for run in runs {
+        copy_by_words(dst, run.to, src, run.from, run.count);
     }
-    done.push(last)?;
-    Ok(next)
+}
+
+/// What is copied for the outputs of each part.
+pub fn runs_by_part(alloc: Global, plan: &Plan) -> Result<Listed<Listed<BitRun>>, AllocError>
+    requires { IsUsable plan.now }
+    ensures count { IfOk result (λ rs. length rs ≡ length plan.now.parts) }
+    ensures each { IfOk result (λ rs. (k : ℕ) → k < length plan.now.parts → get_or rs k [] ≡ output_runs plan.now k) }
+{
+    let mut runs = Listed::new(alloc);
+    for part in 0..plan.parts().len() {
+        runs.push(runs_of_outputs(alloc, plan, part)?)?;
+    }
+    Ok(runs)
+}
+
+/// What is copied for the inputs.
+pub fn runs_of_inputs(alloc: Global, plan: &Plan) -> Result<Listed<InputRun>, AllocError>
+    requires { IsUsable plan.now }
+    ensures { IfOk result (λ rs. rs ≡ input_runs plan.now) }
+{
+    let runs = runs_of_links(alloc, plan)?;
+    merged(alloc, runs.as_slice())
 }
 
 /// The same runs, of which those that adjoin are one.
@@ -109,39 +131,25 @@ fn merged<R: Adjoining>(alloc: Global, runs: &[R]) -> Result<Listed<R>, AllocErr
     Ok(done)
 }
 
-/// Copies run after run.
-#[tactic(auto, using(crate::proofs::Runs::copy_steps))]
-pub fn copy_runs(dst: &mut [u8], src: &[u8], runs: &[BitRun])
-    requires { AllByRecursion (FitsRun (length dst.old) (length src.now)) runs.now }
-    ensures { dst.new ≡ runs_copied src.now runs.now dst.old }
+/// The last run with the next one, if that adjoins; else the last one is done, and the next one is the last.
+fn go_on<R: Adjoining>(done: &mut Listed<R>, last: R, next: R) -> Result<R, AllocError>
+    ensures { IfOk result (λ r. (rest : List R) → done.new ++ merged_from R.adjoins R.joined r rest ≡ done.old ++ merged_from R.adjoins R.joined last (next ∷ rest)) }
 {
-    for run in runs {
-        copy_by_words(dst, run.to, src, run.from, run.count);
+    if last.adjoins(next) {
+        return Ok(last.joined(next));
     }
+    done.push(last)?;
+    Ok(next)
 }
 
-/// Whether a link's slave stands in a part.
-fn is_of_part(plan: &Plan, part: usize, link: &Link) -> bool
-    requires { IsOutLink plan.now link.now }
-    ensures { result ≡ is_of_part plan.now part link.now }
-{
-    plan.part_of(link.slave) == part
-}
-
-/// Where the output bits of a link stand in the data of its part, and where in the image.
-fn output_run(plan: &Plan, part: usize, link: &Link) -> BitRun
+/// What is copied for the outputs of a part.
+fn runs_of_outputs(alloc: Global, plan: &Plan, part: usize) -> Result<Listed<BitRun>, AllocError>
     requires usable { IsUsable plan.now }
-    requires linked { IsOutLink plan.now link.now }
     requires there { part < length plan.now.parts }
-    requires own { is_of_part plan.now part link.now ≡ true }
-    ensures { result ≡ output_run plan.now part link.now }
+    ensures { IfOk result (λ rs. rs ≡ output_runs plan.now part) }
 {
-    BitRun {
-        to: plan.settings(link.slave).from + link.object_bit
-            - 8 * plan.parts()[part].address as usize,
-        from: link.image,
-        count: link.count,
-    }
+    let runs = runs_of_part(alloc, plan, part)?;
+    merged(alloc, runs.as_slice())
 }
 
 /// The runs of the outputs of a part, in the order of the links.
@@ -160,25 +168,38 @@ fn runs_of_part(alloc: Global, plan: &Plan, part: usize) -> Result<Listed<BitRun
     Ok(runs)
 }
 
-/// What is copied for the outputs of a part.
-fn runs_of_outputs(alloc: Global, plan: &Plan, part: usize) -> Result<Listed<BitRun>, AllocError>
+/// Where the output bits of a link stand in the data of its part, and where in the image.
+fn output_run(plan: &Plan, part: usize, link: &Link) -> BitRun
     requires usable { IsUsable plan.now }
+    requires linked { IsOutLink plan.now link.now }
     requires there { part < length plan.now.parts }
-    ensures { IfOk result (λ rs. rs ≡ output_runs plan.now part) }
+    requires own { is_of_part plan.now part link.now ≡ true }
+    ensures { result ≡ output_run plan.now part link.now }
 {
-    let runs = runs_of_part(alloc, plan, part)?;
-    merged(alloc, runs.as_slice())
+    BitRun {
+        to: plan.settings(link.slave).from + link.object_bit
+            - 8 * plan.parts()[part].address as usize,
+        from: link.image,
+        count: link.count,
+    }
 }
 
-/// What is copied for the outputs of each part.
-pub fn runs_by_part(alloc: Global, plan: &Plan) -> Result<Listed<Listed<BitRun>>, AllocError>
+/// Whether a link's slave stands in a part.
+fn is_of_part(plan: &Plan, part: usize, link: &Link) -> bool
+    requires { IsOutLink plan.now link.now }
+    ensures { result ≡ is_of_part plan.now part link.now }
+{
+    plan.part_of(link.slave) == part
+}
+
+/// A run for each link of inputs, in the order of the links.
+fn runs_of_links(alloc: Global, plan: &Plan) -> Result<Listed<InputRun>, AllocError>
     requires { IsUsable plan.now }
-    ensures count { IfOk result (λ rs. length rs ≡ length plan.now.parts) }
-    ensures each { IfOk result (λ rs. (k : ℕ) → k < length plan.now.parts → get_or rs k [] ≡ output_runs plan.now k) }
+    ensures { IfOk result (λ rs. rs ≡ map (input_run plan.now) plan.now.in_links) }
 {
     let mut runs = Listed::new(alloc);
-    for part in 0..plan.parts().len() {
-        runs.push(runs_of_outputs(alloc, plan, part)?)?;
+    for link in plan.in_links() {
+        runs.push(input_run(plan, link))?;
     }
     Ok(runs)
 }
@@ -201,25 +222,4 @@ fn input_run(plan: &Plan, link: &Link) -> InputRun
             count: link.count,
         },
     }
-}
-
-/// A run for each link of inputs, in the order of the links.
-fn runs_of_links(alloc: Global, plan: &Plan) -> Result<Listed<InputRun>, AllocError>
-    requires { IsUsable plan.now }
-    ensures { IfOk result (λ rs. rs ≡ map (input_run plan.now) plan.now.in_links) }
-{
-    let mut runs = Listed::new(alloc);
-    for link in plan.in_links() {
-        runs.push(input_run(plan, link))?;
-    }
-    Ok(runs)
-}
-
-/// What is copied for the inputs.
-pub fn runs_of_inputs(alloc: Global, plan: &Plan) -> Result<Listed<InputRun>, AllocError>
-    requires { IsUsable plan.now }
-    ensures { IfOk result (λ rs. rs ≡ input_runs plan.now) }
-{
-    let runs = runs_of_links(alloc, plan)?;
-    merged(alloc, runs.as_slice())
 }

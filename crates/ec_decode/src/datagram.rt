@@ -17,166 +17,11 @@ const FLAGS: usize = 6;
 
 const LENGTH_BITS: u32 = 11;
 
-/// The standard's name of a command.
-fn name_of(command: Command) -> &'static str
-    ensures { result.now ≡ command_name command }
-{
-    match command {
-        Command::Nop => "NOP",
-        Command::Aprd => "APRD",
-        Command::Apwr => "APWR",
-        Command::Aprw => "APRW",
-        Command::Fprd => "FPRD",
-        Command::Fpwr => "FPWR",
-        Command::Fprw => "FPRW",
-        Command::Brd => "BRD",
-        Command::Bwr => "BWR",
-        Command::Brw => "BRW",
-        Command::Lrd => "LRD",
-        Command::Lwr => "LWR",
-        Command::Lrw => "LRW",
-        Command::Armw => "ARMW",
-        Command::Frmw => "FRMW",
-    }
-}
-
 /// Whether a command goes by a logical address.
 pub(crate) fn is_logical(command: Command) -> bool
     ensures { result ≡ is_logical command }
 {
     matches!(&command, Command::Lrd | Command::Lwr | Command::Lrw)
-}
-
-/// Adds a datagram's number, its command and its index.
-fn write_head(
-    alloc: Global,
-    text: &mut String,
-    number: usize,
-    header: &Header,
-) -> Result<(), AllocError>
-    ensures { OnOk result (string_bytes text.new ≡ string_bytes text.old ++ (decimal number
-        ++ spaced (command_name header.now.command ∷ codes "index" ∷ byte_text header.now.index ∷ []))) }
-{
-    let name = name_of(header.command);
-    let index = hex::encode(alloc, &header.index.to_be_bytes())?;
-    write!(text, "{number} {name} index {index}")
-}
-
-/// Adds a datagram's address.
-fn write_address(alloc: Global, text: &mut String, header: &Header) -> Result<(), AllocError>
-    ensures { OnOk result (string_bytes text.new ≡ string_bytes text.old
-        ++ spaced (address_words header.now.command header.now.address)) }
-{
-    if is_logical(header.command) {
-        let address = hex::encode(alloc, &header.address.to_be_bytes())?;
-        write!(text, " logical {address}")
-    } else {
-        let adp = hex::encode(alloc, &header.adp().to_be_bytes())?;
-        let ado = hex::encode(alloc, &header.ado().to_be_bytes())?;
-        write!(text, " at {adp}:{ado}")
-    }
-}
-
-/// Adds a datagram's event request word, unless it is 0.
-fn write_irq(alloc: Global, text: &mut String, irq: u16) -> Result<(), AllocError>
-    ensures { OnOk result (string_bytes text.new ≡ string_bytes text.old ++ spaced (irq_words irq)) }
-{
-    if irq == 0 {
-        return Ok(());
-    }
-    let digits = hex::encode(alloc, &irq.to_be_bytes())?;
-    write!(text, " irq {digits}")
-}
-
-/// Adds a datagram's reserved bits, unless they are 0.
-fn write_reserved(text: &mut String, bits: u8) -> Result<(), AllocError>
-    ensures { OnOk result
-        (string_bytes text.new ≡ string_bytes text.old ++ spaced (reserved_words bits)) }
-{
-    if bits == 0 {
-        return Ok(());
-    }
-    write!(text, " reserved {bits}")
-}
-
-/// Adds whether a datagram has circulated.
-fn write_circulating(text: &mut String, circulating: bool) -> Result<(), AllocError>
-    ensures { OnOk result
-        (string_bytes text.new ≡ string_bytes text.old ++ spaced (circulating_words circulating)) }
-{
-    if circulating {
-        text.push_str(" circulating")
-    } else {
-        Ok(())
-    }
-}
-
-/// Adds bytes in hex, or a dash for none.
-fn write_data(alloc: Global, text: &mut String, bytes: &[u8]) -> Result<(), AllocError>
-    ensures { OnOk result (string_bytes text.new ≡ string_bytes text.old ++ data_text bytes.now) }
-{
-    if bytes.is_empty() {
-        return text.push_str("-");
-    }
-    let digits = hex::encode(alloc, bytes)?;
-    text.push_str(digits.as_str())
-}
-
-/// Adds a datagram's counter and its data, and ends its line.
-fn write_tail(
-    alloc: Global,
-    text: &mut String,
-    counter: u16,
-    content: &[u8],
-) -> Result<(), AllocError>
-    ensures { OnOk result (string_bytes text.new ≡ string_bytes text.old
-        ++ (spaced (codes "counter" ∷ decimal counter ∷ codes "data" ∷ data_text content.now ∷ []) ++ newline)) }
-{
-    write!(text, " counter {counter} data ")?;
-    write_data(alloc, text, content)?;
-    text.push_str("\n")
-}
-
-/// Adds the line of a datagram by its parts.
-fn write_line(
-    alloc: Global,
-    text: &mut String,
-    number: usize,
-    header: &Header,
-    counter: u16,
-    content: &[u8],
-) -> Result<(), AllocError>
-    ensures { OnOk result (string_bytes text.new ≡ string_bytes text.old
-        ++ datagram_line number (told header.now counter content.now)) }
-{
-    write_head(alloc, text, number, header)?;
-    write_address(alloc, text, header)?;
-    write_irq(alloc, text, header.irq)?;
-    write_reserved(text, header.reserved)?;
-    write_circulating(text, header.circulating)?;
-    write_tail(alloc, text, counter, content)
-}
-
-/// Adds the line of the datagram that `part` spells.
-fn write_datagram(
-    alloc: Global,
-    text: &mut String,
-    number: usize,
-    part: &[u8],
-) -> Result<(), AllocError>
-    requires { IsSpelling part.now }
-    ensures { OnOk result ((more : Bool) (d : Datagram) → IsDatagram d → part.now ≡ spelling more d
-        → string_bytes text.new ≡ string_bytes text.old ++ datagram_line number d) }
-{
-    let header = Header::read(part);
-    write_line(
-        alloc,
-        text,
-        number,
-        &header,
-        read_counter(part),
-        read_data(part),
-    )
 }
 
 /// The word of flags of the datagram that begins some bytes.
@@ -214,4 +59,159 @@ pub(crate) fn write_datagrams(
         rest = after;
     }
     Ok(())
+}
+
+/// The standard's name of a command.
+fn name_of(command: Command) -> &'static str
+    ensures { result.now ≡ command_name command }
+{
+    match command {
+        Command::Nop => "NOP",
+        Command::Aprd => "APRD",
+        Command::Apwr => "APWR",
+        Command::Aprw => "APRW",
+        Command::Fprd => "FPRD",
+        Command::Fpwr => "FPWR",
+        Command::Fprw => "FPRW",
+        Command::Brd => "BRD",
+        Command::Bwr => "BWR",
+        Command::Brw => "BRW",
+        Command::Lrd => "LRD",
+        Command::Lwr => "LWR",
+        Command::Lrw => "LRW",
+        Command::Armw => "ARMW",
+        Command::Frmw => "FRMW",
+    }
+}
+
+/// Adds the line of the datagram that `part` spells.
+fn write_datagram(
+    alloc: Global,
+    text: &mut String,
+    number: usize,
+    part: &[u8],
+) -> Result<(), AllocError>
+    requires { IsSpelling part.now }
+    ensures { OnOk result ((more : Bool) (d : Datagram) → IsDatagram d → part.now ≡ spelling more d
+        → string_bytes text.new ≡ string_bytes text.old ++ datagram_line number d) }
+{
+    let header = Header::read(part);
+    write_line(
+        alloc,
+        text,
+        number,
+        &header,
+        read_counter(part),
+        read_data(part),
+    )
+}
+
+/// Adds the line of a datagram by its parts.
+fn write_line(
+    alloc: Global,
+    text: &mut String,
+    number: usize,
+    header: &Header,
+    counter: u16,
+    content: &[u8],
+) -> Result<(), AllocError>
+    ensures { OnOk result (string_bytes text.new ≡ string_bytes text.old
+        ++ datagram_line number (told header.now counter content.now)) }
+{
+    write_head(alloc, text, number, header)?;
+    write_address(alloc, text, header)?;
+    write_irq(alloc, text, header.irq)?;
+    write_reserved(text, header.reserved)?;
+    write_circulating(text, header.circulating)?;
+    write_tail(alloc, text, counter, content)
+}
+
+/// Adds a datagram's counter and its data, and ends its line.
+fn write_tail(
+    alloc: Global,
+    text: &mut String,
+    counter: u16,
+    content: &[u8],
+) -> Result<(), AllocError>
+    ensures { OnOk result (string_bytes text.new ≡ string_bytes text.old
+        ++ (spaced (codes "counter" ∷ decimal counter ∷ codes "data" ∷ data_text content.now ∷ []) ++ newline)) }
+{
+    write!(text, " counter {counter} data ")?;
+    write_data(alloc, text, content)?;
+    text.push_str("\n")
+}
+
+/// Adds bytes in hex, or a dash for none.
+fn write_data(alloc: Global, text: &mut String, bytes: &[u8]) -> Result<(), AllocError>
+    ensures { OnOk result (string_bytes text.new ≡ string_bytes text.old ++ data_text bytes.now) }
+{
+    if bytes.is_empty() {
+        return text.push_str("-");
+    }
+    let digits = hex::encode(alloc, bytes)?;
+    text.push_str(digits.as_str())
+}
+
+/// Adds whether a datagram has circulated.
+fn write_circulating(text: &mut String, circulating: bool) -> Result<(), AllocError>
+    ensures { OnOk result
+        (string_bytes text.new ≡ string_bytes text.old ++ spaced (circulating_words circulating)) }
+{
+    if circulating {
+        text.push_str(" circulating")
+    } else {
+        Ok(())
+    }
+}
+
+/// Adds a datagram's reserved bits, unless they are 0.
+fn write_reserved(text: &mut String, bits: u8) -> Result<(), AllocError>
+    ensures { OnOk result
+        (string_bytes text.new ≡ string_bytes text.old ++ spaced (reserved_words bits)) }
+{
+    if bits == 0 {
+        return Ok(());
+    }
+    write!(text, " reserved {bits}")
+}
+
+/// Adds a datagram's event request word, unless it is 0.
+fn write_irq(alloc: Global, text: &mut String, irq: u16) -> Result<(), AllocError>
+    ensures { OnOk result (string_bytes text.new ≡ string_bytes text.old ++ spaced (irq_words irq)) }
+{
+    if irq == 0 {
+        return Ok(());
+    }
+    let digits = hex::encode(alloc, &irq.to_be_bytes())?;
+    write!(text, " irq {digits}")
+}
+
+/// Adds a datagram's address.
+fn write_address(alloc: Global, text: &mut String, header: &Header) -> Result<(), AllocError>
+    ensures { OnOk result (string_bytes text.new ≡ string_bytes text.old
+        ++ spaced (address_words header.now.command header.now.address)) }
+{
+    if is_logical(header.command) {
+        let address = hex::encode(alloc, &header.address.to_be_bytes())?;
+        write!(text, " logical {address}")
+    } else {
+        let adp = hex::encode(alloc, &header.adp().to_be_bytes())?;
+        let ado = hex::encode(alloc, &header.ado().to_be_bytes())?;
+        write!(text, " at {adp}:{ado}")
+    }
+}
+
+/// Adds a datagram's number, its command and its index.
+fn write_head(
+    alloc: Global,
+    text: &mut String,
+    number: usize,
+    header: &Header,
+) -> Result<(), AllocError>
+    ensures { OnOk result (string_bytes text.new ≡ string_bytes text.old ++ (decimal number
+        ++ spaced (command_name header.now.command ∷ codes "index" ∷ byte_text header.now.index ∷ []))) }
+{
+    let name = name_of(header.command);
+    let index = hex::encode(alloc, &header.index.to_be_bytes())?;
+    write!(text, "{number} {name} index {index}")
 }

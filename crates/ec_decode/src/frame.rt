@@ -14,47 +14,6 @@ use std::fmt::Write as _;
 /// In the frame's header: how many bits of length there are, before the reserved bit.
 const LENGTH_BITS: u32 = 11;
 
-/// Adds whether bit 11 of the header is set.
-fn write_reserved(text: &mut String, reserved: bool) -> Result<(), AllocError>
-    ensures { OnOk result
-        (string_bytes text.new ≡ string_bytes text.old ++ spaced (reserved_bit_words reserved)) }
-{
-    if reserved {
-        text.push_str(" reserved")
-    } else {
-        Ok(())
-    }
-}
-
-/// Adds the bytes behind the datagrams, if there are any.
-fn write_rest(alloc: Global, text: &mut String, rest: &[u8]) -> Result<(), AllocError>
-    ensures { OnOk result
-        (string_bytes text.new ≡ string_bytes text.old ++ spaced (rest_words rest.now)) }
-{
-    if rest.is_empty() {
-        return Ok(());
-    }
-    let digits = hex::encode(alloc, rest)?;
-    write!(text, " rest {digits}")
-}
-
-/// Adds the line of a frame with so many datagrams.
-fn write_heading(
-    alloc: Global,
-    text: &mut String,
-    count: usize,
-    reserved: bool,
-    rest: &[u8],
-) -> Result<(), AllocError>
-    ensures { OnOk result (string_bytes text.new ≡ string_bytes text.old
-        ++ heading_line count reserved rest.now) }
-{
-    write!(text, "frame {count}")?;
-    write_reserved(text, reserved)?;
-    write_rest(alloc, text, rest)?;
-    text.push_str("\n")
-}
-
 /// Adds the text of a frame with so many datagrams.
 pub(crate) fn write_counted(
     alloc: Global,
@@ -83,4 +42,45 @@ pub fn write_frame(alloc: Global, text: &mut String, payload: &[u8]) -> Result<(
 {
     let count = check(payload).unwrap();
     write_counted(alloc, text, count, payload)
+}
+
+/// Adds the line of a frame with so many datagrams.
+fn write_heading(
+    alloc: Global,
+    text: &mut String,
+    count: usize,
+    reserved: bool,
+    rest: &[u8],
+) -> Result<(), AllocError>
+    ensures { OnOk result (string_bytes text.new ≡ string_bytes text.old
+        ++ heading_line count reserved rest.now) }
+{
+    write!(text, "frame {count}")?;
+    write_reserved(text, reserved)?;
+    write_rest(alloc, text, rest)?;
+    text.push_str("\n")
+}
+
+/// Adds the bytes behind the datagrams, if there are any.
+fn write_rest(alloc: Global, text: &mut String, rest: &[u8]) -> Result<(), AllocError>
+    ensures { OnOk result
+        (string_bytes text.new ≡ string_bytes text.old ++ spaced (rest_words rest.now)) }
+{
+    if rest.is_empty() {
+        return Ok(());
+    }
+    let digits = hex::encode(alloc, rest)?;
+    write!(text, " rest {digits}")
+}
+
+/// Adds whether bit 11 of the header is set.
+fn write_reserved(text: &mut String, reserved: bool) -> Result<(), AllocError>
+    ensures { OnOk result
+        (string_bytes text.new ≡ string_bytes text.old ++ spaced (reserved_bit_words reserved)) }
+{
+    if reserved {
+        text.push_str(" reserved")
+    } else {
+        Ok(())
+    }
 }

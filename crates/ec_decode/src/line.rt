@@ -37,40 +37,75 @@ pub(crate) struct Heading {
     pub(crate) rest: Vec<u8>,
 }
 
-/// Whether a word comes first, and the words behind it.
-#[tactic(auto, unfolding(crate::specs::Lines::flag_in))]
-fn flag_in<'a, 'b>(key: &str, words: &'a [&'b str]) -> (bool, &'a [&'b str])
-    ensures { with_rest result ≡ flag_in key.now (map (λ x. x.now) words.now) }
+/// The datagram with this number that a line states.
+#[tactic(auto, unfolding(crate::specs::Lines::datagram_in))]
+pub(crate) fn datagram_in(
+    alloc: Global,
+    number: u64,
+    words: &[&str],
+) -> Result<Option<Stated>, AllocError>
+    ensures value { IfOk result (λ found. option_map datagram_of found
+        ≡ datagram_in number (map (λ x. x.now) words.now)) }
+    ensures few { IfOk result (λ found. IfSome found (λ stated. stated.fields.reserved < 8)) }
 {
-    match words {
-        [word, rest @ ..] if *word == key => (true, rest),
-        _ => (false, words),
-    }
+    let Some((fields, rest)) = fields_in(number, words) else {
+        return Ok(None);
+    };
+    let Some((counter, word)) = tail_in(rest) else {
+        return Ok(None);
+    };
+    let Some(content) = data_in(alloc, word)? else {
+        return Ok(None);
+    };
+    Ok(Some(Stated {
+        fields,
+        counter,
+        content,
+    }))
 }
 
-/// The event request word, 0 where it is left out, and the words behind it.
-#[tactic(auto, unfolding(crate::specs::Lines::option_in))]
-fn irq_in<'a, 'b>(key: &str, words: &'a [&'b str]) -> Option<(u16, &'a [&'b str])>
-    ensures { option_map with_rest result
-        ≡ option_in (hex_in 2) key.now (map (λ x. x.now) words.now) }
+/// What the line of a frame says.
+#[tactic(auto, unfolding(crate::specs::Lines::heading_in))]
+pub(crate) fn heading_in(alloc: Global, words: &[&str]) -> Result<Option<Heading>, AllocError>
+    ensures value { IfOk result (λ found. option_map heading_of found
+        ≡ heading_in (map (λ x. x.now) words.now)) }
+    ensures some { IfOk result (λ found. IfSome found (λ heading. 0 < heading.count)) }
 {
-    match words {
-        [word, value, rest @ ..] if *word == key => Some((word_in(value)?, rest)),
-        _ => Some((0, words)),
+    let [name, count, rest @ ..] = words else {
+        return Ok(None);
+    };
+    if *name != "frame" {
+        return Ok(None);
     }
+    let Some(count) = number_in(count) else {
+        return Ok(None);
+    };
+    if count == 0 {
+        return Ok(None);
+    }
+    let (reserved, rest) = flag_in("reserved", rest);
+    let Some(rest) = rest_in(alloc, rest)? else {
+        return Ok(None);
+    };
+    Ok(Some(Heading {
+        count,
+        reserved,
+        rest,
+    }))
 }
 
-/// The reserved bits, 0 where they are left out, and the words behind them.
-#[tactic(auto, unfolding(crate::specs::Lines::option_in))]
-fn reserved_in<'a, 'b>(key: &str, words: &'a [&'b str]) -> Option<(u8, &'a [&'b str])>
-    ensures value { option_map with_rest result
-        ≡ option_in bits_in key.now (map (λ x. x.now) words.now) }
-    ensures few { IfSome result (λ r. r.0 < 8) }
+/// A datagram's counter, and the word of its data, which is the last one.
+#[tactic(auto, unfolding(crate::specs::Lines::tail_in))]
+fn tail_in<'b>(words: &[&'b str]) -> Option<(u16, &'b str)>
+    ensures { option_map with_word result ≡ tail_in (map (λ x. x.now) words.now) }
 {
-    match words {
-        [word, value, rest @ ..] if *word == key => Some((bits_in(value)?, rest)),
-        _ => Some((0, words)),
+    let [key, counter, name, content] = words else {
+        return None;
+    };
+    if *key != "counter" || *name != "data" {
+        return None;
     }
+    Some((counter_in(counter)?, *content))
 }
 
 /// A datagram's fields, and the words behind them.
@@ -102,45 +137,40 @@ fn fields_in<'a, 'b>(number: u64, words: &'a [&'b str]) -> Option<(Fields, &'a [
     Some((fields, rest))
 }
 
-/// A datagram's counter, and the word of its data, which is the last one.
-#[tactic(auto, unfolding(crate::specs::Lines::tail_in))]
-fn tail_in<'b>(words: &[&'b str]) -> Option<(u16, &'b str)>
-    ensures { option_map with_word result ≡ tail_in (map (λ x. x.now) words.now) }
+/// The reserved bits, 0 where they are left out, and the words behind them.
+#[tactic(auto, unfolding(crate::specs::Lines::option_in))]
+fn reserved_in<'a, 'b>(key: &str, words: &'a [&'b str]) -> Option<(u8, &'a [&'b str])>
+    ensures value { option_map with_rest result
+        ≡ option_in bits_in key.now (map (λ x. x.now) words.now) }
+    ensures few { IfSome result (λ r. r.0 < 8) }
 {
-    let [key, counter, name, content] = words else {
-        return None;
-    };
-    if *key != "counter" || *name != "data" {
-        return None;
+    match words {
+        [word, value, rest @ ..] if *word == key => Some((bits_in(value)?, rest)),
+        _ => Some((0, words)),
     }
-    Some((counter_in(counter)?, *content))
 }
 
-/// The datagram with this number that a line states.
-#[tactic(auto, unfolding(crate::specs::Lines::datagram_in))]
-pub(crate) fn datagram_in(
-    alloc: Global,
-    number: u64,
-    words: &[&str],
-) -> Result<Option<Stated>, AllocError>
-    ensures value { IfOk result (λ found. option_map datagram_of found
-        ≡ datagram_in number (map (λ x. x.now) words.now)) }
-    ensures few { IfOk result (λ found. IfSome found (λ stated. stated.fields.reserved < 8)) }
+/// The event request word, 0 where it is left out, and the words behind it.
+#[tactic(auto, unfolding(crate::specs::Lines::option_in))]
+fn irq_in<'a, 'b>(key: &str, words: &'a [&'b str]) -> Option<(u16, &'a [&'b str])>
+    ensures { option_map with_rest result
+        ≡ option_in (hex_in 2) key.now (map (λ x. x.now) words.now) }
 {
-    let Some((fields, rest)) = fields_in(number, words) else {
-        return Ok(None);
-    };
-    let Some((counter, word)) = tail_in(rest) else {
-        return Ok(None);
-    };
-    let Some(content) = data_in(alloc, word)? else {
-        return Ok(None);
-    };
-    Ok(Some(Stated {
-        fields,
-        counter,
-        content,
-    }))
+    match words {
+        [word, value, rest @ ..] if *word == key => Some((word_in(value)?, rest)),
+        _ => Some((0, words)),
+    }
+}
+
+/// Whether a word comes first, and the words behind it.
+#[tactic(auto, unfolding(crate::specs::Lines::flag_in))]
+fn flag_in<'a, 'b>(key: &str, words: &'a [&'b str]) -> (bool, &'a [&'b str])
+    ensures { with_rest result ≡ flag_in key.now (map (λ x. x.now) words.now) }
+{
+    match words {
+        [word, rest @ ..] if *word == key => (true, rest),
+        _ => (false, words),
+    }
 }
 
 /// The bytes behind the datagrams that a frame's line states.
@@ -154,34 +184,4 @@ fn rest_in(alloc: Global, words: &[&str]) -> Result<Option<Vec<u8>>, AllocError>
         [key, word] if *key == "rest" => bytes_in(alloc, word),
         _ => Ok(None),
     }
-}
-
-/// What the line of a frame says.
-#[tactic(auto, unfolding(crate::specs::Lines::heading_in))]
-pub(crate) fn heading_in(alloc: Global, words: &[&str]) -> Result<Option<Heading>, AllocError>
-    ensures value { IfOk result (λ found. option_map heading_of found
-        ≡ heading_in (map (λ x. x.now) words.now)) }
-    ensures some { IfOk result (λ found. IfSome found (λ heading. 0 < heading.count)) }
-{
-    let [name, count, rest @ ..] = words else {
-        return Ok(None);
-    };
-    if *name != "frame" {
-        return Ok(None);
-    }
-    let Some(count) = number_in(count) else {
-        return Ok(None);
-    };
-    if count == 0 {
-        return Ok(None);
-    }
-    let (reserved, rest) = flag_in("reserved", rest);
-    let Some(rest) = rest_in(alloc, rest)? else {
-        return Ok(None);
-    };
-    Ok(Some(Heading {
-        count,
-        reserved,
-        rest,
-    }))
 }

@@ -40,53 +40,45 @@ struct Front {
     len: usize,
 }
 
-/// The length of the datagram at the front of some bytes, if it stands there whole and says rightly
-/// that another follows. What is cut goes on behind these bytes, so there it may end them.
-fn opened_length(bytes: &[u8], is_cut: bool) -> Option<usize>
-    ensures found { IfSome result (IsOpened is_cut bytes.now) }
-    ensures none { IfNone result (IsNotOpened is_cut bytes.now) }
+/// Tells whether a payload is a frame, and of how many datagrams, as `ec_frame::check` does; and of
+/// one that isn't, where its first fault is.
+pub fn check_placed(payload: &[u8]) -> Result<usize, PlacedFault>
+    ensures accepted { IfOk result (λ count.
+        (p : Payload) × IsFrame payload.now p × (count ≡ length p.datagrams)) }
+    ensures refused { IfErr result (λ refused.
+        (ds : List Datagram) × IsRefusedAt payload.now refused ds) }
 {
-    if bytes.len() < OVERHEAD {
-        return None;
-    }
-    let len = length_at(bytes);
-    let most = if is_cut { bytes.len() } else { bytes.len() - 1 };
-    if most < len || flags_at(bytes) < MORE {
-        return None;
-    }
-    let _command = Command::from_number(bytes[0])?;
-    Some(len)
+    check(payload).map_err(|error| place(payload, error))
 }
 
-/// The datagrams at the front of an area that say rightly that another follows.
-fn front_of(area: &[u8], is_cut: bool) -> Front
-    ensures { Stops is_cut area.now result }
+/// The name of a refusal, one word.
+pub fn error_name(error: FrameError) -> &'static str
+    ensures { result.now ≡ error_name error }
 {
-    let mut rest = area;
-    let mut whole = 0;
-    while let Some(len) = opened_length(rest, is_cut) {
-        let (_, after) = rest.split_at(len);
-        rest = after;
-        whole += 1;
-    }
-    Front {
-        whole,
-        len: area.len() - rest.len(),
+    match error {
+        FrameError::Short => "Short",
+        FrameError::BadType => "BadType",
+        FrameError::BadLength => "BadLength",
+        FrameError::BadMore => "BadMore",
+        FrameError::BadCommand => "BadCommand",
+        FrameError::TooLong => "TooLong",
     }
 }
 
-/// The bytes of datagrams that are there, as many as the header says at most.
-fn area_of(payload: &[u8]) -> &[u8]
-    ensures { result.now ≡ area payload.now }
+/// Adds the text of a payload that is no frame: the lines of the datagrams that stand whole before
+/// its fault, and that of its refusal. The error is want of memory.
+pub fn write_refused(
+    alloc: Global,
+    text: &mut String,
+    payload: &[u8],
+    refused: PlacedFault,
+) -> Result<(), AllocError>
+    requires { (ds : List Datagram) × IsRefusedAt payload.now refused ds }
+    ensures { OnOk result ((ds : List Datagram) → IsRefusedAt payload.now refused ds
+        → string_bytes text.new ≡ string_bytes text.old ++ refused_text refused ds) }
 {
-    if payload.len() < FRAME_HEADER_LEN {
-        return &[];
-    }
-    let header = LittleEndian::read_u16(payload);
-    let (_, rest) = payload.split_at(FRAME_HEADER_LEN);
-    let len = usize::from(header % (1 << LENGTH_BITS)).min(rest.len());
-    let (area, _) = rest.split_at(len);
-    area
+    write_datagrams(alloc, text, refused.whole, area_of(payload))?;
+    write_line(text, refused)
 }
 
 /// Finds the place of a fault.
@@ -119,29 +111,53 @@ fn place(payload: &[u8], error: FrameError) -> PlacedFault
     }
 }
 
-/// Tells whether a payload is a frame, and of how many datagrams, as `ec_frame::check` does; and of
-/// one that isn't, where its first fault is.
-pub fn check_placed(payload: &[u8]) -> Result<usize, PlacedFault>
-    ensures accepted { IfOk result (λ count.
-        (p : Payload) × IsFrame payload.now p × (count ≡ length p.datagrams)) }
-    ensures refused { IfErr result (λ refused.
-        (ds : List Datagram) × IsRefusedAt payload.now refused ds) }
+/// The bytes of datagrams that are there, as many as the header says at most.
+fn area_of(payload: &[u8]) -> &[u8]
+    ensures { result.now ≡ area payload.now }
 {
-    check(payload).map_err(|error| place(payload, error))
+    if payload.len() < FRAME_HEADER_LEN {
+        return &[];
+    }
+    let header = LittleEndian::read_u16(payload);
+    let (_, rest) = payload.split_at(FRAME_HEADER_LEN);
+    let len = usize::from(header % (1 << LENGTH_BITS)).min(rest.len());
+    let (area, _) = rest.split_at(len);
+    area
 }
 
-/// The name of a refusal, one word.
-pub fn error_name(error: FrameError) -> &'static str
-    ensures { result.now ≡ error_name error }
+/// The datagrams at the front of an area that say rightly that another follows.
+fn front_of(area: &[u8], is_cut: bool) -> Front
+    ensures { Stops is_cut area.now result }
 {
-    match error {
-        FrameError::Short => "Short",
-        FrameError::BadType => "BadType",
-        FrameError::BadLength => "BadLength",
-        FrameError::BadMore => "BadMore",
-        FrameError::BadCommand => "BadCommand",
-        FrameError::TooLong => "TooLong",
+    let mut rest = area;
+    let mut whole = 0;
+    while let Some(len) = opened_length(rest, is_cut) {
+        let (_, after) = rest.split_at(len);
+        rest = after;
+        whole += 1;
     }
+    Front {
+        whole,
+        len: area.len() - rest.len(),
+    }
+}
+
+/// The length of the datagram at the front of some bytes, if it stands there whole and says rightly
+/// that another follows. What is cut goes on behind these bytes, so there it may end them.
+fn opened_length(bytes: &[u8], is_cut: bool) -> Option<usize>
+    ensures found { IfSome result (IsOpened is_cut bytes.now) }
+    ensures none { IfNone result (IsNotOpened is_cut bytes.now) }
+{
+    if bytes.len() < OVERHEAD {
+        return None;
+    }
+    let len = length_at(bytes);
+    let most = if is_cut { bytes.len() } else { bytes.len() - 1 };
+    if most < len || flags_at(bytes) < MORE {
+        return None;
+    }
+    let _command = Command::from_number(bytes[0])?;
+    Some(len)
 }
 
 /// Adds the line of a refusal.
@@ -153,20 +169,4 @@ fn write_line(text: &mut String, refused: PlacedFault) -> Result<(), AllocError>
     let PlacedFault { error, whole, at } = refused;
     let (number, name) = (error.number(), error_name(error));
     writeln!(text, "refused {number} {name} datagram {whole} byte {at}")
-}
-
-/// Adds the text of a payload that is no frame: the lines of the datagrams that stand whole before
-/// its fault, and that of its refusal. The error is want of memory.
-pub fn write_refused(
-    alloc: Global,
-    text: &mut String,
-    payload: &[u8],
-    refused: PlacedFault,
-) -> Result<(), AllocError>
-    requires { (ds : List Datagram) × IsRefusedAt payload.now refused ds }
-    ensures { OnOk result ((ds : List Datagram) → IsRefusedAt payload.now refused ds
-        → string_bytes text.new ≡ string_bytes text.old ++ refused_text refused ds) }
-{
-    write_datagrams(alloc, text, refused.whole, area_of(payload))?;
-    write_line(text, refused)
 }

@@ -13,54 +13,6 @@ use crate::words::words_of;
 use std::alloc::Global;
 use std::marker::Model;
 
-/// Whether a line says nothing: it is empty or indented.
-fn is_skipped(line: &str) -> bool
-    ensures { result ≡ is_skipped line.now }
-{
-    match line.as_bytes() {
-        [] => true,
-        [first, ..] => *first == b' ' || *first == b'\t',
-    }
-}
-
-/// The frame that its line begins.
-fn begin(alloc: Global, number: usize, words: &[&str]) -> Result<Begun, DecodeError>
-    ensures begun { IfOk result (λ begun. heading_in (map (λ x. x.now) words.now)
-        ≡ Some (begun_of begun).heading × ((begun_of begun).datagrams ≡ [])) }
-    ensures held { IfOk result IsHeld }
-    ensures refused { IfErr result (Refuses number (heading_in (map (λ x. x.now) words.now))) }
-{
-    match heading_in(alloc, words)? {
-        Some(heading) => Ok(Begun::new(alloc, heading)),
-        None => Err(DecodeError::BadScript(number)),
-    }
-}
-
-/// Reads the line of a frame's next datagram, and gives the frame where that is the last one.
-fn grow(
-    alloc: Global,
-    number: usize,
-    begun: &mut Begun,
-    words: &[&str],
-) -> Result<Option<Vec<u8>>, DecodeError>
-    requires { IsHeld begun.old }
-    ensures held { IsHeld begun.new }
-    ensures grown { Grows (begun_of begun.old) number (map (λ x. x.now) words.now)
-        (begun_of begun.new) result }
-{
-    let Some(stated) = datagram_in(alloc, begun.number(), words)? else {
-        return Err(DecodeError::BadScript(number));
-    };
-    if !begun.fits(&stated) {
-        return Err(DecodeError::BadScript(number));
-    }
-    if begun.ends() {
-        return Ok(Some(begun.finish(alloc, &stated)?));
-    }
-    begun.add(alloc, &stated)?;
-    Ok(None)
-}
-
 /// A reader of frames from the lines of their text. In contracts a reader is the frame that isn't
 /// whole yet, if there is one.
 #[derive(Drop)]
@@ -122,5 +74,53 @@ impl Reader {
                 Ok(whole)
             }
         }
+    }
+}
+
+/// Reads the line of a frame's next datagram, and gives the frame where that is the last one.
+fn grow(
+    alloc: Global,
+    number: usize,
+    begun: &mut Begun,
+    words: &[&str],
+) -> Result<Option<Vec<u8>>, DecodeError>
+    requires { IsHeld begun.old }
+    ensures held { IsHeld begun.new }
+    ensures grown { Grows (begun_of begun.old) number (map (λ x. x.now) words.now)
+        (begun_of begun.new) result }
+{
+    let Some(stated) = datagram_in(alloc, begun.number(), words)? else {
+        return Err(DecodeError::BadScript(number));
+    };
+    if !begun.fits(&stated) {
+        return Err(DecodeError::BadScript(number));
+    }
+    if begun.ends() {
+        return Ok(Some(begun.finish(alloc, &stated)?));
+    }
+    begun.add(alloc, &stated)?;
+    Ok(None)
+}
+
+/// The frame that its line begins.
+fn begin(alloc: Global, number: usize, words: &[&str]) -> Result<Begun, DecodeError>
+    ensures begun { IfOk result (λ begun. heading_in (map (λ x. x.now) words.now)
+        ≡ Some (begun_of begun).heading × ((begun_of begun).datagrams ≡ [])) }
+    ensures held { IfOk result IsHeld }
+    ensures refused { IfErr result (Refuses number (heading_in (map (λ x. x.now) words.now))) }
+{
+    match heading_in(alloc, words)? {
+        Some(heading) => Ok(Begun::new(alloc, heading)),
+        None => Err(DecodeError::BadScript(number)),
+    }
+}
+
+/// Whether a line says nothing: it is empty or indented.
+fn is_skipped(line: &str) -> bool
+    ensures { result ≡ is_skipped line.now }
+{
+    match line.as_bytes() {
+        [] => true,
+        [first, ..] => *first == b' ' || *first == b'\t',
     }
 }

@@ -39,13 +39,6 @@ pub fn decode_line(alloc: Global, line: &str) -> Result<Option<String>, AllocErr
     Ok(Some(payload_text(alloc, payload.as_slice())?))
 }
 
-/// The lines of a text.
-fn lines_of<'a>(alloc: Global, text: &'a str) -> Result<Vec<&'a str>, AllocError>
-    ensures { IfOk result (λ v. map (λ x. x.now) v.items ≡ lines text.now) }
-{
-    text.lines().collect(alloc)
-}
-
 /// What lines of hex are printed as.
 #[derive(Debug, Drop)]
 pub struct Decoded {
@@ -53,32 +46,6 @@ pub struct Decoded {
     pub text: String,
     /// Whether each line is hex or empty; else the text ends before the first that is neither.
     pub is_whole: bool,
-}
-
-/// Adds what a line of hex is printed as, which is nothing where it is empty, and answers whether it is hex.
-fn add_line(alloc: Global, text: &mut String, line: &str) -> Result<bool, AllocError>
-    ensures { IfOk result (AddsLine line.now (string_bytes text.old) (string_bytes text.new)) }
-{
-    if line.is_empty() {
-        return Ok(true);
-    }
-    let Some(more) = decode_line(alloc, line)? else {
-        return Ok(false);
-    };
-    text.push_str(more.as_str())?;
-    Ok(true)
-}
-
-/// Adds what lines of hex are printed as, up to the first that isn't hex, and answers whether each is.
-fn add_lines(alloc: Global, text: &mut String, lines: &[&str]) -> Result<bool, AllocError>
-    ensures { IfOk result (AddsLines (map (λ x. x.now) lines.now) (string_bytes text.old) (string_bytes text.new)) }
-{
-    for line in lines {
-        if !add_line(alloc, text, line)? {
-            return Ok(false);
-        }
-    }
-    Ok(true)
 }
 
 /// The texts of the payloads that the lines of a text spell in hex, one after another, up to the first
@@ -94,16 +61,6 @@ pub fn decode_text(alloc: Global, text: &str) -> Result<Decoded, AllocError>
         text: answer,
         is_whole,
     })
-}
-
-/// Adds a payload in hex, and a newline.
-fn write_payload(alloc: Global, text: &mut String, payload: &[u8]) -> Result<(), AllocError>
-    ensures { OnOk result (string_bytes text.new
-        ≡ string_bytes text.old ++ (encode_lower payload.now ++ newline)) }
-{
-    let digits = hex::encode(alloc, payload)?;
-    text.push_str(digits.as_str())?;
-    text.push_str("\n")
 }
 
 /// The payloads of the frames that a text states, in lower-case hex, a line for each. Empty lines and
@@ -128,4 +85,47 @@ pub fn encode_text(alloc: Global, text: &str) -> Result<String, DecodeError>
         return Err(DecodeError::BadScript(lines.len() + 1));
     }
     Ok(answer)
+}
+
+/// Adds what lines of hex are printed as, up to the first that isn't hex, and answers whether each is.
+fn add_lines(alloc: Global, text: &mut String, lines: &[&str]) -> Result<bool, AllocError>
+    ensures { IfOk result (AddsLines (map (λ x. x.now) lines.now) (string_bytes text.old) (string_bytes text.new)) }
+{
+    for line in lines {
+        if !add_line(alloc, text, line)? {
+            return Ok(false);
+        }
+    }
+    Ok(true)
+}
+
+/// Adds what a line of hex is printed as, which is nothing where it is empty, and answers whether it is hex.
+fn add_line(alloc: Global, text: &mut String, line: &str) -> Result<bool, AllocError>
+    ensures { IfOk result (AddsLine line.now (string_bytes text.old) (string_bytes text.new)) }
+{
+    if line.is_empty() {
+        return Ok(true);
+    }
+    let Some(more) = decode_line(alloc, line)? else {
+        return Ok(false);
+    };
+    text.push_str(more.as_str())?;
+    Ok(true)
+}
+
+/// The lines of a text.
+fn lines_of<'a>(alloc: Global, text: &'a str) -> Result<Vec<&'a str>, AllocError>
+    ensures { IfOk result (λ v. map (λ x. x.now) v.items ≡ lines text.now) }
+{
+    text.lines().collect(alloc)
+}
+
+/// Adds a payload in hex, and a newline.
+fn write_payload(alloc: Global, text: &mut String, payload: &[u8]) -> Result<(), AllocError>
+    ensures { OnOk result (string_bytes text.new
+        ≡ string_bytes text.old ++ (encode_lower payload.now ++ newline)) }
+{
+    let digits = hex::encode(alloc, payload)?;
+    text.push_str(digits.as_str())?;
+    text.push_str("\n")
 }

@@ -4,25 +4,6 @@ ghost use Rattle.ec_decode.specs.Indented.{behind, ended, indented, indented_lin
 
 use std::alloc::{AllocError, Global};
 
-/// What stands in a text before, between and behind its newlines.
-fn parts_of<'a>(alloc: Global, text: &'a str) -> Result<Vec<&'a str>, AllocError>
-    ensures { IfOk result (λ v. map (λ x. x.now) v.items ≡ parts_of text.now) }
-{
-    text.split('\n').collect(alloc)
-}
-
-/// Adds a line with a margin before it, and nothing for an empty one.
-fn push_line(text: &mut String, line: &str) -> Result<(), AllocError>
-    ensures { OnOk result (string_bytes text.new ≡ string_bytes text.old ++ indented_line line.now) }
-{
-    if line.is_empty() {
-        return Ok(());
-    }
-    text.push_str("    ")?;
-    text.push_str(line)?;
-    text.push_str("\n")
-}
-
 /// Adds each line of some remarks with a margin of four blanks, and leaves out empty ones. The error is
 /// want of memory.
 pub fn push_indented(alloc: Global, text: &mut String, remarks: &str) -> Result<(), AllocError>
@@ -33,46 +14,6 @@ pub fn push_indented(alloc: Global, text: &mut String, remarks: &str) -> Result<
         push_line(text, line)?;
     }
     Ok(())
-}
-
-/// The remarks on a line, none where there are none.
-fn remark_of(remarks: &[String], place: usize) -> &str
-    ensures { result.now ≡ remark_of (map string_bytes remarks.now) place }
-{
-    match remarks.get(place) {
-        Some(remark) => remark.as_str(),
-        None => "",
-    }
-}
-
-/// What stands behind a part of a text: the remarks on it, where it is a line and not the last part.
-fn remarks_behind(remarks: &[String], place: usize, parts: usize) -> Option<&str>
-    requires { place < parts }
-    ensures { option_map (λ x. x.now) result ≡ behind (map string_bytes remarks.now) place (nat_lt (place + 1) parts) }
-{
-    if place + 1 < parts {
-        Some(remark_of(remarks, place))
-    } else {
-        None
-    }
-}
-
-/// Adds a part of a text, with its newline and the remarks behind it where it is a line.
-fn push_part(
-    alloc: Global,
-    text: &mut String,
-    part: &str,
-    remarks: Option<&str>,
-) -> Result<(), AllocError>
-    ensures { OnOk result (string_bytes text.new
-        ≡ string_bytes text.old ++ ended part.now (option_map (λ x. x.now) remarks.entry)) }
-{
-    text.push_str(part)?;
-    let Some(remarks) = remarks else {
-        return Ok(());
-    };
-    text.push_str("\n")?;
-    push_indented(alloc, text, remarks)
 }
 
 /// A text with remarks behind its lines, of which the first has those of number 0: each line of the
@@ -93,4 +34,63 @@ pub fn weave(alloc: Global, text: &str, remarks: &[String]) -> Result<String, Al
         )?;
     }
     Ok(answer)
+}
+
+/// Adds a line with a margin before it, and nothing for an empty one.
+fn push_line(text: &mut String, line: &str) -> Result<(), AllocError>
+    ensures { OnOk result (string_bytes text.new ≡ string_bytes text.old ++ indented_line line.now) }
+{
+    if line.is_empty() {
+        return Ok(());
+    }
+    text.push_str("    ")?;
+    text.push_str(line)?;
+    text.push_str("\n")
+}
+
+/// What stands in a text before, between and behind its newlines.
+fn parts_of<'a>(alloc: Global, text: &'a str) -> Result<Vec<&'a str>, AllocError>
+    ensures { IfOk result (λ v. map (λ x. x.now) v.items ≡ parts_of text.now) }
+{
+    text.split('\n').collect(alloc)
+}
+
+/// Adds a part of a text, with its newline and the remarks behind it where it is a line.
+fn push_part(
+    alloc: Global,
+    text: &mut String,
+    part: &str,
+    remarks: Option<&str>,
+) -> Result<(), AllocError>
+    ensures { OnOk result (string_bytes text.new
+        ≡ string_bytes text.old ++ ended part.now (option_map (λ x. x.now) remarks.entry)) }
+{
+    text.push_str(part)?;
+    let Some(remarks) = remarks else {
+        return Ok(());
+    };
+    text.push_str("\n")?;
+    push_indented(alloc, text, remarks)
+}
+
+/// What stands behind a part of a text: the remarks on it, where it is a line and not the last part.
+fn remarks_behind(remarks: &[String], place: usize, parts: usize) -> Option<&str>
+    requires { place < parts }
+    ensures { option_map (λ x. x.now) result ≡ behind (map string_bytes remarks.now) place (nat_lt (place + 1) parts) }
+{
+    if place + 1 < parts {
+        Some(remark_of(remarks, place))
+    } else {
+        None
+    }
+}
+
+/// The remarks on a line, none where there are none.
+fn remark_of(remarks: &[String], place: usize) -> &str
+    ensures { result.now ≡ remark_of (map string_bytes remarks.now) place }
+{
+    match remarks.get(place) {
+        Some(remark) => remark.as_str(),
+        None => "",
+    }
 }

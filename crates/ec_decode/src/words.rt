@@ -57,22 +57,6 @@ pub(crate) fn word_in(word: &str) -> Option<u16>
     <[u8; 2]>::from_hex(word).ok().map(u16::from_be_bytes)
 }
 
-/// The number that a word writes in eight hex digits.
-fn long_in(word: &str) -> Option<u32>
-    ensures { result ≡ hex_in 4 word.now }
-{
-    <[u8; 4]>::from_hex(word).ok().map(u32::from_be_bytes)
-}
-
-/// The address that a word writes as ADP and ADO, with a colon between them.
-#[tactic(auto, unfolding(crate::specs::Words::physical_in))]
-fn physical_in(word: &str) -> Option<u32>
-    ensures { result ≡ physical_in word.now }
-{
-    let (adp, ado) = word.split_once(':')?;
-    Some(address_of(word_in(adp)?, word_in(ado)?))
-}
-
 /// The address of a command that two words write: how it is meant, and the digits.
 #[tactic(auto, unfolding(crate::specs::Words::address_in))]
 pub(crate) fn address_in(command: Command, how: &str, word: &str) -> Option<u32>
@@ -134,4 +118,20 @@ pub(crate) fn command_in(word: &str) -> Option<Command>
         "FRMW" => Command::Frmw,
         _ => return None,
     })
+}
+
+/// The address that a word writes as ADP and ADO, with a colon between them.
+#[tactic(auto, unfolding(crate::specs::Words::physical_in))]
+fn physical_in(word: &str) -> Option<u32>
+    ensures { result ≡ physical_in word.now }
+{
+    let (adp, ado) = word.split_once(':')?;
+    Some(address_of(word_in(adp)?, word_in(ado)?))
+}
+
+/// The number that a word writes in eight hex digits.
+fn long_in(word: &str) -> Option<u32>
+    ensures { result ≡ hex_in 4 word.now }
+{
+    <[u8; 4]>::from_hex(word).ok().map(u32::from_be_bytes)
 }

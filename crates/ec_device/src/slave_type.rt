@@ -213,13 +213,6 @@ impl Pdo {
     }
 }
 
-/// Whether no PDO has this index.
-fn is_free(pdos: &[Pdo], index: u16) -> bool
-    ensures { IsTrue result ↔ All (λ p. p.index ≢ index) pdos.now }
-{
-    pdos.iter().all(|pdo| pdo.index != index)
-}
-
 /// Whether no two PDOs have one index.
 pub fn have_own_indices(pdos: &[Pdo]) -> bool
     ensures { IsTrue result ↔ AllPairs (λ p q. p.index ≢ q.index) pdos.now }
@@ -256,34 +249,6 @@ pub fn copied_pdos(alloc: Global, pdos: &[Pdo]) -> Result<Listed<Pdo>, AllocErro
         })?;
     }
     Ok(copied)
-}
-
-/// A copy of a face, where there is one.
-fn copied_face(alloc: Global, face: &Option<Face>) -> Result<Option<Face>, AllocError>
-    ensures { IfOk result (λ f. f ≡ face.now) }
-{
-    let Some(face) = face else {
-        return Ok(None);
-    };
-    let name = Listed::copied(alloc, face.name.as_slice())?;
-    Ok(Some(Face {
-        name,
-        is_last: face.is_last,
-    }))
-}
-
-/// How many bits the PDOs of a direction have together.
-fn bits_of(pdos: &[Pdo]) -> usize
-    requires few { length pdos.now ≤ 16 }
-    requires small { All (λ p. (length p.entries ≤ 64) × (pdo_bits p ≤ 4096)) pdos.now }
-    ensures value { result ≡ pdos_bits pdos.now }
-    ensures limit { result ≤ 65536 }
-{
-    let mut total = 0;
-    for pdo in pdos {
-        total += pdo.bits();
-    }
-    total
 }
 
 impl SlaveType {
@@ -465,4 +430,39 @@ impl SlaveType {
     {
         bits_of(self.inputs())
     }
+}
+
+/// Whether no PDO has this index.
+fn is_free(pdos: &[Pdo], index: u16) -> bool
+    ensures { IsTrue result ↔ All (λ p. p.index ≢ index) pdos.now }
+{
+    pdos.iter().all(|pdo| pdo.index != index)
+}
+
+/// How many bits the PDOs of a direction have together.
+fn bits_of(pdos: &[Pdo]) -> usize
+    requires few { length pdos.now ≤ 16 }
+    requires small { All (λ p. (length p.entries ≤ 64) × (pdo_bits p ≤ 4096)) pdos.now }
+    ensures value { result ≡ pdos_bits pdos.now }
+    ensures limit { result ≤ 65536 }
+{
+    let mut total = 0;
+    for pdo in pdos {
+        total += pdo.bits();
+    }
+    total
+}
+
+/// A copy of a face, where there is one.
+fn copied_face(alloc: Global, face: &Option<Face>) -> Result<Option<Face>, AllocError>
+    ensures { IfOk result (λ f. f ≡ face.now) }
+{
+    let Some(face) = face else {
+        return Ok(None);
+    };
+    let name = Listed::copied(alloc, face.name.as_slice())?;
+    Ok(Some(Face {
+        name,
+        is_last: face.is_last,
+    }))
 }

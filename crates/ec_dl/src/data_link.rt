@@ -48,31 +48,6 @@ impl Model for DataLink {
     ghost view = { λ d. record { shown = d.is_shown; next = d.has_next; kept = d.kept } };
 }
 
-/// The byte that an address keeps, after a datagram whose bytes lie from `from` on.
-fn byte_kept(from: usize, bytes: &[u8], address: usize, old: u8) -> u8
-    ensures { result ≡ byte_kept from bytes.now address old }
-{
-    if within(from, bytes.len(), address) {
-        bytes[address - from]
-    } else {
-        old
-    }
-}
-
-/// Whether a datagram over `len` bytes from `from` on reaches a register that keeps writes.
-fn reaches_kept(from: usize, len: usize) -> bool
-    ensures { result ≡ list_any (λ a. within_of from len a) kept_registers }
-{
-    KEPT.iter().any(|address| within(from, len, *address))
-}
-
-/// DL status of a full slave, where a slave follows it or not.
-fn status_word(has_next: bool) -> u16
-    ensures { result ≡ status_word has_next }
-{
-    if has_next { FOLLOWED } else { LAST }
-}
-
 impl DataLink {
     /// The registers of a slave that was just switched on: of a full one, which has a face, or of any other.
     pub fn new(face: Option<&Face>) -> Self
@@ -109,21 +84,6 @@ impl DataLink {
         }
     }
 
-    /// What was written to an address, if it keeps that.
-    fn kept_byte(&self, address: usize) -> u8
-        ensures { result ≡ option_map_or (slice_index self.now.kept) (kept_place address) 0 }
-    {
-        match address {
-            0x0100 => self.kept[0],
-            0x0101 => self.kept[1],
-            0x0102 => self.kept[2],
-            0x0103 => self.kept[3],
-            0x0140 => self.kept[4],
-            0x0500 => self.kept[5],
-            _ => 0,
-        }
-    }
-
     /// A datagram writes bytes to the addresses from `from` on: those of a full slave that keep writes take them, and the answer
     /// is whether there is one; all else is left alone.
     #[tactic(auto, unfolding(crate::specs::DataLink::dl_written, crate::specs::DataLink::dl_takes))]
@@ -144,5 +104,45 @@ impl DataLink {
             byte_kept(from, bytes, 0x0500, sii),
         ];
         true
+    }
+
+    /// What was written to an address, if it keeps that.
+    fn kept_byte(&self, address: usize) -> u8
+        ensures { result ≡ option_map_or (slice_index self.now.kept) (kept_place address) 0 }
+    {
+        match address {
+            0x0100 => self.kept[0],
+            0x0101 => self.kept[1],
+            0x0102 => self.kept[2],
+            0x0103 => self.kept[3],
+            0x0140 => self.kept[4],
+            0x0500 => self.kept[5],
+            _ => 0,
+        }
+    }
+}
+
+/// DL status of a full slave, where a slave follows it or not.
+fn status_word(has_next: bool) -> u16
+    ensures { result ≡ status_word has_next }
+{
+    if has_next { FOLLOWED } else { LAST }
+}
+
+/// Whether a datagram over `len` bytes from `from` on reaches a register that keeps writes.
+fn reaches_kept(from: usize, len: usize) -> bool
+    ensures { result ≡ list_any (λ a. within_of from len a) kept_registers }
+{
+    KEPT.iter().any(|address| within(from, len, *address))
+}
+
+/// The byte that an address keeps, after a datagram whose bytes lie from `from` on.
+fn byte_kept(from: usize, bytes: &[u8], address: usize, old: u8) -> u8
+    ensures { result ≡ byte_kept from bytes.now address old }
+{
+    if within(from, bytes.len(), address) {
+        bytes[address - from]
+    } else {
+        old
     }
 }

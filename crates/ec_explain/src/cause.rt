@@ -38,30 +38,6 @@ pub enum Cause {
     Unmet(u64),
 }
 
-/// A text without the mark that some editors write before it.
-fn without_mark(text: &str) -> &str
-    ensures { IsUnmarked text.now result.now }
-{
-    match text.strip_prefix('\u{FEFF}') {
-        Some(rest) => rest,
-        None => text,
-    }
-}
-
-/// Tells of the table that a text states.
-fn tell_of_table(telling: &mut Telling<'_>, text: &str, cause: Cause) -> Result<(), AllocError> {
-    let table = match read_table(telling.alloc, text) {
-        Ok(table) => table,
-        Err(error) if error.number() == 1 => return Err(AllocError),
-        Err(_) => return Ok(()),
-    };
-    match cause {
-        Cause::Link(fault) => tell_link_fault(telling, &table, fault),
-        Cause::Start(error) => tell_start_error(telling, &table, error),
-        _ => Ok(()),
-    }
-}
-
 /// What there is to say of a text that was refused for a cause: which lines are at fault, what is wrong
 /// there, and what to do. It is the text of a link table, and for `Script` all of the text, with the
 /// script. Of a text that isn't the one that was refused it says less. The error is want of memory.
@@ -89,4 +65,28 @@ pub fn remarks_on<'a>(alloc: Global, text: &'a str, cause: Cause) -> Result<Rema
 pub fn explanation(alloc: Global, text: &str, cause: Cause) -> Result<String, AllocError> {
     let remarks = remarks_on(alloc, text, cause)?;
     remarks.told(alloc)
+}
+
+/// Tells of the table that a text states.
+fn tell_of_table(telling: &mut Telling<'_>, text: &str, cause: Cause) -> Result<(), AllocError> {
+    let table = match read_table(telling.alloc, text) {
+        Ok(table) => table,
+        Err(error) if error.number() == 1 => return Err(AllocError),
+        Err(_) => return Ok(()),
+    };
+    match cause {
+        Cause::Link(fault) => tell_link_fault(telling, &table, fault),
+        Cause::Start(error) => tell_start_error(telling, &table, error),
+        _ => Ok(()),
+    }
+}
+
+/// A text without the mark that some editors write before it.
+fn without_mark(text: &str) -> &str
+    ensures { IsUnmarked text.now result.now }
+{
+    match text.strip_prefix('\u{FEFF}') {
+        Some(rest) => rest,
+        None => text,
+    }
 }

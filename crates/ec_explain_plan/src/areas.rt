@@ -49,21 +49,6 @@ impl Area {
     }
 }
 
-/// The area of a direction's process data.
-fn process_area(name: &'static str, key: &'static str, start: u16, bits: usize) -> Option<Area> {
-    let length = bits.div_ceil(8);
-    if length == 0 {
-        return None;
-    }
-    Some(Area {
-        name,
-        start: usize::from(start),
-        span: length.saturating_mul(3),
-        length,
-        key: (key, None),
-    })
-}
-
 /// The areas of a slave of a type with so many bits of outputs and inputs: mailboxes, outputs, inputs.
 pub fn areas_of(
     alloc: Global,
@@ -116,15 +101,6 @@ pub fn first_met(areas: &[Area]) -> Option<(Area, Area)> {
     None
 }
 
-/// Whether an area could begin at an address without meeting those that are elsewhere.
-fn is_free(areas: &[Area], moved: &Area, start: usize) -> bool {
-    let there = Area { start, ..*moved };
-    !there.leaves()
-        && areas
-            .iter()
-            .all(|area| area.name == moved.name || !area.meets(&there))
-}
-
 /// The first address of the RAM where an area would meet none of the others.
 pub fn first_free(areas: &[Area], moved: &Area) -> Option<usize> {
     if is_free(areas, moved, RAM_START) {
@@ -142,4 +118,28 @@ pub fn first_free(areas: &[Area], moved: &Area) -> Option<usize> {
         }
     }
     found
+}
+
+/// The area of a direction's process data.
+fn process_area(name: &'static str, key: &'static str, start: u16, bits: usize) -> Option<Area> {
+    let length = bits.div_ceil(8);
+    if length == 0 {
+        return None;
+    }
+    Some(Area {
+        name,
+        start: usize::from(start),
+        span: length.saturating_mul(3),
+        length,
+        key: (key, None),
+    })
+}
+
+/// Whether an area could begin at an address without meeting those that are elsewhere.
+fn is_free(areas: &[Area], moved: &Area, start: usize) -> bool {
+    let there = Area { start, ..*moved };
+    !there.leaves()
+        && areas
+            .iter()
+            .all(|area| area.name == moved.name || !area.meets(&there))
 }

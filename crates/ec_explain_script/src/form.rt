@@ -81,45 +81,6 @@ static LINES: [(&str, &str); 23] = [
     ("repeat", "repeat N LINE"),
 ];
 
-/// What the words behind a head stand for.
-fn needs_of(head: &str) -> &'static [WordKind] {
-    match head {
-        "set" | "in" | "expect" => &VARIABLE_AND_VALUE,
-        "pass" | "lose" | "return" => &NUMBER,
-        "serve" | "fault" | "reset" => &SLAVE,
-        "put" => &SLAVE_AND_BYTE,
-        "get" => &SLAVE_AND_PLACE,
-        "expect state" => &SLAVE_AND_STATE,
-        _ => &NONE,
-    }
-}
-
-/// What one more word may stand for.
-fn may_of(head: &str) -> Option<WordKind> {
-    match head {
-        "expect taken" | "expect untaken" | "expect failed" => Some(WordKind::Number),
-        "expect state" => Some(WordKind::Code),
-        _ => None,
-    }
-}
-
-/// How many words a head has.
-fn head_words(head: &str) -> usize {
-    head.split(' ').count()
-}
-
-/// Whether words begin as a head does.
-fn begins(words: &[Word<'_>], head: &str) -> bool {
-    let mut place: usize = 0;
-    for word in head.split(' ') {
-        match words.get(place) {
-            Some(found) if found.text == word => place = place.saturating_add(1),
-            _ => return false,
-        }
-    }
-    true
-}
-
 impl LineForm {
     /// What the word at a place behind its head stands for.
     pub fn kind_at(&self, place: usize) -> Option<WordKind> {
@@ -134,12 +95,6 @@ impl LineForm {
     pub fn head_words(&self) -> usize {
         head_words(self.head)
     }
-}
-
-/// Whether one word alone never stands behind a head of `expect`: in a line with one, the second word of the head is the name
-/// of a variable, and the word behind it a value.
-fn is_name_before_value(head: &str) -> bool {
-    head == "expect ready" || head == "expect state"
 }
 
 /// The word between `expect` and the only word behind it.
@@ -173,4 +128,49 @@ pub fn verbs(alloc: Global) -> Result<Vec<&'static str>, AllocError> {
         known.push(head.split(' ').next().unwrap_or(head))?;
     }
     Ok(known)
+}
+
+/// Whether words begin as a head does.
+fn begins(words: &[Word<'_>], head: &str) -> bool {
+    let mut place: usize = 0;
+    for word in head.split(' ') {
+        match words.get(place) {
+            Some(found) if found.text == word => place = place.saturating_add(1),
+            _ => return false,
+        }
+    }
+    true
+}
+
+/// How many words a head has.
+fn head_words(head: &str) -> usize {
+    head.split(' ').count()
+}
+
+/// What one more word may stand for.
+fn may_of(head: &str) -> Option<WordKind> {
+    match head {
+        "expect taken" | "expect untaken" | "expect failed" => Some(WordKind::Number),
+        "expect state" => Some(WordKind::Code),
+        _ => None,
+    }
+}
+
+/// What the words behind a head stand for.
+fn needs_of(head: &str) -> &'static [WordKind] {
+    match head {
+        "set" | "in" | "expect" => &VARIABLE_AND_VALUE,
+        "pass" | "lose" | "return" => &NUMBER,
+        "serve" | "fault" | "reset" => &SLAVE,
+        "put" => &SLAVE_AND_BYTE,
+        "get" => &SLAVE_AND_PLACE,
+        "expect state" => &SLAVE_AND_STATE,
+        _ => &NONE,
+    }
+}
+
+/// Whether one word alone never stands behind a head of `expect`: in a line with one, the second word of the head is the name
+/// of a variable, and the word behind it a value.
+fn is_name_before_value(head: &str) -> bool {
+    head == "expect ready" || head == "expect state"
 }

@@ -117,19 +117,6 @@ pub fn needs_of(section: Section) -> &'static [&'static str] {
     }
 }
 
-/// What a key of a type takes.
-fn rule_of_type(key: &str) -> Rule {
-    match key {
-        "name" => Rule::Name,
-        "mailbox" => Rule::Mailbox,
-        "out_start" | "in_start" => Rule::Number(0, 65535),
-        "rxpdo" => Rule::Pdos(FIRST_OUTPUT_INDEX),
-        "txpdo" => Rule::Pdos(FIRST_INPUT_INDEX),
-        "lrw" => Rule::Truth,
-        _ => Rule::Number(0, u32::MAX),
-    }
-}
-
 /// What a key takes that the section has.
 pub fn rule_of(section: Section, key: &str) -> Rule {
     match (section, key) {
@@ -179,255 +166,6 @@ pub fn taken_by(alloc: Global, rule: Rule) -> Result<String, AllocError> {
     }
 }
 
-/// What stands where another kind of value is wanted.
-fn kind_stands(alloc: Global, value: &Value, wanted: &str) -> Result<Option<String>, AllocError> {
-    let kind = match value.type_str() {
-        "string" => "a text",
-        "integer" => "a whole number",
-        "float" => "a number with a point",
-        "boolean" => "a truth value",
-        "array" => "a list",
-        "table" => "a table",
-        _ => "a date or a time",
-    };
-    let words = format!(in alloc; "{kind} stands where {wanted} is wanted")?;
-    Ok(Some(words))
-}
-
-/// What is wrong with a name.
-fn name_misfit(alloc: Global, value: &Value) -> Result<Option<String>, AllocError> {
-    let Some(name) = value.as_str() else {
-        return kind_stands(alloc, value, "a name in quotes");
-    };
-    let length = name.len();
-    if length == 0 {
-        return Ok(Some(String::from_str(alloc, "a name has 1 character at least")?));
-    }
-    for character in name.chars() {
-        if !(character.is_ascii_alphanumeric() || character == '_') {
-            let mut text = String::new(alloc);
-            text.push(character)?;
-            let odd = printable(alloc, text.as_str())?;
-            let odd = odd.as_str();
-            let words = format!(in alloc; "`{odd}` is no letter of A to Z, no digit and no `_`")?;
-            return Ok(Some(words));
-        }
-    }
-    if length > 32 {
-        let words = format!(in alloc; "a name of {length} characters, and 32 are the most")?;
-        return Ok(Some(words));
-    }
-    Ok(None)
-}
-
-/// What is wrong with a number.
-fn number_misfit(
-    alloc: Global,
-    value: &Value,
-    low: u32,
-    high: u32,
-) -> Result<Option<String>, AllocError> {
-    let Some(number) = value.as_integer() else {
-        return kind_stands(alloc, value, "a whole number");
-    };
-    if i64::from(low) <= number && number <= i64::from(high) {
-        return Ok(None);
-    }
-    let words = if number >= 0 {
-        format!(in alloc; "{number} (0x{number:X}) is not from {low} to {high}")?
-    } else {
-        format!(in alloc; "{number} is not from {low} to {high}")?
-    };
-    Ok(Some(words))
-}
-
-/// What is wrong with an index of a PDO.
-fn index_misfit(alloc: Global, value: &Value, first: u16) -> Result<Option<String>, AllocError> {
-    let last = first.saturating_add(PDO_INDICES - 1);
-    let Some(number) = value.as_integer() else {
-        return kind_stands(alloc, value, "the index of a PDO");
-    };
-    if i64::from(first) <= number && number <= i64::from(last) {
-        return Ok(None);
-    }
-    let (first, last) = (i64::from(first), i64::from(last));
-    let words = if number >= 0 {
-        format!(in alloc; "0x{number:04X} is not from 0x{first:04X} to 0x{last:04X}")?
-    } else {
-        format!(in alloc; "{number} is not from 0x{first:04X} to 0x{last:04X}")?
-    };
-    Ok(Some(words))
-}
-
-/// What is wrong with a list of so many numbers; the mark is led to the one that is wrong.
-fn numbers_misfit(
-    alloc: Global,
-    value: &Value,
-    ranges: &[(u32, u32)],
-    mark: &mut Mark<'_>,
-) -> Result<Option<String>, AllocError> {
-    let Some(items) = value.as_array() else {
-        return kind_stands(alloc, value, "a list of numbers")
-    };
-    let (count, wanted) = (items.len(), ranges.len());
-    if count != wanted {
-        let words = format!(in alloc; "a list of {count}, and {wanted} are wanted")?;
-        return Ok(Some(words));
-    }
-    for (place, (low, high)) in ranges.iter().enumerate() {
-        if let Some(item) = items.get(place) {
-            if let Some(words) = number_misfit(alloc, item, *low, *high)? {
-                mark.way.push(PathStep::Item(place))?;
-                return Ok(Some(words));
-            }
-        }
-    }
-    Ok(None)
-}
-
-/// What is wrong with an entry.
-fn entry_misfit(
-    alloc: Global,
-    value: &Value,
-    mark: &mut Mark<'_>,
-) -> Result<Option<String>, AllocError> {
-    if let Some(words) = numbers_misfit(alloc, value, &ENTRY, mark)? {
-        return Ok(Some(words));
-    }
-    let index = value.get(0).and_then(|item| item.as_integer());
-    let subindex = value.get(1).and_then(|item| item.as_integer());
-    if index == Some(0) && subindex != Some(0) {
-        let words = "a gap, which has index 0, has subindex 0 too";
-        return Ok(Some(String::from_str(alloc, words)?));
-    }
-    Ok(None)
-}
-
-/// What is wrong with entries; the mark is led to what is wrong.
-fn entries_misfit(
-    alloc: Global,
-    value: &Value,
-    mark: &mut Mark<'_>,
-) -> Result<Option<String>, AllocError> {
-    let Some(entries) = value.as_array() else {
-        return kind_stands(alloc, value, "a list of entries");
-    };
-    for (place, entry) in entries.as_slice().iter().enumerate() {
-        mark.way.push(PathStep::Item(place))?;
-        if let Some(words) = entry_misfit(alloc, entry, mark)? {
-            return Ok(Some(words));
-        }
-        let _ = mark.way.pop();
-    }
-    let count = entries.len();
-    if count > MAX_ENTRIES {
-        let words = format!(in alloc; "{count} entries, and {MAX_ENTRIES} are the most")?;
-        return Ok(Some(words));
-    }
-    Ok(None)
-}
-
-/// What is wrong with the keys of a PDO; the mark is led to the key that is wrong.
-fn pdo_keys_misfit<'s>(
-    alloc: Global,
-    members: &'s toml::Table,
-    mark: &mut Mark<'s>,
-) -> Result<Option<String>, AllocError> {
-    for key in members.keys() {
-        if !is_among(key.as_str(), &PDO_KEYS) {
-            let shown = printable(alloc, key.as_str())?;
-            let near = meant(alloc, key.as_str(), &PDO_KEYS)?;
-            let (shown, near) = (shown.as_str(), near.as_str());
-            let words = format!(in alloc; "`{shown}` is no key of a PDO{near}")?;
-            mark.way.push(PathStep::Key(key.as_str()))?;
-            mark.part = MarkedPart::Key;
-            return Ok(Some(words));
-        }
-    }
-    let lacks = lacking(alloc, members, &PDO_KEYS)?;
-    if lacks.is_empty() {
-        return Ok(None);
-    }
-    let lacks = lacks.as_str();
-    let words = format!(in alloc; "this PDO lacks {lacks}")?;
-    Ok(Some(words))
-}
-
-/// What is wrong with a PDO; the mark is led to what is wrong.
-fn pdo_misfit<'s>(
-    alloc: Global,
-    value: &'s Value,
-    first: u16,
-    mark: &mut Mark<'s>,
-) -> Result<Option<String>, AllocError> {
-    let Some(members) = value.as_table() else {
-        return kind_stands(alloc, value, "a PDO, `{ index = .., entries = [..] }`,");
-    };
-    if let Some(words) = pdo_keys_misfit(alloc, members, mark)? {
-        return Ok(Some(words));
-    }
-    if let Some(index) = members.get("index") {
-        if let Some(words) = index_misfit(alloc, index, first)? {
-            mark.way.push(PathStep::Key("index"))?;
-            return Ok(Some(words));
-        }
-    }
-    if let Some(entries) = members.get("entries") {
-        mark.way.push(PathStep::Key("entries"))?;
-        let misfit = entries_misfit(alloc, entries, mark)?;
-        if misfit.is_some() {
-            return Ok(misfit);
-        }
-        let _ = mark.way.pop();
-    }
-    Ok(None)
-}
-
-/// What is wrong with PDOs; the mark is led to what is wrong.
-fn pdos_misfit<'s>(
-    alloc: Global,
-    value: &'s Value,
-    first: u16,
-    mark: &mut Mark<'s>,
-) -> Result<Option<String>, AllocError> {
-    let Some(pdos) = value.as_array() else {
-        return kind_stands(alloc, value, "a list of PDOs");
-    };
-    for (place, pdo) in pdos.as_slice().iter().enumerate() {
-        mark.way.push(PathStep::Item(place))?;
-        let misfit = pdo_misfit(alloc, pdo, first, mark)?;
-        if misfit.is_some() {
-            return Ok(misfit);
-        }
-        let _ = mark.way.pop();
-    }
-    let count = pdos.len();
-    if count > MAX_PDOS {
-        let words = format!(in alloc; "{count} PDOs, and {MAX_PDOS} are the most")?;
-        return Ok(Some(words));
-    }
-    Ok(None)
-}
-
-/// What is wrong with a list of indices; the mark is led to the one that is wrong.
-fn indices_misfit(
-    alloc: Global,
-    value: &Value,
-    first: u16,
-    mark: &mut Mark<'_>,
-) -> Result<Option<String>, AllocError> {
-    let Some(indices) = value.as_array() else {
-        return kind_stands(alloc, value, "a list of PDO indices");
-    };
-    for (place, index) in indices.as_slice().iter().enumerate() {
-        if let Some(words) = index_misfit(alloc, index, first)? {
-            mark.way.push(PathStep::Item(place))?;
-            return Ok(Some(words));
-        }
-    }
-    Ok(None)
-}
-
 /// In words how a value doesn't fit a rule, if it doesn't; the mark is led to what is wrong.
 pub fn misfit<'s>(
     alloc: Global,
@@ -463,4 +201,266 @@ pub fn lacking(alloc: Global, members: &toml::Table, names: &[&str]) -> Result<S
         }
     }
     listing(alloc, lacks.as_slice())
+}
+
+/// What a key of a type takes.
+fn rule_of_type(key: &str) -> Rule {
+    match key {
+        "name" => Rule::Name,
+        "mailbox" => Rule::Mailbox,
+        "out_start" | "in_start" => Rule::Number(0, 65535),
+        "rxpdo" => Rule::Pdos(FIRST_OUTPUT_INDEX),
+        "txpdo" => Rule::Pdos(FIRST_INPUT_INDEX),
+        "lrw" => Rule::Truth,
+        _ => Rule::Number(0, u32::MAX),
+    }
+}
+
+/// What is wrong with a list of indices; the mark is led to the one that is wrong.
+fn indices_misfit(
+    alloc: Global,
+    value: &Value,
+    first: u16,
+    mark: &mut Mark<'_>,
+) -> Result<Option<String>, AllocError> {
+    let Some(indices) = value.as_array() else {
+        return kind_stands(alloc, value, "a list of PDO indices");
+    };
+    for (place, index) in indices.as_slice().iter().enumerate() {
+        if let Some(words) = index_misfit(alloc, index, first)? {
+            mark.way.push(PathStep::Item(place))?;
+            return Ok(Some(words));
+        }
+    }
+    Ok(None)
+}
+
+/// What is wrong with PDOs; the mark is led to what is wrong.
+fn pdos_misfit<'s>(
+    alloc: Global,
+    value: &'s Value,
+    first: u16,
+    mark: &mut Mark<'s>,
+) -> Result<Option<String>, AllocError> {
+    let Some(pdos) = value.as_array() else {
+        return kind_stands(alloc, value, "a list of PDOs");
+    };
+    for (place, pdo) in pdos.as_slice().iter().enumerate() {
+        mark.way.push(PathStep::Item(place))?;
+        let misfit = pdo_misfit(alloc, pdo, first, mark)?;
+        if misfit.is_some() {
+            return Ok(misfit);
+        }
+        let _ = mark.way.pop();
+    }
+    let count = pdos.len();
+    if count > MAX_PDOS {
+        let words = format!(in alloc; "{count} PDOs, and {MAX_PDOS} are the most")?;
+        return Ok(Some(words));
+    }
+    Ok(None)
+}
+
+/// What is wrong with a PDO; the mark is led to what is wrong.
+fn pdo_misfit<'s>(
+    alloc: Global,
+    value: &'s Value,
+    first: u16,
+    mark: &mut Mark<'s>,
+) -> Result<Option<String>, AllocError> {
+    let Some(members) = value.as_table() else {
+        return kind_stands(alloc, value, "a PDO, `{ index = .., entries = [..] }`,");
+    };
+    if let Some(words) = pdo_keys_misfit(alloc, members, mark)? {
+        return Ok(Some(words));
+    }
+    if let Some(index) = members.get("index") {
+        if let Some(words) = index_misfit(alloc, index, first)? {
+            mark.way.push(PathStep::Key("index"))?;
+            return Ok(Some(words));
+        }
+    }
+    if let Some(entries) = members.get("entries") {
+        mark.way.push(PathStep::Key("entries"))?;
+        let misfit = entries_misfit(alloc, entries, mark)?;
+        if misfit.is_some() {
+            return Ok(misfit);
+        }
+        let _ = mark.way.pop();
+    }
+    Ok(None)
+}
+
+/// What is wrong with the keys of a PDO; the mark is led to the key that is wrong.
+fn pdo_keys_misfit<'s>(
+    alloc: Global,
+    members: &'s toml::Table,
+    mark: &mut Mark<'s>,
+) -> Result<Option<String>, AllocError> {
+    for key in members.keys() {
+        if !is_among(key.as_str(), &PDO_KEYS) {
+            let shown = printable(alloc, key.as_str())?;
+            let near = meant(alloc, key.as_str(), &PDO_KEYS)?;
+            let (shown, near) = (shown.as_str(), near.as_str());
+            let words = format!(in alloc; "`{shown}` is no key of a PDO{near}")?;
+            mark.way.push(PathStep::Key(key.as_str()))?;
+            mark.part = MarkedPart::Key;
+            return Ok(Some(words));
+        }
+    }
+    let lacks = lacking(alloc, members, &PDO_KEYS)?;
+    if lacks.is_empty() {
+        return Ok(None);
+    }
+    let lacks = lacks.as_str();
+    let words = format!(in alloc; "this PDO lacks {lacks}")?;
+    Ok(Some(words))
+}
+
+/// What is wrong with entries; the mark is led to what is wrong.
+fn entries_misfit(
+    alloc: Global,
+    value: &Value,
+    mark: &mut Mark<'_>,
+) -> Result<Option<String>, AllocError> {
+    let Some(entries) = value.as_array() else {
+        return kind_stands(alloc, value, "a list of entries");
+    };
+    for (place, entry) in entries.as_slice().iter().enumerate() {
+        mark.way.push(PathStep::Item(place))?;
+        if let Some(words) = entry_misfit(alloc, entry, mark)? {
+            return Ok(Some(words));
+        }
+        let _ = mark.way.pop();
+    }
+    let count = entries.len();
+    if count > MAX_ENTRIES {
+        let words = format!(in alloc; "{count} entries, and {MAX_ENTRIES} are the most")?;
+        return Ok(Some(words));
+    }
+    Ok(None)
+}
+
+/// What is wrong with an entry.
+fn entry_misfit(
+    alloc: Global,
+    value: &Value,
+    mark: &mut Mark<'_>,
+) -> Result<Option<String>, AllocError> {
+    if let Some(words) = numbers_misfit(alloc, value, &ENTRY, mark)? {
+        return Ok(Some(words));
+    }
+    let index = value.get(0).and_then(|item| item.as_integer());
+    let subindex = value.get(1).and_then(|item| item.as_integer());
+    if index == Some(0) && subindex != Some(0) {
+        let words = "a gap, which has index 0, has subindex 0 too";
+        return Ok(Some(String::from_str(alloc, words)?));
+    }
+    Ok(None)
+}
+
+/// What is wrong with a list of so many numbers; the mark is led to the one that is wrong.
+fn numbers_misfit(
+    alloc: Global,
+    value: &Value,
+    ranges: &[(u32, u32)],
+    mark: &mut Mark<'_>,
+) -> Result<Option<String>, AllocError> {
+    let Some(items) = value.as_array() else {
+        return kind_stands(alloc, value, "a list of numbers")
+    };
+    let (count, wanted) = (items.len(), ranges.len());
+    if count != wanted {
+        let words = format!(in alloc; "a list of {count}, and {wanted} are wanted")?;
+        return Ok(Some(words));
+    }
+    for (place, (low, high)) in ranges.iter().enumerate() {
+        if let Some(item) = items.get(place) {
+            if let Some(words) = number_misfit(alloc, item, *low, *high)? {
+                mark.way.push(PathStep::Item(place))?;
+                return Ok(Some(words));
+            }
+        }
+    }
+    Ok(None)
+}
+
+/// What is wrong with an index of a PDO.
+fn index_misfit(alloc: Global, value: &Value, first: u16) -> Result<Option<String>, AllocError> {
+    let last = first.saturating_add(PDO_INDICES - 1);
+    let Some(number) = value.as_integer() else {
+        return kind_stands(alloc, value, "the index of a PDO");
+    };
+    if i64::from(first) <= number && number <= i64::from(last) {
+        return Ok(None);
+    }
+    let (first, last) = (i64::from(first), i64::from(last));
+    let words = if number >= 0 {
+        format!(in alloc; "0x{number:04X} is not from 0x{first:04X} to 0x{last:04X}")?
+    } else {
+        format!(in alloc; "{number} is not from 0x{first:04X} to 0x{last:04X}")?
+    };
+    Ok(Some(words))
+}
+
+/// What is wrong with a number.
+fn number_misfit(
+    alloc: Global,
+    value: &Value,
+    low: u32,
+    high: u32,
+) -> Result<Option<String>, AllocError> {
+    let Some(number) = value.as_integer() else {
+        return kind_stands(alloc, value, "a whole number");
+    };
+    if i64::from(low) <= number && number <= i64::from(high) {
+        return Ok(None);
+    }
+    let words = if number >= 0 {
+        format!(in alloc; "{number} (0x{number:X}) is not from {low} to {high}")?
+    } else {
+        format!(in alloc; "{number} is not from {low} to {high}")?
+    };
+    Ok(Some(words))
+}
+
+/// What is wrong with a name.
+fn name_misfit(alloc: Global, value: &Value) -> Result<Option<String>, AllocError> {
+    let Some(name) = value.as_str() else {
+        return kind_stands(alloc, value, "a name in quotes");
+    };
+    let length = name.len();
+    if length == 0 {
+        return Ok(Some(String::from_str(alloc, "a name has 1 character at least")?));
+    }
+    for character in name.chars() {
+        if !(character.is_ascii_alphanumeric() || character == '_') {
+            let mut text = String::new(alloc);
+            text.push(character)?;
+            let odd = printable(alloc, text.as_str())?;
+            let odd = odd.as_str();
+            let words = format!(in alloc; "`{odd}` is no letter of A to Z, no digit and no `_`")?;
+            return Ok(Some(words));
+        }
+    }
+    if length > 32 {
+        let words = format!(in alloc; "a name of {length} characters, and 32 are the most")?;
+        return Ok(Some(words));
+    }
+    Ok(None)
+}
+
+/// What stands where another kind of value is wanted.
+fn kind_stands(alloc: Global, value: &Value, wanted: &str) -> Result<Option<String>, AllocError> {
+    let kind = match value.type_str() {
+        "string" => "a text",
+        "integer" => "a whole number",
+        "float" => "a number with a point",
+        "boolean" => "a truth value",
+        "array" => "a list",
+        "table" => "a table",
+        _ => "a date or a time",
+    };
+    let words = format!(in alloc; "{kind} stands where {wanted} is wanted")?;
+    Ok(Some(words))
 }

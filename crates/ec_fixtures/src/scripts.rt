@@ -14,106 +14,36 @@ struct Named<'a> {
     is_output: bool,
 }
 
-/// The variable in the lines behind a section's head, as `random_table` writes them; none where they are another section's.
-fn variable_in(lines: &str) -> Option<Named<'_>> {
-    let mut lines = lines.lines();
-    let name = lines.next()?.strip_prefix("name = \"")?.strip_suffix("\"")?;
-    let direction = lines.next()?.strip_prefix("dir = \"")?;
-    let bits = lines.next()?.strip_prefix("bits = ")?.parse::<u32>().ok()?;
-    Some(Named {
-        name,
-        bits,
-        is_output: direction == "out\"",
-    })
-}
-
-/// The variables of a table.
-fn variables_of(alloc: Global, table: &str) -> Result<Vec<Named<'_>>, AllocError> {
-    let mut variables = Vec::new(alloc);
-    for lines in table.split("[[variable]]\n") {
-        if let Some(variable) = variable_in(lines) {
-            variables.push(variable)?;
-        }
-    }
-    Ok(variables)
-}
-
-/// One of these variables; none where there is none.
-fn one_of<'a>(random: &mut Random, variables: &[Named<'a>]) -> Option<Named<'a>> {
-    let place = random.place(variables.len());
-    variables.get(place).copied()
-}
-
-/// A value in decimal, in hex or with a sign, which most times the variable's bits hold.
-fn write_value(random: &mut Random, text: &mut String, bits: u32) -> Result<(), AllocError> {
-    let spare = 32u32.saturating_sub(bits);
-    let value = random.word().checked_shr(spare).unwrap_or(0);
-    match random.below(5) {
-        0 => write!(text, " 0x{value:x}"),
-        1 => write!(text, " -{value}"),
-        2 => write!(text, " 0"),
-        _ => write!(text, " {value}"),
-    }
-}
-
-/// A line of a word, a variable and a value; where there is no variable, a line that shows the inputs.
-fn write_valued(
+/// The text of a script on a table that `random_table` made: a start-up, and twenty lines at random. Each can be made or not, as the
+/// table has slaves and the lines before have it. It is for tests: no more is promised than that it is made, or memory refused.
+pub fn random_script(
+    alloc: Global,
     random: &mut Random,
-    text: &mut String,
-    word: &str,
-    variable: Option<Named<'_>>,
-) -> Result<(), AllocError> {
-    let Some(variable) = variable else {
-        return write!(text, "show");
-    };
-    let name = variable.name;
-    write!(text, "{word} {name}")?;
-    write_value(random, text, variable.bits)
+    table: &str,
+) -> Result<String, AllocError> {
+    let variables = variables_of(alloc, table)?;
+    let mut text = String::from_str(alloc, "ready\n")?;
+    for _ in 0..LINES {
+        write_line(random, &mut text, variables.as_slice())?;
+    }
+    Ok(text)
 }
 
-/// A line that sets an output variable, or has the slaves publish an input variable.
-fn write_set(
+/// A line, some with `repeat` before what it does, and some with a comment behind it.
+fn write_line(
     random: &mut Random,
     text: &mut String,
     variables: &[Named<'_>],
 ) -> Result<(), AllocError> {
-    let variable = one_of(random, variables);
-    let word = match variable {
-        Some(found) if !found.is_output => "in",
-        _ => "set",
-    };
-    write_valued(random, text, word, variable)
-}
-
-/// A line that expects something of the last report or of the start-up.
-fn write_outcome(random: &mut Random, text: &mut String) -> Result<(), AllocError> {
-    let unit = random.below(3);
-    match random.below(6) {
-        0 => write!(text, "expect taken"),
-        1 => write!(text, "expect untaken"),
-        2 => write!(text, "expect taken {unit}"),
-        3 => write!(text, "expect failed"),
-        4 => write!(text, "expect failed 32"),
-        _ => write!(text, "expect ready"),
+    if random.in_hundred(15) {
+        let times = 1 + random.below(4);
+        write!(text, "repeat {times} ")?;
     }
-}
-
-/// A line that expects something of the world.
-fn write_expectation(
-    random: &mut Random,
-    text: &mut String,
-    variables: &[Named<'_>],
-) -> Result<(), AllocError> {
-    let slave = random.below(5);
-    match random.below(4) {
-        0 => write!(text, "expect state {slave} OP"),
-        1 => write!(text, "expect state {slave} PREOP 0000"),
-        2 => write_outcome(random, text),
-        _ => {
-            let variable = one_of(random, variables);
-            write_valued(random, text, "expect", variable)
-        }
+    write_act(random, text, variables)?;
+    if random.in_hundred(10) {
+        write!(text, "  # as it comes")?;
     }
+    writeln!(text)
 }
 
 /// What a line does: a line of a script on every table, if it names no variable.
@@ -143,34 +73,104 @@ fn write_act(
     }
 }
 
-/// A line, some with `repeat` before what it does, and some with a comment behind it.
-fn write_line(
+/// A line that expects something of the world.
+fn write_expectation(
     random: &mut Random,
     text: &mut String,
     variables: &[Named<'_>],
 ) -> Result<(), AllocError> {
-    if random.in_hundred(15) {
-        let times = 1 + random.below(4);
-        write!(text, "repeat {times} ")?;
+    let slave = random.below(5);
+    match random.below(4) {
+        0 => write!(text, "expect state {slave} OP"),
+        1 => write!(text, "expect state {slave} PREOP 0000"),
+        2 => write_outcome(random, text),
+        _ => {
+            let variable = one_of(random, variables);
+            write_valued(random, text, "expect", variable)
+        }
     }
-    write_act(random, text, variables)?;
-    if random.in_hundred(10) {
-        write!(text, "  # as it comes")?;
-    }
-    writeln!(text)
 }
 
-/// The text of a script on a table that `random_table` made: a start-up, and twenty lines at random. Each can be made or not, as the
-/// table has slaves and the lines before have it. It is for tests: no more is promised than that it is made, or memory refused.
-pub fn random_script(
-    alloc: Global,
-    random: &mut Random,
-    table: &str,
-) -> Result<String, AllocError> {
-    let variables = variables_of(alloc, table)?;
-    let mut text = String::from_str(alloc, "ready\n")?;
-    for _ in 0..LINES {
-        write_line(random, &mut text, variables.as_slice())?;
+/// A line that expects something of the last report or of the start-up.
+fn write_outcome(random: &mut Random, text: &mut String) -> Result<(), AllocError> {
+    let unit = random.below(3);
+    match random.below(6) {
+        0 => write!(text, "expect taken"),
+        1 => write!(text, "expect untaken"),
+        2 => write!(text, "expect taken {unit}"),
+        3 => write!(text, "expect failed"),
+        4 => write!(text, "expect failed 32"),
+        _ => write!(text, "expect ready"),
     }
-    Ok(text)
+}
+
+/// A line that sets an output variable, or has the slaves publish an input variable.
+fn write_set(
+    random: &mut Random,
+    text: &mut String,
+    variables: &[Named<'_>],
+) -> Result<(), AllocError> {
+    let variable = one_of(random, variables);
+    let word = match variable {
+        Some(found) if !found.is_output => "in",
+        _ => "set",
+    };
+    write_valued(random, text, word, variable)
+}
+
+/// A line of a word, a variable and a value; where there is no variable, a line that shows the inputs.
+fn write_valued(
+    random: &mut Random,
+    text: &mut String,
+    word: &str,
+    variable: Option<Named<'_>>,
+) -> Result<(), AllocError> {
+    let Some(variable) = variable else {
+        return write!(text, "show");
+    };
+    let name = variable.name;
+    write!(text, "{word} {name}")?;
+    write_value(random, text, variable.bits)
+}
+
+/// A value in decimal, in hex or with a sign, which most times the variable's bits hold.
+fn write_value(random: &mut Random, text: &mut String, bits: u32) -> Result<(), AllocError> {
+    let spare = 32u32.saturating_sub(bits);
+    let value = random.word().checked_shr(spare).unwrap_or(0);
+    match random.below(5) {
+        0 => write!(text, " 0x{value:x}"),
+        1 => write!(text, " -{value}"),
+        2 => write!(text, " 0"),
+        _ => write!(text, " {value}"),
+    }
+}
+
+/// One of these variables; none where there is none.
+fn one_of<'a>(random: &mut Random, variables: &[Named<'a>]) -> Option<Named<'a>> {
+    let place = random.place(variables.len());
+    variables.get(place).copied()
+}
+
+/// The variables of a table.
+fn variables_of(alloc: Global, table: &str) -> Result<Vec<Named<'_>>, AllocError> {
+    let mut variables = Vec::new(alloc);
+    for lines in table.split("[[variable]]\n") {
+        if let Some(variable) = variable_in(lines) {
+            variables.push(variable)?;
+        }
+    }
+    Ok(variables)
+}
+
+/// The variable in the lines behind a section's head, as `random_table` writes them; none where they are another section's.
+fn variable_in(lines: &str) -> Option<Named<'_>> {
+    let mut lines = lines.lines();
+    let name = lines.next()?.strip_prefix("name = \"")?.strip_suffix("\"")?;
+    let direction = lines.next()?.strip_prefix("dir = \"")?;
+    let bits = lines.next()?.strip_prefix("bits = ")?.parse::<u32>().ok()?;
+    Some(Named {
+        name,
+        bits,
+        is_output: direction == "out\"",
+    })
 }

@@ -26,23 +26,53 @@ const INPUTS: Objects<'static> = Objects {
     entry: 0x6000,
 };
 
-/// A variable, and its link with all bits of an entry.
-fn write_link(
+/// The text of a link table of up to five slaves, of either version, in up to three units: slaves with and without a mailbox, outputs,
+/// inputs and LRW. It ends in a line feed, or is empty. It is for tests: no more is promised than that it is made, or memory refused.
+pub fn random_table(alloc: Global, random: &mut Random) -> Result<String, AllocError> {
+    let (mut text, mut links) = (String::new(alloc), String::new(alloc));
+    let has_units = random.in_hundred(50);
+    if has_units {
+        writeln!(text, "version = 2")?;
+    }
+    for slave in 0..random.below(6) {
+        write_slave(random, &mut text, &mut links, slave, has_units)?;
+    }
+    text.push_str(links.as_str())?;
+    Ok(text)
+}
+
+/// A slave of a type of its own.
+fn write_slave(
+    random: &mut Random,
+    text: &mut String,
     links: &mut String,
-    objects: &Objects<'_>,
     slave: u32,
-    sub: u32,
-    bits: u32,
+    has_units: bool,
 ) -> Result<(), AllocError> {
-    let (direction, entry) = (objects.direction, objects.entry);
+    write_type(random, text, slave)?;
+    write_objects(random, text, links, &OUTPUTS, slave)?;
+    write_objects(random, text, links, &INPUTS, slave)?;
+    writeln!(text, "[[slave]]\nname = \"s{slave}\"\ntype = \"t{slave}\"")?;
+    if has_units {
+        let unit = random.below(3);
+        writeln!(text, "unit = {unit}")?;
+    }
+    Ok(())
+}
+
+/// The head of a slave's type: who made it, whether it takes part in LRW, where its process data begins, and its mailbox, if any.
+fn write_type(random: &mut Random, text: &mut String, slave: u32) -> Result<(), AllocError> {
+    let (product, revision) = (random.below(20), random.below(20));
+    let is_whole = random.in_hundred(75);
     writeln!(
-        links,
-        "[[variable]]\nname = \"{direction}{slave}_{sub}\"\ndir = \"{direction}\"\nbits = {bits}"
+        text,
+        "[[type]]\nname = \"t{slave}\"\nvendor = 1\nproduct = {product}\nrevision = {revision}\nlrw = {is_whole}"
     )?;
-    writeln!(
-        links,
-        "[[link]]\nvar = \"{direction}{slave}_{sub}\"\nslave = \"s{slave}\"\nindex = {entry}\nsub = {sub}"
-    )
+    writeln!(text, "out_start = 0x1100\nin_start = 0x1400")?;
+    if random.in_hundred(30) {
+        writeln!(text, "mailbox = [0x1000, 64, 0x1080, 64]")?;
+    }
+    Ok(())
 }
 
 /// The objects of a slave in a direction: no process data object, or one with up to three entries, of which most are linked.
@@ -68,51 +98,21 @@ fn write_objects(
     writeln!(text, "] }} ]")
 }
 
-/// The head of a slave's type: who made it, whether it takes part in LRW, where its process data begins, and its mailbox, if any.
-fn write_type(random: &mut Random, text: &mut String, slave: u32) -> Result<(), AllocError> {
-    let (product, revision) = (random.below(20), random.below(20));
-    let is_whole = random.in_hundred(75);
-    writeln!(
-        text,
-        "[[type]]\nname = \"t{slave}\"\nvendor = 1\nproduct = {product}\nrevision = {revision}\nlrw = {is_whole}"
-    )?;
-    writeln!(text, "out_start = 0x1100\nin_start = 0x1400")?;
-    if random.in_hundred(30) {
-        writeln!(text, "mailbox = [0x1000, 64, 0x1080, 64]")?;
-    }
-    Ok(())
-}
-
-/// A slave of a type of its own.
-fn write_slave(
-    random: &mut Random,
-    text: &mut String,
+/// A variable, and its link with all bits of an entry.
+fn write_link(
     links: &mut String,
+    objects: &Objects<'_>,
     slave: u32,
-    has_units: bool,
+    sub: u32,
+    bits: u32,
 ) -> Result<(), AllocError> {
-    write_type(random, text, slave)?;
-    write_objects(random, text, links, &OUTPUTS, slave)?;
-    write_objects(random, text, links, &INPUTS, slave)?;
-    writeln!(text, "[[slave]]\nname = \"s{slave}\"\ntype = \"t{slave}\"")?;
-    if has_units {
-        let unit = random.below(3);
-        writeln!(text, "unit = {unit}")?;
-    }
-    Ok(())
-}
-
-/// The text of a link table of up to five slaves, of either version, in up to three units: slaves with and without a mailbox, outputs,
-/// inputs and LRW. It ends in a line feed, or is empty. It is for tests: no more is promised than that it is made, or memory refused.
-pub fn random_table(alloc: Global, random: &mut Random) -> Result<String, AllocError> {
-    let (mut text, mut links) = (String::new(alloc), String::new(alloc));
-    let has_units = random.in_hundred(50);
-    if has_units {
-        writeln!(text, "version = 2")?;
-    }
-    for slave in 0..random.below(6) {
-        write_slave(random, &mut text, &mut links, slave, has_units)?;
-    }
-    text.push_str(links.as_str())?;
-    Ok(text)
+    let (direction, entry) = (objects.direction, objects.entry);
+    writeln!(
+        links,
+        "[[variable]]\nname = \"{direction}{slave}_{sub}\"\ndir = \"{direction}\"\nbits = {bits}"
+    )?;
+    writeln!(
+        links,
+        "[[link]]\nvar = \"{direction}{slave}_{sub}\"\nslave = \"s{slave}\"\nindex = {entry}\nsub = {sub}"
+    )
 }

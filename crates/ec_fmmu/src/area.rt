@@ -34,6 +34,38 @@ struct ByteRun {
     start: u64,
 }
 
+/// The area that four FMMUs map, where they are set as usual: at most the first writes, and at most the second reads. None says
+/// nothing.
+pub(crate) fn area_of(fmmus: &[Fmmu; 4]) -> Option<MappedArea>
+    ensures { IfSome result (λ a. IsMappedBy fmmus.now a) }
+{
+    let (outputs, inputs) = (&fmmus[0], &fmmus[1]);
+    if outputs.reads() || inputs.writes() || !is_idle(&fmmus[2]) || !is_idle(&fmmus[3]) {
+        return None;
+    }
+    // a direction without an FMMU lies where the other one does
+    let only = if outputs.writes() { outputs } else { inputs };
+    let at = only.first_logical();
+    let out = run_of(outputs, outputs.writes(), at)?;
+    let inside = run_of(inputs, inputs.reads(), at)?;
+    Some(MappedArea {
+        outs: out.bits,
+        out_at: out.at,
+        out_start: out.start,
+        ins: inside.bits,
+        in_at: inside.at,
+        in_start: inside.start,
+    })
+}
+
+/// Whether an FMMU goes in no direction.
+fn is_idle(fmmu: &Fmmu) -> bool
+    ensures reads { OnTrue result (fmmu.now.reads ≡ false) }
+    ensures writes { OnTrue result (fmmu.now.writes ≡ false) }
+{
+    !fmmu.reads() && !fmmu.writes()
+}
+
 /// What an FMMU maps that goes in a direction, if that begins with bit 0 of a byte and lies in the RAM; no bits, from a logical
 /// bit of the caller's, where it doesn't go that way.
 fn run_of(fmmu: &Fmmu, goes: bool, otherwise: u64) -> Option<ByteRun>
@@ -61,37 +93,5 @@ fn run_of(fmmu: &Fmmu, goes: bool, otherwise: u64) -> Option<ByteRun>
         at: fmmu.first_logical(),
         bits,
         start,
-    })
-}
-
-/// Whether an FMMU goes in no direction.
-fn is_idle(fmmu: &Fmmu) -> bool
-    ensures reads { OnTrue result (fmmu.now.reads ≡ false) }
-    ensures writes { OnTrue result (fmmu.now.writes ≡ false) }
-{
-    !fmmu.reads() && !fmmu.writes()
-}
-
-/// The area that four FMMUs map, where they are set as usual: at most the first writes, and at most the second reads. None says
-/// nothing.
-pub(crate) fn area_of(fmmus: &[Fmmu; 4]) -> Option<MappedArea>
-    ensures { IfSome result (λ a. IsMappedBy fmmus.now a) }
-{
-    let (outputs, inputs) = (&fmmus[0], &fmmus[1]);
-    if outputs.reads() || inputs.writes() || !is_idle(&fmmus[2]) || !is_idle(&fmmus[3]) {
-        return None;
-    }
-    // a direction without an FMMU lies where the other one does
-    let only = if outputs.writes() { outputs } else { inputs };
-    let at = only.first_logical();
-    let out = run_of(outputs, outputs.writes(), at)?;
-    let inside = run_of(inputs, inputs.reads(), at)?;
-    Some(MappedArea {
-        outs: out.bits,
-        out_at: out.at,
-        out_start: out.start,
-        ins: inside.bits,
-        in_at: inside.at,
-        in_start: inside.start,
     })
 }

@@ -6,18 +6,6 @@ ghost use Rattle.ec_fmmu.specs.Apart.{AreApart};
 
 use crate::mapping::Fmmu;
 
-/// Whether no FMMU that writes has a physical bit of the range of one.
-fn is_unwritten(fmmus: &[Fmmu], reader: &Fmmu) -> bool
-    ensures { OnTrue result (IsUnwritten fmmus.now reader.now) }
-{
-    for k in 0..fmmus.len() {
-        if fmmus[k].writes() && !fmmus[k].is_physically_apart_from(reader) {
-            return false;
-        }
-    }
-    true
-}
-
 /// Whether no physical bit is in the range of an FMMU that reads and of one that writes, so that
 /// what a datagram reads it does not write, and may be written first. False says nothing.
 #[tactic(auto, using(crate::proofs::ApartLaws::unwritten_apart))]
@@ -26,6 +14,18 @@ pub fn are_apart(fmmus: &[Fmmu]) -> bool
 {
     for k in 0..fmmus.len() {
         if fmmus[k].reads() && !is_unwritten(fmmus, &fmmus[k]) {
+            return false;
+        }
+    }
+    true
+}
+
+/// Whether no FMMU that writes has a physical bit of the range of one.
+fn is_unwritten(fmmus: &[Fmmu], reader: &Fmmu) -> bool
+    ensures { OnTrue result (IsUnwritten fmmus.now reader.now) }
+{
+    for k in 0..fmmus.len() {
+        if fmmus[k].writes() && !fmmus[k].is_physically_apart_from(reader) {
             return false;
         }
     }

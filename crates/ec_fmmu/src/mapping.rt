@@ -18,14 +18,6 @@ pub(crate) fn within(from: u64, count: u64, place: u64) -> bool
     from <= place && place - from < count
 }
 
-/// Whether a physical bit lies in the RAM.
-fn is_ram_bit(physical: u64) -> bool
-    ensures { result ≡ is_ram_bit_of physical }
-{
-    let address = physical / 8;
-    RAM_START as u64 <= address && address < RAM_END as u64
-}
-
 /// One FMMU (fieldbus memory management unit): a set of pairs of a logical and a physical bit.
 #[derive(Clone, Copy, Debug, PartialEq, Eq)]
 pub struct Fmmu {
@@ -182,4 +174,12 @@ impl Fmmu {
             None
         }
     }
+}
+
+/// Whether a physical bit lies in the RAM.
+fn is_ram_bit(physical: u64) -> bool
+    ensures { result ≡ is_ram_bit_of physical }
+{
+    let address = physical / 8;
+    RAM_START as u64 <= address && address < RAM_END as u64
 }

@@ -74,68 +74,27 @@ pub fn show_by_bits<M: ReadableBits>(
     any
 }
 
-/// What the data bit at a place becomes, if it is read.
-fn read_bit<M: ReadableBits>(fmmus: &[Fmmu], memory: &M, from: u64, place: usize) -> Option<bool>
-    requires can { M.can_show memory.now }
-    requires fits { from + place < 2 ^ 64 }
-    ensures { result ≡ read_told fmmus.now (M.shown memory.now) from place }
-{
-    match read_target(fmmus, from + place as u64) {
-        Some(physical) => memory.shown_bit(physical),
-        None => None,
-    }
-}
-
-/// Reads the data bits that the pairs of a run lead somewhere.
-fn read_alone<M: ReadableRuns>(run: Run, memory: &M, from: u64, bytes: &mut [u8]) -> bool
-    requires can { M.can_show memory.now }
-    requires fits { from + 8 * length bytes.old < 2 ^ 64 }
-    requires inside { IsInRam run }
-    ensures any { result ≡ any_below (8 * length bytes.old) (λ i. is_some (option_and_then (M.shown memory.now)
-        (run_mapped run.logical run.physical run.count (from + i)))) }
-    ensures bits { bytes.new ≡ overlay bytes.old (λ i. option_and_then (M.shown memory.now)
-        (run_mapped run.logical run.physical run.count (from + i))) }
-{
-    let bits = 8 * bytes.len() as u64;
-    let first = run.logical.max(from) - from;
-    let end = ((run.logical + run.count).max(from) - from).min(bits);
-    if end <= first {
-        return false;
-    }
-    let physical = run.physical + (from + first - run.logical);
-    memory.show_run(
-        physical as u32,
-        (end - first) as usize,
-        bytes,
-        first as usize,
-    )
-}
-
-/// Reads the data bits that lie in the range of the FMMU at a place, if it reads: as one run where
-/// no other range meets it, and else bit by bit.
-fn read_fmmu<M: ReadableRuns>(
+/// Reads through the FMMUs into the data of a logical datagram whose first logical bit is `from`:
+/// each data bit that a read pair leads to a physical bit that shows something becomes that, and
+/// all others stay. Answers whether a bit was read. Only bits in the ranges of FMMUs that read are
+/// looked at.
+pub fn apply_read<M: ReadableRuns>(
     fmmus: &FmmuTable,
-    place: usize,
     memory: &M,
     from: u64,
     bytes: &mut [u8],
 ) -> bool
     requires can { M.can_show memory.now }
     requires fits { from + 8 * length bytes.old < 2 ^ 64 }
-    requires there { place < 4 }
     ensures any { result ≡ any_below (8 * length bytes.old)
-        (λ i. is_some (range_read_told (get_or fmmus.now place no_fmmu) fmmus.now (M.shown memory.now) from i)) }
-    ensures bits { bytes.new
-        ≡ overlay bytes.old (range_read_told (get_or fmmus.now place no_fmmu) fmmus.now (M.shown memory.now) from) }
+        (λ i. is_some (read_told fmmus.now (M.shown memory.now) from i)) }
+    ensures bits { bytes.new ≡ overlay bytes.old (read_told fmmus.now (M.shown memory.now) from) }
 {
-    match fmmus.read_way(place) {
-        Way::Closed => false,
-        Way::Alone(run) => read_alone(run, memory, from, bytes),
-        Way::Shared => {
-            let all = fmmus.as_slice();
-            read_range(all, &all[place], memory, from, bytes)
-        }
+    let mut any = false;
+    for place in 0..fmmus.read_end() {
+        any |= read_fmmu(fmmus, place, memory, from, bytes);
     }
+    any
 }
 
 /// Reads the data bits that lie in the range of one FMMU, if it reads.
@@ -168,25 +127,66 @@ fn read_range<M: ReadableBits>(
     any
 }
 
-/// Reads through the FMMUs into the data of a logical datagram whose first logical bit is `from`:
-/// each data bit that a read pair leads to a physical bit that shows something becomes that, and
-/// all others stay. Answers whether a bit was read. Only bits in the ranges of FMMUs that read are
-/// looked at.
-pub fn apply_read<M: ReadableRuns>(
+/// Reads the data bits that lie in the range of the FMMU at a place, if it reads: as one run where
+/// no other range meets it, and else bit by bit.
+fn read_fmmu<M: ReadableRuns>(
     fmmus: &FmmuTable,
+    place: usize,
     memory: &M,
     from: u64,
     bytes: &mut [u8],
 ) -> bool
     requires can { M.can_show memory.now }
     requires fits { from + 8 * length bytes.old < 2 ^ 64 }
+    requires there { place < 4 }
     ensures any { result ≡ any_below (8 * length bytes.old)
-        (λ i. is_some (read_told fmmus.now (M.shown memory.now) from i)) }
-    ensures bits { bytes.new ≡ overlay bytes.old (read_told fmmus.now (M.shown memory.now) from) }
+        (λ i. is_some (range_read_told (get_or fmmus.now place no_fmmu) fmmus.now (M.shown memory.now) from i)) }
+    ensures bits { bytes.new
+        ≡ overlay bytes.old (range_read_told (get_or fmmus.now place no_fmmu) fmmus.now (M.shown memory.now) from) }
 {
-    let mut any = false;
-    for place in 0..fmmus.read_end() {
-        any |= read_fmmu(fmmus, place, memory, from, bytes);
+    match fmmus.read_way(place) {
+        Way::Closed => false,
+        Way::Alone(run) => read_alone(run, memory, from, bytes),
+        Way::Shared => {
+            let all = fmmus.as_slice();
+            read_range(all, &all[place], memory, from, bytes)
+        }
     }
-    any
+}
+
+/// Reads the data bits that the pairs of a run lead somewhere.
+fn read_alone<M: ReadableRuns>(run: Run, memory: &M, from: u64, bytes: &mut [u8]) -> bool
+    requires can { M.can_show memory.now }
+    requires fits { from + 8 * length bytes.old < 2 ^ 64 }
+    requires inside { IsInRam run }
+    ensures any { result ≡ any_below (8 * length bytes.old) (λ i. is_some (option_and_then (M.shown memory.now)
+        (run_mapped run.logical run.physical run.count (from + i)))) }
+    ensures bits { bytes.new ≡ overlay bytes.old (λ i. option_and_then (M.shown memory.now)
+        (run_mapped run.logical run.physical run.count (from + i))) }
+{
+    let bits = 8 * bytes.len() as u64;
+    let first = run.logical.max(from) - from;
+    let end = ((run.logical + run.count).max(from) - from).min(bits);
+    if end <= first {
+        return false;
+    }
+    let physical = run.physical + (from + first - run.logical);
+    memory.show_run(
+        physical as u32,
+        (end - first) as usize,
+        bytes,
+        first as usize,
+    )
+}
+
+/// What the data bit at a place becomes, if it is read.
+fn read_bit<M: ReadableBits>(fmmus: &[Fmmu], memory: &M, from: u64, place: usize) -> Option<bool>
+    requires can { M.can_show memory.now }
+    requires fits { from + place < 2 ^ 64 }
+    ensures { result ≡ read_told fmmus.now (M.shown memory.now) from place }
+{
+    match read_target(fmmus, from + place as u64) {
+        Some(physical) => memory.shown_bit(physical),
+        None => None,
+    }
 }

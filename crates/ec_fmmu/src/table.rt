@@ -24,44 +24,6 @@ struct LogicalRange {
     end: u64,
 }
 
-/// The logical bits in the range of an FMMU.
-fn stretch_of(fmmu: &Fmmu) -> LogicalRange
-    ensures { (l : ℕ) → reaches fmmu.now l ≡ true → Has result l }
-{
-    let count = fmmu.bit_count();
-    if count == 0 {
-        return LogicalRange {
-            first: u64::MAX,
-            end: 0,
-        };
-    }
-    let first = fmmu.first_logical();
-    LogicalRange {
-        first,
-        end: first + count,
-    }
-}
-
-/// The bits of both, and those between them.
-fn join(one: LogicalRange, other: LogicalRange) -> LogicalRange
-    ensures one { (l : ℕ) → Has one l → Has result l }
-    ensures other { (l : ℕ) → Has other l → Has result l }
-{
-    LogicalRange {
-        first: one.first.min(other.first),
-        end: one.end.max(other.end),
-    }
-}
-
-/// The logical bits in the ranges of four FMMUs, and those between them.
-fn around(fmmus: &[Fmmu; 4]) -> LogicalRange
-    ensures { IsAround result fmmus.now }
-{
-    let low = join(stretch_of(&fmmus[0]), stretch_of(&fmmus[1]));
-    let high = join(stretch_of(&fmmus[2]), stretch_of(&fmmus[3]));
-    join(low, high)
-}
-
 /// The four FMMUs of a slave. What is asked of each datagram is found once: where their ranges lie
 /// in the logical space, by which pairs datagrams go through each of them, whether any bit that is
 /// read may be written as well, and which area they map where they are set as usual.
@@ -183,5 +145,43 @@ impl FmmuTable {
         ensures writes { OnTrue result ((q : ℕ) → data_bit_for self.now (record { from = from; bits = bits }) q ≡ None) }
     {
         self.stretch.end <= from || from + bits <= self.stretch.first
+    }
+}
+
+/// The logical bits in the ranges of four FMMUs, and those between them.
+fn around(fmmus: &[Fmmu; 4]) -> LogicalRange
+    ensures { IsAround result fmmus.now }
+{
+    let low = join(stretch_of(&fmmus[0]), stretch_of(&fmmus[1]));
+    let high = join(stretch_of(&fmmus[2]), stretch_of(&fmmus[3]));
+    join(low, high)
+}
+
+/// The bits of both, and those between them.
+fn join(one: LogicalRange, other: LogicalRange) -> LogicalRange
+    ensures one { (l : ℕ) → Has one l → Has result l }
+    ensures other { (l : ℕ) → Has other l → Has result l }
+{
+    LogicalRange {
+        first: one.first.min(other.first),
+        end: one.end.max(other.end),
+    }
+}
+
+/// The logical bits in the range of an FMMU.
+fn stretch_of(fmmu: &Fmmu) -> LogicalRange
+    ensures { (l : ℕ) → reaches fmmu.now l ≡ true → Has result l }
+{
+    let count = fmmu.bit_count();
+    if count == 0 {
+        return LogicalRange {
+            first: u64::MAX,
+            end: 0,
+        };
+    }
+    let first = fmmu.first_logical();
+    LogicalRange {
+        first,
+        end: first + count,
     }
 }

@@ -41,68 +41,6 @@ impl Way {
     }
 }
 
-/// Whether no other FMMU reads to a bit of the range of the one at a place.
-fn is_alone(fmmus: &[Fmmu], place: usize) -> bool
-    requires { place < length fmmus.now }
-    ensures { OnTrue result (IsAlone fmmus.now place) }
-{
-    for k in 0..fmmus.len() {
-        if k != place && fmmus[k].reads() && !fmmus[k].is_apart_from(&fmmus[place]) {
-            return false;
-        }
-    }
-    true
-}
-
-/// Whether no other FMMU writes to a logical or a physical bit of the range of the one at a place.
-fn is_alone_writing(fmmus: &[Fmmu], place: usize) -> bool
-    requires { place < length fmmus.now }
-    ensures { OnTrue result (IsAloneWriting fmmus.now place) }
-{
-    for k in 0..fmmus.len() {
-        if k != place
-            && fmmus[k].writes()
-            && !(fmmus[k].is_apart_from(&fmmus[place])
-                && fmmus[k].is_physically_apart_from(&fmmus[place]))
-        {
-            return false;
-        }
-    }
-    true
-}
-
-/// How reads go through the FMMU at a place.
-fn read_way(fmmus: &[Fmmu], place: usize) -> Way
-    requires { place < length fmmus.now }
-    ensures { IsReadWay fmmus.now place result }
-{
-    let fmmu = &fmmus[place];
-    if !fmmu.reads() {
-        return Way::Closed;
-    }
-    if is_alone(fmmus, place) {
-        Way::Alone(fmmu.run())
-    } else {
-        Way::Shared
-    }
-}
-
-/// How writes go through the FMMU at a place.
-fn write_way(fmmus: &[Fmmu], place: usize) -> Way
-    requires { place < length fmmus.now }
-    ensures { IsWriteWay fmmus.now place result }
-{
-    let fmmu = &fmmus[place];
-    if !fmmu.writes() {
-        return Way::Closed;
-    }
-    if is_alone_writing(fmmus, place) {
-        Way::Alone(fmmu.run())
-    } else {
-        Way::Shared
-    }
-}
-
 /// How reads go through each of four FMMUs.
 pub(crate) fn read_ways(fmmus: &[Fmmu; 4]) -> [Way; 4]
     ensures { AreReadWays fmmus.now result }
@@ -139,4 +77,66 @@ pub(crate) fn end_of_open(ways: &[Way; 4]) -> usize
         }
     }
     end
+}
+
+/// How writes go through the FMMU at a place.
+fn write_way(fmmus: &[Fmmu], place: usize) -> Way
+    requires { place < length fmmus.now }
+    ensures { IsWriteWay fmmus.now place result }
+{
+    let fmmu = &fmmus[place];
+    if !fmmu.writes() {
+        return Way::Closed;
+    }
+    if is_alone_writing(fmmus, place) {
+        Way::Alone(fmmu.run())
+    } else {
+        Way::Shared
+    }
+}
+
+/// How reads go through the FMMU at a place.
+fn read_way(fmmus: &[Fmmu], place: usize) -> Way
+    requires { place < length fmmus.now }
+    ensures { IsReadWay fmmus.now place result }
+{
+    let fmmu = &fmmus[place];
+    if !fmmu.reads() {
+        return Way::Closed;
+    }
+    if is_alone(fmmus, place) {
+        Way::Alone(fmmu.run())
+    } else {
+        Way::Shared
+    }
+}
+
+/// Whether no other FMMU writes to a logical or a physical bit of the range of the one at a place.
+fn is_alone_writing(fmmus: &[Fmmu], place: usize) -> bool
+    requires { place < length fmmus.now }
+    ensures { OnTrue result (IsAloneWriting fmmus.now place) }
+{
+    for k in 0..fmmus.len() {
+        if k != place
+            && fmmus[k].writes()
+            && !(fmmus[k].is_apart_from(&fmmus[place])
+                && fmmus[k].is_physically_apart_from(&fmmus[place]))
+        {
+            return false;
+        }
+    }
+    true
+}
+
+/// Whether no other FMMU reads to a bit of the range of the one at a place.
+fn is_alone(fmmus: &[Fmmu], place: usize) -> bool
+    requires { place < length fmmus.now }
+    ensures { OnTrue result (IsAlone fmmus.now place) }
+{
+    for k in 0..fmmus.len() {
+        if k != place && fmmus[k].reads() && !fmmus[k].is_apart_from(&fmmus[place]) {
+            return false;
+        }
+    }
+    true
 }

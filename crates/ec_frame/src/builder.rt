@@ -33,59 +33,6 @@ impl Full {
     }
 }
 
-/// The ten bytes before the data.
-fn heading_of(command: Command, index: u8, address: u32, flags: u16) -> [u8; 10]
-    ensures { result ≡ number_of command ∷ index ∷ little_bytes 4 address ++ little_bytes 2 flags
-        ++ little_bytes 2 0 }
-{
-    let a = address.to_le_bytes();
-    let f = flags.to_le_bytes();
-    [
-        command.number(),
-        index,
-        a[0],
-        a[1],
-        a[2],
-        a[3],
-        f[0],
-        f[1],
-        0,
-        0,
-    ]
-}
-
-fn append(frame: &mut Frame, bytes: &[u8])
-    requires { length frame.old.items + length bytes.now ≤ 1472 }
-    ensures { frame.new.items ≡ frame.old.items ++ bytes.now }
-{
-    let _ = frame.try_extend_from_slice(bytes);
-}
-
-/// Appends a datagram with this data, counter 0 and its more bit set.
-fn append_datagram(frame: &mut Frame, command: Command, index: u8, address: u32, content: &[u8])
-    requires { length frame.old.items + 12 + length content.now ≤ 1472 }
-    ensures bytes { frame.new.items ≡ ((frame.old.items ++ ten_bytes command index address (length content.now + 32768))
-        ++ content.now) ++ (0 ∷ 0 ∷ []) }
-    ensures fits { (index < 256) × (address < 2 ^ 32) × ((k : ℕ) → slice_index content.now k < 256) }
-{
-    let heading = heading_of(command, index, address, content.len() as u16 + MORE);
-    append(frame, &heading);
-    append(frame, content);
-    append(frame, &[0, 0]);
-}
-
-/// Says in the header how long the datagrams are, and that none follows the last.
-fn close(frame: &mut Frame, last: usize)
-    requires built { IsBuilt frame.old.items last (built_datagrams frame.old.items) }
-    requires some { 0 < length (built_datagrams frame.old.items) }
-    ensures { IsFrame frame.new.items (bare_payload (built_datagrams frame.old.items)) }
-{
-    let len = frame.len() - FRAME_HEADER_LEN;
-    let bytes = frame.as_mut_slice();
-    bytes[last + FLAGS_HIGH] -= (MORE >> 8) as u8;
-    LittleEndian::write_u16(bytes, len as u16 + DATAGRAMS);
-}
-
 /// A datagram as a master sends it, with counter 0.
 #[derive(Clone, Copy)]
 pub struct Sent<'a> {
@@ -201,4 +148,57 @@ impl Builder {
         append(frame, self.frame.as_slice());
         close(frame, self.last);
     }
+}
+
+/// Says in the header how long the datagrams are, and that none follows the last.
+fn close(frame: &mut Frame, last: usize)
+    requires built { IsBuilt frame.old.items last (built_datagrams frame.old.items) }
+    requires some { 0 < length (built_datagrams frame.old.items) }
+    ensures { IsFrame frame.new.items (bare_payload (built_datagrams frame.old.items)) }
+{
+    let len = frame.len() - FRAME_HEADER_LEN;
+    let bytes = frame.as_mut_slice();
+    bytes[last + FLAGS_HIGH] -= (MORE >> 8) as u8;
+    LittleEndian::write_u16(bytes, len as u16 + DATAGRAMS);
+}
+
+/// Appends a datagram with this data, counter 0 and its more bit set.
+fn append_datagram(frame: &mut Frame, command: Command, index: u8, address: u32, content: &[u8])
+    requires { length frame.old.items + 12 + length content.now ≤ 1472 }
+    ensures bytes { frame.new.items ≡ ((frame.old.items ++ ten_bytes command index address (length content.now + 32768))
+        ++ content.now) ++ (0 ∷ 0 ∷ []) }
+    ensures fits { (index < 256) × (address < 2 ^ 32) × ((k : ℕ) → slice_index content.now k < 256) }
+{
+    let heading = heading_of(command, index, address, content.len() as u16 + MORE);
+    append(frame, &heading);
+    append(frame, content);
+    append(frame, &[0, 0]);
+}
+
+fn append(frame: &mut Frame, bytes: &[u8])
+    requires { length frame.old.items + length bytes.now ≤ 1472 }
+    ensures { frame.new.items ≡ frame.old.items ++ bytes.now }
+{
+    let _ = frame.try_extend_from_slice(bytes);
+}
+
+/// The ten bytes before the data.
+fn heading_of(command: Command, index: u8, address: u32, flags: u16) -> [u8; 10]
+    ensures { result ≡ number_of command ∷ index ∷ little_bytes 4 address ++ little_bytes 2 flags
+        ++ little_bytes 2 0 }
+{
+    let a = address.to_le_bytes();
+    let f = flags.to_le_bytes();
+    [
+        command.number(),
+        index,
+        a[0],
+        a[1],
+        a[2],
+        a[3],
+        f[0],
+        f[1],
+        0,
+        0,
+    ]
 }

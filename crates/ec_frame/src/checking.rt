@@ -28,44 +28,21 @@ pub(crate) fn data_length(bytes: &[u8]) -> usize
     usize::from(field::length_in(flags))
 }
 
-/// Reads the datagram at the front, and whether another follows.
-fn read_shape(rest: &[u8]) -> Result<Shape, FrameError>
-    ensures { GivesShape rest.now result }
+/// Tells whether a payload is a frame of datagrams (ETG.1000.4, "EtherCAT frame structure"), and
+/// of how many. Reserved bits and all bytes after the datagrams are free.
+///
+/// It tests in this order: fewer than 2 bytes, `Short`; a type other than 1, `BadType`; a length
+/// field over 1470, `TooLong`; fewer bytes than it says, `Short`; a length field of 0, `BadLength`;
+/// then for each datagram no room for it, `BadLength`, a command over 14, `BadCommand`, and a more
+/// bit that is wrong, `BadMore`.
+pub fn check(payload: &[u8]) -> Result<usize, FrameError>
+    ensures accepted { IfOk result (λ count.
+        (p : Payload) × IsFrame payload.now p × (count ≡ length p.datagrams)) }
+    ensures refused { IfErr result (IsRefused payload.now) }
+    ensures accepts { (p : Payload) → IsFrame payload.now p → result ≡ Ok (length p.datagrams) }
+    ensures refuses { (e : FrameError) → IsRefused payload.now e → result ≡ Err e }
 {
-    if rest.len() < OVERHEAD {
-        return Err(FrameError::BadLength);
-    }
-    let flags = LittleEndian::read_u16(&rest[field::FLAGS..]);
-    let len = OVERHEAD + usize::from(field::length_in(flags));
-    if rest.len() < len {
-        return Err(FrameError::BadLength);
-    }
-    if Command::from_number(rest[field::COMMAND]).is_none() {
-        return Err(FrameError::BadCommand);
-    }
-    let is_last = !field::says_more(flags);
-    if is_last != (rest.len() == len) {
-        return Err(FrameError::BadMore);
-    }
-    Ok(Shape { len, is_last })
-}
-
-/// Counts the datagrams of an area.
-fn count_datagrams(area: &[u8]) -> Result<usize, FrameError>
-    requires { 0 < length area.now }
-    ensures { GivesCount area.now result }
-{
-    let mut rest = area;
-    let mut count = 0;
-    loop {
-        let shape = read_shape(rest)?;
-        count += 1;
-        if shape.is_last {
-            return Ok(count);
-        }
-        let (_, after) = rest.split_at(shape.len);
-        rest = after;
-    }
+    read_frame(payload)
 }
 
 /// Tests the header, and then counts the datagrams.
@@ -93,19 +70,42 @@ fn read_frame(payload: &[u8]) -> Result<usize, FrameError>
     count_datagrams(&payload[field::FRAME_HEADER_LEN..end])
 }
 
-/// Tells whether a payload is a frame of datagrams (ETG.1000.4, "EtherCAT frame structure"), and
-/// of how many. Reserved bits and all bytes after the datagrams are free.
-///
-/// It tests in this order: fewer than 2 bytes, `Short`; a type other than 1, `BadType`; a length
-/// field over 1470, `TooLong`; fewer bytes than it says, `Short`; a length field of 0, `BadLength`;
-/// then for each datagram no room for it, `BadLength`, a command over 14, `BadCommand`, and a more
-/// bit that is wrong, `BadMore`.
-pub fn check(payload: &[u8]) -> Result<usize, FrameError>
-    ensures accepted { IfOk result (λ count.
-        (p : Payload) × IsFrame payload.now p × (count ≡ length p.datagrams)) }
-    ensures refused { IfErr result (IsRefused payload.now) }
-    ensures accepts { (p : Payload) → IsFrame payload.now p → result ≡ Ok (length p.datagrams) }
-    ensures refuses { (e : FrameError) → IsRefused payload.now e → result ≡ Err e }
+/// Counts the datagrams of an area.
+fn count_datagrams(area: &[u8]) -> Result<usize, FrameError>
+    requires { 0 < length area.now }
+    ensures { GivesCount area.now result }
 {
-    read_frame(payload)
+    let mut rest = area;
+    let mut count = 0;
+    loop {
+        let shape = read_shape(rest)?;
+        count += 1;
+        if shape.is_last {
+            return Ok(count);
+        }
+        let (_, after) = rest.split_at(shape.len);
+        rest = after;
+    }
+}
+
+/// Reads the datagram at the front, and whether another follows.
+fn read_shape(rest: &[u8]) -> Result<Shape, FrameError>
+    ensures { GivesShape rest.now result }
+{
+    if rest.len() < OVERHEAD {
+        return Err(FrameError::BadLength);
+    }
+    let flags = LittleEndian::read_u16(&rest[field::FLAGS..]);
+    let len = OVERHEAD + usize::from(field::length_in(flags));
+    if rest.len() < len {
+        return Err(FrameError::BadLength);
+    }
+    if Command::from_number(rest[field::COMMAND]).is_none() {
+        return Err(FrameError::BadCommand);
+    }
+    let is_last = !field::says_more(flags);
+    if is_last != (rest.len() == len) {
+        return Err(FrameError::BadMore);
+    }
+    Ok(Shape { len, is_last })
 }

@@ -7,18 +7,6 @@ use crate::done::{Done, counted, refused};
 use ec_cycle::Report;
 use ec_owned::MachineMaster;
 
-/// Shows bytes in a room, if it has place for them, and tells how many they are.
-fn show(bytes: &[u8], room: &mut [u8]) -> Done
-    ensures { AreShown bytes.now room.old result room.new }
-{
-    let count = bytes.len();
-    if count > room.len() {
-        return counted(false, count);
-    }
-    room[..count].copy_from_slice(bytes);
-    counted(true, count)
-}
-
 /// The next frame of the start-up.
 pub fn next(machine: &mut MachineMaster, room: &mut [u8]) -> Done
     ensures { AsksNext machine.old room.old result room.new machine.new }
@@ -69,28 +57,6 @@ pub fn show_part(machine: &MachineMaster, part: usize, room: &mut [u8]) -> Done
 {
     match machine.part(part) {
         Some(frame) => show(frame, room),
-        None => counted(false, 0),
-    }
-}
-
-/// What a report says.
-fn tell_report(report: &Report) -> Done
-    ensures { result ≡ report_told report.now }
-{
-    Done {
-        number: 0,
-        is_done: report.is_taken(),
-        count: report.missing(),
-        value: u64::from(report.al_word()),
-    }
-}
-
-/// What the last report says, if there was one.
-fn tell_last(machine: &MachineMaster) -> Done
-    ensures { (r : ReportState) → machine.now.report ≡ Some r → result ≡ report_told r }
-{
-    match machine.report() {
-        Some(report) => tell_report(report),
         None => counted(false, 0),
     }
 }
@@ -162,5 +128,39 @@ pub fn find(machine: &MachineMaster, name: &[u8]) -> Done
     match machine.variable(name) {
         Some(place) => counted(true, place),
         None => counted(false, 0),
+    }
+}
+
+/// Shows bytes in a room, if it has place for them, and tells how many they are.
+fn show(bytes: &[u8], room: &mut [u8]) -> Done
+    ensures { AreShown bytes.now room.old result room.new }
+{
+    let count = bytes.len();
+    if count > room.len() {
+        return counted(false, count);
+    }
+    room[..count].copy_from_slice(bytes);
+    counted(true, count)
+}
+
+/// What the last report says, if there was one.
+fn tell_last(machine: &MachineMaster) -> Done
+    ensures { (r : ReportState) → machine.now.report ≡ Some r → result ≡ report_told r }
+{
+    match machine.report() {
+        Some(report) => tell_report(report),
+        None => counted(false, 0),
+    }
+}
+
+/// What a report says.
+fn tell_report(report: &Report) -> Done
+    ensures { result ≡ report_told report.now }
+{
+    Done {
+        number: 0,
+        is_done: report.is_taken(),
+        count: report.missing(),
+        value: u64::from(report.al_word()),
     }
 }

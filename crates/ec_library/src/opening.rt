@@ -34,28 +34,6 @@ pub fn opened() -> NotOpened
     }
 }
 
-/// How many values there are, and these.
-fn spread(values: Values) -> (usize, u64, u64)
-    ensures { with_values result.0 result.1 result.2 ≡ listed values }
-{
-    match values {
-        Values::Empty => (0, 0, 0),
-        Values::One(first) => (1, first, 0),
-        Values::Two(first, second) => (2, first, second),
-    }
-}
-
-/// Writes as much of a name as there is room for, and answers how many bytes that is.
-fn write_name(name: &str, room: &mut [u8]) -> usize
-    ensures few { result ≤ length room.new }
-    ensures written { take result room.new ≡ take result name.now }
-{
-    let bytes = name.as_bytes();
-    let count = bytes.len().min(room.len());
-    room[..count].copy_from_slice(&bytes[..count]);
-    count
-}
-
 /// Tells a refusal, and writes its name.
 pub fn tell_refusal(error: OpenError, room: &mut [u8]) -> NotOpened
     ensures { TellsRefusal error result }
@@ -92,5 +70,27 @@ pub fn boxed_slaves(alloc: Global, table: &[u8], full: bool) -> Result<Box<Ring>
     match Box::new(alloc, slaves) {
         Ok(boxed) => Ok(boxed),
         Err(_) => Err(OpenError::Memory),
+    }
+}
+
+/// Writes as much of a name as there is room for, and answers how many bytes that is.
+fn write_name(name: &str, room: &mut [u8]) -> usize
+    ensures few { result ≤ length room.new }
+    ensures written { take result room.new ≡ take result name.now }
+{
+    let bytes = name.as_bytes();
+    let count = bytes.len().min(room.len());
+    room[..count].copy_from_slice(&bytes[..count]);
+    count
+}
+
+/// How many values there are, and these.
+fn spread(values: Values) -> (usize, u64, u64)
+    ensures { with_values result.0 result.1 result.2 ≡ listed values }
+{
+    match values {
+        Values::Empty => (0, 0, 0),
+        Values::One(first) => (1, first, 0),
+        Values::Two(first, second) => (2, first, second),
     }
 }

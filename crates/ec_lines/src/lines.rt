@@ -25,14 +25,64 @@ pub enum NextLine {
     NoText,
 }
 
-/// Keeps a byte of a line, of which so many are kept at most.
-fn keep(line: &mut Vec<u8>, most: usize, byte: u8) -> Result<(), AllocError>
-    ensures { OnOk result (line.new.items ≡ kept_more most line.old.items byte) }
+/// Takes the next line of an input: all bytes up to a newline, or to the end of the input. Nothing behind them is taken. An
+/// interrupted read is made again. A line that is too long or no text is taken as a whole too.
+///
+/// # Errors
+///
+/// `LinesError::Unread` where a read is refused, and `Memory`; some bytes of the line may be taken by then.
+pub fn take_line<R: Read>(alloc: Global, input: &mut R) -> Result<NextLine, LinesError>
+    ensures taken { IfOk result (λ taken. (line : List ℕ)
+        × TakesLine (R.remaining input.old) (R.remaining input.new) line × IsTaken line taken) }
+    ensures refused { IfErr result IsReadFault }
+    ensures left { OnErr result (TakesPart (R.remaining input.old) (R.remaining input.new)) }
 {
-    if line.len() < most {
-        line.push(byte)?;
+    let line = take_bytes(alloc, input, MAX_KEPT)?;
+    Ok(taken_of(alloc, &line)?)
+}
+
+/// Takes the text before a line `%%`, and that line, which may end in `\r\n` or be the last one without an end; or all that is
+/// left, where there is no such line. Nothing behind it is taken. An interrupted read is made again.
+///
+/// # Errors
+///
+/// `LinesError::TooLong` where the text has more than 2^20 bytes, as soon as they are taken; `NoText` where it isn't UTF-8;
+/// `Unread` where a read is refused, and `Memory`.
+pub fn take_text<R: Read>(alloc: Global, input: &mut R) -> Result<String, LinesError>
+    ensures taken { IfOk result (λ text.
+        TakesText (R.remaining input.old) (R.remaining input.new) (string_bytes text)) }
+    ensures short { IfOk result (λ text. length (string_bytes text) ≤ 2 ^ 20) }
+    ensures refused { IfErr result (RefusesText (R.remaining input.old) (R.remaining input.new)) }
+{
+    let bytes = take_lines(alloc, input)?;
+    text_of(bytes)
+}
+
+/// What bytes are as a line, with its end.
+fn taken_of(alloc: Global, line: &[u8]) -> Result<NextLine, AllocError>
+    ensures { IfOk result (IsTaken line.now) }
+{
+    if line.is_empty() {
+        return Ok(NextLine::End);
     }
-    Ok(())
+    let line = without_end(line);
+    if line.len() > MAX_BYTES {
+        return Ok(NextLine::NoText);
+    }
+    match str::from_utf8(line) {
+        Ok(text) => Ok(NextLine::Text(String::from_str(alloc, text)?)),
+        Err(_) => Ok(NextLine::NoText),
+    }
+}
+
+/// A line without its end.
+fn without_end(line: &[u8]) -> &[u8]
+    ensures { result.now ≡ without_end line.now }
+{
+    match line.strip_suffix(b"\n".as_slice()) {
+        Some(line) => line.strip_suffix(b"\r".as_slice()).unwrap_or(line),
+        None => line,
+    }
 }
 
 /// Takes bytes of an input up to the end of a line, or all that are left, and answers the first of them, at most so many. An
@@ -61,74 +111,23 @@ fn take_bytes<R: Read>(alloc: Global, input: &mut R, most: usize) -> Result<Vec<
     Err(LinesError::Unread)
 }
 
-/// A line without its end.
-fn without_end(line: &[u8]) -> &[u8]
-    ensures { result.now ≡ without_end line.now }
+/// Keeps a byte of a line, of which so many are kept at most.
+fn keep(line: &mut Vec<u8>, most: usize, byte: u8) -> Result<(), AllocError>
+    ensures { OnOk result (line.new.items ≡ kept_more most line.old.items byte) }
 {
-    match line.strip_suffix(b"\n".as_slice()) {
-        Some(line) => line.strip_suffix(b"\r".as_slice()).unwrap_or(line),
-        None => line,
-    }
-}
-
-/// What bytes are as a line, with its end.
-fn taken_of(alloc: Global, line: &[u8]) -> Result<NextLine, AllocError>
-    ensures { IfOk result (IsTaken line.now) }
-{
-    if line.is_empty() {
-        return Ok(NextLine::End);
-    }
-    let line = without_end(line);
-    if line.len() > MAX_BYTES {
-        return Ok(NextLine::NoText);
-    }
-    match str::from_utf8(line) {
-        Ok(text) => Ok(NextLine::Text(String::from_str(alloc, text)?)),
-        Err(_) => Ok(NextLine::NoText),
-    }
-}
-
-/// Takes the next line of an input: all bytes up to a newline, or to the end of the input. Nothing behind them is taken. An
-/// interrupted read is made again. A line that is too long or no text is taken as a whole too.
-///
-/// # Errors
-///
-/// `LinesError::Unread` where a read is refused, and `Memory`; some bytes of the line may be taken by then.
-pub fn take_line<R: Read>(alloc: Global, input: &mut R) -> Result<NextLine, LinesError>
-    ensures taken { IfOk result (λ taken. (line : List ℕ)
-        × TakesLine (R.remaining input.old) (R.remaining input.new) line × IsTaken line taken) }
-    ensures refused { IfErr result IsReadFault }
-    ensures left { OnErr result (TakesPart (R.remaining input.old) (R.remaining input.new)) }
-{
-    let line = take_bytes(alloc, input, MAX_KEPT)?;
-    Ok(taken_of(alloc, &line)?)
-}
-
-/// Whether a line, with its end, is the one behind a text.
-fn is_divider(line: &[u8]) -> bool
-    ensures { result ≡ is_divider line.now }
-{
-    line == b"%%\n".as_slice() || line == b"%%\r\n".as_slice() || line == b"%%".as_slice()
-}
-
-/// Whether a line, with its end, is the last one that is taken of a text.
-fn is_last(line: &[u8]) -> bool
-    ensures { result ≡ is_last line.now }
-{
-    line.is_empty() || is_divider(line)
-}
-
-/// Adds a line to a text, if that has room for it.
-fn add_line(text: &mut Vec<u8>, line: &[u8]) -> Result<(), LinesError>
-    ensures added { OnOk result (text.new.items ≡ text.old.items ++ line.now) }
-    ensures short { OnOk result (length text.new.items ≤ 2 ^ 20) }
-    ensures refused { IfErr result (IsAddFault text.old.items line.now) }
-{
-    text.extend_from_slice(line)?;
-    if text.len() > MAX_BYTES {
-        return Err(LinesError::TooLong);
+    if line.len() < most {
+        line.push(byte)?;
     }
     Ok(())
+}
+
+/// The text that bytes are.
+fn text_of(bytes: Vec<u8>) -> Result<String, LinesError>
+    ensures same { IfOk result (λ text. string_bytes text ≡ bytes.items) }
+    ensures refused { IfErr result (λ error. (error ≡ LinesError.NoText)
+        × (IsUtf8 bytes.items → ⊥)) }
+{
+    String::from_utf8(bytes).map_err(|_| LinesError::NoText)
 }
 
 /// Takes the lines before a line `%%`, and that line; or all that are left.
@@ -149,28 +148,29 @@ fn take_lines<R: Read>(alloc: Global, input: &mut R) -> Result<Vec<u8>, LinesErr
     Err(LinesError::Unread)
 }
 
-/// The text that bytes are.
-fn text_of(bytes: Vec<u8>) -> Result<String, LinesError>
-    ensures same { IfOk result (λ text. string_bytes text ≡ bytes.items) }
-    ensures refused { IfErr result (λ error. (error ≡ LinesError.NoText)
-        × (IsUtf8 bytes.items → ⊥)) }
+/// Adds a line to a text, if that has room for it.
+fn add_line(text: &mut Vec<u8>, line: &[u8]) -> Result<(), LinesError>
+    ensures added { OnOk result (text.new.items ≡ text.old.items ++ line.now) }
+    ensures short { OnOk result (length text.new.items ≤ 2 ^ 20) }
+    ensures refused { IfErr result (IsAddFault text.old.items line.now) }
 {
-    String::from_utf8(bytes).map_err(|_| LinesError::NoText)
+    text.extend_from_slice(line)?;
+    if text.len() > MAX_BYTES {
+        return Err(LinesError::TooLong);
+    }
+    Ok(())
 }
 
-/// Takes the text before a line `%%`, and that line, which may end in `\r\n` or be the last one without an end; or all that is
-/// left, where there is no such line. Nothing behind it is taken. An interrupted read is made again.
-///
-/// # Errors
-///
-/// `LinesError::TooLong` where the text has more than 2^20 bytes, as soon as they are taken; `NoText` where it isn't UTF-8;
-/// `Unread` where a read is refused, and `Memory`.
-pub fn take_text<R: Read>(alloc: Global, input: &mut R) -> Result<String, LinesError>
-    ensures taken { IfOk result (λ text.
-        TakesText (R.remaining input.old) (R.remaining input.new) (string_bytes text)) }
-    ensures short { IfOk result (λ text. length (string_bytes text) ≤ 2 ^ 20) }
-    ensures refused { IfErr result (RefusesText (R.remaining input.old) (R.remaining input.new)) }
+/// Whether a line, with its end, is the last one that is taken of a text.
+fn is_last(line: &[u8]) -> bool
+    ensures { result ≡ is_last line.now }
 {
-    let bytes = take_lines(alloc, input)?;
-    text_of(bytes)
+    line.is_empty() || is_divider(line)
+}
+
+/// Whether a line, with its end, is the one behind a text.
+fn is_divider(line: &[u8]) -> bool
+    ensures { result ≡ is_divider line.now }
+{
+    line == b"%%\n".as_slice() || line == b"%%\r\n".as_slice() || line == b"%%".as_slice()
 }

@@ -76,59 +76,12 @@ pub fn run_toward(
         .run(link.index, link.subindex)
 }
 
-#[tactic(auto, unfolding(crate::specs::LinkRuns::run_of))]
-fn run_of(table: &Table, objects: &[Objects], link: &LinkRow) -> Option<EntryRun>
-    requires known { AreObjects table.now objects.now }
-    requires link { IsLink table.now.slaves table.now.variables link.now }
-    ensures value { result ≡ run_of table.now link.now }
-    ensures few { IfSome result IsShort }
-{
-    run_toward(table, objects, direction_of(table, link), link)
-}
-
 pub fn run_bits(run: Option<EntryRun>) -> usize
     ensures { result ≡ run_bits run }
 {
     match run {
         None => 0,
         Some(run) => run.bits,
-    }
-}
-
-fn run_from(run: Option<EntryRun>) -> usize
-    requires { IfSome run IsShort }
-    ensures value { result ≡ run_from run }
-    ensures few { result ≤ 65536 }
-{
-    match run {
-        None => 0,
-        Some(run) => run.from,
-    }
-}
-
-/// The runs of a link whose entry has these bits.
-#[tactic(auto, unfolding(crate::specs::LinkRuns::link_run_of))]
-fn link_run_of(table: &Table, run: Option<EntryRun>, link: &LinkRow) -> LinkRun
-    requires link { IsLink table.now.slaves table.now.variables link.now }
-    requires run { run ≡ run_of table.now link.now }
-    requires few { IfSome run IsShort }
-    ensures value { result ≡ link_run_of table.now link.now }
-    ensures few { IsShortRun result }
-    ensures there { HasVariable table.now.variables result }
-{
-    let LinkRow {
-        variable,
-        slave,
-        bits,
-        ..
-    } = *link;
-    LinkRun {
-        direction: direction_of(table, link),
-        variable,
-        variable_bit: usize::from(bits.variable_bit),
-        slave,
-        object_bit: run_from(run) + usize::from(bits.entry_bit),
-        count: usize::from(bits.count),
     }
 }
 
@@ -159,4 +112,51 @@ pub fn link_runs_of(
         link_runs.push(link_run_of(table, run, link))?;
     }
     Ok(LinkRuns { runs, link_runs })
+}
+
+#[tactic(auto, unfolding(crate::specs::LinkRuns::run_of))]
+fn run_of(table: &Table, objects: &[Objects], link: &LinkRow) -> Option<EntryRun>
+    requires known { AreObjects table.now objects.now }
+    requires link { IsLink table.now.slaves table.now.variables link.now }
+    ensures value { result ≡ run_of table.now link.now }
+    ensures few { IfSome result IsShort }
+{
+    run_toward(table, objects, direction_of(table, link), link)
+}
+
+/// The runs of a link whose entry has these bits.
+#[tactic(auto, unfolding(crate::specs::LinkRuns::link_run_of))]
+fn link_run_of(table: &Table, run: Option<EntryRun>, link: &LinkRow) -> LinkRun
+    requires link { IsLink table.now.slaves table.now.variables link.now }
+    requires run { run ≡ run_of table.now link.now }
+    requires few { IfSome run IsShort }
+    ensures value { result ≡ link_run_of table.now link.now }
+    ensures few { IsShortRun result }
+    ensures there { HasVariable table.now.variables result }
+{
+    let LinkRow {
+        variable,
+        slave,
+        bits,
+        ..
+    } = *link;
+    LinkRun {
+        direction: direction_of(table, link),
+        variable,
+        variable_bit: usize::from(bits.variable_bit),
+        slave,
+        object_bit: run_from(run) + usize::from(bits.entry_bit),
+        count: usize::from(bits.count),
+    }
+}
+
+fn run_from(run: Option<EntryRun>) -> usize
+    requires { IfSome run IsShort }
+    ensures value { result ≡ run_from run }
+    ensures few { result ≤ 65536 }
+{
+    match run {
+        None => 0,
+        Some(run) => run.from,
+    }
 }

@@ -11,32 +11,6 @@ use crate::link_runs::{LinkRun, is_out};
 use std::alloc::{AllocError, Global};
 use std::collections::BTreeMap;
 
-/// Where a link run begins on the line that has 2^17 numbers for the outputs of each slave and as many for each variable.
-fn span_from(link_run: &LinkRun) -> u128
-    requires { IsShortRun link_run.now }
-    ensures value { result ≡ span_from link_run.now }
-    ensures low { result < 2 ^ 100 }
-{
-    if is_out(link_run.direction) {
-        (1 << 18) * link_run.slave as u128 + link_run.object_bit as u128
-    } else {
-        (1 << 18) * link_run.variable as u128 + ((1 << 17) + link_run.variable_bit as u128)
-    }
-}
-
-/// Whether one of the spans, which are given by their ends, shares a number with those from `from` to before `end`. No two of
-/// them share one, so only the last that begins before `end` can.
-fn is_met(ends: &BTreeMap<u128, u128>, from: u128, end: u128) -> bool
-    requires { AreApart ends.now }
-    ensures hit { result ≡ true → IsMet ends.now from end }
-    ensures miss { result ≡ false → (a b : ℕ) → get nat_cmp ends.now a ≡ Some b → a < end → b ≤ from }
-{
-    match ends.range(..end).next_back() {
-        Some((_, last)) => *last > from,
-        None => false,
-    }
-}
-
 /// The first link run that gives a bit which an earlier one gives, in a turn for each link run, by a map of those so far.
 pub fn first_met(alloc: Global, link_runs: &[LinkRun]) -> Result<Option<usize>, AllocError>
     requires { All IsShortRun link_runs.now }
@@ -52,4 +26,30 @@ pub fn first_met(alloc: Global, link_runs: &[LinkRun]) -> Result<Option<usize>, 
         ends.insert(from, end)?;
     }
     Ok(None)
+}
+
+/// Whether one of the spans, which are given by their ends, shares a number with those from `from` to before `end`. No two of
+/// them share one, so only the last that begins before `end` can.
+fn is_met(ends: &BTreeMap<u128, u128>, from: u128, end: u128) -> bool
+    requires { AreApart ends.now }
+    ensures hit { result ≡ true → IsMet ends.now from end }
+    ensures miss { result ≡ false → (a b : ℕ) → get nat_cmp ends.now a ≡ Some b → a < end → b ≤ from }
+{
+    match ends.range(..end).next_back() {
+        Some((_, last)) => *last > from,
+        None => false,
+    }
+}
+
+/// Where a link run begins on the line that has 2^17 numbers for the outputs of each slave and as many for each variable.
+fn span_from(link_run: &LinkRun) -> u128
+    requires { IsShortRun link_run.now }
+    ensures value { result ≡ span_from link_run.now }
+    ensures low { result < 2 ^ 100 }
+{
+    if is_out(link_run.direction) {
+        (1 << 18) * link_run.slave as u128 + link_run.object_bit as u128
+    } else {
+        (1 << 18) * link_run.variable as u128 + ((1 << 17) + link_run.variable_bit as u128)
+    }
 }

@@ -16,13 +16,47 @@ pub struct VariableUse {
     pub differs: bool,
 }
 
-/// The unit of a link's slave.
-#[tactic(auto, using(crate::proofs::Links::slave_is))]
-fn unit_of_link(table: &Table, link: &LinkRow) -> u8
-    requires { IsLink table.now.slaves table.now.variables link.now }
-    ensures { result ≡ unit_of_link table.now link.now }
+/// The first input variable with links from two units, as a fault.
+#[tactic(auto, unfolding(crate::specs::Faults::variable_fault), using(crate::proofs::SeenLinks::fresh_seen))]
+pub fn variable_fault(alloc: Global, table: &Table) -> Result<Option<LinkFault>, AllocError>
+    ensures { IfOk result (λ f. f ≡ variable_fault table.now) }
 {
-    table.slaves()[link.slave].unit
+    let fresh = VariableUse {
+        unit: None,
+        differs: false,
+    };
+    let mut seen = vec![in alloc; fresh; table.variables().len()]?;
+    see_links(table, seen.as_mut_slice());
+    Ok(first_split(table, seen.as_slice()).map(LinkFault::SplitVariable))
+}
+
+/// The first input variable with links from two units.
+#[tactic(auto, using(crate::proofs::SeenLinks::seen_read))]
+fn first_split(table: &Table, seen: &[VariableUse]) -> Option<usize>
+    requires { AreSeen table.now table.now.links seen.now }
+    ensures { result ≡ first_at (split_variable table.now) 0 table.now.variables }
+{
+    for (place, variable) in table.variables().iter().enumerate() {
+        if !is_out(variable.direction) && seen[place].differs {
+            return Some(place);
+        }
+    }
+    None
+}
+
+/// Looks at all links once.
+#[tactic(auto, using(crate::proofs::SeenLinks::seen_steps))]
+fn see_links(table: &Table, seen: &mut [VariableUse])
+    requires as_many { length seen.old ≡ length table.now.variables }
+    requires fresh { (v : ℕ) (d : VariableUse) → v < length seen.old → get_or seen.old v d ≡ nothing_seen }
+    ensures { AreSeen table.now table.now.links seen.new }
+{
+    for link in table.links() {
+        let unit = unit_of_link(table, link);
+        let place = link.variable;
+        let known = seen[place];
+        seen[place] = seen_more(known, unit);
+    }
 }
 
 /// With one link more.
@@ -41,45 +75,11 @@ fn seen_more(seen: VariableUse, unit: u8) -> VariableUse
     }
 }
 
-/// Looks at all links once.
-#[tactic(auto, using(crate::proofs::SeenLinks::seen_steps))]
-fn see_links(table: &Table, seen: &mut [VariableUse])
-    requires as_many { length seen.old ≡ length table.now.variables }
-    requires fresh { (v : ℕ) (d : VariableUse) → v < length seen.old → get_or seen.old v d ≡ nothing_seen }
-    ensures { AreSeen table.now table.now.links seen.new }
+/// The unit of a link's slave.
+#[tactic(auto, using(crate::proofs::Links::slave_is))]
+fn unit_of_link(table: &Table, link: &LinkRow) -> u8
+    requires { IsLink table.now.slaves table.now.variables link.now }
+    ensures { result ≡ unit_of_link table.now link.now }
 {
-    for link in table.links() {
-        let unit = unit_of_link(table, link);
-        let place = link.variable;
-        let known = seen[place];
-        seen[place] = seen_more(known, unit);
-    }
-}
-
-/// The first input variable with links from two units.
-#[tactic(auto, using(crate::proofs::SeenLinks::seen_read))]
-fn first_split(table: &Table, seen: &[VariableUse]) -> Option<usize>
-    requires { AreSeen table.now table.now.links seen.now }
-    ensures { result ≡ first_at (split_variable table.now) 0 table.now.variables }
-{
-    for (place, variable) in table.variables().iter().enumerate() {
-        if !is_out(variable.direction) && seen[place].differs {
-            return Some(place);
-        }
-    }
-    None
-}
-
-/// The first input variable with links from two units, as a fault.
-#[tactic(auto, unfolding(crate::specs::Faults::variable_fault), using(crate::proofs::SeenLinks::fresh_seen))]
-pub fn variable_fault(alloc: Global, table: &Table) -> Result<Option<LinkFault>, AllocError>
-    ensures { IfOk result (λ f. f ≡ variable_fault table.now) }
-{
-    let fresh = VariableUse {
-        unit: None,
-        differs: false,
-    };
-    let mut seen = vec![in alloc; fresh; table.variables().len()]?;
-    see_links(table, seen.as_mut_slice());
-    Ok(first_split(table, seen.as_slice()).map(LinkFault::SplitVariable))
+    table.slaves()[link.slave].unit
 }

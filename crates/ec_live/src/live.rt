@@ -27,62 +27,143 @@ use std::alloc::{AllocError, Global};
 use std::fs::Files;
 use std::io::{Read, Write};
 
-/// What is taken as the line of a number: such as is no text stands for nothing.
-fn reading_of(
-    alloc: Global,
-    table: &Table,
-    number: usize,
-    taken: &NextLine,
-) -> Result<Reading, AllocError>
-    ensures { IfOk result (λ reading. reading ≡ taken_reading table.now number taken.now) }
+/// Runs the lines that the input gives behind a link table and a line `%%`, each as it comes: what a line says is printed
+/// before the next one is read, and why it says `no`, where reasons are told. A line that can't be read prints `bad` and its
+/// number, and nothing else happens. The slaves begin at power-on, with the identities that the table says. The frames that pass
+/// go into a capture, if a file is named. A refusal of the table is explained, where that is wanted.
+///
+/// # Errors
+///
+/// The refusal of the table; `Refusal::Unmet` where what a line expected wasn't so; `Refusal::Input`, `Output` and `Memory`
+/// where a read, a write or memory was refused, after what was printed until then.
+pub fn print_live<H: AllocGlobal + Files, R: Read, W: Write>(
+    rt: &H,
+    reasons: Reasons,
+    file: Option<&str>,
+    input: &mut R,
+    output: &mut W,
+    behind: &mut Explanation,
+) -> Result<(), Refusal>
+    ensures runs { RunsLive reasons (R.remaining input.old) (W.contents output.old) (W.contents output.new)
+        result }
+    ensures explains { IsLeft behind.old behind.new }
 {
-    match taken {
-        NextLine::Text(text) => read_line(alloc, table, number, text.as_str()),
-        NextLine::NoText => Ok(Reading::Bad),
-        NextLine::End => Ok(Reading::Empty),
+    let text = take_text(rt.alloc(), input)?;
+    let ended = run_live_text(rt, file, text.as_str(), reasons, input, output);
+    if let Err(refusal) = &ended {
+        behind.explain(rt.alloc(), text.as_str(), refusal);
     }
+    ended
 }
 
-/// Prints that the line of a number is bad.
-fn print_bad<W: Write>(alloc: Global, number: usize, output: &mut W) -> Result<(), Refusal>
-    ensures all { OnOk result (Appends (W.contents output.old) (W.contents output.new)
-        (codes "bad " ++ decimal number ++ newline)) }
-    ensures part { OnErr result (AppendsPart (W.contents output.old) (W.contents output.new)
-        (codes "bad " ++ decimal number ++ newline)) }
-    ensures late { IfErr result IsLate }
+/// The same of the table that a text states.
+fn run_live_text<H: AllocGlobal + Files, R: Read, W: Write>(
+    rt: &H,
+    file: Option<&str>,
+    text: &str,
+    reasons: Reasons,
+    input: &mut R,
+    output: &mut W,
+) -> Result<(), Refusal>
+    ensures { RunsLiveText reasons text.now (R.remaining input.old) (W.contents output.old)
+        (W.contents output.new) result }
 {
-    let text = format!(in alloc; "bad {number}\n")?;
-    print_text(text.as_bytes(), output)
+    let table = read_table(rt.alloc(), text)?;
+    run_live_table(rt, file, &table, reasons, input, output)
 }
 
-/// Runs a line over a world of a table and prints what there is to say, and answers how often what it expects isn't so.
-fn print_reading<S: Watcher, W: Write>(
+/// The same of a table that was read, which may have no plan.
+fn run_live_table<H: AllocGlobal + Files, R: Read, W: Write>(
+    rt: &H,
+    file: Option<&str>,
+    table: &Table,
+    reasons: Reasons,
+    input: &mut R,
+    output: &mut W,
+) -> Result<(), Refusal>
+    ensures { RunsLiveRead reasons table.now (R.remaining input.old) (W.contents output.old)
+        (W.contents output.new) result }
+{
+    let plan = compile(rt.alloc(), table)?;
+    run_live_plan(rt, file, table, reasons, &plan, input, output)
+}
+
+/// Runs the lines that an input gives over a new segment of a table.
+fn run_live_plan<H: AllocGlobal + Files, R: Read, W: Write>(
+    rt: &H,
+    file: Option<&str>,
+    table: &Table,
+    reasons: Reasons,
+    plan: &Plan,
+    input: &mut R,
+    output: &mut W,
+) -> Result<(), Refusal>
+    requires accepted { compile_fault table.now ≡ None }
+    requires plan { plan.now ≡ plan_of table.now }
+    ensures { RunsLiveTable reasons table.now (R.remaining input.old) (W.contents output.old)
+        (W.contents output.new) result }
+{
+    let identities = identities_of(rt.alloc(), table)?;
+    let mut world = World::new(rt.alloc(), table, plan, identities.as_slice())?;
+    let unmet = print_live_watched(rt, table, reasons, &mut world, file, input, output)?;
+    end_of(unmet)
+}
+
+/// The same; the frames of the world go into a capture, if a file is named.
+#[tactic(auto, using(crate::proofs::LiveLemmas::none_part, crate::proofs::LiveLemmas::unopened_late))]
+fn print_live_watched<H: AllocGlobal + Files, R: Read, W: Write>(
+    rt: &H,
+    table: &Table,
+    reasons: Reasons,
+    world: &mut World<'_>,
+    file: Option<&str>,
+    input: &mut R,
+    output: &mut W,
+) -> Result<u64, Refusal>
+    requires { world.old.plan ≡ plan_of table.now }
+    ensures all { IfOk result (λ count. (unmet : ℕ) × (count ≡ counted unmet)
+        × LivesOut reasons table.now world.old (R.remaining input.old) unmet
+        (W.contents output.old) (W.contents output.new)) }
+    ensures part { OnErr result (LivesPart reasons table.now world.old (R.remaining input.old)
+        (W.contents output.old) (W.contents output.new)) }
+    ensures late { IfErr result IsLiveLate }
+{
+    let Some(file) = file else {
+        return print_live_lines(
+            rt.alloc(),
+            table,
+            reasons,
+            world,
+            &mut Unwatched,
+            input,
+            output,
+        );
+    };
+    let recording = open_segment(rt, file, table)?;
+    print_live_captured(rt.alloc(), table, reasons, world, recording, input, output)
+}
+
+/// The same; the frames of the world go into a capture that is open, which is then written to the end.
+fn print_live_captured<F: Write + Drop, R: Read, W: Write>(
     alloc: Global,
     table: &Table,
     reasons: Reasons,
     world: &mut World<'_>,
-    watcher: &mut S,
-    number: usize,
-    reading: Reading,
+    recording: Recording<F>,
+    input: &mut R,
     output: &mut W,
 ) -> Result<u64, Refusal>
     requires { world.old.plan ≡ plan_of table.now }
-    ensures all { IfOk result (λ count. (unmet : ℕ) × (count ≡ counted unmet) × (printed : List ℕ)
-        × SaysReading reasons table.now world.old number reading world.new printed unmet
-        × Appends (W.contents output.old) (W.contents output.new) printed) }
-    ensures part { OnErr result (SaysPart reasons table.now world.old number reading
+    ensures all { IfOk result (λ count. (unmet : ℕ) × (count ≡ counted unmet)
+        × LivesOut reasons table.now world.old (R.remaining input.old) unmet
         (W.contents output.old) (W.contents output.new)) }
-    ensures late { IfErr result IsLate }
-    ensures plan { world.new.plan ≡ world.old.plan }
+    ensures part { OnErr result (LivesPart reasons table.now world.old (R.remaining input.old)
+        (W.contents output.old) (W.contents output.new)) }
+    ensures late { IfErr result IsLiveLate }
 {
-    match reading {
-        Reading::Empty => Ok(0),
-        Reading::Line(line) => print_line(alloc, table, reasons, world, watcher, &line, output),
-        Reading::Bad => {
-            print_bad(alloc, number, output)?;
-            Ok(0)
-        }
-    }
+    let mut watch = Watch::new(recording);
+    let ended = print_live_lines(alloc, table, reasons, world, &mut watch, input, output);
+    finish_recording(ended, watch.into_capture())
 }
 
 /// Runs the lines that an input gives over a world of a table, and prints of each what there is to say before the next one is
@@ -120,141 +201,60 @@ fn print_live_lines<S: Watcher, R: Read, W: Write>(
     Err(Refusal::Input)
 }
 
-/// The same; the frames of the world go into a capture that is open, which is then written to the end.
-fn print_live_captured<F: Write + Drop, R: Read, W: Write>(
+/// Runs a line over a world of a table and prints what there is to say, and answers how often what it expects isn't so.
+fn print_reading<S: Watcher, W: Write>(
     alloc: Global,
     table: &Table,
     reasons: Reasons,
     world: &mut World<'_>,
-    recording: Recording<F>,
-    input: &mut R,
+    watcher: &mut S,
+    number: usize,
+    reading: Reading,
     output: &mut W,
 ) -> Result<u64, Refusal>
     requires { world.old.plan ≡ plan_of table.now }
-    ensures all { IfOk result (λ count. (unmet : ℕ) × (count ≡ counted unmet)
-        × LivesOut reasons table.now world.old (R.remaining input.old) unmet
+    ensures all { IfOk result (λ count. (unmet : ℕ) × (count ≡ counted unmet) × (printed : List ℕ)
+        × SaysReading reasons table.now world.old number reading world.new printed unmet
+        × Appends (W.contents output.old) (W.contents output.new) printed) }
+    ensures part { OnErr result (SaysPart reasons table.now world.old number reading
         (W.contents output.old) (W.contents output.new)) }
-    ensures part { OnErr result (LivesPart reasons table.now world.old (R.remaining input.old)
-        (W.contents output.old) (W.contents output.new)) }
-    ensures late { IfErr result IsLiveLate }
+    ensures late { IfErr result IsLate }
+    ensures plan { world.new.plan ≡ world.old.plan }
 {
-    let mut watch = Watch::new(recording);
-    let ended = print_live_lines(alloc, table, reasons, world, &mut watch, input, output);
-    finish_recording(ended, watch.into_capture())
-}
-
-/// The same; the frames of the world go into a capture, if a file is named.
-#[tactic(auto, using(crate::proofs::LiveLemmas::none_part, crate::proofs::LiveLemmas::unopened_late))]
-fn print_live_watched<H: AllocGlobal + Files, R: Read, W: Write>(
-    rt: &H,
-    table: &Table,
-    reasons: Reasons,
-    world: &mut World<'_>,
-    file: Option<&str>,
-    input: &mut R,
-    output: &mut W,
-) -> Result<u64, Refusal>
-    requires { world.old.plan ≡ plan_of table.now }
-    ensures all { IfOk result (λ count. (unmet : ℕ) × (count ≡ counted unmet)
-        × LivesOut reasons table.now world.old (R.remaining input.old) unmet
-        (W.contents output.old) (W.contents output.new)) }
-    ensures part { OnErr result (LivesPart reasons table.now world.old (R.remaining input.old)
-        (W.contents output.old) (W.contents output.new)) }
-    ensures late { IfErr result IsLiveLate }
-{
-    let Some(file) = file else {
-        return print_live_lines(
-            rt.alloc(),
-            table,
-            reasons,
-            world,
-            &mut Unwatched,
-            input,
-            output,
-        );
-    };
-    let recording = open_segment(rt, file, table)?;
-    print_live_captured(rt.alloc(), table, reasons, world, recording, input, output)
-}
-
-/// Runs the lines that an input gives over a new segment of a table.
-fn run_live_plan<H: AllocGlobal + Files, R: Read, W: Write>(
-    rt: &H,
-    file: Option<&str>,
-    table: &Table,
-    reasons: Reasons,
-    plan: &Plan,
-    input: &mut R,
-    output: &mut W,
-) -> Result<(), Refusal>
-    requires accepted { compile_fault table.now ≡ None }
-    requires plan { plan.now ≡ plan_of table.now }
-    ensures { RunsLiveTable reasons table.now (R.remaining input.old) (W.contents output.old)
-        (W.contents output.new) result }
-{
-    let identities = identities_of(rt.alloc(), table)?;
-    let mut world = World::new(rt.alloc(), table, plan, identities.as_slice())?;
-    let unmet = print_live_watched(rt, table, reasons, &mut world, file, input, output)?;
-    end_of(unmet)
-}
-
-/// The same of a table that was read, which may have no plan.
-fn run_live_table<H: AllocGlobal + Files, R: Read, W: Write>(
-    rt: &H,
-    file: Option<&str>,
-    table: &Table,
-    reasons: Reasons,
-    input: &mut R,
-    output: &mut W,
-) -> Result<(), Refusal>
-    ensures { RunsLiveRead reasons table.now (R.remaining input.old) (W.contents output.old)
-        (W.contents output.new) result }
-{
-    let plan = compile(rt.alloc(), table)?;
-    run_live_plan(rt, file, table, reasons, &plan, input, output)
-}
-
-/// The same of the table that a text states.
-fn run_live_text<H: AllocGlobal + Files, R: Read, W: Write>(
-    rt: &H,
-    file: Option<&str>,
-    text: &str,
-    reasons: Reasons,
-    input: &mut R,
-    output: &mut W,
-) -> Result<(), Refusal>
-    ensures { RunsLiveText reasons text.now (R.remaining input.old) (W.contents output.old)
-        (W.contents output.new) result }
-{
-    let table = read_table(rt.alloc(), text)?;
-    run_live_table(rt, file, &table, reasons, input, output)
-}
-
-/// Runs the lines that the input gives behind a link table and a line `%%`, each as it comes: what a line says is printed
-/// before the next one is read, and why it says `no`, where reasons are told. A line that can't be read prints `bad` and its
-/// number, and nothing else happens. The slaves begin at power-on, with the identities that the table says. The frames that pass
-/// go into a capture, if a file is named. A refusal of the table is explained, where that is wanted.
-///
-/// # Errors
-///
-/// The refusal of the table; `Refusal::Unmet` where what a line expected wasn't so; `Refusal::Input`, `Output` and `Memory`
-/// where a read, a write or memory was refused, after what was printed until then.
-pub fn print_live<H: AllocGlobal + Files, R: Read, W: Write>(
-    rt: &H,
-    reasons: Reasons,
-    file: Option<&str>,
-    input: &mut R,
-    output: &mut W,
-    behind: &mut Explanation,
-) -> Result<(), Refusal>
-    ensures runs { RunsLive reasons (R.remaining input.old) (W.contents output.old) (W.contents output.new)
-        result }
-    ensures explains { IsLeft behind.old behind.new }
-{
-    let text = take_text(rt.alloc(), input)?;
-    let ended = run_live_text(rt, file, text.as_str(), reasons, input, output);
-    if let Err(refusal) = &ended {
-        behind.explain(rt.alloc(), text.as_str(), refusal);
+    match reading {
+        Reading::Empty => Ok(0),
+        Reading::Line(line) => print_line(alloc, table, reasons, world, watcher, &line, output),
+        Reading::Bad => {
+            print_bad(alloc, number, output)?;
+            Ok(0)
+        }
     }
-    ended
+}
+
+/// Prints that the line of a number is bad.
+fn print_bad<W: Write>(alloc: Global, number: usize, output: &mut W) -> Result<(), Refusal>
+    ensures all { OnOk result (Appends (W.contents output.old) (W.contents output.new)
+        (codes "bad " ++ decimal number ++ newline)) }
+    ensures part { OnErr result (AppendsPart (W.contents output.old) (W.contents output.new)
+        (codes "bad " ++ decimal number ++ newline)) }
+    ensures late { IfErr result IsLate }
+{
+    let text = format!(in alloc; "bad {number}\n")?;
+    print_text(text.as_bytes(), output)
+}
+
+/// What is taken as the line of a number: such as is no text stands for nothing.
+fn reading_of(
+    alloc: Global,
+    table: &Table,
+    number: usize,
+    taken: &NextLine,
+) -> Result<Reading, AllocError>
+    ensures { IfOk result (λ reading. reading ≡ taken_reading table.now number taken.now) }
+{
+    match taken {
+        NextLine::Text(text) => read_line(alloc, table, number, text.as_str()),
+        NextLine::NoText => Ok(Reading::Bad),
+        NextLine::End => Ok(Reading::Empty),
+    }
 }

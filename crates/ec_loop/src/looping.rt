@@ -44,116 +44,100 @@ const READY: &str = "ready\n";
 /// As many bytes as the line of the ports may have.
 const LINE_SIZE: usize = 96;
 
-/// A number as far as so many bits hold it.
-fn cut_to(number: u64, bits: u8) -> u64
-    requires { bits ≤ 64 }
-    ensures { result ≡ number % 2 ^ bits }
+/// What a variable of a master is now; 0 where it has no such variable.
+pub fn value_of(master: &Master<'_>, place: usize) -> u64
+    ensures { result ≡ shown master.now place }
 {
-    if bits < 64 {
-        number % (1 << bits)
+    if place < master.variables() {
+        master.get(place)
     } else {
-        number
+        0
     }
 }
 
-/// Sets a variable to a number, as far as it has bits, if it is an output.
-fn set_output(master: &mut Master<'_>, variable: usize, place: Variable, number: u64)
-    requires there { slice_get master.old.plan.variables variable ≡ Some place }
-    requires few { place.bits ≤ 64 }
-    ensures { master.new ≡ record master.old { outputs = output_put number master.old.outputs place } }
+/// The lines of the input variables of a master.
+///
+/// # Errors
+///
+/// `AllocError` where memory ran out.
+pub fn input_lines(alloc: Global, table: &Table, master: &Master<'_>) -> Result<String, AllocError>
+    ensures { IfOk result (λ text. string_bytes text ≡ inputs_text (shown master.now) table.now) }
 {
-    let value = cut_to(number, place.bits);
-    if master.can_set(variable, value) {
-        master.set(variable, value);
-    }
+    let mut text = String::new(alloc);
+    write_inputs(&mut text, master, table.variables())?;
+    Ok(text)
 }
 
-/// Sets each output variable to a number, as far as it has bits.
-fn set_outputs(master: &mut Master<'_>, plan: &Plan, number: u64)
-    requires { master.old.plan.variables ≡ plan.now.variables }
-    ensures { master.new ≡ with_outputs master.old number }
-{
-    master.is_sound();
-    for variable in 0..plan.variables().len() {
-        set_output(master, variable, plan.variables()[variable], number);
-    }
-}
-
-/// Brings the slaves of a plan up over a wire for a new master of it, which can begin cycles then.
-#[tactic(auto, unfolding(ec_start::specs::Running::begun))]
-fn bring_up_for<W: Wire>(
-    alloc: Global,
-    plan: &Plan,
-    master: &mut Master<'_>,
-    wire: &mut W,
-) -> Result<(), Refusal>
-    requires few { All HasFewAssigned plan.now.slaves }
-    requires new { master.old ≡ new_master plan.now }
-    ensures up { OnOk result (IsUp plan.now (W.state wire.old) (W.state wire.new) master.new) }
-    ensures refused { IfErr result (IsStartRefusal plan.now (W.state wire.old) (W.state wire.new)) }
-{
-    let mut startup = Startup::new(alloc, plan, 0)?;
-    bring_up_wire(&mut startup, wire);
-    startup.outcome().unwrap()?;
-    master.ready(&startup);
-    Ok(())
-}
-
-/// A master whose slaves were brought up over a wire.
-fn started<'p, W: Wire>(
+/// Brings the slaves on a wire up and runs so many cycles of a table's plan over it. In the n-th cycle each output
+/// variable is sent as n, as far as it has bits. It prints a line when the slaves are up, the report on each cycle before
+/// the next begins, and at the end the input variables.
+///
+/// # Errors
+///
+/// `Refusal::Memory` where memory ran out, the start-up's refusal where it failed, the run's where a cycle could not be
+/// run, and `Refusal::Output` where the output could not be written.
+pub fn run_loop<W: Wire, O: Write>(
     alloc: Global,
     table: &Table,
-    plan: &'p Plan,
+    plan: &Plan,
     wire: &mut W,
-) -> Result<Master<'p>, Refusal>
+    cycles: u16,
+    output: &mut O,
+) -> Result<(), Refusal>
     requires accepted { compile_fault table.now ≡ None }
     requires plan { plan.now ≡ plan_of table.now }
-    ensures ready { IfOk result (CanCycle plan.now) }
-    ensures up { IfOk result (IsUp plan.now (W.state wire.old) (W.state wire.new)) }
-    ensures refused { IfErr result (IsStartRefusal plan.now (W.state wire.old) (W.state wire.new)) }
+    ensures { Loops cycles table.now (W.state wire.old) (W.state wire.new)
+        (O.contents output.old) (O.contents output.new) result }
 {
-    let _version = table.version();
-    let mut master = Master::new(alloc, plan)?;
-    bring_up_for(alloc, plan, &mut master, wire)?;
-    Ok(master)
+    let mut master = started(alloc, table, plan, wire)?;
+    run_started(alloc, table, plan, &mut master, wire, cycles, output)
 }
 
-/// One cycle that sends a number.
-fn run_number<W: Wire>(
-    plan: &Plan,
-    master: &mut Master<'_>,
-    wire: &mut W,
-    number: u64,
-) -> Result<Report, RunError>
-    requires ready { CanCycle plan.now master.old }
-    ensures ready { OnOk result (CanCycle plan.now master.new) }
-    ensures run { IfOk result (λ r. IsRun (with_outputs master.old number) (W.state wire.old) (W.state wire.new) (Ok r) master.new) }
-    ensures ended { IfErr result (IsRunEnd (with_outputs master.old number) (W.state wire.old) (W.state wire.new)) }
+/// Runs so many cycles of the table that the input states, master and slaves on two sockets of this process, the slaves'
+/// applications being `app`. It tells the ports of the sockets on `faults`. In the n-th cycle each output variable is sent
+/// as n, as far as it has bits. It prints a line when the slaves are up, the report on each cycle before the next begins,
+/// and at the end the input variables. A refusal of the table, of its start-up or of a cycle is explained, where that is
+/// wanted.
+pub fn print_loop<H: AllocGlobal + Net + Files + Clock, R: Read, W: Write, F: Write>(
+    rt: &H,
+    cycles: u16,
+    input: &mut R,
+    output: &mut W,
+    faults: &mut F,
+    app: &mut dyn App,
+    behind: &mut Explanation,
+) -> Result<(), Refusal>
+    ensures runs { RunsLoop cycles (R.remaining input.old) (W.contents output.old) (W.contents output.new)
+        (F.contents faults.old) (F.contents faults.new) result }
+    ensures explains { IsLeft behind.old behind.new }
 {
-    set_outputs(master, plan, number);
-    run_cycle(master, wire)
+    loop_input(rt, cycles, &mut None, input, output, faults, app, behind)
 }
 
-/// The line of the report on one cycle that sends a number.
-fn cycle_line<W: Wire>(
-    alloc: Global,
-    table: &Table,
-    plan: &Plan,
-    master: &mut Master<'_>,
-    wire: &mut W,
-    number: u64,
-) -> Result<String, Refusal>
-    requires ready { CanCycle plan.now master.old }
-    ensures line { IfOk result (λ text. (r : ReportState)
-        × IsRun (with_outputs master.old number) (W.state wire.old) (W.state wire.new) (Ok r) master.new
-        × (string_bytes text ≡ report_text table.now.version plan.now.parts r)) }
-    ensures ready { OnOk result (CanCycle plan.now master.new) }
-    ensures refused { IfErr result (IsCycleRefusal (with_outputs master.old number) (W.state wire.old) (W.state wire.new)) }
+/// The same with a capture: what the master sends and receives goes into a file, at the interface `loop`.
+///
+/// # Errors
+///
+/// Those of [`print_loop`]; `Refusal::Output` too where the file couldn't be opened, before anything is sent, or couldn't be
+/// written to the end.
+#[tactic(auto, using(ec_captured::proofs::CaptureLemmas::captured_refused, ec_captured::proofs::CaptureLemmas::captured_end))]
+pub fn capture_loop<H: AllocGlobal + Net + Files + Clock, R: Read, W: Write, F: Write>(
+    rt: &H,
+    cycles: u16,
+    file: &str,
+    input: &mut R,
+    output: &mut W,
+    faults: &mut F,
+    app: &mut dyn App,
+    behind: &mut Explanation,
+) -> Result<(), Refusal>
+    ensures runs { EndsCaptured (λ ended. RunsLoop cycles (R.remaining input.old) (W.contents output.old)
+        (W.contents output.new) (F.contents faults.old) (F.contents faults.new) ended)
+        ((output.new ≡ output.old) × (faults.new ≡ faults.old)) result }
+    ensures explains { IsLeft behind.old behind.new }
 {
-    let report = run_number(plan, master, wire, number)?;
-    let mut text = String::new(alloc);
-    write_report(alloc, &mut text, table.version(), plan.parts(), &report)?;
-    Ok(text)
+    let capture = open_capture(rt, file, "loop")?;
+    loop_captured(rt, cycles, capture, input, output, faults, app, behind)
 }
 
 /// Prints that the slaves are up, and runs so many cycles, each of whose reports is printed before the next begins.
@@ -182,33 +166,115 @@ fn print_cycles<W: Wire, O: Write>(
     Ok(())
 }
 
-/// What a variable of a master is now; 0 where it has no such variable.
-pub fn value_of(master: &Master<'_>, place: usize) -> u64
-    ensures { result ≡ shown master.now place }
+/// The line of the report on one cycle that sends a number.
+fn cycle_line<W: Wire>(
+    alloc: Global,
+    table: &Table,
+    plan: &Plan,
+    master: &mut Master<'_>,
+    wire: &mut W,
+    number: u64,
+) -> Result<String, Refusal>
+    requires ready { CanCycle plan.now master.old }
+    ensures line { IfOk result (λ text. (r : ReportState)
+        × IsRun (with_outputs master.old number) (W.state wire.old) (W.state wire.new) (Ok r) master.new
+        × (string_bytes text ≡ report_text table.now.version plan.now.parts r)) }
+    ensures ready { OnOk result (CanCycle plan.now master.new) }
+    ensures refused { IfErr result (IsCycleRefusal (with_outputs master.old number) (W.state wire.old) (W.state wire.new)) }
 {
-    if place < master.variables() {
-        master.get(place)
-    } else {
-        0
+    let report = run_number(plan, master, wire, number)?;
+    let mut text = String::new(alloc);
+    write_report(alloc, &mut text, table.version(), plan.parts(), &report)?;
+    Ok(text)
+}
+
+/// One cycle that sends a number.
+fn run_number<W: Wire>(
+    plan: &Plan,
+    master: &mut Master<'_>,
+    wire: &mut W,
+    number: u64,
+) -> Result<Report, RunError>
+    requires ready { CanCycle plan.now master.old }
+    ensures ready { OnOk result (CanCycle plan.now master.new) }
+    ensures run { IfOk result (λ r. IsRun (with_outputs master.old number) (W.state wire.old) (W.state wire.new) (Ok r) master.new) }
+    ensures ended { IfErr result (IsRunEnd (with_outputs master.old number) (W.state wire.old) (W.state wire.new)) }
+{
+    set_outputs(master, plan, number);
+    run_cycle(master, wire)
+}
+
+/// A master whose slaves were brought up over a wire.
+fn started<'p, W: Wire>(
+    alloc: Global,
+    table: &Table,
+    plan: &'p Plan,
+    wire: &mut W,
+) -> Result<Master<'p>, Refusal>
+    requires accepted { compile_fault table.now ≡ None }
+    requires plan { plan.now ≡ plan_of table.now }
+    ensures ready { IfOk result (CanCycle plan.now) }
+    ensures up { IfOk result (IsUp plan.now (W.state wire.old) (W.state wire.new)) }
+    ensures refused { IfErr result (IsStartRefusal plan.now (W.state wire.old) (W.state wire.new)) }
+{
+    let _version = table.version();
+    let mut master = Master::new(alloc, plan)?;
+    bring_up_for(alloc, plan, &mut master, wire)?;
+    Ok(master)
+}
+
+/// Brings the slaves of a plan up over a wire for a new master of it, which can begin cycles then.
+#[tactic(auto, unfolding(ec_start::specs::Running::begun))]
+fn bring_up_for<W: Wire>(
+    alloc: Global,
+    plan: &Plan,
+    master: &mut Master<'_>,
+    wire: &mut W,
+) -> Result<(), Refusal>
+    requires few { All HasFewAssigned plan.now.slaves }
+    requires new { master.old ≡ new_master plan.now }
+    ensures up { OnOk result (IsUp plan.now (W.state wire.old) (W.state wire.new) master.new) }
+    ensures refused { IfErr result (IsStartRefusal plan.now (W.state wire.old) (W.state wire.new)) }
+{
+    let mut startup = Startup::new(alloc, plan, 0)?;
+    bring_up_wire(&mut startup, wire);
+    startup.outcome().unwrap()?;
+    master.ready(&startup);
+    Ok(())
+}
+
+/// Sets each output variable to a number, as far as it has bits.
+fn set_outputs(master: &mut Master<'_>, plan: &Plan, number: u64)
+    requires { master.old.plan.variables ≡ plan.now.variables }
+    ensures { master.new ≡ with_outputs master.old number }
+{
+    master.is_sound();
+    for variable in 0..plan.variables().len() {
+        set_output(master, variable, plan.variables()[variable], number);
     }
 }
 
-/// Adds the line of a variable, if it is an input.
-fn write_input(
-    text: &mut String,
-    master: &Master<'_>,
-    place: usize,
-    row: &VariableRow,
-) -> Result<(), AllocError>
-    ensures { OnOk result (string_bytes text.new
-        ≡ string_bytes text.old ++ input_line (shown master.now) place row.now) }
+/// Sets a variable to a number, as far as it has bits, if it is an output.
+fn set_output(master: &mut Master<'_>, variable: usize, place: Variable, number: u64)
+    requires there { slice_get master.old.plan.variables variable ≡ Some place }
+    requires few { place.bits ≤ 64 }
+    ensures { master.new ≡ record master.old { outputs = output_put number master.old.outputs place } }
 {
-    match row.direction {
-        Direction::Out => Ok(()),
-        Direction::In => {
-            let (name, value) = (row.name.as_str(), value_of(master, place));
-            writeln!(text, "{name} {value}")
-        }
+    let value = cut_to(number, place.bits);
+    if master.can_set(variable, value) {
+        master.set(variable, value);
+    }
+}
+
+/// A number as far as so many bits hold it.
+fn cut_to(number: u64, bits: u8) -> u64
+    requires { bits ≤ 64 }
+    ensures { result ≡ number % 2 ^ bits }
+{
+    if bits < 64 {
+        number % (1 << bits)
+    } else {
+        number
     }
 }
 
@@ -228,17 +294,23 @@ fn write_inputs(
     Ok(())
 }
 
-/// The lines of the input variables of a master.
-///
-/// # Errors
-///
-/// `AllocError` where memory ran out.
-pub fn input_lines(alloc: Global, table: &Table, master: &Master<'_>) -> Result<String, AllocError>
-    ensures { IfOk result (λ text. string_bytes text ≡ inputs_text (shown master.now) table.now) }
+/// Adds the line of a variable, if it is an input.
+fn write_input(
+    text: &mut String,
+    master: &Master<'_>,
+    place: usize,
+    row: &VariableRow,
+) -> Result<(), AllocError>
+    ensures { OnOk result (string_bytes text.new
+        ≡ string_bytes text.old ++ input_line (shown master.now) place row.now) }
 {
-    let mut text = String::new(alloc);
-    write_inputs(&mut text, master, table.variables())?;
-    Ok(text)
+    match row.direction {
+        Direction::Out => Ok(()),
+        Direction::In => {
+            let (name, value) = (row.name.as_str(), value_of(master, place));
+            writeln!(text, "{name} {value}")
+        }
+    }
 }
 
 /// Runs so many cycles with a master whose slaves are up, and prints what `run_loop` does.
@@ -261,66 +333,85 @@ fn run_started<W: Wire, O: Write>(
     print_text(lines.as_bytes(), output)
 }
 
-/// Brings the slaves on a wire up and runs so many cycles of a table's plan over it. In the n-th cycle each output
-/// variable is sent as n, as far as it has bits. It prints a line when the slaves are up, the report on each cycle before
-/// the next begins, and at the end the input variables.
-///
-/// # Errors
-///
-/// `Refusal::Memory` where memory ran out, the start-up's refusal where it failed, the run's where a cycle could not be
-/// run, and `Refusal::Output` where the output could not be written.
-pub fn run_loop<W: Wire, O: Write>(
-    alloc: Global,
-    table: &Table,
-    plan: &Plan,
-    wire: &mut W,
+/// The same of the table that the input states. A refusal is explained, where that is wanted.
+fn loop_input<H: AllocGlobal + Net + Files + Clock, R: Read, W: Write, F: Write>(
+    rt: &H,
     cycles: u16,
-    output: &mut O,
+    capture: &mut Capture<H::File>,
+    input: &mut R,
+    output: &mut W,
+    faults: &mut F,
+    app: &mut dyn App,
+    behind: &mut Explanation,
 ) -> Result<(), Refusal>
-    requires accepted { compile_fault table.now ≡ None }
-    requires plan { plan.now ≡ plan_of table.now }
-    ensures { Loops cycles table.now (W.state wire.old) (W.state wire.new)
-        (O.contents output.old) (O.contents output.new) result }
+    ensures runs { RunsLoop cycles (R.remaining input.old) (W.contents output.old) (W.contents output.new)
+        (F.contents faults.old) (F.contents faults.new) result }
+    ensures explains { IsLeft behind.old behind.new }
 {
-    let mut master = started(alloc, table, plan, wire)?;
-    run_started(alloc, table, plan, &mut master, wire, cycles, output)
+    let text = read_text(rt.alloc(), input)?;
+    let ended = loop_text(rt, cycles, capture, text.as_str(), output, faults, app);
+    if let Err(refusal) = &ended {
+        behind.explain(rt.alloc(), text.as_str(), refusal);
+    }
+    ended
 }
 
-/// What a loop of a table runs between: its slaves, just switched on, and two sockets of this process.
-fn loop_ends<H: AllocGlobal + Net>(
+/// Runs cycles of the table that a text states, over two sockets.
+fn loop_text<H: AllocGlobal + Net + Files + Clock, W: Write, F: Write>(
+    rt: &H,
+    cycles: u16,
+    capture: &mut Capture<H::File>,
+    text: &str,
+    output: &mut W,
+    faults: &mut F,
+    app: &mut dyn App,
+) -> Result<(), Refusal>
+    ensures { LoopsText cycles text.now (W.contents output.old) (W.contents output.new)
+        (F.contents faults.old) (F.contents faults.new) result }
+{
+    let table = read_table(rt.alloc(), text)?;
+    loop_table(rt, cycles, capture, &table, output, faults, app)
+}
+
+/// Runs cycles of a table that was read, over two sockets.
+#[tactic(auto, using(crate::proofs::LoopLemmas::never_run, crate::proofs::LoopLemmas::on_table))]
+fn loop_table<H: AllocGlobal + Net + Files + Clock, W: Write, F: Write>(
+    rt: &H,
+    cycles: u16,
+    capture: &mut Capture<H::File>,
+    table: &Table,
+    output: &mut W,
+    faults: &mut F,
+    app: &mut dyn App,
+) -> Result<(), Refusal>
+    ensures { LoopsTable cycles table.now (W.contents output.old) (W.contents output.new)
+        (F.contents faults.old) (F.contents faults.new) result }
+{
+    let plan = compile(rt.alloc(), table)?;
+    loop_plan(rt, table, &plan, cycles, capture, output, faults, app)
+}
+
+/// Runs cycles of a table's plan over two sockets.
+#[tactic(auto, using(crate::proofs::LoopLemmas::no_wire, crate::proofs::LoopLemmas::looped_between))]
+fn loop_plan<H: AllocGlobal + Net + Files + Clock, W: Write, F: Write>(
     rt: &H,
     table: &Table,
     plan: &Plan,
-) -> Result<(Ring, Sockets), Refusal>
+    cycles: u16,
+    capture: &mut Capture<H::File>,
+    output: &mut W,
+    faults: &mut F,
+    app: &mut dyn App,
+) -> Result<(), Refusal>
     requires accepted { compile_fault table.now ≡ None }
     requires plan { plan.now ≡ plan_of table.now }
-    ensures slaves { IfOk result (λ ends. AreSlavesOf table.now ends.0) }
-    ensures refused { IfErr result IsUnbound }
+    ensures { LoopsOnSockets cycles table.now (W.contents output.old) (W.contents output.new)
+        (F.contents faults.old) (F.contents faults.new) result }
 {
-    let slaves = slaves_of(rt.alloc(), table, plan)?;
-    let sockets = Sockets::bind(rt)?;
-    Ok((slaves, sockets))
-}
-
-/// The line that says between which ports a loop runs.
-fn between(ports: (u16, u16)) -> ArrayString<LINE_SIZE>
-    ensures { result.bytes ≡ ports_line ports.0 ports.1 }
-{
-    let mut line = ArrayString::new();
-    line.push_str("ecat: loop between 127.0.0.1:");
-    push_number(&mut line, u64::from(ports.0));
-    line.push_str(" and 127.0.0.1:");
-    push_number(&mut line, u64::from(ports.1));
-    line.push_str("\n");
-    line
-}
-
-/// Tells between which ports a loop runs. A fault in telling it changes nothing.
-fn tell_ports<F: Write>(ports: (u16, u16), faults: &mut F)
-    ensures { IsTold (ports_line ports.0 ports.1) (F.contents faults.old) (F.contents faults.new) }
-{
-    let line = between(ports);
-    tell_text(line.as_bytes(), faults);
+    let ends = loop_ends(rt, table, plan)?;
+    tell_ports(ends.1.ports(), faults);
+    let wire = LoopWire::new(ends.1, ends.0, app);
+    run_tapped(rt, table, plan, wire, cycles, capture, output)
 }
 
 /// Runs cycles of a table's plan over a wire that has carried nothing yet, and notes what it carries in a capture, if there
@@ -357,106 +448,41 @@ fn run_tapped<H: AllocGlobal + Files + Clock, W: Wire + Drop, O: Write>(
     }
 }
 
-/// Runs cycles of a table's plan over two sockets.
-#[tactic(auto, using(crate::proofs::LoopLemmas::no_wire, crate::proofs::LoopLemmas::looped_between))]
-fn loop_plan<H: AllocGlobal + Net + Files + Clock, W: Write, F: Write>(
+/// Tells between which ports a loop runs. A fault in telling it changes nothing.
+fn tell_ports<F: Write>(ports: (u16, u16), faults: &mut F)
+    ensures { IsTold (ports_line ports.0 ports.1) (F.contents faults.old) (F.contents faults.new) }
+{
+    let line = between(ports);
+    tell_text(line.as_bytes(), faults);
+}
+
+/// The line that says between which ports a loop runs.
+fn between(ports: (u16, u16)) -> ArrayString<LINE_SIZE>
+    ensures { result.bytes ≡ ports_line ports.0 ports.1 }
+{
+    let mut line = ArrayString::new();
+    line.push_str("ecat: loop between 127.0.0.1:");
+    push_number(&mut line, u64::from(ports.0));
+    line.push_str(" and 127.0.0.1:");
+    push_number(&mut line, u64::from(ports.1));
+    line.push_str("\n");
+    line
+}
+
+/// What a loop of a table runs between: its slaves, just switched on, and two sockets of this process.
+fn loop_ends<H: AllocGlobal + Net>(
     rt: &H,
     table: &Table,
     plan: &Plan,
-    cycles: u16,
-    capture: &mut Capture<H::File>,
-    output: &mut W,
-    faults: &mut F,
-    app: &mut dyn App,
-) -> Result<(), Refusal>
+) -> Result<(Ring, Sockets), Refusal>
     requires accepted { compile_fault table.now ≡ None }
     requires plan { plan.now ≡ plan_of table.now }
-    ensures { LoopsOnSockets cycles table.now (W.contents output.old) (W.contents output.new)
-        (F.contents faults.old) (F.contents faults.new) result }
+    ensures slaves { IfOk result (λ ends. AreSlavesOf table.now ends.0) }
+    ensures refused { IfErr result IsUnbound }
 {
-    let ends = loop_ends(rt, table, plan)?;
-    tell_ports(ends.1.ports(), faults);
-    let wire = LoopWire::new(ends.1, ends.0, app);
-    run_tapped(rt, table, plan, wire, cycles, capture, output)
-}
-
-/// Runs cycles of a table that was read, over two sockets.
-#[tactic(auto, using(crate::proofs::LoopLemmas::never_run, crate::proofs::LoopLemmas::on_table))]
-fn loop_table<H: AllocGlobal + Net + Files + Clock, W: Write, F: Write>(
-    rt: &H,
-    cycles: u16,
-    capture: &mut Capture<H::File>,
-    table: &Table,
-    output: &mut W,
-    faults: &mut F,
-    app: &mut dyn App,
-) -> Result<(), Refusal>
-    ensures { LoopsTable cycles table.now (W.contents output.old) (W.contents output.new)
-        (F.contents faults.old) (F.contents faults.new) result }
-{
-    let plan = compile(rt.alloc(), table)?;
-    loop_plan(rt, table, &plan, cycles, capture, output, faults, app)
-}
-
-/// Runs cycles of the table that a text states, over two sockets.
-fn loop_text<H: AllocGlobal + Net + Files + Clock, W: Write, F: Write>(
-    rt: &H,
-    cycles: u16,
-    capture: &mut Capture<H::File>,
-    text: &str,
-    output: &mut W,
-    faults: &mut F,
-    app: &mut dyn App,
-) -> Result<(), Refusal>
-    ensures { LoopsText cycles text.now (W.contents output.old) (W.contents output.new)
-        (F.contents faults.old) (F.contents faults.new) result }
-{
-    let table = read_table(rt.alloc(), text)?;
-    loop_table(rt, cycles, capture, &table, output, faults, app)
-}
-
-/// The same of the table that the input states. A refusal is explained, where that is wanted.
-fn loop_input<H: AllocGlobal + Net + Files + Clock, R: Read, W: Write, F: Write>(
-    rt: &H,
-    cycles: u16,
-    capture: &mut Capture<H::File>,
-    input: &mut R,
-    output: &mut W,
-    faults: &mut F,
-    app: &mut dyn App,
-    behind: &mut Explanation,
-) -> Result<(), Refusal>
-    ensures runs { RunsLoop cycles (R.remaining input.old) (W.contents output.old) (W.contents output.new)
-        (F.contents faults.old) (F.contents faults.new) result }
-    ensures explains { IsLeft behind.old behind.new }
-{
-    let text = read_text(rt.alloc(), input)?;
-    let ended = loop_text(rt, cycles, capture, text.as_str(), output, faults, app);
-    if let Err(refusal) = &ended {
-        behind.explain(rt.alloc(), text.as_str(), refusal);
-    }
-    ended
-}
-
-/// Runs so many cycles of the table that the input states, master and slaves on two sockets of this process, the slaves'
-/// applications being `app`. It tells the ports of the sockets on `faults`. In the n-th cycle each output variable is sent
-/// as n, as far as it has bits. It prints a line when the slaves are up, the report on each cycle before the next begins,
-/// and at the end the input variables. A refusal of the table, of its start-up or of a cycle is explained, where that is
-/// wanted.
-pub fn print_loop<H: AllocGlobal + Net + Files + Clock, R: Read, W: Write, F: Write>(
-    rt: &H,
-    cycles: u16,
-    input: &mut R,
-    output: &mut W,
-    faults: &mut F,
-    app: &mut dyn App,
-    behind: &mut Explanation,
-) -> Result<(), Refusal>
-    ensures runs { RunsLoop cycles (R.remaining input.old) (W.contents output.old) (W.contents output.new)
-        (F.contents faults.old) (F.contents faults.new) result }
-    ensures explains { IsLeft behind.old behind.new }
-{
-    loop_input(rt, cycles, &mut None, input, output, faults, app, behind)
+    let slaves = slaves_of(rt.alloc(), table, plan)?;
+    let sockets = Sockets::bind(rt)?;
+    Ok((slaves, sockets))
 }
 
 /// The same with a capture that is open, which is then written to the end.
@@ -477,30 +503,4 @@ fn loop_captured<H: AllocGlobal + Net + Files + Clock, R: Read, W: Write, F: Wri
     let mut capture = capture;
     let ended = loop_input(rt, cycles, &mut capture, input, output, faults, app, behind);
     close_capture(ended, capture)
-}
-
-/// The same with a capture: what the master sends and receives goes into a file, at the interface `loop`.
-///
-/// # Errors
-///
-/// Those of [`print_loop`]; `Refusal::Output` too where the file couldn't be opened, before anything is sent, or couldn't be
-/// written to the end.
-#[tactic(auto, using(ec_captured::proofs::CaptureLemmas::captured_refused, ec_captured::proofs::CaptureLemmas::captured_end))]
-pub fn capture_loop<H: AllocGlobal + Net + Files + Clock, R: Read, W: Write, F: Write>(
-    rt: &H,
-    cycles: u16,
-    file: &str,
-    input: &mut R,
-    output: &mut W,
-    faults: &mut F,
-    app: &mut dyn App,
-    behind: &mut Explanation,
-) -> Result<(), Refusal>
-    ensures runs { EndsCaptured (λ ended. RunsLoop cycles (R.remaining input.old) (W.contents output.old)
-        (W.contents output.new) (F.contents faults.old) (F.contents faults.new) ended)
-        ((output.new ≡ output.old) × (faults.new ≡ faults.old)) result }
-    ensures explains { IsLeft behind.old behind.new }
-{
-    let capture = open_capture(rt, file, "loop")?;
-    loop_captured(rt, cycles, capture, input, output, faults, app, behind)
 }

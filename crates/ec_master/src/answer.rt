@@ -41,39 +41,6 @@ impl Answer {
     }
 }
 
-/// Adds the line of how a start-up ended, if it has.
-fn write_outcome(
-    text: &mut String,
-    outcome: Option<Result<(), StartError>>,
-) -> Result<(), AllocError>
-    ensures { OnOk result (string_bytes text.new ≡ string_bytes text.old ++ outcome_text outcome) }
-{
-    match outcome {
-        None => Ok(()),
-        Some(Ok(())) => text.push_str("ready\n"),
-        Some(Err(error)) => {
-            let number = error.number();
-            writeln!(text, "failed {number}")
-        }
-    }
-}
-
-/// Adds the line of the last report, if there is one.
-fn write_last(
-    alloc: Global,
-    text: &mut String,
-    table: &Table,
-    control: &Control<'_>,
-) -> Result<(), AllocError>
-    ensures { OnOk result (string_bytes text.new
-        ≡ string_bytes text.old ++ report_if table.now.version control.now.master.plan.parts control.now.report) }
-{
-    match control.report() {
-        None => Ok(()),
-        Some(report) => write_report(alloc, text, table.version(), control.plan().parts(), report),
-    }
-}
-
 /// What is printed where the line of a number has this to tell.
 ///
 /// # Errors
@@ -100,4 +67,37 @@ pub fn answer_text(
         Answer::Values => return input_lines(alloc, table, control.master()),
     }
     Ok(text)
+}
+
+/// Adds the line of the last report, if there is one.
+fn write_last(
+    alloc: Global,
+    text: &mut String,
+    table: &Table,
+    control: &Control<'_>,
+) -> Result<(), AllocError>
+    ensures { OnOk result (string_bytes text.new
+        ≡ string_bytes text.old ++ report_if table.now.version control.now.master.plan.parts control.now.report) }
+{
+    match control.report() {
+        None => Ok(()),
+        Some(report) => write_report(alloc, text, table.version(), control.plan().parts(), report),
+    }
+}
+
+/// Adds the line of how a start-up ended, if it has.
+fn write_outcome(
+    text: &mut String,
+    outcome: Option<Result<(), StartError>>,
+) -> Result<(), AllocError>
+    ensures { OnOk result (string_bytes text.new ≡ string_bytes text.old ++ outcome_text outcome) }
+{
+    match outcome {
+        None => Ok(()),
+        Some(Ok(())) => text.push_str("ready\n"),
+        Some(Err(error)) => {
+            let number = error.number();
+            writeln!(text, "failed {number}")
+        }
+    }
 }

@@ -61,6 +61,149 @@ pub fn run_master<W: Wire, R: Read, O: Write>(
     end_of(unmet)
 }
 
+/// Reads a link table from the input up to a line `%%`, and then line after line as they come; each moves the table's master
+/// over a socket or a card, and what it tells is printed before the next is read, with why it can't be done or has failed behind
+/// it, where reasons are told.
+///
+/// # Errors
+///
+/// The refusal of the table; `Refusal::Socket` where there is no such socket, also where `to` is no address with a port; what
+/// cuts the lines short, `Refusal::Memory`, `Refusal::Input` or `Refusal::Output`; and `Refusal::Unmet` where what lines expect
+/// isn't so.
+pub fn print_master<H: AllocGlobal + Net + Files + Clock, R: Read, O: Write>(
+    rt: &H,
+    reasons: Reasons,
+    way: Connection<'_>,
+    input: &mut R,
+    output: &mut O,
+    behind: &mut Explanation,
+) -> Result<(), Refusal>
+    ensures runs { RunsMaster reasons (R.remaining input.old) (O.contents output.old) (O.contents output.new) result }
+    ensures explains { IsLeft behind.old behind.new }
+{
+    run_input(rt, reasons, way, &mut None, input, output, behind)
+}
+
+/// The same with a capture: what the master sends and receives goes into a file, at the interface `master`.
+///
+/// # Errors
+///
+/// Those of [`print_master`]; `Refusal::Output` too where the file couldn't be opened, before anything is read or sent, or
+/// couldn't be written to the end.
+#[tactic(auto, using(ec_captured::proofs::CaptureLemmas::captured_refused, ec_captured::proofs::CaptureLemmas::captured_end))]
+pub fn capture_master<H: AllocGlobal + Net + Files + Clock, R: Read, O: Write>(
+    rt: &H,
+    reasons: Reasons,
+    way: Connection<'_>,
+    file: &str,
+    input: &mut R,
+    output: &mut O,
+    behind: &mut Explanation,
+) -> Result<(), Refusal>
+    ensures runs { EndsCaptured (λ ended. RunsMaster reasons (R.remaining input.old) (O.contents output.old)
+        (O.contents output.new) ended) (output.new ≡ output.old) result }
+    ensures explains { IsLeft behind.old behind.new }
+{
+    let capture = open_capture(rt, file, "master")?;
+    run_captured(rt, reasons, way, capture, input, output, behind)
+}
+
+/// The same of the table that an input gives up to a line `%%`. A refusal of it is explained, where that is wanted.
+fn run_input<H: AllocGlobal + Net + Files + Clock, R: Read, O: Write>(
+    rt: &H,
+    reasons: Reasons,
+    way: Connection<'_>,
+    capture: &mut Capture<H::File>,
+    input: &mut R,
+    output: &mut O,
+    behind: &mut Explanation,
+) -> Result<(), Refusal>
+    ensures runs { RunsMaster reasons (R.remaining input.old) (O.contents output.old) (O.contents output.new) result }
+    ensures explains { IsLeft behind.old behind.new }
+{
+    let text = take_text(rt.alloc(), input)?;
+    let ended = run_text(rt, text.as_str(), reasons, way, capture, input, output);
+    if let Err(refusal) = &ended {
+        behind.explain(rt.alloc(), text.as_str(), refusal);
+    }
+    ended
+}
+
+/// The same of the table that a text states.
+fn run_text<H: AllocGlobal + Net + Files + Clock, R: Read, O: Write>(
+    rt: &H,
+    text: &str,
+    reasons: Reasons,
+    way: Connection<'_>,
+    capture: &mut Capture<H::File>,
+    input: &mut R,
+    output: &mut O,
+) -> Result<(), Refusal>
+    ensures { RunsText reasons text.now (R.remaining input.old) (O.contents output.old) (O.contents output.new) result }
+{
+    let table = read_table(rt.alloc(), text)?;
+    run_table(rt, &table, reasons, way, capture, input, output)
+}
+
+/// The same of a table that was read, which may have no plan.
+fn run_table<H: AllocGlobal + Net + Files + Clock, R: Read, O: Write>(
+    rt: &H,
+    table: &Table,
+    reasons: Reasons,
+    way: Connection<'_>,
+    capture: &mut Capture<H::File>,
+    input: &mut R,
+    output: &mut O,
+) -> Result<(), Refusal>
+    ensures { RunsTable reasons table.now (R.remaining input.old) (O.contents output.old) (O.contents output.new) result }
+{
+    let plan = compile(rt.alloc(), table)?;
+    run_plan(rt, table, reasons, &plan, way, capture, input, output)
+}
+
+/// Does the lines of an input with a new master of a table's plan.
+fn run_plan<H: AllocGlobal + Net + Files + Clock, R: Read, O: Write>(
+    rt: &H,
+    table: &Table,
+    reasons: Reasons,
+    plan: &Plan,
+    way: Connection<'_>,
+    capture: &mut Capture<H::File>,
+    input: &mut R,
+    output: &mut O,
+) -> Result<(), Refusal>
+    requires accepted { compile_fault table.now ≡ None }
+    requires plan { plan.now ≡ plan_of table.now }
+    ensures { RunsPlan reasons table.now (R.remaining input.old) (O.contents output.old) (O.contents output.new) result }
+{
+    match way.descriptor {
+        None => {
+            let wire = connect(rt, way)?;
+            run_tapped(rt, table, reasons, plan, wire, capture, input, output)
+        }
+        Some(descriptor) => {
+            let own = Sender::Master;
+            let wire = CardWire::of_descriptor(i32::from(descriptor), own, patience_of(way))?;
+            run_tapped(rt, table, reasons, plan, wire, capture, input, output)
+        }
+    }
+}
+
+/// How long a card waits for a frame.
+fn patience_of(way: Connection<'_>) -> Patience {
+    Patience::For(Duration::from_millis(u64::from(way.patience)))
+}
+
+/// A socket that is connected with the segment at an address.
+fn connect<R: Net>(rt: &R, way: Connection<'_>) -> Result<UdpWire, SocketFault>
+    ensures { IfOk result (λ w. w.failed ≡ 0) }
+{
+    match way.to.parse::<SocketAddrV4>() {
+        Ok(peer) => UdpWire::connect_patient(rt, peer, way.patience),
+        Err(_) => Err(SocketFault),
+    }
+}
+
 /// The same over a wire that has carried nothing yet, and notes what it carries in a capture, if there is one.
 fn run_tapped<H: AllocGlobal + Files + Clock, W: Wire + Drop, R: Read, O: Write>(
     rt: &H,
@@ -94,125 +237,6 @@ fn run_tapped<H: AllocGlobal + Files + Clock, W: Wire + Drop, R: Read, O: Write>
     }
 }
 
-/// A socket that is connected with the segment at an address.
-fn connect<R: Net>(rt: &R, way: Connection<'_>) -> Result<UdpWire, SocketFault>
-    ensures { IfOk result (λ w. w.failed ≡ 0) }
-{
-    match way.to.parse::<SocketAddrV4>() {
-        Ok(peer) => UdpWire::connect_patient(rt, peer, way.patience),
-        Err(_) => Err(SocketFault),
-    }
-}
-
-/// How long a card waits for a frame.
-fn patience_of(way: Connection<'_>) -> Patience {
-    Patience::For(Duration::from_millis(u64::from(way.patience)))
-}
-
-/// Does the lines of an input with a new master of a table's plan.
-fn run_plan<H: AllocGlobal + Net + Files + Clock, R: Read, O: Write>(
-    rt: &H,
-    table: &Table,
-    reasons: Reasons,
-    plan: &Plan,
-    way: Connection<'_>,
-    capture: &mut Capture<H::File>,
-    input: &mut R,
-    output: &mut O,
-) -> Result<(), Refusal>
-    requires accepted { compile_fault table.now ≡ None }
-    requires plan { plan.now ≡ plan_of table.now }
-    ensures { RunsPlan reasons table.now (R.remaining input.old) (O.contents output.old) (O.contents output.new) result }
-{
-    match way.descriptor {
-        None => {
-            let wire = connect(rt, way)?;
-            run_tapped(rt, table, reasons, plan, wire, capture, input, output)
-        }
-        Some(descriptor) => {
-            let own = Sender::Master;
-            let wire = CardWire::of_descriptor(i32::from(descriptor), own, patience_of(way))?;
-            run_tapped(rt, table, reasons, plan, wire, capture, input, output)
-        }
-    }
-}
-
-/// The same of a table that was read, which may have no plan.
-fn run_table<H: AllocGlobal + Net + Files + Clock, R: Read, O: Write>(
-    rt: &H,
-    table: &Table,
-    reasons: Reasons,
-    way: Connection<'_>,
-    capture: &mut Capture<H::File>,
-    input: &mut R,
-    output: &mut O,
-) -> Result<(), Refusal>
-    ensures { RunsTable reasons table.now (R.remaining input.old) (O.contents output.old) (O.contents output.new) result }
-{
-    let plan = compile(rt.alloc(), table)?;
-    run_plan(rt, table, reasons, &plan, way, capture, input, output)
-}
-
-/// The same of the table that a text states.
-fn run_text<H: AllocGlobal + Net + Files + Clock, R: Read, O: Write>(
-    rt: &H,
-    text: &str,
-    reasons: Reasons,
-    way: Connection<'_>,
-    capture: &mut Capture<H::File>,
-    input: &mut R,
-    output: &mut O,
-) -> Result<(), Refusal>
-    ensures { RunsText reasons text.now (R.remaining input.old) (O.contents output.old) (O.contents output.new) result }
-{
-    let table = read_table(rt.alloc(), text)?;
-    run_table(rt, &table, reasons, way, capture, input, output)
-}
-
-/// The same of the table that an input gives up to a line `%%`. A refusal of it is explained, where that is wanted.
-fn run_input<H: AllocGlobal + Net + Files + Clock, R: Read, O: Write>(
-    rt: &H,
-    reasons: Reasons,
-    way: Connection<'_>,
-    capture: &mut Capture<H::File>,
-    input: &mut R,
-    output: &mut O,
-    behind: &mut Explanation,
-) -> Result<(), Refusal>
-    ensures runs { RunsMaster reasons (R.remaining input.old) (O.contents output.old) (O.contents output.new) result }
-    ensures explains { IsLeft behind.old behind.new }
-{
-    let text = take_text(rt.alloc(), input)?;
-    let ended = run_text(rt, text.as_str(), reasons, way, capture, input, output);
-    if let Err(refusal) = &ended {
-        behind.explain(rt.alloc(), text.as_str(), refusal);
-    }
-    ended
-}
-
-/// Reads a link table from the input up to a line `%%`, and then line after line as they come; each moves the table's master
-/// over a socket or a card, and what it tells is printed before the next is read, with why it can't be done or has failed behind
-/// it, where reasons are told.
-///
-/// # Errors
-///
-/// The refusal of the table; `Refusal::Socket` where there is no such socket, also where `to` is no address with a port; what
-/// cuts the lines short, `Refusal::Memory`, `Refusal::Input` or `Refusal::Output`; and `Refusal::Unmet` where what lines expect
-/// isn't so.
-pub fn print_master<H: AllocGlobal + Net + Files + Clock, R: Read, O: Write>(
-    rt: &H,
-    reasons: Reasons,
-    way: Connection<'_>,
-    input: &mut R,
-    output: &mut O,
-    behind: &mut Explanation,
-) -> Result<(), Refusal>
-    ensures runs { RunsMaster reasons (R.remaining input.old) (O.contents output.old) (O.contents output.new) result }
-    ensures explains { IsLeft behind.old behind.new }
-{
-    run_input(rt, reasons, way, &mut None, input, output, behind)
-}
-
 /// The same with a capture that is open, which is then written to the end.
 fn run_captured<H: AllocGlobal + Net + Files + Clock, R: Read, O: Write>(
     rt: &H,
@@ -230,28 +254,4 @@ fn run_captured<H: AllocGlobal + Net + Files + Clock, R: Read, O: Write>(
     let mut capture = capture;
     let ended = run_input(rt, reasons, way, &mut capture, input, output, behind);
     close_capture(ended, capture)
-}
-
-/// The same with a capture: what the master sends and receives goes into a file, at the interface `master`.
-///
-/// # Errors
-///
-/// Those of [`print_master`]; `Refusal::Output` too where the file couldn't be opened, before anything is read or sent, or
-/// couldn't be written to the end.
-#[tactic(auto, using(ec_captured::proofs::CaptureLemmas::captured_refused, ec_captured::proofs::CaptureLemmas::captured_end))]
-pub fn capture_master<H: AllocGlobal + Net + Files + Clock, R: Read, O: Write>(
-    rt: &H,
-    reasons: Reasons,
-    way: Connection<'_>,
-    file: &str,
-    input: &mut R,
-    output: &mut O,
-    behind: &mut Explanation,
-) -> Result<(), Refusal>
-    ensures runs { EndsCaptured (λ ended. RunsMaster reasons (R.remaining input.old) (O.contents output.old)
-        (O.contents output.new) ended) (output.new ≡ output.old) result }
-    ensures explains { IsLeft behind.old behind.new }
-{
-    let capture = open_capture(rt, file, "master")?;
-    run_captured(rt, reasons, way, capture, input, output, behind)
 }

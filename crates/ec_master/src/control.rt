@@ -41,37 +41,6 @@ impl<'p> Model for Control<'p> {
     ghost invariant = { λ c. IsHeld c.plan.now c.startup c.master };
 }
 
-/// Whether a start-up ended Ready.
-fn is_ready(startup: &Startup) -> bool
-    ensures { result ≡ is_ready (outcome_of startup.now.phase) }
-{
-    match startup.outcome() {
-        Some(Ok(())) => true,
-        _ => false,
-    }
-}
-
-/// What there is to tell where something is expected.
-fn answer_if(is_met: bool) -> Answer
-    ensures { result ≡ answer_if is_met }
-{
-    if is_met {
-        Answer::Nothing
-    } else {
-        Answer::Unmet
-    }
-}
-
-/// A start-up is over: where it ended Ready, the master can begin cycles.
-fn make_ready(startup: &Startup, master: &mut Master<'_>)
-    requires { startup.now.plan ≡ master.old.plan.slaves }
-    ensures { master.new ≡ master_behind startup.now master.old }
-{
-    if is_ready(startup) {
-        master.ready(startup);
-    }
-}
-
 impl<'p> Control<'p> {
     /// A master of the plan of a table that has brought no slave up yet. All variables are 0.
     ///
@@ -128,59 +97,6 @@ impl<'p> Control<'p> {
         is_ready(&self.startup)
     }
 
-    /// A start-up over a wire, from the beginning.
-    fn start_up<W: Wire>(&mut self, alloc: Global, wire: &mut W) -> Result<(), AllocError>
-        ensures starts { OnOk result (Starts self.old (W.state wire.old) self.new (W.state wire.new)) }
-        ensures same { OnErr result (self.new ≡ self.old) }
-        ensures unused { OnErr result (wire.new ≡ wire.old) }
-    {
-        let number = self.startup.next_number().max(self.master.next_number());
-        let mut startup = Startup::new(alloc, self.plan, number)?;
-        bring_up_wire(&mut startup, wire);
-        make_ready(&startup, &mut self.master);
-        self.startup = startup;
-        Ok(())
-    }
-
-    /// A cycle over a wire, if one can be run.
-    fn cycle<W: Wire>(&mut self, wire: &mut W) -> Answer
-        ensures does { Does Cycle self.old (W.state wire.old) self.new (W.state wire.new) result }
-        ensures untaken { result ≡ answer.Fault → self.new ≡ with_number_used self.old }
-    {
-        if !self.is_up() {
-            return Answer::No;
-        }
-        match run_cycle(&mut self.master, wire) {
-            Ok(report) => {
-                self.report = Some(report);
-                Answer::Report
-            }
-            Err(RunError::Wire) => Answer::Fault,
-            Err(RunError::Refused(_)) => Answer::No,
-        }
-    }
-
-    /// A variable becomes a value, if it is an output that holds it.
-    fn set(&mut self, variable: usize, value: u64) -> Answer
-        ensures { (w : WireState) → Does (Set variable value) self.old w self.new w result }
-    {
-        if !self.master.can_set(variable, value) {
-            return Answer::No;
-        }
-        self.master.set(variable, value);
-        Answer::Nothing
-    }
-
-    /// What there is to tell of the last report.
-    fn last_report(&self) -> Answer
-        ensures { result ≡ last_report self.now.report }
-    {
-        match self.report {
-            None => Answer::No,
-            Some(_) => Answer::Report,
-        }
-    }
-
     /// Does an order once over a wire, and answers what there is to tell of it. It takes memory for a start-up alone. After a
     /// fault of the wire nothing has changed but the number of the next cycle.
     ///
@@ -211,5 +127,89 @@ impl<'p> Control<'p> {
             Order::Show => Ok(Answer::Values),
             Order::Report => Ok(self.last_report()),
         }
+    }
+
+    /// What there is to tell of the last report.
+    fn last_report(&self) -> Answer
+        ensures { result ≡ last_report self.now.report }
+    {
+        match self.report {
+            None => Answer::No,
+            Some(_) => Answer::Report,
+        }
+    }
+
+    /// A variable becomes a value, if it is an output that holds it.
+    fn set(&mut self, variable: usize, value: u64) -> Answer
+        ensures { (w : WireState) → Does (Set variable value) self.old w self.new w result }
+    {
+        if !self.master.can_set(variable, value) {
+            return Answer::No;
+        }
+        self.master.set(variable, value);
+        Answer::Nothing
+    }
+
+    /// A cycle over a wire, if one can be run.
+    fn cycle<W: Wire>(&mut self, wire: &mut W) -> Answer
+        ensures does { Does Cycle self.old (W.state wire.old) self.new (W.state wire.new) result }
+        ensures untaken { result ≡ answer.Fault → self.new ≡ with_number_used self.old }
+    {
+        if !self.is_up() {
+            return Answer::No;
+        }
+        match run_cycle(&mut self.master, wire) {
+            Ok(report) => {
+                self.report = Some(report);
+                Answer::Report
+            }
+            Err(RunError::Wire) => Answer::Fault,
+            Err(RunError::Refused(_)) => Answer::No,
+        }
+    }
+
+    /// A start-up over a wire, from the beginning.
+    fn start_up<W: Wire>(&mut self, alloc: Global, wire: &mut W) -> Result<(), AllocError>
+        ensures starts { OnOk result (Starts self.old (W.state wire.old) self.new (W.state wire.new)) }
+        ensures same { OnErr result (self.new ≡ self.old) }
+        ensures unused { OnErr result (wire.new ≡ wire.old) }
+    {
+        let number = self.startup.next_number().max(self.master.next_number());
+        let mut startup = Startup::new(alloc, self.plan, number)?;
+        bring_up_wire(&mut startup, wire);
+        make_ready(&startup, &mut self.master);
+        self.startup = startup;
+        Ok(())
+    }
+}
+
+/// A start-up is over: where it ended Ready, the master can begin cycles.
+fn make_ready(startup: &Startup, master: &mut Master<'_>)
+    requires { startup.now.plan ≡ master.old.plan.slaves }
+    ensures { master.new ≡ master_behind startup.now master.old }
+{
+    if is_ready(startup) {
+        master.ready(startup);
+    }
+}
+
+/// What there is to tell where something is expected.
+fn answer_if(is_met: bool) -> Answer
+    ensures { result ≡ answer_if is_met }
+{
+    if is_met {
+        Answer::Nothing
+    } else {
+        Answer::Unmet
+    }
+}
+
+/// Whether a start-up ended Ready.
+fn is_ready(startup: &Startup) -> bool
+    ensures { result ≡ is_ready (outcome_of startup.now.phase) }
+{
+    match startup.outcome() {
+        Some(Ok(())) => true,
+        _ => false,
     }
 }

@@ -9,44 +9,6 @@ use ec_loop::value_of;
 use ec_script::Expectation;
 use ec_start::StartError;
 
-/// Whether every sync unit of a report was taken, or each was not.
-fn all_units(taken: bool, report: &Report) -> bool
-    ensures { result ≡ all_units taken report.now }
-{
-    report.units_taken().iter().all(|unit| *unit == taken)
-}
-
-/// Whether a sync unit of a report was taken, or was not.
-fn is_unit(number: u64, taken: bool, report: &Report) -> bool
-    ensures { result ≡ is_unit number taken report.now }
-{
-    report
-        .units()
-        .iter()
-        .zip(report.units_taken())
-        .any(|(unit, was)| u64::from(*unit) == number && *was == taken)
-}
-
-/// Whether every sync unit of the last report was taken, or each was not.
-fn are_units(control: &Control<'_>, taken: bool) -> bool
-    ensures { result ≡ of_report (all_units taken) control.now.report }
-{
-    match control.report() {
-        Some(report) => all_units(taken, report),
-        None => false,
-    }
-}
-
-/// Whether a sync unit of the last report was taken, or was not.
-fn has_unit(control: &Control<'_>, number: u64, taken: bool) -> bool
-    ensures { result ≡ of_report (is_unit number taken) control.now.report }
-{
-    match control.report() {
-        Some(report) => is_unit(number, taken, report),
-        None => false,
-    }
-}
-
 /// Whether a start-up has failed, by the refusal of a number if one is wanted.
 pub(crate) fn is_failed(number: Option<u64>, outcome: Option<Result<(), StartError>>) -> bool
     ensures { result ≡ is_failed number outcome }
@@ -70,4 +32,42 @@ pub(crate) fn is_met(control: &Control<'_>, expected: Expectation) -> bool
         Expectation::Ready => control.is_up(),
         Expectation::Failed(number) => is_failed(number, control.outcome()),
     }
+}
+
+/// Whether a sync unit of the last report was taken, or was not.
+fn has_unit(control: &Control<'_>, number: u64, taken: bool) -> bool
+    ensures { result ≡ of_report (is_unit number taken) control.now.report }
+{
+    match control.report() {
+        Some(report) => is_unit(number, taken, report),
+        None => false,
+    }
+}
+
+/// Whether every sync unit of the last report was taken, or each was not.
+fn are_units(control: &Control<'_>, taken: bool) -> bool
+    ensures { result ≡ of_report (all_units taken) control.now.report }
+{
+    match control.report() {
+        Some(report) => all_units(taken, report),
+        None => false,
+    }
+}
+
+/// Whether a sync unit of a report was taken, or was not.
+fn is_unit(number: u64, taken: bool, report: &Report) -> bool
+    ensures { result ≡ is_unit number taken report.now }
+{
+    report
+        .units()
+        .iter()
+        .zip(report.units_taken())
+        .any(|(unit, was)| u64::from(*unit) == number && *was == taken)
+}
+
+/// Whether every sync unit of a report was taken, or each was not.
+fn all_units(taken: bool, report: &Report) -> bool
+    ensures { result ≡ all_units taken report.now }
+{
+    report.units_taken().iter().all(|unit| *unit == taken)
 }

@@ -41,119 +41,6 @@ pub struct Task {
     pub order: Order,
 }
 
-/// Whether the variable at a place is an input.
-fn is_input(table: &Table, place: usize) -> bool
-    ensures { result ≡ is_input (slice_get table.now.variables place) }
-{
-    match table.variables().get(place) {
-        Some(row) => match row.direction {
-            Direction::Out => false,
-            Direction::In => true,
-        },
-        None => false,
-    }
-}
-
-/// Whether a master over a wire sees what is expected.
-fn is_seen(table: &Table, expected: Expectation) -> bool
-    ensures { result ≡ is_seen table.now.variables expected }
-{
-    match expected {
-        Expectation::Is(variable, _) | Expectation::Never(variable) => is_input(table, variable),
-        Expectation::State(_, _, _) => false,
-        Expectation::Units(_)
-        | Expectation::Unit(_, _)
-        | Expectation::Ready
-        | Expectation::Failed(_) => true,
-    }
-}
-
-/// What an act of a script is for a master.
-fn order_of(table: &Table, act: LineAction) -> Order
-    ensures { result ≡ order_of table.now.variables act }
-{
-    match act {
-        LineAction::One(Event::Set(variable, value)) => Order::Set(variable, value),
-        LineAction::Never(variable) => Order::Never(variable),
-        LineAction::Expect(expected) if is_seen(table, expected) => Order::Expect(expected),
-        LineAction::Ready => Order::Ready,
-        LineAction::Cycle => Order::Cycle,
-        LineAction::Show => Order::Show,
-        LineAction::One(_) | LineAction::Input(_, _) | LineAction::Expect(_) => Order::Bad,
-    }
-}
-
-/// How often a line that is read shows the inputs.
-fn times_shown(reading: Reading) -> Option<u32>
-    ensures { result ≡ times_shown reading }
-{
-    match reading {
-        Reading::Line(
-            Line {
-                number: _,
-                times,
-                act: LineAction::Show,
-            },
-        ) => Some(times),
-        _ => None,
-    }
-}
-
-/// A text with the first `report` in it as `show`, if it has one.
-fn with_show(alloc: Global, text: &str) -> Result<Option<String>, AllocError>
-    ensures { IfOk result (λ shown. IsShown text.now shown) }
-{
-    let Some((before, behind)) = text.split_once("report") else {
-        return Ok(None);
-    };
-    let mut shown = String::new(alloc);
-    shown.push_str(before)?;
-    shown.push_str("show")?;
-    shown.push_str(behind)?;
-    Ok(Some(shown))
-}
-
-/// How often a line that stands for nothing in a script asks for the last report.
-fn times_reported(
-    alloc: Global,
-    table: &Table,
-    number: usize,
-    text: &str,
-) -> Result<Option<u32>, AllocError>
-    requires { reading_of table.now number text.now ≡ Bad }
-    ensures { IfOk result (λ times. times ≡ times_reported table.now number text.now) }
-{
-    match with_show(alloc, text)? {
-        Some(shown) => Ok(times_shown(read_line(alloc, table, number, shown.as_str())?)),
-        None => Ok(None),
-    }
-}
-
-/// The task of a line of a number; what is no order isn't repeated.
-fn task_for(number: usize, times: u32, order: Order) -> Task
-    ensures { result ≡ task_for number times order }
-{
-    let times = match order {
-        Order::Bad => 1,
-        _ => times,
-    };
-    Task {
-        number,
-        times,
-        order,
-    }
-}
-
-/// The task of a line that stands for nothing in a script, by how often it asks for the last report.
-fn task_reported(number: usize, times: Option<u32>) -> Task
-    ensures { result ≡ task_reported number times }
-{
-    match times {
-        Some(times) => task_for(number, times, Order::Report),
-        None => task_for(number, 1, Order::Bad),
-    }
-}
-
 /// What the text of the line with a number asks for; its names are the table's. Nothing where it is empty without its comment.
 ///
 /// # Errors
@@ -177,5 +64,118 @@ pub fn read_task(
             let order = order_of(table, line.act);
             Ok(Some(task_for(number, line.times, order)))
         }
+    }
+}
+
+/// The task of a line that stands for nothing in a script, by how often it asks for the last report.
+fn task_reported(number: usize, times: Option<u32>) -> Task
+    ensures { result ≡ task_reported number times }
+{
+    match times {
+        Some(times) => task_for(number, times, Order::Report),
+        None => task_for(number, 1, Order::Bad),
+    }
+}
+
+/// The task of a line of a number; what is no order isn't repeated.
+fn task_for(number: usize, times: u32, order: Order) -> Task
+    ensures { result ≡ task_for number times order }
+{
+    let times = match order {
+        Order::Bad => 1,
+        _ => times,
+    };
+    Task {
+        number,
+        times,
+        order,
+    }
+}
+
+/// How often a line that stands for nothing in a script asks for the last report.
+fn times_reported(
+    alloc: Global,
+    table: &Table,
+    number: usize,
+    text: &str,
+) -> Result<Option<u32>, AllocError>
+    requires { reading_of table.now number text.now ≡ Bad }
+    ensures { IfOk result (λ times. times ≡ times_reported table.now number text.now) }
+{
+    match with_show(alloc, text)? {
+        Some(shown) => Ok(times_shown(read_line(alloc, table, number, shown.as_str())?)),
+        None => Ok(None),
+    }
+}
+
+/// A text with the first `report` in it as `show`, if it has one.
+fn with_show(alloc: Global, text: &str) -> Result<Option<String>, AllocError>
+    ensures { IfOk result (λ shown. IsShown text.now shown) }
+{
+    let Some((before, behind)) = text.split_once("report") else {
+        return Ok(None);
+    };
+    let mut shown = String::new(alloc);
+    shown.push_str(before)?;
+    shown.push_str("show")?;
+    shown.push_str(behind)?;
+    Ok(Some(shown))
+}
+
+/// How often a line that is read shows the inputs.
+fn times_shown(reading: Reading) -> Option<u32>
+    ensures { result ≡ times_shown reading }
+{
+    match reading {
+        Reading::Line(
+            Line {
+                number: _,
+                times,
+                act: LineAction::Show,
+            },
+        ) => Some(times),
+        _ => None,
+    }
+}
+
+/// What an act of a script is for a master.
+fn order_of(table: &Table, act: LineAction) -> Order
+    ensures { result ≡ order_of table.now.variables act }
+{
+    match act {
+        LineAction::One(Event::Set(variable, value)) => Order::Set(variable, value),
+        LineAction::Never(variable) => Order::Never(variable),
+        LineAction::Expect(expected) if is_seen(table, expected) => Order::Expect(expected),
+        LineAction::Ready => Order::Ready,
+        LineAction::Cycle => Order::Cycle,
+        LineAction::Show => Order::Show,
+        LineAction::One(_) | LineAction::Input(_, _) | LineAction::Expect(_) => Order::Bad,
+    }
+}
+
+/// Whether a master over a wire sees what is expected.
+fn is_seen(table: &Table, expected: Expectation) -> bool
+    ensures { result ≡ is_seen table.now.variables expected }
+{
+    match expected {
+        Expectation::Is(variable, _) | Expectation::Never(variable) => is_input(table, variable),
+        Expectation::State(_, _, _) => false,
+        Expectation::Units(_)
+        | Expectation::Unit(_, _)
+        | Expectation::Ready
+        | Expectation::Failed(_) => true,
+    }
+}
+
+/// Whether the variable at a place is an input.
+fn is_input(table: &Table, place: usize) -> bool
+    ensures { result ≡ is_input (slice_get table.now.variables place) }
+{
+    match table.variables().get(place) {
+        Some(row) => match row.direction {
+            Direction::Out => false,
+            Direction::In => true,
+        },
+        None => false,
     }
 }

@@ -15,29 +15,6 @@ use ec_wire::Wire;
 use std::alloc::Global;
 use std::io::{Read, Write};
 
-/// Does a task once, prints what there is to tell, and answers whether what it expects isn't so.
-fn print_once<W: Wire, O: Write>(
-    alloc: Global,
-    table: &Table,
-    reasons: Reasons,
-    control: &mut Control<'_>,
-    wire: &mut W,
-    task: Task,
-    output: &mut O,
-) -> Result<bool, Refusal>
-    ensures all { IfOk result (λ unmet. PrintsAll reasons table.now (record { control = control.old; wire = W.state wire.old }) (task ∷ [])
-        (record { control = control.new; wire = W.state wire.new }) (if unmet then 1 else 0)
-        (O.contents output.old) (O.contents output.new)) }
-    ensures part { OnErr result (PrintsPart reasons table.now (record { control = control.old; wire = W.state wire.old }) (task ∷ [])
-        (O.contents output.old) (O.contents output.new)) }
-    ensures late { IfErr result IsLate }
-{
-    let answer = control.obey(alloc, wire, task.order)?;
-    let text = told_text(alloc, table, reasons, control, task, answer)?;
-    print_text(text.as_bytes(), output)?;
-    Ok(answer.is_unmet())
-}
-
 /// Does a task as often as it is to be done, prints each time what there is to tell before it is done again, with why it can't be
 /// done or has failed behind it, where reasons are told, and answers how often what it expects isn't so.
 pub fn print_task<W: Wire, O: Write>(
@@ -63,50 +40,6 @@ pub fn print_task<W: Wire, O: Write>(
         }
     }
     Ok(unmet)
-}
-
-/// What the next line of an input asks for, which has a number; or none where the input has ended. An empty line asks for nothing.
-fn next_task<R: Read>(
-    alloc: Global,
-    table: &Table,
-    number: usize,
-    input: &mut R,
-) -> Result<Option<Option<Task>>, Refusal>
-    ensures next { IfOk result (IsNext table.now number (R.remaining input.old) (R.remaining input.new)) }
-    ensures late { IfErr result IsLate }
-{
-    match take_line(alloc, input)? {
-        NextLine::End => Ok(None),
-        NextLine::Text(line) => Ok(Some(read_task(alloc, table, number, line.as_str())?)),
-        NextLine::NoText => Ok(Some(Some(Task {
-            number,
-            times: 1,
-            order: Order::Bad,
-        }))),
-    }
-}
-
-/// Does what a line asks for, if it asks for something.
-fn print_line<W: Wire, O: Write>(
-    alloc: Global,
-    table: &Table,
-    reasons: Reasons,
-    control: &mut Control<'_>,
-    wire: &mut W,
-    task: Option<Task>,
-    output: &mut O,
-) -> Result<u64, Refusal>
-    ensures all { IfOk result (λ count. (unmet : ℕ) × (count ≡ counted unmet)
-        × PrintsAll reasons table.now (record { control = control.old; wire = W.state wire.old }) (repeated task)
-        (record { control = control.new; wire = W.state wire.new }) unmet (O.contents output.old) (O.contents output.new)) }
-    ensures part { OnErr result (PrintsPart reasons table.now (record { control = control.old; wire = W.state wire.old })
-        (repeated task) (O.contents output.old) (O.contents output.new)) }
-    ensures late { IfErr result IsLate }
-{
-    match task {
-        Some(task) => print_task(alloc, table, reasons, control, wire, task, output),
-        None => Ok(0),
-    }
 }
 
 /// Takes line after line from an input up to its end, does what each asks for over a wire, and prints what there is to tell
@@ -143,4 +76,71 @@ pub fn print_lines<W: Wire, R: Read, O: Write>(
         unmet = unmet.saturating_add(count);
     }
     Err(Refusal::Input)
+}
+
+/// Does a task once, prints what there is to tell, and answers whether what it expects isn't so.
+fn print_once<W: Wire, O: Write>(
+    alloc: Global,
+    table: &Table,
+    reasons: Reasons,
+    control: &mut Control<'_>,
+    wire: &mut W,
+    task: Task,
+    output: &mut O,
+) -> Result<bool, Refusal>
+    ensures all { IfOk result (λ unmet. PrintsAll reasons table.now (record { control = control.old; wire = W.state wire.old }) (task ∷ [])
+        (record { control = control.new; wire = W.state wire.new }) (if unmet then 1 else 0)
+        (O.contents output.old) (O.contents output.new)) }
+    ensures part { OnErr result (PrintsPart reasons table.now (record { control = control.old; wire = W.state wire.old }) (task ∷ [])
+        (O.contents output.old) (O.contents output.new)) }
+    ensures late { IfErr result IsLate }
+{
+    let answer = control.obey(alloc, wire, task.order)?;
+    let text = told_text(alloc, table, reasons, control, task, answer)?;
+    print_text(text.as_bytes(), output)?;
+    Ok(answer.is_unmet())
+}
+
+/// Does what a line asks for, if it asks for something.
+fn print_line<W: Wire, O: Write>(
+    alloc: Global,
+    table: &Table,
+    reasons: Reasons,
+    control: &mut Control<'_>,
+    wire: &mut W,
+    task: Option<Task>,
+    output: &mut O,
+) -> Result<u64, Refusal>
+    ensures all { IfOk result (λ count. (unmet : ℕ) × (count ≡ counted unmet)
+        × PrintsAll reasons table.now (record { control = control.old; wire = W.state wire.old }) (repeated task)
+        (record { control = control.new; wire = W.state wire.new }) unmet (O.contents output.old) (O.contents output.new)) }
+    ensures part { OnErr result (PrintsPart reasons table.now (record { control = control.old; wire = W.state wire.old })
+        (repeated task) (O.contents output.old) (O.contents output.new)) }
+    ensures late { IfErr result IsLate }
+{
+    match task {
+        Some(task) => print_task(alloc, table, reasons, control, wire, task, output),
+        None => Ok(0),
+    }
+}
+
+/// What the next line of an input asks for, which has a number; or none where the input has ended. An empty line asks for nothing.
+fn next_task<R: Read>(
+    alloc: Global,
+    table: &Table,
+    number: usize,
+    input: &mut R,
+) -> Result<Option<Option<Task>>, Refusal>
+    ensures next { IfOk result (IsNext table.now number (R.remaining input.old) (R.remaining input.new)) }
+    ensures late { IfErr result IsLate }
+{
+    match take_line(alloc, input)? {
+        NextLine::End => Ok(None),
+        NextLine::Text(line) => Ok(Some(read_task(alloc, table, number, line.as_str())?)),
+        NextLine::NoText => Ok(Some(Some(Task {
+            number,
+            times: 1,
+            order: Order::Bad,
+        }))),
+    }
 }

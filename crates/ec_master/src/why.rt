@@ -14,77 +14,6 @@ use ec_table::{Direction, Table};
 use ec_why::{Reasons, misfit_words, reason_line};
 use std::alloc::{AllocError, Global};
 
-/// Whether why stands behind what there is to tell.
-fn is_reasoned(reasons: Reasons, control: &Control<'_>, answer: Answer) -> bool
-    ensures { result ≡ is_reasoned reasons control.now answer }
-{
-    match (reasons, answer) {
-        (Reasons::Told, Answer::No) => true,
-        (Reasons::Told, Answer::Ended) => is_failed(None, control.outcome()),
-        _ => false,
-    }
-}
-
-/// What a start-up failed by: its refusal, as other commands tell it, and what that says.
-fn failed_words(alloc: Global, table: &Table, error: StartError) -> Result<String, AllocError> {
-    let refusal = Refusal::Start(error);
-    match error {
-        StartError::Count { seen } => {
-            let seen = counted(alloc, usize::from(seen), "slave")?;
-            let wanted = table.slaves().len();
-            format!(in alloc; "{refusal}: {seen} answered, and the table has {wanted}")
-        }
-        _ => format!(in alloc; "{refusal}: {error}"),
-    }
-}
-
-/// What the last start-up failed by, if it has.
-fn start_words(alloc: Global, table: &Table, control: &Control<'_>) -> Result<String, AllocError> {
-    match control.outcome() {
-        Some(Err(error)) => failed_words(alloc, table, error),
-        _ => Ok(String::new(alloc)),
-    }
-}
-
-/// Why no cycle is run.
-fn cycle_words(alloc: Global, table: &Table, control: &Control<'_>) -> Result<String, AllocError> {
-    match control.outcome() {
-        None => format!(in alloc; "there was no start-up: `ready` brings the slaves up"),
-        Some(Ok(())) => format!(in alloc; "there is no number left for its frames"),
-        Some(Err(error)) => {
-            let words = failed_words(alloc, table, error)?;
-            format!(in alloc; "the last start-up failed, {words}; `ready` makes one more")
-        }
-    }
-}
-
-/// Why a variable isn't set.
-fn set_words(alloc: Global, table: &Table, variable: usize) -> Result<String, AllocError> {
-    match table.variables().get(variable) {
-        Some(row) if row.direction == Direction::In => {
-            let name = printable(alloc, row.name.as_str())?;
-            format!(in alloc; "`{name}` comes from slaves: the master doesn't set it")
-        }
-        _ => misfit_words(alloc, table, variable),
-    }
-}
-
-/// Why an order can't be done, or its start-up has failed; of an order that is done there is nothing to say.
-fn order_words(
-    alloc: Global,
-    table: &Table,
-    control: &Control<'_>,
-    order: Order,
-) -> Result<String, AllocError> {
-    match order {
-        Order::Ready => start_words(alloc, table, control),
-        Order::Cycle => cycle_words(alloc, table, control),
-        Order::Set(variable, _) | Order::Never(variable) => set_words(alloc, table, variable),
-        Order::Report => format!(in alloc; "no cycle has ended with a report yet"),
-        Order::Bad | Order::Expect(_) | Order::Show => Ok(String::new(alloc)),
-    }
-}
-
 /// What is printed of a task that was done once: what there is to tell, and behind that why it can't be done or has failed, where
 /// reasons are told.
 #[tactic(auto, using(crate::proofs::Reasoned::told_alone, crate::proofs::Reasoned::told_reasoned))]
@@ -105,4 +34,75 @@ pub(crate) fn told_text(
     let words = order_words(alloc, table, control, task.order)?;
     text.push_str(reason_line(alloc, words.as_str())?.as_str())?;
     Ok(text)
+}
+
+/// Why an order can't be done, or its start-up has failed; of an order that is done there is nothing to say.
+fn order_words(
+    alloc: Global,
+    table: &Table,
+    control: &Control<'_>,
+    order: Order,
+) -> Result<String, AllocError> {
+    match order {
+        Order::Ready => start_words(alloc, table, control),
+        Order::Cycle => cycle_words(alloc, table, control),
+        Order::Set(variable, _) | Order::Never(variable) => set_words(alloc, table, variable),
+        Order::Report => format!(in alloc; "no cycle has ended with a report yet"),
+        Order::Bad | Order::Expect(_) | Order::Show => Ok(String::new(alloc)),
+    }
+}
+
+/// Why a variable isn't set.
+fn set_words(alloc: Global, table: &Table, variable: usize) -> Result<String, AllocError> {
+    match table.variables().get(variable) {
+        Some(row) if row.direction == Direction::In => {
+            let name = printable(alloc, row.name.as_str())?;
+            format!(in alloc; "`{name}` comes from slaves: the master doesn't set it")
+        }
+        _ => misfit_words(alloc, table, variable),
+    }
+}
+
+/// Why no cycle is run.
+fn cycle_words(alloc: Global, table: &Table, control: &Control<'_>) -> Result<String, AllocError> {
+    match control.outcome() {
+        None => format!(in alloc; "there was no start-up: `ready` brings the slaves up"),
+        Some(Ok(())) => format!(in alloc; "there is no number left for its frames"),
+        Some(Err(error)) => {
+            let words = failed_words(alloc, table, error)?;
+            format!(in alloc; "the last start-up failed, {words}; `ready` makes one more")
+        }
+    }
+}
+
+/// What the last start-up failed by, if it has.
+fn start_words(alloc: Global, table: &Table, control: &Control<'_>) -> Result<String, AllocError> {
+    match control.outcome() {
+        Some(Err(error)) => failed_words(alloc, table, error),
+        _ => Ok(String::new(alloc)),
+    }
+}
+
+/// What a start-up failed by: its refusal, as other commands tell it, and what that says.
+fn failed_words(alloc: Global, table: &Table, error: StartError) -> Result<String, AllocError> {
+    let refusal = Refusal::Start(error);
+    match error {
+        StartError::Count { seen } => {
+            let seen = counted(alloc, usize::from(seen), "slave")?;
+            let wanted = table.slaves().len();
+            format!(in alloc; "{refusal}: {seen} answered, and the table has {wanted}")
+        }
+        _ => format!(in alloc; "{refusal}: {error}"),
+    }
+}
+
+/// Whether why stands behind what there is to tell.
+fn is_reasoned(reasons: Reasons, control: &Control<'_>, answer: Answer) -> bool
+    ensures { result ≡ is_reasoned reasons control.now answer }
+{
+    match (reasons, answer) {
+        (Reasons::Told, Answer::No) => true,
+        (Reasons::Told, Answer::Ended) => is_failed(None, control.outcome()),
+        _ => false,
+    }
 }

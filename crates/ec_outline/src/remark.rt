@@ -40,14 +40,6 @@ impl<'a> Model for Remarks<'a> {
     ghost invariant = { λ a. All (StandsIn a.text.now) a.list.items };
 }
 
-/// How many characters some bytes of a text are, 1 at least.
-fn width_of(text: &str, span: Span) -> usize {
-    match text.get(span.start..span.end) {
-        Some(marked) => marked.chars().count().max(1),
-        None => 1,
-    }
-}
-
 impl<'a> Remarks<'a> {
     /// None yet.
     pub fn new(alloc: Global, text: &'a str) -> Remarks<'a>
@@ -105,6 +97,14 @@ impl<'a> Remarks<'a> {
             }
         }
         Ok(told)
+    }
+}
+
+/// How many characters some bytes of a text are, 1 at least.
+fn width_of(text: &str, span: Span) -> usize {
+    match text.get(span.start..span.end) {
+        Some(marked) => marked.chars().count().max(1),
+        None => 1,
     }
 }
 

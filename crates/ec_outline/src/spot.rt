@@ -21,18 +21,18 @@ pub struct Span {
     pub end: usize,
 }
 
-/// How many line ends there are.
-fn line_ends(bytes: &[u8]) -> usize
-    ensures { result ≡ count_by is_line_end bytes.now }
+/// Where a byte of a text stands; past the text it is where the text ends.
+#[tactic(auto, using(crate::proofs::Lying::lies))]
+pub fn spot_of(text: &str, place: usize) -> Spot
+    ensures exact { result ≡ spot_at text.now place }
+    ensures lies { LiesIn text.now result }
 {
-    bytes.iter().filter(|byte| **byte == b'\n').count()
-}
-
-/// Whether a byte is the first of a character in UTF-8.
-fn opens(byte: u8) -> bool
-    ensures { result ≡ opens byte }
-{
-    byte < 0x80 || 0xC0 <= byte
+    let bytes = text.as_bytes();
+    let before = &bytes[..place.min(bytes.len())];
+    Spot {
+        line: 1 + line_ends(before),
+        column: 1 + characters_behind(before),
+    }
 }
 
 /// How many characters there are behind the last line end.
@@ -47,16 +47,16 @@ fn characters_behind(bytes: &[u8]) -> usize
         .count()
 }
 
-/// Where a byte of a text stands; past the text it is where the text ends.
-#[tactic(auto, using(crate::proofs::Lying::lies))]
-pub fn spot_of(text: &str, place: usize) -> Spot
-    ensures exact { result ≡ spot_at text.now place }
-    ensures lies { LiesIn text.now result }
+/// Whether a byte is the first of a character in UTF-8.
+fn opens(byte: u8) -> bool
+    ensures { result ≡ opens byte }
 {
-    let bytes = text.as_bytes();
-    let before = &bytes[..place.min(bytes.len())];
-    Spot {
-        line: 1 + line_ends(before),
-        column: 1 + characters_behind(before),
-    }
+    byte < 0x80 || 0xC0 <= byte
+}
+
+/// How many line ends there are.
+fn line_ends(bytes: &[u8]) -> usize
+    ensures { result ≡ count_by is_line_end bytes.now }
+{
+    bytes.iter().filter(|byte| **byte == b'\n').count()
 }

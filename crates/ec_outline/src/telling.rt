@@ -34,25 +34,6 @@ pub struct Telling<'a> {
     element: Option<usize>,
 }
 
-/// Remarks on a text of what was said.
-fn remarks_of<'t>(
-    alloc: Global,
-    text: &'t str,
-    sayings: Vec<Saying>,
-) -> Result<Remarks<'t>, AllocError>
-    ensures { IfOk result (λ remarks. remarks.text ≡ text.now) }
-{
-    let mut remarks = Remarks::new(alloc, text);
-    for saying in sayings {
-        let Saying { span, words } = saying;
-        match span {
-            Some(span) => remarks.at(span, words)?,
-            None => remarks.note(words)?,
-        }
-    }
-    Ok(remarks)
-}
-
 impl<'a> Telling<'a> {
     /// Nothing is said yet.
     pub fn new(alloc: Global, text: &'a str) -> Result<Telling<'a>, AllocError> {
@@ -79,11 +60,6 @@ impl<'a> Telling<'a> {
         remarks_of(alloc, text, sayings)
     }
 
-    fn say(&mut self, span: Option<Span>, words: String) -> Result<(), AllocError> {
-        self.sayings.push(Saying { span, words })?;
-        Ok(())
-    }
-
     /// Says something that has no place.
     pub fn note(&mut self, words: String) -> Result<(), AllocError> {
         self.say(None, words)
@@ -93,26 +69,6 @@ impl<'a> Telling<'a> {
     pub fn advise(&mut self, what: &str) -> Result<(), AllocError> {
         let alloc = self.alloc;
         self.note(format!(in alloc; "To do: {what}.")?)
-    }
-
-    /// Says which element a way goes through, where that stands in another line than its end.
-    fn say_element(&mut self, way: &[PathStep<'_>], start: usize) -> Result<(), AllocError> {
-        let [PathStep::Key(section), PathStep::Item(element), _, ..] = way else {
-            return Ok(());
-        };
-        let (section, element) = (*section, *element);
-        let found = self
-            .outline
-            .find(&[PathStep::Key(section), PathStep::Item(element)]);
-        let here = spot_of(self.text, found.key.start);
-        let is_elsewhere = here.line != spot_of(self.text, start).line;
-        if found.steps == 2 && is_elsewhere && self.element != Some(found.key.start) {
-            self.element = Some(found.key.start);
-            let alloc = self.alloc;
-            let words = format!(in alloc; "{section} {element} begins here")?;
-            self.at_span(found.key, words)?;
-        }
-        Ok(())
     }
 
     /// Says something of what stands at the end of a way, in whose element it is, and marks it. Where
@@ -149,4 +105,48 @@ impl<'a> Telling<'a> {
     pub fn has(&self, way: &[PathStep<'_>]) -> bool {
         self.outline.find(way).steps == way.len()
     }
+
+    fn say(&mut self, span: Option<Span>, words: String) -> Result<(), AllocError> {
+        self.sayings.push(Saying { span, words })?;
+        Ok(())
+    }
+
+    /// Says which element a way goes through, where that stands in another line than its end.
+    fn say_element(&mut self, way: &[PathStep<'_>], start: usize) -> Result<(), AllocError> {
+        let [PathStep::Key(section), PathStep::Item(element), _, ..] = way else {
+            return Ok(());
+        };
+        let (section, element) = (*section, *element);
+        let found = self
+            .outline
+            .find(&[PathStep::Key(section), PathStep::Item(element)]);
+        let here = spot_of(self.text, found.key.start);
+        let is_elsewhere = here.line != spot_of(self.text, start).line;
+        if found.steps == 2 && is_elsewhere && self.element != Some(found.key.start) {
+            self.element = Some(found.key.start);
+            let alloc = self.alloc;
+            let words = format!(in alloc; "{section} {element} begins here")?;
+            self.at_span(found.key, words)?;
+        }
+        Ok(())
+    }
+}
+
+/// Remarks on a text of what was said.
+fn remarks_of<'t>(
+    alloc: Global,
+    text: &'t str,
+    sayings: Vec<Saying>,
+) -> Result<Remarks<'t>, AllocError>
+    ensures { IfOk result (λ remarks. remarks.text ≡ text.now) }
+{
+    let mut remarks = Remarks::new(alloc, text);
+    for saying in sayings {
+        let Saying { span, words } = saying;
+        match span {
+            Some(span) => remarks.at(span, words)?,
+            None => remarks.note(words)?,
+        }
+    }
+    Ok(remarks)
 }

@@ -27,26 +27,6 @@ pub enum Values {
     Two(u64, u64),
 }
 
-/// The section and the place of a table's fault.
-fn values_of_place(place: Option<Place>) -> Values
-    ensures { listed result ≡ of_place place }
-{
-    match place {
-        None => Values::Empty,
-        Some(place) => Values::Two(u64::from(place.section.number()), place.element as u64),
-    }
-}
-
-/// The place of a plan's fault, or how many there are.
-fn values_of_fault(value: Option<usize>) -> Values
-    ensures { listed result ≡ of_value value }
-{
-    match value {
-        None => Values::Empty,
-        Some(value) => Values::One(value as u64),
-    }
-}
-
 impl OpenError {
     /// The number by which the program names it.
     pub fn number(self) -> u8
@@ -114,5 +94,25 @@ impl From<AllocError> for OpenError {
 
     fn from(_error: AllocError) -> OpenError {
         OpenError::Memory
+    }
+}
+
+/// The place of a plan's fault, or how many there are.
+fn values_of_fault(value: Option<usize>) -> Values
+    ensures { listed result ≡ of_value value }
+{
+    match value {
+        None => Values::Empty,
+        Some(value) => Values::One(value as u64),
+    }
+}
+
+/// The section and the place of a table's fault.
+fn values_of_place(place: Option<Place>) -> Values
+    ensures { listed result ≡ of_place place }
+{
+    match place {
+        None => Values::Empty,
+        Some(place) => Values::Two(u64::from(place.section.number()), place.element as u64),
     }
 }

@@ -39,86 +39,6 @@ impl Model for MachineMaster {
     ghost invariant = { λ m. m.startup.plan ≡ m.master.plan.slaves };
 }
 
-/// The place of a number.
-fn place_of(numbers: &[u8], wanted: u8) -> Option<usize>
-    ensures { result ≡ position (λ n. n == wanted) numbers.now }
-{
-    numbers.iter().position(|number| *number == wanted)
-}
-
-/// What stands at a place, if there is one.
-fn answer_at(answers: &[bool], place: Option<usize>) -> Option<bool>
-    ensures { result ≡ option_and_then (λ k. slice_get answers.now k) place }
-{
-    match place {
-        Some(place) => answers.get(place).copied(),
-        None => None,
-    }
-}
-
-/// Whether the inputs of a unit were taken, if a report has the unit.
-fn unit_in(report: &Report, unit: u8) -> Option<bool>
-    ensures { result ≡ unit_taken unit report.now }
-{
-    answer_at(report.units_taken(), place_of(report.units(), unit))
-}
-
-/// A start-up that failed begins anew.
-fn resume(startup: &mut Startup)
-    ensures { startup.new ≡ resumed startup.old }
-{
-    if startup.has_failed() {
-        startup.restart();
-    }
-}
-
-/// Writes the next frame of a start-up, which begins anew if it failed, and answers how many bytes it has, or 0 where there is
-/// none.
-#[tactic(auto, using(crate::proofs::Plans::next_plan))]
-fn write_next(startup: &mut Startup, room: &mut [u8]) -> usize
-    requires { 1472 ≤ length room.old }
-    ensures state { startup.new ≡ asked (resumed startup.old) }
-    ensures plan { startup.new.plan ≡ startup.old.plan }
-    ensures frame { next_frame (resumed startup.old) ≡ Send → IsNextFrame (resumed startup.old) (take result room.new) }
-    ensures none { next_frame (resumed startup.old) ≢ Send → result ≡ 0 }
-    ensures within { result ≤ length room.new }
-{
-    resume(startup);
-    let mut frame = Frame::new();
-    match startup.next(&mut frame) {
-        NextFrame::Send => {
-            let count = frame.len();
-            room[..count].copy_from_slice(frame.as_slice());
-            count
-        }
-        NextFrame::Waiting | NextFrame::Ended => 0,
-    }
-}
-
-/// Gives a payload to a start-up, and answers whether it was kept.
-#[tactic(auto, using(crate::proofs::Plans::take_plan))]
-fn take_start(startup: &mut Startup, payload: &[u8]) -> bool
-    ensures taken { IsStartTaken startup.old payload.now result startup.new }
-    ensures plan { startup.new.plan ≡ startup.old.plan }
-{
-    match startup.take(payload) {
-        Taken::Kept => true,
-        Taken::Foreign => false,
-    }
-}
-
-/// Where a start-up has ended Ready, its master is ready.
-fn make_ready(master: &mut OwnMaster, startup: &Startup)
-    requires { startup.now.plan ≡ master.old.plan.slaves }
-    ensures ready { master.new ≡ ready_with master.old startup.now }
-    ensures plan { master.new.plan ≡ master.old.plan }
-{
-    match startup.phase() {
-        Phase::Ready => master.ready(startup),
-        Phase::Idle | Phase::Sent(_) | Phase::Failed(_) => {}
-    }
-}
-
 impl MachineMaster {
     /// The machine of a table and of the plan that `compile` makes of it. No later call takes memory.
     ///
@@ -157,25 +77,6 @@ impl MachineMaster {
             return 0;
         }
         write_next(&mut self.startup, room)
-    }
-
-    /// Gives a payload to the start-up; where that ends Ready by it, the master is ready.
-    fn take_starting(&mut self, payload: &[u8]) -> bool
-        ensures { IsStarting self.old payload.now result self.new }
-    {
-        let is_kept = take_start(&mut self.startup, payload);
-        make_ready(&mut self.master, &self.startup);
-        is_kept
-    }
-
-    /// Gives a payload to the master.
-    fn take_cyclic(&mut self, payload: &[u8]) -> bool
-        ensures { IsCyclic self.old payload.now result self.new }
-    {
-        match self.master.take(payload) {
-            Taken::Kept => true,
-            Taken::Foreign => false,
-        }
     }
 
     /// Takes a payload that came in, and answers whether it was the answer to a frame of the start-up, or of the open cycle.
@@ -334,4 +235,103 @@ impl MachineMaster {
             .iter()
             .position(|row| row.name.as_str() == name)
     }
+
+    /// Gives a payload to the master.
+    fn take_cyclic(&mut self, payload: &[u8]) -> bool
+        ensures { IsCyclic self.old payload.now result self.new }
+    {
+        match self.master.take(payload) {
+            Taken::Kept => true,
+            Taken::Foreign => false,
+        }
+    }
+
+    /// Gives a payload to the start-up; where that ends Ready by it, the master is ready.
+    fn take_starting(&mut self, payload: &[u8]) -> bool
+        ensures { IsStarting self.old payload.now result self.new }
+    {
+        let is_kept = take_start(&mut self.startup, payload);
+        make_ready(&mut self.master, &self.startup);
+        is_kept
+    }
+}
+
+/// Where a start-up has ended Ready, its master is ready.
+fn make_ready(master: &mut OwnMaster, startup: &Startup)
+    requires { startup.now.plan ≡ master.old.plan.slaves }
+    ensures ready { master.new ≡ ready_with master.old startup.now }
+    ensures plan { master.new.plan ≡ master.old.plan }
+{
+    match startup.phase() {
+        Phase::Ready => master.ready(startup),
+        Phase::Idle | Phase::Sent(_) | Phase::Failed(_) => {}
+    }
+}
+
+/// Gives a payload to a start-up, and answers whether it was kept.
+#[tactic(auto, using(crate::proofs::Plans::take_plan))]
+fn take_start(startup: &mut Startup, payload: &[u8]) -> bool
+    ensures taken { IsStartTaken startup.old payload.now result startup.new }
+    ensures plan { startup.new.plan ≡ startup.old.plan }
+{
+    match startup.take(payload) {
+        Taken::Kept => true,
+        Taken::Foreign => false,
+    }
+}
+
+/// Writes the next frame of a start-up, which begins anew if it failed, and answers how many bytes it has, or 0 where there is
+/// none.
+#[tactic(auto, using(crate::proofs::Plans::next_plan))]
+fn write_next(startup: &mut Startup, room: &mut [u8]) -> usize
+    requires { 1472 ≤ length room.old }
+    ensures state { startup.new ≡ asked (resumed startup.old) }
+    ensures plan { startup.new.plan ≡ startup.old.plan }
+    ensures frame { next_frame (resumed startup.old) ≡ Send → IsNextFrame (resumed startup.old) (take result room.new) }
+    ensures none { next_frame (resumed startup.old) ≢ Send → result ≡ 0 }
+    ensures within { result ≤ length room.new }
+{
+    resume(startup);
+    let mut frame = Frame::new();
+    match startup.next(&mut frame) {
+        NextFrame::Send => {
+            let count = frame.len();
+            room[..count].copy_from_slice(frame.as_slice());
+            count
+        }
+        NextFrame::Waiting | NextFrame::Ended => 0,
+    }
+}
+
+/// A start-up that failed begins anew.
+fn resume(startup: &mut Startup)
+    ensures { startup.new ≡ resumed startup.old }
+{
+    if startup.has_failed() {
+        startup.restart();
+    }
+}
+
+/// Whether the inputs of a unit were taken, if a report has the unit.
+fn unit_in(report: &Report, unit: u8) -> Option<bool>
+    ensures { result ≡ unit_taken unit report.now }
+{
+    answer_at(report.units_taken(), place_of(report.units(), unit))
+}
+
+/// What stands at a place, if there is one.
+fn answer_at(answers: &[bool], place: Option<usize>) -> Option<bool>
+    ensures { result ≡ option_and_then (λ k. slice_get answers.now k) place }
+{
+    match place {
+        Some(place) => answers.get(place).copied(),
+        None => None,
+    }
+}
+
+/// The place of a number.
+fn place_of(numbers: &[u8], wanted: u8) -> Option<usize>
+    ensures { result ≡ position (λ n. n == wanted) numbers.now }
+{
+    numbers.iter().position(|number| *number == wanted)
 }

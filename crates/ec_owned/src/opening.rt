@@ -14,28 +14,6 @@ use ec_ring::Ring;
 use ec_table::{Table, read_table};
 use std::alloc::Global;
 
-/// The table that bytes state.
-fn table_in(alloc: Global, text: &[u8]) -> Result<Table, OpenError>
-    ensures readable { IfOk result (λ t. IsUtf8 text.now) }
-    ensures stated { IfOk result (λ t. table_of text.now ≡ Ok t) }
-    ensures refused { IfErr result (IsOpenFault text.now) }
-{
-    let Ok(text) = str::from_utf8(text) else {
-        return Err(OpenError::Text);
-    };
-    Ok(read_table(alloc, text)?)
-}
-
-/// The machine of a table.
-fn machine_of(alloc: Global, table: Table) -> Result<MachineMaster, OpenError>
-    ensures accepted { IfOk result (λ m. compile_fault table ≡ None) }
-    ensures new { IfOk result (λ m. m ≡ new_machine table) }
-    ensures refused { IfErr result (IsLinkFault table) }
-{
-    let plan = compile(alloc, &table)?;
-    Ok(MachineMaster::new(alloc, table, plan)?)
-}
-
 /// The machine of the table that bytes state.
 ///
 /// # Errors
@@ -47,16 +25,6 @@ pub fn open_machine(alloc: Global, text: &[u8]) -> Result<MachineMaster, OpenErr
 {
     let table = table_in(alloc, text)?;
     machine_of(alloc, table)
-}
-
-/// The slaves of a table, just switched on.
-fn slaves_in(alloc: Global, table: &Table) -> Result<Ring, OpenError>
-    ensures accepted { IfOk result (λ slaves. compile_fault table.now ≡ None) }
-    ensures slaves { IfOk result (AreSlavesOf table.now) }
-    ensures refused { IfErr result (IsLinkFault table.now) }
-{
-    let plan = compile(alloc, table)?;
-    Ok(slaves_of(alloc, table, &plan)?)
 }
 
 /// The slaves of the table that bytes state, `full` or as it states them, just switched on.
@@ -71,4 +39,36 @@ pub fn open_slaves(alloc: Global, text: &[u8], full: bool) -> Result<Ring, OpenE
     let mut table = table_in(alloc, text)?;
     table.show_as(full);
     slaves_in(alloc, &table)
+}
+
+/// The machine of a table.
+fn machine_of(alloc: Global, table: Table) -> Result<MachineMaster, OpenError>
+    ensures accepted { IfOk result (λ m. compile_fault table ≡ None) }
+    ensures new { IfOk result (λ m. m ≡ new_machine table) }
+    ensures refused { IfErr result (IsLinkFault table) }
+{
+    let plan = compile(alloc, &table)?;
+    Ok(MachineMaster::new(alloc, table, plan)?)
+}
+
+/// The table that bytes state.
+fn table_in(alloc: Global, text: &[u8]) -> Result<Table, OpenError>
+    ensures readable { IfOk result (λ t. IsUtf8 text.now) }
+    ensures stated { IfOk result (λ t. table_of text.now ≡ Ok t) }
+    ensures refused { IfErr result (IsOpenFault text.now) }
+{
+    let Ok(text) = str::from_utf8(text) else {
+        return Err(OpenError::Text);
+    };
+    Ok(read_table(alloc, text)?)
+}
+
+/// The slaves of a table, just switched on.
+fn slaves_in(alloc: Global, table: &Table) -> Result<Ring, OpenError>
+    ensures accepted { IfOk result (λ slaves. compile_fault table.now ≡ None) }
+    ensures slaves { IfOk result (AreSlavesOf table.now) }
+    ensures refused { IfErr result (IsLinkFault table.now) }
+{
+    let plan = compile(alloc, table)?;
+    Ok(slaves_of(alloc, table, &plan)?)
 }

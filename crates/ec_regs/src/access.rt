@@ -5,14 +5,6 @@ ghost use Rattle.ec_regs.specs.Memory.{is_stored as is_stored_at, takes_writes a
 use crate::registers::{AL_CONTROL, FMMUS, SII_CONTROL, STATION_ADDRESS, SYNC_MANAGERS};
 use ec_bits::within;
 
-/// Whether a sync manager's byte, 0 to 7, is one of its settings: start, length, control and
-/// activate.
-fn is_setting(byte: usize) -> bool
-    ensures { result ≡ (nat_lt byte 5 || (byte == 6)) }
-{
-    byte < 5 || byte == 6
-}
-
 /// Whether a register byte becomes what a datagram writes: station address, AL control, FMMUs, and
 /// the settings of the sync managers.
 pub fn is_stored(address: usize) -> bool
@@ -29,4 +21,12 @@ pub fn takes_writes(address: usize, is_busy: bool) -> bool
     ensures { result ≡ takes_writes_at is_busy address }
 {
     is_stored(address) || (within(SII_CONTROL, 6, address) && !is_busy)
+}
+
+/// Whether a sync manager's byte, 0 to 7, is one of its settings: start, length, control and
+/// activate.
+fn is_setting(byte: usize) -> bool
+    ensures { result ≡ (nat_lt byte 5 || (byte == 6)) }
+{
+    byte < 5 || byte == 6
 }

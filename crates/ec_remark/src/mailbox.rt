@@ -5,6 +5,18 @@ use ec_coe::{Message, SdoCommand, SdoValue, Service};
 use std::alloc::AllocError;
 use std::fmt::Write as _;
 
+/// Adds what a mailbox message says.
+pub(crate) fn write_message(text: &mut String, message: &Message) -> Result<(), AllocError> {
+    let counter = message.counter;
+    write!(text, "mailbox message {counter}, CoE, ")?;
+    match message.service {
+        Service::Request => write!(text, "SDO request: ")?,
+        Service::Response => write!(text, "SDO response: ")?,
+        Service::Other(number) => write!(text, "service {number}: ")?,
+    }
+    write_transfer(text, message)
+}
+
 /// Adds what the SDO of a message does to an object.
 fn write_transfer(text: &mut String, message: &Message) -> Result<(), AllocError> {
     let (index, subindex, number) = (message.index, message.subindex, message.value);
@@ -36,16 +48,4 @@ fn write_transfer(text: &mut String, message: &Message) -> Result<(), AllocError
             writeln!(text, "command {command:02x} of {index:04x}:{subindex:02x}")
         }
     }
-}
-
-/// Adds what a mailbox message says.
-pub(crate) fn write_message(text: &mut String, message: &Message) -> Result<(), AllocError> {
-    let counter = message.counter;
-    write!(text, "mailbox message {counter}, CoE, ")?;
-    match message.service {
-        Service::Request => write!(text, "SDO request: ")?,
-        Service::Response => write!(text, "SDO response: ")?,
-        Service::Other(number) => write!(text, "service {number}: ")?,
-    }
-    write_transfer(text, message)
 }

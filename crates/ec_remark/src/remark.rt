@@ -10,12 +10,38 @@ use ec_regs::registers::RAM_START;
 use std::alloc::{AllocError, Global};
 use std::fmt::Write as _;
 
-/// Whether a command goes to the memory of slaves by a physical address.
-fn is_physical(command: Command) -> bool {
-    !matches!(
-        &command,
-        Command::Nop | Command::Lrd | Command::Lwr | Command::Lrw
-    )
+/// Adds what a datagram says for people, in lines: each register of which it has all bytes, with its
+/// value; where it has none whole, the register in which it begins; and a mailbox message in the memory
+/// behind the registers. Of a logical datagram and a NOP nothing is said. The error is want of memory.
+pub fn write_remarks(alloc: Global, text: &mut String, seen: Seen<'_>) -> Result<(), AllocError> {
+    if !is_physical(seen.command) {
+        return Ok(());
+    }
+    let from = (seen.address / 65536) as usize;
+    if from >= RAM_START {
+        return write_memory(text, seen.content);
+    }
+    if !write_registers(alloc, text, from, seen.content)? {
+        write_part(text, from)?;
+    }
+    Ok(())
+}
+
+/// Adds what data in the memory behind the registers say, where they are a mailbox message.
+fn write_memory(text: &mut String, content: &[u8]) -> Result<(), AllocError> {
+    match read_message(content) {
+        Ok(message) => write_message(text, &message),
+        Err(_) => Ok(()),
+    }
+}
+
+/// Adds which register begins before the data or ends behind them, where none is whole.
+fn write_part(text: &mut String, from: usize) -> Result<(), AllocError> {
+    if let Some(register) = register_at(from) {
+        let (name, place) = (register.name(), register.place());
+        writeln!(text, "{from:04x} part of {place:04x} {name}")?;
+    }
+    Ok(())
 }
 
 /// Adds a line for each register all of whose bytes are there, and answers whether there is one.
@@ -36,36 +62,10 @@ fn write_registers(
     Ok(!registers.is_empty())
 }
 
-/// Adds which register begins before the data or ends behind them, where none is whole.
-fn write_part(text: &mut String, from: usize) -> Result<(), AllocError> {
-    if let Some(register) = register_at(from) {
-        let (name, place) = (register.name(), register.place());
-        writeln!(text, "{from:04x} part of {place:04x} {name}")?;
-    }
-    Ok(())
-}
-
-/// Adds what data in the memory behind the registers say, where they are a mailbox message.
-fn write_memory(text: &mut String, content: &[u8]) -> Result<(), AllocError> {
-    match read_message(content) {
-        Ok(message) => write_message(text, &message),
-        Err(_) => Ok(()),
-    }
-}
-
-/// Adds what a datagram says for people, in lines: each register of which it has all bytes, with its
-/// value; where it has none whole, the register in which it begins; and a mailbox message in the memory
-/// behind the registers. Of a logical datagram and a NOP nothing is said. The error is want of memory.
-pub fn write_remarks(alloc: Global, text: &mut String, seen: Seen<'_>) -> Result<(), AllocError> {
-    if !is_physical(seen.command) {
-        return Ok(());
-    }
-    let from = (seen.address / 65536) as usize;
-    if from >= RAM_START {
-        return write_memory(text, seen.content);
-    }
-    if !write_registers(alloc, text, from, seen.content)? {
-        write_part(text, from)?;
-    }
-    Ok(())
+/// Whether a command goes to the memory of slaves by a physical address.
+fn is_physical(command: Command) -> bool {
+    !matches!(
+        &command,
+        Command::Nop | Command::Lrd | Command::Lwr | Command::Lrw
+    )
 }

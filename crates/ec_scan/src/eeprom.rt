@@ -75,25 +75,6 @@ pub fn bytes_together(pdos: &[FoundPdo]) -> Result<u16, ScanError> {
     Ok(u16::try_from(bits.div_ceil(8))?)
 }
 
-/// The object whose first eight bytes stand at a place, with the entries behind them.
-fn pdo_at(alloc: Global, bytes: &[u8], place: usize) -> Result<FoundPdo, AllocError> {
-    let mut entries = Vec::new(alloc);
-    let mut at = place;
-    for _ in 0..byte_at(bytes, place.saturating_add(2)) {
-        at = at.saturating_add(8);
-        entries.push((
-            word_at(bytes, at),
-            byte_at(bytes, at.saturating_add(2)),
-            byte_at(bytes, at.saturating_add(5)),
-        ))?;
-    }
-    Ok(FoundPdo {
-        index: word_at(bytes, place),
-        manager: byte_at(bytes, place.saturating_add(3)),
-        entries,
-    })
-}
-
 impl Eeprom {
     /// A word before the categories.
     pub fn word(&self, address: usize) -> u16 {
@@ -136,17 +117,6 @@ impl Eeprom {
 }
 
 impl<L: Carrier + Drop> Master<L> {
-    /// Waits until the port isn't busy. Its status word.
-    fn await_port(&mut self, station: u16) -> Result<u16, ScanError> {
-        for _ in 0..MAX_POLLS {
-            let status = self.port_status(station)?;
-            if status & BUSY == 0 {
-                return Ok(status);
-            }
-        }
-        Err(ScanError::Busy)
-    }
-
     /// The two words at a word address; none where the port says that they can't be read.
     pub fn words_at(
         &mut self,
@@ -184,24 +154,26 @@ impl<L: Carrier + Drop> Master<L> {
         Err(ScanError::Busy)
     }
 
-    /// So many words from a word address on, two at a time.
-    fn words_from(
-        &mut self,
-        station: u16,
-        address: u32,
-        count: u16,
-    ) -> Result<Vec<u16>, ScanError> {
-        let mut words = Vec::new(self.alloc());
-        for step in 0..u32::from(count.div_ceil(2)) {
-            let at = address.saturating_add(step.saturating_mul(2));
-            let Some((first, second)) = self.words_at(station, at)? else {
-                return Err(ScanError::NoWords(at));
-            };
-            words.push(first)?;
-            words.push(second)?;
+    /// All that the SII of a slave says.
+    pub fn read_eeprom(&mut self, station: u16) -> Result<Eeprom, ScanError> {
+        let mut eeprom = Eeprom {
+            head: self.words_from(station, 0, 0x40)?,
+            categories: Vec::new(self.alloc()),
+            end: CATEGORIES,
+        };
+        self.crawl(station, &mut eeprom)?;
+        Ok(eeprom)
+    }
+
+    /// Waits until the port isn't busy. Its status word.
+    fn await_port(&mut self, station: u16) -> Result<u16, ScanError> {
+        for _ in 0..MAX_POLLS {
+            let status = self.port_status(station)?;
+            if status & BUSY == 0 {
+                return Ok(status);
+            }
         }
-        words.truncate(usize::from(count));
-        Ok(words)
+        Err(ScanError::Busy)
     }
 
     /// Goes from category to category up to the end mark.
@@ -221,14 +193,42 @@ impl<L: Carrier + Drop> Master<L> {
         Err(ScanError::Endless)
     }
 
-    /// All that the SII of a slave says.
-    pub fn read_eeprom(&mut self, station: u16) -> Result<Eeprom, ScanError> {
-        let mut eeprom = Eeprom {
-            head: self.words_from(station, 0, 0x40)?,
-            categories: Vec::new(self.alloc()),
-            end: CATEGORIES,
-        };
-        self.crawl(station, &mut eeprom)?;
-        Ok(eeprom)
+    /// So many words from a word address on, two at a time.
+    fn words_from(
+        &mut self,
+        station: u16,
+        address: u32,
+        count: u16,
+    ) -> Result<Vec<u16>, ScanError> {
+        let mut words = Vec::new(self.alloc());
+        for step in 0..u32::from(count.div_ceil(2)) {
+            let at = address.saturating_add(step.saturating_mul(2));
+            let Some((first, second)) = self.words_at(station, at)? else {
+                return Err(ScanError::NoWords(at));
+            };
+            words.push(first)?;
+            words.push(second)?;
+        }
+        words.truncate(usize::from(count));
+        Ok(words)
     }
+}
+
+/// The object whose first eight bytes stand at a place, with the entries behind them.
+fn pdo_at(alloc: Global, bytes: &[u8], place: usize) -> Result<FoundPdo, AllocError> {
+    let mut entries = Vec::new(alloc);
+    let mut at = place;
+    for _ in 0..byte_at(bytes, place.saturating_add(2)) {
+        at = at.saturating_add(8);
+        entries.push((
+            word_at(bytes, at),
+            byte_at(bytes, at.saturating_add(2)),
+            byte_at(bytes, at.saturating_add(5)),
+        ))?;
+    }
+    Ok(FoundPdo {
+        index: word_at(bytes, place),
+        manager: byte_at(bytes, place.saturating_add(3)),
+        entries,
+    })
 }

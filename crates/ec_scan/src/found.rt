@@ -21,13 +21,6 @@ pub struct Found {
     pub input_bytes: u16,
 }
 
-/// The first string of an SII.
-fn name_of(alloc: Global, eeprom: &Eeprom) -> Result<String, ScanError> {
-    let bytes = eeprom.bytes(alloc, STRINGS)?;
-    let name = part_of(alloc, &bytes, 2, usize::from(byte_at(&bytes, 1)))?;
-    String::from_utf8(name).map_err(|_| ScanError::Name)
-}
-
 impl Found {
     /// What the SII of a slave says, and how many bytes its process data have by it.
     pub fn of(
@@ -49,4 +42,11 @@ impl Found {
             input_bytes: seat.inputs.count,
         })
     }
+}
+
+/// The first string of an SII.
+fn name_of(alloc: Global, eeprom: &Eeprom) -> Result<String, ScanError> {
+    let bytes = eeprom.bytes(alloc, STRINGS)?;
+    let name = part_of(alloc, &bytes, 2, usize::from(byte_at(&bytes, 1)))?;
+    String::from_utf8(name).map_err(|_| ScanError::Name)
 }

@@ -67,28 +67,6 @@ impl MemoryCarrier {
     }
 }
 
-/// The application reads its outputs, as many as there are now, and writes its inputs.
-fn step_application(slave: &mut Slave) {
-    let (output_count, input_count) = slave.app_sizes();
-    let mut outputs = [0; MAX_OUTPUTS];
-    for (place, output) in outputs.iter_mut().enumerate().take(output_count) {
-        *output = slave.app_get(place).unwrap_or(0);
-    }
-    let seen = &outputs[..output_count.min(MAX_OUTPUTS)];
-    for place in 0..input_count {
-        let _ = slave.app_put(place, Applications::Complement.input(seen, place));
-    }
-}
-
-/// The slave at a place steps, if there is one.
-fn step_slave(ring: &mut Ring, place: usize) {
-    if place < ring.len() {
-        let slave = ring.slave_mut(place);
-        slave.serve();
-        step_application(slave);
-    }
-}
-
 impl Carrier for MemoryCarrier {
     fn exchange(&mut self, frame: &mut [u8]) -> Result<(), ScanError> {
         self.ring.pass_all(frame)?;
@@ -151,5 +129,27 @@ impl<W: Wire + Drop> Carrier for WireCarrier<W> {
 
     fn applications(&self) -> Applications {
         Applications::Echo
+    }
+}
+
+/// The slave at a place steps, if there is one.
+fn step_slave(ring: &mut Ring, place: usize) {
+    if place < ring.len() {
+        let slave = ring.slave_mut(place);
+        slave.serve();
+        step_application(slave);
+    }
+}
+
+/// The application reads its outputs, as many as there are now, and writes its inputs.
+fn step_application(slave: &mut Slave) {
+    let (output_count, input_count) = slave.app_sizes();
+    let mut outputs = [0; MAX_OUTPUTS];
+    for (place, output) in outputs.iter_mut().enumerate().take(output_count) {
+        *output = slave.app_get(place).unwrap_or(0);
+    }
+    let seen = &outputs[..output_count.min(MAX_OUTPUTS)];
+    for place in 0..input_count {
+        let _ = slave.app_put(place, Applications::Complement.input(seen, place));
     }
 }

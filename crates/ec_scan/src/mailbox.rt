@@ -31,11 +31,6 @@ pub struct Mailbox {
     answered: u8,
 }
 
-/// The counter behind another one: 1 to 7, and 1 again.
-fn next_counter(counter: u8) -> u8 {
-    counter % 7 + 1
-}
-
 impl Mailbox {
     /// The mailboxes of a slave by its SII, if it has any.
     pub fn of(station: u16, eeprom: &Eeprom) -> Option<Mailbox> {
@@ -54,23 +49,16 @@ impl Mailbox {
     }
 }
 
-/// The mailbox header of a message, and what follows it.
-fn message_of(alloc: Global, kind: u8, counter: u8, body: &[u8]) -> Result<Vec<u8>, ScanError> {
-    let mut message = Vec::new(alloc);
-    message.extend_from_slice(&u16::try_from(body.len())?.to_le_bytes())?;
-    message.extend_from_slice(&[0, 0, 0, kind | (counter % 8) << 4])?;
-    message.extend_from_slice(body)?;
-    Ok(message)
-}
-
 impl<L: Carrier + Drop> Master<L> {
-    /// A message goes into the mailbox of a slave, which is written whole.
-    fn send(&mut self, mailbox: &mut Mailbox, kind: u8, body: &[u8]) -> Result<(), ScanError> {
-        mailbox.sent = next_counter(mailbox.sent);
-        let message = message_of(self.alloc(), kind, mailbox.sent, body)?;
-        let size = usize::from(mailbox.receive_size);
-        let whole = part_of(self.alloc(), &message, 0, size)?;
-        self.set(mailbox.station, mailbox.receive_start, &whole)
+    /// A message, and what answers it.
+    pub fn converse(
+        &mut self,
+        mailbox: &mut Mailbox,
+        kind: u8,
+        body: &[u8],
+    ) -> Result<Option<Vec<u8>>, ScanError> {
+        self.send(mailbox, kind, body)?;
+        self.receive(mailbox)
     }
 
     /// Waits for a message from a slave, and reads its mailbox whole. None where none comes.
@@ -85,15 +73,13 @@ impl<L: Carrier + Drop> Master<L> {
         Ok(None)
     }
 
-    /// A message, and what answers it.
-    pub fn converse(
-        &mut self,
-        mailbox: &mut Mailbox,
-        kind: u8,
-        body: &[u8],
-    ) -> Result<Option<Vec<u8>>, ScanError> {
-        self.send(mailbox, kind, body)?;
-        self.receive(mailbox)
+    /// A message goes into the mailbox of a slave, which is written whole.
+    fn send(&mut self, mailbox: &mut Mailbox, kind: u8, body: &[u8]) -> Result<(), ScanError> {
+        mailbox.sent = next_counter(mailbox.sent);
+        let message = message_of(self.alloc(), kind, mailbox.sent, body)?;
+        let size = usize::from(mailbox.receive_size);
+        let whole = part_of(self.alloc(), &message, 0, size)?;
+        self.set(mailbox.station, mailbox.receive_start, &whole)
     }
 }
 
@@ -113,40 +99,6 @@ pub fn expect_answer<L: Carrier + Drop>(
         return Err(ScanError::Silent);
     };
     expect_bytes("mailbox answer", 0, &answer, &whole)
-}
-
-/// What follows the mailbox header of an SDO: the CoE header with its service, the command, the object and at least four bytes.
-fn sdo_of(
-    alloc: Global,
-    service: u8,
-    command: u8,
-    object: Object,
-    content: &[u8],
-) -> Result<Vec<u8>, AllocError> {
-    let (index, subindex) = object;
-    let [low, high] = index.to_le_bytes();
-    let mut body = Vec::new(alloc);
-    body.extend_from_slice(&[0, (service % 16) << 4, command, low, high, subindex])?;
-    let padded = part_of(alloc, content, 0, content.len().max(4))?;
-    body.extend_from_slice(&padded)?;
-    Ok(body)
-}
-
-/// The command byte of an expedited SDO with so many bytes: which of the four bytes aren't used stands in bits 2 and 3.
-fn expedited(command: u8, count: usize) -> u8 {
-    let unused = 4 - count.min(4) as u8;
-    command | unused << 2
-}
-
-/// The response to an upload: expedited up to four bytes, normal where there are more.
-fn upload_response(alloc: Global, object: Object, value: &[u8]) -> Result<Vec<u8>, ScanError> {
-    if value.len() <= 4 {
-        return Ok(sdo_of(alloc, 3, expedited(0x43, value.len()), object, value)?);
-    }
-    let mut content = Vec::new(alloc);
-    content.extend_from_slice(&u32::try_from(value.len())?.to_le_bytes())?;
-    content.extend_from_slice(value)?;
-    Ok(sdo_of(alloc, 3, 0x41, object, &content)?)
 }
 
 /// An upload gives these bytes.
@@ -185,4 +137,52 @@ pub fn expect_abort<L: Carrier + Drop>(
     let asked = sdo_of(master.alloc(), 2, command, object, content)?;
     let wanted = sdo_of(master.alloc(), 2, 0x80, object, &code.to_le_bytes())?;
     expect_answer(master, mailbox, (COE, &asked), (COE, &wanted))
+}
+
+/// The counter behind another one: 1 to 7, and 1 again.
+fn next_counter(counter: u8) -> u8 {
+    counter % 7 + 1
+}
+
+/// The mailbox header of a message, and what follows it.
+fn message_of(alloc: Global, kind: u8, counter: u8, body: &[u8]) -> Result<Vec<u8>, ScanError> {
+    let mut message = Vec::new(alloc);
+    message.extend_from_slice(&u16::try_from(body.len())?.to_le_bytes())?;
+    message.extend_from_slice(&[0, 0, 0, kind | (counter % 8) << 4])?;
+    message.extend_from_slice(body)?;
+    Ok(message)
+}
+
+/// The response to an upload: expedited up to four bytes, normal where there are more.
+fn upload_response(alloc: Global, object: Object, value: &[u8]) -> Result<Vec<u8>, ScanError> {
+    if value.len() <= 4 {
+        return Ok(sdo_of(alloc, 3, expedited(0x43, value.len()), object, value)?);
+    }
+    let mut content = Vec::new(alloc);
+    content.extend_from_slice(&u32::try_from(value.len())?.to_le_bytes())?;
+    content.extend_from_slice(value)?;
+    Ok(sdo_of(alloc, 3, 0x41, object, &content)?)
+}
+
+/// The command byte of an expedited SDO with so many bytes: which of the four bytes aren't used stands in bits 2 and 3.
+fn expedited(command: u8, count: usize) -> u8 {
+    let unused = 4 - count.min(4) as u8;
+    command | unused << 2
+}
+
+/// What follows the mailbox header of an SDO: the CoE header with its service, the command, the object and at least four bytes.
+fn sdo_of(
+    alloc: Global,
+    service: u8,
+    command: u8,
+    object: Object,
+    content: &[u8],
+) -> Result<Vec<u8>, AllocError> {
+    let (index, subindex) = object;
+    let [low, high] = index.to_le_bytes();
+    let mut body = Vec::new(alloc);
+    body.extend_from_slice(&[0, (service % 16) << 4, command, low, high, subindex])?;
+    let padded = part_of(alloc, content, 0, content.len().max(4))?;
+    body.extend_from_slice(&padded)?;
+    Ok(body)
 }

@@ -34,16 +34,6 @@ pub fn station_of(place: usize) -> Result<u16, ScanError> {
     Ok(FIRST_STATION.wrapping_add(u16::try_from(place)?))
 }
 
-/// ADP and ADO.
-fn address_of(adp: u16, register: u16) -> u32 {
-    u32::from(adp) | u32::from(register) << 16
-}
-
-/// The ADP that reaches the slave at a place by auto increment.
-fn position_of(place: usize) -> Result<u16, ScanError> {
-    Ok(0u16.wrapping_sub(u16::try_from(place)?))
-}
-
 /// A master at one end of a link.
 #[derive(Drop)]
 pub struct Master<L: Carrier + Drop> {
@@ -84,28 +74,6 @@ impl<L: Carrier + Drop> Master<L> {
         let mut frame = frame_of(self.alloc, self.index, datagrams)?;
         self.link.exchange(&mut frame)?;
         take_back(&frame, self.index, datagrams)
-    }
-
-    /// A datagram goes out alone, and comes back.
-    fn ask(&mut self, command: u8, address: u32, bytes: &[u8]) -> Result<Datagram, ScanError> {
-        let datagram = Datagram::new(self.alloc, command, address, bytes)?;
-        let mut datagrams = vec![in self.alloc; datagram]?;
-        self.exchange(&mut datagrams)?;
-        match datagrams.pop() {
-            Some(datagram) => Ok(datagram),
-            None => Err(ScanError::Datagram),
-        }
-    }
-
-    /// The same with so many bytes of 0.
-    fn ask_empty(
-        &mut self,
-        command: u8,
-        address: u32,
-        count: usize,
-    ) -> Result<Datagram, ScanError> {
-        let bytes = vec![in self.alloc; 0u8; count]?;
-        self.ask(command, address, &bytes)
     }
 
     /// Reads a register of all slaves, joined by OR.
@@ -189,4 +157,36 @@ impl<L: Carrier + Drop> Master<L> {
         }
         Ok(seen)
     }
+
+    /// The same with so many bytes of 0.
+    fn ask_empty(
+        &mut self,
+        command: u8,
+        address: u32,
+        count: usize,
+    ) -> Result<Datagram, ScanError> {
+        let bytes = vec![in self.alloc; 0u8; count]?;
+        self.ask(command, address, &bytes)
+    }
+
+    /// A datagram goes out alone, and comes back.
+    fn ask(&mut self, command: u8, address: u32, bytes: &[u8]) -> Result<Datagram, ScanError> {
+        let datagram = Datagram::new(self.alloc, command, address, bytes)?;
+        let mut datagrams = vec![in self.alloc; datagram]?;
+        self.exchange(&mut datagrams)?;
+        match datagrams.pop() {
+            Some(datagram) => Ok(datagram),
+            None => Err(ScanError::Datagram),
+        }
+    }
+}
+
+/// The ADP that reaches the slave at a place by auto increment.
+fn position_of(place: usize) -> Result<u16, ScanError> {
+    Ok(0u16.wrapping_sub(u16::try_from(place)?))
+}
+
+/// ADP and ADO.
+fn address_of(adp: u16, register: u16) -> u32 {
+    u32::from(adp) | u32::from(register) << 16
 }

@@ -26,69 +26,6 @@ pub const OUTPUTS_ASSIGNED: u16 = 0x1C12;
 /// The same of the inputs.
 pub const INPUTS_ASSIGNED: u16 = 0x1C13;
 
-/// A subindex behind another one.
-fn next_subindex(place: usize) -> Result<u8, ScanError> {
-    Ok(u8::try_from(place.saturating_add(1))?)
-}
-
-/// Device type 0, the name, both versions "1", the identity, and what the managers are for.
-fn expect_device<L: Carrier + Drop>(
-    master: &mut Master<L>,
-    mailbox: &mut Mailbox,
-    row: &SlaveRow,
-) -> Result<(), ScanError> {
-    expect_upload(master, mailbox, (0x1018, 0), &[4])?;
-    for (place, number) in row.identity.iter().enumerate() {
-        let object = (0x1018, next_subindex(place)?);
-        expect_upload(master, mailbox, object, &number.to_le_bytes())?;
-    }
-    expect_upload(master, mailbox, (0x1000, 0), &[0, 0, 0, 0])?;
-    expect_upload(master, mailbox, (0x1008, 0), row.name.as_bytes())?;
-    expect_upload(master, mailbox, (0x1009, 0), b"1")?;
-    expect_upload(master, mailbox, (0x100A, 0), b"1")?;
-    for (subindex, usage) in [(0, 4), (1, 1), (2, 2), (3, 3), (4, 4)] {
-        expect_upload(master, mailbox, (0x1C00, subindex), &[usage])?;
-    }
-    Ok(())
-}
-
-/// The entries of an object as its mapping says them: index, subindex and bits, from the highest byte down.
-fn expect_mapping<L: Carrier + Drop>(
-    master: &mut Master<L>,
-    mailbox: &mut Mailbox,
-    row: &PdoRow,
-) -> Result<(), ScanError> {
-    let count = u8::try_from(row.entries.len())?;
-    expect_upload(master, mailbox, (row.index, 0), &[count])?;
-    for (place, (index, subindex, bits)) in row.entries.iter().enumerate() {
-        let [low, high] = index.to_le_bytes();
-        let object = (row.index, next_subindex(place)?);
-        expect_upload(master, mailbox, object, &[*bits, *subindex, low, high])?;
-    }
-    Ok(())
-}
-
-/// All objects of a direction are assigned, and each has its mapping; where there are none there is no assignment.
-fn expect_assigned<L: Carrier + Drop>(
-    master: &mut Master<L>,
-    mailbox: &mut Mailbox,
-    index: u16,
-    rows: &[PdoRow],
-) -> Result<(), ScanError> {
-    if rows.is_empty() {
-        let request: (u8, (u16, u8), &[u8]) = (UPLOAD, (index, 0), &[]);
-        return expect_abort(master, mailbox, request, NO_OBJECT);
-    }
-    let count = u8::try_from(rows.len())?;
-    expect_upload(master, mailbox, (index, 0), &[count])?;
-    for (place, row) in rows.iter().enumerate() {
-        let object = (index, next_subindex(place)?);
-        expect_upload(master, mailbox, object, &row.index.to_le_bytes())?;
-        expect_mapping(master, mailbox, row)?;
-    }
-    Ok(())
-}
-
 /// SDO requests that are aborted: command, object, bytes, and the code.
 type Aborted = (u8, (u16, u8), &'static [u8], u32);
 
@@ -135,30 +72,6 @@ const REFUSALS: [Refused; 5] = [
     ),
 ];
 
-/// What isn't there is aborted, and an upload after each abort is answered as ever.
-fn expect_aborts<L: Carrier + Drop>(
-    master: &mut Master<L>,
-    mailbox: &mut Mailbox,
-) -> Result<(), ScanError> {
-    for (command, object, content, code) in ABORTS {
-        expect_abort(master, mailbox, (command, object, content), code)?;
-        expect_upload(master, mailbox, (0x1000, 0), &[0, 0, 0, 0])?;
-    }
-    Ok(())
-}
-
-/// What isn't spoken is refused, and an upload after each refusal is answered as ever.
-fn expect_refusals<L: Carrier + Drop>(
-    master: &mut Master<L>,
-    mailbox: &mut Mailbox,
-) -> Result<(), ScanError> {
-    for (kind, body, answer, wanted) in REFUSALS {
-        expect_answer(master, mailbox, (kind, body), (answer, wanted))?;
-        expect_upload(master, mailbox, (0x1000, 0), &[0, 0, 0, 0])?;
-    }
-    Ok(())
-}
-
 /// The objects of a slave are as its row says.
 pub fn expect_objects<L: Carrier + Drop>(
     master: &mut Master<L>,
@@ -190,4 +103,91 @@ pub fn assign<L: Carrier + Drop>(
     }
     expect_download(master, mailbox, (index, 0), &[count])?;
     expect_upload(master, mailbox, (index, 0), &[count])
+}
+
+/// What isn't spoken is refused, and an upload after each refusal is answered as ever.
+fn expect_refusals<L: Carrier + Drop>(
+    master: &mut Master<L>,
+    mailbox: &mut Mailbox,
+) -> Result<(), ScanError> {
+    for (kind, body, answer, wanted) in REFUSALS {
+        expect_answer(master, mailbox, (kind, body), (answer, wanted))?;
+        expect_upload(master, mailbox, (0x1000, 0), &[0, 0, 0, 0])?;
+    }
+    Ok(())
+}
+
+/// What isn't there is aborted, and an upload after each abort is answered as ever.
+fn expect_aborts<L: Carrier + Drop>(
+    master: &mut Master<L>,
+    mailbox: &mut Mailbox,
+) -> Result<(), ScanError> {
+    for (command, object, content, code) in ABORTS {
+        expect_abort(master, mailbox, (command, object, content), code)?;
+        expect_upload(master, mailbox, (0x1000, 0), &[0, 0, 0, 0])?;
+    }
+    Ok(())
+}
+
+/// All objects of a direction are assigned, and each has its mapping; where there are none there is no assignment.
+fn expect_assigned<L: Carrier + Drop>(
+    master: &mut Master<L>,
+    mailbox: &mut Mailbox,
+    index: u16,
+    rows: &[PdoRow],
+) -> Result<(), ScanError> {
+    if rows.is_empty() {
+        let request: (u8, (u16, u8), &[u8]) = (UPLOAD, (index, 0), &[]);
+        return expect_abort(master, mailbox, request, NO_OBJECT);
+    }
+    let count = u8::try_from(rows.len())?;
+    expect_upload(master, mailbox, (index, 0), &[count])?;
+    for (place, row) in rows.iter().enumerate() {
+        let object = (index, next_subindex(place)?);
+        expect_upload(master, mailbox, object, &row.index.to_le_bytes())?;
+        expect_mapping(master, mailbox, row)?;
+    }
+    Ok(())
+}
+
+/// The entries of an object as its mapping says them: index, subindex and bits, from the highest byte down.
+fn expect_mapping<L: Carrier + Drop>(
+    master: &mut Master<L>,
+    mailbox: &mut Mailbox,
+    row: &PdoRow,
+) -> Result<(), ScanError> {
+    let count = u8::try_from(row.entries.len())?;
+    expect_upload(master, mailbox, (row.index, 0), &[count])?;
+    for (place, (index, subindex, bits)) in row.entries.iter().enumerate() {
+        let [low, high] = index.to_le_bytes();
+        let object = (row.index, next_subindex(place)?);
+        expect_upload(master, mailbox, object, &[*bits, *subindex, low, high])?;
+    }
+    Ok(())
+}
+
+/// Device type 0, the name, both versions "1", the identity, and what the managers are for.
+fn expect_device<L: Carrier + Drop>(
+    master: &mut Master<L>,
+    mailbox: &mut Mailbox,
+    row: &SlaveRow,
+) -> Result<(), ScanError> {
+    expect_upload(master, mailbox, (0x1018, 0), &[4])?;
+    for (place, number) in row.identity.iter().enumerate() {
+        let object = (0x1018, next_subindex(place)?);
+        expect_upload(master, mailbox, object, &number.to_le_bytes())?;
+    }
+    expect_upload(master, mailbox, (0x1000, 0), &[0, 0, 0, 0])?;
+    expect_upload(master, mailbox, (0x1008, 0), row.name.as_bytes())?;
+    expect_upload(master, mailbox, (0x1009, 0), b"1")?;
+    expect_upload(master, mailbox, (0x100A, 0), b"1")?;
+    for (subindex, usage) in [(0, 4), (1, 1), (2, 2), (3, 3), (4, 4)] {
+        expect_upload(master, mailbox, (0x1C00, subindex), &[usage])?;
+    }
+    Ok(())
+}
+
+/// A subindex behind another one.
+fn next_subindex(place: usize) -> Result<u8, ScanError> {
+    Ok(u8::try_from(place.saturating_add(1))?)
 }

@@ -133,17 +133,6 @@ impl Process {
         }
     }
 
-    /// The bytes behind those that have a place.
-    fn area(&mut self, physical: u16, count: u16) -> Area {
-        let logical = self.next;
-        self.next = logical.saturating_add(u32::from(count));
-        Area {
-            logical,
-            count,
-            physical,
-        }
-    }
-
     /// A slave more: outputs and inputs, of each the address and how many bytes, and whether it takes part in LRW.
     pub fn seat(
         &mut self,
@@ -158,6 +147,17 @@ impl Process {
         };
         self.seats.push(seat)?;
         Ok(seat)
+    }
+
+    /// The bytes behind those that have a place.
+    fn area(&mut self, physical: u16, count: u16) -> Area {
+        let logical = self.next;
+        self.next = logical.saturating_add(u32::from(count));
+        Area {
+            logical,
+            count,
+            physical,
+        }
     }
 
     /// The runs of slaves that go by the same commands; `joint` says whether LRW is used at all.
@@ -196,25 +196,65 @@ impl Process {
     }
 }
 
-/// What a datagram brought back to its place of an image; LWR brings nothing.
-fn bring_back(image: &mut [u8], from: usize, datagram: &Datagram) {
-    if datagram.command == LWR {
-        return;
+/// Cycles with other outputs in each, by LRW as far as the slaves take part in it; and two by LWR and LRD alone.
+pub fn expect_cycles<L: Carrier + Drop>(
+    master: &mut Master<L>,
+    process: &Process,
+) -> Result<(), ScanError> {
+    let mut before = vec![in master.alloc(); 0u8; usize::try_from(process.next)?]?;
+    for cycle in 1..=ALL_CYCLES {
+        let outputs = process.image(cycle)?;
+        expect_cycle(master, process, cycle <= CYCLES, &outputs, &before)?;
+        before = outputs;
     }
-    for (place, byte) in datagram.bytes.iter().enumerate() {
-        if let Some(cell) = image.get_mut(from.saturating_add(place)) {
-            *cell = *byte;
-        }
-    }
+    Ok(())
 }
 
-/// What the datagrams brought back to an image of the logical memory.
-fn brought_back(alloc: Global, length: u32, datagrams: &[Datagram]) -> Result<Vec<u8>, ScanError> {
-    let mut image = vec![in alloc; 0u8; usize::try_from(length)?]?;
-    for datagram in datagrams {
-        bring_back(&mut image, usize::try_from(datagram.address)?, datagram);
+/// A cycle carries these outputs, and brings what the applications made of the outputs before.
+fn expect_cycle<L: Carrier + Drop>(
+    master: &mut Master<L>,
+    process: &Process,
+    joint: bool,
+    outputs: &[u8],
+    before: &[u8],
+) -> Result<(), ScanError> {
+    let alloc = master.alloc();
+    let datagrams = exchange_cycle(master, &process.runs(joint)?, outputs)?;
+    let seen = brought_back(alloc, process.next, &datagrams)?;
+    for seat in &process.seats {
+        expect_inputs(alloc, master.applications(), seat, before, &seen)?;
     }
-    Ok(image)
+    Ok(())
+}
+
+/// The runs go out in one frame with these outputs, and come back with their counters.
+fn exchange_cycle<L: Carrier + Drop>(
+    master: &mut Master<L>,
+    runs: &[Run],
+    outputs: &[u8],
+) -> Result<Vec<Datagram>, ScanError> {
+    let mut datagrams = Vec::new(master.alloc());
+    let mut counters = Vec::new(master.alloc());
+    for run in runs {
+        run.push_to(master.alloc(), outputs, &mut datagrams, &mut counters)?;
+    }
+    master.exchange(&mut datagrams)?;
+    expect_counters(&datagrams, &counters)?;
+    Ok(datagrams)
+}
+
+/// Each datagram came back with its counter.
+fn expect_counters(datagrams: &[Datagram], counters: &[u16]) -> Result<(), ScanError> {
+    for (datagram, counter) in datagrams.iter().zip(counters) {
+        let command = u32::from(datagram.command);
+        expect_number(
+            "counter of command",
+            command,
+            u32::from(datagram.counter),
+            u32::from(*counter),
+        )?;
+    }
+    Ok(())
 }
 
 /// The inputs of a slave are what its application made of the outputs of the cycle before.
@@ -241,63 +281,23 @@ fn expect_inputs(
     Ok(())
 }
 
-/// Each datagram came back with its counter.
-fn expect_counters(datagrams: &[Datagram], counters: &[u16]) -> Result<(), ScanError> {
-    for (datagram, counter) in datagrams.iter().zip(counters) {
-        let command = u32::from(datagram.command);
-        expect_number(
-            "counter of command",
-            command,
-            u32::from(datagram.counter),
-            u32::from(*counter),
-        )?;
+/// What the datagrams brought back to an image of the logical memory.
+fn brought_back(alloc: Global, length: u32, datagrams: &[Datagram]) -> Result<Vec<u8>, ScanError> {
+    let mut image = vec![in alloc; 0u8; usize::try_from(length)?]?;
+    for datagram in datagrams {
+        bring_back(&mut image, usize::try_from(datagram.address)?, datagram);
     }
-    Ok(())
+    Ok(image)
 }
 
-/// The runs go out in one frame with these outputs, and come back with their counters.
-fn exchange_cycle<L: Carrier + Drop>(
-    master: &mut Master<L>,
-    runs: &[Run],
-    outputs: &[u8],
-) -> Result<Vec<Datagram>, ScanError> {
-    let mut datagrams = Vec::new(master.alloc());
-    let mut counters = Vec::new(master.alloc());
-    for run in runs {
-        run.push_to(master.alloc(), outputs, &mut datagrams, &mut counters)?;
+/// What a datagram brought back to its place of an image; LWR brings nothing.
+fn bring_back(image: &mut [u8], from: usize, datagram: &Datagram) {
+    if datagram.command == LWR {
+        return;
     }
-    master.exchange(&mut datagrams)?;
-    expect_counters(&datagrams, &counters)?;
-    Ok(datagrams)
-}
-
-/// A cycle carries these outputs, and brings what the applications made of the outputs before.
-fn expect_cycle<L: Carrier + Drop>(
-    master: &mut Master<L>,
-    process: &Process,
-    joint: bool,
-    outputs: &[u8],
-    before: &[u8],
-) -> Result<(), ScanError> {
-    let alloc = master.alloc();
-    let datagrams = exchange_cycle(master, &process.runs(joint)?, outputs)?;
-    let seen = brought_back(alloc, process.next, &datagrams)?;
-    for seat in &process.seats {
-        expect_inputs(alloc, master.applications(), seat, before, &seen)?;
+    for (place, byte) in datagram.bytes.iter().enumerate() {
+        if let Some(cell) = image.get_mut(from.saturating_add(place)) {
+            *cell = *byte;
+        }
     }
-    Ok(())
-}
-
-/// Cycles with other outputs in each, by LRW as far as the slaves take part in it; and two by LWR and LRD alone.
-pub fn expect_cycles<L: Carrier + Drop>(
-    master: &mut Master<L>,
-    process: &Process,
-) -> Result<(), ScanError> {
-    let mut before = vec![in master.alloc(); 0u8; usize::try_from(process.next)?]?;
-    for cycle in 1..=ALL_CYCLES {
-        let outputs = process.image(cycle)?;
-        expect_cycle(master, process, cycle <= CYCLES, &outputs, &before)?;
-        before = outputs;
-    }
-    Ok(())
 }

@@ -34,62 +34,16 @@ const FOLLOWED: [u8; 2] = [0x31, 0x5A];
 
 const LAST: [u8; 2] = [0x11, 0x56];
 
-/// Counts the slaves, and writes what all of them take.
-fn expect_defaults<L: Carrier + Drop>(master: &mut Master<L>, count: u16) -> Result<(), ScanError> {
-    let types = master.read_all(0x0000, 1)?;
-    expect_count("slaves", usize::from(types.counter), usize::from(count))?;
-    expect_bytes("register", 0x0000, &types.bytes, &[0x11])?;
-    for (register, bytes, is_taken) in DEFAULTS {
-        let wanted = if is_taken { count } else { 0 };
-        let taken = master.write_all(register, bytes)?;
-        expect_number(
-            "taken by all",
-            u32::from(register),
-            u32::from(taken),
-            u32::from(wanted),
-        )?;
+/// The slaves of a segment of so many are counted, and each gets its address.
+pub fn expect_stations<L: Carrier + Drop>(
+    master: &mut Master<L>,
+    count: usize,
+) -> Result<(), ScanError> {
+    expect_defaults(master, u16::try_from(count)?)?;
+    for place in 0..count {
+        expect_station(master, place, place.saturating_add(1) == count)?;
     }
     Ok(())
-}
-
-/// A register of a slave shows these bytes.
-fn expect_shown<L: Carrier + Drop>(
-    master: &mut Master<L>,
-    station: u16,
-    register: u16,
-    bytes: &[u8],
-) -> Result<(), ScanError> {
-    let seen = master.read(station, register, bytes.len())?;
-    expect_number("read of", u32::from(register), u32::from(seen.counter), 1)?;
-    expect_bytes("register", u32::from(register), &seen.bytes, bytes)
-}
-
-/// A register of a slave takes these bytes and keeps them.
-fn expect_kept<L: Carrier + Drop>(
-    master: &mut Master<L>,
-    station: u16,
-    register: u16,
-    bytes: &[u8],
-) -> Result<(), ScanError> {
-    master.set(station, register, bytes)?;
-    expect_shown(master, station, register, bytes)
-}
-
-/// The slave at a place gets its station address.
-fn expect_address<L: Carrier + Drop>(
-    master: &mut Master<L>,
-    place: usize,
-) -> Result<u16, ScanError> {
-    let station = station_of(place)?;
-    let interface = master.read_place(place, 0x0140, 2)?;
-    expect_number("read of", 0x0140, u32::from(interface.counter), 1)?;
-    expect_bytes("register", 0x0140, &interface.bytes, &[0, 0])?;
-    let taken = master.write_place(place, 0x0010, &station.to_le_bytes())?;
-    expect_number("taken", 0x0010, u32::from(taken), 1)?;
-    let shown = master.read_place(place, 0x0010, 2)?;
-    expect_number("read of", 0x0010, u32::from(shown.counter), 1)?;
-    expect_bytes("register", 0x0010, &shown.bytes, &station.to_le_bytes())?;
-    Ok(station)
 }
 
 /// What the slave at a place shows and keeps, which has its address from now on.
@@ -114,14 +68,60 @@ fn expect_station<L: Carrier + Drop>(
     expect_kept(master, station, 0x0500, &[0])
 }
 
-/// The slaves of a segment of so many are counted, and each gets its address.
-pub fn expect_stations<L: Carrier + Drop>(
+/// The slave at a place gets its station address.
+fn expect_address<L: Carrier + Drop>(
     master: &mut Master<L>,
-    count: usize,
+    place: usize,
+) -> Result<u16, ScanError> {
+    let station = station_of(place)?;
+    let interface = master.read_place(place, 0x0140, 2)?;
+    expect_number("read of", 0x0140, u32::from(interface.counter), 1)?;
+    expect_bytes("register", 0x0140, &interface.bytes, &[0, 0])?;
+    let taken = master.write_place(place, 0x0010, &station.to_le_bytes())?;
+    expect_number("taken", 0x0010, u32::from(taken), 1)?;
+    let shown = master.read_place(place, 0x0010, 2)?;
+    expect_number("read of", 0x0010, u32::from(shown.counter), 1)?;
+    expect_bytes("register", 0x0010, &shown.bytes, &station.to_le_bytes())?;
+    Ok(station)
+}
+
+/// A register of a slave takes these bytes and keeps them.
+fn expect_kept<L: Carrier + Drop>(
+    master: &mut Master<L>,
+    station: u16,
+    register: u16,
+    bytes: &[u8],
 ) -> Result<(), ScanError> {
-    expect_defaults(master, u16::try_from(count)?)?;
-    for place in 0..count {
-        expect_station(master, place, place.saturating_add(1) == count)?;
+    master.set(station, register, bytes)?;
+    expect_shown(master, station, register, bytes)
+}
+
+/// A register of a slave shows these bytes.
+fn expect_shown<L: Carrier + Drop>(
+    master: &mut Master<L>,
+    station: u16,
+    register: u16,
+    bytes: &[u8],
+) -> Result<(), ScanError> {
+    let seen = master.read(station, register, bytes.len())?;
+    expect_number("read of", u32::from(register), u32::from(seen.counter), 1)?;
+    expect_bytes("register", u32::from(register), &seen.bytes, bytes)
+}
+
+/// Counts the slaves, and writes what all of them take.
+fn expect_defaults<L: Carrier + Drop>(master: &mut Master<L>, count: u16) -> Result<(), ScanError> {
+    let types = master.read_all(0x0000, 1)?;
+    expect_count("slaves", usize::from(types.counter), usize::from(count))?;
+    expect_bytes("register", 0x0000, &types.bytes, &[0x11])?;
+    for (register, bytes, is_taken) in DEFAULTS {
+        let wanted = if is_taken { count } else { 0 };
+        let taken = master.write_all(register, bytes)?;
+        expect_number(
+            "taken by all",
+            u32::from(register),
+            u32::from(taken),
+            u32::from(wanted),
+        )?;
     }
     Ok(())
 }

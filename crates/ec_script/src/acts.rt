@@ -21,20 +21,6 @@ pub fn variable_named(variables: &[VariableRow], name: &str) -> Option<usize>
         .position(|variable| variable.name.as_str() == name)
 }
 
-/// The place of the slave with a name.
-fn slave_named(slaves: &[SlaveRow], name: &str) -> Option<usize>
-    ensures { result ≡ slave_named slaves.now name.now }
-{
-    slaves.iter().position(|slave| slave.name.as_str() == name)
-}
-
-/// Whether a word is digits alone.
-fn is_digits(word: &str) -> bool
-    ensures { result ≡ list_all is_ascii_digit word.now }
-{
-    word.as_bytes().iter().all(|byte| byte.is_ascii_digit())
-}
-
 /// The place of the slave that a word names, by its number or by its name; digits alone are a number.
 #[tactic(auto, unfolding(crate::specs::Acts::slave_in))]
 pub fn slave_in(table: &Table, word: &str) -> Option<usize>
@@ -55,55 +41,63 @@ pub fn value_for(table: &Table, variable: usize, word: &str) -> Option<WrittenVa
     value_of(table.variables()[variable].bits, word)
 }
 
-/// A variable of the outputs becomes a value.
-fn set_act(variable: usize, value: WrittenValue) -> LineAction
-    ensures { result ≡ set_act variable value }
+/// What the words of a line stand for.
+pub fn act_of_words(table: &Table, words: &[&str]) -> Option<LineAction>
+    ensures { result ≡ act_of_words table.now (map (λ x. x.now) words.now) }
 {
-    match value {
-        WrittenValue::Number(value) => LineAction::One(Event::Set(variable, value)),
-        WrittenValue::Outside => LineAction::Never(variable),
-    }
-}
-
-/// A variable of the inputs becomes a value.
-fn input_act(variable: usize, value: WrittenValue) -> LineAction
-    ensures { result ≡ input_act variable value }
-{
-    match value {
-        WrittenValue::Number(value) => LineAction::Input(variable, value),
-        WrittenValue::Outside => LineAction::Never(variable),
-    }
-}
-
-/// What one word stands for.
-#[tactic(auto, unfolding(crate::specs::Acts::act_of_one))]
-fn act_of_one(verb: &str) -> Option<LineAction>
-    ensures { result ≡ act_of_one verb.now }
-{
-    match verb {
-        "start" => Some(LineAction::One(Event::StartNext)),
-        "begin" => Some(LineAction::One(Event::Begin)),
-        "close" => Some(LineAction::One(Event::Close)),
-        "ready" => Some(LineAction::Ready),
-        "cycle" => Some(LineAction::Cycle),
-        "show" => Some(LineAction::Show),
+    match words {
+        [verb] => act_of_one(verb),
+        [verb, a] => act_of_two(table, verb, a),
+        [verb, a, b] => act_of_three(table, verb, a, b),
+        [verb, a, b, c] => act_of_four(table, verb, a, b, c),
+        [verb, a, b, c, d] => act_of_five(table, verb, a, b, c, d),
         _ => None,
     }
 }
 
-/// What a word and one more stand for.
-#[tactic(auto, unfolding(crate::specs::Acts::act_of_two))]
-fn act_of_two(table: &Table, verb: &str, word: &str) -> Option<LineAction>
-    ensures { result ≡ act_of_two table.now verb.now word.now }
+/// Whether a word is digits alone.
+fn is_digits(word: &str) -> bool
+    ensures { result ≡ list_all is_ascii_digit word.now }
+{
+    word.as_bytes().iter().all(|byte| byte.is_ascii_digit())
+}
+
+/// The place of the slave with a name.
+fn slave_named(slaves: &[SlaveRow], name: &str) -> Option<usize>
+    ensures { result ≡ slave_named slaves.now name.now }
+{
+    slaves.iter().position(|slave| slave.name.as_str() == name)
+}
+
+/// What a word and four more stand for.
+#[tactic(auto, unfolding(crate::specs::Acts::act_of_five))]
+fn act_of_five(table: &Table, verb: &str, a: &str, b: &str, c: &str, d: &str) -> Option<LineAction>
+    ensures { result ≡ act_of_five table.now verb.now a.now b.now c.now d.now }
 {
     match verb {
-        "pass" => Some(LineAction::One(Event::Pass(number_of(word)? as usize))),
-        "lose" => Some(LineAction::One(Event::Lose(number_of(word)? as usize))),
-        "return" => Some(LineAction::One(Event::Return(number_of(word)? as usize))),
-        "serve" => Some(LineAction::One(Event::Serve(slave_in(table, word)?))),
-        "fault" => Some(LineAction::One(Event::Fault(slave_in(table, word)?))),
-        "reset" => Some(LineAction::One(Event::Reset(slave_in(table, word)?))),
-        "expect" => Some(LineAction::Expect(expected_by_one(word)?)),
+        "expect" => Some(LineAction::Expect(expected_by_four(table, a, b, c, d)?)),
+        _ => None,
+    }
+}
+
+/// What a word and three more stand for.
+#[tactic(auto, unfolding(crate::specs::Acts::act_of_four))]
+fn act_of_four(
+    table: &Table,
+    verb: &str,
+    first: &str,
+    second: &str,
+    third: &str,
+) -> Option<LineAction>
+    ensures { result ≡ act_of_four table.now verb.now first.now second.now third.now }
+{
+    match verb {
+        "put" => {
+            let slave = slave_in(table, first)?;
+            let place = number_of(second)? as usize;
+            Some(LineAction::One(Event::AppPut(slave, place, byte_of(third)?)))
+        }
+        "expect" => Some(LineAction::Expect(expected_by_three(table, first, second, third)?)),
         _ => None,
     }
 }
@@ -131,49 +125,55 @@ fn act_of_three(table: &Table, verb: &str, first: &str, second: &str) -> Option<
     }
 }
 
-/// What a word and three more stand for.
-#[tactic(auto, unfolding(crate::specs::Acts::act_of_four))]
-fn act_of_four(
-    table: &Table,
-    verb: &str,
-    first: &str,
-    second: &str,
-    third: &str,
-) -> Option<LineAction>
-    ensures { result ≡ act_of_four table.now verb.now first.now second.now third.now }
+/// What a word and one more stand for.
+#[tactic(auto, unfolding(crate::specs::Acts::act_of_two))]
+fn act_of_two(table: &Table, verb: &str, word: &str) -> Option<LineAction>
+    ensures { result ≡ act_of_two table.now verb.now word.now }
 {
     match verb {
-        "put" => {
-            let slave = slave_in(table, first)?;
-            let place = number_of(second)? as usize;
-            Some(LineAction::One(Event::AppPut(slave, place, byte_of(third)?)))
-        }
-        "expect" => Some(LineAction::Expect(expected_by_three(table, first, second, third)?)),
+        "pass" => Some(LineAction::One(Event::Pass(number_of(word)? as usize))),
+        "lose" => Some(LineAction::One(Event::Lose(number_of(word)? as usize))),
+        "return" => Some(LineAction::One(Event::Return(number_of(word)? as usize))),
+        "serve" => Some(LineAction::One(Event::Serve(slave_in(table, word)?))),
+        "fault" => Some(LineAction::One(Event::Fault(slave_in(table, word)?))),
+        "reset" => Some(LineAction::One(Event::Reset(slave_in(table, word)?))),
+        "expect" => Some(LineAction::Expect(expected_by_one(word)?)),
         _ => None,
     }
 }
 
-/// What a word and four more stand for.
-#[tactic(auto, unfolding(crate::specs::Acts::act_of_five))]
-fn act_of_five(table: &Table, verb: &str, a: &str, b: &str, c: &str, d: &str) -> Option<LineAction>
-    ensures { result ≡ act_of_five table.now verb.now a.now b.now c.now d.now }
+/// What one word stands for.
+#[tactic(auto, unfolding(crate::specs::Acts::act_of_one))]
+fn act_of_one(verb: &str) -> Option<LineAction>
+    ensures { result ≡ act_of_one verb.now }
 {
     match verb {
-        "expect" => Some(LineAction::Expect(expected_by_four(table, a, b, c, d)?)),
+        "start" => Some(LineAction::One(Event::StartNext)),
+        "begin" => Some(LineAction::One(Event::Begin)),
+        "close" => Some(LineAction::One(Event::Close)),
+        "ready" => Some(LineAction::Ready),
+        "cycle" => Some(LineAction::Cycle),
+        "show" => Some(LineAction::Show),
         _ => None,
     }
 }
 
-/// What the words of a line stand for.
-pub fn act_of_words(table: &Table, words: &[&str]) -> Option<LineAction>
-    ensures { result ≡ act_of_words table.now (map (λ x. x.now) words.now) }
+/// A variable of the inputs becomes a value.
+fn input_act(variable: usize, value: WrittenValue) -> LineAction
+    ensures { result ≡ input_act variable value }
 {
-    match words {
-        [verb] => act_of_one(verb),
-        [verb, a] => act_of_two(table, verb, a),
-        [verb, a, b] => act_of_three(table, verb, a, b),
-        [verb, a, b, c] => act_of_four(table, verb, a, b, c),
-        [verb, a, b, c, d] => act_of_five(table, verb, a, b, c, d),
-        _ => None,
+    match value {
+        WrittenValue::Number(value) => LineAction::Input(variable, value),
+        WrittenValue::Outside => LineAction::Never(variable),
+    }
+}
+
+/// A variable of the outputs becomes a value.
+fn set_act(variable: usize, value: WrittenValue) -> LineAction
+    ensures { result ≡ set_act variable value }
+{
+    match value {
+        WrittenValue::Number(value) => LineAction::One(Event::Set(variable, value)),
+        WrittenValue::Outside => LineAction::Never(variable),
     }
 }

@@ -9,39 +9,6 @@ use crate::words::{code_of, number_of};
 use ec_al::State;
 use ec_table::Table;
 
-/// A variable is a value.
-fn is_act(variable: usize, value: WrittenValue) -> Expectation
-    ensures { result ≡ is_act variable value }
-{
-    match value {
-        WrittenValue::Number(value) => Expectation::Is(variable, value),
-        WrittenValue::Outside => Expectation::Never(variable),
-    }
-}
-
-/// What the name of a variable and a value stand for.
-#[tactic(auto, unfolding(crate::specs::Acts::value_expected))]
-fn value_expected(table: &Table, name: &str, value: &str) -> Option<Expectation>
-    ensures { result ≡ value_expected table.now name.now value.now }
-{
-    let variable = variable_named(table.variables(), name)?;
-    Some(is_act(variable, value_for(table, variable, value)?))
-}
-
-/// The AL state with a name.
-#[tactic(auto, unfolding(crate::specs::Acts::state_named))]
-fn state_named(name: &str) -> Option<State>
-    ensures { result ≡ state_named name.now }
-{
-    match name {
-        "INIT" => Some(State::Init),
-        "PREOP" => Some(State::PreOp),
-        "SAFEOP" => Some(State::SafeOp),
-        "OP" => Some(State::Op),
-        _ => None,
-    }
-}
-
 /// What one word stands for.
 #[tactic(auto, unfolding(crate::specs::Acts::expected_by_one))]
 pub fn expected_by_one(word: &str) -> Option<Expectation>
@@ -106,5 +73,38 @@ pub fn expected_by_four(
             Some(Expectation::State(slave, state, Some(code_of(code)?)))
         }
         _ => None,
+    }
+}
+
+/// The AL state with a name.
+#[tactic(auto, unfolding(crate::specs::Acts::state_named))]
+fn state_named(name: &str) -> Option<State>
+    ensures { result ≡ state_named name.now }
+{
+    match name {
+        "INIT" => Some(State::Init),
+        "PREOP" => Some(State::PreOp),
+        "SAFEOP" => Some(State::SafeOp),
+        "OP" => Some(State::Op),
+        _ => None,
+    }
+}
+
+/// What the name of a variable and a value stand for.
+#[tactic(auto, unfolding(crate::specs::Acts::value_expected))]
+fn value_expected(table: &Table, name: &str, value: &str) -> Option<Expectation>
+    ensures { result ≡ value_expected table.now name.now value.now }
+{
+    let variable = variable_named(table.variables(), name)?;
+    Some(is_act(variable, value_for(table, variable, value)?))
+}
+
+/// A variable is a value.
+fn is_act(variable: usize, value: WrittenValue) -> Expectation
+    ensures { result ≡ is_act variable value }
+{
+    match value {
+        WrittenValue::Number(value) => Expectation::Is(variable, value),
+        WrittenValue::Outside => Expectation::Never(variable),
     }
 }

@@ -2,21 +2,18 @@
 ghost use Rattle.std.specs.Prelude.{◌≡◌, ◌<◌, length, drop, IfSome};
 ghost use Rattle.ec_script.specs.Halves.{Begins, Splits, divider_at, divider_in};
 
-/// How many bytes the line `%%` with its end has, where a text begins with that line.
-#[tactic(auto, using(crate::proofs::Halving::begins_if), unfolding(crate::specs::Halves::divider_in))]
-fn divider_in(text: &[u8]) -> Option<usize>
-    ensures value { result ≡ divider_in text.now }
-    ensures begins { IfSome result (Begins text.now) }
+/// A table and its script in one text: what stands before the first line `%%`, and what stands behind that line. A text
+/// without such a line is a table with an empty script.
+pub fn split_script(text: &str) -> (&str, &str)
+    ensures { Splits text.now result.0.now result.1.now }
 {
-    if text == b"%%".as_slice() {
-        Some(2)
-    } else if text.starts_with(b"%%\n") {
-        Some(3)
-    } else if text.starts_with(b"%%\r\n") {
-        Some(4)
-    } else {
-        None
+    let bytes = text.as_bytes();
+    for place in 0..bytes.len() {
+        if let Some(count) = divider_at(bytes, place) {
+            return (&text[..place], &text[place + count..]);
+        }
     }
+    (text, "")
 }
 
 /// The same at a place of a text, where a line has to begin.
@@ -33,16 +30,19 @@ fn divider_at(text: &[u8], place: usize) -> Option<usize>
     }
 }
 
-/// A table and its script in one text: what stands before the first line `%%`, and what stands behind that line. A text
-/// without such a line is a table with an empty script.
-pub fn split_script(text: &str) -> (&str, &str)
-    ensures { Splits text.now result.0.now result.1.now }
+/// How many bytes the line `%%` with its end has, where a text begins with that line.
+#[tactic(auto, using(crate::proofs::Halving::begins_if), unfolding(crate::specs::Halves::divider_in))]
+fn divider_in(text: &[u8]) -> Option<usize>
+    ensures value { result ≡ divider_in text.now }
+    ensures begins { IfSome result (Begins text.now) }
 {
-    let bytes = text.as_bytes();
-    for place in 0..bytes.len() {
-        if let Some(count) = divider_at(bytes, place) {
-            return (&text[..place], &text[place + count..]);
-        }
+    if text == b"%%".as_slice() {
+        Some(2)
+    } else if text.starts_with(b"%%\n") {
+        Some(3)
+    } else if text.starts_with(b"%%\r\n") {
+        Some(4)
+    } else {
+        None
     }
-    (text, "")
 }

@@ -38,13 +38,6 @@ pub fn is_of(variable: Variable, link: &Link) -> bool
     link.count <= bits - (link.image - variable.from)
 }
 
-/// Whether a link brings bits of a variable to a slave.
-fn is_to(variable: Variable, slave: usize, link: &Link) -> bool
-    ensures { result ≡ is_to variable slave link.now }
-{
-    link.slave == slave && is_of(variable, link)
-}
-
 /// What an address of a slave reads; 0 where there is none.
 pub fn slave_byte(world: &World<'_>, slave: usize, address: usize) -> u8
     ensures { result ≡ slave_byte world.now slave address }
@@ -58,73 +51,68 @@ pub fn slave_byte(world: &World<'_>, slave: usize, address: usize) -> u8
     }
 }
 
-/// Reads bytes of a slave from an address on.
-fn read_bytes(world: &World<'_>, slave: usize, start: u16, bytes: &mut [u8])
-    ensures { bytes.new ≡ bytes_from world.now slave start (length bytes.old) }
-{
-    for place in 0..bytes.len() {
-        bytes[place] = slave_byte(world, slave, usize::from(start) + place);
-    }
-}
-
-/// Changes the bits of a slave's inputs that links bring a value of a variable.
-fn change_bits(links: &[Link], variable: Variable, value: u64, slave: usize, bytes: &mut [u8])
-    requires few { variable.bits ≤ 64 }
-    requires inside { AllByRecursion (λ l. l.slave ≡ slave
-        → l.object_bit + l.count ≤ 8 * length bytes.old) links.now }
-    requires fits { 8 * length bytes.old < 2 ^ 64 }
-    ensures { bytes.new ≡ with_links variable value slave links.now bytes.old }
-{
-    for link in links {
-        if is_to(variable, slave, link) {
-            let from = link.image - variable.from;
-            copy_bits(
-                bytes,
-                link.object_bit,
-                &value.to_le_bytes(),
-                from,
-                link.count,
-            );
-        }
-    }
-}
-
-/// The application of a slave writes bytes of its inputs, one after another.
+/// A variable of the inputs becomes a value, as the plant has it: each slave with bits of it writes all its input bytes, these
+/// bits changed and all others as it published them last.
 #[tactic(auto, using(crate::proofs::Seeing::sees_none, crate::proofs::Seeing::sees_then))]
-fn put_bytes<S: Watcher>(
+pub fn put_input<S: Watcher>(
     world: &mut World<'_>,
     watcher: &mut S,
-    slave: usize,
-    bytes: &[u8],
+    variable: usize,
+    value: u64,
 ) -> LineOutput
-    ensures made { MakesAll (puts slave 0 bytes.now) world.old world.new result }
+    ensures made { RunsInput variable value world.old world.new result }
     ensures seen { Sees S.saw watcher.old world.old world.new watcher.new }
 {
-    let mut said = LineOutput::Nothing;
-    for (place, byte) in bytes.iter().enumerate() {
-        said = make(world, watcher, Event::AppPut(slave, place, *byte));
+    let plan = world.plan();
+    if !is_input_of(plan, variable, value) {
+        return LineOutput::No;
+    }
+    put_slaves(world, watcher, plan.variables()[variable], value)
+}
+
+/// Whether a link brings bits of a variable to a slave.
+fn is_to(variable: Variable, slave: usize, link: &Link) -> bool
+    ensures { result ≡ is_to variable slave link.now }
+{
+    link.slave == slave && is_of(variable, link)
+}
+
+/// Whether a variable is an input that holds a value.
+fn is_input_of(plan: &Plan, variable: usize, value: u64) -> bool
+    requires { IsUsable plan.now }
+    ensures { result ≡ is_input_of value (slice_get plan.now.variables variable) }
+{
+    if variable >= plan.variables().len() {
+        return false;
+    }
+    let row = plan.variables()[variable];
+    match row.direction {
+        Direction::Out => false,
+        Direction::In => is_short(row.bits, value),
+    }
+}
+
+/// The same of each slave in its turn.
+#[tactic(auto, using(crate::proofs::Seeing::sees_none, crate::proofs::Seeing::sees_then))]
+fn put_slaves<S: Watcher>(
+    world: &mut World<'_>,
+    watcher: &mut S,
+    variable: Variable,
+    value: u64,
+) -> LineOutput
+    requires { variable.bits ≤ 64 }
+    ensures made { MakesAll (puts_from world.old variable value 0 (length world.old.plan.slaves))
+        world.old world.new result }
+    ensures seen { Sees S.saw watcher.old world.old world.new watcher.new }
+{
+    let slaves = world.plan().slaves();
+    for slave in 0..slaves.len() {
+        let said = put_slave(world, watcher, variable, value, slave);
         if !said.is_done() {
             return said;
         }
     }
-    said
-}
-
-/// Whether some link brings bits of a variable to a slave.
-fn is_linked(links: &[Link], variable: Variable, slave: usize) -> bool
-    ensures { result ≡ list_any (is_to variable slave) links.now }
-{
-    links.iter().any(|link| is_to(variable, slave, link))
-}
-
-/// How many bytes of inputs a slave has, which its memory has room for.
-fn input_count(plan: &Plan, slave: usize) -> usize
-    requires usable { IsUsable plan.now }
-    requires there { slave < length plan.now.slaves }
-    ensures value { result ≡ bytes_of_bits (slave_at plan.now slave).share.ins }
-    ensures few { result ≤ 4096 }
-{
-    (plan.settings(slave).share.ins + 7) / 8
+    LineOutput::Nothing
 }
 
 /// The application of a slave writes all its input bytes with the bits of a variable changed, if it has any.
@@ -154,59 +142,71 @@ fn put_slave<S: Watcher>(
     put_bytes(world, watcher, slave, bytes)
 }
 
-/// The same of each slave in its turn.
+/// How many bytes of inputs a slave has, which its memory has room for.
+fn input_count(plan: &Plan, slave: usize) -> usize
+    requires usable { IsUsable plan.now }
+    requires there { slave < length plan.now.slaves }
+    ensures value { result ≡ bytes_of_bits (slave_at plan.now slave).share.ins }
+    ensures few { result ≤ 4096 }
+{
+    (plan.settings(slave).share.ins + 7) / 8
+}
+
+/// Whether some link brings bits of a variable to a slave.
+fn is_linked(links: &[Link], variable: Variable, slave: usize) -> bool
+    ensures { result ≡ list_any (is_to variable slave) links.now }
+{
+    links.iter().any(|link| is_to(variable, slave, link))
+}
+
+/// The application of a slave writes bytes of its inputs, one after another.
 #[tactic(auto, using(crate::proofs::Seeing::sees_none, crate::proofs::Seeing::sees_then))]
-fn put_slaves<S: Watcher>(
+fn put_bytes<S: Watcher>(
     world: &mut World<'_>,
     watcher: &mut S,
-    variable: Variable,
-    value: u64,
+    slave: usize,
+    bytes: &[u8],
 ) -> LineOutput
-    requires { variable.bits ≤ 64 }
-    ensures made { MakesAll (puts_from world.old variable value 0 (length world.old.plan.slaves))
-        world.old world.new result }
+    ensures made { MakesAll (puts slave 0 bytes.now) world.old world.new result }
     ensures seen { Sees S.saw watcher.old world.old world.new watcher.new }
 {
-    let slaves = world.plan().slaves();
-    for slave in 0..slaves.len() {
-        let said = put_slave(world, watcher, variable, value, slave);
+    let mut said = LineOutput::Nothing;
+    for (place, byte) in bytes.iter().enumerate() {
+        said = make(world, watcher, Event::AppPut(slave, place, *byte));
         if !said.is_done() {
             return said;
         }
     }
-    LineOutput::Nothing
+    said
 }
 
-/// Whether a variable is an input that holds a value.
-fn is_input_of(plan: &Plan, variable: usize, value: u64) -> bool
-    requires { IsUsable plan.now }
-    ensures { result ≡ is_input_of value (slice_get plan.now.variables variable) }
+/// Changes the bits of a slave's inputs that links bring a value of a variable.
+fn change_bits(links: &[Link], variable: Variable, value: u64, slave: usize, bytes: &mut [u8])
+    requires few { variable.bits ≤ 64 }
+    requires inside { AllByRecursion (λ l. l.slave ≡ slave
+        → l.object_bit + l.count ≤ 8 * length bytes.old) links.now }
+    requires fits { 8 * length bytes.old < 2 ^ 64 }
+    ensures { bytes.new ≡ with_links variable value slave links.now bytes.old }
 {
-    if variable >= plan.variables().len() {
-        return false;
-    }
-    let row = plan.variables()[variable];
-    match row.direction {
-        Direction::Out => false,
-        Direction::In => is_short(row.bits, value),
+    for link in links {
+        if is_to(variable, slave, link) {
+            let from = link.image - variable.from;
+            copy_bits(
+                bytes,
+                link.object_bit,
+                &value.to_le_bytes(),
+                from,
+                link.count,
+            );
+        }
     }
 }
 
-/// A variable of the inputs becomes a value, as the plant has it: each slave with bits of it writes all its input bytes, these
-/// bits changed and all others as it published them last.
-#[tactic(auto, using(crate::proofs::Seeing::sees_none, crate::proofs::Seeing::sees_then))]
-pub fn put_input<S: Watcher>(
-    world: &mut World<'_>,
-    watcher: &mut S,
-    variable: usize,
-    value: u64,
-) -> LineOutput
-    ensures made { RunsInput variable value world.old world.new result }
-    ensures seen { Sees S.saw watcher.old world.old world.new watcher.new }
+/// Reads bytes of a slave from an address on.
+fn read_bytes(world: &World<'_>, slave: usize, start: u16, bytes: &mut [u8])
+    ensures { bytes.new ≡ bytes_from world.now slave start (length bytes.old) }
 {
-    let plan = world.plan();
-    if !is_input_of(plan, variable, value) {
-        return LineOutput::No;
+    for place in 0..bytes.len() {
+        bytes[place] = slave_byte(world, slave, usize::from(start) + place);
     }
-    put_slaves(world, watcher, plan.variables()[variable], value)
 }

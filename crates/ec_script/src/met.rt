@@ -19,45 +19,90 @@ use ec_world::World;
 /// More bits than the memory of a slave has room for.
 const MAX_BITS: usize = 0x10000;
 
-/// Whether published outputs have the bits of a link of a variable, and they are those of a value.
-fn has_bits(variable: Variable, value: u64, link: &Link, outputs: &[u8]) -> bool
-    requires few { variable.bits ≤ 64 }
-    requires linked { is_of variable link.now ≡ true }
-    ensures { result ≡ has_bits variable value link.now outputs.now }
+/// Whether what a line expects of a world is so.
+pub fn is_met(world: &World<'_>, expected: Expectation) -> bool
+    ensures { result ≡ is_met expected world.now }
 {
-    if link.object_bit > MAX_BITS || link.count > MAX_BITS - link.object_bit {
-        return false;
+    match expected {
+        Expectation::Is(variable, value) => is_value(world, variable, value),
+        Expectation::Never(_) => false,
+        Expectation::Units(taken) => are_units(world, taken),
+        Expectation::Unit(number, taken) => has_unit(world, number, taken),
+        Expectation::State(slave, state, code) => {
+            is_in_state(world, slave, state) && has_code(world, slave, code)
+        }
+        Expectation::Ready => world.is_ready(),
+        Expectation::Failed(number) => is_failed(number, world.outcome()),
     }
-    let bytes = (link.object_bit + link.count + 7) / 8;
-    if bytes > outputs.len() {
-        return false;
-    }
-    let from = link.image - variable.from;
-    read_bits(outputs, link.object_bit, link.count)
-        == read_bits(&value.to_le_bytes(), from, link.count)
 }
 
-/// Whether the slave of a link publishes the bits of a value, if the link is one of the variable.
-fn is_published(world: &World<'_>, variable: Variable, value: u64, link: &Link) -> bool
-    requires { variable.bits ≤ 64 }
-    ensures { result ≡ is_published world.now variable value link.now }
+/// Whether a start-up has failed, by the refusal of a number if one is wanted.
+fn is_failed(number: Option<u64>, outcome: Option<Result<(), StartError>>) -> bool
+    ensures { result ≡ is_failed number outcome }
 {
-    if !is_of(variable, link) {
-        return true;
+    match (outcome, number) {
+        (Some(Err(error)), Some(number)) => u64::from(error.number()) == number,
+        (Some(Err(_)), None) => true,
+        _ => false,
     }
-    link.slave < world.slaves() && has_bits(variable, value, link, world.outputs(link.slave))
 }
 
-/// Whether slaves publish a value in all linked bits of a variable.
-fn is_output(world: &World<'_>, variable: Variable, value: u64) -> bool
-    requires { variable.bits ≤ 64 }
-    ensures { result ≡ list_all (is_published world.now variable value) world.now.plan.out_links }
+/// Whether a slave shows an AL status code, if one is wanted.
+fn has_code(world: &World<'_>, slave: usize, code: Option<u16>) -> bool
+    ensures { result ≡ has_code world.now slave code }
 {
-    world
-        .plan()
-        .out_links()
+    let low = u16::from(slave_byte(world, slave, AL_STATUS_CODE));
+    let high = u16::from(slave_byte(world, slave, AL_STATUS_CODE + 1));
+    match code {
+        None => true,
+        Some(code) => low + 256 * high == code,
+    }
+}
+
+/// Whether a slave is in an AL state, by its AL status.
+fn is_in_state(world: &World<'_>, slave: usize, state: State) -> bool
+    ensures { result ≡ is_in_state world.now slave state }
+{
+    let status = u16::from(slave_byte(world, slave, AL_STATUS));
+    slave < world.slaves() && status % 16 == state.number()
+}
+
+/// Whether a sync unit of the last report was taken, or was not.
+fn has_unit(world: &World<'_>, number: u64, taken: bool) -> bool
+    ensures { result ≡ of_report (is_unit number taken) world.now.report }
+{
+    match world.report() {
+        Some(report) => is_unit(number, taken, report),
+        None => false,
+    }
+}
+
+/// Whether every sync unit of the last report was taken, or each was not.
+fn are_units(world: &World<'_>, taken: bool) -> bool
+    ensures { result ≡ of_report (all_units taken) world.now.report }
+{
+    match world.report() {
+        Some(report) => all_units(taken, report),
+        None => false,
+    }
+}
+
+/// Whether a sync unit of a report was taken, or was not.
+fn is_unit(number: u64, taken: bool, report: &Report) -> bool
+    ensures { result ≡ is_unit number taken report.now }
+{
+    report
+        .units()
         .iter()
-        .all(|link| is_published(world, variable, value, link))
+        .zip(report.units_taken())
+        .any(|(unit, was)| u64::from(*unit) == number && *was == taken)
+}
+
+/// Whether every sync unit of a report was taken, or each was not.
+fn all_units(taken: bool, report: &Report) -> bool
+    ensures { result ≡ all_units taken report.now }
+{
+    report.units_taken().iter().all(|unit| *unit == taken)
 }
 
 /// Whether a variable is a value: an input in the process image, an output as slaves publish it.
@@ -75,88 +120,43 @@ fn is_value(world: &World<'_>, place: usize, value: u64) -> bool
     }
 }
 
-/// Whether every sync unit of a report was taken, or each was not.
-fn all_units(taken: bool, report: &Report) -> bool
-    ensures { result ≡ all_units taken report.now }
+/// Whether slaves publish a value in all linked bits of a variable.
+fn is_output(world: &World<'_>, variable: Variable, value: u64) -> bool
+    requires { variable.bits ≤ 64 }
+    ensures { result ≡ list_all (is_published world.now variable value) world.now.plan.out_links }
 {
-    report.units_taken().iter().all(|unit| *unit == taken)
-}
-
-/// Whether a sync unit of a report was taken, or was not.
-fn is_unit(number: u64, taken: bool, report: &Report) -> bool
-    ensures { result ≡ is_unit number taken report.now }
-{
-    report
-        .units()
+    world
+        .plan()
+        .out_links()
         .iter()
-        .zip(report.units_taken())
-        .any(|(unit, was)| u64::from(*unit) == number && *was == taken)
+        .all(|link| is_published(world, variable, value, link))
 }
 
-/// Whether every sync unit of the last report was taken, or each was not.
-fn are_units(world: &World<'_>, taken: bool) -> bool
-    ensures { result ≡ of_report (all_units taken) world.now.report }
+/// Whether the slave of a link publishes the bits of a value, if the link is one of the variable.
+fn is_published(world: &World<'_>, variable: Variable, value: u64, link: &Link) -> bool
+    requires { variable.bits ≤ 64 }
+    ensures { result ≡ is_published world.now variable value link.now }
 {
-    match world.report() {
-        Some(report) => all_units(taken, report),
-        None => false,
+    if !is_of(variable, link) {
+        return true;
     }
+    link.slave < world.slaves() && has_bits(variable, value, link, world.outputs(link.slave))
 }
 
-/// Whether a sync unit of the last report was taken, or was not.
-fn has_unit(world: &World<'_>, number: u64, taken: bool) -> bool
-    ensures { result ≡ of_report (is_unit number taken) world.now.report }
+/// Whether published outputs have the bits of a link of a variable, and they are those of a value.
+fn has_bits(variable: Variable, value: u64, link: &Link, outputs: &[u8]) -> bool
+    requires few { variable.bits ≤ 64 }
+    requires linked { is_of variable link.now ≡ true }
+    ensures { result ≡ has_bits variable value link.now outputs.now }
 {
-    match world.report() {
-        Some(report) => is_unit(number, taken, report),
-        None => false,
+    if link.object_bit > MAX_BITS || link.count > MAX_BITS - link.object_bit {
+        return false;
     }
-}
-
-/// Whether a slave is in an AL state, by its AL status.
-fn is_in_state(world: &World<'_>, slave: usize, state: State) -> bool
-    ensures { result ≡ is_in_state world.now slave state }
-{
-    let status = u16::from(slave_byte(world, slave, AL_STATUS));
-    slave < world.slaves() && status % 16 == state.number()
-}
-
-/// Whether a slave shows an AL status code, if one is wanted.
-fn has_code(world: &World<'_>, slave: usize, code: Option<u16>) -> bool
-    ensures { result ≡ has_code world.now slave code }
-{
-    let low = u16::from(slave_byte(world, slave, AL_STATUS_CODE));
-    let high = u16::from(slave_byte(world, slave, AL_STATUS_CODE + 1));
-    match code {
-        None => true,
-        Some(code) => low + 256 * high == code,
+    let bytes = (link.object_bit + link.count + 7) / 8;
+    if bytes > outputs.len() {
+        return false;
     }
-}
-
-/// Whether a start-up has failed, by the refusal of a number if one is wanted.
-fn is_failed(number: Option<u64>, outcome: Option<Result<(), StartError>>) -> bool
-    ensures { result ≡ is_failed number outcome }
-{
-    match (outcome, number) {
-        (Some(Err(error)), Some(number)) => u64::from(error.number()) == number,
-        (Some(Err(_)), None) => true,
-        _ => false,
-    }
-}
-
-/// Whether what a line expects of a world is so.
-pub fn is_met(world: &World<'_>, expected: Expectation) -> bool
-    ensures { result ≡ is_met expected world.now }
-{
-    match expected {
-        Expectation::Is(variable, value) => is_value(world, variable, value),
-        Expectation::Never(_) => false,
-        Expectation::Units(taken) => are_units(world, taken),
-        Expectation::Unit(number, taken) => has_unit(world, number, taken),
-        Expectation::State(slave, state, code) => {
-            is_in_state(world, slave, state) && has_code(world, slave, code)
-        }
-        Expectation::Ready => world.is_ready(),
-        Expectation::Failed(number) => is_failed(number, world.outcome()),
-    }
+    let from = link.image - variable.from;
+    read_bits(outputs, link.object_bit, link.count)
+        == read_bits(&value.to_le_bytes(), from, link.count)
 }

@@ -21,45 +21,6 @@ pub enum Reading {
     Line(Line),
 }
 
-/// What the words behind `repeat` stand for.
-fn repeated_line(table: &Table, number: usize, words: &[&str]) -> Option<Line>
-    ensures { result ≡ repeated_line table.now number (map (λ x. x.now) words.now) }
-{
-    let (count, words) = words.split_first()?;
-    let times = times_of(count)?;
-    let act = act_of_words(table, words)?;
-    Some(Line { number, times, act })
-}
-
-/// What words stand for as the line of a number.
-fn line_of_words(table: &Table, number: usize, words: &[&str]) -> Option<Line>
-    ensures { result ≡ line_of_words table.now number (map (λ x. x.now) words.now) }
-{
-    let (verb, rest) = words.split_first()?;
-    if *verb == "repeat" {
-        return repeated_line(table, number, rest);
-    }
-    let act = act_of_words(table, words)?;
-    Some(Line {
-        number,
-        times: 1,
-        act,
-    })
-}
-
-/// What a text stands for as the line of a number that isn't empty and has no comment.
-fn line_on(
-    alloc: Global,
-    table: &Table,
-    number: usize,
-    text: &str,
-) -> Result<Option<Line>, AllocError>
-    ensures { IfOk result (λ line. line ≡ line_on table.now number text.now) }
-{
-    let words = words_of(alloc, text)?;
-    Ok(line_of_words(table, number, words.as_slice()))
-}
-
 /// What the text of the line with a number is; its names are the table's.
 ///
 /// # Errors
@@ -103,4 +64,43 @@ pub fn read_script(alloc: Global, table: &Table, text: &str) -> Result<Listed<Li
         }
     }
     Ok(lines)
+}
+
+/// What a text stands for as the line of a number that isn't empty and has no comment.
+fn line_on(
+    alloc: Global,
+    table: &Table,
+    number: usize,
+    text: &str,
+) -> Result<Option<Line>, AllocError>
+    ensures { IfOk result (λ line. line ≡ line_on table.now number text.now) }
+{
+    let words = words_of(alloc, text)?;
+    Ok(line_of_words(table, number, words.as_slice()))
+}
+
+/// What words stand for as the line of a number.
+fn line_of_words(table: &Table, number: usize, words: &[&str]) -> Option<Line>
+    ensures { result ≡ line_of_words table.now number (map (λ x. x.now) words.now) }
+{
+    let (verb, rest) = words.split_first()?;
+    if *verb == "repeat" {
+        return repeated_line(table, number, rest);
+    }
+    let act = act_of_words(table, words)?;
+    Some(Line {
+        number,
+        times: 1,
+        act,
+    })
+}
+
+/// What the words behind `repeat` stand for.
+fn repeated_line(table: &Table, number: usize, words: &[&str]) -> Option<Line>
+    ensures { result ≡ repeated_line table.now number (map (λ x. x.now) words.now) }
+{
+    let (count, words) = words.split_first()?;
+    let times = times_of(count)?;
+    let act = act_of_words(table, words)?;
+    Some(Line { number, times, act })
 }

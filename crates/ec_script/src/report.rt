@@ -10,102 +10,6 @@ use ec_text::write_counter;
 use std::alloc::{AllocError, Global};
 use std::fmt::Write as _;
 
-/// Adds whether inputs were taken.
-fn write_taken(text: &mut String, taken: bool) -> Result<(), AllocError>
-    ensures { OnOk result (string_bytes text.new ≡ string_bytes text.old ++ taken_text taken) }
-{
-    if taken {
-        text.push_str(" taken")
-    } else {
-        text.push_str(" untaken")
-    }
-}
-
-/// Adds a unit, and whether its inputs were taken.
-fn write_unit(text: &mut String, taken: &[bool], place: usize, unit: u8) -> Result<(), AllocError>
-    ensures { OnOk result
-        (string_bytes text.new ≡ string_bytes text.old ++ unit_at taken.now place unit) }
-{
-    write!(text, " {unit}")?;
-    write_taken(text, taken.get(place).copied().unwrap_or(false))
-}
-
-/// Adds the units.
-#[tactic(auto, using(crate::proofs::Lines::line_steps))]
-fn write_unit_list(text: &mut String, units: &[u8], taken: &[bool]) -> Result<(), AllocError>
-    ensures { OnOk result
-        (string_bytes text.new ≡ string_bytes text.old ++ lines_from (unit_at taken.now) 0 units.now) }
-{
-    for (place, unit) in units.iter().enumerate() {
-        write_unit(text, taken, place, *unit)?;
-    }
-    Ok(())
-}
-
-/// Adds whether inputs were taken, unit by unit where the table's version has units.
-fn write_units(text: &mut String, version: Version, report: &Report) -> Result<(), AllocError>
-    ensures { OnOk result
-        (string_bytes text.new ≡ string_bytes text.old ++ units_text version report.now) }
-{
-    match version {
-        Version::One => write_taken(text, report.is_taken()),
-        Version::Two => write_unit_list(text, report.units(), report.units_taken()),
-    }
-}
-
-/// Adds the working counters of a part, if it was kept.
-fn write_kept(
-    text: &mut String,
-    part: &PartPlan,
-    counters: Option<ExpectedCounters>,
-) -> Result<(), AllocError>
-    ensures { OnOk result
-        (string_bytes text.new ≡ string_bytes text.old ++ kept_text part.now counters) }
-{
-    match counters {
-        None => text.push_str("-"),
-        Some(counters) => write_counter(text, part, counters),
-    }
-}
-
-/// Adds a blank and the working counters of a part.
-fn write_part(
-    text: &mut String,
-    counters: &[Option<ExpectedCounters>],
-    place: usize,
-    part: &PartPlan,
-) -> Result<(), AllocError>
-    ensures { OnOk result
-        (string_bytes text.new ≡ string_bytes text.old ++ counter_at counters.now place part.now) }
-{
-    text.push_str(" ")?;
-    write_kept(text, part, counters.get(place).copied().unwrap_or(None))
-}
-
-/// Adds the working counters of the parts.
-#[tactic(auto, using(crate::proofs::Lines::line_steps))]
-fn write_counters(
-    text: &mut String,
-    parts: &[PartPlan],
-    counters: &[Option<ExpectedCounters>],
-) -> Result<(), AllocError>
-    ensures { OnOk result (string_bytes text.new
-        ≡ string_bytes text.old ++ lines_from (counter_at counters.now) 0 parts.now) }
-{
-    for (place, part) in parts.iter().enumerate() {
-        write_part(text, counters, place, part)?;
-    }
-    Ok(())
-}
-
-/// Adds a word as four hex digits.
-fn write_word(alloc: Global, text: &mut String, word: u16) -> Result<(), AllocError>
-    ensures { OnOk result (string_bytes text.new ≡ string_bytes text.old ++ word_text word) }
-{
-    let digits = hex::encode(alloc, &[(word / 256) as u8, (word % 256) as u8])?;
-    text.push_str(digits.as_str())
-}
-
 /// Adds the line of a report on a cycle of a plan with these parts, by the version of its table. The error is want of memory.
 #[tactic(auto, using(crate::proofs::Adding::added), unfolding(crate::specs::Texts::report_text))]
 pub fn write_report(
@@ -126,4 +30,100 @@ pub fn write_report(
     text.push_str(" al ")?;
     write_word(alloc, text, report.al_word())?;
     text.push_str("\n")
+}
+
+/// Adds a word as four hex digits.
+fn write_word(alloc: Global, text: &mut String, word: u16) -> Result<(), AllocError>
+    ensures { OnOk result (string_bytes text.new ≡ string_bytes text.old ++ word_text word) }
+{
+    let digits = hex::encode(alloc, &[(word / 256) as u8, (word % 256) as u8])?;
+    text.push_str(digits.as_str())
+}
+
+/// Adds the working counters of the parts.
+#[tactic(auto, using(crate::proofs::Lines::line_steps))]
+fn write_counters(
+    text: &mut String,
+    parts: &[PartPlan],
+    counters: &[Option<ExpectedCounters>],
+) -> Result<(), AllocError>
+    ensures { OnOk result (string_bytes text.new
+        ≡ string_bytes text.old ++ lines_from (counter_at counters.now) 0 parts.now) }
+{
+    for (place, part) in parts.iter().enumerate() {
+        write_part(text, counters, place, part)?;
+    }
+    Ok(())
+}
+
+/// Adds a blank and the working counters of a part.
+fn write_part(
+    text: &mut String,
+    counters: &[Option<ExpectedCounters>],
+    place: usize,
+    part: &PartPlan,
+) -> Result<(), AllocError>
+    ensures { OnOk result
+        (string_bytes text.new ≡ string_bytes text.old ++ counter_at counters.now place part.now) }
+{
+    text.push_str(" ")?;
+    write_kept(text, part, counters.get(place).copied().unwrap_or(None))
+}
+
+/// Adds the working counters of a part, if it was kept.
+fn write_kept(
+    text: &mut String,
+    part: &PartPlan,
+    counters: Option<ExpectedCounters>,
+) -> Result<(), AllocError>
+    ensures { OnOk result
+        (string_bytes text.new ≡ string_bytes text.old ++ kept_text part.now counters) }
+{
+    match counters {
+        None => text.push_str("-"),
+        Some(counters) => write_counter(text, part, counters),
+    }
+}
+
+/// Adds whether inputs were taken, unit by unit where the table's version has units.
+fn write_units(text: &mut String, version: Version, report: &Report) -> Result<(), AllocError>
+    ensures { OnOk result
+        (string_bytes text.new ≡ string_bytes text.old ++ units_text version report.now) }
+{
+    match version {
+        Version::One => write_taken(text, report.is_taken()),
+        Version::Two => write_unit_list(text, report.units(), report.units_taken()),
+    }
+}
+
+/// Adds the units.
+#[tactic(auto, using(crate::proofs::Lines::line_steps))]
+fn write_unit_list(text: &mut String, units: &[u8], taken: &[bool]) -> Result<(), AllocError>
+    ensures { OnOk result
+        (string_bytes text.new ≡ string_bytes text.old ++ lines_from (unit_at taken.now) 0 units.now) }
+{
+    for (place, unit) in units.iter().enumerate() {
+        write_unit(text, taken, place, *unit)?;
+    }
+    Ok(())
+}
+
+/// Adds a unit, and whether its inputs were taken.
+fn write_unit(text: &mut String, taken: &[bool], place: usize, unit: u8) -> Result<(), AllocError>
+    ensures { OnOk result
+        (string_bytes text.new ≡ string_bytes text.old ++ unit_at taken.now place unit) }
+{
+    write!(text, " {unit}")?;
+    write_taken(text, taken.get(place).copied().unwrap_or(false))
+}
+
+/// Adds whether inputs were taken.
+fn write_taken(text: &mut String, taken: bool) -> Result<(), AllocError>
+    ensures { OnOk result (string_bytes text.new ≡ string_bytes text.old ++ taken_text taken) }
+{
+    if taken {
+        text.push_str(" taken")
+    } else {
+        text.push_str(" untaken")
+    }
 }

@@ -29,138 +29,6 @@ pub fn make<S: Watcher>(world: &mut World<'_>, watcher: &mut S, event: Event) ->
     }
 }
 
-/// The greatest number of the frames on their way; 0 without one.
-fn newest(world: &World<'_>) -> u64
-    ensures { result ≡ greatest world.now.slots }
-{
-    let mut newest: u64 = 0;
-    for slot in 0..world.slots() {
-        newest = newest.max(world.slot(slot).unwrap_or(0));
-    }
-    newest
-}
-
-/// Whether a slot holds a frame of a number.
-fn holds(world: &World<'_>, slot: usize, number: u64) -> bool
-    ensures { result ≡ has_number number (flight_at world.now slot) }
-{
-    match world.slot(slot) {
-        Some(held) => held == number,
-        None => false,
-    }
-}
-
-/// The frame in a slot passes so many slaves, up to one that it can't pass.
-#[tactic(auto, using(crate::proofs::Seeing::sees_none, crate::proofs::Seeing::sees_made, crate::proofs::Seeing::sees_then))]
-fn pass_slaves<S: Watcher>(
-    world: &mut World<'_>,
-    watcher: &mut S,
-    slot: usize,
-    slaves: usize,
-) -> LineOutput
-    ensures made { MakesAll (replicate slaves (Event.Pass slot)) world.old world.new result }
-    ensures seen { Sees S.saw watcher.old world.old world.new watcher.new }
-{
-    let mut said = LineOutput::Nothing;
-    for _ in 0..slaves {
-        said = make(world, watcher, Event::Pass(slot));
-        if !said.is_done() {
-            return said;
-        }
-    }
-    said
-}
-
-/// So many slaves make a firmware step, each in its turn.
-#[tactic(auto, using(crate::proofs::Seeing::sees_none, crate::proofs::Seeing::sees_made, crate::proofs::Seeing::sees_then))]
-fn serve_slaves<S: Watcher>(world: &mut World<'_>, watcher: &mut S, slaves: usize) -> LineOutput
-    ensures made { MakesAll (servings 0 slaves) world.old world.new result }
-    ensures seen { Sees S.saw watcher.old world.old world.new watcher.new }
-{
-    let mut said = LineOutput::Nothing;
-    for slave in 0..slaves {
-        said = make(world, watcher, Event::Serve(slave));
-        if !said.is_done() {
-            return said;
-        }
-    }
-    said
-}
-
-/// The same, if they are to.
-#[tactic(auto, using(crate::proofs::Seeing::sees_none, crate::proofs::Seeing::sees_made, crate::proofs::Seeing::sees_then))]
-fn serve_if<S: Watcher>(
-    world: &mut World<'_>,
-    watcher: &mut S,
-    slaves: usize,
-    serving: bool,
-) -> LineOutput
-    ensures made { MakesAll (if serving then servings 0 slaves else []) world.old world.new result }
-    ensures seen { Sees S.saw watcher.old world.old world.new watcher.new }
-{
-    if serving {
-        serve_slaves(world, watcher, slaves)
-    } else {
-        LineOutput::Nothing
-    }
-}
-
-/// The frame in a slot passes so many slaves, which make a firmware step if `serving` says so, and comes back.
-#[tactic(auto, using(crate::proofs::Seeing::sees_none, crate::proofs::Seeing::sees_made, crate::proofs::Seeing::sees_then))]
-fn go_round<S: Watcher>(
-    world: &mut World<'_>,
-    watcher: &mut S,
-    slot: usize,
-    slaves: usize,
-    serving: bool,
-) -> LineOutput
-    ensures made { MakesAll (round_events slaves serving slot) world.old world.new result }
-    ensures seen { Sees S.saw watcher.old world.old world.new watcher.new }
-{
-    let passed = pass_slaves(world, watcher, slot, slaves);
-    if !passed.is_done() {
-        return passed;
-    }
-    let served = serve_if(world, watcher, slaves, serving);
-    if !served.is_done() {
-        return served;
-    }
-    make(world, watcher, Event::Return(slot))
-}
-
-/// The newest frames go round, one after another in the order of their slots.
-#[tactic(auto, using(crate::proofs::Seeing::sees_none, crate::proofs::Seeing::sees_made, crate::proofs::Seeing::sees_then))]
-fn go_rounds<S: Watcher>(world: &mut World<'_>, watcher: &mut S, serving: bool) -> LineOutput
-    ensures made { MakesAll (rounds_found serving world.old) world.old world.new result }
-    ensures seen { Sees S.saw watcher.old world.old world.new watcher.new }
-{
-    let slaves = world.slaves();
-    let number = newest(world);
-    let mut said = LineOutput::Nothing;
-    for slot in 0..world.slots() {
-        if holds(world, slot, number) {
-            said = go_round(world, watcher, slot, slaves, serving);
-            if !said.is_done() {
-                return said;
-            }
-        }
-    }
-    said
-}
-
-/// One frame of a start-up is sent and goes round.
-#[tactic(auto, using(crate::proofs::Seeing::sees_none, crate::proofs::Seeing::sees_made, crate::proofs::Seeing::sees_then))]
-fn take_turn<S: Watcher>(world: &mut World<'_>, watcher: &mut S) -> LineOutput
-    ensures made { RunsTurn world.old world.new result }
-    ensures seen { Sees S.saw watcher.old world.old world.new watcher.new }
-{
-    let sent = make(world, watcher, Event::StartNext);
-    if !sent.is_done() {
-        return sent;
-    }
-    go_rounds(world, watcher, true)
-}
-
 /// Frames of a start-up are sent and go round, until it has ended.
 #[tactic(auto, using(crate::proofs::Seeing::sees_none, crate::proofs::Seeing::sees_made, crate::proofs::Seeing::sees_then))]
 pub fn start_up<S: Watcher>(world: &mut World<'_>, watcher: &mut S) -> LineOutput
@@ -194,4 +62,136 @@ pub fn run_cycle<S: Watcher>(world: &mut World<'_>, watcher: &mut S) -> LineOutp
         return back;
     }
     make(world, watcher, Event::Close)
+}
+
+/// One frame of a start-up is sent and goes round.
+#[tactic(auto, using(crate::proofs::Seeing::sees_none, crate::proofs::Seeing::sees_made, crate::proofs::Seeing::sees_then))]
+fn take_turn<S: Watcher>(world: &mut World<'_>, watcher: &mut S) -> LineOutput
+    ensures made { RunsTurn world.old world.new result }
+    ensures seen { Sees S.saw watcher.old world.old world.new watcher.new }
+{
+    let sent = make(world, watcher, Event::StartNext);
+    if !sent.is_done() {
+        return sent;
+    }
+    go_rounds(world, watcher, true)
+}
+
+/// The newest frames go round, one after another in the order of their slots.
+#[tactic(auto, using(crate::proofs::Seeing::sees_none, crate::proofs::Seeing::sees_made, crate::proofs::Seeing::sees_then))]
+fn go_rounds<S: Watcher>(world: &mut World<'_>, watcher: &mut S, serving: bool) -> LineOutput
+    ensures made { MakesAll (rounds_found serving world.old) world.old world.new result }
+    ensures seen { Sees S.saw watcher.old world.old world.new watcher.new }
+{
+    let slaves = world.slaves();
+    let number = newest(world);
+    let mut said = LineOutput::Nothing;
+    for slot in 0..world.slots() {
+        if holds(world, slot, number) {
+            said = go_round(world, watcher, slot, slaves, serving);
+            if !said.is_done() {
+                return said;
+            }
+        }
+    }
+    said
+}
+
+/// The frame in a slot passes so many slaves, which make a firmware step if `serving` says so, and comes back.
+#[tactic(auto, using(crate::proofs::Seeing::sees_none, crate::proofs::Seeing::sees_made, crate::proofs::Seeing::sees_then))]
+fn go_round<S: Watcher>(
+    world: &mut World<'_>,
+    watcher: &mut S,
+    slot: usize,
+    slaves: usize,
+    serving: bool,
+) -> LineOutput
+    ensures made { MakesAll (round_events slaves serving slot) world.old world.new result }
+    ensures seen { Sees S.saw watcher.old world.old world.new watcher.new }
+{
+    let passed = pass_slaves(world, watcher, slot, slaves);
+    if !passed.is_done() {
+        return passed;
+    }
+    let served = serve_if(world, watcher, slaves, serving);
+    if !served.is_done() {
+        return served;
+    }
+    make(world, watcher, Event::Return(slot))
+}
+
+/// The same, if they are to.
+#[tactic(auto, using(crate::proofs::Seeing::sees_none, crate::proofs::Seeing::sees_made, crate::proofs::Seeing::sees_then))]
+fn serve_if<S: Watcher>(
+    world: &mut World<'_>,
+    watcher: &mut S,
+    slaves: usize,
+    serving: bool,
+) -> LineOutput
+    ensures made { MakesAll (if serving then servings 0 slaves else []) world.old world.new result }
+    ensures seen { Sees S.saw watcher.old world.old world.new watcher.new }
+{
+    if serving {
+        serve_slaves(world, watcher, slaves)
+    } else {
+        LineOutput::Nothing
+    }
+}
+
+/// So many slaves make a firmware step, each in its turn.
+#[tactic(auto, using(crate::proofs::Seeing::sees_none, crate::proofs::Seeing::sees_made, crate::proofs::Seeing::sees_then))]
+fn serve_slaves<S: Watcher>(world: &mut World<'_>, watcher: &mut S, slaves: usize) -> LineOutput
+    ensures made { MakesAll (servings 0 slaves) world.old world.new result }
+    ensures seen { Sees S.saw watcher.old world.old world.new watcher.new }
+{
+    let mut said = LineOutput::Nothing;
+    for slave in 0..slaves {
+        said = make(world, watcher, Event::Serve(slave));
+        if !said.is_done() {
+            return said;
+        }
+    }
+    said
+}
+
+/// The frame in a slot passes so many slaves, up to one that it can't pass.
+#[tactic(auto, using(crate::proofs::Seeing::sees_none, crate::proofs::Seeing::sees_made, crate::proofs::Seeing::sees_then))]
+fn pass_slaves<S: Watcher>(
+    world: &mut World<'_>,
+    watcher: &mut S,
+    slot: usize,
+    slaves: usize,
+) -> LineOutput
+    ensures made { MakesAll (replicate slaves (Event.Pass slot)) world.old world.new result }
+    ensures seen { Sees S.saw watcher.old world.old world.new watcher.new }
+{
+    let mut said = LineOutput::Nothing;
+    for _ in 0..slaves {
+        said = make(world, watcher, Event::Pass(slot));
+        if !said.is_done() {
+            return said;
+        }
+    }
+    said
+}
+
+/// Whether a slot holds a frame of a number.
+fn holds(world: &World<'_>, slot: usize, number: u64) -> bool
+    ensures { result ≡ has_number number (flight_at world.now slot) }
+{
+    match world.slot(slot) {
+        Some(held) => held == number,
+        None => false,
+    }
+}
+
+/// The greatest number of the frames on their way; 0 without one.
+fn newest(world: &World<'_>) -> u64
+    ensures { result ≡ greatest world.now.slots }
+{
+    let mut newest: u64 = 0;
+    for slot in 0..world.slots() {
+        newest = newest.max(world.slot(slot).unwrap_or(0));
+    }
+    newest
 }

@@ -23,17 +23,6 @@ use ec_table::Table;
 use ec_world::{Unwatched, Watcher, World};
 use std::alloc::{AllocError, Global};
 
-/// What there is to say where something is expected of a world.
-fn expect(world: &World<'_>, expected: Expectation) -> LineOutput
-    ensures { result ≡ said_if (is_met expected world.now) }
-{
-    if is_met(world, expected) {
-        LineOutput::Nothing
-    } else {
-        LineOutput::Unmet
-    }
-}
-
 /// Does what a line asks for, as [`do_act`] does; its events are made by a watcher, which may keep what it sees of them.
 #[tactic(auto, using(crate::proofs::Plans::act_keeps, crate::proofs::Running::lines_run, crate::proofs::Seeing::sees_none))]
 pub fn watch_act<S: Watcher>(world: &mut World<'_>, watcher: &mut S, act: LineAction) -> LineOutput
@@ -88,4 +77,15 @@ pub fn run_line(
 {
     let said = do_act(world, line.act);
     output_text(alloc, world, table, line.number, said)
+}
+
+/// What there is to say where something is expected of a world.
+fn expect(world: &World<'_>, expected: Expectation) -> LineOutput
+    ensures { result ≡ said_if (is_met expected world.now) }
+{
+    if is_met(world, expected) {
+        LineOutput::Nothing
+    } else {
+        LineOutput::Unmet
+    }
 }

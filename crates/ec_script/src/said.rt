@@ -56,36 +56,6 @@ impl LineOutput {
     }
 }
 
-/// Adds the line of the byte that an application read, if one did.
-fn write_byte(alloc: Global, text: &mut String, byte: Option<u8>) -> Result<(), AllocError>
-    ensures { OnOk result (string_bytes text.new ≡ string_bytes text.old ++ byte_text byte) }
-{
-    match byte {
-        None => Ok(()),
-        Some(byte) => {
-            let digits = hex::encode(alloc, &[byte])?;
-            writeln!(text, "byte {digits}")
-        }
-    }
-}
-
-/// Adds the line of how a start-up ended, if it has.
-fn write_outcome(
-    text: &mut String,
-    outcome: Option<Result<(), StartError>>,
-) -> Result<(), AllocError>
-    ensures { OnOk result (string_bytes text.new ≡ string_bytes text.old ++ outcome_text outcome) }
-{
-    match outcome {
-        None => Ok(()),
-        Some(Ok(())) => text.push_str("ready\n"),
-        Some(Err(error)) => {
-            let number = error.number();
-            writeln!(text, "failed {number}")
-        }
-    }
-}
-
 /// What a variable is now; 0 where the world has no such variable.
 pub fn value_of(world: &World<'_>, place: usize) -> u64
     ensures { result ≡ value_at world.now.master (slice_get world.now.master.plan.variables place) }
@@ -94,57 +64,6 @@ pub fn value_of(world: &World<'_>, place: usize) -> u64
         world.input(place)
     } else {
         0
-    }
-}
-
-/// Adds the line of a variable, if it is an input.
-fn write_value(
-    text: &mut String,
-    world: &World<'_>,
-    place: usize,
-    row: &VariableRow,
-) -> Result<(), AllocError>
-    ensures { OnOk result
-        (string_bytes text.new ≡ string_bytes text.old ++ value_line world.now place row.now) }
-{
-    match row.direction {
-        Direction::Out => Ok(()),
-        Direction::In => {
-            let (name, value) = (row.name.as_str(), value_of(world, place));
-            writeln!(text, "{name} {value}")
-        }
-    }
-}
-
-/// Adds the lines of the input variables.
-#[tactic(auto, using(crate::proofs::Lines::line_steps))]
-fn write_values(
-    text: &mut String,
-    world: &World<'_>,
-    rows: &[VariableRow],
-) -> Result<(), AllocError>
-    ensures { OnOk result (string_bytes text.new
-        ≡ string_bytes text.old ++ lines_from (value_line world.now) 0 rows.now) }
-{
-    for (place, row) in rows.iter().enumerate() {
-        write_value(text, world, place, row)?;
-    }
-    Ok(())
-}
-
-/// Adds the report on the last cycle that was closed, if one was.
-fn write_last_report(
-    alloc: Global,
-    text: &mut String,
-    version: Version,
-    world: &World<'_>,
-) -> Result<(), AllocError>
-    ensures { OnOk result (string_bytes text.new
-        ≡ string_bytes text.old ++ last_report_text version world.now) }
-{
-    match world.report() {
-        None => Ok(()),
-        Some(report) => write_report(alloc, text, version, world.plan().parts(), report),
     }
 }
 
@@ -171,4 +90,85 @@ pub fn output_text(
         LineOutput::Values => write_values(&mut text, world, table.variables())?,
     }
     Ok(text)
+}
+
+/// Adds the line of how a start-up ended, if it has.
+fn write_outcome(
+    text: &mut String,
+    outcome: Option<Result<(), StartError>>,
+) -> Result<(), AllocError>
+    ensures { OnOk result (string_bytes text.new ≡ string_bytes text.old ++ outcome_text outcome) }
+{
+    match outcome {
+        None => Ok(()),
+        Some(Ok(())) => text.push_str("ready\n"),
+        Some(Err(error)) => {
+            let number = error.number();
+            writeln!(text, "failed {number}")
+        }
+    }
+}
+
+/// Adds the line of the byte that an application read, if one did.
+fn write_byte(alloc: Global, text: &mut String, byte: Option<u8>) -> Result<(), AllocError>
+    ensures { OnOk result (string_bytes text.new ≡ string_bytes text.old ++ byte_text byte) }
+{
+    match byte {
+        None => Ok(()),
+        Some(byte) => {
+            let digits = hex::encode(alloc, &[byte])?;
+            writeln!(text, "byte {digits}")
+        }
+    }
+}
+
+/// Adds the report on the last cycle that was closed, if one was.
+fn write_last_report(
+    alloc: Global,
+    text: &mut String,
+    version: Version,
+    world: &World<'_>,
+) -> Result<(), AllocError>
+    ensures { OnOk result (string_bytes text.new
+        ≡ string_bytes text.old ++ last_report_text version world.now) }
+{
+    match world.report() {
+        None => Ok(()),
+        Some(report) => write_report(alloc, text, version, world.plan().parts(), report),
+    }
+}
+
+/// Adds the lines of the input variables.
+#[tactic(auto, using(crate::proofs::Lines::line_steps))]
+fn write_values(
+    text: &mut String,
+    world: &World<'_>,
+    rows: &[VariableRow],
+) -> Result<(), AllocError>
+    ensures { OnOk result (string_bytes text.new
+        ≡ string_bytes text.old ++ lines_from (value_line world.now) 0 rows.now) }
+{
+    for (place, row) in rows.iter().enumerate() {
+        write_value(text, world, place, row)?;
+    }
+    Ok(())
+}
+
+/// Adds the line of a variable, if it is an input.
+fn write_value(
+    text: &mut String,
+    world: &World<'_>,
+    place: usize,
+    row: &VariableRow,
+) -> Result<(), AllocError>
+    ensures { OnOk result
+        (string_bytes text.new ≡ string_bytes text.old ++ value_line world.now place row.now) }
+{
+    match row.direction {
+        Direction::Out => Ok(()),
+        Direction::In => {
+            let (name, value) = (row.name.as_str(), value_of(world, place));
+            writeln!(text, "{name} {value}")
+        }
+    }
 }

@@ -24,13 +24,15 @@ pub fn hex_of(word: &str) -> Option<u64>
     u64::from_str_radix(word, 16).ok()
 }
 
-/// The number that a word writes without a sign: decimal digits, or `0x` and hex digits.
-fn plain_of(word: &str) -> Option<u64>
-    ensures { result ≡ plain_of word.now }
+/// The value that a word writes for a variable of so many bits: a number, or `-` and decimal digits.
+pub fn value_of(bits: u8, word: &str) -> Option<WrittenValue>
+    requires some { 1 ≤ bits }
+    requires few { bits ≤ 64 }
+    ensures { result ≡ value_of bits word.now }
 {
-    match word.strip_prefix("0x") {
-        Some(digits) => hex_of(digits),
-        None => number_of(word),
+    match word.strip_prefix('-') {
+        Some(digits) => Some(negative_of(bits, number_of(digits)?)),
+        None => Some(WrittenValue::Number(plain_of(word)?)),
     }
 }
 
@@ -50,14 +52,12 @@ fn negative_of(bits: u8, n: u64) -> WrittenValue
     }
 }
 
-/// The value that a word writes for a variable of so many bits: a number, or `-` and decimal digits.
-pub fn value_of(bits: u8, word: &str) -> Option<WrittenValue>
-    requires some { 1 ≤ bits }
-    requires few { bits ≤ 64 }
-    ensures { result ≡ value_of bits word.now }
+/// The number that a word writes without a sign: decimal digits, or `0x` and hex digits.
+fn plain_of(word: &str) -> Option<u64>
+    ensures { result ≡ plain_of word.now }
 {
-    match word.strip_prefix('-') {
-        Some(digits) => Some(negative_of(bits, number_of(digits)?)),
-        None => Some(WrittenValue::Number(plain_of(word)?)),
+    match word.strip_prefix("0x") {
+        Some(digits) => hex_of(digits),
+        None => number_of(word),
     }
 }

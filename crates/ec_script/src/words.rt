@@ -13,13 +13,6 @@ pub fn lines_of<'a>(alloc: Global, text: &'a str) -> Result<Vec<&'a str>, AllocE
     text.lines().collect(alloc)
 }
 
-/// A text without the blanks at its end.
-fn without_end_blanks(text: &str) -> &str
-    ensures { result.now ≡ without_end_blanks text.now }
-{
-    text.trim_end_matches(' ')
-}
-
 /// A line without its comment, which is from a `#` on, and the blanks before it.
 pub fn uncommented(line: &str) -> &str
     ensures { result.now ≡ uncommented line.now }
@@ -74,4 +67,11 @@ pub fn times_of(word: &str) -> Option<u32>
         return None;
     }
     Some(times as u32)
+}
+
+/// A text without the blanks at its end.
+fn without_end_blanks(text: &str) -> &str
+    ensures { result.now ≡ without_end_blanks text.now }
+{
+    text.trim_end_matches(' ')
 }

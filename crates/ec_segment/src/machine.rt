@@ -13,26 +13,6 @@ use ec_table::{Table, read_table};
 use std::alloc::Global;
 use std::io::Read;
 
-/// The slaves of a table that was read, as they are switched on.
-fn slaves_of_table(alloc: Global, table: &Table) -> Result<Ring, Refusal>
-    ensures slaves { IfOk result (HasSlaves table.now) }
-    ensures refused { IfErr result (IsLinkRefusal table.now) }
-{
-    let plan = compile(alloc, table)?;
-    Ok(slaves_of(alloc, table, &plan)?)
-}
-
-/// The slaves of the table that the text states, full or as it states them, as they are switched on.
-#[tactic(auto, using(crate::proofs::SegmentLemmas::if_states))]
-fn slaves_of_text(alloc: Global, text: &str, full: bool) -> Result<Ring, Refusal>
-    ensures slaves { IfOk result (StatesSlaves full text.now) }
-    ensures refused { IfErr result (IsTableRefusal text.now) }
-{
-    let mut table = read_table(alloc, text)?;
-    table.show_as(full);
-    slaves_of_table(alloc, &table)
-}
-
 /// The slaves of the table that the input states, full or as it states them, as they are switched on. A
 /// refusal of the table is explained, where that is wanted.
 #[tactic(auto, using(crate::proofs::SegmentLemmas::if_gives))]
@@ -52,4 +32,24 @@ pub(crate) fn slaves_of_input<R: Read>(
         behind.explain(alloc, text.as_str(), refusal);
     }
     made
+}
+
+/// The slaves of the table that the text states, full or as it states them, as they are switched on.
+#[tactic(auto, using(crate::proofs::SegmentLemmas::if_states))]
+fn slaves_of_text(alloc: Global, text: &str, full: bool) -> Result<Ring, Refusal>
+    ensures slaves { IfOk result (StatesSlaves full text.now) }
+    ensures refused { IfErr result (IsTableRefusal text.now) }
+{
+    let mut table = read_table(alloc, text)?;
+    table.show_as(full);
+    slaves_of_table(alloc, &table)
+}
+
+/// The slaves of a table that was read, as they are switched on.
+fn slaves_of_table(alloc: Global, table: &Table) -> Result<Ring, Refusal>
+    ensures slaves { IfOk result (HasSlaves table.now) }
+    ensures refused { IfErr result (IsLinkRefusal table.now) }
+{
+    let plan = compile(alloc, table)?;
+    Ok(slaves_of(alloc, table, &plan)?)
 }

@@ -23,47 +23,6 @@ use std::time::{Clock, Duration};
 /// As many bytes as one of these lines may have.
 const LINE_SIZE: usize = 80;
 
-/// The line that says where a segment listens.
-fn listening(port: u16) -> ArrayString<LINE_SIZE>
-    ensures { result.bytes ≡ listening_line port }
-{
-    let mut line = ArrayString::new();
-    line.push_str("ecat: listening on 127.0.0.1:");
-    push_number(&mut line, u64::from(port));
-    line.push_str("\n");
-    line
-}
-
-/// The line that says how many payloads were answered, and how many not.
-fn served(counts: Served) -> ArrayString<LINE_SIZE>
-    ensures { result.bytes ≡ served_line counts.answered counts.refused }
-{
-    let mut line = ArrayString::new();
-    line.push_str("served ");
-    push_number(&mut line, u64::from(counts.answered));
-    line.push_str(" refused ");
-    push_number(&mut line, u64::from(counts.refused));
-    line.push_str("\n");
-    line
-}
-
-/// Tells where a segment listens. A fault in telling it changes nothing.
-fn tell_listening<F: Write>(port: u16, faults: &mut F)
-    ensures { IsTold (listening_line port) (F.contents faults.old) (F.contents faults.new) }
-{
-    let line = listening(port);
-    tell_text(line.as_bytes(), faults);
-}
-
-/// Prints how many payloads were answered, and how many not.
-#[tactic(auto, using(ec_console::proofs::PrintLemmas::shown))]
-fn print_served<W: Write>(counts: Served, output: &mut W) -> Result<(), Refusal>
-    ensures { Shows (served_line counts.answered counts.refused) (W.contents output.old) (W.contents output.new) result }
-{
-    let line = served(counts);
-    print_text(line.as_bytes(), output)
-}
-
 /// Answers payloads on a wire, so many in all, as slaves whose applications are `app`. At its end, also where a call of the
 /// wire was a fault, it prints how many payloads were frames, which were answered, and how many were not.
 ///
@@ -88,6 +47,185 @@ pub fn print_served_segment<W: Wire, O: Write>(
             Err(Refusal::Socket)
         }
     }
+}
+
+/// Answers payloads on a port of 127.0.0.1, so many in all, as the slaves of the table that the input states, which are `full`
+/// or as it states them, and whose applications are `app`. Once it listens it says so on `faults`; at every end from then on it prints how many payloads were
+/// frames, which were answered, and how many were not. Where no payload comes for `idle` seconds it ends as by a fault of
+/// the socket; with 0 it waits on. A refusal of the table is explained, where that is wanted.
+///
+/// # Errors
+///
+/// The refusal of the input or of its table, `Refusal::Socket` where there is no such socket, and what
+/// [`print_served_segment`] ends by.
+pub fn print_segment<H: AllocGlobal + Net + Files + Clock, R: Read, W: Write, F: Write>(
+    rt: &H,
+    frames: u32,
+    port: u16,
+    full: bool,
+    idle: u32,
+    input: &mut R,
+    output: &mut W,
+    faults: &mut F,
+    app: &mut dyn App,
+    behind: &mut Explanation,
+) -> Result<(), Refusal>
+    ensures runs { RunsSegment frames port full (R.remaining input.old) (W.contents output.old) (W.contents output.new)
+        (F.contents faults.old) (F.contents faults.new) result }
+    ensures explains { IsLeft behind.old behind.new }
+{
+    serve_port(
+        rt, frames, port, full, idle, &mut None, input, output, faults, app, behind,
+    )
+}
+
+/// The same with a capture: what the segment receives and sends goes into a file, at the interface `segment`.
+///
+/// # Errors
+///
+/// Those of [`print_segment`]; `Refusal::Output` too where the file couldn't be opened, before anything is received, or
+/// couldn't be written to the end.
+#[tactic(auto, using(ec_captured::proofs::CaptureLemmas::captured_refused, ec_captured::proofs::CaptureLemmas::captured_end))]
+pub fn capture_segment<H: AllocGlobal + Net + Files + Clock, R: Read, W: Write, F: Write>(
+    rt: &H,
+    frames: u32,
+    port: u16,
+    full: bool,
+    idle: u32,
+    file: &str,
+    input: &mut R,
+    output: &mut W,
+    faults: &mut F,
+    app: &mut dyn App,
+    behind: &mut Explanation,
+) -> Result<(), Refusal>
+    ensures runs { EndsCaptured (λ ended. RunsSegment frames port full (R.remaining input.old) (W.contents output.old)
+        (W.contents output.new) (F.contents faults.old) (F.contents faults.new) ended)
+        ((output.new ≡ output.old) × (faults.new ≡ faults.old)) result }
+    ensures explains { IsLeft behind.old behind.new }
+{
+    let capture = open_capture(rt, file, "segment")?;
+    port_captured(
+        rt, frames, port, full, idle, capture, input, output, faults, app, behind,
+    )
+}
+
+/// Answers Ethernet frames on the card whose raw socket has a descriptor, so many in all, as the slaves of the table that the
+/// input states, whose applications are `app`, with bit 1 of the source set. At every end it prints how many payloads were
+/// frames, which were answered, and how many were not. Where no payload comes for `idle` seconds it ends as by a fault of the
+/// socket; with 0 it waits on. A refusal of the table is explained, where that is wanted.
+///
+/// # Errors
+///
+/// The refusal of the input or of its table, `Refusal::Socket` where the descriptor isn't that of a socket, and what
+/// [`print_served_segment`] ends by.
+pub fn print_card_segment<H: AllocGlobal + Files + Clock, R: Read, W: Write>(
+    rt: &H,
+    frames: u32,
+    descriptor: u16,
+    full: bool,
+    idle: u32,
+    input: &mut R,
+    output: &mut W,
+    app: &mut dyn App,
+    behind: &mut Explanation,
+) -> Result<(), Refusal>
+    ensures runs { RunsCardSegment frames full (R.remaining input.old) (W.contents output.old) (W.contents output.new) result }
+    ensures explains { IsLeft behind.old behind.new }
+{
+    serve_card(
+        rt, frames, descriptor, full, idle, &mut None, input, output, app, behind,
+    )
+}
+
+/// The same with a capture, as of [`capture_segment`].
+#[tactic(auto, using(ec_captured::proofs::CaptureLemmas::captured_refused, ec_captured::proofs::CaptureLemmas::captured_end))]
+pub fn capture_card_segment<H: AllocGlobal + Files + Clock, R: Read, W: Write>(
+    rt: &H,
+    frames: u32,
+    descriptor: u16,
+    full: bool,
+    idle: u32,
+    file: &str,
+    input: &mut R,
+    output: &mut W,
+    app: &mut dyn App,
+    behind: &mut Explanation,
+) -> Result<(), Refusal>
+    ensures runs { EndsCaptured (λ ended. RunsCardSegment frames full (R.remaining input.old) (W.contents output.old)
+        (W.contents output.new) ended) (output.new ≡ output.old) result }
+    ensures explains { IsLeft behind.old behind.new }
+{
+    let capture = open_capture(rt, file, "segment")?;
+    card_captured(
+        rt, frames, descriptor, full, idle, capture, input, output, app, behind,
+    )
+}
+
+/// Prints how many payloads were answered, and how many not.
+#[tactic(auto, using(ec_console::proofs::PrintLemmas::shown))]
+fn print_served<W: Write>(counts: Served, output: &mut W) -> Result<(), Refusal>
+    ensures { Shows (served_line counts.answered counts.refused) (W.contents output.old) (W.contents output.new) result }
+{
+    let line = served(counts);
+    print_text(line.as_bytes(), output)
+}
+
+/// Tells where a segment listens. A fault in telling it changes nothing.
+fn tell_listening<F: Write>(port: u16, faults: &mut F)
+    ensures { IsTold (listening_line port) (F.contents faults.old) (F.contents faults.new) }
+{
+    let line = listening(port);
+    tell_text(line.as_bytes(), faults);
+}
+
+/// The line that says how many payloads were answered, and how many not.
+fn served(counts: Served) -> ArrayString<LINE_SIZE>
+    ensures { result.bytes ≡ served_line counts.answered counts.refused }
+{
+    let mut line = ArrayString::new();
+    line.push_str("served ");
+    push_number(&mut line, u64::from(counts.answered));
+    line.push_str(" refused ");
+    push_number(&mut line, u64::from(counts.refused));
+    line.push_str("\n");
+    line
+}
+
+/// The line that says where a segment listens.
+fn listening(port: u16) -> ArrayString<LINE_SIZE>
+    ensures { result.bytes ≡ listening_line port }
+{
+    let mut line = ArrayString::new();
+    line.push_str("ecat: listening on 127.0.0.1:");
+    push_number(&mut line, u64::from(port));
+    line.push_str("\n");
+    line
+}
+
+/// Answers payloads on a port, as [`print_segment`] does, and notes them in a capture, if there is one.
+#[tactic(auto, using(crate::proofs::SegmentLemmas::segment_refused, crate::proofs::SegmentLemmas::segment_served))]
+fn serve_port<H: AllocGlobal + Net + Files + Clock, R: Read, W: Write, F: Write>(
+    rt: &H,
+    frames: u32,
+    port: u16,
+    full: bool,
+    idle: u32,
+    capture: &mut Capture<H::File>,
+    input: &mut R,
+    output: &mut W,
+    faults: &mut F,
+    app: &mut dyn App,
+    behind: &mut Explanation,
+) -> Result<(), Refusal>
+    ensures runs { RunsSegment frames port full (R.remaining input.old) (W.contents output.old) (W.contents output.new)
+        (F.contents faults.old) (F.contents faults.new) result }
+    ensures explains { IsLeft behind.old behind.new }
+{
+    let mut slaves = slaves_of_input(rt.alloc(), input, full, behind)?;
+    let wire = UdpWire::bind_idle(rt, port, idle)?;
+    tell_listening(wire.port(), faults);
+    serve_tapped(rt, &mut slaves, app, wire, frames, capture, output)
 }
 
 /// The same on a wire that has carried nothing yet, whose payloads are noted in a capture, if there is one.
@@ -119,61 +257,6 @@ fn serve_tapped<H: AllocGlobal + Files + Clock, W: Wire + Drop, O: Write>(
             ended
         }
     }
-}
-
-/// Answers payloads on a port, as [`print_segment`] does, and notes them in a capture, if there is one.
-#[tactic(auto, using(crate::proofs::SegmentLemmas::segment_refused, crate::proofs::SegmentLemmas::segment_served))]
-fn serve_port<H: AllocGlobal + Net + Files + Clock, R: Read, W: Write, F: Write>(
-    rt: &H,
-    frames: u32,
-    port: u16,
-    full: bool,
-    idle: u32,
-    capture: &mut Capture<H::File>,
-    input: &mut R,
-    output: &mut W,
-    faults: &mut F,
-    app: &mut dyn App,
-    behind: &mut Explanation,
-) -> Result<(), Refusal>
-    ensures runs { RunsSegment frames port full (R.remaining input.old) (W.contents output.old) (W.contents output.new)
-        (F.contents faults.old) (F.contents faults.new) result }
-    ensures explains { IsLeft behind.old behind.new }
-{
-    let mut slaves = slaves_of_input(rt.alloc(), input, full, behind)?;
-    let wire = UdpWire::bind_idle(rt, port, idle)?;
-    tell_listening(wire.port(), faults);
-    serve_tapped(rt, &mut slaves, app, wire, frames, capture, output)
-}
-
-/// Answers payloads on a port of 127.0.0.1, so many in all, as the slaves of the table that the input states, which are `full`
-/// or as it states them, and whose applications are `app`. Once it listens it says so on `faults`; at every end from then on it prints how many payloads were
-/// frames, which were answered, and how many were not. Where no payload comes for `idle` seconds it ends as by a fault of
-/// the socket; with 0 it waits on. A refusal of the table is explained, where that is wanted.
-///
-/// # Errors
-///
-/// The refusal of the input or of its table, `Refusal::Socket` where there is no such socket, and what
-/// [`print_served_segment`] ends by.
-pub fn print_segment<H: AllocGlobal + Net + Files + Clock, R: Read, W: Write, F: Write>(
-    rt: &H,
-    frames: u32,
-    port: u16,
-    full: bool,
-    idle: u32,
-    input: &mut R,
-    output: &mut W,
-    faults: &mut F,
-    app: &mut dyn App,
-    behind: &mut Explanation,
-) -> Result<(), Refusal>
-    ensures runs { RunsSegment frames port full (R.remaining input.old) (W.contents output.old) (W.contents output.new)
-        (F.contents faults.old) (F.contents faults.new) result }
-    ensures explains { IsLeft behind.old behind.new }
-{
-    serve_port(
-        rt, frames, port, full, idle, &mut None, input, output, faults, app, behind,
-    )
 }
 
 /// The same with a capture that is open, which is then written to the end.
@@ -211,46 +294,6 @@ fn port_captured<H: AllocGlobal + Net + Files + Clock, R: Read, W: Write, F: Wri
     close_capture(ended, capture)
 }
 
-/// The same with a capture: what the segment receives and sends goes into a file, at the interface `segment`.
-///
-/// # Errors
-///
-/// Those of [`print_segment`]; `Refusal::Output` too where the file couldn't be opened, before anything is received, or
-/// couldn't be written to the end.
-#[tactic(auto, using(ec_captured::proofs::CaptureLemmas::captured_refused, ec_captured::proofs::CaptureLemmas::captured_end))]
-pub fn capture_segment<H: AllocGlobal + Net + Files + Clock, R: Read, W: Write, F: Write>(
-    rt: &H,
-    frames: u32,
-    port: u16,
-    full: bool,
-    idle: u32,
-    file: &str,
-    input: &mut R,
-    output: &mut W,
-    faults: &mut F,
-    app: &mut dyn App,
-    behind: &mut Explanation,
-) -> Result<(), Refusal>
-    ensures runs { EndsCaptured (λ ended. RunsSegment frames port full (R.remaining input.old) (W.contents output.old)
-        (W.contents output.new) (F.contents faults.old) (F.contents faults.new) ended)
-        ((output.new ≡ output.old) × (faults.new ≡ faults.old)) result }
-    ensures explains { IsLeft behind.old behind.new }
-{
-    let capture = open_capture(rt, file, "segment")?;
-    port_captured(
-        rt, frames, port, full, idle, capture, input, output, faults, app, behind,
-    )
-}
-
-/// How long a segment on a card waits for a payload; with 0 seconds it waits on.
-fn patience_of(seconds: u32) -> Patience {
-    if seconds == 0 {
-        Patience::Endless
-    } else {
-        Patience::For(Duration::from_secs(u64::from(seconds)))
-    }
-}
-
 /// Answers payloads on a card, as [`print_card_segment`] does, and notes them in a capture, if there is one.
 #[tactic(auto, using(crate::proofs::SegmentLemmas::card_refused, crate::proofs::SegmentLemmas::card_served))]
 fn serve_card<H: AllocGlobal + Files + Clock, R: Read, W: Write>(
@@ -273,32 +316,13 @@ fn serve_card<H: AllocGlobal + Files + Clock, R: Read, W: Write>(
     serve_tapped(rt, &mut slaves, app, wire, frames, capture, output)
 }
 
-/// Answers Ethernet frames on the card whose raw socket has a descriptor, so many in all, as the slaves of the table that the
-/// input states, whose applications are `app`, with bit 1 of the source set. At every end it prints how many payloads were
-/// frames, which were answered, and how many were not. Where no payload comes for `idle` seconds it ends as by a fault of the
-/// socket; with 0 it waits on. A refusal of the table is explained, where that is wanted.
-///
-/// # Errors
-///
-/// The refusal of the input or of its table, `Refusal::Socket` where the descriptor isn't that of a socket, and what
-/// [`print_served_segment`] ends by.
-pub fn print_card_segment<H: AllocGlobal + Files + Clock, R: Read, W: Write>(
-    rt: &H,
-    frames: u32,
-    descriptor: u16,
-    full: bool,
-    idle: u32,
-    input: &mut R,
-    output: &mut W,
-    app: &mut dyn App,
-    behind: &mut Explanation,
-) -> Result<(), Refusal>
-    ensures runs { RunsCardSegment frames full (R.remaining input.old) (W.contents output.old) (W.contents output.new) result }
-    ensures explains { IsLeft behind.old behind.new }
-{
-    serve_card(
-        rt, frames, descriptor, full, idle, &mut None, input, output, app, behind,
-    )
+/// How long a segment on a card waits for a payload; with 0 seconds it waits on.
+fn patience_of(seconds: u32) -> Patience {
+    if seconds == 0 {
+        Patience::Endless
+    } else {
+        Patience::For(Duration::from_secs(u64::from(seconds)))
+    }
 }
 
 /// The same with a capture that is open, which is then written to the end.
@@ -332,28 +356,4 @@ fn card_captured<H: AllocGlobal + Files + Clock, R: Read, W: Write>(
         behind,
     );
     close_capture(ended, capture)
-}
-
-/// The same with a capture, as of [`capture_segment`].
-#[tactic(auto, using(ec_captured::proofs::CaptureLemmas::captured_refused, ec_captured::proofs::CaptureLemmas::captured_end))]
-pub fn capture_card_segment<H: AllocGlobal + Files + Clock, R: Read, W: Write>(
-    rt: &H,
-    frames: u32,
-    descriptor: u16,
-    full: bool,
-    idle: u32,
-    file: &str,
-    input: &mut R,
-    output: &mut W,
-    app: &mut dyn App,
-    behind: &mut Explanation,
-) -> Result<(), Refusal>
-    ensures runs { EndsCaptured (λ ended. RunsCardSegment frames full (R.remaining input.old) (W.contents output.old)
-        (W.contents output.new) ended) (output.new ≡ output.old) result }
-    ensures explains { IsLeft behind.old behind.new }
-{
-    let capture = open_capture(rt, file, "segment")?;
-    card_captured(
-        rt, frames, descriptor, full, idle, capture, input, output, app, behind,
-    )
 }

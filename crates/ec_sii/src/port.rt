@@ -79,14 +79,6 @@ impl Port {
         }
     }
 
-    /// The high byte of the control and status word, which shows the command under way (1, a read), the error, and
-    /// busy.
-    fn status(&self) -> u8
-        ensures { result ≡ status_byte self.now }
-    {
-        (SiiControl::new(self.is_busy as u8, self.is_error, self.is_busy).0 / 256) as u8
-    }
-
     /// A datagram writes bytes to the addresses from `from` on; those outside 0x0502 to 0x0507 are left alone. While
     /// the port is busy nothing changes. Else the bytes are stored, and then that of 0x0503, if there is one, gives a
     /// command by its bits 0 to 2: 0 clears the error, 1 begins a read, any other is an error.
@@ -125,13 +117,6 @@ impl Port {
         }
     }
 
-    /// The last word address at which two words stand in the image: 62, or of a full slave more.
-    fn last_address(&self) -> usize
-        ensures { result ≡ last_address self.now.image }
-    {
-        64 * self.image.size() - 2
-    }
-
     /// The port is as at power-on, with the image that it has.
     pub fn reset(&mut self)
         ensures { self.new ≡ idle_port self.old.image }
@@ -140,6 +125,21 @@ impl Port {
         self.is_busy = false;
         self.is_error = false;
         self.found = 0;
+    }
+
+    /// The high byte of the control and status word, which shows the command under way (1, a read), the error, and
+    /// busy.
+    fn status(&self) -> u8
+        ensures { result ≡ status_byte self.now }
+    {
+        (SiiControl::new(self.is_busy as u8, self.is_error, self.is_busy).0 / 256) as u8
+    }
+
+    /// The last word address at which two words stand in the image: 62, or of a full slave more.
+    fn last_address(&self) -> usize
+        ensures { result ≡ last_address self.now.image }
+    {
+        64 * self.image.size() - 2
     }
 }
 

@@ -21,57 +21,6 @@ use std::alloc::{AllocError, Global};
 use std::fs::Files;
 use std::io::{Read, Write};
 
-/// What is printed of a line: what there is to say of it in the world that it left, and behind that why it says `no`, where
-/// reasons are told.
-#[tactic(auto, using(crate::proofs::SimLemmas::line_alone, crate::proofs::SimLemmas::line_reasoned))]
-fn line_text(
-    alloc: Global,
-    table: &Table,
-    reasons: Reasons,
-    world: &World<'_>,
-    line: &Line,
-    said: LineOutput,
-    had_cycle: bool,
-) -> Result<String, AllocError>
-    requires { world.now.plan ≡ plan_of table.now }
-    ensures { IfOk result (λ text.
-        IsLineText reasons table.now line.now.number world.now said (string_bytes text)) }
-{
-    let mut text = output_text(alloc, world, table, line.number, said)?;
-    if !reasons.stand_behind(said) {
-        return Ok(text);
-    }
-    let reason = reason_text(alloc, table, world, line.act, had_cycle)?;
-    text.push_str(reason.as_str())?;
-    Ok(text)
-}
-
-/// Does a line once, prints what there is to say, and answers whether what it expects isn't so.
-fn print_once<S: Watcher, W: Write>(
-    alloc: Global,
-    table: &Table,
-    reasons: Reasons,
-    world: &mut World<'_>,
-    watcher: &mut S,
-    line: &Line,
-    output: &mut W,
-) -> Result<bool, Refusal>
-    requires { world.old.plan ≡ plan_of table.now }
-    ensures all { IfOk result (λ unmet. PrintsAll reasons table.now world.old (line.now ∷ []) world.new
-        (if unmet then 1 else 0) (W.contents output.old) (W.contents output.new)) }
-    ensures part { OnErr result (PrintsPart reasons table.now world.old (line.now ∷ [])
-        (W.contents output.old) (W.contents output.new)) }
-    ensures late { IfErr result IsLate }
-    ensures plan { world.new.plan ≡ world.old.plan }
-    ensures seen { Sees S.saw watcher.old world.old world.new watcher.new }
-{
-    let had_cycle = has_cycle(world);
-    let said = watch_act(world, watcher, line.act);
-    let text = line_text(alloc, table, reasons, world, line, said, had_cycle)?;
-    print_text(text.as_bytes(), output)?;
-    Ok(said.is_unmet())
-}
-
 /// Does a line as often as it is to be done, prints each time what there is to say before it is done again, and answers how
 /// often what it expects isn't so.
 pub fn print_line<S: Watcher, W: Write>(
@@ -98,34 +47,6 @@ pub fn print_line<S: Watcher, W: Write>(
         if print_once(alloc, table, reasons, world, watcher, line, output)? {
             unmet = unmet.saturating_add(1);
         }
-    }
-    Ok(unmet)
-}
-
-/// Runs the lines of a script over a world of a table, each as often as it is to be done, prints of each what there is to say
-/// before the next one runs, and answers how often what they expect isn't so.
-fn print_lines<S: Watcher, W: Write>(
-    alloc: Global,
-    table: &Table,
-    reasons: Reasons,
-    world: &mut World<'_>,
-    watcher: &mut S,
-    lines: &[Line],
-    output: &mut W,
-) -> Result<u64, Refusal>
-    requires { world.old.plan ≡ plan_of table.now }
-    ensures all { IfOk result (λ count. (unmet : ℕ) × (count ≡ counted unmet)
-        × PrintsLines reasons table.now world.old lines.now unmet
-        (W.contents output.old) (W.contents output.new)) }
-    ensures part { OnErr result (PrintsSome reasons table.now world.old lines.now
-        (W.contents output.old) (W.contents output.new)) }
-    ensures late { IfErr result IsLate }
-    ensures seen { Sees S.saw watcher.old world.old world.new watcher.new }
-{
-    let mut unmet: u64 = 0;
-    for line in lines {
-        let count = print_line(alloc, table, reasons, world, watcher, line, output)?;
-        unmet = unmet.saturating_add(count);
     }
     Ok(unmet)
 }
@@ -157,13 +78,100 @@ pub fn print_noted<F: Write + Drop, W: Write>(
     print_lines(alloc, table, reasons, world, watch, lines, output)
 }
 
-/// The same; the frames of the world go into a capture that is open, which is then written to the end.
-fn print_captured<F: Write + Drop, W: Write>(
+/// How a run ends in which so many times what was expected wasn't so.
+pub fn end_of(unmet: u64) -> Result<(), Refusal>
+    ensures { result ≡ ended_by unmet }
+{
+    if unmet == 0 {
+        Ok(())
+    } else {
+        Err(Refusal::Unmet(unmet))
+    }
+}
+
+/// Runs the script that the input gives behind a link table and a line `%%`. Its slaves begin at power-on, with the
+/// identities that the table says. What a line says is printed before the next line runs, and why it says `no`, where reasons
+/// are told. The frames that pass go into a capture, if a file is named, with an interface `master` and one for each slave. A
+/// refusal of the text is explained, where that is wanted.
+pub fn print_sim<H: AllocGlobal + Files, R: Read, W: Write>(
+    rt: &H,
+    reasons: Reasons,
+    file: Option<&str>,
+    input: &mut R,
+    output: &mut W,
+    behind: &mut Explanation,
+) -> Result<(), Refusal>
+    ensures runs { RunsSim reasons (R.remaining input.old) (W.contents output.old)
+        (W.contents output.new) result }
+    ensures explains { IsLeft behind.old behind.new }
+{
+    let text = read_text(rt.alloc(), input)?;
+    let ended = run_text(rt, file, text.as_str(), reasons, output);
+    if let Err(refusal) = &ended {
+        behind.explain_script(rt.alloc(), text.as_str(), refusal);
+    }
+    ended
+}
+
+/// Does a line once, prints what there is to say, and answers whether what it expects isn't so.
+fn print_once<S: Watcher, W: Write>(
     alloc: Global,
     table: &Table,
     reasons: Reasons,
     world: &mut World<'_>,
-    recording: Recording<F>,
+    watcher: &mut S,
+    line: &Line,
+    output: &mut W,
+) -> Result<bool, Refusal>
+    requires { world.old.plan ≡ plan_of table.now }
+    ensures all { IfOk result (λ unmet. PrintsAll reasons table.now world.old (line.now ∷ []) world.new
+        (if unmet then 1 else 0) (W.contents output.old) (W.contents output.new)) }
+    ensures part { OnErr result (PrintsPart reasons table.now world.old (line.now ∷ [])
+        (W.contents output.old) (W.contents output.new)) }
+    ensures late { IfErr result IsLate }
+    ensures plan { world.new.plan ≡ world.old.plan }
+    ensures seen { Sees S.saw watcher.old world.old world.new watcher.new }
+{
+    let had_cycle = has_cycle(world);
+    let said = watch_act(world, watcher, line.act);
+    let text = line_text(alloc, table, reasons, world, line, said, had_cycle)?;
+    print_text(text.as_bytes(), output)?;
+    Ok(said.is_unmet())
+}
+
+/// What is printed of a line: what there is to say of it in the world that it left, and behind that why it says `no`, where
+/// reasons are told.
+#[tactic(auto, using(crate::proofs::SimLemmas::line_alone, crate::proofs::SimLemmas::line_reasoned))]
+fn line_text(
+    alloc: Global,
+    table: &Table,
+    reasons: Reasons,
+    world: &World<'_>,
+    line: &Line,
+    said: LineOutput,
+    had_cycle: bool,
+) -> Result<String, AllocError>
+    requires { world.now.plan ≡ plan_of table.now }
+    ensures { IfOk result (λ text.
+        IsLineText reasons table.now line.now.number world.now said (string_bytes text)) }
+{
+    let mut text = output_text(alloc, world, table, line.number, said)?;
+    if !reasons.stand_behind(said) {
+        return Ok(text);
+    }
+    let reason = reason_text(alloc, table, world, line.act, had_cycle)?;
+    text.push_str(reason.as_str())?;
+    Ok(text)
+}
+
+/// Runs the lines of a script over a world of a table, each as often as it is to be done, prints of each what there is to say
+/// before the next one runs, and answers how often what they expect isn't so.
+fn print_lines<S: Watcher, W: Write>(
+    alloc: Global,
+    table: &Table,
+    reasons: Reasons,
+    world: &mut World<'_>,
+    watcher: &mut S,
     lines: &[Line],
     output: &mut W,
 ) -> Result<u64, Refusal>
@@ -174,10 +182,14 @@ fn print_captured<F: Write + Drop, W: Write>(
     ensures part { OnErr result (PrintsSome reasons table.now world.old lines.now
         (W.contents output.old) (W.contents output.new)) }
     ensures late { IfErr result IsLate }
+    ensures seen { Sees S.saw watcher.old world.old world.new watcher.new }
 {
-    let mut watch = Watch::new(recording);
-    let ended = print_noted(alloc, table, reasons, world, &mut watch, lines, output);
-    finish_recording(ended, watch.into_capture())
+    let mut unmet: u64 = 0;
+    for line in lines {
+        let count = print_line(alloc, table, reasons, world, watcher, line, output)?;
+        unmet = unmet.saturating_add(count);
+    }
+    Ok(unmet)
 }
 
 /// The same; the frames of the world go into a capture, if a file is named.
@@ -214,35 +226,58 @@ fn print_watched<H: AllocGlobal + Files, W: Write>(
     print_captured(rt.alloc(), table, reasons, world, recording, lines, output)
 }
 
-/// How a run ends in which so many times what was expected wasn't so.
-pub fn end_of(unmet: u64) -> Result<(), Refusal>
-    ensures { result ≡ ended_by unmet }
+/// The same; the frames of the world go into a capture that is open, which is then written to the end.
+fn print_captured<F: Write + Drop, W: Write>(
+    alloc: Global,
+    table: &Table,
+    reasons: Reasons,
+    world: &mut World<'_>,
+    recording: Recording<F>,
+    lines: &[Line],
+    output: &mut W,
+) -> Result<u64, Refusal>
+    requires { world.old.plan ≡ plan_of table.now }
+    ensures all { IfOk result (λ count. (unmet : ℕ) × (count ≡ counted unmet)
+        × PrintsLines reasons table.now world.old lines.now unmet
+        (W.contents output.old) (W.contents output.new)) }
+    ensures part { OnErr result (PrintsSome reasons table.now world.old lines.now
+        (W.contents output.old) (W.contents output.new)) }
+    ensures late { IfErr result IsLate }
 {
-    if unmet == 0 {
-        Ok(())
-    } else {
-        Err(Refusal::Unmet(unmet))
-    }
+    let mut watch = Watch::new(recording);
+    let ended = print_noted(alloc, table, reasons, world, &mut watch, lines, output);
+    finish_recording(ended, watch.into_capture())
 }
 
-/// Runs the lines of a script over a new segment of a table, and prints what they say.
-fn run_lines<H: AllocGlobal + Files, W: Write>(
+/// Runs the script of a text over a segment of its table, and prints what it says.
+fn run_text<H: AllocGlobal + Files, W: Write>(
+    rt: &H,
+    file: Option<&str>,
+    text: &str,
+    reasons: Reasons,
+    output: &mut W,
+) -> Result<(), Refusal>
+    ensures { RunsText reasons text.now (W.contents output.old) (W.contents output.new) result }
+{
+    let (head, script) = split_script(text);
+    let table = read_table(rt.alloc(), head)?;
+    run_halves(rt, file, &table, reasons, script, output)
+}
+
+/// The same of a table that was read, which may have no plan.
+fn run_halves<H: AllocGlobal + Files, W: Write>(
     rt: &H,
     file: Option<&str>,
     table: &Table,
     reasons: Reasons,
-    plan: &Plan,
-    lines: &[Line],
+    script: &str,
     output: &mut W,
 ) -> Result<(), Refusal>
-    requires accepted { compile_fault table.now ≡ None }
-    requires plan { plan.now ≡ plan_of table.now }
-    ensures { RunsLines reasons table.now lines.now (W.contents output.old) (W.contents output.new) result }
+    ensures { RunsHalves reasons table.now script.now (W.contents output.old) (W.contents output.new)
+        result }
 {
-    let identities = identities_of(rt.alloc(), table)?;
-    let mut world = World::new(rt.alloc(), table, plan, identities.as_slice())?;
-    let unmet = print_watched(rt, table, reasons, &mut world, lines, file, output)?;
-    end_of(unmet)
+    let plan = compile(rt.alloc(), table)?;
+    run_script(rt, file, table, reasons, &plan, script, output)
 }
 
 /// Reads a script and runs it over a new segment of a table, and prints what it says.
@@ -264,57 +299,22 @@ fn run_script<H: AllocGlobal + Files, W: Write>(
     run_lines(rt, file, table, reasons, plan, lines.as_slice(), output)
 }
 
-/// The same of a table that was read, which may have no plan.
-fn run_halves<H: AllocGlobal + Files, W: Write>(
+/// Runs the lines of a script over a new segment of a table, and prints what they say.
+fn run_lines<H: AllocGlobal + Files, W: Write>(
     rt: &H,
     file: Option<&str>,
     table: &Table,
     reasons: Reasons,
-    script: &str,
+    plan: &Plan,
+    lines: &[Line],
     output: &mut W,
 ) -> Result<(), Refusal>
-    ensures { RunsHalves reasons table.now script.now (W.contents output.old) (W.contents output.new)
-        result }
+    requires accepted { compile_fault table.now ≡ None }
+    requires plan { plan.now ≡ plan_of table.now }
+    ensures { RunsLines reasons table.now lines.now (W.contents output.old) (W.contents output.new) result }
 {
-    let plan = compile(rt.alloc(), table)?;
-    run_script(rt, file, table, reasons, &plan, script, output)
-}
-
-/// Runs the script of a text over a segment of its table, and prints what it says.
-fn run_text<H: AllocGlobal + Files, W: Write>(
-    rt: &H,
-    file: Option<&str>,
-    text: &str,
-    reasons: Reasons,
-    output: &mut W,
-) -> Result<(), Refusal>
-    ensures { RunsText reasons text.now (W.contents output.old) (W.contents output.new) result }
-{
-    let (head, script) = split_script(text);
-    let table = read_table(rt.alloc(), head)?;
-    run_halves(rt, file, &table, reasons, script, output)
-}
-
-/// Runs the script that the input gives behind a link table and a line `%%`. Its slaves begin at power-on, with the
-/// identities that the table says. What a line says is printed before the next line runs, and why it says `no`, where reasons
-/// are told. The frames that pass go into a capture, if a file is named, with an interface `master` and one for each slave. A
-/// refusal of the text is explained, where that is wanted.
-pub fn print_sim<H: AllocGlobal + Files, R: Read, W: Write>(
-    rt: &H,
-    reasons: Reasons,
-    file: Option<&str>,
-    input: &mut R,
-    output: &mut W,
-    behind: &mut Explanation,
-) -> Result<(), Refusal>
-    ensures runs { RunsSim reasons (R.remaining input.old) (W.contents output.old)
-        (W.contents output.new) result }
-    ensures explains { IsLeft behind.old behind.new }
-{
-    let text = read_text(rt.alloc(), input)?;
-    let ended = run_text(rt, file, text.as_str(), reasons, output);
-    if let Err(refusal) = &ended {
-        behind.explain_script(rt.alloc(), text.as_str(), refusal);
-    }
-    ended
+    let identities = identities_of(rt.alloc(), table)?;
+    let mut world = World::new(rt.alloc(), table, plan, identities.as_slice())?;
+    let unmet = print_watched(rt, table, reasons, &mut world, lines, file, output)?;
+    end_of(unmet)
 }

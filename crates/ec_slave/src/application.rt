@@ -12,16 +12,6 @@ use ec_dl::DataLink;
 use ec_regs::SyncManagerSettings;
 use ec_sync::SyncManager;
 
-/// Whether the application has process data in an AL state.
-fn is_running(state: State) -> bool
-    ensures { result ≡ runs_in state }
-{
-    match state {
-        State::SafeOp | State::Op => true,
-        State::Init | State::PreOp => false,
-    }
-}
-
 impl Slave {
     /// The outputs that were published last, of manager 2; empty where that manager isn't set or is a mailbox.
     pub fn outputs(&self) -> &[u8]
@@ -103,30 +93,6 @@ impl Slave {
     }
 }
 
-/// A manager as the power comes on.
-fn reset_manager(manager: &mut SyncManager)
-    ensures { manager.new ≡ no_manager }
-{
-    manager.set_locked(false);
-    manager.configure(SyncManagerSettings {
-        start: 0,
-        length: 0,
-        control: 0,
-        activate: 0,
-    });
-}
-
-/// The four managers as the power comes on.
-fn reset_managers(managers: &mut [SyncManager])
-    requires { length managers.old ≡ 4 }
-    ensures { managers.new ≡ no_manager ∷ no_manager ∷ no_manager ∷ no_manager ∷ [] }
-{
-    reset_manager(&mut managers[0]);
-    reset_manager(&mut managers[1]);
-    reset_manager(&mut managers[2]);
-    reset_manager(&mut managers[3]);
-}
-
 impl Slave {
     /// The power goes off and on: the slave is as `new` makes one of its type and identity.
     #[tactic(auto, unfolding(crate::specs::State::power_on))]
@@ -142,4 +108,38 @@ impl Slave {
         self.dictionary.reset();
         self.replies = 0;
     }
+}
+
+/// Whether the application has process data in an AL state.
+fn is_running(state: State) -> bool
+    ensures { result ≡ runs_in state }
+{
+    match state {
+        State::SafeOp | State::Op => true,
+        State::Init | State::PreOp => false,
+    }
+}
+
+/// The four managers as the power comes on.
+fn reset_managers(managers: &mut [SyncManager])
+    requires { length managers.old ≡ 4 }
+    ensures { managers.new ≡ no_manager ∷ no_manager ∷ no_manager ∷ no_manager ∷ [] }
+{
+    reset_manager(&mut managers[0]);
+    reset_manager(&mut managers[1]);
+    reset_manager(&mut managers[2]);
+    reset_manager(&mut managers[3]);
+}
+
+/// A manager as the power comes on.
+fn reset_manager(manager: &mut SyncManager)
+    ensures { manager.new ≡ no_manager }
+{
+    manager.set_locked(false);
+    manager.configure(SyncManagerSettings {
+        start: 0,
+        length: 0,
+        control: 0,
+        activate: 0,
+    });
 }

@@ -24,13 +24,6 @@ struct Carried {
     counter: u16,
 }
 
-/// Whether a command goes through the FMMUs.
-fn is_mapped(command: Command) -> bool
-    ensures { result ≡ is_mapped command }
-{
-    matches!(command, Command::Lrd | Command::Lwr | Command::Lrw)
-}
-
 impl Slave {
     /// Meets what a datagram carries, and answers what it carries on. One through the FMMUs is asked first whether it
     /// concerns the slave at all.
@@ -80,36 +73,6 @@ impl Slave {
     }
 }
 
-/// What a datagram carries passes slaves.
-fn carry(slaves: &mut [Slave], command: Command, first: Carried, bytes: &mut [u8]) -> Carried
-    requires { length bytes.old < 2048 }
-    ensures slaves { slaves.new ≡ slaves_met slaves.old (carrying command first bytes.old) }
-    ensures datagram { carrying command result bytes.new ≡ datagram_past slaves.old (carrying command first bytes.old) }
-{
-    let mapped = is_mapped(command);
-    let mut carried = first;
-    for place in 0..slaves.len() {
-        carried = slaves[place].meet(command, mapped, carried, bytes);
-    }
-    carried
-}
-
-/// The data of a datagram pass slaves, and its other fields stay.
-fn carry_data(slaves: &mut [Slave], command: Command, first: Carried, part: &mut [u8]) -> Carried
-    requires { IsSpelling part.old }
-    ensures slaves { (more : Bool) (d : Datagram) → IsDatagram d → part.old ≡ spelling more d
-        → slaves.new ≡ slaves_met slaves.old (carrying command first d.data_bytes) }
-    ensures data { (more : Bool) (d : Datagram) → IsDatagram d → part.old ≡ spelling more d
-        → part.new ≡ spelling more (with_data d (datagram_past slaves.old (carrying command first d.data_bytes)).data_bytes) }
-    ensures carried { (more : Bool) (d : Datagram) → IsDatagram d → part.old ≡ spelling more d
-        → (result.address ≡ (datagram_past slaves.old (carrying command first d.data_bytes)).address)
-        × (result.counter ≡ (datagram_past slaves.old (carrying command first d.data_bytes)).counter) }
-{
-    let (_heading, body) = cut_heading(part);
-    let (content, _counter) = cut_counter(body);
-    carry(slaves, command, first, content)
-}
-
 /// A datagram passes slaves, one after the other.
 pub fn pass_each(slaves: &mut [Slave], part: &mut [u8])
     requires { IsSpelling part.old }
@@ -129,4 +92,41 @@ pub fn pass_each(slaves: &mut [Slave], part: &mut [u8])
     let carried = carry_data(slaves, header.command, first, part);
     write_address(part, carried.address);
     write_counter(part, carried.counter);
+}
+
+/// The data of a datagram pass slaves, and its other fields stay.
+fn carry_data(slaves: &mut [Slave], command: Command, first: Carried, part: &mut [u8]) -> Carried
+    requires { IsSpelling part.old }
+    ensures slaves { (more : Bool) (d : Datagram) → IsDatagram d → part.old ≡ spelling more d
+        → slaves.new ≡ slaves_met slaves.old (carrying command first d.data_bytes) }
+    ensures data { (more : Bool) (d : Datagram) → IsDatagram d → part.old ≡ spelling more d
+        → part.new ≡ spelling more (with_data d (datagram_past slaves.old (carrying command first d.data_bytes)).data_bytes) }
+    ensures carried { (more : Bool) (d : Datagram) → IsDatagram d → part.old ≡ spelling more d
+        → (result.address ≡ (datagram_past slaves.old (carrying command first d.data_bytes)).address)
+        × (result.counter ≡ (datagram_past slaves.old (carrying command first d.data_bytes)).counter) }
+{
+    let (_heading, body) = cut_heading(part);
+    let (content, _counter) = cut_counter(body);
+    carry(slaves, command, first, content)
+}
+
+/// What a datagram carries passes slaves.
+fn carry(slaves: &mut [Slave], command: Command, first: Carried, bytes: &mut [u8]) -> Carried
+    requires { length bytes.old < 2048 }
+    ensures slaves { slaves.new ≡ slaves_met slaves.old (carrying command first bytes.old) }
+    ensures datagram { carrying command result bytes.new ≡ datagram_past slaves.old (carrying command first bytes.old) }
+{
+    let mapped = is_mapped(command);
+    let mut carried = first;
+    for place in 0..slaves.len() {
+        carried = slaves[place].meet(command, mapped, carried, bytes);
+    }
+    carried
+}
+
+/// Whether a command goes through the FMMUs.
+fn is_mapped(command: Command) -> bool
+    ensures { result ≡ is_mapped command }
+{
+    matches!(command, Command::Lrd | Command::Lwr | Command::Lrw)
 }

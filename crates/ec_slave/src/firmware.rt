@@ -25,15 +25,154 @@ const OUTPUTS: u8 = CONTROL_OUTPUTS % 16;
 /// Bits 0 to 3 of the control byte of inputs.
 const INPUTS: u8 = CONTROL_INPUTS % 16;
 
-/// Whether a manager is enabled and has this start, this length in bytes, and these bits 0 to 3 of its control byte.
-fn is_manager(manager: &SyncManager, start: u16, len: usize, mode: u8) -> bool
-    ensures { result ≡ is_manager_of manager.now start len mode }
+impl Slave {
+    /// A step of the slave's firmware. In this order: an AL request that waits is decided, by the checks of the managers
+    /// against the type and the PDOs that are assigned; a read of the SII is finished; and one mailbox message is taken
+    /// and answered, or dropped where it is no SDO request. It takes no memory.
+    #[tactic(auto, unfolding(crate::specs::Serving::served))]
+    pub fn serve(&mut self)
+        ensures { self.new ≡ served self.old }
+    {
+        self.decide_request();
+        self.finish_read();
+        self.serve_message();
+    }
+
+    /// A fault of the slave's application: in OP, and only there, it leads to SAFEOP with an error, locks and empties
+    /// manager 2, and the answer is true.
+    #[tactic(auto, unfolding(crate::specs::Faulting::faulted))]
+    pub fn fault(&mut self) -> bool
+        ensures taken { IsTrue result ↔ (self.old.al.state ≡ Op) }
+        ensures after { self.new ≡ faulted self.old }
+    {
+        if !self.al.fault() {
+            return false;
+        }
+        lock(&mut self.managers[2]);
+        true
+    }
+
+    /// The same, where one is. It stands apart so that a step in which none is is short.
+    #[tactic(auto, unfolding(crate::specs::Serving::read_finished))]
+    #[inline(never)]
+    fn read_words(&mut self)
+        ensures { self.new ≡ read_finished self.old }
+    {
+        self.port.step();
+    }
+
+    /// Finishes the read of the SII that is under way, if one is.
+    #[tactic(auto, unfolding(crate::specs::Serving::read_finished, ec_sii::specs::Port::stepped))]
+    fn finish_read(&mut self)
+        ensures { self.new ≡ read_finished self.old }
+    {
+        if self.port.is_busy() {
+            self.read_words();
+        }
+    }
+
+    /// The same, where one waits. It stands apart so that a step in which none does is short.
+    #[inline(never)]
+    fn decide_waiting(&mut self)
+        requires { self.old.al.requested ≡ true }
+        ensures { self.new ≡ request_decided self.old }
+    {
+        let control = self.control_word();
+        let checks = self.checks();
+        let old = self.al.state();
+        self.al.step(control, checks);
+        let new = self.al.state();
+        enter_state(&mut self.managers, old, new);
+        self.replies = replies_in(old, new, self.replies);
+    }
+
+    /// Decides the AL request that waits, if one does.
+    #[tactic(auto, unfolding(crate::specs::Serving::request_decided))]
+    fn decide_request(&mut self)
+        ensures { self.new ≡ request_decided self.old }
+    {
+        if self.al.is_requested() {
+            self.decide_waiting();
+        }
+    }
+
+    /// Whether the managers are as the states above INIT need them.
+    #[tactic(auto, unfolding(crate::specs::Checking::checks_of))]
+    fn checks(&self) -> Checks
+        ensures { result ≡ checks_of self.now }
+    {
+        let kind = self.dictionary.kind();
+        let output_bits = self.dictionary.output_bits();
+        let input_bits = self.dictionary.input_bits();
+        Checks {
+            mailbox: has_mailboxes(&self.managers, kind.mailbox()),
+            outputs: fits_process_data(&self.managers[2], output_bits, kind.out_start(), OUTPUTS),
+            inputs: fits_process_data(&self.managers[3], input_bits, kind.in_start(), INPUTS),
+        }
+    }
+
+    /// The AL control word.
+    fn control_word(&self) -> u16
+        ensures { result ≡ control_word_of self.now }
+    {
+        let at = AL_CONTROL;
+        self.memory[at] as u16 + 256 * self.memory[at + 1] as u16
+    }
+}
+
+/// The counter of the last reply after a state was entered: PREOP entered from INIT begins anew.
+fn replies_in(old: State, new: State, replies: u8) -> u8
+    ensures { result ≡ replies_entered old new replies }
 {
-    let settings = manager.settings();
-    manager.is_enabled()
-        && settings.start == start
-        && settings.length as usize == len
-        && settings.control % 16 == mode
+    match (old, new) {
+        (State::Init, State::PreOp) => 0,
+        _ => replies,
+    }
+}
+
+/// What entering a state does to the managers.
+fn enter_state(managers: &mut [SyncManager], old: State, new: State)
+    requires { length managers.old ≡ 4 }
+    ensures { managers.new ≡ managers_entered old new managers.old }
+{
+    match (old, new) {
+        (State::PreOp | State::SafeOp | State::Op, State::Init) => {
+            unlock(&mut managers[0]);
+            unlock(&mut managers[1]);
+            unlock(&mut managers[2]);
+            unlock(&mut managers[3]);
+        }
+        (State::PreOp, State::SafeOp) => managers[3].publish_zeros(),
+        _ => {}
+    }
+}
+
+/// Sets the deactivate bit of a manager and empties it.
+fn lock(manager: &mut SyncManager)
+    ensures { manager.new ≡ locked_empty manager.old }
+{
+    manager.set_locked(true);
+    manager.empty();
+}
+
+/// Clears the deactivate bit of a manager and empties it.
+fn unlock(manager: &mut SyncManager)
+    ensures { manager.new ≡ unlocked_empty manager.old }
+{
+    manager.set_locked(false);
+    manager.empty();
+}
+
+/// Whether a manager fits so many bits of process data: it has their bytes, and for none it isn't activated.
+fn fits_process_data(manager: &SyncManager, bits: usize, start: u16, mode: u8) -> bool
+    requires { bits < 2 ^ 20 }
+    ensures { result ≡ process_check manager.now bits start mode }
+{
+    if bits == 0 {
+        manager.settings().activate % 2 == 0
+    } else {
+        is_manager(manager, start, (bits + 7) / 8, mode)
+    }
 }
 
 /// Whether managers 0 and 1 are the type's mailboxes, if it has any.
@@ -59,152 +198,13 @@ fn has_mailboxes(managers: &[SyncManager], mailbox: Option<Mailbox>) -> bool
     }
 }
 
-/// Whether a manager fits so many bits of process data: it has their bytes, and for none it isn't activated.
-fn fits_process_data(manager: &SyncManager, bits: usize, start: u16, mode: u8) -> bool
-    requires { bits < 2 ^ 20 }
-    ensures { result ≡ process_check manager.now bits start mode }
+/// Whether a manager is enabled and has this start, this length in bytes, and these bits 0 to 3 of its control byte.
+fn is_manager(manager: &SyncManager, start: u16, len: usize, mode: u8) -> bool
+    ensures { result ≡ is_manager_of manager.now start len mode }
 {
-    if bits == 0 {
-        manager.settings().activate % 2 == 0
-    } else {
-        is_manager(manager, start, (bits + 7) / 8, mode)
-    }
-}
-
-/// Clears the deactivate bit of a manager and empties it.
-fn unlock(manager: &mut SyncManager)
-    ensures { manager.new ≡ unlocked_empty manager.old }
-{
-    manager.set_locked(false);
-    manager.empty();
-}
-
-/// Sets the deactivate bit of a manager and empties it.
-fn lock(manager: &mut SyncManager)
-    ensures { manager.new ≡ locked_empty manager.old }
-{
-    manager.set_locked(true);
-    manager.empty();
-}
-
-/// What entering a state does to the managers.
-fn enter_state(managers: &mut [SyncManager], old: State, new: State)
-    requires { length managers.old ≡ 4 }
-    ensures { managers.new ≡ managers_entered old new managers.old }
-{
-    match (old, new) {
-        (State::PreOp | State::SafeOp | State::Op, State::Init) => {
-            unlock(&mut managers[0]);
-            unlock(&mut managers[1]);
-            unlock(&mut managers[2]);
-            unlock(&mut managers[3]);
-        }
-        (State::PreOp, State::SafeOp) => managers[3].publish_zeros(),
-        _ => {}
-    }
-}
-
-/// The counter of the last reply after a state was entered: PREOP entered from INIT begins anew.
-fn replies_in(old: State, new: State, replies: u8) -> u8
-    ensures { result ≡ replies_entered old new replies }
-{
-    match (old, new) {
-        (State::Init, State::PreOp) => 0,
-        _ => replies,
-    }
-}
-
-impl Slave {
-    /// A step of the slave's firmware. In this order: an AL request that waits is decided, by the checks of the managers
-    /// against the type and the PDOs that are assigned; a read of the SII is finished; and one mailbox message is taken
-    /// and answered, or dropped where it is no SDO request. It takes no memory.
-    #[tactic(auto, unfolding(crate::specs::Serving::served))]
-    pub fn serve(&mut self)
-        ensures { self.new ≡ served self.old }
-    {
-        self.decide_request();
-        self.finish_read();
-        self.serve_message();
-    }
-
-    /// The AL control word.
-    fn control_word(&self) -> u16
-        ensures { result ≡ control_word_of self.now }
-    {
-        let at = AL_CONTROL;
-        self.memory[at] as u16 + 256 * self.memory[at + 1] as u16
-    }
-
-    /// Whether the managers are as the states above INIT need them.
-    #[tactic(auto, unfolding(crate::specs::Checking::checks_of))]
-    fn checks(&self) -> Checks
-        ensures { result ≡ checks_of self.now }
-    {
-        let kind = self.dictionary.kind();
-        let output_bits = self.dictionary.output_bits();
-        let input_bits = self.dictionary.input_bits();
-        Checks {
-            mailbox: has_mailboxes(&self.managers, kind.mailbox()),
-            outputs: fits_process_data(&self.managers[2], output_bits, kind.out_start(), OUTPUTS),
-            inputs: fits_process_data(&self.managers[3], input_bits, kind.in_start(), INPUTS),
-        }
-    }
-
-    /// Decides the AL request that waits, if one does.
-    #[tactic(auto, unfolding(crate::specs::Serving::request_decided))]
-    fn decide_request(&mut self)
-        ensures { self.new ≡ request_decided self.old }
-    {
-        if self.al.is_requested() {
-            self.decide_waiting();
-        }
-    }
-
-    /// The same, where one waits. It stands apart so that a step in which none does is short.
-    #[inline(never)]
-    fn decide_waiting(&mut self)
-        requires { self.old.al.requested ≡ true }
-        ensures { self.new ≡ request_decided self.old }
-    {
-        let control = self.control_word();
-        let checks = self.checks();
-        let old = self.al.state();
-        self.al.step(control, checks);
-        let new = self.al.state();
-        enter_state(&mut self.managers, old, new);
-        self.replies = replies_in(old, new, self.replies);
-    }
-
-    /// Finishes the read of the SII that is under way, if one is.
-    #[tactic(auto, unfolding(crate::specs::Serving::read_finished, ec_sii::specs::Port::stepped))]
-    fn finish_read(&mut self)
-        ensures { self.new ≡ read_finished self.old }
-    {
-        if self.port.is_busy() {
-            self.read_words();
-        }
-    }
-
-    /// The same, where one is. It stands apart so that a step in which none is is short.
-    #[tactic(auto, unfolding(crate::specs::Serving::read_finished))]
-    #[inline(never)]
-    fn read_words(&mut self)
-        ensures { self.new ≡ read_finished self.old }
-    {
-        self.port.step();
-    }
-
-    /// A fault of the slave's application: in OP, and only there, it leads to SAFEOP with an error, locks and empties
-    /// manager 2, and the answer is true.
-    #[tactic(auto, unfolding(crate::specs::Faulting::faulted))]
-    pub fn fault(&mut self) -> bool
-        ensures taken { IsTrue result ↔ (self.old.al.state ≡ Op) }
-        ensures after { self.new ≡ faulted self.old }
-    {
-        if !self.al.fault() {
-            return false;
-        }
-        lock(&mut self.managers[2]);
-        true
-    }
+    let settings = manager.settings();
+    manager.is_enabled()
+        && settings.start == start
+        && settings.length as usize == len
+        && settings.control % 16 == mode
 }

@@ -9,18 +9,6 @@ use ec_fmmu::{Fmmu, FmmuTable};
 use ec_regs::decode_fmmu;
 use ec_regs::registers::fmmu_address;
 
-/// FMMU `number` as its sixteen registers stand.
-fn fmmu_at(memory: &[u8], number: usize) -> Fmmu
-    requires room { length memory.now ≡ ram_end }
-    requires four { number < 4 }
-    ensures { result ≡ fmmu_of (λ k. slice_index memory.now (fmmu_place number + k)) }
-{
-    let at = fmmu_address(number);
-    let mut record = [0; 16];
-    record.copy_from_slice(&memory[at..at + 16]);
-    Fmmu::new(decode_fmmu(&record))
-}
-
 /// The four FMMUs as their registers stand.
 pub(crate) fn read_fmmus(memory: &[u8]) -> FmmuTable
     requires { length memory.now ≡ ram_end }
@@ -32,4 +20,16 @@ pub(crate) fn read_fmmus(memory: &[u8]) -> FmmuTable
         fmmu_at(memory, 2),
         fmmu_at(memory, 3),
     ])
+}
+
+/// FMMU `number` as its sixteen registers stand.
+fn fmmu_at(memory: &[u8], number: usize) -> Fmmu
+    requires room { length memory.now ≡ ram_end }
+    requires four { number < 4 }
+    ensures { result ≡ fmmu_of (λ k. slice_index memory.now (fmmu_place number + k)) }
+{
+    let at = fmmu_address(number);
+    let mut record = [0; 16];
+    record.copy_from_slice(&memory[at..at + 16]);
+    Fmmu::new(decode_fmmu(&record))
 }

@@ -26,98 +26,6 @@ use crate::role::Role;
 use crate::slave::Slave;
 
 impl Slave {
-    /// A datagram that reads through the FMMUs, and whether a bit was read.
-    fn read_bits(&mut self, from: u64, bytes: &mut [u8]) -> bool
-        requires { from + 8 * length bytes.old < 2 ^ 64 }
-        ensures slave { self.new ≡ logical_after self.old true false (record { from = from; bits = 8 * length bytes.old }) bytes.old }
-        ensures bytes { bytes.new ≡ overlay bytes.old (read_bit self.old.memory self.old.managers (fmmus self.old) (record { from = from; bits = 8 * length bytes.old })) }
-        ensures some { result ≡ some_read self.old.memory self.old.managers (fmmus self.old) (record { from = from; bits = 8 * length bytes.old }) }
-    {
-        let is_read = read_logical(&self.memory, &self.managers, &self.fmmus, from, bytes);
-        access_managers(&mut self.managers, true, false, &self.fmmus, from, bytes);
-        is_read
-    }
-
-    /// A datagram that writes through the FMMUs, and may read as well, and whether a bit was written.
-    fn write_bits(&mut self, reading: bool, from: u64, bytes: &[u8]) -> bool
-        requires { from + 8 * length bytes.now < 2 ^ 64 }
-        ensures slave { self.new ≡ logical_after self.old reading true (record { from = from; bits = 8 * length bytes.now }) bytes.now }
-        ensures some { result ≡ some_written self.old.managers (fmmus self.old) (record { from = from; bits = 8 * length bytes.now }) bytes.now }
-    {
-        let fmmus = &self.fmmus;
-        let in_memory = write_logical(&mut self.memory, &self.managers, fmmus, from, bytes);
-        let in_manager = access_managers(&mut self.managers, reading, true, fmmus, from, bytes);
-        in_memory | in_manager
-    }
-
-    /// A datagram that reads and writes, of which `received` is a copy of the data.
-    fn read_write_bits(&mut self, from: u64, received: &[u8], bytes: &mut [u8]) -> u16
-        requires small { from + 8 * length bytes.old < 2 ^ 64 }
-        requires same { received.now ≡ bytes.old }
-        ensures slave { self.new ≡ logical_after self.old true true (record { from = from; bits = 8 * length bytes.old }) bytes.old }
-        ensures bytes { bytes.new ≡ overlay bytes.old (read_bit self.old.memory self.old.managers (fmmus self.old) (record { from = from; bits = 8 * length bytes.old })) }
-        ensures added { result ≡ from_bool (some_read self.old.memory self.old.managers (fmmus self.old) (record { from = from; bits = 8 * length bytes.old }))
-            + 2 * from_bool (some_written self.old.managers (fmmus self.old) (record { from = from; bits = 8 * length bytes.old }) bytes.old) }
-    {
-        let is_read = read_logical(&self.memory, &self.managers, &self.fmmus, from, bytes);
-        let is_written = self.write_bits(true, from, received);
-        is_read as u16 + 2 * is_written as u16
-    }
-
-    /// The same, with a copy of its own.
-    #[inline(never)]
-    fn read_write_copied_bits(&mut self, from: u64, bytes: &mut [u8]) -> u16
-        requires small { from + 8 * length bytes.old < 2 ^ 64 }
-        requires few { length bytes.old < 2048 }
-        ensures slave { self.new ≡ logical_after self.old true true (record { from = from; bits = 8 * length bytes.old }) bytes.old }
-        ensures bytes { bytes.new ≡ overlay bytes.old (read_bit self.old.memory self.old.managers (fmmus self.old) (record { from = from; bits = 8 * length bytes.old })) }
-        ensures added { result ≡ from_bool (some_read self.old.memory self.old.managers (fmmus self.old) (record { from = from; bits = 8 * length bytes.old }))
-            + 2 * from_bool (some_written self.old.managers (fmmus self.old) (record { from = from; bits = 8 * length bytes.old }) bytes.old) }
-    {
-        let mut copy = [0; MAX_DATA];
-        let received = &mut copy[..bytes.len()];
-        received.copy_from_slice(bytes);
-        self.read_write_bits(from, received, bytes)
-    }
-
-    /// Whether no bit of the memory that is read is one that is written, so that a datagram may
-    /// write first. False says nothing.
-    fn may_write_first(&self) -> bool
-        ensures { OnTrue result (MayWriteFirst self.now) }
-    {
-        self.fmmus.is_apart()
-    }
-
-    /// A datagram that reads and writes, where it may write first: its data need no copy.
-    fn write_and_read_bits(&mut self, from: u64, bytes: &mut [u8]) -> u16
-        requires small { from + 8 * length bytes.old < 2 ^ 64 }
-        requires first { MayWriteFirst self.old }
-        ensures slave { self.new ≡ logical_after self.old true true (record { from = from; bits = 8 * length bytes.old }) bytes.old }
-        ensures bytes { bytes.new ≡ overlay bytes.old (read_bit self.old.memory self.old.managers (fmmus self.old) (record { from = from; bits = 8 * length bytes.old })) }
-        ensures added { result ≡ from_bool (some_read self.old.memory self.old.managers (fmmus self.old) (record { from = from; bits = 8 * length bytes.old }))
-            + 2 * from_bool (some_written self.old.managers (fmmus self.old) (record { from = from; bits = 8 * length bytes.old }) bytes.old) }
-    {
-        let is_written = self.write_bits(false, from, bytes);
-        self.read_bits(from, bytes) as u16 + 2 * is_written as u16
-    }
-
-    /// A datagram that reads and writes: its data are copied only where a bit that is read may also
-    /// be written.
-    fn exchange_bits(&mut self, from: u64, bytes: &mut [u8]) -> u16
-        requires small { from + 8 * length bytes.old < 2 ^ 64 }
-        requires few { length bytes.old < 2048 }
-        ensures slave { self.new ≡ logical_after self.old true true (record { from = from; bits = 8 * length bytes.old }) bytes.old }
-        ensures bytes { bytes.new ≡ overlay bytes.old (read_bit self.old.memory self.old.managers (fmmus self.old) (record { from = from; bits = 8 * length bytes.old })) }
-        ensures added { result ≡ from_bool (some_read self.old.memory self.old.managers (fmmus self.old) (record { from = from; bits = 8 * length bytes.old }))
-            + 2 * from_bool (some_written self.old.managers (fmmus self.old) (record { from = from; bits = 8 * length bytes.old }) bytes.old) }
-    {
-        if self.may_write_first() {
-            self.write_and_read_bits(from, bytes)
-        } else {
-            self.read_write_copied_bits(from, bytes)
-        }
-    }
-
     /// Whether no FMMU has one of so many logical bits in its range, so that a datagram over them
     /// passes at the price of a few compares. False says nothing.
     pub(crate) fn misses(&self, from: u64, bits: u64) -> bool
@@ -125,23 +33,6 @@ impl Slave {
         ensures { OnTrue result (Misses self.now (record { from = from; bits = bits })) }
     {
         self.fmmus.is_outside(from, bits)
-    }
-
-    /// Meets the bits of a datagram in a role, whatever the FMMUs and the managers are.
-    #[inline(never)]
-    fn access_any_bits(&mut self, role: Role, from: u64, bytes: &mut [u8]) -> u16
-        requires small { from + 8 * length bytes.old < 2 ^ 64 }
-        requires few { length bytes.old < 2048 }
-        ensures slave { self.new ≡ (mapped_met self.old role (record { from = from; bits = 8 * length bytes.old }) bytes.old).slave }
-        ensures bytes { bytes.new ≡ (mapped_met self.old role (record { from = from; bits = 8 * length bytes.old }) bytes.old).bytes }
-        ensures added { result ≡ (mapped_met self.old role (record { from = from; bits = 8 * length bytes.old }) bytes.old).added }
-    {
-        match role {
-            Role::Nothing => 0,
-            Role::Read | Role::OrRead => self.read_bits(from, bytes) as u16,
-            Role::Write => self.write_bits(false, from, bytes) as u16,
-            Role::ReadWrite | Role::OrReadWrite => self.exchange_bits(from, bytes),
-        }
     }
 
     /// Meets the bits of a datagram in a role, and answers what the working counter grows by. Whether
@@ -162,6 +53,115 @@ impl Slave {
                 self.exchange_plain(&mapped, role, from, bytes)
             }
             _ => self.access_any_bits(role, from, bytes),
+        }
+    }
+
+    /// A datagram that reads and writes: its data are copied only where a bit that is read may also
+    /// be written.
+    fn exchange_bits(&mut self, from: u64, bytes: &mut [u8]) -> u16
+        requires small { from + 8 * length bytes.old < 2 ^ 64 }
+        requires few { length bytes.old < 2048 }
+        ensures slave { self.new ≡ logical_after self.old true true (record { from = from; bits = 8 * length bytes.old }) bytes.old }
+        ensures bytes { bytes.new ≡ overlay bytes.old (read_bit self.old.memory self.old.managers (fmmus self.old) (record { from = from; bits = 8 * length bytes.old })) }
+        ensures added { result ≡ from_bool (some_read self.old.memory self.old.managers (fmmus self.old) (record { from = from; bits = 8 * length bytes.old }))
+            + 2 * from_bool (some_written self.old.managers (fmmus self.old) (record { from = from; bits = 8 * length bytes.old }) bytes.old) }
+    {
+        if self.may_write_first() {
+            self.write_and_read_bits(from, bytes)
+        } else {
+            self.read_write_copied_bits(from, bytes)
+        }
+    }
+
+    /// A datagram that reads and writes, where it may write first: its data need no copy.
+    fn write_and_read_bits(&mut self, from: u64, bytes: &mut [u8]) -> u16
+        requires small { from + 8 * length bytes.old < 2 ^ 64 }
+        requires first { MayWriteFirst self.old }
+        ensures slave { self.new ≡ logical_after self.old true true (record { from = from; bits = 8 * length bytes.old }) bytes.old }
+        ensures bytes { bytes.new ≡ overlay bytes.old (read_bit self.old.memory self.old.managers (fmmus self.old) (record { from = from; bits = 8 * length bytes.old })) }
+        ensures added { result ≡ from_bool (some_read self.old.memory self.old.managers (fmmus self.old) (record { from = from; bits = 8 * length bytes.old }))
+            + 2 * from_bool (some_written self.old.managers (fmmus self.old) (record { from = from; bits = 8 * length bytes.old }) bytes.old) }
+    {
+        let is_written = self.write_bits(false, from, bytes);
+        self.read_bits(from, bytes) as u16 + 2 * is_written as u16
+    }
+
+    /// Whether no bit of the memory that is read is one that is written, so that a datagram may
+    /// write first. False says nothing.
+    fn may_write_first(&self) -> bool
+        ensures { OnTrue result (MayWriteFirst self.now) }
+    {
+        self.fmmus.is_apart()
+    }
+
+    /// The same, with a copy of its own.
+    #[inline(never)]
+    fn read_write_copied_bits(&mut self, from: u64, bytes: &mut [u8]) -> u16
+        requires small { from + 8 * length bytes.old < 2 ^ 64 }
+        requires few { length bytes.old < 2048 }
+        ensures slave { self.new ≡ logical_after self.old true true (record { from = from; bits = 8 * length bytes.old }) bytes.old }
+        ensures bytes { bytes.new ≡ overlay bytes.old (read_bit self.old.memory self.old.managers (fmmus self.old) (record { from = from; bits = 8 * length bytes.old })) }
+        ensures added { result ≡ from_bool (some_read self.old.memory self.old.managers (fmmus self.old) (record { from = from; bits = 8 * length bytes.old }))
+            + 2 * from_bool (some_written self.old.managers (fmmus self.old) (record { from = from; bits = 8 * length bytes.old }) bytes.old) }
+    {
+        let mut copy = [0; MAX_DATA];
+        let received = &mut copy[..bytes.len()];
+        received.copy_from_slice(bytes);
+        self.read_write_bits(from, received, bytes)
+    }
+
+    /// A datagram that reads and writes, of which `received` is a copy of the data.
+    fn read_write_bits(&mut self, from: u64, received: &[u8], bytes: &mut [u8]) -> u16
+        requires small { from + 8 * length bytes.old < 2 ^ 64 }
+        requires same { received.now ≡ bytes.old }
+        ensures slave { self.new ≡ logical_after self.old true true (record { from = from; bits = 8 * length bytes.old }) bytes.old }
+        ensures bytes { bytes.new ≡ overlay bytes.old (read_bit self.old.memory self.old.managers (fmmus self.old) (record { from = from; bits = 8 * length bytes.old })) }
+        ensures added { result ≡ from_bool (some_read self.old.memory self.old.managers (fmmus self.old) (record { from = from; bits = 8 * length bytes.old }))
+            + 2 * from_bool (some_written self.old.managers (fmmus self.old) (record { from = from; bits = 8 * length bytes.old }) bytes.old) }
+    {
+        let is_read = read_logical(&self.memory, &self.managers, &self.fmmus, from, bytes);
+        let is_written = self.write_bits(true, from, received);
+        is_read as u16 + 2 * is_written as u16
+    }
+
+    /// A datagram that writes through the FMMUs, and may read as well, and whether a bit was written.
+    fn write_bits(&mut self, reading: bool, from: u64, bytes: &[u8]) -> bool
+        requires { from + 8 * length bytes.now < 2 ^ 64 }
+        ensures slave { self.new ≡ logical_after self.old reading true (record { from = from; bits = 8 * length bytes.now }) bytes.now }
+        ensures some { result ≡ some_written self.old.managers (fmmus self.old) (record { from = from; bits = 8 * length bytes.now }) bytes.now }
+    {
+        let fmmus = &self.fmmus;
+        let in_memory = write_logical(&mut self.memory, &self.managers, fmmus, from, bytes);
+        let in_manager = access_managers(&mut self.managers, reading, true, fmmus, from, bytes);
+        in_memory | in_manager
+    }
+
+    /// A datagram that reads through the FMMUs, and whether a bit was read.
+    fn read_bits(&mut self, from: u64, bytes: &mut [u8]) -> bool
+        requires { from + 8 * length bytes.old < 2 ^ 64 }
+        ensures slave { self.new ≡ logical_after self.old true false (record { from = from; bits = 8 * length bytes.old }) bytes.old }
+        ensures bytes { bytes.new ≡ overlay bytes.old (read_bit self.old.memory self.old.managers (fmmus self.old) (record { from = from; bits = 8 * length bytes.old })) }
+        ensures some { result ≡ some_read self.old.memory self.old.managers (fmmus self.old) (record { from = from; bits = 8 * length bytes.old }) }
+    {
+        let is_read = read_logical(&self.memory, &self.managers, &self.fmmus, from, bytes);
+        access_managers(&mut self.managers, true, false, &self.fmmus, from, bytes);
+        is_read
+    }
+
+    /// Meets the bits of a datagram in a role, whatever the FMMUs and the managers are.
+    #[inline(never)]
+    fn access_any_bits(&mut self, role: Role, from: u64, bytes: &mut [u8]) -> u16
+        requires small { from + 8 * length bytes.old < 2 ^ 64 }
+        requires few { length bytes.old < 2048 }
+        ensures slave { self.new ≡ (mapped_met self.old role (record { from = from; bits = 8 * length bytes.old }) bytes.old).slave }
+        ensures bytes { bytes.new ≡ (mapped_met self.old role (record { from = from; bits = 8 * length bytes.old }) bytes.old).bytes }
+        ensures added { result ≡ (mapped_met self.old role (record { from = from; bits = 8 * length bytes.old }) bytes.old).added }
+    {
+        match role {
+            Role::Nothing => 0,
+            Role::Read | Role::OrRead => self.read_bits(from, bytes) as u16,
+            Role::Write => self.write_bits(false, from, bytes) as u16,
+            Role::ReadWrite | Role::OrReadWrite => self.exchange_bits(from, bytes),
         }
     }
 }

@@ -21,21 +21,70 @@ fn is_preop(state: State) -> bool
 }
 
 impl Slave {
-    /// Whether messages are answered: in every state but INIT, by a type with a mailbox.
-    fn has_mailbox(&self) -> bool
-        ensures { result ≡ has_mailbox_in self.now }
+    /// Takes a message, where one lies in manager 0 and the reply can lie in manager 1, and answers it where it is a request; a
+    /// full slave refuses any other, and any other slave drops it.
+    #[tactic(auto, unfolding(crate::specs::Serving::message_served))]
+    pub(crate) fn serve_message(&mut self)
+        ensures { self.new ≡ message_served self.old }
     {
-        self.al.state() != State::Init && self.dictionary.kind().mailbox().is_some()
+        if self.is_served() {
+            self.exchange_message();
+        }
     }
 
-    /// The request that lies in manager 0: a message of CoE with the service of a request, where manager 1 has room for
-    /// the reply.
-    fn request(&self) -> Option<Message>
-        ensures { result ≡ request_in self.now }
+    /// Takes the message out of manager 0.
+    fn take_message(&mut self)
+        ensures { self.new ≡ with_manager self.old 0 (message_taken (manager_at self.old.managers 0)) }
     {
-        let message = read_message(self.managers[0].message()?).ok()?;
+        self.managers[0].mailbox_take();
+    }
+
+    /// Whether a message is taken now.
+    fn is_served(&self) -> bool
+        ensures { result ≡ is_served_now self.now }
+    {
+        self.has_mailbox() && self.can_reply() && self.has_message()
+    }
+
+    /// Whether a message lies in manager 0, an enabled mailbox that the ring writes.
+    fn has_message(&self) -> bool
+        ensures { result ≡ is_some (message_in (manager_at self.now.managers 0)) }
+    {
+        self.managers[0].message().is_some()
+    }
+
+    /// Whether the reply can lie in manager 1: an enabled, empty mailbox that the ring reads.
+    fn can_reply(&self) -> bool
+        ensures { result ≡ takes_reply (manager_at self.now.managers 1) }
+    {
+        self.managers[1].may_put_message(0)
+    }
+
+    /// Puts a refusal into manager 1, and counts it as a reply.
+    fn put_refusal(&mut self, bytes: &[u8])
+        ensures { self.new ≡ refused self.old bytes.now }
+    {
+        self.managers[1].mailbox_put(bytes);
+        self.replies = self.replies % 7 + 1;
+    }
+
+    /// What the message in manager 0 is answered with where it is no request, if it is refused.
+    fn refusal(&self) -> Option<RefusalBytes>
+        ensures { option_map (λ bytes. bytes.items) result ≡ refusal_in self.now }
+    {
+        if !self.refuses() {
+            return None;
+        }
+        let raw = self.managers[0].message()?;
+        Some(refuse(raw, self.replies % 7 + 1))
+    }
+
+    /// Whether a message that is no request is refused: by a full slave, where manager 1 has room for that.
+    fn refuses(&self) -> bool
+        ensures { result ≡ refuses_in self.now }
+    {
         let has_room = self.managers[1].settings().length as usize >= MESSAGE_LENGTH;
-        (message.service == Service::Request && has_room).then_some(message)
+        self.dictionary.kind().face().is_some() && has_room
     }
 
     /// Puts the answer to a request into manager 1, and counts it.
@@ -51,70 +100,21 @@ impl Slave {
         self.replies = counter;
     }
 
-    /// Whether a message that is no request is refused: by a full slave, where manager 1 has room for that.
-    fn refuses(&self) -> bool
-        ensures { result ≡ refuses_in self.now }
+    /// The request that lies in manager 0: a message of CoE with the service of a request, where manager 1 has room for
+    /// the reply.
+    fn request(&self) -> Option<Message>
+        ensures { result ≡ request_in self.now }
     {
+        let message = read_message(self.managers[0].message()?).ok()?;
         let has_room = self.managers[1].settings().length as usize >= MESSAGE_LENGTH;
-        self.dictionary.kind().face().is_some() && has_room
+        (message.service == Service::Request && has_room).then_some(message)
     }
 
-    /// What the message in manager 0 is answered with where it is no request, if it is refused.
-    fn refusal(&self) -> Option<RefusalBytes>
-        ensures { option_map (λ bytes. bytes.items) result ≡ refusal_in self.now }
+    /// Whether messages are answered: in every state but INIT, by a type with a mailbox.
+    fn has_mailbox(&self) -> bool
+        ensures { result ≡ has_mailbox_in self.now }
     {
-        if !self.refuses() {
-            return None;
-        }
-        let raw = self.managers[0].message()?;
-        Some(refuse(raw, self.replies % 7 + 1))
-    }
-
-    /// Puts a refusal into manager 1, and counts it as a reply.
-    fn put_refusal(&mut self, bytes: &[u8])
-        ensures { self.new ≡ refused self.old bytes.now }
-    {
-        self.managers[1].mailbox_put(bytes);
-        self.replies = self.replies % 7 + 1;
-    }
-
-    /// Whether the reply can lie in manager 1: an enabled, empty mailbox that the ring reads.
-    fn can_reply(&self) -> bool
-        ensures { result ≡ takes_reply (manager_at self.now.managers 1) }
-    {
-        self.managers[1].may_put_message(0)
-    }
-
-    /// Whether a message lies in manager 0, an enabled mailbox that the ring writes.
-    fn has_message(&self) -> bool
-        ensures { result ≡ is_some (message_in (manager_at self.now.managers 0)) }
-    {
-        self.managers[0].message().is_some()
-    }
-
-    /// Whether a message is taken now.
-    fn is_served(&self) -> bool
-        ensures { result ≡ is_served_now self.now }
-    {
-        self.has_mailbox() && self.can_reply() && self.has_message()
-    }
-
-    /// Takes the message out of manager 0.
-    fn take_message(&mut self)
-        ensures { self.new ≡ with_manager self.old 0 (message_taken (manager_at self.old.managers 0)) }
-    {
-        self.managers[0].mailbox_take();
-    }
-
-    /// Takes a message, where one lies in manager 0 and the reply can lie in manager 1, and answers it where it is a request; a
-    /// full slave refuses any other, and any other slave drops it.
-    #[tactic(auto, unfolding(crate::specs::Serving::message_served))]
-    pub(crate) fn serve_message(&mut self)
-        ensures { self.new ≡ message_served self.old }
-    {
-        if self.is_served() {
-            self.exchange_message();
-        }
+        self.al.state() != State::Init && self.dictionary.kind().mailbox().is_some()
     }
 
     /// The same, where one is taken. It stands apart so that a step in which none is is short.

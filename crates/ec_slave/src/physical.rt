@@ -57,28 +57,163 @@ fn write_managers(managers: &mut [SyncManager], reads: bool, from: usize, bytes:
 }
 
 impl Slave {
-    /// Reads into the `count` bytes of a datagram from `at` on, all of which it reads and that have this governor, or
-    /// none, as far as they lie in the RAM: at once where what they show lies together.
-    fn read_part(
-        &self,
-        owner: Option<usize>,
+    /// Meets the bytes of a datagram in a role, and answers what the working counter grows by.
+    #[tactic(auto, using(crate::proofs::Idle::slave_idle), unfolding(crate::specs::Physical::physical_met))]
+    pub(crate) fn access_bytes(&mut self, role: Role, from: usize, bytes: &mut [u8]) -> u16
+        requires small { from + length bytes.old < 2 ^ 32 }
+        requires few { length bytes.old < 2048 }
+        ensures slave { self.new ≡ (physical_met self.old role (record { from = from; bytes = bytes.old })).slave }
+        ensures bytes { bytes.new ≡ (physical_met self.old role (record { from = from; bytes = bytes.old })).bytes }
+        ensures added { result ≡ (physical_met self.old role (record { from = from; bytes = bytes.old })).added }
+    {
+        match role {
+            Role::Nothing => 0,
+            Role::Read => self.read_bytes(false, from, bytes),
+            Role::OrRead => self.read_bytes(true, from, bytes),
+            Role::Write => self.write_bytes(false, from, bytes) as u16,
+            Role::ReadWrite => self.read_write_copied_bytes(false, from, bytes),
+            Role::OrReadWrite => self.read_write_copied_bytes(true, from, bytes),
+        }
+    }
+
+    /// The same, with a copy of its own.
+    #[inline(never)]
+    fn read_write_copied_bytes(&mut self, joining: bool, from: usize, bytes: &mut [u8]) -> u16
+        requires small { from + length bytes.old < 2 ^ 32 }
+        requires few { length bytes.old < 2048 }
+        ensures slave { self.new ≡ physical_after self.old true true (record { from = from; bytes = bytes.old }) }
+        ensures bytes { bytes.new ≡ retold bytes.old (byte_read self.old joining (record { from = from; bytes = bytes.old })) }
+        ensures added { result ≡ from_bool (some_byte_read self.old.managers (record { from = from; bytes = bytes.old }))
+            + 2 * from_bool (is_written self.old (record { from = from; bytes = bytes.old })) }
+    {
+        let mut copy = [0; MAX_DATA];
+        let received = &mut copy[..bytes.len()];
+        received.copy_from_slice(bytes);
+        self.read_write_bytes(joining, from, received, bytes)
+    }
+
+    /// A datagram that reads and writes, of which `received` is a copy of the bytes.
+    fn read_write_bytes(
+        &mut self,
         joining: bool,
         from: usize,
-        at: usize,
-        count: usize,
+        received: &[u8],
         bytes: &mut [u8],
-    )
+    ) -> u16
         requires small { from + length bytes.old < 2 ^ 32 }
-        requires inside { at + count ≤ length bytes.old }
-        requires reads { (i : ℕ) → at ≤ i → i < at + count → may_read_byte self.now.managers (within from (length bytes.old)) (from + i) ≡ true }
-        requires memory { (i : ℕ) → at ≤ i → i < at + count → from + i < ram_end }
-        requires within { IfSome owner (λ n. n < length self.now.managers) }
-        requires owner { (a : ℕ) → ram_start ≤ a → from + at ≤ a → a < from + at + count → owner ≡ governor_of self.now.managers a }
-        ensures { bytes.new ≡ retold bytes.old (λ i. if within at count i then byte_read self.now joining (record { from = from; bytes = bytes.old }) i else None) }
+        requires same { received.now ≡ bytes.old }
+        ensures slave { self.new ≡ physical_after self.old true true (record { from = from; bytes = bytes.old }) }
+        ensures bytes { bytes.new ≡ retold bytes.old (byte_read self.old joining (record { from = from; bytes = bytes.old })) }
+        ensures added { result ≡ from_bool (some_byte_read self.old.managers (record { from = from; bytes = bytes.old }))
+            + 2 * from_bool (is_written self.old (record { from = from; bytes = bytes.old })) }
     {
-        match self.shown_together(owner, from + at, count) {
-            Some(shown) => read_slice(joining, &mut bytes[at..at + count], shown),
-            None => self.read_part_each(owner, joining, from, at, count, bytes),
+        let is_read = self.read_physical(joining, from, bytes);
+        let is_written = self.write_bytes(true, from, received);
+        is_read as u16 + 2 * is_written as u16
+    }
+
+    /// A datagram that reads.
+    fn read_bytes(&mut self, joining: bool, from: usize, bytes: &mut [u8]) -> u16
+        requires { from + length bytes.old < 2 ^ 32 }
+        ensures slave { self.new ≡ physical_after self.old true false (record { from = from; bytes = bytes.old }) }
+        ensures bytes { bytes.new ≡ retold bytes.old (byte_read self.old joining (record { from = from; bytes = bytes.old })) }
+        ensures added { result ≡ from_bool (some_byte_read self.old.managers (record { from = from; bytes = bytes.old })) }
+    {
+        let is_read = self.read_physical(joining, from, bytes);
+        self.after_read(from, bytes);
+        is_read as u16
+    }
+
+    /// What a read does to the managers: a mailbox that it had is empty. Registers belong to none.
+    #[tactic(auto, unfolding(crate::specs::Physical::physical_after))]
+    fn after_read(&mut self, from: usize, bytes: &[u8])
+        requires { from + length bytes.now < 2 ^ 32 }
+        ensures { self.new ≡ physical_after self.old true false (record { from = from; bytes = bytes.now }) }
+    {
+        if from + bytes.len() > RAM_START {
+            access_managers(&mut self.managers, true, false, from, bytes);
+        }
+    }
+
+    /// Writes the bytes of a datagram, and answers whether one was written.
+    #[tactic(auto, unfolding(crate::specs::Physical::physical_after))]
+    fn write_bytes(&mut self, reads: bool, from: usize, bytes: &[u8]) -> bool
+        requires { from + length bytes.now < 2 ^ 32 }
+        ensures slave { self.new ≡ physical_after self.old reads true (record { from = from; bytes = bytes.now }) }
+        ensures some { result ≡ is_written self.old (record { from = from; bytes = bytes.now }) }
+    {
+        let is_busy = self.port.is_busy();
+        let is_some = write_physical(&mut self.memory, &self.managers, is_busy, from, bytes);
+        request_if(&mut self.al, within(from, bytes.len(), AL_CONTROL));
+        self.port.write(from, bytes);
+        let is_kept = self.link.write(from, bytes);
+        write_managers(&mut self.managers, reads, from, bytes);
+        renew_fmmus(&mut self.fmmus, &self.memory, from, bytes.len());
+        is_some || is_kept
+    }
+
+    /// Reads into the bytes of a datagram, and answers whether one was read. Who governs bytes, and whether they may be
+    /// read, is asked once for each part of which all or none are.
+    fn read_parts(&self, joining: bool, from: usize, bytes: &mut [u8]) -> bool
+        requires { from + length bytes.old < 2 ^ 32 }
+        ensures bytes { bytes.new ≡ retold bytes.old (byte_read self.now joining (record { from = from; bytes = bytes.old })) }
+        ensures some { result ≡ some_byte_read self.now.managers (record { from = from; bytes = bytes.old }) }
+    {
+        let len = bytes.len();
+        let mut is_some = false;
+        let mut done = 0;
+        while done < len {
+            let first = from + done;
+            let owner = owner_of(&self.managers, first);
+            let count = end_of_part(&self.managers, first, from + len) - first;
+            if reads_byte(&self.managers, owner, from, len, first) {
+                is_some = true;
+                self.read_part(owner, joining, from, done, count, bytes);
+            }
+            done += count;
+        }
+        is_some
+    }
+
+    /// Reads the AL status word, which a master asks for most, into the two bytes of a datagram.
+    fn read_status(&self, joining: bool, bytes: &mut [u8])
+        requires { length bytes.old ≡ 2 }
+        ensures { bytes.new ≡ retold bytes.old (byte_read self.now joining (record { from = al_status; bytes = bytes.old })) }
+    {
+        let (low, high) = self.status_bytes();
+        bytes[0] = read_over(joining, bytes[0], low);
+        bytes[1] = read_over(joining, bytes[1], high);
+    }
+
+    /// Reads into the bytes of a datagram that lies within the registers, and answers whether one was read. All are,
+    /// and no manager governs one.
+    fn read_registers(&self, joining: bool, from: usize, bytes: &mut [u8]) -> bool
+        requires { from + length bytes.old ≤ ram_start }
+        ensures bytes { bytes.new ≡ retold bytes.old (byte_read self.now joining (record { from = from; bytes = bytes.old })) }
+        ensures some { result ≡ some_byte_read self.now.managers (record { from = from; bytes = bytes.old }) }
+    {
+        if from == AL_STATUS && bytes.len() == 2 {
+            self.read_status(joining, bytes);
+            return true;
+        }
+        let is_some = !bytes.is_empty();
+        for (i, byte) in bytes.iter_mut().enumerate() {
+            let shown = self.register_at(from + i);
+            *byte = read_over(joining, *byte, shown);
+        }
+        is_some
+    }
+
+    /// Reads into the bytes of a datagram, and answers whether one was read.
+    fn read_physical(&self, joining: bool, from: usize, bytes: &mut [u8]) -> bool
+        requires { from + length bytes.old < 2 ^ 32 }
+        ensures bytes { bytes.new ≡ retold bytes.old (byte_read self.now joining (record { from = from; bytes = bytes.old })) }
+        ensures some { result ≡ some_byte_read self.now.managers (record { from = from; bytes = bytes.old }) }
+    {
+        if from + bytes.len() <= RAM_START {
+            self.read_registers(joining, from, bytes)
+        } else {
+            self.read_parts(joining, from, bytes)
         }
     }
 
@@ -108,163 +243,28 @@ impl Slave {
         }
     }
 
-    /// Reads into the bytes of a datagram, and answers whether one was read.
-    fn read_physical(&self, joining: bool, from: usize, bytes: &mut [u8]) -> bool
-        requires { from + length bytes.old < 2 ^ 32 }
-        ensures bytes { bytes.new ≡ retold bytes.old (byte_read self.now joining (record { from = from; bytes = bytes.old })) }
-        ensures some { result ≡ some_byte_read self.now.managers (record { from = from; bytes = bytes.old }) }
-    {
-        if from + bytes.len() <= RAM_START {
-            self.read_registers(joining, from, bytes)
-        } else {
-            self.read_parts(joining, from, bytes)
-        }
-    }
-
-    /// Reads into the bytes of a datagram that lies within the registers, and answers whether one was read. All are,
-    /// and no manager governs one.
-    fn read_registers(&self, joining: bool, from: usize, bytes: &mut [u8]) -> bool
-        requires { from + length bytes.old ≤ ram_start }
-        ensures bytes { bytes.new ≡ retold bytes.old (byte_read self.now joining (record { from = from; bytes = bytes.old })) }
-        ensures some { result ≡ some_byte_read self.now.managers (record { from = from; bytes = bytes.old }) }
-    {
-        if from == AL_STATUS && bytes.len() == 2 {
-            self.read_status(joining, bytes);
-            return true;
-        }
-        let is_some = !bytes.is_empty();
-        for (i, byte) in bytes.iter_mut().enumerate() {
-            let shown = self.register_at(from + i);
-            *byte = read_over(joining, *byte, shown);
-        }
-        is_some
-    }
-
-    /// Reads the AL status word, which a master asks for most, into the two bytes of a datagram.
-    fn read_status(&self, joining: bool, bytes: &mut [u8])
-        requires { length bytes.old ≡ 2 }
-        ensures { bytes.new ≡ retold bytes.old (byte_read self.now joining (record { from = al_status; bytes = bytes.old })) }
-    {
-        let (low, high) = self.status_bytes();
-        bytes[0] = read_over(joining, bytes[0], low);
-        bytes[1] = read_over(joining, bytes[1], high);
-    }
-
-    /// Reads into the bytes of a datagram, and answers whether one was read. Who governs bytes, and whether they may be
-    /// read, is asked once for each part of which all or none are.
-    fn read_parts(&self, joining: bool, from: usize, bytes: &mut [u8]) -> bool
-        requires { from + length bytes.old < 2 ^ 32 }
-        ensures bytes { bytes.new ≡ retold bytes.old (byte_read self.now joining (record { from = from; bytes = bytes.old })) }
-        ensures some { result ≡ some_byte_read self.now.managers (record { from = from; bytes = bytes.old }) }
-    {
-        let len = bytes.len();
-        let mut is_some = false;
-        let mut done = 0;
-        while done < len {
-            let first = from + done;
-            let owner = owner_of(&self.managers, first);
-            let count = end_of_part(&self.managers, first, from + len) - first;
-            if reads_byte(&self.managers, owner, from, len, first) {
-                is_some = true;
-                self.read_part(owner, joining, from, done, count, bytes);
-            }
-            done += count;
-        }
-        is_some
-    }
-
-    /// Writes the bytes of a datagram, and answers whether one was written.
-    #[tactic(auto, unfolding(crate::specs::Physical::physical_after))]
-    fn write_bytes(&mut self, reads: bool, from: usize, bytes: &[u8]) -> bool
-        requires { from + length bytes.now < 2 ^ 32 }
-        ensures slave { self.new ≡ physical_after self.old reads true (record { from = from; bytes = bytes.now }) }
-        ensures some { result ≡ is_written self.old (record { from = from; bytes = bytes.now }) }
-    {
-        let is_busy = self.port.is_busy();
-        let is_some = write_physical(&mut self.memory, &self.managers, is_busy, from, bytes);
-        request_if(&mut self.al, within(from, bytes.len(), AL_CONTROL));
-        self.port.write(from, bytes);
-        let is_kept = self.link.write(from, bytes);
-        write_managers(&mut self.managers, reads, from, bytes);
-        renew_fmmus(&mut self.fmmus, &self.memory, from, bytes.len());
-        is_some || is_kept
-    }
-
-    /// What a read does to the managers: a mailbox that it had is empty. Registers belong to none.
-    #[tactic(auto, unfolding(crate::specs::Physical::physical_after))]
-    fn after_read(&mut self, from: usize, bytes: &[u8])
-        requires { from + length bytes.now < 2 ^ 32 }
-        ensures { self.new ≡ physical_after self.old true false (record { from = from; bytes = bytes.now }) }
-    {
-        if from + bytes.len() > RAM_START {
-            access_managers(&mut self.managers, true, false, from, bytes);
-        }
-    }
-
-    /// A datagram that reads.
-    fn read_bytes(&mut self, joining: bool, from: usize, bytes: &mut [u8]) -> u16
-        requires { from + length bytes.old < 2 ^ 32 }
-        ensures slave { self.new ≡ physical_after self.old true false (record { from = from; bytes = bytes.old }) }
-        ensures bytes { bytes.new ≡ retold bytes.old (byte_read self.old joining (record { from = from; bytes = bytes.old })) }
-        ensures added { result ≡ from_bool (some_byte_read self.old.managers (record { from = from; bytes = bytes.old })) }
-    {
-        let is_read = self.read_physical(joining, from, bytes);
-        self.after_read(from, bytes);
-        is_read as u16
-    }
-
-    /// A datagram that reads and writes, of which `received` is a copy of the bytes.
-    fn read_write_bytes(
-        &mut self,
+    /// Reads into the `count` bytes of a datagram from `at` on, all of which it reads and that have this governor, or
+    /// none, as far as they lie in the RAM: at once where what they show lies together.
+    fn read_part(
+        &self,
+        owner: Option<usize>,
         joining: bool,
         from: usize,
-        received: &[u8],
+        at: usize,
+        count: usize,
         bytes: &mut [u8],
-    ) -> u16
+    )
         requires small { from + length bytes.old < 2 ^ 32 }
-        requires same { received.now ≡ bytes.old }
-        ensures slave { self.new ≡ physical_after self.old true true (record { from = from; bytes = bytes.old }) }
-        ensures bytes { bytes.new ≡ retold bytes.old (byte_read self.old joining (record { from = from; bytes = bytes.old })) }
-        ensures added { result ≡ from_bool (some_byte_read self.old.managers (record { from = from; bytes = bytes.old }))
-            + 2 * from_bool (is_written self.old (record { from = from; bytes = bytes.old })) }
+        requires inside { at + count ≤ length bytes.old }
+        requires reads { (i : ℕ) → at ≤ i → i < at + count → may_read_byte self.now.managers (within from (length bytes.old)) (from + i) ≡ true }
+        requires memory { (i : ℕ) → at ≤ i → i < at + count → from + i < ram_end }
+        requires within { IfSome owner (λ n. n < length self.now.managers) }
+        requires owner { (a : ℕ) → ram_start ≤ a → from + at ≤ a → a < from + at + count → owner ≡ governor_of self.now.managers a }
+        ensures { bytes.new ≡ retold bytes.old (λ i. if within at count i then byte_read self.now joining (record { from = from; bytes = bytes.old }) i else None) }
     {
-        let is_read = self.read_physical(joining, from, bytes);
-        let is_written = self.write_bytes(true, from, received);
-        is_read as u16 + 2 * is_written as u16
-    }
-
-    /// The same, with a copy of its own.
-    #[inline(never)]
-    fn read_write_copied_bytes(&mut self, joining: bool, from: usize, bytes: &mut [u8]) -> u16
-        requires small { from + length bytes.old < 2 ^ 32 }
-        requires few { length bytes.old < 2048 }
-        ensures slave { self.new ≡ physical_after self.old true true (record { from = from; bytes = bytes.old }) }
-        ensures bytes { bytes.new ≡ retold bytes.old (byte_read self.old joining (record { from = from; bytes = bytes.old })) }
-        ensures added { result ≡ from_bool (some_byte_read self.old.managers (record { from = from; bytes = bytes.old }))
-            + 2 * from_bool (is_written self.old (record { from = from; bytes = bytes.old })) }
-    {
-        let mut copy = [0; MAX_DATA];
-        let received = &mut copy[..bytes.len()];
-        received.copy_from_slice(bytes);
-        self.read_write_bytes(joining, from, received, bytes)
-    }
-
-    /// Meets the bytes of a datagram in a role, and answers what the working counter grows by.
-    #[tactic(auto, using(crate::proofs::Idle::slave_idle), unfolding(crate::specs::Physical::physical_met))]
-    pub(crate) fn access_bytes(&mut self, role: Role, from: usize, bytes: &mut [u8]) -> u16
-        requires small { from + length bytes.old < 2 ^ 32 }
-        requires few { length bytes.old < 2048 }
-        ensures slave { self.new ≡ (physical_met self.old role (record { from = from; bytes = bytes.old })).slave }
-        ensures bytes { bytes.new ≡ (physical_met self.old role (record { from = from; bytes = bytes.old })).bytes }
-        ensures added { result ≡ (physical_met self.old role (record { from = from; bytes = bytes.old })).added }
-    {
-        match role {
-            Role::Nothing => 0,
-            Role::Read => self.read_bytes(false, from, bytes),
-            Role::OrRead => self.read_bytes(true, from, bytes),
-            Role::Write => self.write_bytes(false, from, bytes) as u16,
-            Role::ReadWrite => self.read_write_copied_bytes(false, from, bytes),
-            Role::OrReadWrite => self.read_write_copied_bytes(true, from, bytes),
+        match self.shown_together(owner, from + at, count) {
+            Some(shown) => read_slice(joining, &mut bytes[at..at + count], shown),
+            None => self.read_part_each(owner, joining, from, at, count, bytes),
         }
     }
 }

@@ -31,50 +31,6 @@ pub(crate) fn owner_of(managers: &[SyncManager], address: usize) -> Option<usize
     }
 }
 
-/// Whether an access touches a byte that no manager in `lower` governs.
-fn is_own<T: Touching>(access: &T, lower: &[SyncManager], address: usize) -> bool
-    requires { address < ram_end }
-    ensures { result ≡ (T.touched access.now address && is_ungoverned lower.now address) }
-{
-    access.touches(address) && governor(lower, address).is_none()
-}
-
-/// Whether it touches such a byte among the `len` from `start` on.
-fn some_is_own<T: Touching>(access: &T, lower: &[SyncManager], start: usize, len: usize) -> bool
-    requires { start + len ≤ ram_end }
-    ensures { result ≡ any_below len (λ k. T.touched access.now (start + k) && is_ungoverned lower.now (start + k)) }
-{
-    for k in 0..len {
-        if is_own(access, lower, start + k) {
-            return true;
-        }
-    }
-    false
-}
-
-/// The same of an access that touches the first one, which most often decides.
-fn has_own<T: Touching>(access: &T, lower: &[SyncManager], start: usize, len: usize) -> bool
-    requires some { 0 < len }
-    requires inside { start + len ≤ ram_end }
-    requires first { T.touched access.now start ≡ true }
-    ensures { result ≡ any_below len (λ k. T.touched access.now (start + k) && is_ungoverned lower.now (start + k)) }
-{
-    if governor(lower, start).is_none() {
-        return true;
-    }
-    some_is_own(access, lower, start, len)
-}
-
-/// Whether an access gets at a manager: at its first and its last byte, and at a byte that no manager in `lower` governs.
-fn reaches<T: Touching>(access: &T, lower: &[SyncManager], manager: &SyncManager) -> bool
-    requires { LiesInRam manager.now.settings }
-    ensures { result ≡ gets_at (T.touched access.now) (is_ungoverned lower.now) manager.now }
-{
-    let start = manager.settings().start as usize;
-    let len = manager.settings().length as usize;
-    access.touches(start) && access.touches(start + len - 1) && has_own(access, lower, start, len)
-}
-
 /// An access that writes: a manager that it gets at takes its value, if it is let. Answers whether.
 pub(crate) fn write_manager<W: Writing>(
     lower: &[SyncManager],
@@ -105,4 +61,48 @@ pub(crate) fn read_manager<T: Touching>(
     if manager.settings().is_mailbox() && manager.may_read() && reaches(access, lower, manager) {
         let _ = manager.ring_read(access);
     }
+}
+
+/// Whether an access gets at a manager: at its first and its last byte, and at a byte that no manager in `lower` governs.
+fn reaches<T: Touching>(access: &T, lower: &[SyncManager], manager: &SyncManager) -> bool
+    requires { LiesInRam manager.now.settings }
+    ensures { result ≡ gets_at (T.touched access.now) (is_ungoverned lower.now) manager.now }
+{
+    let start = manager.settings().start as usize;
+    let len = manager.settings().length as usize;
+    access.touches(start) && access.touches(start + len - 1) && has_own(access, lower, start, len)
+}
+
+/// The same of an access that touches the first one, which most often decides.
+fn has_own<T: Touching>(access: &T, lower: &[SyncManager], start: usize, len: usize) -> bool
+    requires some { 0 < len }
+    requires inside { start + len ≤ ram_end }
+    requires first { T.touched access.now start ≡ true }
+    ensures { result ≡ any_below len (λ k. T.touched access.now (start + k) && is_ungoverned lower.now (start + k)) }
+{
+    if governor(lower, start).is_none() {
+        return true;
+    }
+    some_is_own(access, lower, start, len)
+}
+
+/// Whether it touches such a byte among the `len` from `start` on.
+fn some_is_own<T: Touching>(access: &T, lower: &[SyncManager], start: usize, len: usize) -> bool
+    requires { start + len ≤ ram_end }
+    ensures { result ≡ any_below len (λ k. T.touched access.now (start + k) && is_ungoverned lower.now (start + k)) }
+{
+    for k in 0..len {
+        if is_own(access, lower, start + k) {
+            return true;
+        }
+    }
+    false
+}
+
+/// Whether an access touches a byte that no manager in `lower` governs.
+fn is_own<T: Touching>(access: &T, lower: &[SyncManager], address: usize) -> bool
+    requires { address < ram_end }
+    ensures { result ≡ (T.touched access.now address && is_ungoverned lower.now address) }
+{
+    access.touches(address) && governor(lower, address).is_none()
 }

@@ -28,18 +28,6 @@ pub(crate) enum Role {
 }
 
 impl Role {
-    fn only_if(self, is_meant: bool) -> Role
-        ensures { result ≡ (if is_meant then self else Nothing) }
-    {
-        if is_meant { self } else { Role::Nothing }
-    }
-
-    fn read_or_write(is_meant: bool) -> Role
-        ensures { result ≡ (if is_meant then Read else Write) }
-    {
-        if is_meant { Role::Read } else { Role::Write }
-    }
-
     /// Whether the data become what is read.
     pub(crate) fn reads(self) -> bool
         ensures { result ≡ is_reading self }
@@ -66,6 +54,18 @@ impl Role {
     {
         let weight = if self.reads() && self.writes() { 2 } else { 1 };
         is_read as u16 + weight * is_written as u16
+    }
+
+    fn read_or_write(is_meant: bool) -> Role
+        ensures { result ≡ (if is_meant then Read else Write) }
+    {
+        if is_meant { Role::Read } else { Role::Write }
+    }
+
+    fn only_if(self, is_meant: bool) -> Role
+        ensures { result ≡ (if is_meant then self else Nothing) }
+    {
+        if is_meant { self } else { Role::Nothing }
     }
 
     /// In this role, and the ADP stays.

@@ -23,24 +23,6 @@ pub(crate) fn cut(start: usize, end: usize, border: usize) -> usize
     }
 }
 
-/// The end of the bytes from `start` on, and below `end`, that a manager has all or none of, and, if it has them, of
-/// which all lie before the end of its value, or none.
-fn cut_at_borders(manager: &SyncManager, start: usize, end: usize) -> usize
-    requires { start < end }
-    ensures inside { (start < result) × (result ≤ end) }
-    ensures governs { (a : ℕ) → start ≤ a → a < result → governs manager.now a ≡ governs manager.now start }
-    ensures front { governs manager.now start ≡ true
-        → (a : ℕ) → start ≤ a → a < result → in_first_buffer manager.now a ≡ in_first_buffer manager.now start }
-{
-    let bounds = manager.bounds();
-    if bounds.span_end <= start || end <= bounds.first {
-        return end;
-    }
-    let before = cut(start, end, bounds.first);
-    let inside = cut(start, before, bounds.value_end);
-    cut(start, inside, bounds.span_end)
-}
-
 /// The end of the bytes from `start` on, and below `end`, that have one governor, or none, and lie on one side of the
 /// end of its value.
 pub(crate) fn end_of_alike(managers: &[SyncManager], start: usize, end: usize) -> usize
@@ -83,4 +65,22 @@ pub(crate) fn count_alike(managers: &[SyncManager], physical: u32, count: usize)
     let first = physical as usize;
     let end = end_of_alike(managers, first / 8, (first + count - 1) / 8 + 1);
     (8 * end - first).min(count)
+}
+
+/// The end of the bytes from `start` on, and below `end`, that a manager has all or none of, and, if it has them, of
+/// which all lie before the end of its value, or none.
+fn cut_at_borders(manager: &SyncManager, start: usize, end: usize) -> usize
+    requires { start < end }
+    ensures inside { (start < result) × (result ≤ end) }
+    ensures governs { (a : ℕ) → start ≤ a → a < result → governs manager.now a ≡ governs manager.now start }
+    ensures front { governs manager.now start ≡ true
+        → (a : ℕ) → start ≤ a → a < result → in_first_buffer manager.now a ≡ in_first_buffer manager.now start }
+{
+    let bounds = manager.bounds();
+    if bounds.span_end <= start || end <= bounds.first {
+        return end;
+    }
+    let before = cut(start, end, bounds.first);
+    let inside = cut(start, before, bounds.value_end);
+    cut(start, inside, bounds.span_end)
 }

@@ -72,39 +72,6 @@ impl Model for Slave {
     ghost invariant = { λ s. IsHeld s.dictionary.kind s.dictionary.identity s.memory.items s.managers.items s.fmmus s.port };
 }
 
-/// The number of addresses, which contracts see under its name.
-#[tactic(auto, unfolding(crate::specs::State::memory_length))]
-fn memory_len() -> usize
-    ensures value { result ≡ memory_length }
-    ensures is { result ≡ ram_end }
-{
-    RAM_END
-}
-
-/// Four sync managers as the power comes on.
-fn new_managers(alloc: Global) -> Result<Vec<SyncManager>, AllocError>
-    ensures { IfOk result (λ v. v.items ≡ no_manager ∷ no_manager ∷ no_manager ∷ no_manager ∷ []) }
-{
-    let mut managers = Vec::new(alloc);
-    managers.push(SyncManager::new(alloc)?)?;
-    managers.push(SyncManager::new(alloc)?)?;
-    managers.push(SyncManager::new(alloc)?)?;
-    managers.push(SyncManager::new(alloc)?)?;
-    Ok(managers)
-}
-
-/// So many bytes from a place on, if there are as many.
-fn part_of(bytes: &[u8], at: usize, count: usize) -> Option<&[u8]>
-    requires { at + count < 2 ^ 64 }
-    ensures long { IfSome result (λ xs. length xs.now ≡ count) }
-    ensures bytes { IfSome result (λ xs. (k : ℕ) → k < count → slice_index xs.now k ≡ slice_index bytes.now (at + k)) }
-{
-    if bytes.len() < at + count {
-        return None;
-    }
-    Some(&bytes[at..at + count])
-}
-
 impl Slave {
     /// A slave of a type that was just switched on. Each later call finds the memory that it needs.
     ///
@@ -181,21 +148,6 @@ impl Slave {
         }
     }
 
-    /// What an address of the RAM reads that has this governor, or none.
-    #[tactic(auto, unfolding(crate::specs::Physical::byte_at))]
-    fn ram_byte(&self, owner: Option<usize>, address: usize) -> u8
-        requires ram { ram_start ≤ address }
-        requires inside { address < ram_end }
-        requires within { IfSome owner (λ n. n < length self.now.managers) }
-        requires owner { owner ≡ governor_of self.now.managers address }
-        ensures { result ≡ byte_at self.now address }
-    {
-        match owner {
-            None => self.memory[address],
-            Some(place) => self.managers[place].shown_byte(address),
-        }
-    }
-
     /// What the `count` addresses from `first` on read that have this governor, or none, where that lies together: in
     /// the RAM itself, or in the value of the governor. None says nothing.
     pub(crate) fn shown_together(
@@ -243,6 +195,21 @@ impl Slave {
         ((word % 256) as u8, (word / 256) as u8)
     }
 
+    /// What an address of the RAM reads that has this governor, or none.
+    #[tactic(auto, unfolding(crate::specs::Physical::byte_at))]
+    fn ram_byte(&self, owner: Option<usize>, address: usize) -> u8
+        requires ram { ram_start ≤ address }
+        requires inside { address < ram_end }
+        requires within { IfSome owner (λ n. n < length self.now.managers) }
+        requires owner { owner ≡ governor_of self.now.managers address }
+        ensures { result ≡ byte_at self.now address }
+    {
+        match owner {
+            None => self.memory[address],
+            Some(place) => self.managers[place].shown_byte(address),
+        }
+    }
+
     /// What a register reads.
     #[tactic(auto, unfolding(crate::specs::Physical::register_byte))]
     fn register(&self, address: usize) -> u8
@@ -267,4 +234,37 @@ impl Slave {
             _ => self.link.read(address),
         }
     }
+}
+
+/// So many bytes from a place on, if there are as many.
+fn part_of(bytes: &[u8], at: usize, count: usize) -> Option<&[u8]>
+    requires { at + count < 2 ^ 64 }
+    ensures long { IfSome result (λ xs. length xs.now ≡ count) }
+    ensures bytes { IfSome result (λ xs. (k : ℕ) → k < count → slice_index xs.now k ≡ slice_index bytes.now (at + k)) }
+{
+    if bytes.len() < at + count {
+        return None;
+    }
+    Some(&bytes[at..at + count])
+}
+
+/// Four sync managers as the power comes on.
+fn new_managers(alloc: Global) -> Result<Vec<SyncManager>, AllocError>
+    ensures { IfOk result (λ v. v.items ≡ no_manager ∷ no_manager ∷ no_manager ∷ no_manager ∷ []) }
+{
+    let mut managers = Vec::new(alloc);
+    managers.push(SyncManager::new(alloc)?)?;
+    managers.push(SyncManager::new(alloc)?)?;
+    managers.push(SyncManager::new(alloc)?)?;
+    managers.push(SyncManager::new(alloc)?)?;
+    Ok(managers)
+}
+
+/// The number of addresses, which contracts see under its name.
+#[tactic(auto, unfolding(crate::specs::State::memory_length))]
+fn memory_len() -> usize
+    ensures value { result ≡ memory_length }
+    ensures is { result ≡ ram_end }
+{
+    RAM_END
 }

@@ -108,30 +108,6 @@ pub enum Action {
     },
 }
 
-/// The station address of a slave.
-fn station(slave: usize) -> u16
-    requires { slave ≤ 64 }
-    ensures { result ≡ station slave }
-{
-    FIRST_STATION + slave as u16
-}
-
-/// The SII word where a number of the identity stands.
-fn word_place(which: usize) -> u32
-    requires { which ≤ 2 }
-    ensures { result ≡ word_place which }
-{
-    0x08 + 2 * which as u32
-}
-
-/// The ADP with which an auto increment datagram acts at a slave: each slave before it adds 1, and it gets 0.
-fn position(slave: usize) -> u16
-    requires { slave ≤ 64 }
-    ensures { result ≡ (65536 - slave) % 65536 }
-{
-    (0 as u16).wrapping_sub(slave as u16)
-}
-
 impl SdoRequest {
     /// A download.
     pub(crate) fn download(index: u16, subindex: u8, value: SdoValue) -> Self
@@ -192,44 +168,6 @@ impl Action {
             | Action::SetFmmu { .. }
             | Action::AskState { .. }
             | Action::SendRequest { .. } => Command::Fpwr,
-        }
-    }
-
-    /// The ADP of its datagram.
-    fn adp(&self) -> u16
-        requires { IsDoable self.now }
-        ensures { result ≡ (datagram_of self.now 0).address % 65536 }
-    {
-        match *self {
-            Action::NameSlave { slave } => position(slave),
-            Action::AskWord { slave, .. }
-            | Action::AwaitWord { slave, .. }
-            | Action::SetManager { slave, .. }
-            | Action::SetFmmu { slave, .. }
-            | Action::AskState { slave, .. }
-            | Action::AwaitState { slave, .. }
-            | Action::SendRequest { slave, .. }
-            | Action::AwaitReply { slave, .. } => station(slave),
-            _ => 0,
-        }
-    }
-
-    /// The ADO of its datagram.
-    fn ado(&self) -> u16
-        requires { IsDoable self.now }
-        ensures { result ≡ (datagram_of self.now 0).address / 65536 }
-    {
-        match *self {
-            Action::CountSlaves | Action::AwaitInit | Action::AwaitState { .. } => AL_STATUS as u16,
-            Action::AskInit | Action::AskState { .. } => AL_CONTROL as u16,
-            Action::ClearFmmus => FMMUS as u16,
-            Action::ClearManagers => SYNC_MANAGERS as u16,
-            Action::ClearStations | Action::NameSlave { .. } => STATION_ADDRESS as u16,
-            Action::AskWord { .. } | Action::AwaitWord { .. } => SII_CONTROL as u16,
-            Action::SetManager { number, .. } => manager_address(number) as u16,
-            Action::SetFmmu { number, .. } => fmmu_address(number) as u16,
-            Action::SendRequest { mailbox, .. } => mailbox.receive_start,
-            Action::AwaitReply { mailbox, .. } => mailbox.send_start,
         }
     }
 
@@ -296,4 +234,66 @@ impl Action {
             _ => {}
         }
     }
+
+    /// The ADO of its datagram.
+    fn ado(&self) -> u16
+        requires { IsDoable self.now }
+        ensures { result ≡ (datagram_of self.now 0).address / 65536 }
+    {
+        match *self {
+            Action::CountSlaves | Action::AwaitInit | Action::AwaitState { .. } => AL_STATUS as u16,
+            Action::AskInit | Action::AskState { .. } => AL_CONTROL as u16,
+            Action::ClearFmmus => FMMUS as u16,
+            Action::ClearManagers => SYNC_MANAGERS as u16,
+            Action::ClearStations | Action::NameSlave { .. } => STATION_ADDRESS as u16,
+            Action::AskWord { .. } | Action::AwaitWord { .. } => SII_CONTROL as u16,
+            Action::SetManager { number, .. } => manager_address(number) as u16,
+            Action::SetFmmu { number, .. } => fmmu_address(number) as u16,
+            Action::SendRequest { mailbox, .. } => mailbox.receive_start,
+            Action::AwaitReply { mailbox, .. } => mailbox.send_start,
+        }
+    }
+
+    /// The ADP of its datagram.
+    fn adp(&self) -> u16
+        requires { IsDoable self.now }
+        ensures { result ≡ (datagram_of self.now 0).address % 65536 }
+    {
+        match *self {
+            Action::NameSlave { slave } => position(slave),
+            Action::AskWord { slave, .. }
+            | Action::AwaitWord { slave, .. }
+            | Action::SetManager { slave, .. }
+            | Action::SetFmmu { slave, .. }
+            | Action::AskState { slave, .. }
+            | Action::AwaitState { slave, .. }
+            | Action::SendRequest { slave, .. }
+            | Action::AwaitReply { slave, .. } => station(slave),
+            _ => 0,
+        }
+    }
+}
+
+/// The ADP with which an auto increment datagram acts at a slave: each slave before it adds 1, and it gets 0.
+fn position(slave: usize) -> u16
+    requires { slave ≤ 64 }
+    ensures { result ≡ (65536 - slave) % 65536 }
+{
+    (0 as u16).wrapping_sub(slave as u16)
+}
+
+/// The SII word where a number of the identity stands.
+fn word_place(which: usize) -> u32
+    requires { which ≤ 2 }
+    ensures { result ≡ word_place which }
+{
+    0x08 + 2 * which as u32
+}
+
+/// The station address of a slave.
+fn station(slave: usize) -> u16
+    requires { slave ≤ 64 }
+    ensures { result ≡ station slave }
+{
+    FIRST_STATION + slave as u16
 }

@@ -17,37 +17,6 @@ const DATAGRAMS: usize = 2;
 /// How many bytes name a frame: its number, and part 0.
 const NAME_LENGTH: usize = 10;
 
-/// Whether a datagram has this command, this index and so many bytes of data.
-fn has_shape(part: &[u8], command: Command, index: u8, bytes: usize) -> bool
-    requires { IsSpelling part.now }
-    ensures { (more : Bool) (d : Datagram) → IsDatagram d → part.now ≡ spelling more d
-        → (result ≡ true) ↔ (shape d ≡ record { command = command; index = index; bytes = bytes }) }
-{
-    let header = Header::read(part);
-    header.command == command && header.index == index && header.data_length as usize == bytes
-}
-
-/// Whether the data of a datagram begin with a number.
-fn tells(part: &[u8], number: u64) -> bool
-    requires { IsSpelling part.now }
-    ensures { (more : Bool) (d : Datagram) → IsDatagram d → part.now ≡ spelling more d
-        → (result ≡ true) ↔ (take 8 d.data_bytes ≡ to_le_bytes w64 number) }
-{
-    let data = read_data(part);
-    let bytes = number.to_le_bytes();
-    data.len() >= 8 && &data[..8] == bytes.as_slice()
-}
-
-/// Whether a payload is a frame of two datagrams.
-fn is_pair(payload: &[u8]) -> bool
-    ensures { (result ≡ true) ↔ ((p : Payload) × IsFrame payload.now p × (length p.datagrams ≡ 2)) }
-{
-    match check(payload) {
-        Ok(count) => count == DATAGRAMS,
-        Err(_) => false,
-    }
-}
-
 /// Where the datagram stands that answers an action, in a payload that answers the action's frame of this number.
 pub fn answer_in(payload: &[u8], action: &Action, number: u64) -> Option<DatagramSpan>
     requires { IsDoable action.now }
@@ -80,4 +49,35 @@ pub fn answer_in(payload: &[u8], action: &Action, number: u64) -> Option<Datagra
         return None;
     }
     Some(answer)
+}
+
+/// Whether a payload is a frame of two datagrams.
+fn is_pair(payload: &[u8]) -> bool
+    ensures { (result ≡ true) ↔ ((p : Payload) × IsFrame payload.now p × (length p.datagrams ≡ 2)) }
+{
+    match check(payload) {
+        Ok(count) => count == DATAGRAMS,
+        Err(_) => false,
+    }
+}
+
+/// Whether the data of a datagram begin with a number.
+fn tells(part: &[u8], number: u64) -> bool
+    requires { IsSpelling part.now }
+    ensures { (more : Bool) (d : Datagram) → IsDatagram d → part.now ≡ spelling more d
+        → (result ≡ true) ↔ (take 8 d.data_bytes ≡ to_le_bytes w64 number) }
+{
+    let data = read_data(part);
+    let bytes = number.to_le_bytes();
+    data.len() >= 8 && &data[..8] == bytes.as_slice()
+}
+
+/// Whether a datagram has this command, this index and so many bytes of data.
+fn has_shape(part: &[u8], command: Command, index: u8, bytes: usize) -> bool
+    requires { IsSpelling part.now }
+    ensures { (more : Bool) (d : Datagram) → IsDatagram d → part.now ≡ spelling more d
+        → (result ≡ true) ↔ (shape d ≡ record { command = command; index = index; bytes = bytes }) }
+{
+    let header = Header::read(part);
+    header.command == command && header.index == index && header.data_length as usize == bytes
 }

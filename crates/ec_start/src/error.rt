@@ -67,15 +67,6 @@ pub enum StartError {
     },
 }
 
-fn listed(values: &[u64]) -> ArrayVec<u64, MAX_VALUES>
-    requires { length values.now ≤ 4 }
-    ensures { result.items ≡ values.now }
-{
-    let mut listed = ArrayVec::new();
-    let _ = listed.try_extend_from_slice(values);
-    listed
-}
-
 impl StartError {
     /// The number of the refusal: 9, 26 to 32, 36 or 38.
     pub fn number(self) -> u8
@@ -139,4 +130,13 @@ impl StartError {
             } => listed(&[slave as u64, index as u64, subindex as u64, seen as u64]),
         }
     }
+}
+
+fn listed(values: &[u64]) -> ArrayVec<u64, MAX_VALUES>
+    requires { length values.now ≤ 4 }
+    ensures { result.items ≡ values.now }
+{
+    let mut listed = ArrayVec::new();
+    let _ = listed.try_extend_from_slice(values);
+    listed
 }

@@ -22,47 +22,44 @@ pub enum Seek {
     Past(usize),
 }
 
-/// The upload with a place among those of one PDO: how many entries it has, and each of them.
-fn pdo_upload(pdo: &Pdo, place: usize) -> Seek
-    requires { length pdo.now.entries ≤ 64 }
-    ensures { result ≡ seek (pdo_read (Some pdo.now)) place }
+/// The request with a place among all of a slave.
+pub fn request_at(settings: &SlavePlan, place: usize) -> Option<SdoRequest>
+    requires { HasFewAssigned settings.now }
+    ensures { result ≡ slice_get (requests settings.now) place }
 {
-    let entries = pdo.entries.as_slice();
-    if place == 0 {
-        let count = SdoValue::byte(entries.len() as u8);
-        return Seek::Found(SdoRequest::upload(pdo.index, 0, count));
-    }
-    if place <= entries.len() {
-        let entry = SdoValue::long(entry_number(&entries[place - 1]));
-        return Seek::Found(SdoRequest::upload(pdo.index, place as u8, entry));
-    }
-    Seek::Past(place - 1 - entries.len())
-}
-
-/// The upload with a place among those of the PDO with an index.
-fn upload_at(pdos: &[Pdo], index: u16, place: usize) -> Seek
-    requires { All (λ p. (length p.entries ≤ 64) × (pdo_bits p ≤ 4096)) pdos.now }
-    ensures { result ≡ seek (pdo_read (pdo_at pdos.now index)) place }
-{
-    match find_pdo(pdos, index) {
-        Some(pdo) => pdo_upload(pdo, place),
-        None => Seek::Past(place),
+    match upload_in(settings, place) {
+        Seek::Found(request) => Some(request),
+        Seek::Past(past) => match download_in(settings, past) {
+            Seek::Found(request) => Some(request),
+            Seek::Past(_) => None,
+        },
     }
 }
 
-/// The upload with a place among those of the PDOs with these indices.
-fn uploads_at(pdos: &[Pdo], indices: &[u16], place: usize) -> Seek
-    requires { All (λ p. (length p.entries ≤ 64) × (pdo_bits p ≤ 4096)) pdos.now }
-    ensures { result ≡ seek (flat_map (λ index. pdo_read (pdo_at pdos.now index)) indices.now) place }
+/// The download with a place among all of a slave.
+fn download_in(settings: &SlavePlan, place: usize) -> Seek
+    requires { HasFewAssigned settings.now }
+    ensures { result ≡ seek (downloads_of settings.now) place }
 {
-    let mut left = place;
-    for index in indices {
-        match upload_at(pdos, *index, left) {
-            Seek::Found(request) => return Seek::Found(request),
-            Seek::Past(past) => left = past,
-        }
+    let has_outputs = !settings.kind.outputs().is_empty();
+    let has_inputs = !settings.kind.inputs().is_empty();
+    let outputs = settings.outputs.as_slice();
+    let inputs = settings.inputs.as_slice();
+    match downloads_at(OUTPUT_ASSIGNMENT, outputs, has_outputs, place) {
+        Seek::Found(request) => Seek::Found(request),
+        Seek::Past(past) => downloads_at(INPUT_ASSIGNMENT, inputs, has_inputs, past),
     }
-    Seek::Past(left)
+}
+
+/// The upload with a place among all of a slave.
+fn upload_in(settings: &SlavePlan, place: usize) -> Seek
+    ensures { result ≡ seek (uploads_of settings.now) place }
+{
+    let kind = &settings.kind;
+    match uploads_at(kind.outputs(), settings.outputs.as_slice(), place) {
+        Seek::Found(request) => Seek::Found(request),
+        Seek::Past(past) => uploads_at(kind.inputs(), settings.inputs.as_slice(), past),
+    }
 }
 
 /// The download with a place among those of one assignment object: count 0, each index, the count.
@@ -90,42 +87,45 @@ fn downloads_at(object: u16, indices: &[u16], has_pdos: bool, place: usize) -> S
     Seek::Past(place - 2 - count)
 }
 
-/// The upload with a place among all of a slave.
-fn upload_in(settings: &SlavePlan, place: usize) -> Seek
-    ensures { result ≡ seek (uploads_of settings.now) place }
+/// The upload with a place among those of the PDOs with these indices.
+fn uploads_at(pdos: &[Pdo], indices: &[u16], place: usize) -> Seek
+    requires { All (λ p. (length p.entries ≤ 64) × (pdo_bits p ≤ 4096)) pdos.now }
+    ensures { result ≡ seek (flat_map (λ index. pdo_read (pdo_at pdos.now index)) indices.now) place }
 {
-    let kind = &settings.kind;
-    match uploads_at(kind.outputs(), settings.outputs.as_slice(), place) {
-        Seek::Found(request) => Seek::Found(request),
-        Seek::Past(past) => uploads_at(kind.inputs(), settings.inputs.as_slice(), past),
+    let mut left = place;
+    for index in indices {
+        match upload_at(pdos, *index, left) {
+            Seek::Found(request) => return Seek::Found(request),
+            Seek::Past(past) => left = past,
+        }
+    }
+    Seek::Past(left)
+}
+
+/// The upload with a place among those of the PDO with an index.
+fn upload_at(pdos: &[Pdo], index: u16, place: usize) -> Seek
+    requires { All (λ p. (length p.entries ≤ 64) × (pdo_bits p ≤ 4096)) pdos.now }
+    ensures { result ≡ seek (pdo_read (pdo_at pdos.now index)) place }
+{
+    match find_pdo(pdos, index) {
+        Some(pdo) => pdo_upload(pdo, place),
+        None => Seek::Past(place),
     }
 }
 
-/// The download with a place among all of a slave.
-fn download_in(settings: &SlavePlan, place: usize) -> Seek
-    requires { HasFewAssigned settings.now }
-    ensures { result ≡ seek (downloads_of settings.now) place }
+/// The upload with a place among those of one PDO: how many entries it has, and each of them.
+fn pdo_upload(pdo: &Pdo, place: usize) -> Seek
+    requires { length pdo.now.entries ≤ 64 }
+    ensures { result ≡ seek (pdo_read (Some pdo.now)) place }
 {
-    let has_outputs = !settings.kind.outputs().is_empty();
-    let has_inputs = !settings.kind.inputs().is_empty();
-    let outputs = settings.outputs.as_slice();
-    let inputs = settings.inputs.as_slice();
-    match downloads_at(OUTPUT_ASSIGNMENT, outputs, has_outputs, place) {
-        Seek::Found(request) => Seek::Found(request),
-        Seek::Past(past) => downloads_at(INPUT_ASSIGNMENT, inputs, has_inputs, past),
+    let entries = pdo.entries.as_slice();
+    if place == 0 {
+        let count = SdoValue::byte(entries.len() as u8);
+        return Seek::Found(SdoRequest::upload(pdo.index, 0, count));
     }
-}
-
-/// The request with a place among all of a slave.
-pub fn request_at(settings: &SlavePlan, place: usize) -> Option<SdoRequest>
-    requires { HasFewAssigned settings.now }
-    ensures { result ≡ slice_get (requests settings.now) place }
-{
-    match upload_in(settings, place) {
-        Seek::Found(request) => Some(request),
-        Seek::Past(past) => match download_in(settings, past) {
-            Seek::Found(request) => Some(request),
-            Seek::Past(_) => None,
-        },
+    if place <= entries.len() {
+        let entry = SdoValue::long(entry_number(&entries[place - 1]));
+        return Seek::Found(SdoRequest::upload(pdo.index, place as u8, entry));
     }
+    Seek::Past(place - 1 - entries.len())
 }

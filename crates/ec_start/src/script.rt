@@ -52,179 +52,6 @@ pub struct Step {
     pub action: Action,
 }
 
-/// The action with a place in the opening.
-fn opening_action(has_slaves: bool, place: usize) -> Option<Action>
-    ensures value { result ≡ slice_get (opening has_slaves) place }
-    ensures doable { IfSome result IsDoable }
-{
-    match place {
-        0 => Some(Action::CountSlaves),
-        1 if has_slaves => Some(Action::AskInit),
-        2 if has_slaves => Some(Action::AwaitInit),
-        3 if has_slaves => Some(Action::ClearFmmus),
-        4 if has_slaves => Some(Action::ClearManagers),
-        5 if has_slaves => Some(Action::ClearStations),
-        _ => None,
-    }
-}
-
-fn naming(slave: usize, settings: &SlavePlan, place: usize) -> Option<Action>
-    requires { slave < 64 }
-    ensures value { result ≡ slice_get (named slave settings.now) place }
-    ensures doable { IfSome result IsDoable }
-{
-    match place {
-        0 => Some(Action::NameSlave { slave }),
-        _ => None,
-    }
-}
-
-fn identifying(slave: usize, settings: &SlavePlan, place: usize) -> Option<Action>
-    requires { slave < 64 }
-    ensures value { result ≡ slice_get (identified slave settings.now) place }
-    ensures doable { IfSome result IsDoable }
-{
-    match place {
-        0 => Some(Action::AskWord { slave, which: 0 }),
-        1 => Some(Action::AwaitWord { slave, which: 0 }),
-        2 => Some(Action::AskWord { slave, which: 1 }),
-        3 => Some(Action::AwaitWord { slave, which: 1 }),
-        4 => Some(Action::AskWord { slave, which: 2 }),
-        5 => Some(Action::AwaitWord { slave, which: 2 }),
-        _ => None,
-    }
-}
-
-fn raising(state: State, slave: usize, settings: &SlavePlan, place: usize) -> Option<Action>
-    requires { slave < 64 }
-    ensures value { result ≡ slice_get (raised state slave settings.now) place }
-    ensures doable { IfSome result IsDoable }
-{
-    match place {
-        0 => Some(Action::AskState { slave, state }),
-        1 => Some(Action::AwaitState { slave, state }),
-        _ => None,
-    }
-}
-
-/// Sets one of the managers that the plan has of a slave.
-fn set_manager(slave: usize, settings: &SlavePlan, number: usize) -> Action
-    requires low { slave < 64 }
-    requires there { number < 4 }
-    ensures value { result ≡ set_manager_of slave settings.now number }
-    ensures doable { IsDoable result }
-{
-    Action::SetManager {
-        slave,
-        number,
-        settings: settings.managers[number],
-    }
-}
-
-fn setting_mailboxes(slave: usize, settings: &SlavePlan, place: usize) -> Option<Action>
-    requires { slave < 64 }
-    ensures value { result ≡ slice_get (mailbox_set slave settings.now settings.now.kind.mailbox) place }
-    ensures doable { IfSome result IsDoable }
-{
-    if settings.kind.mailbox().is_none() {
-        return None;
-    }
-    match place {
-        0 => Some(set_manager(slave, settings, 0)),
-        1 => Some(set_manager(slave, settings, 1)),
-        _ => None,
-    }
-}
-
-/// The requests of a slave, each with the wait for its reply.
-fn talking(slave: usize, settings: &SlavePlan, place: usize) -> Option<Action>
-    requires low { slave < 64 }
-    requires few { HasFewAssigned settings.now }
-    ensures value { result ≡ slice_get (talked slave settings.now settings.now.kind.mailbox) place }
-    ensures doable { IfSome result IsDoable }
-{
-    let mailbox = settings.kind.mailbox()?;
-    let before = place / 2;
-    let request = request_at(settings, before)?;
-    Some(if place % 2 == 0 {
-        Action::SendRequest {
-            slave,
-            before,
-            mailbox,
-            request,
-        }
-    } else {
-        Action::AwaitReply {
-            slave,
-            mailbox,
-            request,
-        }
-    })
-}
-
-fn manager_chosen(slave: usize, settings: &SlavePlan, number: usize) -> Option<Action>
-    requires low { slave < 64 }
-    requires there { number < 4 }
-    ensures value { result ≡ manager_chosen slave settings.now number }
-    ensures doable { IfSome result IsDoable }
-{
-    if settings.managers[number].activate == 0 {
-        None
-    } else {
-        Some(set_manager(slave, settings, number))
-    }
-}
-
-fn fmmu_chosen(slave: usize, settings: &SlavePlan, number: usize) -> Option<Action>
-    requires low { slave < 64 }
-    requires there { number < 4 }
-    ensures value { result ≡ fmmu_chosen slave settings.now number }
-    ensures doable { IfSome result IsDoable }
-{
-    let fmmu = settings.fmmus[number];
-    if fmmu.active {
-        Some(Action::SetFmmu {
-            slave,
-            number,
-            settings: fmmu,
-        })
-    } else {
-        None
-    }
-}
-
-/// The one with a place among the actions that are there.
-fn chosen_at(choices: &[Option<Action>], place: usize) -> Option<Action>
-    requires { All (λ a. IfSome a IsDoable) choices.now }
-    ensures value { result ≡ slice_get (somes choices.now) place }
-    ensures doable { IfSome result IsDoable }
-{
-    let mut left = place;
-    for choice in choices {
-        if choice.is_some() {
-            if left == 0 {
-                return *choice;
-            }
-            left -= 1;
-        }
-    }
-    None
-}
-
-fn mapping(slave: usize, settings: &SlavePlan, place: usize) -> Option<Action>
-    requires { slave < 64 }
-    ensures value { result ≡ slice_get (mapped slave settings.now) place }
-    ensures doable { IfSome result IsDoable }
-{
-    let choices = [
-        manager_chosen(slave, settings, 2),
-        manager_chosen(slave, settings, 3),
-        fmmu_chosen(slave, settings, 0),
-        fmmu_chosen(slave, settings, 1),
-    ];
-    chosen_at(&choices, place)
-}
-
 impl Stretch {
     /// Whether it is for all slaves at once.
     fn is_for_all(self) -> bool
@@ -275,21 +102,21 @@ impl Stretch {
 }
 
 impl Cursor {
-    /// The action here, none past the end of the slave's share.
-    fn action(self, slaves: &[SlavePlan]) -> Option<Action>
+    /// The first step from here on, which may be some shares behind; none at the script's end.
+    pub fn settle(self, slaves: &[SlavePlan]) -> Option<Step>
         requires few { length slaves.now ≤ 64 }
         requires assigned { All HasFewAssigned slaves.now }
-        ensures value { result ≡ slice_get (share_at self.stretch slaves.now self.slave) self.place }
-        ensures doable { IfSome result IsDoable }
+        requires low { self.slave ≤ 64 }
+        ensures { Settles slaves.now self result }
     {
-        if self.stretch.is_for_all() {
-            return opening_action(!slaves.is_empty(), self.place);
+        let mut cursor = self;
+        loop {
+            let found = cursor.action(slaves);
+            if let Some(action) = found {
+                return Some(Step { cursor, action });
+            }
+            cursor = cursor.behind(slaves.len())?;
         }
-        if self.slave >= slaves.len() {
-            return None;
-        }
-        self.stretch
-            .action_in(self.slave, &slaves[self.slave], self.place)
     }
 
     /// Where the share behind this one begins.
@@ -311,20 +138,193 @@ impl Cursor {
         })
     }
 
-    /// The first step from here on, which may be some shares behind; none at the script's end.
-    pub fn settle(self, slaves: &[SlavePlan]) -> Option<Step>
+    /// The action here, none past the end of the slave's share.
+    fn action(self, slaves: &[SlavePlan]) -> Option<Action>
         requires few { length slaves.now ≤ 64 }
         requires assigned { All HasFewAssigned slaves.now }
-        requires low { self.slave ≤ 64 }
-        ensures { Settles slaves.now self result }
+        ensures value { result ≡ slice_get (share_at self.stretch slaves.now self.slave) self.place }
+        ensures doable { IfSome result IsDoable }
     {
-        let mut cursor = self;
-        loop {
-            let found = cursor.action(slaves);
-            if let Some(action) = found {
-                return Some(Step { cursor, action });
-            }
-            cursor = cursor.behind(slaves.len())?;
+        if self.stretch.is_for_all() {
+            return opening_action(!slaves.is_empty(), self.place);
         }
+        if self.slave >= slaves.len() {
+            return None;
+        }
+        self.stretch
+            .action_in(self.slave, &slaves[self.slave], self.place)
+    }
+}
+
+fn mapping(slave: usize, settings: &SlavePlan, place: usize) -> Option<Action>
+    requires { slave < 64 }
+    ensures value { result ≡ slice_get (mapped slave settings.now) place }
+    ensures doable { IfSome result IsDoable }
+{
+    let choices = [
+        manager_chosen(slave, settings, 2),
+        manager_chosen(slave, settings, 3),
+        fmmu_chosen(slave, settings, 0),
+        fmmu_chosen(slave, settings, 1),
+    ];
+    chosen_at(&choices, place)
+}
+
+/// The one with a place among the actions that are there.
+fn chosen_at(choices: &[Option<Action>], place: usize) -> Option<Action>
+    requires { All (λ a. IfSome a IsDoable) choices.now }
+    ensures value { result ≡ slice_get (somes choices.now) place }
+    ensures doable { IfSome result IsDoable }
+{
+    let mut left = place;
+    for choice in choices {
+        if choice.is_some() {
+            if left == 0 {
+                return *choice;
+            }
+            left -= 1;
+        }
+    }
+    None
+}
+
+fn fmmu_chosen(slave: usize, settings: &SlavePlan, number: usize) -> Option<Action>
+    requires low { slave < 64 }
+    requires there { number < 4 }
+    ensures value { result ≡ fmmu_chosen slave settings.now number }
+    ensures doable { IfSome result IsDoable }
+{
+    let fmmu = settings.fmmus[number];
+    if fmmu.active {
+        Some(Action::SetFmmu {
+            slave,
+            number,
+            settings: fmmu,
+        })
+    } else {
+        None
+    }
+}
+
+fn manager_chosen(slave: usize, settings: &SlavePlan, number: usize) -> Option<Action>
+    requires low { slave < 64 }
+    requires there { number < 4 }
+    ensures value { result ≡ manager_chosen slave settings.now number }
+    ensures doable { IfSome result IsDoable }
+{
+    if settings.managers[number].activate == 0 {
+        None
+    } else {
+        Some(set_manager(slave, settings, number))
+    }
+}
+
+/// The requests of a slave, each with the wait for its reply.
+fn talking(slave: usize, settings: &SlavePlan, place: usize) -> Option<Action>
+    requires low { slave < 64 }
+    requires few { HasFewAssigned settings.now }
+    ensures value { result ≡ slice_get (talked slave settings.now settings.now.kind.mailbox) place }
+    ensures doable { IfSome result IsDoable }
+{
+    let mailbox = settings.kind.mailbox()?;
+    let before = place / 2;
+    let request = request_at(settings, before)?;
+    Some(if place % 2 == 0 {
+        Action::SendRequest {
+            slave,
+            before,
+            mailbox,
+            request,
+        }
+    } else {
+        Action::AwaitReply {
+            slave,
+            mailbox,
+            request,
+        }
+    })
+}
+
+fn setting_mailboxes(slave: usize, settings: &SlavePlan, place: usize) -> Option<Action>
+    requires { slave < 64 }
+    ensures value { result ≡ slice_get (mailbox_set slave settings.now settings.now.kind.mailbox) place }
+    ensures doable { IfSome result IsDoable }
+{
+    if settings.kind.mailbox().is_none() {
+        return None;
+    }
+    match place {
+        0 => Some(set_manager(slave, settings, 0)),
+        1 => Some(set_manager(slave, settings, 1)),
+        _ => None,
+    }
+}
+
+/// Sets one of the managers that the plan has of a slave.
+fn set_manager(slave: usize, settings: &SlavePlan, number: usize) -> Action
+    requires low { slave < 64 }
+    requires there { number < 4 }
+    ensures value { result ≡ set_manager_of slave settings.now number }
+    ensures doable { IsDoable result }
+{
+    Action::SetManager {
+        slave,
+        number,
+        settings: settings.managers[number],
+    }
+}
+
+fn raising(state: State, slave: usize, settings: &SlavePlan, place: usize) -> Option<Action>
+    requires { slave < 64 }
+    ensures value { result ≡ slice_get (raised state slave settings.now) place }
+    ensures doable { IfSome result IsDoable }
+{
+    match place {
+        0 => Some(Action::AskState { slave, state }),
+        1 => Some(Action::AwaitState { slave, state }),
+        _ => None,
+    }
+}
+
+fn identifying(slave: usize, settings: &SlavePlan, place: usize) -> Option<Action>
+    requires { slave < 64 }
+    ensures value { result ≡ slice_get (identified slave settings.now) place }
+    ensures doable { IfSome result IsDoable }
+{
+    match place {
+        0 => Some(Action::AskWord { slave, which: 0 }),
+        1 => Some(Action::AwaitWord { slave, which: 0 }),
+        2 => Some(Action::AskWord { slave, which: 1 }),
+        3 => Some(Action::AwaitWord { slave, which: 1 }),
+        4 => Some(Action::AskWord { slave, which: 2 }),
+        5 => Some(Action::AwaitWord { slave, which: 2 }),
+        _ => None,
+    }
+}
+
+fn naming(slave: usize, settings: &SlavePlan, place: usize) -> Option<Action>
+    requires { slave < 64 }
+    ensures value { result ≡ slice_get (named slave settings.now) place }
+    ensures doable { IfSome result IsDoable }
+{
+    match place {
+        0 => Some(Action::NameSlave { slave }),
+        _ => None,
+    }
+}
+
+/// The action with a place in the opening.
+fn opening_action(has_slaves: bool, place: usize) -> Option<Action>
+    ensures value { result ≡ slice_get (opening has_slaves) place }
+    ensures doable { IfSome result IsDoable }
+{
+    match place {
+        0 => Some(Action::CountSlaves),
+        1 if has_slaves => Some(Action::AskInit),
+        2 if has_slaves => Some(Action::AwaitInit),
+        3 if has_slaves => Some(Action::ClearFmmus),
+        4 if has_slaves => Some(Action::ClearManagers),
+        5 if has_slaves => Some(Action::ClearStations),
+        _ => None,
     }
 }

@@ -63,109 +63,6 @@ impl Model for Startup {
     ghost invariant = { λ s. IsHeld s.slaves s.next s.place s.polls s.phase s.step };
 }
 
-/// The first step of each script.
-fn first_step() -> Step
-    ensures { result ≡ first_step }
-{
-    Step {
-        cursor: Cursor {
-            stretch: Stretch::Opening,
-            slave: 0,
-            place: 0,
-        },
-        action: Action::CountSlaves,
-    }
-}
-
-/// Whether each slot of a slave's assignments has a subindex of one byte.
-fn has_few_assigned(settings: &SlavePlan) -> bool
-    ensures { IsTrue result ↔ HasFewAssigned settings.now }
-{
-    settings.outputs.len() < 256 && settings.inputs.len() < 256
-}
-
-/// A copy of a slave's settings.
-fn copied(alloc: Global, settings: &SlavePlan) -> Result<SlavePlan, AllocError>
-    ensures { IfOk result (λ x. x ≡ settings.now) }
-{
-    Ok(SlavePlan {
-        kind: settings.kind.copied(alloc)?,
-        outputs: Listed::copied(alloc, settings.outputs.as_slice())?,
-        inputs: Listed::copied(alloc, settings.inputs.as_slice())?,
-        managers: settings.managers,
-        fmmus: settings.fmmus,
-        from: settings.from,
-        share: settings.share,
-    })
-}
-
-/// A copy of the settings of all slaves.
-fn copied_all(alloc: Global, slaves: &[SlavePlan]) -> Result<Listed<SlavePlan>, AllocError>
-    ensures { IfOk result (λ xs. xs ≡ slaves.now) }
-{
-    let mut all = Listed::new(alloc);
-    for settings in slaves {
-        all.push(copied(alloc, settings)?)?;
-    }
-    Ok(all)
-}
-
-/// What names a frame: its number, and part 0.
-fn name_of(number: u64) -> [u8; 10]
-    ensures { result ≡ to_le_bytes w64 number ++ to_le_bytes w16 0 }
-{
-    let [a, b, c, d, e, f, g, h] = number.to_le_bytes();
-    [a, b, c, d, e, f, g, h, 0, 0]
-}
-
-/// Writes the frame of an action with a number: the datagram that names it, and the action's, whose data come by way of
-/// a buffer.
-fn write_through(buffer: &mut [u8], action: &Action, number: u64, frame: &mut Frame)
-    requires doable { IsDoable action.now }
-    requires room { length (datagram_of action.now 0).data_bytes ≤ length buffer.old }
-    ensures { IsFrame frame.new.items (bare_payload (frame_of action.now number)) }
-{
-    let index = (number % 256) as u8;
-    let name = name_of(number);
-    let data = &mut buffer[..action.data_length()];
-    action.write_data(data);
-    let naming = Sent {
-        command: Command::Nop,
-        index,
-        address: 0,
-        content: &name,
-    };
-    let asking = Sent {
-        command: action.command(),
-        index,
-        address: action.address(),
-        content: data,
-    };
-    write_pair(frame, naming, asking);
-}
-
-/// The same by way of the longest buffer, which a mailbox message may need.
-#[inline(never)]
-fn write_long(action: &Action, number: u64, frame: &mut Frame)
-    requires { IsDoable action.now }
-    ensures { IsFrame frame.new.items (bare_payload (frame_of action.now number)) }
-{
-    let _few = action.data_length();
-    write_through(&mut [0; MAX_DATA], action, number, frame);
-}
-
-/// The same by way of a buffer that is long enough.
-fn write_frame(action: &Action, number: u64, frame: &mut Frame)
-    requires { IsDoable action.now }
-    ensures { IsFrame frame.new.items (bare_payload (frame_of action.now number)) }
-{
-    if action.data_length() <= SHORT_DATA {
-        write_through(&mut [0; SHORT_DATA], action, number, frame);
-    } else {
-        write_long(action, number, frame);
-    }
-}
-
 impl Startup {
     /// Whether `new` takes a plan: at most 255 PDOs are assigned in a direction. It takes each that the link compiler makes.
     pub fn can_start(plan: &Plan) -> bool
@@ -358,5 +255,108 @@ impl Startup {
             }
             None => self.phase = Phase::Ready,
         }
+    }
+}
+
+/// The same by way of a buffer that is long enough.
+fn write_frame(action: &Action, number: u64, frame: &mut Frame)
+    requires { IsDoable action.now }
+    ensures { IsFrame frame.new.items (bare_payload (frame_of action.now number)) }
+{
+    if action.data_length() <= SHORT_DATA {
+        write_through(&mut [0; SHORT_DATA], action, number, frame);
+    } else {
+        write_long(action, number, frame);
+    }
+}
+
+/// The same by way of the longest buffer, which a mailbox message may need.
+#[inline(never)]
+fn write_long(action: &Action, number: u64, frame: &mut Frame)
+    requires { IsDoable action.now }
+    ensures { IsFrame frame.new.items (bare_payload (frame_of action.now number)) }
+{
+    let _few = action.data_length();
+    write_through(&mut [0; MAX_DATA], action, number, frame);
+}
+
+/// Writes the frame of an action with a number: the datagram that names it, and the action's, whose data come by way of
+/// a buffer.
+fn write_through(buffer: &mut [u8], action: &Action, number: u64, frame: &mut Frame)
+    requires doable { IsDoable action.now }
+    requires room { length (datagram_of action.now 0).data_bytes ≤ length buffer.old }
+    ensures { IsFrame frame.new.items (bare_payload (frame_of action.now number)) }
+{
+    let index = (number % 256) as u8;
+    let name = name_of(number);
+    let data = &mut buffer[..action.data_length()];
+    action.write_data(data);
+    let naming = Sent {
+        command: Command::Nop,
+        index,
+        address: 0,
+        content: &name,
+    };
+    let asking = Sent {
+        command: action.command(),
+        index,
+        address: action.address(),
+        content: data,
+    };
+    write_pair(frame, naming, asking);
+}
+
+/// What names a frame: its number, and part 0.
+fn name_of(number: u64) -> [u8; 10]
+    ensures { result ≡ to_le_bytes w64 number ++ to_le_bytes w16 0 }
+{
+    let [a, b, c, d, e, f, g, h] = number.to_le_bytes();
+    [a, b, c, d, e, f, g, h, 0, 0]
+}
+
+/// A copy of the settings of all slaves.
+fn copied_all(alloc: Global, slaves: &[SlavePlan]) -> Result<Listed<SlavePlan>, AllocError>
+    ensures { IfOk result (λ xs. xs ≡ slaves.now) }
+{
+    let mut all = Listed::new(alloc);
+    for settings in slaves {
+        all.push(copied(alloc, settings)?)?;
+    }
+    Ok(all)
+}
+
+/// A copy of a slave's settings.
+fn copied(alloc: Global, settings: &SlavePlan) -> Result<SlavePlan, AllocError>
+    ensures { IfOk result (λ x. x ≡ settings.now) }
+{
+    Ok(SlavePlan {
+        kind: settings.kind.copied(alloc)?,
+        outputs: Listed::copied(alloc, settings.outputs.as_slice())?,
+        inputs: Listed::copied(alloc, settings.inputs.as_slice())?,
+        managers: settings.managers,
+        fmmus: settings.fmmus,
+        from: settings.from,
+        share: settings.share,
+    })
+}
+
+/// Whether each slot of a slave's assignments has a subindex of one byte.
+fn has_few_assigned(settings: &SlavePlan) -> bool
+    ensures { IsTrue result ↔ HasFewAssigned settings.now }
+{
+    settings.outputs.len() < 256 && settings.inputs.len() < 256
+}
+
+/// The first step of each script.
+fn first_step() -> Step
+    ensures { result ≡ first_step }
+{
+    Step {
+        cursor: Cursor {
+            stretch: Stretch::Opening,
+            slave: 0,
+            place: 0,
+        },
+        action: Action::CountSlaves,
     }
 }

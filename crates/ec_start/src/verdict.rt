@@ -68,124 +68,6 @@ pub fn with_word(seen: Device, which: usize, value: u32) -> Device
     }
 }
 
-/// The words before one, as far as they are of the same slave.
-fn seen_before(seen: Device, which: usize) -> Device
-    ensures { result ≡ seen_before seen which }
-{
-    match which {
-        0 => nothing_seen(),
-        1 => Device {
-            vendor: seen.vendor,
-            product: 0,
-            revision: 0,
-        },
-        _ => Device {
-            vendor: seen.vendor,
-            product: seen.product,
-            revision: 0,
-        },
-    }
-}
-
-fn is_device(kind: Device, seen: Device) -> bool
-    ensures { result ≡ is_device kind seen }
-{
-    kind.vendor == seen.vendor && kind.product == seen.product && kind.revision == seen.revision
-}
-
-/// The device of a slave's type.
-fn type_of(slaves: &[SlavePlan], slave: usize) -> Device
-    ensures { result ≡ type_of slaves.now slave }
-{
-    if slave < slaves.len() {
-        slaves[slave].kind.device()
-    } else {
-        nothing_seen()
-    }
-}
-
-fn differs(slave: usize, seen: Device) -> Verdict
-    ensures { result ≡ differs slave seen }
-{
-    Verdict::Fails(StartError::Identity { slave, seen })
-}
-
-fn word_verdict(kind: Device, seen: Device, slave: usize, which: usize, bytes: &[u8]) -> Verdict
-    requires { 10 ≤ length bytes.now }
-    ensures { result ≡ word_verdict kind seen slave which bytes.now }
-{
-    let control = SiiControl(LittleEndian::read_u16(&bytes[0..2]));
-    if control.has_error() {
-        return differs(slave, seen_before(seen, which));
-    }
-    if control.is_busy() {
-        return Verdict::Again;
-    }
-    let value = LittleEndian::read_u32(&bytes[6..10]);
-    let shown = with_word(seen, which, value);
-    if which == 2 && !is_device(kind, shown) {
-        return differs(slave, shown);
-    }
-    Verdict::Shows(value)
-}
-
-fn state_verdict(slave: usize, state: State, bytes: &[u8]) -> Verdict
-    requires { 6 ≤ length bytes.now }
-    ensures { result ≡ state_verdict slave state bytes.now }
-{
-    let status = bytes[0] as u16;
-    if AlWord(status).has_error() {
-        let code = LittleEndian::read_u16(&bytes[4..6]);
-        return Verdict::Fails(StartError::AlError { slave, code });
-    }
-    if status % 32 == state.number() {
-        Verdict::Next
-    } else {
-        Verdict::Again
-    }
-}
-
-fn upload_verdict(slave: usize, request: &SdoRequest, expected: SdoValue, seen: SdoValue) -> Verdict
-    ensures { result ≡ upload_verdict slave request.now expected seen }
-{
-    if seen.size.number() != expected.size.number() {
-        return Verdict::Fails(StartError::BadMailbox { slave });
-    }
-    if seen.number == expected.number {
-        return Verdict::Next;
-    }
-    Verdict::Fails(StartError::Mapping {
-        slave,
-        index: request.index,
-        subindex: request.subindex,
-        seen: seen.number,
-    })
-}
-
-fn reply_verdict(slave: usize, request: &SdoRequest, reply: Reply) -> Verdict
-    ensures { result ≡ reply_verdict slave request.now request.now.transfer reply }
-{
-    match (request.transfer, reply) {
-        (_, Reply::Aborted(code)) => Verdict::Fails(StartError::Abort { slave, code }),
-        (Transfer::Download(_), Reply::Downloaded) => Verdict::Next,
-        (Transfer::Upload(expected), Reply::Uploaded(seen)) => {
-            upload_verdict(slave, request, expected, seen)
-        }
-        _ => Verdict::Fails(StartError::BadMailbox { slave }),
-    }
-}
-
-/// A verdict that holds only where the working counter is the one that it must be.
-fn counted(counter: u16, expected: usize, step: usize, verdict: Verdict) -> Verdict
-    ensures { result ≡ counted counter expected step verdict }
-{
-    if counter as usize == expected {
-        verdict
-    } else {
-        Verdict::Fails(StartError::Counter { step })
-    }
-}
-
 /// What the counter and the data of a returned datagram say of the action that it was sent for.
 pub fn verdict_on(
     slaves: &[SlavePlan],
@@ -218,6 +100,124 @@ pub fn verdict_on(
             counted(counter, 1, step, reply_verdict(slave, &request, reply))
         }
         _ => counted(counter, 1, step, Verdict::Next),
+    }
+}
+
+/// A verdict that holds only where the working counter is the one that it must be.
+fn counted(counter: u16, expected: usize, step: usize, verdict: Verdict) -> Verdict
+    ensures { result ≡ counted counter expected step verdict }
+{
+    if counter as usize == expected {
+        verdict
+    } else {
+        Verdict::Fails(StartError::Counter { step })
+    }
+}
+
+fn reply_verdict(slave: usize, request: &SdoRequest, reply: Reply) -> Verdict
+    ensures { result ≡ reply_verdict slave request.now request.now.transfer reply }
+{
+    match (request.transfer, reply) {
+        (_, Reply::Aborted(code)) => Verdict::Fails(StartError::Abort { slave, code }),
+        (Transfer::Download(_), Reply::Downloaded) => Verdict::Next,
+        (Transfer::Upload(expected), Reply::Uploaded(seen)) => {
+            upload_verdict(slave, request, expected, seen)
+        }
+        _ => Verdict::Fails(StartError::BadMailbox { slave }),
+    }
+}
+
+fn upload_verdict(slave: usize, request: &SdoRequest, expected: SdoValue, seen: SdoValue) -> Verdict
+    ensures { result ≡ upload_verdict slave request.now expected seen }
+{
+    if seen.size.number() != expected.size.number() {
+        return Verdict::Fails(StartError::BadMailbox { slave });
+    }
+    if seen.number == expected.number {
+        return Verdict::Next;
+    }
+    Verdict::Fails(StartError::Mapping {
+        slave,
+        index: request.index,
+        subindex: request.subindex,
+        seen: seen.number,
+    })
+}
+
+fn state_verdict(slave: usize, state: State, bytes: &[u8]) -> Verdict
+    requires { 6 ≤ length bytes.now }
+    ensures { result ≡ state_verdict slave state bytes.now }
+{
+    let status = bytes[0] as u16;
+    if AlWord(status).has_error() {
+        let code = LittleEndian::read_u16(&bytes[4..6]);
+        return Verdict::Fails(StartError::AlError { slave, code });
+    }
+    if status % 32 == state.number() {
+        Verdict::Next
+    } else {
+        Verdict::Again
+    }
+}
+
+fn word_verdict(kind: Device, seen: Device, slave: usize, which: usize, bytes: &[u8]) -> Verdict
+    requires { 10 ≤ length bytes.now }
+    ensures { result ≡ word_verdict kind seen slave which bytes.now }
+{
+    let control = SiiControl(LittleEndian::read_u16(&bytes[0..2]));
+    if control.has_error() {
+        return differs(slave, seen_before(seen, which));
+    }
+    if control.is_busy() {
+        return Verdict::Again;
+    }
+    let value = LittleEndian::read_u32(&bytes[6..10]);
+    let shown = with_word(seen, which, value);
+    if which == 2 && !is_device(kind, shown) {
+        return differs(slave, shown);
+    }
+    Verdict::Shows(value)
+}
+
+fn differs(slave: usize, seen: Device) -> Verdict
+    ensures { result ≡ differs slave seen }
+{
+    Verdict::Fails(StartError::Identity { slave, seen })
+}
+
+/// The device of a slave's type.
+fn type_of(slaves: &[SlavePlan], slave: usize) -> Device
+    ensures { result ≡ type_of slaves.now slave }
+{
+    if slave < slaves.len() {
+        slaves[slave].kind.device()
+    } else {
+        nothing_seen()
+    }
+}
+
+fn is_device(kind: Device, seen: Device) -> bool
+    ensures { result ≡ is_device kind seen }
+{
+    kind.vendor == seen.vendor && kind.product == seen.product && kind.revision == seen.revision
+}
+
+/// The words before one, as far as they are of the same slave.
+fn seen_before(seen: Device, which: usize) -> Device
+    ensures { result ≡ seen_before seen which }
+{
+    match which {
+        0 => nothing_seen(),
+        1 => Device {
+            vendor: seen.vendor,
+            product: 0,
+            revision: 0,
+        },
+        _ => Device {
+            vendor: seen.vendor,
+            product: seen.product,
+            revision: 0,
+        },
     }
 }
 

@@ -131,28 +131,6 @@ impl Buffer {
         self.is_drafting = false;
     }
 
-    /// Opens a draft of zeros.
-    fn open_draft(&mut self)
-        ensures { self.new ≡ record self.old { draft = Some (zeros (length self.old.published)) } }
-    {
-        self.is_drafting = true;
-        clear_front(&mut self.draft, self.len);
-    }
-
-    /// Writes a byte of the open draft, which the last one publishes.
-    fn write_draft(&mut self, place: usize, byte: u8)
-        requires open { is_some self.old.draft ≡ true }
-        requires inside { place < length self.old.published }
-        ensures after { Some self.new ≡ draft_next self.old place byte self.old.draft }
-        ensures long { length self.new.published ≡ length self.old.published }
-    {
-        set_byte(&mut self.draft, self.len, place, byte);
-        if place + 1 == self.len {
-            self.is_drafting = false;
-            mem::swap(&mut self.published, &mut self.draft);
-        }
-    }
-
     /// The application reads a byte: `None`, and nothing changes, where there is no open view, or no such byte.
     #[tactic(auto, unfolding(crate::specs::Buffer::app_read))]
     pub fn get(&mut self, place: usize) -> Option<u8>
@@ -178,6 +156,28 @@ impl Buffer {
     {
         self.is_viewing = false;
     }
+
+    /// Writes a byte of the open draft, which the last one publishes.
+    fn write_draft(&mut self, place: usize, byte: u8)
+        requires open { is_some self.old.draft ≡ true }
+        requires inside { place < length self.old.published }
+        ensures after { Some self.new ≡ draft_next self.old place byte self.old.draft }
+        ensures long { length self.new.published ≡ length self.old.published }
+    {
+        set_byte(&mut self.draft, self.len, place, byte);
+        if place + 1 == self.len {
+            self.is_drafting = false;
+            mem::swap(&mut self.published, &mut self.draft);
+        }
+    }
+
+    /// Opens a draft of zeros.
+    fn open_draft(&mut self)
+        ensures { self.new ≡ record self.old { draft = Some (zeros (length self.old.published)) } }
+    {
+        self.is_drafting = true;
+        clear_front(&mut self.draft, self.len);
+    }
 }
 
 /// Writes zeros at the front.
@@ -186,24 +186,6 @@ pub fn clear_front(storage: &mut [u8], len: usize)
     ensures { storage.new ≡ zeros len ++ drop len storage.old }
 {
     storage[..len].fill(0);
-}
-
-/// Sets a byte at the front.
-fn set_byte(storage: &mut [u8], len: usize, place: usize, byte: u8)
-    requires room { len ≤ length storage.old }
-    requires inside { place < len }
-    ensures { take len storage.new ≡ slice_set (take len storage.old) place byte }
-{
-    storage[place] = byte;
-}
-
-/// Copies the front.
-fn copy_front(storage: &mut [u8], from: &[u8], len: usize)
-    requires to { len ≤ length storage.old }
-    requires from { len ≤ length from.now }
-    ensures { storage.new ≡ take len from.now ++ drop len storage.old }
-{
-    storage[..len].copy_from_slice(&from[..len]);
 }
 
 /// Writes at the front the value that an access leaves in so many bytes from an address on.
@@ -217,4 +199,22 @@ pub fn fill_front<W: Writing>(storage: &mut [u8], len: usize, start: usize, writ
     ensures length { length (W.written writing.now start len) ≡ len }
 {
     writing.fill(start, &mut storage[..len]);
+}
+
+/// Copies the front.
+fn copy_front(storage: &mut [u8], from: &[u8], len: usize)
+    requires to { len ≤ length storage.old }
+    requires from { len ≤ length from.now }
+    ensures { storage.new ≡ take len from.now ++ drop len storage.old }
+{
+    storage[..len].copy_from_slice(&from[..len]);
+}
+
+/// Sets a byte at the front.
+fn set_byte(storage: &mut [u8], len: usize, place: usize, byte: u8)
+    requires room { len ≤ length storage.old }
+    requires inside { place < len }
+    ensures { take len storage.new ≡ slice_set (take len storage.old) place byte }
+{
+    storage[place] = byte;
 }

@@ -29,23 +29,11 @@ pub enum Shape {
     Link,
 }
 
-fn is_name_byte(byte: u8) -> bool
-    ensures { result ≡ is_name_byte byte }
-{
-    byte.is_ascii_alphanumeric() || byte == b'_'
-}
-
 /// Whether a text is a name: 1 to 32 ASCII letters, digits and `_`.
 pub fn is_name(text: &str) -> bool
     ensures { result ≡ is_name text.now }
 {
     1 <= text.len() && text.len() <= 32 && are_name_bytes(text.as_bytes())
-}
-
-fn are_name_bytes(bytes: &[u8]) -> bool
-    ensures { result ≡ list_all is_name_byte bytes.now }
-{
-    bytes.iter().all(|byte| is_name_byte(*byte))
 }
 
 /// The value under a key.
@@ -55,100 +43,11 @@ pub fn member<'a>(members: &'a toml::Table, key: &str) -> Option<&'a Value>
     members.get(key)
 }
 
-/// Whether a table of a shape may have a key, in a version of the format. All keys stand here.
-fn is_key(shape: Shape, version: Version, key: &str) -> bool
-    ensures { result ≡ is_key shape version key.now }
-{
-    match shape {
-        Shape::Document => matches!(key, "version" | "type" | "slave" | "variable" | "link"),
-        Shape::Type => is_type_key(key),
-        Shape::Pdo => matches!(key, "index" | "entries"),
-        Shape::Slave => {
-            matches!(key, "name" | "type" | "out" | "in" | "serial")
-                || (version == Version::Two && key == "unit")
-        }
-        Shape::Variable => matches!(key, "name" | "dir" | "bits"),
-        Shape::Link => matches!(key, "var" | "slave" | "index" | "sub" | "bits"),
-    }
-}
-
-fn is_type_key(key: &str) -> bool
-    ensures { result ≡ is_key shape.Type version.One key.now }
-{
-    matches!(
-        key,
-        "name"
-            | "vendor"
-            | "product"
-            | "revision"
-            | "out_start"
-            | "in_start"
-            | "mailbox"
-            | "rxpdo"
-            | "txpdo"
-            | "lrw"
-    )
-}
-
-/// Whether a table has each key that its shape must have.
-fn has_required(shape: Shape, members: &toml::Table) -> bool
-    ensures { result ≡ has_required shape (table_view members.now) }
-{
-    match shape {
-        Shape::Document => true,
-        Shape::Type => has_type_keys(members),
-        Shape::Pdo => has(members, "index") && has(members, "entries"),
-        Shape::Slave => has(members, "name") && has(members, "type"),
-        Shape::Variable => has(members, "name") && has(members, "dir") && has(members, "bits"),
-        Shape::Link => {
-            has(members, "var")
-                && has(members, "slave")
-                && has(members, "index")
-                && has(members, "sub")
-        }
-    }
-}
-
-fn has_type_keys(members: &toml::Table) -> bool
-    ensures { result ≡ has_required shape.Type (table_view members.now) }
-{
-    has(members, "name")
-        && has(members, "vendor")
-        && has(members, "product")
-        && has(members, "revision")
-        && has(members, "out_start")
-        && has(members, "in_start")
-}
-
-/// Whether a table has a key.
-fn has(members: &toml::Table, key: &str) -> bool
-    ensures { result ≡ is_some (get_member key.now (table_view members.now)) }
-{
-    member(members, key).is_some()
-}
-
 /// Whether a table has no unknown key of its shape, and none missing.
 pub fn keys_are(shape: Shape, version: Version, members: &toml::Table) -> bool
     ensures { result ≡ keys_are shape version (table_view members.now) }
 {
     each_key(shape, version, members) && has_required(shape, members)
-}
-
-#[tactic(auto, using(crate::proofs::Lookups::each_key_of))]
-fn each_key(shape: Shape, version: Version, members: &toml::Table) -> bool
-    ensures { result ≡ each_key (is_key shape version) (table_view members.now) }
-{
-    each_map_key(shape, version, members)
-}
-
-/// The same, said of the keys of the map that a table is.
-fn each_map_key(shape: Shape, version: Version, members: &toml::Table) -> bool
-    ensures { result
-        ≡ list_all (λ k. is_key shape version (string_bytes k)) (keys_of members.now.entries) }
-{
-    members
-        .keys()
-        .all(|key| is_key(shape, version, key.as_str()))
 }
 
 /// A number from `low` to `high`.
@@ -208,26 +107,6 @@ pub fn direction_in(place: Place, value: Option<&Value>) -> Result<Direction, Fa
     }
 }
 
-#[tactic(auto, unfolding(crate::specs::Fields::mailbox_of))]
-fn mailbox_of(place: Place, value: &Value) -> Result<Mailbox, Fault>
-    ensures { result ≡ mailbox_of place (view value.now) }
-{
-    let (least, most) = (MIN_MAILBOX_SIZE as u32, MAX_MAILBOX_SIZE as u32);
-    let receive_start = number_in(place, value.get(0), 0, MAX_U16)?;
-    let receive_size = number_in(place, value.get(1), least, most)?;
-    let send_start = number_in(place, value.get(2), 0, MAX_U16)?;
-    let send_size = number_in(place, value.get(3), least, most)?;
-    if value.get(4).is_some() {
-        return Err(Fault::BadValue(place));
-    }
-    Ok(Mailbox {
-        receive_start: receive_start as u16,
-        receive_size: receive_size as u16,
-        send_start: send_start as u16,
-        send_size: send_size as u16,
-    })
-}
-
 /// A mailbox, where there is one.
 #[tactic(auto, unfolding(crate::specs::Fields::mailbox_in))]
 pub fn mailbox_in(place: Place, value: Option<&Value>) -> Result<Option<Mailbox>, Fault>
@@ -237,23 +116,6 @@ pub fn mailbox_in(place: Place, value: Option<&Value>) -> Result<Option<Mailbox>
         None => Ok(None),
         Some(value) => Ok(Some(mailbox_of(place, value)?)),
     }
-}
-
-#[tactic(auto, unfolding(crate::specs::Fields::link_bits_of))]
-fn link_bits_of(place: Place, value: &Value) -> Result<LinkBits, Fault>
-    ensures { result ≡ link_bits_of place (view value.now) }
-{
-    let variable_bit = number_in(place, value.get(0), 0, 63)?;
-    let entry_bit = number_in(place, value.get(1), 0, 63)?;
-    let count = number_in(place, value.get(2), 1, 64)?;
-    if value.get(3).is_some() {
-        return Err(Fault::BadValue(place));
-    }
-    Ok(LinkBits {
-        variable_bit: variable_bit as u8,
-        entry_bit: entry_bit as u8,
-        count: count as u8,
-    })
 }
 
 /// A link's bits, where they are written.
@@ -307,26 +169,6 @@ pub fn truth_in(place: Place, value: Option<&Value>) -> Result<bool, Fault>
     }
 }
 
-fn is_table(value: &Value) -> bool
-    ensures { result ≡ is_table (view value.now) }
-{
-    value.as_table().is_some()
-}
-
-#[tactic(auto, using(crate::proofs::Lookups::are_tables_of))]
-fn are_tables(elements: &[Value]) -> bool
-    ensures { result ≡ are_tables (items_view elements.now) }
-{
-    each_is_table(elements)
-}
-
-/// The same, said of the values of the array.
-fn each_is_table(elements: &[Value]) -> bool
-    ensures { result ≡ list_all (λ v. is_table (view v)) elements.now }
-{
-    elements.iter().all(|value| is_table(value))
-}
-
 /// The elements of a section, none where it is left out.
 #[tactic(auto, unfolding(crate::specs::Fields::section_in))]
 pub fn section_in<'a>(place: Place, value: Option<&'a Value>) -> Result<&'a [Value], Fault>
@@ -343,4 +185,162 @@ pub fn section_in<'a>(place: Place, value: Option<&'a Value>) -> Result<&'a [Val
     } else {
         Err(Fault::BadValue(place))
     }
+}
+
+fn is_name_byte(byte: u8) -> bool
+    ensures { result ≡ is_name_byte byte }
+{
+    byte.is_ascii_alphanumeric() || byte == b'_'
+}
+
+fn are_name_bytes(bytes: &[u8]) -> bool
+    ensures { result ≡ list_all is_name_byte bytes.now }
+{
+    bytes.iter().all(|byte| is_name_byte(*byte))
+}
+
+/// Whether a table has a key.
+fn has(members: &toml::Table, key: &str) -> bool
+    ensures { result ≡ is_some (get_member key.now (table_view members.now)) }
+{
+    member(members, key).is_some()
+}
+
+fn has_type_keys(members: &toml::Table) -> bool
+    ensures { result ≡ has_required shape.Type (table_view members.now) }
+{
+    has(members, "name")
+        && has(members, "vendor")
+        && has(members, "product")
+        && has(members, "revision")
+        && has(members, "out_start")
+        && has(members, "in_start")
+}
+
+/// Whether a table has each key that its shape must have.
+fn has_required(shape: Shape, members: &toml::Table) -> bool
+    ensures { result ≡ has_required shape (table_view members.now) }
+{
+    match shape {
+        Shape::Document => true,
+        Shape::Type => has_type_keys(members),
+        Shape::Pdo => has(members, "index") && has(members, "entries"),
+        Shape::Slave => has(members, "name") && has(members, "type"),
+        Shape::Variable => has(members, "name") && has(members, "dir") && has(members, "bits"),
+        Shape::Link => {
+            has(members, "var")
+                && has(members, "slave")
+                && has(members, "index")
+                && has(members, "sub")
+        }
+    }
+}
+
+fn is_type_key(key: &str) -> bool
+    ensures { result ≡ is_key shape.Type version.One key.now }
+{
+    matches!(
+        key,
+        "name"
+            | "vendor"
+            | "product"
+            | "revision"
+            | "out_start"
+            | "in_start"
+            | "mailbox"
+            | "rxpdo"
+            | "txpdo"
+            | "lrw"
+    )
+}
+
+/// Whether a table of a shape may have a key, in a version of the format. All keys stand here.
+fn is_key(shape: Shape, version: Version, key: &str) -> bool
+    ensures { result ≡ is_key shape version key.now }
+{
+    match shape {
+        Shape::Document => matches!(key, "version" | "type" | "slave" | "variable" | "link"),
+        Shape::Type => is_type_key(key),
+        Shape::Pdo => matches!(key, "index" | "entries"),
+        Shape::Slave => {
+            matches!(key, "name" | "type" | "out" | "in" | "serial")
+                || (version == Version::Two && key == "unit")
+        }
+        Shape::Variable => matches!(key, "name" | "dir" | "bits"),
+        Shape::Link => matches!(key, "var" | "slave" | "index" | "sub" | "bits"),
+    }
+}
+
+/// The same, said of the keys of the map that a table is.
+fn each_map_key(shape: Shape, version: Version, members: &toml::Table) -> bool
+    ensures { result
+        ≡ list_all (λ k. is_key shape version (string_bytes k)) (keys_of members.now.entries) }
+{
+    members
+        .keys()
+        .all(|key| is_key(shape, version, key.as_str()))
+}
+
+#[tactic(auto, using(crate::proofs::Lookups::each_key_of))]
+fn each_key(shape: Shape, version: Version, members: &toml::Table) -> bool
+    ensures { result ≡ each_key (is_key shape version) (table_view members.now) }
+{
+    each_map_key(shape, version, members)
+}
+
+#[tactic(auto, unfolding(crate::specs::Fields::mailbox_of))]
+fn mailbox_of(place: Place, value: &Value) -> Result<Mailbox, Fault>
+    ensures { result ≡ mailbox_of place (view value.now) }
+{
+    let (least, most) = (MIN_MAILBOX_SIZE as u32, MAX_MAILBOX_SIZE as u32);
+    let receive_start = number_in(place, value.get(0), 0, MAX_U16)?;
+    let receive_size = number_in(place, value.get(1), least, most)?;
+    let send_start = number_in(place, value.get(2), 0, MAX_U16)?;
+    let send_size = number_in(place, value.get(3), least, most)?;
+    if value.get(4).is_some() {
+        return Err(Fault::BadValue(place));
+    }
+    Ok(Mailbox {
+        receive_start: receive_start as u16,
+        receive_size: receive_size as u16,
+        send_start: send_start as u16,
+        send_size: send_size as u16,
+    })
+}
+
+#[tactic(auto, unfolding(crate::specs::Fields::link_bits_of))]
+fn link_bits_of(place: Place, value: &Value) -> Result<LinkBits, Fault>
+    ensures { result ≡ link_bits_of place (view value.now) }
+{
+    let variable_bit = number_in(place, value.get(0), 0, 63)?;
+    let entry_bit = number_in(place, value.get(1), 0, 63)?;
+    let count = number_in(place, value.get(2), 1, 64)?;
+    if value.get(3).is_some() {
+        return Err(Fault::BadValue(place));
+    }
+    Ok(LinkBits {
+        variable_bit: variable_bit as u8,
+        entry_bit: entry_bit as u8,
+        count: count as u8,
+    })
+}
+
+/// The same, said of the values of the array.
+fn each_is_table(elements: &[Value]) -> bool
+    ensures { result ≡ list_all (λ v. is_table (view v)) elements.now }
+{
+    elements.iter().all(|value| is_table(value))
+}
+
+#[tactic(auto, using(crate::proofs::Lookups::are_tables_of))]
+fn are_tables(elements: &[Value]) -> bool
+    ensures { result ≡ are_tables (items_view elements.now) }
+{
+    each_is_table(elements)
+}
+
+fn is_table(value: &Value) -> bool
+    ensures { result ≡ is_table (view value.now) }
+{
+    value.as_table().is_some()
 }

@@ -12,17 +12,42 @@ use ec_listed::Listed;
 use std::alloc::Global;
 use toml::Value;
 
-/// The bits that are written, else all of the variable's, from bit 0 of both.
-fn written_or_all(written: Option<LinkBits>, variable: &VariableRow) -> LinkBits
-    ensures { result ≡ unwrap_or written (all_bits variable.now) }
+/// The links of the section, in order.
+#[tactic(auto, using(crate::proofs::InOrder::rows_all))]
+pub fn links_of(
+    alloc: Global,
+    version: Version,
+    slaves: &NamedRows<'_, SlaveRow>,
+    variables: &NamedRows<'_, VariableRow>,
+    elements: &[Value],
+) -> Result<Listed<LinkRow>, TableError>
+    ensures { Gives result
+        (rows_after (link_element version slaves.now variables.now) [] 0 (items_view elements.now)) }
 {
-    match written {
-        Some(bits) => bits,
-        None => LinkBits {
-            variable_bit: 0,
-            entry_bit: 0,
-            count: variable.bits,
-        },
+    let mut found = Listed::new(alloc);
+    for (element, value) in elements.iter().enumerate() {
+        let row = link_element(version, slaves, variables, element, value)?;
+        found.push(row)?;
+    }
+    Ok(found)
+}
+
+fn link_element(
+    version: Version,
+    slaves: &NamedRows<'_, SlaveRow>,
+    variables: &NamedRows<'_, VariableRow>,
+    element: usize,
+    value: &Value,
+) -> Result<LinkRow, Fault>
+    ensures { result ≡ link_element version slaves.now variables.now element (view value.now) [] }
+{
+    let place = Place {
+        section: Section::Link,
+        element,
+    };
+    match value.as_table() {
+        Some(members) => link_at(version, slaves, variables, place, members),
+        None => Err(Fault::BadValue(place)),
     }
 }
 
@@ -63,41 +88,16 @@ fn link_at(
     })
 }
 
-fn link_element(
-    version: Version,
-    slaves: &NamedRows<'_, SlaveRow>,
-    variables: &NamedRows<'_, VariableRow>,
-    element: usize,
-    value: &Value,
-) -> Result<LinkRow, Fault>
-    ensures { result ≡ link_element version slaves.now variables.now element (view value.now) [] }
+/// The bits that are written, else all of the variable's, from bit 0 of both.
+fn written_or_all(written: Option<LinkBits>, variable: &VariableRow) -> LinkBits
+    ensures { result ≡ unwrap_or written (all_bits variable.now) }
 {
-    let place = Place {
-        section: Section::Link,
-        element,
-    };
-    match value.as_table() {
-        Some(members) => link_at(version, slaves, variables, place, members),
-        None => Err(Fault::BadValue(place)),
+    match written {
+        Some(bits) => bits,
+        None => LinkBits {
+            variable_bit: 0,
+            entry_bit: 0,
+            count: variable.bits,
+        },
     }
-}
-
-/// The links of the section, in order.
-#[tactic(auto, using(crate::proofs::InOrder::rows_all))]
-pub fn links_of(
-    alloc: Global,
-    version: Version,
-    slaves: &NamedRows<'_, SlaveRow>,
-    variables: &NamedRows<'_, VariableRow>,
-    elements: &[Value],
-) -> Result<Listed<LinkRow>, TableError>
-    ensures { Gives result
-        (rows_after (link_element version slaves.now variables.now) [] 0 (items_view elements.now)) }
-{
-    let mut found = Listed::new(alloc);
-    for (element, value) in elements.iter().enumerate() {
-        let row = link_element(version, slaves, variables, element, value)?;
-        found.push(row)?;
-    }
-    Ok(found)
 }

@@ -8,32 +8,6 @@ use ec_device::{Entry, Pdo};
 use ec_listed::Listed;
 use std::alloc::{AllocError, Global};
 
-/// The PDO with an index.
-fn pdo_at(pdos: &[Pdo], index: u16) -> Option<&Pdo>
-    ensures { option_copied result ≡ find (λ (q : Pdo). q.index == index) pdos.now }
-{
-    pdos.iter().find(|pdo| pdo.index == index)
-}
-
-/// The entries of the PDO with an index, none where there is no such PDO.
-fn entries_at(pdos: &[Pdo], index: u16) -> &[Entry]
-    ensures { result.now ≡ entries_at pdos.now index }
-{
-    match pdo_at(pdos, index) {
-        Some(pdo) => pdo.entries.as_slice(),
-        None => &[],
-    }
-}
-
-fn push_all(found: &mut Listed<Entry>, entries: &[Entry]) -> Result<(), AllocError>
-    ensures { OnOk result (found.new ≡ found.old ++ entries.now) }
-{
-    for entry in entries {
-        found.push(*entry)?;
-    }
-    Ok(())
-}
-
 /// The entries of the PDOs with these indices, one after another.
 pub fn assigned_entries(
     alloc: Global,
@@ -47,4 +21,30 @@ pub fn assigned_entries(
         push_all(&mut found, entries_at(pdos, *index))?;
     }
     Ok(found)
+}
+
+fn push_all(found: &mut Listed<Entry>, entries: &[Entry]) -> Result<(), AllocError>
+    ensures { OnOk result (found.new ≡ found.old ++ entries.now) }
+{
+    for entry in entries {
+        found.push(*entry)?;
+    }
+    Ok(())
+}
+
+/// The entries of the PDO with an index, none where there is no such PDO.
+fn entries_at(pdos: &[Pdo], index: u16) -> &[Entry]
+    ensures { result.now ≡ entries_at pdos.now index }
+{
+    match pdo_at(pdos, index) {
+        Some(pdo) => pdo.entries.as_slice(),
+        None => &[],
+    }
+}
+
+/// The PDO with an index.
+fn pdo_at(pdos: &[Pdo], index: u16) -> Option<&Pdo>
+    ensures { option_copied result ≡ find (λ (q : Pdo). q.index == index) pdos.now }
+{
+    pdos.iter().find(|pdo| pdo.index == index)
 }

@@ -22,141 +22,6 @@ pub const LAST_OUTPUT_INDEX: u16 = FIRST_OUTPUT_INDEX + (PDO_INDICES - 1);
 /// The last index of an input PDO.
 pub const LAST_INPUT_INDEX: u16 = FIRST_INPUT_INDEX + (PDO_INDICES - 1);
 
-#[tactic(auto, unfolding(crate::specs::Pdos::entry_of))]
-fn entry_of(place: Place, value: &Value) -> Result<Entry, Fault>
-    ensures { result ≡ entry_of place (view value.now) }
-{
-    let index = number_in(place, value.get(0), 0, MAX_U16)?;
-    let subindex = number_in(place, value.get(1), 0, MAX_U8)?;
-    let bits = number_in(place, value.get(2), 1, MAX_ENTRY_BITS as u32)?;
-    if value.get(3).is_some() || (index == 0 && subindex != 0) {
-        return Err(Fault::BadValue(place));
-    }
-    Ok(Entry {
-        index: index as u16,
-        subindex: subindex as u8,
-        bits: bits as u8,
-    })
-}
-
-#[tactic(auto, using(crate::proofs::InOrder::rows_all))]
-fn entries_of(alloc: Global, place: Place, elements: &[Value]) -> Result<Listed<Entry>, TableError>
-    ensures { Gives result (rows_after (entry_row place) [] 0 (items_view elements.now)) }
-{
-    let mut found = Listed::new(alloc);
-    for value in elements {
-        let entry = entry_of(place, value)?;
-        found.push(entry)?;
-    }
-    Ok(found)
-}
-
-#[tactic(auto, unfolding(crate::specs::Pdos::array_of))]
-fn entry_array(alloc: Global, place: Place, value: &Value) -> Result<Listed<Entry>, TableError>
-    ensures { Gives result (array_of (entry_row place) place 64 (view value.now)) }
-{
-    let Some(elements) = value.as_array() else {
-        return Err(TableError::Refused(Fault::BadValue(place)));
-    };
-    let entries = entries_of(alloc, place, elements.as_slice())?;
-    if entries.len() > MAX_ENTRIES {
-        return Err(TableError::Refused(Fault::BadValue(place)));
-    }
-    Ok(entries)
-}
-
-fn entries_in(
-    alloc: Global,
-    place: Place,
-    value: Option<&Value>,
-) -> Result<Listed<Entry>, TableError>
-    ensures { Gives result (array_in (entry_row place) place 64 (seen value.entry)) }
-{
-    match value {
-        None => Ok(Listed::new(alloc)),
-        Some(value) => entry_array(alloc, place, value),
-    }
-}
-
-#[tactic(auto, unfolding(crate::specs::Pdos::pdo_of))]
-fn pdo_of(
-    alloc: Global,
-    place: Place,
-    low: u16,
-    high: u16,
-    members: &toml::Table,
-) -> Result<Pdo, TableError>
-    ensures { Gives result (pdo_of place low high (table_view members.now)) }
-{
-    if !keys_are(Shape::Pdo, Version::One, members) {
-        return Err(TableError::Refused(Fault::BadValue(place)));
-    }
-    let index = number_in(
-        place,
-        member(members, "index"),
-        u32::from(low),
-        u32::from(high),
-    )?;
-    let entries = entries_in(alloc, place, member(members, "entries"))?;
-    Ok(Pdo {
-        index: index as u16,
-        entries,
-    })
-}
-
-fn pdo_row(
-    alloc: Global,
-    place: Place,
-    low: u16,
-    high: u16,
-    value: &Value,
-) -> Result<Pdo, TableError>
-    ensures { Gives result (pdo_row place low high 0 (view value.now) []) }
-{
-    match value.as_table() {
-        Some(members) => pdo_of(alloc, place, low, high, members),
-        None => Err(TableError::Refused(Fault::BadValue(place))),
-    }
-}
-
-#[tactic(auto, using(crate::proofs::InOrder::rows_all))]
-fn pdos_of(
-    alloc: Global,
-    place: Place,
-    low: u16,
-    high: u16,
-    elements: &[Value],
-) -> Result<Listed<Pdo>, TableError>
-    ensures { Gives result (rows_after (pdo_row place low high) [] 0 (items_view elements.now)) }
-{
-    let mut found = Listed::new(alloc);
-    for value in elements {
-        let pdo = pdo_row(alloc, place, low, high, value)?;
-        found.push(pdo)?;
-    }
-    Ok(found)
-}
-
-#[tactic(auto, unfolding(crate::specs::Pdos::array_of))]
-fn pdo_array(
-    alloc: Global,
-    place: Place,
-    low: u16,
-    high: u16,
-    value: &Value,
-) -> Result<Listed<Pdo>, TableError>
-    ensures { Gives result (array_of (pdo_row place low high) place 16 (view value.now)) }
-{
-    let Some(elements) = value.as_array() else {
-        return Err(TableError::Refused(Fault::BadValue(place)));
-    };
-    let pdos = pdos_of(alloc, place, low, high, elements.as_slice())?;
-    if pdos.len() > MAX_PDOS {
-        return Err(TableError::Refused(Fault::BadValue(place)));
-    }
-    Ok(pdos)
-}
-
 /// The PDOs of one direction, none where they are left out.
 pub fn pdos_in(
     alloc: Global,
@@ -171,40 +36,6 @@ pub fn pdos_in(
         None => Ok(Listed::new(alloc)),
         Some(value) => pdo_array(alloc, place, low, high, value),
     }
-}
-
-#[tactic(auto, using(crate::proofs::InOrder::rows_all))]
-fn numbers_of(
-    alloc: Global,
-    place: Place,
-    low: u16,
-    high: u16,
-    elements: &[Value],
-) -> Result<Listed<u16>, TableError>
-    ensures { Gives result (rows_after (number_row place low high) [] 0 (items_view elements.now)) }
-{
-    let mut found = Listed::new(alloc);
-    for value in elements {
-        let number = number_in(place, Some(value), u32::from(low), u32::from(high))?;
-        found.push(number as u16)?;
-    }
-    Ok(found)
-}
-
-#[tactic(auto, unfolding(crate::specs::Pdos::number_list))]
-fn number_list(
-    alloc: Global,
-    place: Place,
-    low: u16,
-    high: u16,
-    value: &Value,
-) -> Result<Listed<u16>, TableError>
-    ensures { Gives result (number_list place low high (view value.now)) }
-{
-    let Some(elements) = value.as_array() else {
-        return Err(TableError::Refused(Fault::BadValue(place)));
-    };
-    numbers_of(alloc, place, low, high, elements.as_slice())
 }
 
 /// The numbers of an array, if there is one.
@@ -249,4 +80,173 @@ pub fn is_in(number: u16, known: &[u16]) -> bool
     ensures { result ≡ list_any (λ y. y == number) known.now }
 {
     known.iter().any(|other| *other == number)
+}
+
+#[tactic(auto, unfolding(crate::specs::Pdos::array_of))]
+fn pdo_array(
+    alloc: Global,
+    place: Place,
+    low: u16,
+    high: u16,
+    value: &Value,
+) -> Result<Listed<Pdo>, TableError>
+    ensures { Gives result (array_of (pdo_row place low high) place 16 (view value.now)) }
+{
+    let Some(elements) = value.as_array() else {
+        return Err(TableError::Refused(Fault::BadValue(place)));
+    };
+    let pdos = pdos_of(alloc, place, low, high, elements.as_slice())?;
+    if pdos.len() > MAX_PDOS {
+        return Err(TableError::Refused(Fault::BadValue(place)));
+    }
+    Ok(pdos)
+}
+
+#[tactic(auto, using(crate::proofs::InOrder::rows_all))]
+fn pdos_of(
+    alloc: Global,
+    place: Place,
+    low: u16,
+    high: u16,
+    elements: &[Value],
+) -> Result<Listed<Pdo>, TableError>
+    ensures { Gives result (rows_after (pdo_row place low high) [] 0 (items_view elements.now)) }
+{
+    let mut found = Listed::new(alloc);
+    for value in elements {
+        let pdo = pdo_row(alloc, place, low, high, value)?;
+        found.push(pdo)?;
+    }
+    Ok(found)
+}
+
+fn pdo_row(
+    alloc: Global,
+    place: Place,
+    low: u16,
+    high: u16,
+    value: &Value,
+) -> Result<Pdo, TableError>
+    ensures { Gives result (pdo_row place low high 0 (view value.now) []) }
+{
+    match value.as_table() {
+        Some(members) => pdo_of(alloc, place, low, high, members),
+        None => Err(TableError::Refused(Fault::BadValue(place))),
+    }
+}
+
+#[tactic(auto, unfolding(crate::specs::Pdos::pdo_of))]
+fn pdo_of(
+    alloc: Global,
+    place: Place,
+    low: u16,
+    high: u16,
+    members: &toml::Table,
+) -> Result<Pdo, TableError>
+    ensures { Gives result (pdo_of place low high (table_view members.now)) }
+{
+    if !keys_are(Shape::Pdo, Version::One, members) {
+        return Err(TableError::Refused(Fault::BadValue(place)));
+    }
+    let index = number_in(
+        place,
+        member(members, "index"),
+        u32::from(low),
+        u32::from(high),
+    )?;
+    let entries = entries_in(alloc, place, member(members, "entries"))?;
+    Ok(Pdo {
+        index: index as u16,
+        entries,
+    })
+}
+
+fn entries_in(
+    alloc: Global,
+    place: Place,
+    value: Option<&Value>,
+) -> Result<Listed<Entry>, TableError>
+    ensures { Gives result (array_in (entry_row place) place 64 (seen value.entry)) }
+{
+    match value {
+        None => Ok(Listed::new(alloc)),
+        Some(value) => entry_array(alloc, place, value),
+    }
+}
+
+#[tactic(auto, unfolding(crate::specs::Pdos::array_of))]
+fn entry_array(alloc: Global, place: Place, value: &Value) -> Result<Listed<Entry>, TableError>
+    ensures { Gives result (array_of (entry_row place) place 64 (view value.now)) }
+{
+    let Some(elements) = value.as_array() else {
+        return Err(TableError::Refused(Fault::BadValue(place)));
+    };
+    let entries = entries_of(alloc, place, elements.as_slice())?;
+    if entries.len() > MAX_ENTRIES {
+        return Err(TableError::Refused(Fault::BadValue(place)));
+    }
+    Ok(entries)
+}
+
+#[tactic(auto, using(crate::proofs::InOrder::rows_all))]
+fn entries_of(alloc: Global, place: Place, elements: &[Value]) -> Result<Listed<Entry>, TableError>
+    ensures { Gives result (rows_after (entry_row place) [] 0 (items_view elements.now)) }
+{
+    let mut found = Listed::new(alloc);
+    for value in elements {
+        let entry = entry_of(place, value)?;
+        found.push(entry)?;
+    }
+    Ok(found)
+}
+
+#[tactic(auto, unfolding(crate::specs::Pdos::entry_of))]
+fn entry_of(place: Place, value: &Value) -> Result<Entry, Fault>
+    ensures { result ≡ entry_of place (view value.now) }
+{
+    let index = number_in(place, value.get(0), 0, MAX_U16)?;
+    let subindex = number_in(place, value.get(1), 0, MAX_U8)?;
+    let bits = number_in(place, value.get(2), 1, MAX_ENTRY_BITS as u32)?;
+    if value.get(3).is_some() || (index == 0 && subindex != 0) {
+        return Err(Fault::BadValue(place));
+    }
+    Ok(Entry {
+        index: index as u16,
+        subindex: subindex as u8,
+        bits: bits as u8,
+    })
+}
+
+#[tactic(auto, unfolding(crate::specs::Pdos::number_list))]
+fn number_list(
+    alloc: Global,
+    place: Place,
+    low: u16,
+    high: u16,
+    value: &Value,
+) -> Result<Listed<u16>, TableError>
+    ensures { Gives result (number_list place low high (view value.now)) }
+{
+    let Some(elements) = value.as_array() else {
+        return Err(TableError::Refused(Fault::BadValue(place)));
+    };
+    numbers_of(alloc, place, low, high, elements.as_slice())
+}
+
+#[tactic(auto, using(crate::proofs::InOrder::rows_all))]
+fn numbers_of(
+    alloc: Global,
+    place: Place,
+    low: u16,
+    high: u16,
+    elements: &[Value],
+) -> Result<Listed<u16>, TableError>
+    ensures { Gives result (rows_after (number_row place low high) [] 0 (items_view elements.now)) }
+{
+    let mut found = Listed::new(alloc);
+    for value in elements {
+        let number = number_in(place, Some(value), u32::from(low), u32::from(high))?;
+        found.push(number as u16)?;
+    }
+    Ok(found)
 }

@@ -14,6 +14,38 @@ use crate::variables::variables_of;
 use std::alloc::Global;
 use toml::Value;
 
+/// The table that a text states, or the first fault of the text.
+#[tactic(auto, unfolding(crate::specs::Reading::table_of))]
+pub fn read_table(alloc: Global, text: &str) -> Result<Table, TableError>
+    ensures { Gives result (table_of text.now) }
+{
+    match toml::table_from_str(alloc, text) {
+        Ok(document) => table_of_document(alloc, &document),
+        Err(error) if error.is_memory() => Err(TableError::Memory),
+        Err(_) => Err(TableError::Refused(Fault::Toml)),
+    }
+}
+
+/// The table that a document states.
+#[tactic(auto, unfolding(crate::specs::Reading::table_of_document))]
+fn table_of_document(alloc: Global, document: &toml::Table) -> Result<Table, TableError>
+    ensures { Gives result (table_of_document (table_view document.now)) }
+{
+    let top = Place {
+        section: Section::Top,
+        element: 0,
+    };
+    let version = version_in(top, member(document, "version"))?;
+    if !keys_are(Shape::Document, version, document) {
+        return Err(TableError::Refused(Fault::BadKey(top)));
+    }
+    let types = section_in(top, member(document, "type"))?;
+    let slaves = section_in(top, member(document, "slave"))?;
+    let variables = section_in(top, member(document, "variable"))?;
+    let links = section_in(top, member(document, "link"))?;
+    table_of_sections(alloc, version, types, slaves, variables, links)
+}
+
 /// The table that the elements of the sections state.
 #[tactic(auto, unfolding(crate::specs::Reading::table_of_sections))]
 fn table_of_sections(
@@ -38,36 +70,4 @@ fn table_of_sections(
         variables.into_rows(),
         links,
     ))
-}
-
-/// The table that a document states.
-#[tactic(auto, unfolding(crate::specs::Reading::table_of_document))]
-fn table_of_document(alloc: Global, document: &toml::Table) -> Result<Table, TableError>
-    ensures { Gives result (table_of_document (table_view document.now)) }
-{
-    let top = Place {
-        section: Section::Top,
-        element: 0,
-    };
-    let version = version_in(top, member(document, "version"))?;
-    if !keys_are(Shape::Document, version, document) {
-        return Err(TableError::Refused(Fault::BadKey(top)));
-    }
-    let types = section_in(top, member(document, "type"))?;
-    let slaves = section_in(top, member(document, "slave"))?;
-    let variables = section_in(top, member(document, "variable"))?;
-    let links = section_in(top, member(document, "link"))?;
-    table_of_sections(alloc, version, types, slaves, variables, links)
-}
-
-/// The table that a text states, or the first fault of the text.
-#[tactic(auto, unfolding(crate::specs::Reading::table_of))]
-pub fn read_table(alloc: Global, text: &str) -> Result<Table, TableError>
-    ensures { Gives result (table_of text.now) }
-{
-    match toml::table_from_str(alloc, text) {
-        Ok(document) => table_of_document(alloc, &document),
-        Err(error) if error.is_memory() => Err(TableError::Memory),
-        Err(_) => Err(TableError::Refused(Fault::Toml)),
-    }
 }

@@ -189,21 +189,6 @@ impl Table {
         device.identity(row.serial)
     }
 
-    /// What the slave at a place shows besides where it is full. The error says that memory was refused.
-    fn face(&self, alloc: Global, slave: usize) -> Result<Face, AllocError>
-        requires { slave < length self.now.slaves }
-        ensures value { IfOk result (λ f. option_map (face_of self.now slave) (type_of self.now slave) ≡ Some f) }
-        ensures limits { IfOk result IsFace }
-    {
-        let row = self.type_of(slave);
-        let name = Listed::copied(alloc, row.name.as_str().as_bytes())?;
-        let slaves = self.slaves.len();
-        Ok(Face {
-            name,
-            is_last: slave + 1 == slaves,
-        })
-    }
-
     /// The type of the slave at a place, as a slave has it: with a face where the table is shown in full. The error says
     /// that memory was refused.
     pub fn kind_of(&self, alloc: Global, slave: usize) -> Result<SlaveType, AllocError>
@@ -245,5 +230,20 @@ impl Table {
         let slave_type = self.type_of(slave);
         let row = &self.slaves()[slave];
         assigned_entries(alloc, slave_type.pdos(direction), row.assigned(direction))
+    }
+
+    /// What the slave at a place shows besides where it is full. The error says that memory was refused.
+    fn face(&self, alloc: Global, slave: usize) -> Result<Face, AllocError>
+        requires { slave < length self.now.slaves }
+        ensures value { IfOk result (λ f. option_map (face_of self.now slave) (type_of self.now slave) ≡ Some f) }
+        ensures limits { IfOk result IsFace }
+    {
+        let row = self.type_of(slave);
+        let name = Listed::copied(alloc, row.name.as_str().as_bytes())?;
+        let slaves = self.slaves.len();
+        Ok(Face {
+            name,
+            is_last: slave + 1 == slaves,
+        })
     }
 }

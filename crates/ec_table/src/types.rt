@@ -18,65 +18,59 @@ impl Named for TypeRow {
     ghost name = { λ t. t.name };
 }
 
-/// Vendor, product and revision.
-#[tactic(auto, unfolding(crate::specs::Reading::device_in))]
-fn device_in(place: Place, members: &toml::Table) -> Result<Device, Fault>
-    ensures { result ≡ device_in place (table_view members.now) }
+/// The types of the section, in order.
+#[tactic(auto, using(crate::proofs::InOrder::rows_more_all))]
+pub fn types_of<'a>(
+    alloc: Global,
+    version: Version,
+    elements: &'a [Value],
+) -> Result<NamedRows<'a, TypeRow>, TableError>
+    ensures { Gives result (rows_after (type_element version) [] 0 (items_view elements.now)) }
 {
-    let vendor = number_in(place, member(members, "vendor"), 0, u32::MAX)?;
-    let product = number_in(place, member(members, "product"), 0, u32::MAX)?;
-    let revision = number_in(place, member(members, "revision"), 0, u32::MAX)?;
-    Ok(Device {
-        vendor,
-        product,
-        revision,
-    })
+    let mut found = NamedRows::new(alloc);
+    for (element, value) in elements.iter().enumerate() {
+        found = with_type_element(alloc, version, element, value, found)?;
+    }
+    Ok(found)
 }
 
-/// Where the process data begin, and their objects.
-#[tactic(auto, unfolding(crate::specs::Reading::process_in))]
-fn process_in(alloc: Global, place: Place, members: &toml::Table) -> Result<ProcessData, TableError>
-    ensures { Gives result (process_in place (table_view members.now)) }
+fn with_type_element<'a>(
+    alloc: Global,
+    version: Version,
+    element: usize,
+    value: &'a Value,
+    found: NamedRows<'a, TypeRow>,
+) -> Result<NamedRows<'a, TypeRow>, TableError>
+    ensures { Gives result (one_more found.entry (type_element version element (view value.now) found.entry)) }
 {
-    let out_start = number_in(place, member(members, "out_start"), 0, MAX_U16)?;
-    let in_start = number_in(place, member(members, "in_start"), 0, MAX_U16)?;
-    let outputs = pdos_in(
-        alloc,
-        place,
-        member(members, "rxpdo"),
-        FIRST_OUTPUT_INDEX,
-        LAST_OUTPUT_INDEX,
-    )?;
-    let inputs = pdos_in(
-        alloc,
-        place,
-        member(members, "txpdo"),
-        FIRST_INPUT_INDEX,
-        LAST_INPUT_INDEX,
-    )?;
-    Ok(ProcessData {
-        out_start: out_start as u16,
-        in_start: in_start as u16,
-        outputs,
-        inputs,
-    })
+    let place = Place {
+        section: Section::Type,
+        element,
+    };
+    match value.as_table() {
+        Some(members) => with_type(alloc, version, place, members, found),
+        None => Err(TableError::Refused(Fault::BadValue(place))),
+    }
 }
 
-/// Whether some object's index stands twice.
-fn twice_among(alloc: Global, pdos: &[Pdo]) -> Result<bool, AllocError>
-    ensures { IfOk result (λ b. b ≡ has_twice (indices_of pdos.now)) }
+/// The types found, and the one that an element states behind them.
+#[tactic(auto, unfolding(crate::specs::Reading::type_at))]
+fn with_type<'a>(
+    alloc: Global,
+    version: Version,
+    place: Place,
+    members: &'a toml::Table,
+    found: NamedRows<'a, TypeRow>,
+) -> Result<NamedRows<'a, TypeRow>, TableError>
+    ensures { Gives result (one_more found.entry (type_at version place (table_view members.now) found.entry)) }
 {
-    let indices = indices_of(alloc, pdos)?;
-    Ok(has_twice(indices.as_slice()))
-}
-
-/// Whether some object stands twice in its direction.
-fn process_twice(alloc: Global, process: &ProcessData) -> Result<bool, AllocError>
-    ensures { IfOk result (λ b. b ≡ process_twice process.now) }
-{
-    let outputs = twice_among(alloc, process.outputs.as_slice())?;
-    let inputs = twice_among(alloc, process.inputs.as_slice())?;
-    Ok(outputs || inputs)
+    if !keys_are(Shape::Type, version, members) {
+        return Err(TableError::Refused(Fault::BadKey(place)));
+    }
+    let name = name_in(place, member(members, "name"))?;
+    let is_taken = found.has(name);
+    let row = type_named(alloc, place, members, name, is_taken)?;
+    Ok(found.with(name, row)?)
 }
 
 /// The type of this name that an element states; whether another type has the name.
@@ -108,57 +102,63 @@ fn type_named(
     })
 }
 
-/// The types found, and the one that an element states behind them.
-#[tactic(auto, unfolding(crate::specs::Reading::type_at))]
-fn with_type<'a>(
-    alloc: Global,
-    version: Version,
-    place: Place,
-    members: &'a toml::Table,
-    found: NamedRows<'a, TypeRow>,
-) -> Result<NamedRows<'a, TypeRow>, TableError>
-    ensures { Gives result (one_more found.entry (type_at version place (table_view members.now) found.entry)) }
+/// Whether some object stands twice in its direction.
+fn process_twice(alloc: Global, process: &ProcessData) -> Result<bool, AllocError>
+    ensures { IfOk result (λ b. b ≡ process_twice process.now) }
 {
-    if !keys_are(Shape::Type, version, members) {
-        return Err(TableError::Refused(Fault::BadKey(place)));
-    }
-    let name = name_in(place, member(members, "name"))?;
-    let is_taken = found.has(name);
-    let row = type_named(alloc, place, members, name, is_taken)?;
-    Ok(found.with(name, row)?)
+    let outputs = twice_among(alloc, process.outputs.as_slice())?;
+    let inputs = twice_among(alloc, process.inputs.as_slice())?;
+    Ok(outputs || inputs)
 }
 
-fn with_type_element<'a>(
-    alloc: Global,
-    version: Version,
-    element: usize,
-    value: &'a Value,
-    found: NamedRows<'a, TypeRow>,
-) -> Result<NamedRows<'a, TypeRow>, TableError>
-    ensures { Gives result (one_more found.entry (type_element version element (view value.now) found.entry)) }
+/// Whether some object's index stands twice.
+fn twice_among(alloc: Global, pdos: &[Pdo]) -> Result<bool, AllocError>
+    ensures { IfOk result (λ b. b ≡ has_twice (indices_of pdos.now)) }
 {
-    let place = Place {
-        section: Section::Type,
-        element,
-    };
-    match value.as_table() {
-        Some(members) => with_type(alloc, version, place, members, found),
-        None => Err(TableError::Refused(Fault::BadValue(place))),
-    }
+    let indices = indices_of(alloc, pdos)?;
+    Ok(has_twice(indices.as_slice()))
 }
 
-/// The types of the section, in order.
-#[tactic(auto, using(crate::proofs::InOrder::rows_more_all))]
-pub fn types_of<'a>(
-    alloc: Global,
-    version: Version,
-    elements: &'a [Value],
-) -> Result<NamedRows<'a, TypeRow>, TableError>
-    ensures { Gives result (rows_after (type_element version) [] 0 (items_view elements.now)) }
+/// Where the process data begin, and their objects.
+#[tactic(auto, unfolding(crate::specs::Reading::process_in))]
+fn process_in(alloc: Global, place: Place, members: &toml::Table) -> Result<ProcessData, TableError>
+    ensures { Gives result (process_in place (table_view members.now)) }
 {
-    let mut found = NamedRows::new(alloc);
-    for (element, value) in elements.iter().enumerate() {
-        found = with_type_element(alloc, version, element, value, found)?;
-    }
-    Ok(found)
+    let out_start = number_in(place, member(members, "out_start"), 0, MAX_U16)?;
+    let in_start = number_in(place, member(members, "in_start"), 0, MAX_U16)?;
+    let outputs = pdos_in(
+        alloc,
+        place,
+        member(members, "rxpdo"),
+        FIRST_OUTPUT_INDEX,
+        LAST_OUTPUT_INDEX,
+    )?;
+    let inputs = pdos_in(
+        alloc,
+        place,
+        member(members, "txpdo"),
+        FIRST_INPUT_INDEX,
+        LAST_INPUT_INDEX,
+    )?;
+    Ok(ProcessData {
+        out_start: out_start as u16,
+        in_start: in_start as u16,
+        outputs,
+        inputs,
+    })
+}
+
+/// Vendor, product and revision.
+#[tactic(auto, unfolding(crate::specs::Reading::device_in))]
+fn device_in(place: Place, members: &toml::Table) -> Result<Device, Fault>
+    ensures { result ≡ device_in place (table_view members.now) }
+{
+    let vendor = number_in(place, member(members, "vendor"), 0, u32::MAX)?;
+    let product = number_in(place, member(members, "product"), 0, u32::MAX)?;
+    let revision = number_in(place, member(members, "revision"), 0, u32::MAX)?;
+    Ok(Device {
+        vendor,
+        product,
+        revision,
+    })
 }

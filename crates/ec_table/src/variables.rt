@@ -15,29 +15,40 @@ impl Named for VariableRow {
     ghost name = { λ w. w.name };
 }
 
-/// The variable of this name that an element states; whether another variable has the name.
-fn variable_named(
+/// The variables of the section, in order.
+#[tactic(auto, using(crate::proofs::InOrder::rows_more_all))]
+pub fn variables_of<'a>(
     alloc: Global,
-    place: Place,
-    members: &toml::Table,
-    name: &str,
-    is_taken: bool,
-) -> Result<VariableRow, TableError>
-    ensures value { Gives result
-        (variable_named place (table_view members.now) name.now is_taken) }
-    ensures name { IfOk result (λ w. w.name ≡ name.now) }
-    ensures fresh { OnOk result (is_taken ≡ false) }
+    version: Version,
+    elements: &'a [Value],
+) -> Result<NamedRows<'a, VariableRow>, TableError>
+    ensures { Gives result (rows_after (variable_element version) [] 0 (items_view elements.now)) }
 {
-    let direction = direction_in(place, member(members, "dir"))?;
-    let bits = number_in(place, member(members, "bits"), 1, 64)?;
-    if is_taken {
-        return Err(TableError::Refused(Fault::TwiceNamed(place)));
+    let mut found = NamedRows::new(alloc);
+    for (element, value) in elements.iter().enumerate() {
+        found = with_variable_element(alloc, version, element, value, found)?;
     }
-    Ok(VariableRow {
-        name: Name::new(alloc, name)?,
-        direction,
-        bits: bits as u8,
-    })
+    Ok(found)
+}
+
+fn with_variable_element<'a>(
+    alloc: Global,
+    version: Version,
+    element: usize,
+    value: &'a Value,
+    found: NamedRows<'a, VariableRow>,
+) -> Result<NamedRows<'a, VariableRow>, TableError>
+    ensures { Gives result
+        (one_more found.entry (variable_element version element (view value.now) found.entry)) }
+{
+    let place = Place {
+        section: Section::Variable,
+        element,
+    };
+    match value.as_table() {
+        Some(members) => with_variable(alloc, version, place, members, found),
+        None => Err(TableError::Refused(Fault::BadValue(place))),
+    }
 }
 
 /// The variables found, and the one that an element states behind them.
@@ -61,38 +72,27 @@ fn with_variable<'a>(
     Ok(found.with(name, row)?)
 }
 
-fn with_variable_element<'a>(
+/// The variable of this name that an element states; whether another variable has the name.
+fn variable_named(
     alloc: Global,
-    version: Version,
-    element: usize,
-    value: &'a Value,
-    found: NamedRows<'a, VariableRow>,
-) -> Result<NamedRows<'a, VariableRow>, TableError>
-    ensures { Gives result
-        (one_more found.entry (variable_element version element (view value.now) found.entry)) }
+    place: Place,
+    members: &toml::Table,
+    name: &str,
+    is_taken: bool,
+) -> Result<VariableRow, TableError>
+    ensures value { Gives result
+        (variable_named place (table_view members.now) name.now is_taken) }
+    ensures name { IfOk result (λ w. w.name ≡ name.now) }
+    ensures fresh { OnOk result (is_taken ≡ false) }
 {
-    let place = Place {
-        section: Section::Variable,
-        element,
-    };
-    match value.as_table() {
-        Some(members) => with_variable(alloc, version, place, members, found),
-        None => Err(TableError::Refused(Fault::BadValue(place))),
+    let direction = direction_in(place, member(members, "dir"))?;
+    let bits = number_in(place, member(members, "bits"), 1, 64)?;
+    if is_taken {
+        return Err(TableError::Refused(Fault::TwiceNamed(place)));
     }
-}
-
-/// The variables of the section, in order.
-#[tactic(auto, using(crate::proofs::InOrder::rows_more_all))]
-pub fn variables_of<'a>(
-    alloc: Global,
-    version: Version,
-    elements: &'a [Value],
-) -> Result<NamedRows<'a, VariableRow>, TableError>
-    ensures { Gives result (rows_after (variable_element version) [] 0 (items_view elements.now)) }
-{
-    let mut found = NamedRows::new(alloc);
-    for (element, value) in elements.iter().enumerate() {
-        found = with_variable_element(alloc, version, element, value, found)?;
-    }
-    Ok(found)
+    Ok(VariableRow {
+        name: Name::new(alloc, name)?,
+        direction,
+        bits: bits as u8,
+    })
 }

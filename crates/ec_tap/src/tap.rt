@@ -38,47 +38,6 @@ impl<'c, W: Wire + Drop, O: Write + Drop, C: Clock> Model for CapturedWire<'c, W
     ghost invariant = { λ t. IsTapped t.side (W.state t.wire) t.capture };
 }
 
-/// The time since 1970 in microseconds, or 0 where the clock tells none.
-fn micros_now<C: Clock>(clock: &C) -> u64 {
-    let Ok(now) = SystemTime::now(clock) else {
-        return 0;
-    };
-    match now.duration_since(UNIX_EPOCH) {
-        Ok(passed) => u64::try_from(passed.as_micros()).unwrap_or(0),
-        Err(_) => 0,
-    }
-}
-
-/// Whether a payload has passed slaves.
-fn has_passed(side: Side, is_sent: bool) -> bool
-    ensures { result ≡ has_passed side is_sent }
-{
-    match side {
-        Side::Master => !is_sent,
-        Side::Segment => is_sent,
-    }
-}
-
-/// Notes a payload, with the time.
-fn note<O: Write + Drop, C: Clock>(
-    capture: &mut Recorder<O>,
-    side: Side,
-    clock: &C,
-    is_sent: bool,
-    payload: &[u8],
-)
-    ensures { (time : ℕ) × Notes (seen_of side (record { is_sent = is_sent; time = time; payload = payload.now }) ∷ []) capture.old capture.new }
-{
-    let time = micros_now(clock);
-    capture.note(&Packet {
-        interface: 0,
-        time,
-        passed: has_passed(side, is_sent),
-        payload,
-        comment: None,
-    });
-}
-
 impl<'c, W: Wire + Drop, O: Write + Drop, C: Clock> CapturedWire<'c, W, O, C> {
     ghost use Rattle.ec_tap.specs.Taps.{IsTapped, Tells};
 
@@ -137,5 +96,46 @@ impl<'c, W: Wire + Drop, O: Write + Drop, C: Clock> Wire for CapturedWire<'c, W,
             &buffer[..count],
         );
         count
+    }
+}
+
+/// Notes a payload, with the time.
+fn note<O: Write + Drop, C: Clock>(
+    capture: &mut Recorder<O>,
+    side: Side,
+    clock: &C,
+    is_sent: bool,
+    payload: &[u8],
+)
+    ensures { (time : ℕ) × Notes (seen_of side (record { is_sent = is_sent; time = time; payload = payload.now }) ∷ []) capture.old capture.new }
+{
+    let time = micros_now(clock);
+    capture.note(&Packet {
+        interface: 0,
+        time,
+        passed: has_passed(side, is_sent),
+        payload,
+        comment: None,
+    });
+}
+
+/// Whether a payload has passed slaves.
+fn has_passed(side: Side, is_sent: bool) -> bool
+    ensures { result ≡ has_passed side is_sent }
+{
+    match side {
+        Side::Master => !is_sent,
+        Side::Segment => is_sent,
+    }
+}
+
+/// The time since 1970 in microseconds, or 0 where the clock tells none.
+fn micros_now<C: Clock>(clock: &C) -> u64 {
+    let Ok(now) = SystemTime::now(clock) else {
+        return 0;
+    };
+    match now.duration_since(UNIX_EPOCH) {
+        Ok(passed) => u64::try_from(passed.as_micros()).unwrap_or(0),
+        Err(_) => 0,
     }
 }

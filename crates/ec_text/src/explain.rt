@@ -72,105 +72,6 @@ impl<'a> ImageSide<'a> {
     }
 }
 
-/// Bits from one on, as `4` or as `4..7`.
-fn bits_text(alloc: Global, from: usize, count: usize) -> Result<String, AllocError> {
-    let last = from.saturating_add(count.saturating_sub(1));
-    if from == last {
-        format!(in alloc; "{from}")
-    } else {
-        format!(in alloc; "{from}..{last}")
-    }
-}
-
-/// The logical byte and bit of a logical bit.
-fn logical_text(alloc: Global, bit: usize) -> Result<String, AllocError> {
-    let (byte, bit) = (bit / 8, bit % 8);
-    format!(in alloc; "0x{byte:08x}.{bit}")
-}
-
-/// The byte and bit of a bit of a slave's own data.
-fn own_text(alloc: Global, bit: usize) -> Result<String, AllocError> {
-    let (byte, bit) = (bit / 8, bit % 8);
-    format!(in alloc; "{byte}.{bit}")
-}
-
-/// The logical bytes and bits of a run.
-fn logical_range(alloc: Global, from: usize, count: usize) -> Result<String, AllocError> {
-    let first = logical_text(alloc, from)?;
-    if count <= 1 {
-        return Ok(first);
-    }
-    let last = logical_text(alloc, from.saturating_add(count - 1))?;
-    format!(in alloc; "{first} to {last}")
-}
-
-/// The name of an entry's object.
-fn object_text(alloc: Global, entry: &Entry) -> Result<String, AllocError> {
-    let (index, subindex) = (entry.index, entry.subindex);
-    if index == 0 {
-        format!(in alloc; "gap")
-    } else {
-        format!(in alloc; "0x{index:04x}:{subindex}")
-    }
-}
-
-/// Adds indices of objects, with a blank before each.
-fn write_indices(text: &mut String, indices: &[u16]) -> Result<(), AllocError> {
-    for index in indices {
-        let index = *index;
-        write!(text, " 0x{index:04x}")?;
-    }
-    Ok(())
-}
-
-/// Adds the lines of the objects that a slave assigns in one direction, eight in a line.
-fn write_assigned(text: &mut String, indices: &[u16]) -> Result<(), AllocError> {
-    for line in indices.chunks(8) {
-        text.push_str("    assigns")?;
-        write_indices(text, line)?;
-        text.push_str("\n")?;
-    }
-    Ok(())
-}
-
-/// The runs of an entry whose bits begin at `from`, by the links of its slave in their order.
-fn runs_of(
-    alloc: Global,
-    from: usize,
-    entry: &Entry,
-    links: &[Link],
-) -> Result<Vec<ObjectRun>, AllocError> {
-    let end = from.saturating_add(usize::from(entry.bits));
-    let mut runs = Vec::new(alloc);
-    let mut at = from;
-    for link in links {
-        let first = link.object_bit;
-        if from <= first && first < end {
-            if at < first {
-                runs.push(ObjectRun {
-                    from: at,
-                    count: first - at,
-                    link: None,
-                })?;
-            }
-            runs.push(ObjectRun {
-                from: first,
-                count: link.count,
-                link: Some(*link),
-            })?;
-            at = at.max(first.saturating_add(link.count));
-        }
-    }
-    if at < end {
-        runs.push(ObjectRun {
-            from: at,
-            count: end - at,
-            link: None,
-        })?;
-    }
-    Ok(runs)
-}
-
 /// A plan and its table, with what is looked up in them.
 #[derive(Drop)]
 struct Explained<'a> {
@@ -330,6 +231,20 @@ impl<'a> Explained<'a> {
     }
 }
 
+/// The plan of a table for people: part by part, for each slave in it and each direction, what it
+/// assigns, which bits of which object stand at which bits of its own data and at which logical bits,
+/// and which variable they are linked with. The plan is
+/// that of the table; no line has over 100 characters. The error is want of memory.
+pub fn explain_text(alloc: Global, table: &Table, plan: &Plan) -> Result<String, AllocError> {
+    let explained = Explained::new(alloc, table, plan)?;
+    let mut text = String::from_str(alloc, LEGEND)?;
+    for (number, part) in plan.parts().iter().enumerate() {
+        write_part(&mut text, number, part, plan.predicted(number))?;
+        explained.write_slaves(&mut text, number)?;
+    }
+    Ok(text)
+}
+
 /// Adds the heading of a part.
 fn write_part(
     text: &mut String,
@@ -355,16 +270,101 @@ fn write_part(
     }
 }
 
-/// The plan of a table for people: part by part, for each slave in it and each direction, what it
-/// assigns, which bits of which object stand at which bits of its own data and at which logical bits,
-/// and which variable they are linked with. The plan is
-/// that of the table; no line has over 100 characters. The error is want of memory.
-pub fn explain_text(alloc: Global, table: &Table, plan: &Plan) -> Result<String, AllocError> {
-    let explained = Explained::new(alloc, table, plan)?;
-    let mut text = String::from_str(alloc, LEGEND)?;
-    for (number, part) in plan.parts().iter().enumerate() {
-        write_part(&mut text, number, part, plan.predicted(number))?;
-        explained.write_slaves(&mut text, number)?;
+/// The runs of an entry whose bits begin at `from`, by the links of its slave in their order.
+fn runs_of(
+    alloc: Global,
+    from: usize,
+    entry: &Entry,
+    links: &[Link],
+) -> Result<Vec<ObjectRun>, AllocError> {
+    let end = from.saturating_add(usize::from(entry.bits));
+    let mut runs = Vec::new(alloc);
+    let mut at = from;
+    for link in links {
+        let first = link.object_bit;
+        if from <= first && first < end {
+            if at < first {
+                runs.push(ObjectRun {
+                    from: at,
+                    count: first - at,
+                    link: None,
+                })?;
+            }
+            runs.push(ObjectRun {
+                from: first,
+                count: link.count,
+                link: Some(*link),
+            })?;
+            at = at.max(first.saturating_add(link.count));
+        }
     }
-    Ok(text)
+    if at < end {
+        runs.push(ObjectRun {
+            from: at,
+            count: end - at,
+            link: None,
+        })?;
+    }
+    Ok(runs)
+}
+
+/// Adds the lines of the objects that a slave assigns in one direction, eight in a line.
+fn write_assigned(text: &mut String, indices: &[u16]) -> Result<(), AllocError> {
+    for line in indices.chunks(8) {
+        text.push_str("    assigns")?;
+        write_indices(text, line)?;
+        text.push_str("\n")?;
+    }
+    Ok(())
+}
+
+/// Adds indices of objects, with a blank before each.
+fn write_indices(text: &mut String, indices: &[u16]) -> Result<(), AllocError> {
+    for index in indices {
+        let index = *index;
+        write!(text, " 0x{index:04x}")?;
+    }
+    Ok(())
+}
+
+/// The name of an entry's object.
+fn object_text(alloc: Global, entry: &Entry) -> Result<String, AllocError> {
+    let (index, subindex) = (entry.index, entry.subindex);
+    if index == 0 {
+        format!(in alloc; "gap")
+    } else {
+        format!(in alloc; "0x{index:04x}:{subindex}")
+    }
+}
+
+/// The logical bytes and bits of a run.
+fn logical_range(alloc: Global, from: usize, count: usize) -> Result<String, AllocError> {
+    let first = logical_text(alloc, from)?;
+    if count <= 1 {
+        return Ok(first);
+    }
+    let last = logical_text(alloc, from.saturating_add(count - 1))?;
+    format!(in alloc; "{first} to {last}")
+}
+
+/// The byte and bit of a bit of a slave's own data.
+fn own_text(alloc: Global, bit: usize) -> Result<String, AllocError> {
+    let (byte, bit) = (bit / 8, bit % 8);
+    format!(in alloc; "{byte}.{bit}")
+}
+
+/// The logical byte and bit of a logical bit.
+fn logical_text(alloc: Global, bit: usize) -> Result<String, AllocError> {
+    let (byte, bit) = (bit / 8, bit % 8);
+    format!(in alloc; "0x{byte:08x}.{bit}")
+}
+
+/// Bits from one on, as `4` or as `4..7`.
+fn bits_text(alloc: Global, from: usize, count: usize) -> Result<String, AllocError> {
+    let last = from.saturating_add(count.saturating_sub(1));
+    if from == last {
+        format!(in alloc; "{from}")
+    } else {
+        format!(in alloc; "{from}..{last}")
+    }
 }

@@ -7,49 +7,6 @@ use ec_table::{Direction, Table, VariableRow};
 use std::alloc::{AllocError, Global};
 use std::fmt::Write as _;
 
-/// 1 for an output of the image, 0 for an input.
-fn flag(direction: Direction) -> usize
-    ensures { result ≡ flag direction }
-{
-    match direction {
-        Direction::Out => 1,
-        Direction::In => 0,
-    }
-}
-
-/// Adds the line that says what a name stands for.
-#[tactic(auto, unfolding(crate::specs::HeaderText::define_line))]
-fn write_define(text: &mut String, what: &str, name: &str, value: usize) -> Result<(), AllocError>
-    ensures { OnOk result
-        (string_bytes text.new ≡ string_bytes text.old ++ define_line what.now name.now value) }
-{
-    writeln!(text, "#define ECAT_{what}_{name} {value}")
-}
-
-/// Adds the three lines of a variable.
-#[tactic(auto, using(crate::proofs::Lines::three_added), unfolding(crate::specs::HeaderText::variable_lines))]
-fn write_variable(text: &mut String, number: usize, row: &VariableRow) -> Result<(), AllocError>
-    ensures { OnOk result
-        (string_bytes text.new ≡ string_bytes text.old ++ variable_lines number row.now) }
-{
-    let name = row.name.as_str();
-    write_define(text, "NUMBER", name, number)?;
-    write_define(text, "BITS", name, usize::from(row.bits))?;
-    write_define(text, "OUTPUT", name, flag(row.direction))
-}
-
-/// Adds the lines of the variables.
-#[tactic(auto, using(crate::proofs::Lines::line_steps))]
-fn write_variables(text: &mut String, variables: &[VariableRow]) -> Result<(), AllocError>
-    ensures { OnOk result (string_bytes text.new
-        ≡ string_bytes text.old ++ lines_from variable_lines 0 variables.now) }
-{
-    for (number, row) in variables.iter().enumerate() {
-        write_variable(text, number, row)?;
-    }
-    Ok(())
-}
-
 /// The variables of a table as a header of C, for programs that use the library: of each variable, in file order, its number,
 /// how many bits it has, and 1 for an output or 0 for an input, under its name behind `ECAT_NUMBER_`, `ECAT_BITS_` and
 /// `ECAT_OUTPUT_`; and `ECAT_VARIABLES`, how many there are. The error is want of memory.
@@ -64,4 +21,47 @@ pub fn header_text(alloc: Global, table: &Table) -> Result<String, AllocError>
     writeln!(text, "#define ECAT_VARIABLES {count}")?;
     text.push_str("#endif\n")?;
     Ok(text)
+}
+
+/// Adds the lines of the variables.
+#[tactic(auto, using(crate::proofs::Lines::line_steps))]
+fn write_variables(text: &mut String, variables: &[VariableRow]) -> Result<(), AllocError>
+    ensures { OnOk result (string_bytes text.new
+        ≡ string_bytes text.old ++ lines_from variable_lines 0 variables.now) }
+{
+    for (number, row) in variables.iter().enumerate() {
+        write_variable(text, number, row)?;
+    }
+    Ok(())
+}
+
+/// Adds the three lines of a variable.
+#[tactic(auto, using(crate::proofs::Lines::three_added), unfolding(crate::specs::HeaderText::variable_lines))]
+fn write_variable(text: &mut String, number: usize, row: &VariableRow) -> Result<(), AllocError>
+    ensures { OnOk result
+        (string_bytes text.new ≡ string_bytes text.old ++ variable_lines number row.now) }
+{
+    let name = row.name.as_str();
+    write_define(text, "NUMBER", name, number)?;
+    write_define(text, "BITS", name, usize::from(row.bits))?;
+    write_define(text, "OUTPUT", name, flag(row.direction))
+}
+
+/// Adds the line that says what a name stands for.
+#[tactic(auto, unfolding(crate::specs::HeaderText::define_line))]
+fn write_define(text: &mut String, what: &str, name: &str, value: usize) -> Result<(), AllocError>
+    ensures { OnOk result
+        (string_bytes text.new ≡ string_bytes text.old ++ define_line what.now name.now value) }
+{
+    writeln!(text, "#define ECAT_{what}_{name} {value}")
+}
+
+/// 1 for an output of the image, 0 for an input.
+fn flag(direction: Direction) -> usize
+    ensures { result ≡ flag direction }
+{
+    match direction {
+        Direction::Out => 1,
+        Direction::In => 0,
+    }
 }

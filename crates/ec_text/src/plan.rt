@@ -15,37 +15,129 @@ use std::fmt::Write as _;
 /// As many bytes as working counters of a part may have: two numbers and what stands between them.
 const COUNTER_SIZE: usize = 41;
 
-/// Adds a line with the bytes of a register record.
-fn write_record(
-    alloc: Global,
+/// Adds working counters of a part, as `ecat plan` and reports show them.
+///
+/// # Errors
+///
+/// `AllocError` where memory ran out; the text is then as it was.
+pub fn write_counter(
     text: &mut String,
-    name: &str,
-    number: usize,
-    bytes: &[u8],
+    part: &PartPlan,
+    predicted: ExpectedCounters,
 ) -> Result<(), AllocError>
-    ensures { OnOk result
-        (string_bytes text.new ≡ string_bytes text.old ++ record_line name.now number bytes.now) }
+    ensures added { OnOk result
+        (string_bytes text.new ≡ string_bytes text.old ++ counter_text part.now predicted) }
+    ensures kept { OnErr result (string_bytes text.new ≡ string_bytes text.old) }
 {
-    let digits = hex::encode(alloc, bytes)?;
-    writeln!(text, "{name} {number} {digits}")
+    text.push_str(counter_of(part, predicted).as_str())
 }
 
-/// Adds the line of a sync manager, if it is set.
-#[tactic(auto, using(crate::proofs::Lines::nothing_added))]
-fn write_manager(
+/// The plan of a table of this version as a text: for each slave a line with its part and how many
+/// output and input bits it has, then its sync managers that are set and its FMMUs that are active,
+/// by number, with their register bytes in hex; then for each part its first logical byte, its
+/// bytes, and the working counters of its frame. Numbers are decimal. In version 2 a part's line
+/// ends in its sync unit. The error is want of memory.
+pub fn plan_text(alloc: Global, version: Version, plan: &Plan) -> Result<String, AllocError>
+    ensures { IfOk result (λ text. string_bytes text ≡ plan_text version plan.now) }
+{
+    let mut text = String::new(alloc);
+    write_slaves(alloc, &mut text, plan.slaves())?;
+    write_parts(&mut text, version, plan)?;
+    Ok(text)
+}
+
+/// Working counters of a part: the one of its LRW, or `W/R` of its LWR and its LRD, and `0` where it has no byte.
+fn counter_of(part: &PartPlan, predicted: ExpectedCounters) -> ArrayString<COUNTER_SIZE>
+    ensures { result.bytes ≡ counter_text part.now predicted }
+{
+    let mut counter = ArrayString::new();
+    match predicted {
+        ExpectedCounters::Lrw(count) => push_number(&mut counter, count),
+        ExpectedCounters::Split { .. } if part.bytes == 0 => counter.push_str("0"),
+        ExpectedCounters::Split { write, read } => {
+            push_number(&mut counter, write);
+            counter.push_str("/");
+            push_number(&mut counter, read);
+        }
+    }
+    counter
+}
+
+/// Adds a number.
+fn push_number(counter: &mut ArrayString<COUNTER_SIZE>, number: usize)
+    requires { array_string_len counter.old ≤ 21 }
+    ensures bytes { counter.new.bytes ≡ counter.old.bytes ++ decimal number }
+    ensures room { array_string_len counter.new ≤ array_string_len counter.old + 20 }
+{
+    let mut digits = Buffer::new();
+    counter.push_str(digits.format(number as u64));
+}
+
+/// Adds the lines of the slaves.
+#[tactic(auto, using(crate::proofs::Lines::line_steps))]
+fn write_slaves(alloc: Global, text: &mut String, slaves: &[SlavePlan]) -> Result<(), AllocError>
+    ensures { OnOk result
+        (string_bytes text.new ≡ string_bytes text.old ++ lines_from slave_lines 0 slaves.now) }
+{
+    for (number, slave) in slaves.iter().enumerate() {
+        write_slave(alloc, text, number, slave)?;
+    }
+    Ok(())
+}
+
+/// Adds the lines of a slave.
+#[tactic(auto, using(crate::proofs::Lines::three_added))]
+fn write_slave(
     alloc: Global,
     text: &mut String,
     number: usize,
-    manager: &SyncManagerSettings,
+    slave: &SlavePlan,
 ) -> Result<(), AllocError>
     ensures { OnOk result
-        (string_bytes text.new ≡ string_bytes text.old ++ manager_line number manager.now) }
+        (string_bytes text.new ≡ string_bytes text.old ++ slave_lines number slave.now) }
 {
-    if manager.is_set() {
-        write_record(alloc, text, "sm", number, &encode_manager(manager))
-    } else {
-        Ok(())
+    write_sizes(text, number, slave)?;
+    write_managers(alloc, text, slave.managers.as_slice())?;
+    write_fmmus(alloc, text, slave.fmmus.as_slice())
+}
+
+/// Adds the line of a slave's part and sizes.
+#[tactic(auto, unfolding(crate::specs::PlanText::slave_line))]
+fn write_sizes(text: &mut String, number: usize, slave: &SlavePlan) -> Result<(), AllocError>
+    ensures { OnOk result
+        (string_bytes text.new ≡ string_bytes text.old ++ slave_line number slave.now) }
+{
+    let share = slave.share;
+    let (part, outs, ins) = (share.part, share.outs, share.ins);
+    writeln!(text, "slave {number} part {part} out {outs} in {ins}")
+}
+
+/// Adds the lines of a slave's FMMUs.
+#[tactic(auto, using(crate::proofs::Lines::line_steps))]
+fn write_fmmus(alloc: Global, text: &mut String, fmmus: &[FmmuSettings]) -> Result<(), AllocError>
+    ensures { OnOk result
+        (string_bytes text.new ≡ string_bytes text.old ++ lines_from fmmu_line 0 fmmus.now) }
+{
+    for (number, fmmu) in fmmus.iter().enumerate() {
+        write_fmmu(alloc, text, number, fmmu)?;
     }
+    Ok(())
+}
+
+/// Adds the lines of a slave's sync managers.
+#[tactic(auto, using(crate::proofs::Lines::line_steps))]
+fn write_managers(
+    alloc: Global,
+    text: &mut String,
+    managers: &[SyncManagerSettings],
+) -> Result<(), AllocError>
+    ensures { OnOk result
+        (string_bytes text.new ≡ string_bytes text.old ++ lines_from manager_line 0 managers.now) }
+{
+    for (number, manager) in managers.iter().enumerate() {
+        write_manager(alloc, text, number, manager)?;
+    }
+    Ok(())
 }
 
 /// Adds the line of an FMMU, if it is active.
@@ -66,126 +158,49 @@ fn write_fmmu(
     }
 }
 
-/// Adds the lines of a slave's sync managers.
-#[tactic(auto, using(crate::proofs::Lines::line_steps))]
-fn write_managers(
-    alloc: Global,
-    text: &mut String,
-    managers: &[SyncManagerSettings],
-) -> Result<(), AllocError>
-    ensures { OnOk result
-        (string_bytes text.new ≡ string_bytes text.old ++ lines_from manager_line 0 managers.now) }
-{
-    for (number, manager) in managers.iter().enumerate() {
-        write_manager(alloc, text, number, manager)?;
-    }
-    Ok(())
-}
-
-/// Adds the lines of a slave's FMMUs.
-#[tactic(auto, using(crate::proofs::Lines::line_steps))]
-fn write_fmmus(alloc: Global, text: &mut String, fmmus: &[FmmuSettings]) -> Result<(), AllocError>
-    ensures { OnOk result
-        (string_bytes text.new ≡ string_bytes text.old ++ lines_from fmmu_line 0 fmmus.now) }
-{
-    for (number, fmmu) in fmmus.iter().enumerate() {
-        write_fmmu(alloc, text, number, fmmu)?;
-    }
-    Ok(())
-}
-
-/// Adds the line of a slave's part and sizes.
-#[tactic(auto, unfolding(crate::specs::PlanText::slave_line))]
-fn write_sizes(text: &mut String, number: usize, slave: &SlavePlan) -> Result<(), AllocError>
-    ensures { OnOk result
-        (string_bytes text.new ≡ string_bytes text.old ++ slave_line number slave.now) }
-{
-    let share = slave.share;
-    let (part, outs, ins) = (share.part, share.outs, share.ins);
-    writeln!(text, "slave {number} part {part} out {outs} in {ins}")
-}
-
-/// Adds the lines of a slave.
-#[tactic(auto, using(crate::proofs::Lines::three_added))]
-fn write_slave(
+/// Adds the line of a sync manager, if it is set.
+#[tactic(auto, using(crate::proofs::Lines::nothing_added))]
+fn write_manager(
     alloc: Global,
     text: &mut String,
     number: usize,
-    slave: &SlavePlan,
+    manager: &SyncManagerSettings,
 ) -> Result<(), AllocError>
     ensures { OnOk result
-        (string_bytes text.new ≡ string_bytes text.old ++ slave_lines number slave.now) }
+        (string_bytes text.new ≡ string_bytes text.old ++ manager_line number manager.now) }
 {
-    write_sizes(text, number, slave)?;
-    write_managers(alloc, text, slave.managers.as_slice())?;
-    write_fmmus(alloc, text, slave.fmmus.as_slice())
+    if manager.is_set() {
+        write_record(alloc, text, "sm", number, &encode_manager(manager))
+    } else {
+        Ok(())
+    }
 }
 
-/// Adds the lines of the slaves.
-#[tactic(auto, using(crate::proofs::Lines::line_steps))]
-fn write_slaves(alloc: Global, text: &mut String, slaves: &[SlavePlan]) -> Result<(), AllocError>
+/// Adds a line with the bytes of a register record.
+fn write_record(
+    alloc: Global,
+    text: &mut String,
+    name: &str,
+    number: usize,
+    bytes: &[u8],
+) -> Result<(), AllocError>
     ensures { OnOk result
-        (string_bytes text.new ≡ string_bytes text.old ++ lines_from slave_lines 0 slaves.now) }
+        (string_bytes text.new ≡ string_bytes text.old ++ record_line name.now number bytes.now) }
 {
-    for (number, slave) in slaves.iter().enumerate() {
-        write_slave(alloc, text, number, slave)?;
+    let digits = hex::encode(alloc, bytes)?;
+    writeln!(text, "{name} {number} {digits}")
+}
+
+/// Adds the lines of the parts.
+#[tactic(auto, using(crate::proofs::Lines::line_steps))]
+fn write_parts(text: &mut String, version: Version, plan: &Plan) -> Result<(), AllocError>
+    ensures { OnOk result (string_bytes text.new ≡ string_bytes text.old
+        ++ lines_from (planned_part_line version plan.now) 0 plan.now.parts) }
+{
+    for (number, part) in plan.parts().iter().enumerate() {
+        write_part(text, version, number, part, plan.predicted(number))?;
     }
     Ok(())
-}
-
-/// Adds a number.
-fn push_number(counter: &mut ArrayString<COUNTER_SIZE>, number: usize)
-    requires { array_string_len counter.old ≤ 21 }
-    ensures bytes { counter.new.bytes ≡ counter.old.bytes ++ decimal number }
-    ensures room { array_string_len counter.new ≤ array_string_len counter.old + 20 }
-{
-    let mut digits = Buffer::new();
-    counter.push_str(digits.format(number as u64));
-}
-
-/// Working counters of a part: the one of its LRW, or `W/R` of its LWR and its LRD, and `0` where it has no byte.
-fn counter_of(part: &PartPlan, predicted: ExpectedCounters) -> ArrayString<COUNTER_SIZE>
-    ensures { result.bytes ≡ counter_text part.now predicted }
-{
-    let mut counter = ArrayString::new();
-    match predicted {
-        ExpectedCounters::Lrw(count) => push_number(&mut counter, count),
-        ExpectedCounters::Split { .. } if part.bytes == 0 => counter.push_str("0"),
-        ExpectedCounters::Split { write, read } => {
-            push_number(&mut counter, write);
-            counter.push_str("/");
-            push_number(&mut counter, read);
-        }
-    }
-    counter
-}
-
-/// Adds working counters of a part, as `ecat plan` and reports show them.
-///
-/// # Errors
-///
-/// `AllocError` where memory ran out; the text is then as it was.
-pub fn write_counter(
-    text: &mut String,
-    part: &PartPlan,
-    predicted: ExpectedCounters,
-) -> Result<(), AllocError>
-    ensures added { OnOk result
-        (string_bytes text.new ≡ string_bytes text.old ++ counter_text part.now predicted) }
-    ensures kept { OnErr result (string_bytes text.new ≡ string_bytes text.old) }
-{
-    text.push_str(counter_of(part, predicted).as_str())
-}
-
-/// Adds the sync unit of a part, where the table's version has units.
-fn write_unit(text: &mut String, version: Version, unit: u8) -> Result<(), AllocError>
-    ensures { OnOk result
-        (string_bytes text.new ≡ string_bytes text.old ++ unit_text version unit) }
-{
-    match version {
-        Version::One => Ok(()),
-        Version::Two => write!(text, " unit {unit}"),
-    }
 }
 
 /// Adds the line of a part.
@@ -209,28 +224,13 @@ fn write_part(
     text.push_str("\n")
 }
 
-/// Adds the lines of the parts.
-#[tactic(auto, using(crate::proofs::Lines::line_steps))]
-fn write_parts(text: &mut String, version: Version, plan: &Plan) -> Result<(), AllocError>
-    ensures { OnOk result (string_bytes text.new ≡ string_bytes text.old
-        ++ lines_from (planned_part_line version plan.now) 0 plan.now.parts) }
+/// Adds the sync unit of a part, where the table's version has units.
+fn write_unit(text: &mut String, version: Version, unit: u8) -> Result<(), AllocError>
+    ensures { OnOk result
+        (string_bytes text.new ≡ string_bytes text.old ++ unit_text version unit) }
 {
-    for (number, part) in plan.parts().iter().enumerate() {
-        write_part(text, version, number, part, plan.predicted(number))?;
+    match version {
+        Version::One => Ok(()),
+        Version::Two => write!(text, " unit {unit}"),
     }
-    Ok(())
-}
-
-/// The plan of a table of this version as a text: for each slave a line with its part and how many
-/// output and input bits it has, then its sync managers that are set and its FMMUs that are active,
-/// by number, with their register bytes in hex; then for each part its first logical byte, its
-/// bytes, and the working counters of its frame. Numbers are decimal. In version 2 a part's line
-/// ends in its sync unit. The error is want of memory.
-pub fn plan_text(alloc: Global, version: Version, plan: &Plan) -> Result<String, AllocError>
-    ensures { IfOk result (λ text. string_bytes text ≡ plan_text version plan.now) }
-{
-    let mut text = String::new(alloc);
-    write_slaves(alloc, &mut text, plan.slaves())?;
-    write_parts(&mut text, version, plan)?;
-    Ok(text)
 }

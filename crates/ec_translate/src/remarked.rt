@@ -13,97 +13,6 @@ use std::alloc::Global;
 use std::fs::{File, Files};
 use std::io::{Read, Write};
 
-/// Prints the input's payloads with remarks.
-fn print_text_remarked<R: Read, W: Write>(
-    alloc: Global,
-    named: bool,
-    links: Option<Links<'_>>,
-    input: &mut R,
-    output: &mut W,
-) -> Result<(), Refusal>
-    requires { ForSome links (λ links. IsUsable links.plan.now) }
-    ensures { RunsRemarked (R.remaining input.old) (W.contents output.old) (W.contents output.new) result }
-{
-    let text = read_text(alloc, input)?;
-    let remarked = annotate_text(alloc, text.as_str(), named, links)?;
-    print_text(remarked.text.as_bytes(), output)?;
-    if remarked.is_whole {
-        Ok(())
-    } else {
-        Err(Refusal::BadHex)
-    }
-}
-
-/// The same by a table and its plan.
-fn print_linked<R: Read, W: Write>(
-    alloc: Global,
-    named: bool,
-    table: &Table,
-    plan: &Plan,
-    input: &mut R,
-    output: &mut W,
-) -> Result<(), Refusal>
-    requires { IsUsable plan.now }
-    ensures { RunsRemarked (R.remaining input.old) (W.contents output.old) (W.contents output.new) result }
-{
-    let links = Links { table, plan };
-    print_text_remarked(alloc, named, Some(links), input, output)
-}
-
-/// The same by a table, which may have no plan.
-fn print_planned<R: Read, W: Write>(
-    alloc: Global,
-    named: bool,
-    table: &Table,
-    input: &mut R,
-    output: &mut W,
-) -> Result<(), Refusal>
-    ensures { RunsByTable table.now (R.remaining input.old) (W.contents output.old)
-        (W.contents output.new) result }
-{
-    let plan = compile(alloc, table)?;
-    print_linked(alloc, named, table, &plan, input, output)
-}
-
-/// The same by the text of a table.
-fn print_by_text<R: Read, W: Write>(
-    alloc: Global,
-    named: bool,
-    text: &str,
-    input: &mut R,
-    output: &mut W,
-) -> Result<(), Refusal>
-    ensures { RunsByText text.now (R.remaining input.old) (W.contents output.old)
-        (W.contents output.new) result }
-{
-    let table = read_table(alloc, text)?;
-    print_planned(alloc, named, &table, input, output)
-}
-
-/// The text in a file.
-fn read_file<H: AllocGlobal + Files>(rt: &H, path: &str) -> Result<String, Refusal>
-    ensures { IfErr result IsUnread }
-{
-    let Ok(mut file) = File::open(rt, path) else {
-        return Err(Refusal::Input);
-    };
-    read_text(rt.alloc(), &mut file)
-}
-
-/// The same by the table in a file.
-fn print_by_file<H: AllocGlobal + Files, R: Read, W: Write>(
-    rt: &H,
-    path: &str,
-    named: bool,
-    input: &mut R,
-    output: &mut W,
-) -> Result<(), Refusal>
-    ensures { RunsByFile (R.remaining input.old) (W.contents output.old) (W.contents output.new) result }
-{
-    let text = read_file(rt, path)?;
-    print_by_text(rt.alloc(), named, text.as_str(), input, output)
-}
-
 /// Prints what `print_decode` prints, with remarks for people behind the lines, all of which are indented:
 /// by the names of the standard where that is asked for, and which variables process data carry, with the
 /// predicted working counter, where the link table in a file is named. The file is read before the input.
@@ -147,5 +56,96 @@ pub fn print_payloads<H: AllocGlobal + Files, R: Read, W: Write>(
     match (table, explained) {
         (None, false) => print_decode(rt.alloc(), input, output),
         _ => print_remarked(rt, table, explained, input, output),
+    }
+}
+
+/// The same by the table in a file.
+fn print_by_file<H: AllocGlobal + Files, R: Read, W: Write>(
+    rt: &H,
+    path: &str,
+    named: bool,
+    input: &mut R,
+    output: &mut W,
+) -> Result<(), Refusal>
+    ensures { RunsByFile (R.remaining input.old) (W.contents output.old) (W.contents output.new) result }
+{
+    let text = read_file(rt, path)?;
+    print_by_text(rt.alloc(), named, text.as_str(), input, output)
+}
+
+/// The text in a file.
+fn read_file<H: AllocGlobal + Files>(rt: &H, path: &str) -> Result<String, Refusal>
+    ensures { IfErr result IsUnread }
+{
+    let Ok(mut file) = File::open(rt, path) else {
+        return Err(Refusal::Input);
+    };
+    read_text(rt.alloc(), &mut file)
+}
+
+/// The same by the text of a table.
+fn print_by_text<R: Read, W: Write>(
+    alloc: Global,
+    named: bool,
+    text: &str,
+    input: &mut R,
+    output: &mut W,
+) -> Result<(), Refusal>
+    ensures { RunsByText text.now (R.remaining input.old) (W.contents output.old)
+        (W.contents output.new) result }
+{
+    let table = read_table(alloc, text)?;
+    print_planned(alloc, named, &table, input, output)
+}
+
+/// The same by a table, which may have no plan.
+fn print_planned<R: Read, W: Write>(
+    alloc: Global,
+    named: bool,
+    table: &Table,
+    input: &mut R,
+    output: &mut W,
+) -> Result<(), Refusal>
+    ensures { RunsByTable table.now (R.remaining input.old) (W.contents output.old)
+        (W.contents output.new) result }
+{
+    let plan = compile(alloc, table)?;
+    print_linked(alloc, named, table, &plan, input, output)
+}
+
+/// The same by a table and its plan.
+fn print_linked<R: Read, W: Write>(
+    alloc: Global,
+    named: bool,
+    table: &Table,
+    plan: &Plan,
+    input: &mut R,
+    output: &mut W,
+) -> Result<(), Refusal>
+    requires { IsUsable plan.now }
+    ensures { RunsRemarked (R.remaining input.old) (W.contents output.old) (W.contents output.new) result }
+{
+    let links = Links { table, plan };
+    print_text_remarked(alloc, named, Some(links), input, output)
+}
+
+/// Prints the input's payloads with remarks.
+fn print_text_remarked<R: Read, W: Write>(
+    alloc: Global,
+    named: bool,
+    links: Option<Links<'_>>,
+    input: &mut R,
+    output: &mut W,
+) -> Result<(), Refusal>
+    requires { ForSome links (λ links. IsUsable links.plan.now) }
+    ensures { RunsRemarked (R.remaining input.old) (W.contents output.old) (W.contents output.new) result }
+{
+    let text = read_text(alloc, input)?;
+    let remarked = annotate_text(alloc, text.as_str(), named, links)?;
+    print_text(remarked.text.as_bytes(), output)?;
+    if remarked.is_whole {
+        Ok(())
+    } else {
+        Err(Refusal::BadHex)
     }
 }

@@ -32,18 +32,6 @@ pub fn print_decode<R: Read, W: Write>(
     }
 }
 
-/// The frames of a text in hex, a line for each.
-fn encoded(alloc: Global, text: &str) -> Result<String, Refusal>
-    ensures answer { IfOk result (λ answer. IsEncoded text.now (string_bytes answer)) }
-    ensures refused { IfErr result (IsOutOfForm text.now) }
-{
-    match encode_text(alloc, text) {
-        Ok(answer) => Ok(answer),
-        Err(DecodeError::Memory) => Err(Refusal::Memory),
-        Err(DecodeError::BadScript(line)) => Err(Refusal::Script(ScriptError::BadScript(line))),
-    }
-}
-
 /// Prints each frame that the text on the input states, as `print_decode` prints them, in lower-case hex. Empty lines and
 /// indented ones are skipped.
 ///
@@ -61,4 +49,16 @@ pub fn print_encode<R: Read, W: Write>(
     let text = read_text(alloc, input)?;
     let answer = encoded(alloc, text.as_str())?;
     print_text(answer.as_bytes(), output)
+}
+
+/// The frames of a text in hex, a line for each.
+fn encoded(alloc: Global, text: &str) -> Result<String, Refusal>
+    ensures answer { IfOk result (λ answer. IsEncoded text.now (string_bytes answer)) }
+    ensures refused { IfErr result (IsOutOfForm text.now) }
+{
+    match encode_text(alloc, text) {
+        Ok(answer) => Ok(answer),
+        Err(DecodeError::Memory) => Err(Refusal::Memory),
+        Err(DecodeError::BadScript(line)) => Err(Refusal::Script(ScriptError::BadScript(line))),
+    }
 }

@@ -28,139 +28,6 @@ impl<W: Write + Drop> Model for Watch<W> {
     ghost view = { λ w. record { capture = w.capture; events = w.events } };
 }
 
-/// The comment on a frame that is lost, or isn't.
-fn comment_if(is_lost: bool) -> Option<&'static str>
-    ensures { option_map (λ t. t.now) result ≡ comment_if is_lost }
-{
-    if is_lost { Some(LOST_HERE) } else { None }
-}
-
-/// Notes the frame in a slot where it is, if there is one; it may be lost there.
-fn see_slot<W: Write + Drop>(
-    capture: &mut Recorder<W>,
-    time: u64,
-    world: &World<'_>,
-    slot: usize,
-    is_lost: bool,
-)
-    ensures { Notes (seen_if time (comment_if is_lost) (flight_at world.now slot)) capture.old capture.new }
-{
-    let Some(frame) = world.progress(slot) else {
-        return;
-    };
-    let Some(payload) = world.bytes(slot) else {
-        return;
-    };
-    capture.note(&Packet {
-        interface: frame.passed,
-        time,
-        passed: frame.passed > 0,
-        payload,
-        comment: comment_if(is_lost),
-    });
-}
-
-/// Notes the frame in a slot as it comes back to the master, if there is one.
-fn see_back<W: Write + Drop>(capture: &mut Recorder<W>, time: u64, world: &World<'_>, slot: usize)
-    ensures { Notes (seen_back time (flight_at world.now slot)) capture.old capture.new }
-{
-    let Some(frame) = world.progress(slot) else {
-        return;
-    };
-    let Some(payload) = world.bytes(slot) else {
-        return;
-    };
-    capture.note(&Packet {
-        interface: 0,
-        time,
-        passed: frame.passed > 0,
-        payload,
-        comment: None,
-    });
-}
-
-/// Notes the frame of a part of the open cycle as the master sends it.
-fn see_sent<W: Write + Drop>(capture: &mut Recorder<W>, time: u64, world: &World<'_>, part: usize)
-    ensures { Notes (seen_sent time (sent_of world.now part)) capture.old capture.new }
-{
-    if let Some(payload) = world.sent(part) {
-        capture.note(&Packet {
-            interface: 0,
-            time,
-            passed: false,
-            payload,
-            comment: None,
-        });
-    }
-}
-
-/// Notes the frames of the open cycle, part after part.
-fn see_parts<W: Write + Drop>(capture: &mut Recorder<W>, time: u64, world: &World<'_>)
-    ensures { Notes (seen_parts time world.now (length world.now.master.plan.parts)) capture.old capture.new }
-{
-    for part in 0..world.parts() {
-        see_sent(capture, time, world, part);
-    }
-}
-
-/// Notes what is seen of a frame before it leaves.
-fn see_before<W: Write + Drop>(
-    capture: &mut Recorder<W>,
-    time: u64,
-    world: &World<'_>,
-    event: Event,
-)
-    ensures { Notes (seen_before time world.now event) capture.old capture.new }
-{
-    match event {
-        Event::Lose(slot) => see_slot(capture, time, world, slot, true),
-        Event::Return(slot) => see_back(capture, time, world, slot),
-        _ => {}
-    }
-}
-
-/// Notes what is seen of frames that were sent, and of one that passed a slave.
-fn see_after<W: Write + Drop>(capture: &mut Recorder<W>, time: u64, event: Event, world: &World<'_>)
-    ensures { Notes (seen_after time event world.now) capture.old capture.new }
-{
-    match event {
-        Event::StartNext => see_slot(capture, time, world, 0, false),
-        Event::Begin => see_parts(capture, time, world),
-        Event::Pass(slot) => see_slot(capture, time, world, slot, false),
-        _ => {}
-    }
-}
-
-/// Whether a frame leaves a world by an event that can be made.
-fn leaves(world: &World<'_>, event: Event) -> bool
-    ensures { result ≡ leaves world.now event }
-{
-    match event {
-        Event::Lose(slot) => world.progress(slot).is_some(),
-        Event::Return(slot) => match world.progress(slot) {
-            Some(frame) => frame.passed == world.slaves(),
-            None => false,
-        },
-        _ => false,
-    }
-}
-
-/// Notes what is seen of a frame before it leaves, if one leaves by an event that can be made.
-fn see_leaving<W: Write + Drop>(
-    capture: &mut Recorder<W>,
-    time: u64,
-    world: &World<'_>,
-    event: Event,
-)
-    ensures seen { leaves world.now event ≡ true
-        → Notes (seen_before time world.now event) capture.old capture.new }
-    ensures kept { leaves world.now event ≡ false → capture.new ≡ capture.old }
-{
-    if leaves(world, event) {
-        see_before(capture, time, world, event);
-    }
-}
-
 impl<W: Write + Drop> Watch<W> {
     ghost use Rattle.ec_watch.specs.Seeing.{SeesRun};
 
@@ -205,4 +72,137 @@ impl<W: Write + Drop> Watcher for Watch<W> {
         self.events = number;
         true
     }
+}
+
+/// Notes what is seen of a frame before it leaves, if one leaves by an event that can be made.
+fn see_leaving<W: Write + Drop>(
+    capture: &mut Recorder<W>,
+    time: u64,
+    world: &World<'_>,
+    event: Event,
+)
+    ensures seen { leaves world.now event ≡ true
+        → Notes (seen_before time world.now event) capture.old capture.new }
+    ensures kept { leaves world.now event ≡ false → capture.new ≡ capture.old }
+{
+    if leaves(world, event) {
+        see_before(capture, time, world, event);
+    }
+}
+
+/// Whether a frame leaves a world by an event that can be made.
+fn leaves(world: &World<'_>, event: Event) -> bool
+    ensures { result ≡ leaves world.now event }
+{
+    match event {
+        Event::Lose(slot) => world.progress(slot).is_some(),
+        Event::Return(slot) => match world.progress(slot) {
+            Some(frame) => frame.passed == world.slaves(),
+            None => false,
+        },
+        _ => false,
+    }
+}
+
+/// Notes what is seen of frames that were sent, and of one that passed a slave.
+fn see_after<W: Write + Drop>(capture: &mut Recorder<W>, time: u64, event: Event, world: &World<'_>)
+    ensures { Notes (seen_after time event world.now) capture.old capture.new }
+{
+    match event {
+        Event::StartNext => see_slot(capture, time, world, 0, false),
+        Event::Begin => see_parts(capture, time, world),
+        Event::Pass(slot) => see_slot(capture, time, world, slot, false),
+        _ => {}
+    }
+}
+
+/// Notes what is seen of a frame before it leaves.
+fn see_before<W: Write + Drop>(
+    capture: &mut Recorder<W>,
+    time: u64,
+    world: &World<'_>,
+    event: Event,
+)
+    ensures { Notes (seen_before time world.now event) capture.old capture.new }
+{
+    match event {
+        Event::Lose(slot) => see_slot(capture, time, world, slot, true),
+        Event::Return(slot) => see_back(capture, time, world, slot),
+        _ => {}
+    }
+}
+
+/// Notes the frames of the open cycle, part after part.
+fn see_parts<W: Write + Drop>(capture: &mut Recorder<W>, time: u64, world: &World<'_>)
+    ensures { Notes (seen_parts time world.now (length world.now.master.plan.parts)) capture.old capture.new }
+{
+    for part in 0..world.parts() {
+        see_sent(capture, time, world, part);
+    }
+}
+
+/// Notes the frame of a part of the open cycle as the master sends it.
+fn see_sent<W: Write + Drop>(capture: &mut Recorder<W>, time: u64, world: &World<'_>, part: usize)
+    ensures { Notes (seen_sent time (sent_of world.now part)) capture.old capture.new }
+{
+    if let Some(payload) = world.sent(part) {
+        capture.note(&Packet {
+            interface: 0,
+            time,
+            passed: false,
+            payload,
+            comment: None,
+        });
+    }
+}
+
+/// Notes the frame in a slot as it comes back to the master, if there is one.
+fn see_back<W: Write + Drop>(capture: &mut Recorder<W>, time: u64, world: &World<'_>, slot: usize)
+    ensures { Notes (seen_back time (flight_at world.now slot)) capture.old capture.new }
+{
+    let Some(frame) = world.progress(slot) else {
+        return;
+    };
+    let Some(payload) = world.bytes(slot) else {
+        return;
+    };
+    capture.note(&Packet {
+        interface: 0,
+        time,
+        passed: frame.passed > 0,
+        payload,
+        comment: None,
+    });
+}
+
+/// Notes the frame in a slot where it is, if there is one; it may be lost there.
+fn see_slot<W: Write + Drop>(
+    capture: &mut Recorder<W>,
+    time: u64,
+    world: &World<'_>,
+    slot: usize,
+    is_lost: bool,
+)
+    ensures { Notes (seen_if time (comment_if is_lost) (flight_at world.now slot)) capture.old capture.new }
+{
+    let Some(frame) = world.progress(slot) else {
+        return;
+    };
+    let Some(payload) = world.bytes(slot) else {
+        return;
+    };
+    capture.note(&Packet {
+        interface: frame.passed,
+        time,
+        passed: frame.passed > 0,
+        payload,
+        comment: comment_if(is_lost),
+    });
+}
+
+/// The comment on a frame that is lost, or isn't.
+fn comment_if(is_lost: bool) -> Option<&'static str>
+    ensures { option_map (λ t. t.now) result ≡ comment_if is_lost }
+{
+    if is_lost { Some(LOST_HERE) } else { None }
 }

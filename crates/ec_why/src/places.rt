@@ -88,22 +88,6 @@ pub fn greatest(bits: u8) -> u64 {
     }
 }
 
-/// How far below 0 the least value of so many bits is, as a two's complement.
-fn depth(bits: u8) -> u64 {
-    match 1_u64.checked_shl(u32::from(bits.saturating_sub(1))) {
-        Some(power) => power,
-        None => 0,
-    }
-}
-
-/// That a variable has too few bits for a value.
-fn misfit(alloc: Global, row: &VariableRow) -> Result<String, AllocError> {
-    let name = printable(alloc, row.name.as_str())?;
-    let bits = counted(alloc, usize::from(row.bits), "bit")?;
-    let (least, most) = (depth(row.bits), greatest(row.bits));
-    format!(in alloc; "`{name}` has {bits}, and its values go from -{least} to {most}")
-}
-
 /// Why a variable doesn't become a value by an act that writes variables of one direction.
 pub fn not_written(
     alloc: Global,
@@ -131,5 +115,21 @@ pub fn misfit_words(alloc: Global, table: &Table, variable: usize) -> Result<Str
     match table.variables().get(variable) {
         None => format!(in alloc; "the table has no variable {variable}"),
         Some(row) => misfit(alloc, row),
+    }
+}
+
+/// That a variable has too few bits for a value.
+fn misfit(alloc: Global, row: &VariableRow) -> Result<String, AllocError> {
+    let name = printable(alloc, row.name.as_str())?;
+    let bits = counted(alloc, usize::from(row.bits), "bit")?;
+    let (least, most) = (depth(row.bits), greatest(row.bits));
+    format!(in alloc; "`{name}` has {bits}, and its values go from -{least} to {most}")
+}
+
+/// How far below 0 the least value of so many bits is, as a two's complement.
+fn depth(bits: u8) -> u64 {
+    match 1_u64.checked_shl(u32::from(bits.saturating_sub(1))) {
+        Some(power) => power,
+        None => 0,
     }
 }

@@ -21,84 +21,6 @@ pub fn has_cycle(world: &World<'_>) -> bool
     world.sent(0).is_some()
 }
 
-/// Whether a link's bits of the image are among those of a variable.
-fn is_of(variable: Variable, link: &Link) -> bool {
-    link.image >= variable.from && link.image - variable.from < usize::from(variable.bits)
-}
-
-/// A slave that has bits of a variable of the inputs, which holds a value, and isn't in SAFEOP or OP.
-fn still_slave(world: &World<'_>, variable: usize, value: u64) -> Option<usize> {
-    let variable = *world.plan().variables().get(variable)?;
-    if variable.direction == Direction::Out || value > greatest(variable.bits) {
-        return None;
-    }
-    let links = world.plan().in_links();
-    links
-        .iter()
-        .filter(|link| is_of(variable, link))
-        .map(|link| link.slave)
-        .find(|slave| !Firmware::of(world, *slave).is_running())
-}
-
-/// Why the plant can't have a value in a variable of the inputs.
-fn input_words(
-    alloc: Global,
-    table: &Table,
-    world: &World<'_>,
-    variable: usize,
-    value: u64,
-) -> Result<String, AllocError> {
-    match still_slave(world, variable, value) {
-        Some(slave) => event_words(alloc, table, world, Event::AppPut(slave, 0, 0)),
-        None => not_written(alloc, table, variable, Direction::In),
-    }
-}
-
-/// Why a whole cycle ended early, by whether one was open before: it wasn't begun, or a frame of it is held up.
-fn cycle_words(
-    alloc: Global,
-    table: &Table,
-    world: &World<'_>,
-    had_cycle: bool,
-) -> Result<String, AllocError> {
-    if had_cycle || !has_cycle(world) {
-        event_words(alloc, table, world, Event::Begin)
-    } else {
-        frame_words(alloc, world)
-    }
-}
-
-/// Why an act ended at an event that can't be made, in the world that it left.
-fn act_words(
-    alloc: Global,
-    table: &Table,
-    world: &World<'_>,
-    act: LineAction,
-    had_cycle: bool,
-) -> Result<String, AllocError> {
-    match act {
-        LineAction::One(event) => event_words(alloc, table, world, event),
-        LineAction::Input(variable, value) => input_words(alloc, table, world, variable, value),
-        LineAction::Never(variable) => misfit_words(alloc, table, variable),
-        LineAction::Ready => event_words(alloc, table, world, Event::StartNext),
-        LineAction::Cycle => cycle_words(alloc, table, world, had_cycle),
-        LineAction::Expect(_) | LineAction::Show => String::from_str(alloc, PLAIN),
-    }
-}
-
-/// Words, of which there are some, and which are on one line: these, if they are so.
-fn on_one_line(words: &str) -> &str
-    ensures some { result.now ≢ [] }
-    ensures one_line { All (λ b. b ≢ 10) result.now }
-    ensures kept { words.now ≢ [] → All (λ b. b ≢ 10) words.now → result.now ≡ words.now }
-{
-    if words.is_empty() || words.as_bytes().contains(&b'\n') {
-        PLAIN
-    } else {
-        words
-    }
-}
-
 /// Words as a line that says why, with two blanks before them. They are to be on one line: where they aren't, or there are none,
 /// other words stand there.
 ///
@@ -134,4 +56,82 @@ pub fn reason_text(
 {
     let words = act_words(alloc, table, world, act, had_cycle)?;
     reason_line(alloc, words.as_str())
+}
+
+/// Words, of which there are some, and which are on one line: these, if they are so.
+fn on_one_line(words: &str) -> &str
+    ensures some { result.now ≢ [] }
+    ensures one_line { All (λ b. b ≢ 10) result.now }
+    ensures kept { words.now ≢ [] → All (λ b. b ≢ 10) words.now → result.now ≡ words.now }
+{
+    if words.is_empty() || words.as_bytes().contains(&b'\n') {
+        PLAIN
+    } else {
+        words
+    }
+}
+
+/// Why an act ended at an event that can't be made, in the world that it left.
+fn act_words(
+    alloc: Global,
+    table: &Table,
+    world: &World<'_>,
+    act: LineAction,
+    had_cycle: bool,
+) -> Result<String, AllocError> {
+    match act {
+        LineAction::One(event) => event_words(alloc, table, world, event),
+        LineAction::Input(variable, value) => input_words(alloc, table, world, variable, value),
+        LineAction::Never(variable) => misfit_words(alloc, table, variable),
+        LineAction::Ready => event_words(alloc, table, world, Event::StartNext),
+        LineAction::Cycle => cycle_words(alloc, table, world, had_cycle),
+        LineAction::Expect(_) | LineAction::Show => String::from_str(alloc, PLAIN),
+    }
+}
+
+/// Why a whole cycle ended early, by whether one was open before: it wasn't begun, or a frame of it is held up.
+fn cycle_words(
+    alloc: Global,
+    table: &Table,
+    world: &World<'_>,
+    had_cycle: bool,
+) -> Result<String, AllocError> {
+    if had_cycle || !has_cycle(world) {
+        event_words(alloc, table, world, Event::Begin)
+    } else {
+        frame_words(alloc, world)
+    }
+}
+
+/// Why the plant can't have a value in a variable of the inputs.
+fn input_words(
+    alloc: Global,
+    table: &Table,
+    world: &World<'_>,
+    variable: usize,
+    value: u64,
+) -> Result<String, AllocError> {
+    match still_slave(world, variable, value) {
+        Some(slave) => event_words(alloc, table, world, Event::AppPut(slave, 0, 0)),
+        None => not_written(alloc, table, variable, Direction::In),
+    }
+}
+
+/// A slave that has bits of a variable of the inputs, which holds a value, and isn't in SAFEOP or OP.
+fn still_slave(world: &World<'_>, variable: usize, value: u64) -> Option<usize> {
+    let variable = *world.plan().variables().get(variable)?;
+    if variable.direction == Direction::Out || value > greatest(variable.bits) {
+        return None;
+    }
+    let links = world.plan().in_links();
+    links
+        .iter()
+        .filter(|link| is_of(variable, link))
+        .map(|link| link.slave)
+        .find(|slave| !Firmware::of(world, *slave).is_running())
+}
+
+/// Whether a link's bits of the image are among those of a variable.
+fn is_of(variable: Variable, link: &Link) -> bool {
+    link.image >= variable.from && link.image - variable.from < usize::from(variable.bits)
 }

@@ -46,43 +46,30 @@ impl App for Echo {
     }
 }
 
-/// The outputs that the application sees, as many as it may read now.
-fn outputs_of(slave: &Slave, count: usize) -> &[u8]
-    requires { count ≡ get_size slave.now }
-    ensures { result.now ≡ outputs_seen slave.now }
-{
-    slave.is_sound();
-    let outputs = slave.outputs();
-    &outputs[..count]
-}
-
-/// The application reads its outputs, as many as it may read now.
-fn read_outputs(slave: &mut Slave)
-    ensures { slave.new ≡ outputs_read slave.old }
-{
-    slave.is_sound();
-    slave.app_get_all();
-}
-
-/// The application writes its inputs, as many as it may write now.
-fn write_inputs(slave: &mut Slave, inputs: &[u8])
-    requires { length inputs.now ≡ put_size slave.old }
-    ensures { slave.new ≡ inputs_written slave.old inputs.now }
-{
-    slave.is_sound();
-    slave.app_put_all(inputs);
-}
-
-/// An application sees all output bytes, steps and writes all input bytes.
-fn step_application<A: App>(slave: &mut Slave, app: &mut A, output_count: usize, inputs: &mut [u8])
-    requires outputs { output_count ≡ get_size slave.old }
-    requires inputs { length inputs.old ≡ put_size slave.old }
-    ensures stepped { HasStepped (A.shows app.old) slave.old slave.new }
+/// A payload passes the slaves, and each is served. It answers whether the payload was a frame; one that is none changes
+/// nothing.
+pub(crate) fn answer<A: App>(ring: &mut Ring, app: &mut A, payload: &mut [u8]) -> bool
+    ensures answered { result ≡ true → IsAnswer (A.shows app.old) ring.old payload.old ring.new payload.new }
+    ensures refused { result ≡ false → IsNoFrame payload.old }
+    ensures kept { result ≡ false → ring.new ≡ ring.old }
     ensures later { (o i : List ℕ) → A.shows app.new o i → A.shows app.old o i }
 {
-    app.step(outputs_of(slave, output_count), inputs);
-    read_outputs(slave);
-    write_inputs(slave, inputs);
+    if ring.pass_all(payload).is_err() {
+        return false;
+    }
+    serve_slaves(ring, app);
+    true
+}
+
+/// Each slave is served, in order.
+fn serve_slaves<A: App>(ring: &mut Ring, app: &mut A)
+    ensures served { AreServed (A.shows app.old) ring.old ring.new }
+    ensures later { (o i : List ℕ) → A.shows app.new o i → A.shows app.old o i }
+{
+    let mut inputs = [0; MAX_DATA];
+    for place in 0..ring.len() {
+        serve_slave(ring.slave_mut(place), app, &mut inputs);
+    }
 }
 
 /// A slave's firmware steps; then its application, where it has process data now. It makes its inputs in `inputs`.
@@ -100,28 +87,41 @@ fn serve_slave<A: App>(slave: &mut Slave, app: &mut A, inputs: &mut [u8])
     step_application(slave, app, output_count, &mut inputs[..input_count]);
 }
 
-/// Each slave is served, in order.
-fn serve_slaves<A: App>(ring: &mut Ring, app: &mut A)
-    ensures served { AreServed (A.shows app.old) ring.old ring.new }
+/// An application sees all output bytes, steps and writes all input bytes.
+fn step_application<A: App>(slave: &mut Slave, app: &mut A, output_count: usize, inputs: &mut [u8])
+    requires outputs { output_count ≡ get_size slave.old }
+    requires inputs { length inputs.old ≡ put_size slave.old }
+    ensures stepped { HasStepped (A.shows app.old) slave.old slave.new }
     ensures later { (o i : List ℕ) → A.shows app.new o i → A.shows app.old o i }
 {
-    let mut inputs = [0; MAX_DATA];
-    for place in 0..ring.len() {
-        serve_slave(ring.slave_mut(place), app, &mut inputs);
-    }
+    app.step(outputs_of(slave, output_count), inputs);
+    read_outputs(slave);
+    write_inputs(slave, inputs);
 }
 
-/// A payload passes the slaves, and each is served. It answers whether the payload was a frame; one that is none changes
-/// nothing.
-pub(crate) fn answer<A: App>(ring: &mut Ring, app: &mut A, payload: &mut [u8]) -> bool
-    ensures answered { result ≡ true → IsAnswer (A.shows app.old) ring.old payload.old ring.new payload.new }
-    ensures refused { result ≡ false → IsNoFrame payload.old }
-    ensures kept { result ≡ false → ring.new ≡ ring.old }
-    ensures later { (o i : List ℕ) → A.shows app.new o i → A.shows app.old o i }
+/// The application writes its inputs, as many as it may write now.
+fn write_inputs(slave: &mut Slave, inputs: &[u8])
+    requires { length inputs.now ≡ put_size slave.old }
+    ensures { slave.new ≡ inputs_written slave.old inputs.now }
 {
-    if ring.pass_all(payload).is_err() {
-        return false;
-    }
-    serve_slaves(ring, app);
-    true
+    slave.is_sound();
+    slave.app_put_all(inputs);
+}
+
+/// The application reads its outputs, as many as it may read now.
+fn read_outputs(slave: &mut Slave)
+    ensures { slave.new ≡ outputs_read slave.old }
+{
+    slave.is_sound();
+    slave.app_get_all();
+}
+
+/// The outputs that the application sees, as many as it may read now.
+fn outputs_of(slave: &Slave, count: usize) -> &[u8]
+    requires { count ≡ get_size slave.now }
+    ensures { result.now ≡ outputs_seen slave.now }
+{
+    slave.is_sound();
+    let outputs = slave.outputs();
+    &outputs[..count]
 }

@@ -11,21 +11,36 @@ use crate::wire::{Wire, receive_on, send_on};
 use ec_cycle::{Master, Report};
 use ec_frame::field::MAX_FRAME_LEN;
 
-/// Sends the frames of the open cycle in order, and answers whether that was no fault.
-fn send_parts<W: Wire>(master: &Master<'_>, wire: &mut W) -> bool
-    requires open { is_some master.now.cycle ≡ true }
-    requires count { length (frames_of master.now.cycle) ≡ length master.now.plan.parts }
-    ensures sent { (n : ℕ) × Carries (W.state wire.old) (W.state wire.new) (take n (frames_of master.now.cycle)) []
-        × (n ≤ length master.now.plan.parts) × (result ≡ true → n ≡ length master.now.plan.parts) }
+/// One cycle over a wire: begins it, sends the frames of its parts in order, gives each payload that comes to
+/// [`Master::take`], until all parts are kept or `2 * parts + 64` payloads came, and closes it.
+///
+/// # Errors
+///
+/// `Refused`, where the master begins no cycle; nothing is sent, and the master is as it was. `Wire`, exactly where a cycle was
+/// begun and a call of the wire was a fault: the cycle is then dropped, and no input changed.
+pub fn run_cycle<W: Wire>(master: &mut Master<'_>, wire: &mut W) -> Result<Report, RunError>
+    ensures run { begin_refusal master.old ≡ None → IsRun master.old (W.state wire.old) (W.state wire.new) result master.new }
+    ensures refused { (e : CycleError) → begin_refusal master.old ≡ Some e → result ≡ Err (Refused e) }
+    ensures refused_master { (e : CycleError) → begin_refusal master.old ≡ Some e → master.new ≡ master.old }
+    ensures refused_wire { (e : CycleError) → begin_refusal master.old ≡ Some e → wire.new ≡ wire.old }
+    ensures kept { IsErr result → master.new.inputs ≡ master.old.inputs }
+{
+    master.begin()?;
+    if !exchange(master, wire) {
+        master.abandon();
+        return Err(RunError::Wire);
+    }
+    Ok(master.close()?)
+}
+
+/// Sends the frames of the open cycle and takes what comes back, and answers whether that was no fault.
+fn exchange<W: Wire>(master: &mut Master<'_>, wire: &mut W) -> bool
+    requires open { is_some master.old.cycle ≡ true }
+    requires count { length (frames_of master.old.cycle) ≡ length master.old.plan.parts }
+    ensures exchanged { IsExchanged master.old master.new (W.state wire.old) (W.state wire.new) }
     ensures fault { result ≡ not (is_fault (W.state wire.old) (W.state wire.new)) }
 {
-    master.is_sound();
-    for part in 0..master.parts() {
-        if !send_on(wire, master.frame(part)) {
-            return false;
-        }
-    }
-    true
+    send_parts(master, wire) && receive_parts(master, wire)
 }
 
 /// Receives until all parts are kept or the most payloads were received, and gives each to the master. It answers whether that
@@ -51,34 +66,19 @@ fn receive_parts<W: Wire>(master: &mut Master<'_>, wire: &mut W) -> bool
     true
 }
 
-/// Sends the frames of the open cycle and takes what comes back, and answers whether that was no fault.
-fn exchange<W: Wire>(master: &mut Master<'_>, wire: &mut W) -> bool
-    requires open { is_some master.old.cycle ≡ true }
-    requires count { length (frames_of master.old.cycle) ≡ length master.old.plan.parts }
-    ensures exchanged { IsExchanged master.old master.new (W.state wire.old) (W.state wire.new) }
+/// Sends the frames of the open cycle in order, and answers whether that was no fault.
+fn send_parts<W: Wire>(master: &Master<'_>, wire: &mut W) -> bool
+    requires open { is_some master.now.cycle ≡ true }
+    requires count { length (frames_of master.now.cycle) ≡ length master.now.plan.parts }
+    ensures sent { (n : ℕ) × Carries (W.state wire.old) (W.state wire.new) (take n (frames_of master.now.cycle)) []
+        × (n ≤ length master.now.plan.parts) × (result ≡ true → n ≡ length master.now.plan.parts) }
     ensures fault { result ≡ not (is_fault (W.state wire.old) (W.state wire.new)) }
 {
-    send_parts(master, wire) && receive_parts(master, wire)
-}
-
-/// One cycle over a wire: begins it, sends the frames of its parts in order, gives each payload that comes to
-/// [`Master::take`], until all parts are kept or `2 * parts + 64` payloads came, and closes it.
-///
-/// # Errors
-///
-/// `Refused`, where the master begins no cycle; nothing is sent, and the master is as it was. `Wire`, exactly where a cycle was
-/// begun and a call of the wire was a fault: the cycle is then dropped, and no input changed.
-pub fn run_cycle<W: Wire>(master: &mut Master<'_>, wire: &mut W) -> Result<Report, RunError>
-    ensures run { begin_refusal master.old ≡ None → IsRun master.old (W.state wire.old) (W.state wire.new) result master.new }
-    ensures refused { (e : CycleError) → begin_refusal master.old ≡ Some e → result ≡ Err (Refused e) }
-    ensures refused_master { (e : CycleError) → begin_refusal master.old ≡ Some e → master.new ≡ master.old }
-    ensures refused_wire { (e : CycleError) → begin_refusal master.old ≡ Some e → wire.new ≡ wire.old }
-    ensures kept { IsErr result → master.new.inputs ≡ master.old.inputs }
-{
-    master.begin()?;
-    if !exchange(master, wire) {
-        master.abandon();
-        return Err(RunError::Wire);
+    master.is_sound();
+    for part in 0..master.parts() {
+        if !send_on(wire, master.frame(part)) {
+            return false;
+        }
     }
-    Ok(master.close()?)
+    true
 }

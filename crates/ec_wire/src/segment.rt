@@ -33,53 +33,6 @@ impl Served {
     }
 }
 
-/// Receives one payload and answers it where it is a frame. Whether it was, or nothing at a fault of the wire.
-fn serve_payload<A: App, W: Wire>(ring: &mut Ring, app: &mut A, wire: &mut W) -> Option<bool>
-    ensures later { (o i : List ℕ) → A.shows app.new o i → A.shows app.old o i }
-    ensures done { IfSome result (λ is_answered. (payload : List ℕ) × (sent : List (List ℕ))
-        × Carries (W.state wire.old) (W.state wire.new) sent (payload ∷ []) × AreTreated (A.shows app.old) ring.old (payload ∷ []) ring.new sent
-        × (length sent ≡ (if is_answered then 1 else 0))) }
-    ensures same { IfSome result (λ is_answered. (W.state wire.new).failed ≡ (W.state wire.old).failed) }
-    ensures cut { IfNone result (WasCutOff (A.shows app.old) ring.old ring.new (W.state wire.old) (W.state wire.new) 1 0 0) }
-{
-    let mut buffer = [0; MAX_FRAME_LEN];
-    let count = receive_on(wire, &mut buffer)?;
-    let payload = &mut buffer[..count];
-    if !answer(ring, app, payload) {
-        return Some(false);
-    }
-    if send_on(wire, payload) {
-        Some(true)
-    } else {
-        None
-    }
-}
-
-/// Receives payloads, so many in all, and answers those that are frames. How many were and were not; an error has those until
-/// a fault of the wire.
-fn serve_payloads<A: App, W: Wire>(
-    ring: &mut Ring,
-    app: &mut A,
-    wire: &mut W,
-    frames: u32,
-) -> Result<Served, Served>
-    ensures served { IfOk result (λ s. HasServed (A.shows app.old) ring.old ring.new (W.state wire.old) (W.state wire.new) frames s.answered s.refused) }
-    ensures same { OnOk result ((W.state wire.new).failed ≡ (W.state wire.old).failed) }
-    ensures cut { IfErr result (λ s. WasCutOff (A.shows app.old) ring.old ring.new (W.state wire.old) (W.state wire.new) frames s.answered s.refused) }
-{
-    let mut served = Served {
-        answered: 0,
-        refused: 0,
-    };
-    for _ in 0..frames {
-        let Some(is_answered) = serve_payload(ring, app, wire) else {
-            return Err(served);
-        };
-        served.count(is_answered);
-    }
-    Ok(served)
-}
-
 /// Receives payloads, so many in all, as [`serve_segment`] does, and also counts what came before a fault.
 ///
 /// # Errors
@@ -118,5 +71,52 @@ pub fn serve_segment<W: Wire>(
     match serve_counted(ring, app, wire, frames) {
         Ok(served) => Ok(served),
         Err(_) => Err(SocketFault),
+    }
+}
+
+/// Receives payloads, so many in all, and answers those that are frames. How many were and were not; an error has those until
+/// a fault of the wire.
+fn serve_payloads<A: App, W: Wire>(
+    ring: &mut Ring,
+    app: &mut A,
+    wire: &mut W,
+    frames: u32,
+) -> Result<Served, Served>
+    ensures served { IfOk result (λ s. HasServed (A.shows app.old) ring.old ring.new (W.state wire.old) (W.state wire.new) frames s.answered s.refused) }
+    ensures same { OnOk result ((W.state wire.new).failed ≡ (W.state wire.old).failed) }
+    ensures cut { IfErr result (λ s. WasCutOff (A.shows app.old) ring.old ring.new (W.state wire.old) (W.state wire.new) frames s.answered s.refused) }
+{
+    let mut served = Served {
+        answered: 0,
+        refused: 0,
+    };
+    for _ in 0..frames {
+        let Some(is_answered) = serve_payload(ring, app, wire) else {
+            return Err(served);
+        };
+        served.count(is_answered);
+    }
+    Ok(served)
+}
+
+/// Receives one payload and answers it where it is a frame. Whether it was, or nothing at a fault of the wire.
+fn serve_payload<A: App, W: Wire>(ring: &mut Ring, app: &mut A, wire: &mut W) -> Option<bool>
+    ensures later { (o i : List ℕ) → A.shows app.new o i → A.shows app.old o i }
+    ensures done { IfSome result (λ is_answered. (payload : List ℕ) × (sent : List (List ℕ))
+        × Carries (W.state wire.old) (W.state wire.new) sent (payload ∷ []) × AreTreated (A.shows app.old) ring.old (payload ∷ []) ring.new sent
+        × (length sent ≡ (if is_answered then 1 else 0))) }
+    ensures same { IfSome result (λ is_answered. (W.state wire.new).failed ≡ (W.state wire.old).failed) }
+    ensures cut { IfNone result (WasCutOff (A.shows app.old) ring.old ring.new (W.state wire.old) (W.state wire.new) 1 0 0) }
+{
+    let mut buffer = [0; MAX_FRAME_LEN];
+    let count = receive_on(wire, &mut buffer)?;
+    let payload = &mut buffer[..count];
+    if !answer(ring, app, payload) {
+        return Some(false);
+    }
+    if send_on(wire, payload) {
+        Some(true)
+    } else {
+        None
     }
 }

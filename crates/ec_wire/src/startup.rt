@@ -12,26 +12,26 @@ use ec_start::{NextFrame, Startup, Taken};
 /// So many payloads that don't answer a frame are received for it.
 const MAX_FOREIGN: usize = 64;
 
-/// Sends a frame of the start-up and receives until it is answered. It answers whether it was; else the start-up is as it was.
-fn exchange<W: Wire>(startup: &mut Startup, wire: &mut W, frame: &[u8]) -> bool
-    ensures answered { result ≡ true → IsAnswered startup.old startup.new frame.now (W.state wire.old) (W.state wire.new) }
-    ensures unanswered { result ≡ false → IsUnanswered startup.old frame.now (W.state wire.old) (W.state wire.new) }
-    ensures kept { result ≡ false → startup.new ≡ startup.old }
+/// Brings the slaves up that answer on a wire: turn after turn the next frame is sent and its answer taken, until the start-up
+/// has ended. A fault of the wire, or 64 payloads that don't answer a frame, ends it as lost.
+///
+/// Where the wire carries each frame past all slaves and back, a new start-up ends Ready, and every slave works as planned.
+///
+/// A start-up whose frame is outstanding ends as lost.
+pub fn bring_up_wire<W: Wire>(startup: &mut Startup, wire: &mut W)
+    ensures leads { IsBroughtUp startup.old (W.state wire.old) startup.new (W.state wire.new) }
+    ensures up { ComesUpOver startup.old startup.new (W.state wire.old) (W.state wire.new) }
+    ensures ended { is_ended startup.new.phase ≡ true }
+    ensures plan { startup.new.plan ≡ startup.old.plan }
 {
-    let mut buffer = [0; MAX_FRAME_LEN];
-    if !send_on(wire, frame) {
-        return false;
-    }
-    for _ in 0..MAX_FOREIGN {
-        let Some(count) = receive_on(wire, &mut buffer) else {
-            return false;
-        };
-        match startup.take(&buffer[..count]) {
-            Taken::Kept => return true,
-            Taken::Foreign => {}
+    let mut frame = Frame::new();
+    // each turn takes a number
+    for _ in startup.next_number()..u64::MAX {
+        if !turn(startup, wire, &mut frame) {
+            return;
         }
     }
-    false
+    turn(startup, wire, &mut frame);
 }
 
 /// One turn: the next frame is sent and its answer taken. It answers whether the start-up goes on; one whose frame isn't
@@ -53,24 +53,24 @@ fn turn<W: Wire>(startup: &mut Startup, wire: &mut W, frame: &mut Frame) -> bool
     false
 }
 
-/// Brings the slaves up that answer on a wire: turn after turn the next frame is sent and its answer taken, until the start-up
-/// has ended. A fault of the wire, or 64 payloads that don't answer a frame, ends it as lost.
-///
-/// Where the wire carries each frame past all slaves and back, a new start-up ends Ready, and every slave works as planned.
-///
-/// A start-up whose frame is outstanding ends as lost.
-pub fn bring_up_wire<W: Wire>(startup: &mut Startup, wire: &mut W)
-    ensures leads { IsBroughtUp startup.old (W.state wire.old) startup.new (W.state wire.new) }
-    ensures up { ComesUpOver startup.old startup.new (W.state wire.old) (W.state wire.new) }
-    ensures ended { is_ended startup.new.phase ≡ true }
-    ensures plan { startup.new.plan ≡ startup.old.plan }
+/// Sends a frame of the start-up and receives until it is answered. It answers whether it was; else the start-up is as it was.
+fn exchange<W: Wire>(startup: &mut Startup, wire: &mut W, frame: &[u8]) -> bool
+    ensures answered { result ≡ true → IsAnswered startup.old startup.new frame.now (W.state wire.old) (W.state wire.new) }
+    ensures unanswered { result ≡ false → IsUnanswered startup.old frame.now (W.state wire.old) (W.state wire.new) }
+    ensures kept { result ≡ false → startup.new ≡ startup.old }
 {
-    let mut frame = Frame::new();
-    // each turn takes a number
-    for _ in startup.next_number()..u64::MAX {
-        if !turn(startup, wire, &mut frame) {
-            return;
+    let mut buffer = [0; MAX_FRAME_LEN];
+    if !send_on(wire, frame) {
+        return false;
+    }
+    for _ in 0..MAX_FOREIGN {
+        let Some(count) = receive_on(wire, &mut buffer) else {
+            return false;
+        };
+        match startup.take(&buffer[..count]) {
+            Taken::Kept => return true,
+            Taken::Foreign => {}
         }
     }
-    turn(startup, wire, &mut frame);
+    false
 }

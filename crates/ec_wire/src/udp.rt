@@ -47,62 +47,7 @@ impl Model for UdpWire {
     ghost view = { λ w. record { port = w.port; failed = w.failures } };
 }
 
-/// A port on 127.0.0.1.
-fn here(port: u16) -> SocketAddr {
-    SocketAddr::from((Ipv4Addr::LOCALHOST, port))
-}
-
-/// A socket at an address, whose receives wait so many milliseconds, and its port.
-fn open<R: Net>(rt: &R, at: SocketAddr, patience: u64) -> io::Result<(UdpSocket, u16)> {
-    let socket = UdpSocket::bind(rt, at)?;
-    socket.set_read_timeout(Some(Duration::from_millis(patience)))?;
-    let port = socket.local_addr()?.port();
-    Ok((socket, port))
-}
-
-/// How many waits in a row so many seconds are; of 0 seconds there is no end.
-fn waits_of(seconds: u32) -> u64 {
-    if seconds == 0 {
-        u64::MAX
-    } else {
-        u64::from(seconds) * WAITS_PER_SECOND
-    }
-}
-
 impl UdpWire {
-    /// A wire on a port, which sends to whoever sent the last payload that it received.
-    fn new<R: Net>(rt: &R, port: u16, waits: u64) -> Result<UdpWire, SocketFault>
-        ensures { IfOk result (IsOpened port) }
-    {
-        let Ok((socket, found)) = open(rt, here(port), PATIENCE) else {
-            return Err(SocketFault);
-        };
-        if port != 0 && found != port {
-            return Err(SocketFault);
-        }
-        Ok(UdpWire {
-            socket,
-            port: found,
-            peer: Peer::Last(None),
-            waits,
-            failures: 0,
-        })
-    }
-
-    /// The same wire to one peer, from which alone it receives.
-    fn connected_with(self, peer: SocketAddr) -> Result<UdpWire, SocketFault>
-        ensures { IfOk result (λ w. w ≡ self) }
-    {
-        let mut wire = self;
-        match wire.socket.connect(peer) {
-            Ok(()) => {
-                wire.peer = Peer::Connected;
-                Ok(wire)
-            }
-            Err(_) => Err(SocketFault),
-        }
-    }
-
     /// The same wire to the one peer on a port, from which alone it receives.
     pub(crate) fn connected_to(self, port: u16) -> Result<UdpWire, SocketFault>
         ensures { IfOk result (λ w. w ≡ self) }
@@ -186,6 +131,39 @@ impl UdpWire {
         self.port
     }
 
+    /// The same wire to one peer, from which alone it receives.
+    fn connected_with(self, peer: SocketAddr) -> Result<UdpWire, SocketFault>
+        ensures { IfOk result (λ w. w ≡ self) }
+    {
+        let mut wire = self;
+        match wire.socket.connect(peer) {
+            Ok(()) => {
+                wire.peer = Peer::Connected;
+                Ok(wire)
+            }
+            Err(_) => Err(SocketFault),
+        }
+    }
+
+    /// A wire on a port, which sends to whoever sent the last payload that it received.
+    fn new<R: Net>(rt: &R, port: u16, waits: u64) -> Result<UdpWire, SocketFault>
+        ensures { IfOk result (IsOpened port) }
+    {
+        let Ok((socket, found)) = open(rt, here(port), PATIENCE) else {
+            return Err(SocketFault);
+        };
+        if port != 0 && found != port {
+            return Err(SocketFault);
+        }
+        Ok(UdpWire {
+            socket,
+            port: found,
+            peer: Peer::Last(None),
+            waits,
+            failures: 0,
+        })
+    }
+
     /// Sends a payload to the peer, and answers whether all of it was sent.
     fn has_sent(&self, payload: &[u8]) -> bool {
         if payload.len() > MAX_FRAME_LEN {
@@ -253,4 +231,26 @@ impl Wire for UdpWire {
         self.peer = peer;
         count
     }
+}
+
+/// How many waits in a row so many seconds are; of 0 seconds there is no end.
+fn waits_of(seconds: u32) -> u64 {
+    if seconds == 0 {
+        u64::MAX
+    } else {
+        u64::from(seconds) * WAITS_PER_SECOND
+    }
+}
+
+/// A socket at an address, whose receives wait so many milliseconds, and its port.
+fn open<R: Net>(rt: &R, at: SocketAddr, patience: u64) -> io::Result<(UdpSocket, u16)> {
+    let socket = UdpSocket::bind(rt, at)?;
+    socket.set_read_timeout(Some(Duration::from_millis(patience)))?;
+    let port = socket.local_addr()?.port();
+    Ok((socket, port))
+}
+
+/// A port on 127.0.0.1.
+fn here(port: u16) -> SocketAddr {
+    SocketAddr::from((Ipv4Addr::LOCALHOST, port))
 }

@@ -25,13 +25,6 @@ pub trait Wire {
         ensures lost { is_fault (state self.old) (state self.new) ≡ true → Carries (state self.old) (state self.new) [] [] };
 }
 
-/// Whether a call was no fault, by the counts before and after it.
-fn is_fine(before: u64, after: u64) -> bool
-    ensures { (old new : WireState) → old.failed ≡ before → new.failed ≡ after → result ≡ not (is_fault old new) }
-{
-    !(before < after || before == u64::MAX)
-}
-
 /// Sends a payload, and answers whether that was no fault.
 pub fn send_on<W: Wire>(wire: &mut W, payload: &[u8]) -> bool
     ensures fault { result ≡ not (is_fault (W.state wire.old) (W.state wire.new)) }
@@ -59,4 +52,11 @@ pub fn receive_on<W: Wire>(wire: &mut W, buffer: &mut [u8]) -> Option<usize>
     } else {
         None
     }
+}
+
+/// Whether a call was no fault, by the counts before and after it.
+fn is_fine(before: u64, after: u64) -> bool
+    ensures { (old new : WireState) → old.failed ≡ before → new.failed ≡ after → result ≡ not (is_fault old new) }
+{
+    !(before < after || before == u64::MAX)
 }

@@ -28,15 +28,6 @@ impl Model for Slot {
     ghost invariant = { λ s. HoldsFrame s.progress s.frame.items };
 }
 
-/// Puts bytes in place of what is there.
-fn replace(frame: &mut Frame, bytes: &[u8])
-    requires { length bytes.now ≤ 1472 }
-    ensures { frame.new.items ≡ bytes.now }
-{
-    frame.clear();
-    let _ = frame.try_extend_from_slice(bytes);
-}
-
 impl Slot {
     /// A slot without a frame.
     pub fn new() -> Slot
@@ -104,4 +95,13 @@ impl Slot {
         slave.pass(self.frame.as_mut_slice());
         progress.passed += 1;
     }
+}
+
+/// Puts bytes in place of what is there.
+fn replace(frame: &mut Frame, bytes: &[u8])
+    requires { length bytes.now ≤ 1472 }
+    ensures { frame.new.items ≡ bytes.now }
+{
+    frame.clear();
+    let _ = frame.try_extend_from_slice(bytes);
 }

@@ -50,30 +50,6 @@ impl Model for Slots {
     ghost invariant = { λ s. AreHeld s.slots.items s.used s.way.slot s.way.until };
 }
 
-/// How many of some slots are free.
-fn free_of(slots: &[Slot]) -> usize
-    ensures { result ≡ count_by (λ o. is_none o) slots.now }
-{
-    slots.iter().filter(|slot| slot.is_free()).count()
-}
-
-/// The lowest free one of some slots.
-fn first_free(slots: &[Slot]) -> Option<usize>
-    ensures { result ≡ position (λ o. is_none o) slots.now }
-{
-    slots.iter().position(|slot| slot.is_free())
-}
-
-/// How many slaves a frame may pass as far as what some slots hold is concerned.
-fn way_behind(slots: &[Slot], frame: &Progress) -> usize
-    ensures { result ≡ fold (way_behind frame.now) no_end (flights_progress slots.now) }
-{
-    slots
-        .iter()
-        .map(|slot| slot.progress())
-        .fold(usize::MAX, |far, other| frame.way_behind(far, other))
-}
-
 impl Slots {
     /// So many free slots.
     pub fn new(alloc: Global, count: usize) -> Result<Slots, AllocError>
@@ -108,13 +84,6 @@ impl Slots {
         }
     }
 
-    /// The slots that can hold a frame: all behind them are free.
-    fn in_use(&self) -> &[Slot]
-        ensures { AreInUse self.now result.now }
-    {
-        &self.slots[..self.used]
-    }
-
     /// How many slots are free.
     pub fn free(&self) -> usize
         ensures { result ≡ count_by (λ o. is_none o) self.now }
@@ -134,21 +103,6 @@ impl Slots {
         frame.passed < slaves && frame.passed < self.way_of(slot, &frame)
     }
 
-    /// How many slaves the frame in a slot may pass, or fewer, but more than it has passed where it may pass another.
-    fn way_of(&mut self, slot: usize, frame: &Progress) -> usize
-        requires there { option_map flight_progress (get_or self.old slot None) ≡ Some frame.now }
-        requires few { frame.now.passed < no_end }
-        ensures way { nat_lt frame.now.passed result ≡ list_all (lets_by frame.now) (flights_progress self.old) }
-        ensures kept { self.new ≡ self.old }
-    {
-        if self.way.slot == slot && frame.passed < self.way.until {
-            return self.way.until;
-        }
-        let until = way_behind(self.in_use(), frame);
-        self.way = Clearance { slot, until };
-        until
-    }
-
     /// Whether the frame in a slot has passed all slaves, of so many.
     pub fn may_return(&self, slot: usize, slaves: usize) -> bool
         ensures { result ≡ may_return slaves (option_map flight_progress (get_or self.now slot None)) }
@@ -165,21 +119,6 @@ impl Slots {
         ensures { (f : Flight) → get_or self.now slot None ≡ Some f → result.now ≡ f.bytes }
     {
         self.slots[slot].bytes()
-    }
-
-    /// The lowest free slot, if there is one.
-    fn lowest_free(&self) -> Option<usize>
-        ensures { result ≡ position (λ o. is_none o) self.now }
-    {
-        let used = self.in_use();
-        if let Some(place) = first_free(used) {
-            return Some(place);
-        }
-        if used.len() < self.len() {
-            Some(used.len())
-        } else {
-            None
-        }
     }
 
     /// A frame goes into the lowest free slot, if there is one.
@@ -214,4 +153,65 @@ impl Slots {
     {
         self.slots[slot].pass(ring);
     }
+
+    /// The slots that can hold a frame: all behind them are free.
+    fn in_use(&self) -> &[Slot]
+        ensures { AreInUse self.now result.now }
+    {
+        &self.slots[..self.used]
+    }
+
+    /// How many slaves the frame in a slot may pass, or fewer, but more than it has passed where it may pass another.
+    fn way_of(&mut self, slot: usize, frame: &Progress) -> usize
+        requires there { option_map flight_progress (get_or self.old slot None) ≡ Some frame.now }
+        requires few { frame.now.passed < no_end }
+        ensures way { nat_lt frame.now.passed result ≡ list_all (lets_by frame.now) (flights_progress self.old) }
+        ensures kept { self.new ≡ self.old }
+    {
+        if self.way.slot == slot && frame.passed < self.way.until {
+            return self.way.until;
+        }
+        let until = way_behind(self.in_use(), frame);
+        self.way = Clearance { slot, until };
+        until
+    }
+
+    /// The lowest free slot, if there is one.
+    fn lowest_free(&self) -> Option<usize>
+        ensures { result ≡ position (λ o. is_none o) self.now }
+    {
+        let used = self.in_use();
+        if let Some(place) = first_free(used) {
+            return Some(place);
+        }
+        if used.len() < self.len() {
+            Some(used.len())
+        } else {
+            None
+        }
+    }
+}
+
+/// How many slaves a frame may pass as far as what some slots hold is concerned.
+fn way_behind(slots: &[Slot], frame: &Progress) -> usize
+    ensures { result ≡ fold (way_behind frame.now) no_end (flights_progress slots.now) }
+{
+    slots
+        .iter()
+        .map(|slot| slot.progress())
+        .fold(usize::MAX, |far, other| frame.way_behind(far, other))
+}
+
+/// The lowest free one of some slots.
+fn first_free(slots: &[Slot]) -> Option<usize>
+    ensures { result ≡ position (λ o. is_none o) slots.now }
+{
+    slots.iter().position(|slot| slot.is_free())
+}
+
+/// How many of some slots are free.
+fn free_of(slots: &[Slot]) -> usize
+    ensures { result ≡ count_by (λ o. is_none o) slots.now }
+{
+    slots.iter().filter(|slot| slot.is_free()).count()
 }

@@ -68,18 +68,6 @@ impl<'p> Model for World<'p> {
     ghost invariant = { λ w. AreOfPlan w.plan.now w.start w.master };
 }
 
-/// The two ends of a plan's frames: a start-up whose first frame has number 0, and a master whose image is all 0.
-fn ends_of<'p>(alloc: Global, plan: &'p Plan) -> Result<(Startup, Master<'p>), AllocError>
-    requires few { All HasFewAssigned plan.now.slaves }
-    requires usable { IsUsable plan.now }
-    ensures start { IfOk result (λ ends. ends.0 ≡ begun plan.now.slaves 0) }
-    ensures master { IfOk result (λ ends. ends.1 ≡ new_master plan.now) }
-{
-    let start = Startup::new(alloc, plan, 0)?;
-    let master = Master::new(alloc, plan)?;
-    Ok((start, master))
-}
-
 impl<'p> World<'p> {
     /// The world of a table: its slaves as they are switched on, with these identities in the order of the table; a start-up
     /// whose first frame has number 0; a master whose image is all 0; and 64 slots without a frame. The plan is the one that
@@ -283,4 +271,16 @@ impl<'p> World<'p> {
     {
         self.report.as_ref()
     }
+}
+
+/// The two ends of a plan's frames: a start-up whose first frame has number 0, and a master whose image is all 0.
+fn ends_of<'p>(alloc: Global, plan: &'p Plan) -> Result<(Startup, Master<'p>), AllocError>
+    requires few { All HasFewAssigned plan.now.slaves }
+    requires usable { IsUsable plan.now }
+    ensures start { IfOk result (λ ends. ends.0 ≡ begun plan.now.slaves 0) }
+    ensures master { IfOk result (λ ends. ends.1 ≡ new_master plan.now) }
+{
+    let start = Startup::new(alloc, plan, 0)?;
+    let master = Master::new(alloc, plan)?;
+    Ok((start, master))
 }

@@ -55,17 +55,6 @@ impl OwnMaster {
         })
     }
 
-    /// What it has beside its plan.
-    fn rest(&self) -> &Rest
-        ensures fits { FitsPlan self.now.plan result.now }
-        ensures same { rejoined self.now.plan result.now ≡ self.now }
-    {
-        match &self.rest {
-            Some(rest) => rest,
-            None => unreachable!(),
-        }
-    }
-
     /// The plan.
     pub fn plan(&self) -> &Plan
         ensures plan { result.now ≡ self.now.plan }
@@ -250,5 +239,16 @@ impl OwnMaster {
         let mut master = rest.with_plan(&self.plan);
         master.abandon();
         self.rest = Some(Rest::of(master));
+    }
+
+    /// What it has beside its plan.
+    fn rest(&self) -> &Rest
+        ensures fits { FitsPlan self.now.plan result.now }
+        ensures same { rejoined self.now.plan result.now ≡ self.now }
+    {
+        match &self.rest {
+            Some(rest) => rest,
+            None => unreachable!(),
+        }
     }
 }

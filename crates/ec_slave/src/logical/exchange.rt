@@ -253,34 +253,6 @@ impl Slave {
             && is_free(&self.managers, mapped.in_start, mapped.ins)
     }
 
-    /// Takes the outputs of an area that a datagram has whole, if it has any and may be written. Answers whether.
-    fn take_area(&mut self, mapped: &MappedArea, from: u64, bytes: &[u8]) -> bool
-        requires small { from + 8 * length bytes.now < 2 ^ 64 }
-        requires mapped { IsMapped self.old (area mapped.now) }
-        requires spans { Spans (record { from = from; bits = 8 * length bytes.now }) (area mapped.now) }
-        ensures taken { result ≡ takes self.old (area mapped.now) }
-        ensures slave { let place : Place = record { from = from; bits = 8 * length bytes.now } in
-            self.new ≡ (if takes self.old (area mapped.now)
-            then with_outputs self.old (outputs_from (area mapped.now) place bytes.now) else self.old) }
-    {
-        take_outputs(&mut self.managers[2], mapped, from, bytes)
-    }
-
-    /// Gives the inputs of an area that a datagram has whole, if it has any and may be read. Answers whether.
-    fn give_area(&self, mapped: &MappedArea, from: u64, bytes: &mut [u8]) -> bool
-        requires small { from + 8 * length bytes.old < 2 ^ 64 }
-        requires four { length self.now.managers ≡ 4 }
-        requires buffer { 0 < mapped.now.ins → IsBufferAt (manager_at self.now.managers 3).settings mapped.now.in_start (bytes_of_bits mapped.now.ins) }
-        requires first { from ≤ mapped.now.in_at }
-        requires last { mapped.now.in_at + mapped.now.ins ≤ from + 8 * length bytes.old }
-        ensures given { result ≡ gives self.now (area mapped.now) }
-        ensures bytes { let place : Place = record { from = from; bits = 8 * length bytes.old } in
-            bytes.new ≡ (if gives self.now (area mapped.now)
-            then inputs_into (area mapped.now) place (inputs_of self.now) bytes.old else bytes.old) }
-    {
-        give_inputs(&self.managers[3], mapped, from, bytes)
-    }
-
     /// A datagram that has the whole area: its outputs are taken first, as they came, and then the inputs given.
     pub(super) fn exchange_area(
         &mut self,
@@ -299,33 +271,6 @@ impl Slave {
         let is_written = role.writes() && self.take_area(mapped, from, bytes);
         let is_read = role.reads() && self.give_area(mapped, from, bytes);
         role.count(is_read, is_written)
-    }
-
-    /// Puts the outputs of an area of the RAM itself there.
-    fn put_area(&mut self, mapped: &MappedArea, from: u64, bytes: &[u8])
-        requires small { from + 8 * length bytes.now < 2 ^ 64 }
-        requires plain { IsPlain self.old (area mapped.now) }
-        requires spans { Spans (record { from = from; bits = 8 * length bytes.now }) (area mapped.now) }
-        ensures { self.new ≡ with_memory self.old
-            (copied self.old.memory (8 * mapped.now.out_start) bytes.now (mapped.now.out_at - from) mapped.now.outs) self.old.managers }
-    {
-        let to = 8 * mapped.out_start as usize;
-        let at = (mapped.out_at - from) as usize;
-        copy_by_words(&mut self.memory, to, bytes, at, mapped.outs as usize);
-    }
-
-    /// Gets the inputs of an area of the RAM itself from there.
-    fn get_area(&self, mapped: &MappedArea, from: u64, bytes: &mut [u8])
-        requires small { from + 8 * length bytes.old < 2 ^ 64 }
-        requires room { length self.now.memory ≡ ram_end }
-        requires inside { mapped.now.in_start + bytes_of_bits mapped.now.ins ≤ ram_end }
-        requires first { from ≤ mapped.now.in_at }
-        requires last { mapped.now.in_at + mapped.now.ins ≤ from + 8 * length bytes.old }
-        ensures { bytes.new ≡ copied bytes.old (mapped.now.in_at - from) self.now.memory (8 * mapped.now.in_start) mapped.now.ins }
-    {
-        let to = (mapped.in_at - from) as usize;
-        let at = 8 * mapped.in_start as usize;
-        copy_by_words(bytes, to, &self.memory, at, mapped.ins as usize);
     }
 
     /// A datagram that has the whole area, which lies in the RAM itself: its outputs are put there first, as they came, and then
@@ -352,5 +297,60 @@ impl Slave {
             self.get_area(mapped, from, bytes);
         }
         role.count(reads & (mapped.ins > 0), writes & (mapped.outs > 0))
+    }
+
+    /// Gives the inputs of an area that a datagram has whole, if it has any and may be read. Answers whether.
+    fn give_area(&self, mapped: &MappedArea, from: u64, bytes: &mut [u8]) -> bool
+        requires small { from + 8 * length bytes.old < 2 ^ 64 }
+        requires four { length self.now.managers ≡ 4 }
+        requires buffer { 0 < mapped.now.ins → IsBufferAt (manager_at self.now.managers 3).settings mapped.now.in_start (bytes_of_bits mapped.now.ins) }
+        requires first { from ≤ mapped.now.in_at }
+        requires last { mapped.now.in_at + mapped.now.ins ≤ from + 8 * length bytes.old }
+        ensures given { result ≡ gives self.now (area mapped.now) }
+        ensures bytes { let place : Place = record { from = from; bits = 8 * length bytes.old } in
+            bytes.new ≡ (if gives self.now (area mapped.now)
+            then inputs_into (area mapped.now) place (inputs_of self.now) bytes.old else bytes.old) }
+    {
+        give_inputs(&self.managers[3], mapped, from, bytes)
+    }
+
+    /// Takes the outputs of an area that a datagram has whole, if it has any and may be written. Answers whether.
+    fn take_area(&mut self, mapped: &MappedArea, from: u64, bytes: &[u8]) -> bool
+        requires small { from + 8 * length bytes.now < 2 ^ 64 }
+        requires mapped { IsMapped self.old (area mapped.now) }
+        requires spans { Spans (record { from = from; bits = 8 * length bytes.now }) (area mapped.now) }
+        ensures taken { result ≡ takes self.old (area mapped.now) }
+        ensures slave { let place : Place = record { from = from; bits = 8 * length bytes.now } in
+            self.new ≡ (if takes self.old (area mapped.now)
+            then with_outputs self.old (outputs_from (area mapped.now) place bytes.now) else self.old) }
+    {
+        take_outputs(&mut self.managers[2], mapped, from, bytes)
+    }
+
+    /// Gets the inputs of an area of the RAM itself from there.
+    fn get_area(&self, mapped: &MappedArea, from: u64, bytes: &mut [u8])
+        requires small { from + 8 * length bytes.old < 2 ^ 64 }
+        requires room { length self.now.memory ≡ ram_end }
+        requires inside { mapped.now.in_start + bytes_of_bits mapped.now.ins ≤ ram_end }
+        requires first { from ≤ mapped.now.in_at }
+        requires last { mapped.now.in_at + mapped.now.ins ≤ from + 8 * length bytes.old }
+        ensures { bytes.new ≡ copied bytes.old (mapped.now.in_at - from) self.now.memory (8 * mapped.now.in_start) mapped.now.ins }
+    {
+        let to = (mapped.in_at - from) as usize;
+        let at = 8 * mapped.in_start as usize;
+        copy_by_words(bytes, to, &self.memory, at, mapped.ins as usize);
+    }
+
+    /// Puts the outputs of an area of the RAM itself there.
+    fn put_area(&mut self, mapped: &MappedArea, from: u64, bytes: &[u8])
+        requires small { from + 8 * length bytes.now < 2 ^ 64 }
+        requires plain { IsPlain self.old (area mapped.now) }
+        requires spans { Spans (record { from = from; bits = 8 * length bytes.now }) (area mapped.now) }
+        ensures { self.new ≡ with_memory self.old
+            (copied self.old.memory (8 * mapped.now.out_start) bytes.now (mapped.now.out_at - from) mapped.now.outs) self.old.managers }
+    {
+        let to = 8 * mapped.out_start as usize;
+        let at = (mapped.out_at - from) as usize;
+        copy_by_words(&mut self.memory, to, bytes, at, mapped.outs as usize);
     }
 }

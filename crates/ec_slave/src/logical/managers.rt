@@ -161,34 +161,33 @@ impl Whole<'_> {
     }
 }
 
-/// A manager that a datagram gets at takes what is brought to it, if it is let. Answers whether. Most often all of its
-/// value is brought, as one run: then the datagram gets at it, and the value is one copy.
-fn write_bits(manager: &mut SyncManager, access: &Bits<'_>) -> bool
-    ensures written { let place : Place = record { from = access.now.from; bits = 8 * length access.now.bytes.now } in
-        result ≡ is_written_by (touched_by_writing access.now.fmmus.now place) (is_ungoverned access.now.lower.now) manager.old }
-    ensures after { let place : Place = record { from = access.now.from; bits = 8 * length access.now.bytes.now } in
-        let m = manager.old in
-        manager.new ≡ (if is_written_by (touched_by_writing access.now.fmmus.now place) (is_ungoverned access.now.lower.now) m
-        then ring_written m (logical_value access.now.lower.now access.now.fmmus.now place access.now.bytes.now m.settings.start m.settings.length) else m) }
+/// Each of the four managers meets a logical datagram whose first logical bit is `from`, from the
+/// last to the first, so that each finds the lower-numbered ones as they were. One that the
+/// datagram writes takes a whole value: 0 in the bits that aren't brought to it. Answers whether one
+/// is written.
+pub(crate) fn access_managers(
+    managers: &mut [SyncManager],
+    reading: bool,
+    writing: bool,
+    fmmus: &FmmuTable,
+    from: u64,
+    bytes: &[u8],
+) -> bool
+    requires four { length managers.old ≡ 4 }
+    requires fits { from + 8 * length bytes.now < 2 ^ 64 }
+    ensures any { let place : Place = record { from = from; bits = 8 * length bytes.now } in
+        result ≡ (writing && some_manager_written [] fmmus.now place bytes.now managers.old) }
+    ensures after { let place : Place = record { from = from; bits = 8 * length bytes.now } in
+        managers.new
+        ≡ logical_managers [] reading writing fmmus.now place bytes.now managers.old }
 {
-    if !manager.may_write() {
-        return false;
+    let mut is_written = false;
+    for k in 0..4 {
+        let place = 3 - k;
+        let (lower, rest) = managers.split_at_mut(place);
+        is_written |= access_manager(lower, &mut rest[0], reading, writing, fmmus, from, bytes);
     }
-    let start = manager.settings().start as usize;
-    let len = manager.settings().length as usize;
-    let bytes = access.bytes;
-    match access.source(start, len) {
-        Some(at) => {
-            manager.store(&Whole {
-                start,
-                len,
-                bytes,
-                at,
-            });
-            true
-        }
-        None => write_manager(access.lower, manager, access),
-    }
+    is_written
 }
 
 /// One manager meets a datagram: written, or else read, or as it was. Answers whether it is written.
@@ -225,31 +224,32 @@ fn access_manager(
     false
 }
 
-/// Each of the four managers meets a logical datagram whose first logical bit is `from`, from the
-/// last to the first, so that each finds the lower-numbered ones as they were. One that the
-/// datagram writes takes a whole value: 0 in the bits that aren't brought to it. Answers whether one
-/// is written.
-pub(crate) fn access_managers(
-    managers: &mut [SyncManager],
-    reading: bool,
-    writing: bool,
-    fmmus: &FmmuTable,
-    from: u64,
-    bytes: &[u8],
-) -> bool
-    requires four { length managers.old ≡ 4 }
-    requires fits { from + 8 * length bytes.now < 2 ^ 64 }
-    ensures any { let place : Place = record { from = from; bits = 8 * length bytes.now } in
-        result ≡ (writing && some_manager_written [] fmmus.now place bytes.now managers.old) }
-    ensures after { let place : Place = record { from = from; bits = 8 * length bytes.now } in
-        managers.new
-        ≡ logical_managers [] reading writing fmmus.now place bytes.now managers.old }
+/// A manager that a datagram gets at takes what is brought to it, if it is let. Answers whether. Most often all of its
+/// value is brought, as one run: then the datagram gets at it, and the value is one copy.
+fn write_bits(manager: &mut SyncManager, access: &Bits<'_>) -> bool
+    ensures written { let place : Place = record { from = access.now.from; bits = 8 * length access.now.bytes.now } in
+        result ≡ is_written_by (touched_by_writing access.now.fmmus.now place) (is_ungoverned access.now.lower.now) manager.old }
+    ensures after { let place : Place = record { from = access.now.from; bits = 8 * length access.now.bytes.now } in
+        let m = manager.old in
+        manager.new ≡ (if is_written_by (touched_by_writing access.now.fmmus.now place) (is_ungoverned access.now.lower.now) m
+        then ring_written m (logical_value access.now.lower.now access.now.fmmus.now place access.now.bytes.now m.settings.start m.settings.length) else m) }
 {
-    let mut is_written = false;
-    for k in 0..4 {
-        let place = 3 - k;
-        let (lower, rest) = managers.split_at_mut(place);
-        is_written |= access_manager(lower, &mut rest[0], reading, writing, fmmus, from, bytes);
+    if !manager.may_write() {
+        return false;
     }
-    is_written
+    let start = manager.settings().start as usize;
+    let len = manager.settings().length as usize;
+    let bytes = access.bytes;
+    match access.source(start, len) {
+        Some(at) => {
+            manager.store(&Whole {
+                start,
+                len,
+                bytes,
+                at,
+            });
+            true
+        }
+        None => write_manager(access.lower, manager, access),
+    }
 }

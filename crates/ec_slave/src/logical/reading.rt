@@ -19,54 +19,6 @@ use ec_fmmu::{
 };
 use ec_sync::SyncManager;
 
-/// Whether a datagram that reads gets at a manager: it touches its first and its last byte, and it
-/// may read there.
-fn is_readable(manager: &SyncManager, fmmus: &FmmuTable, from: u64, bits: u64) -> bool
-    ensures { let place : Place = record { from = from; bits = bits } in
-        result ≡ (covers (touched_by_reading fmmus.now place) manager.now && may_read manager.now) }
-{
-    if !manager.may_read() {
-        return false;
-    }
-    let first = manager.settings().start;
-    let last = first + manager.settings().length - 1;
-    is_touched_by_reading(fmmus, from, bits, first)
-        && is_touched_by_reading(fmmus, from, bits, last)
-}
-
-/// What a physical bit shows that a manager governs.
-fn seen_behind(manager: &SyncManager, is_readable: bool, physical: u32) -> Option<bool>
-    requires { manager.now.settings.start ≤ physical / 8 }
-    ensures { result ≡ behind_it manager.now is_readable physical }
-{
-    let address = physical as usize / 8;
-    if manager.in_first_buffer(address) && is_readable {
-        let byte = manager.shown_byte(address);
-        Some(get(&[byte], physical as usize % 8))
-    } else {
-        None
-    }
-}
-
-/// What a physical bit shows, where `readable` says of each manager whether the datagram gets at
-/// it.
-fn seen_bit(
-    memory: &[u8],
-    managers: &[SyncManager],
-    readable: &[bool],
-    physical: u32,
-) -> Option<bool>
-    requires room { length memory.now ≡ ram_end }
-    requires four { length managers.now ≡ length readable.now }
-    requires inside { physical < 8 * ram_end }
-    ensures { result ≡ bit_seen memory.now managers.now readable.now physical }
-{
-    match governor(managers, physical as usize / 8) {
-        Some(place) => seen_behind(&managers[place], readable[place], physical),
-        None => Some(get(memory, physical as usize)),
-    }
-}
-
 /// A slave's memory and managers as a datagram sees them. Whether it gets at a manager was found
 /// before, since that is one truth value for all bits behind it.
 #[derive(Clone, Copy)]
@@ -87,92 +39,6 @@ impl ReadableBits for Sight<'_> {
 
     fn shown_bit(&self, physical: u32) -> Option<bool> {
         seen_bit(self.memory, self.managers, self.readable, physical)
-    }
-}
-
-/// Brings a run of bits that no manager governs to the data.
-fn show_plain(sight: &Sight<'_>, physical: u32, count: usize, bytes: &mut [u8], to: usize) -> bool
-    requires some { 0 < count }
-    requires room { length sight.now.memory.now ≡ ram_end }
-    requires plain { (a : ℕ) → physical / 8 ≤ a
-        → a ≤ (physical + count - 1) / 8
-        → governor_of sight.now.managers.now a ≡ None }
-    requires to_ram { physical + count ≤ 8 * ram_end }
-    requires inside { to + count ≤ 8 * length bytes.old }
-    requires fits { to + count < 2 ^ 64 }
-    ensures any { let shown = bit_seen sight.now.memory.now sight.now.managers.now sight.now.readable.now in
-        result ≡ any_below (8 * length bytes.old) (λ i. is_some (run_shown shown physical to count i)) }
-    ensures bits { let shown = bit_seen sight.now.memory.now sight.now.managers.now sight.now.readable.now in
-        bytes.new ≡ overlay bytes.old (run_shown shown physical to count) }
-{
-    copy_by_words(bytes, to, sight.memory, physical as usize, count);
-    true
-}
-
-/// Brings a run of bits that one manager governs to the data, all of them before the end of its
-/// value or none: those of its value, where it may be read.
-fn show_value(
-    sight: &Sight<'_>,
-    place: usize,
-    physical: u32,
-    count: usize,
-    bytes: &mut [u8],
-    to: usize,
-) -> bool
-    requires some { 0 < count }
-    requires room { length sight.now.memory.now ≡ ram_end }
-    requires four { length sight.now.managers.now ≡ length sight.now.readable.now }
-    requires governed { (a : ℕ) → physical / 8 ≤ a
-        → a ≤ (physical + count - 1) / 8
-        → governor_of sight.now.managers.now a ≡ Some place }
-    requires front { (a : ℕ) → physical / 8 ≤ a → a ≤ (physical + count - 1) / 8
-        → in_first_buffer (manager_at sight.now.managers.now place) a ≡ in_first_buffer (manager_at sight.now.managers.now place) (physical / 8) }
-    requires to_ram { physical + count ≤ 8 * ram_end }
-    requires inside { to + count ≤ 8 * length bytes.old }
-    requires fits { to + count < 2 ^ 64 }
-    ensures any { let shown = bit_seen sight.now.memory.now sight.now.managers.now sight.now.readable.now in
-        result ≡ any_below (8 * length bytes.old) (λ i. is_some (run_shown shown physical to count i)) }
-    ensures bits { let shown = bit_seen sight.now.memory.now sight.now.managers.now sight.now.readable.now in
-        bytes.new ≡ overlay bytes.old (run_shown shown physical to count) }
-{
-    if !sight.readable[place] {
-        return false;
-    }
-    let manager = &sight.managers[place];
-    let start = manager.settings().start as usize;
-    let last = (physical as usize + count - 1) / 8;
-    if !manager.in_first_buffer(last) {
-        return false;
-    }
-    let value = manager.shown();
-    if last - start >= value.len() {
-        return show_by_bits(sight, physical, count, bytes, to);
-    }
-    copy_by_words(bytes, to, value, physical as usize - 8 * start, count);
-    true
-}
-
-/// Brings a run of bits to the data that lie in bytes which are alike: one manager governs all of
-/// them, or none, and all lie before the end of its value, or none.
-fn show_alike(sight: &Sight<'_>, physical: u32, count: usize, bytes: &mut [u8], to: usize) -> bool
-    requires some { 0 < count }
-    requires room { length sight.now.memory.now ≡ ram_end }
-    requires four { length sight.now.managers.now ≡ length sight.now.readable.now }
-    requires alike { (a : ℕ) → physical / 8 ≤ a → a ≤ (physical + count - 1) / 8
-        → governor_of sight.now.managers.now a ≡ governor_of sight.now.managers.now (physical / 8) }
-    requires front { (n a : ℕ) → governor_of sight.now.managers.now (physical / 8) ≡ Some n → physical / 8 ≤ a → a ≤ (physical + count - 1) / 8
-        → in_first_buffer (manager_at sight.now.managers.now n) a ≡ in_first_buffer (manager_at sight.now.managers.now n) (physical / 8) }
-    requires to_ram { physical + count ≤ 8 * ram_end }
-    requires inside { to + count ≤ 8 * length bytes.old }
-    requires fits { to + count < 2 ^ 64 }
-    ensures any { let shown = bit_seen sight.now.memory.now sight.now.managers.now sight.now.readable.now in
-        result ≡ any_below (8 * length bytes.old) (λ i. is_some (run_shown shown physical to count i)) }
-    ensures bits { let shown = bit_seen sight.now.memory.now sight.now.managers.now sight.now.readable.now in
-        bytes.new ≡ overlay bytes.old (run_shown shown physical to count) }
-{
-    match governor(sight.managers, physical as usize / 8) {
-        None => show_plain(sight, physical, count, bytes, to),
-        Some(place) => show_value(sight, place, physical, count, bytes, to),
     }
 }
 
@@ -221,4 +87,138 @@ pub(crate) fn read_logical(
         readable: &readable,
     };
     apply_read(fmmus, &sight, from, bytes)
+}
+
+/// Brings a run of bits to the data that lie in bytes which are alike: one manager governs all of
+/// them, or none, and all lie before the end of its value, or none.
+fn show_alike(sight: &Sight<'_>, physical: u32, count: usize, bytes: &mut [u8], to: usize) -> bool
+    requires some { 0 < count }
+    requires room { length sight.now.memory.now ≡ ram_end }
+    requires four { length sight.now.managers.now ≡ length sight.now.readable.now }
+    requires alike { (a : ℕ) → physical / 8 ≤ a → a ≤ (physical + count - 1) / 8
+        → governor_of sight.now.managers.now a ≡ governor_of sight.now.managers.now (physical / 8) }
+    requires front { (n a : ℕ) → governor_of sight.now.managers.now (physical / 8) ≡ Some n → physical / 8 ≤ a → a ≤ (physical + count - 1) / 8
+        → in_first_buffer (manager_at sight.now.managers.now n) a ≡ in_first_buffer (manager_at sight.now.managers.now n) (physical / 8) }
+    requires to_ram { physical + count ≤ 8 * ram_end }
+    requires inside { to + count ≤ 8 * length bytes.old }
+    requires fits { to + count < 2 ^ 64 }
+    ensures any { let shown = bit_seen sight.now.memory.now sight.now.managers.now sight.now.readable.now in
+        result ≡ any_below (8 * length bytes.old) (λ i. is_some (run_shown shown physical to count i)) }
+    ensures bits { let shown = bit_seen sight.now.memory.now sight.now.managers.now sight.now.readable.now in
+        bytes.new ≡ overlay bytes.old (run_shown shown physical to count) }
+{
+    match governor(sight.managers, physical as usize / 8) {
+        None => show_plain(sight, physical, count, bytes, to),
+        Some(place) => show_value(sight, place, physical, count, bytes, to),
+    }
+}
+
+/// Brings a run of bits that one manager governs to the data, all of them before the end of its
+/// value or none: those of its value, where it may be read.
+fn show_value(
+    sight: &Sight<'_>,
+    place: usize,
+    physical: u32,
+    count: usize,
+    bytes: &mut [u8],
+    to: usize,
+) -> bool
+    requires some { 0 < count }
+    requires room { length sight.now.memory.now ≡ ram_end }
+    requires four { length sight.now.managers.now ≡ length sight.now.readable.now }
+    requires governed { (a : ℕ) → physical / 8 ≤ a
+        → a ≤ (physical + count - 1) / 8
+        → governor_of sight.now.managers.now a ≡ Some place }
+    requires front { (a : ℕ) → physical / 8 ≤ a → a ≤ (physical + count - 1) / 8
+        → in_first_buffer (manager_at sight.now.managers.now place) a ≡ in_first_buffer (manager_at sight.now.managers.now place) (physical / 8) }
+    requires to_ram { physical + count ≤ 8 * ram_end }
+    requires inside { to + count ≤ 8 * length bytes.old }
+    requires fits { to + count < 2 ^ 64 }
+    ensures any { let shown = bit_seen sight.now.memory.now sight.now.managers.now sight.now.readable.now in
+        result ≡ any_below (8 * length bytes.old) (λ i. is_some (run_shown shown physical to count i)) }
+    ensures bits { let shown = bit_seen sight.now.memory.now sight.now.managers.now sight.now.readable.now in
+        bytes.new ≡ overlay bytes.old (run_shown shown physical to count) }
+{
+    if !sight.readable[place] {
+        return false;
+    }
+    let manager = &sight.managers[place];
+    let start = manager.settings().start as usize;
+    let last = (physical as usize + count - 1) / 8;
+    if !manager.in_first_buffer(last) {
+        return false;
+    }
+    let value = manager.shown();
+    if last - start >= value.len() {
+        return show_by_bits(sight, physical, count, bytes, to);
+    }
+    copy_by_words(bytes, to, value, physical as usize - 8 * start, count);
+    true
+}
+
+/// Brings a run of bits that no manager governs to the data.
+fn show_plain(sight: &Sight<'_>, physical: u32, count: usize, bytes: &mut [u8], to: usize) -> bool
+    requires some { 0 < count }
+    requires room { length sight.now.memory.now ≡ ram_end }
+    requires plain { (a : ℕ) → physical / 8 ≤ a
+        → a ≤ (physical + count - 1) / 8
+        → governor_of sight.now.managers.now a ≡ None }
+    requires to_ram { physical + count ≤ 8 * ram_end }
+    requires inside { to + count ≤ 8 * length bytes.old }
+    requires fits { to + count < 2 ^ 64 }
+    ensures any { let shown = bit_seen sight.now.memory.now sight.now.managers.now sight.now.readable.now in
+        result ≡ any_below (8 * length bytes.old) (λ i. is_some (run_shown shown physical to count i)) }
+    ensures bits { let shown = bit_seen sight.now.memory.now sight.now.managers.now sight.now.readable.now in
+        bytes.new ≡ overlay bytes.old (run_shown shown physical to count) }
+{
+    copy_by_words(bytes, to, sight.memory, physical as usize, count);
+    true
+}
+
+/// What a physical bit shows, where `readable` says of each manager whether the datagram gets at
+/// it.
+fn seen_bit(
+    memory: &[u8],
+    managers: &[SyncManager],
+    readable: &[bool],
+    physical: u32,
+) -> Option<bool>
+    requires room { length memory.now ≡ ram_end }
+    requires four { length managers.now ≡ length readable.now }
+    requires inside { physical < 8 * ram_end }
+    ensures { result ≡ bit_seen memory.now managers.now readable.now physical }
+{
+    match governor(managers, physical as usize / 8) {
+        Some(place) => seen_behind(&managers[place], readable[place], physical),
+        None => Some(get(memory, physical as usize)),
+    }
+}
+
+/// What a physical bit shows that a manager governs.
+fn seen_behind(manager: &SyncManager, is_readable: bool, physical: u32) -> Option<bool>
+    requires { manager.now.settings.start ≤ physical / 8 }
+    ensures { result ≡ behind_it manager.now is_readable physical }
+{
+    let address = physical as usize / 8;
+    if manager.in_first_buffer(address) && is_readable {
+        let byte = manager.shown_byte(address);
+        Some(get(&[byte], physical as usize % 8))
+    } else {
+        None
+    }
+}
+
+/// Whether a datagram that reads gets at a manager: it touches its first and its last byte, and it
+/// may read there.
+fn is_readable(manager: &SyncManager, fmmus: &FmmuTable, from: u64, bits: u64) -> bool
+    ensures { let place : Place = record { from = from; bits = bits } in
+        result ≡ (covers (touched_by_reading fmmus.now place) manager.now && may_read manager.now) }
+{
+    if !manager.may_read() {
+        return false;
+    }
+    let first = manager.settings().start;
+    let last = first + manager.settings().length - 1;
+    is_touched_by_reading(fmmus, from, bits, first)
+        && is_touched_by_reading(fmmus, from, bits, last)
 }

@@ -65,6 +65,76 @@ pub(crate) fn end_of_part(managers: &[SyncManager], start: usize, end: usize) ->
     end_of_alike(managers, start, stop)
 }
 
+/// Writes the bytes of a datagram into the memory itself, and answers whether one is written there or behind a manager.
+pub(crate) fn write_physical(
+    memory: &mut [u8],
+    managers: &[SyncManager],
+    is_busy: bool,
+    from: usize,
+    bytes: &[u8],
+) -> bool
+    requires room { length memory.old ≡ ram_end }
+    requires small { from + length bytes.now < 2 ^ 32 }
+    ensures memory { memory.new ≡ memory_written managers.now (record { from = from; bytes = bytes.now }) memory.old }
+    ensures some { result ≡ some_byte_written managers.now is_busy (record { from = from; bytes = bytes.now }) }
+{
+    if from + bytes.len() <= RAM_START {
+        write_registers(memory, is_busy, from, bytes)
+    } else {
+        write_parts(memory, managers, is_busy, from, bytes)
+    }
+}
+
+/// The byte that a datagram has for an address.
+pub(crate) fn byte_for(from: usize, bytes: &[u8], address: usize) -> Option<u8>
+    ensures { result ≡ byte_from (record { from = from; bytes = bytes.now }) address }
+{
+    let place = address.checked_sub(from)?;
+    bytes.get(place).copied()
+}
+
+/// What a data byte becomes by a read.
+pub(crate) fn read_over(joining: bool, byte: u8, shown: u8) -> u8
+    ensures { result ≡ (if joining then bit_or byte shown else shown) }
+{
+    if joining { byte | shown } else { shown }
+}
+
+/// What data bytes become by a read of as many.
+pub(crate) fn read_slice(joining: bool, bytes: &mut [u8], shown: &[u8])
+    requires { length shown.now ≡ length bytes.old }
+    ensures { bytes.new ≡ retold bytes.old (λ k. Some (if joining
+        then bit_or (slice_index bytes.old k) (slice_index shown.now k) else slice_index shown.now k)) }
+{
+    if joining {
+        join_slice(bytes, shown);
+    } else {
+        bytes.copy_from_slice(shown);
+    }
+}
+
+/// Whether a byte is kept in the memory itself that has this owner: a register that is, or a byte of the RAM that no
+/// manager governs.
+#[tactic(auto, unfolding(crate::specs::Physical::is_kept))]
+fn is_kept(owner: Option<usize>, address: usize) -> bool
+    ensures value { (ms : List SyncManager) → (ram_start ≤ address → owner ≡ governor_of ms address) → result ≡ is_kept ms address }
+    ensures inside { OnTrue result (address < ram_end) }
+{
+    if address < RAM_START {
+        return is_kept_register(address);
+    }
+    address < RAM_END && owner.is_none()
+}
+
+/// Whether a register is kept in the memory itself: a stored one that is no sync manager's.
+#[tactic(auto, unfolding(crate::specs::Physical::is_kept))]
+fn is_kept_register(address: usize) -> bool
+    requires { address < ram_start }
+    ensures { (ms : List SyncManager) → result ≡ is_kept ms address }
+{
+    is_stored(address) && !(SYNC_MANAGERS..SYNC_MANAGERS_END).contains(&address)
+}
+
 /// Whether a datagram over `len` bytes from `from` on writes the byte at an address that it touches, and that has this
 /// owner.
 #[tactic(auto, unfolding(crate::specs::Physical::may_write_byte))]
@@ -95,81 +165,44 @@ fn writes_byte(
     }
 }
 
-/// Whether a register is kept in the memory itself: a stored one that is no sync manager's.
-#[tactic(auto, unfolding(crate::specs::Physical::is_kept))]
-fn is_kept_register(address: usize) -> bool
-    requires { address < ram_start }
-    ensures { (ms : List SyncManager) → result ≡ is_kept ms address }
+/// Stores bytes at the addresses from `start` on.
+fn store_slice(memory: &mut [u8], start: usize, bytes: &[u8])
+    requires { start + length bytes.now ≤ length memory.old }
+    ensures { memory.new ≡ retold memory.old (λ a. if within start (length bytes.now) a
+        then Some (slice_index bytes.now (a - start)) else None) }
 {
-    is_stored(address) && !(SYNC_MANAGERS..SYNC_MANAGERS_END).contains(&address)
+    memory[start..start + bytes.len()].copy_from_slice(bytes);
 }
 
-/// Whether a byte is kept in the memory itself that has this owner: a register that is, or a byte of the RAM that no
-/// manager governs.
-#[tactic(auto, unfolding(crate::specs::Physical::is_kept))]
-fn is_kept(owner: Option<usize>, address: usize) -> bool
-    ensures value { (ms : List SyncManager) → (ram_start ≤ address → owner ≡ governor_of ms address) → result ≡ is_kept ms address }
-    ensures inside { OnTrue result (address < ram_end) }
-{
-    if address < RAM_START {
-        return is_kept_register(address);
-    }
-    address < RAM_END && owner.is_none()
-}
-
-/// Writes the bytes of a datagram into the memory itself, and answers whether one is written there or behind a manager.
-pub(crate) fn write_physical(
-    memory: &mut [u8],
-    managers: &[SyncManager],
-    is_busy: bool,
-    from: usize,
-    bytes: &[u8],
-) -> bool
+/// Stores a part of the bytes of a datagram that has this owner, of which the memory itself keeps all or none.
+fn store_part(memory: &mut [u8], owner: Option<usize>, start: usize, bytes: &[u8])
     requires room { length memory.old ≡ ram_end }
-    requires small { from + length bytes.now < 2 ^ 32 }
-    ensures memory { memory.new ≡ memory_written managers.now (record { from = from; bytes = bytes.now }) memory.old }
-    ensures some { result ≡ some_byte_written managers.now is_busy (record { from = from; bytes = bytes.now }) }
+    requires aside { start < ram_end → start + length bytes.now ≤ ram_end }
+    ensures { (ms : List SyncManager) → (ram_start ≤ start → owner ≡ governor_of ms start)
+        → ((a : ℕ) → start ≤ a → a < start + length bytes.now → is_kept ms a ≡ is_kept ms start)
+        → memory.new ≡ retold memory.old (λ a. if within start (length bytes.now) a
+        then (if is_kept ms a then Some (slice_index bytes.now (a - start)) else None) else None) }
 {
-    if from + bytes.len() <= RAM_START {
-        write_registers(memory, is_busy, from, bytes)
-    } else {
-        write_parts(memory, managers, is_busy, from, bytes)
+    if is_kept(owner, start) {
+        store_slice(memory, start, bytes);
     }
 }
 
-/// Writes the bytes of a datagram that lies within the registers, and answers whether one is written. No manager
-/// governs a register.
-fn write_registers(memory: &mut [u8], is_busy: bool, from: usize, bytes: &[u8]) -> bool
-    requires room { length memory.old ≡ ram_end }
-    requires inside { from + length bytes.now ≤ ram_start }
-    ensures memory { (ms : List SyncManager) → memory.new ≡ memory_written ms (record { from = from; bytes = bytes.now }) memory.old }
-    ensures some { (ms : List SyncManager) → result ≡ some_byte_written ms is_busy (record { from = from; bytes = bytes.now }) }
+/// The end of the bytes from `start` on, and below `end`, of which a datagram writes all or none, and of which the
+/// memory itself keeps all or none: one register, or bytes of the RAM, or behind it, that are alike.
+fn end_of_written(managers: &[SyncManager], start: usize, end: usize) -> usize
+    requires { start < end }
+    ensures inside { (start < result) × (result ≤ end) }
+    ensures aside { start < ram_end → result ≤ ram_end }
+    ensures writes { (busy : Bool) (touched : ℕ → Bool) (a : ℕ) → start ≤ a → a < result
+        → may_write_byte managers.now busy touched a ≡ may_write_byte managers.now busy touched start }
+    ensures kept { (a : ℕ) → start ≤ a → a < result → is_kept managers.now a ≡ is_kept managers.now start }
 {
-    if FMMUS <= from && from + bytes.len() <= FMMUS_END {
-        return write_fmmus(memory, from, bytes);
+    if start < RAM_START {
+        return start + 1;
     }
-    let mut is_some = false;
-    for (i, byte) in bytes.iter().enumerate() {
-        let address = from + i;
-        is_some |= takes_writes(address, is_busy);
-        if is_kept_register(address) {
-            memory[address] = *byte;
-        }
-    }
-    is_some
-}
-
-/// Writes the bytes of a datagram that lies within the registers of the FMMUs, and answers whether one is written. The
-/// memory itself keeps all of them.
-fn write_fmmus(memory: &mut [u8], from: usize, bytes: &[u8]) -> bool
-    requires room { length memory.old ≡ ram_end }
-    requires low { fmmu_place 0 ≤ from }
-    requires high { from + length bytes.now ≤ fmmu_place 4 }
-    ensures memory { (ms : List SyncManager) → memory.new ≡ memory_written ms (record { from = from; bytes = bytes.now }) memory.old }
-    ensures some { (ms : List SyncManager) (busy : Bool) → result ≡ some_byte_written ms busy (record { from = from; bytes = bytes.now }) }
-{
-    store_slice(memory, from, bytes);
-    !bytes.is_empty()
+    let stop = cut(start, end, RAM_END);
+    end_of_alike(managers, start, stop)
 }
 
 /// Writes the bytes of a datagram, and answers whether one is written. Who governs bytes, and whether they may be
@@ -200,72 +233,39 @@ fn write_parts(
     is_some
 }
 
-/// The end of the bytes from `start` on, and below `end`, of which a datagram writes all or none, and of which the
-/// memory itself keeps all or none: one register, or bytes of the RAM, or behind it, that are alike.
-fn end_of_written(managers: &[SyncManager], start: usize, end: usize) -> usize
-    requires { start < end }
-    ensures inside { (start < result) × (result ≤ end) }
-    ensures aside { start < ram_end → result ≤ ram_end }
-    ensures writes { (busy : Bool) (touched : ℕ → Bool) (a : ℕ) → start ≤ a → a < result
-        → may_write_byte managers.now busy touched a ≡ may_write_byte managers.now busy touched start }
-    ensures kept { (a : ℕ) → start ≤ a → a < result → is_kept managers.now a ≡ is_kept managers.now start }
-{
-    if start < RAM_START {
-        return start + 1;
-    }
-    let stop = cut(start, end, RAM_END);
-    end_of_alike(managers, start, stop)
-}
-
-/// Stores a part of the bytes of a datagram that has this owner, of which the memory itself keeps all or none.
-fn store_part(memory: &mut [u8], owner: Option<usize>, start: usize, bytes: &[u8])
+/// Writes the bytes of a datagram that lies within the registers of the FMMUs, and answers whether one is written. The
+/// memory itself keeps all of them.
+fn write_fmmus(memory: &mut [u8], from: usize, bytes: &[u8]) -> bool
     requires room { length memory.old ≡ ram_end }
-    requires aside { start < ram_end → start + length bytes.now ≤ ram_end }
-    ensures { (ms : List SyncManager) → (ram_start ≤ start → owner ≡ governor_of ms start)
-        → ((a : ℕ) → start ≤ a → a < start + length bytes.now → is_kept ms a ≡ is_kept ms start)
-        → memory.new ≡ retold memory.old (λ a. if within start (length bytes.now) a
-        then (if is_kept ms a then Some (slice_index bytes.now (a - start)) else None) else None) }
+    requires low { fmmu_place 0 ≤ from }
+    requires high { from + length bytes.now ≤ fmmu_place 4 }
+    ensures memory { (ms : List SyncManager) → memory.new ≡ memory_written ms (record { from = from; bytes = bytes.now }) memory.old }
+    ensures some { (ms : List SyncManager) (busy : Bool) → result ≡ some_byte_written ms busy (record { from = from; bytes = bytes.now }) }
 {
-    if is_kept(owner, start) {
-        store_slice(memory, start, bytes);
+    store_slice(memory, from, bytes);
+    !bytes.is_empty()
+}
+
+/// Writes the bytes of a datagram that lies within the registers, and answers whether one is written. No manager
+/// governs a register.
+fn write_registers(memory: &mut [u8], is_busy: bool, from: usize, bytes: &[u8]) -> bool
+    requires room { length memory.old ≡ ram_end }
+    requires inside { from + length bytes.now ≤ ram_start }
+    ensures memory { (ms : List SyncManager) → memory.new ≡ memory_written ms (record { from = from; bytes = bytes.now }) memory.old }
+    ensures some { (ms : List SyncManager) → result ≡ some_byte_written ms is_busy (record { from = from; bytes = bytes.now }) }
+{
+    if FMMUS <= from && from + bytes.len() <= FMMUS_END {
+        return write_fmmus(memory, from, bytes);
     }
-}
-
-/// Stores bytes at the addresses from `start` on.
-fn store_slice(memory: &mut [u8], start: usize, bytes: &[u8])
-    requires { start + length bytes.now ≤ length memory.old }
-    ensures { memory.new ≡ retold memory.old (λ a. if within start (length bytes.now) a
-        then Some (slice_index bytes.now (a - start)) else None) }
-{
-    memory[start..start + bytes.len()].copy_from_slice(bytes);
-}
-
-/// The byte that a datagram has for an address.
-pub(crate) fn byte_for(from: usize, bytes: &[u8], address: usize) -> Option<u8>
-    ensures { result ≡ byte_from (record { from = from; bytes = bytes.now }) address }
-{
-    let place = address.checked_sub(from)?;
-    bytes.get(place).copied()
-}
-
-/// What a data byte becomes by a read.
-pub(crate) fn read_over(joining: bool, byte: u8, shown: u8) -> u8
-    ensures { result ≡ (if joining then bit_or byte shown else shown) }
-{
-    if joining { byte | shown } else { shown }
-}
-
-/// What data bytes become by a read of as many.
-pub(crate) fn read_slice(joining: bool, bytes: &mut [u8], shown: &[u8])
-    requires { length shown.now ≡ length bytes.old }
-    ensures { bytes.new ≡ retold bytes.old (λ k. Some (if joining
-        then bit_or (slice_index bytes.old k) (slice_index shown.now k) else slice_index shown.now k)) }
-{
-    if joining {
-        join_slice(bytes, shown);
-    } else {
-        bytes.copy_from_slice(shown);
+    let mut is_some = false;
+    for (i, byte) in bytes.iter().enumerate() {
+        let address = from + i;
+        is_some |= takes_writes(address, is_busy);
+        if is_kept_register(address) {
+            memory[address] = *byte;
+        }
     }
+    is_some
 }
 
 /// Joins bytes to data bytes by OR.

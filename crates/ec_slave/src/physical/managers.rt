@@ -86,86 +86,22 @@ impl Bytes<'_> {
     }
 }
 
-/// What a datagram stores in byte k of a manager's eight.
-fn setting_for(from: usize, bytes: &[u8], number: usize, k: usize) -> Option<u8>
-    requires manager { number < 4 }
-    requires byte { k < 8 }
-    ensures { result ≡ setting_for (record { from = from; bytes = bytes.now }) number k }
-{
-    let address = manager_address(number) + k;
-    if is_stored(address) {
-        byte_for(from, bytes, address)
-    } else {
-        None
-    }
-}
-
-/// Whether a datagram writes one of the settings of a manager.
-fn is_configured(from: usize, bytes: &[u8], number: usize) -> bool
-    requires { number < 4 }
-    ensures { result ≡ is_configured_at (record { from = from; bytes = bytes.now }) number }
-{
-    let first = manager_address(number);
-    if first + 8 <= from || from.saturating_add(bytes.len()) <= first {
-        return false;
-    }
-    let mut is_some = false;
-    for k in 0..8 {
-        is_some |= setting_for(from, bytes, number, k).is_some();
-    }
-    is_some
-}
-
-/// Byte k of a manager's eight after a datagram.
-fn byte_after(manager: &SyncManager, from: usize, bytes: &[u8], number: usize, k: usize) -> u8
-    requires manager { number < 4 }
-    requires byte { k < 8 }
-    ensures { result ≡ unwrap_or (setting_for (record { from = from; bytes = bytes.now }) number k) (manager_byte manager.now k) }
-{
-    setting_for(from, bytes, number, k).unwrap_or(manager.register(k))
-}
-
-/// The settings of a manager after a datagram.
-fn settings_after(
-    manager: &SyncManager,
-    from: usize,
-    bytes: &[u8],
-    number: usize,
-) -> SyncManagerSettings
-    requires { number < 4 }
-    ensures { result ≡ settings_written (record { from = from; bytes = bytes.now }) number manager.now }
-{
-    decode_manager(&[
-        byte_after(manager, from, bytes, number, 0),
-        byte_after(manager, from, bytes, number, 1),
-        byte_after(manager, from, bytes, number, 2),
-        byte_after(manager, from, bytes, number, 3),
-        byte_after(manager, from, bytes, number, 4),
-        byte_after(manager, from, bytes, number, 5),
-        byte_after(manager, from, bytes, number, 6),
-        byte_after(manager, from, bytes, number, 7),
-    ])
-}
-
-/// One manager meets a datagram.
-#[tactic(auto, unfolding(crate::specs::Physical::physical_manager))]
-fn access_manager(
-    lower: &[SyncManager],
-    manager: &mut SyncManager,
-    number: usize,
+/// Each of the four managers meets a datagram, from the last to the first, so that each finds the lower-numbered ones as
+/// they were.
+pub(crate) fn access_managers(
+    managers: &mut [SyncManager],
     reads: bool,
     writes: bool,
     from: usize,
     bytes: &[u8],
 )
-    requires { number < 4 }
-    ensures { manager.new ≡ physical_manager lower.now reads writes (record { from = from; bytes = bytes.now }) number manager.old }
+    requires { length managers.old ≡ 4 }
+    ensures { managers.new ≡ physical_managers [] reads writes (record { from = from; bytes = bytes.now }) 0 managers.old }
 {
-    if writes && is_configured(from, bytes, number) {
-        let settings = settings_after(manager, from, bytes, number);
-        manager.configure(settings);
-    } else {
-        take_access(lower, manager, reads, writes, from, bytes);
+    for k in 0..4 {
+        let place = 3 - k;
+        let (lower, rest) = managers.split_at_mut(place);
+        access_manager(lower, &mut rest[0], place, reads, writes, from, bytes);
     }
 }
 
@@ -190,21 +126,85 @@ fn take_access(
     }
 }
 
-/// Each of the four managers meets a datagram, from the last to the first, so that each finds the lower-numbered ones as
-/// they were.
-pub(crate) fn access_managers(
-    managers: &mut [SyncManager],
+/// One manager meets a datagram.
+#[tactic(auto, unfolding(crate::specs::Physical::physical_manager))]
+fn access_manager(
+    lower: &[SyncManager],
+    manager: &mut SyncManager,
+    number: usize,
     reads: bool,
     writes: bool,
     from: usize,
     bytes: &[u8],
 )
-    requires { length managers.old ≡ 4 }
-    ensures { managers.new ≡ physical_managers [] reads writes (record { from = from; bytes = bytes.now }) 0 managers.old }
+    requires { number < 4 }
+    ensures { manager.new ≡ physical_manager lower.now reads writes (record { from = from; bytes = bytes.now }) number manager.old }
 {
-    for k in 0..4 {
-        let place = 3 - k;
-        let (lower, rest) = managers.split_at_mut(place);
-        access_manager(lower, &mut rest[0], place, reads, writes, from, bytes);
+    if writes && is_configured(from, bytes, number) {
+        let settings = settings_after(manager, from, bytes, number);
+        manager.configure(settings);
+    } else {
+        take_access(lower, manager, reads, writes, from, bytes);
+    }
+}
+
+/// The settings of a manager after a datagram.
+fn settings_after(
+    manager: &SyncManager,
+    from: usize,
+    bytes: &[u8],
+    number: usize,
+) -> SyncManagerSettings
+    requires { number < 4 }
+    ensures { result ≡ settings_written (record { from = from; bytes = bytes.now }) number manager.now }
+{
+    decode_manager(&[
+        byte_after(manager, from, bytes, number, 0),
+        byte_after(manager, from, bytes, number, 1),
+        byte_after(manager, from, bytes, number, 2),
+        byte_after(manager, from, bytes, number, 3),
+        byte_after(manager, from, bytes, number, 4),
+        byte_after(manager, from, bytes, number, 5),
+        byte_after(manager, from, bytes, number, 6),
+        byte_after(manager, from, bytes, number, 7),
+    ])
+}
+
+/// Byte k of a manager's eight after a datagram.
+fn byte_after(manager: &SyncManager, from: usize, bytes: &[u8], number: usize, k: usize) -> u8
+    requires manager { number < 4 }
+    requires byte { k < 8 }
+    ensures { result ≡ unwrap_or (setting_for (record { from = from; bytes = bytes.now }) number k) (manager_byte manager.now k) }
+{
+    setting_for(from, bytes, number, k).unwrap_or(manager.register(k))
+}
+
+/// Whether a datagram writes one of the settings of a manager.
+fn is_configured(from: usize, bytes: &[u8], number: usize) -> bool
+    requires { number < 4 }
+    ensures { result ≡ is_configured_at (record { from = from; bytes = bytes.now }) number }
+{
+    let first = manager_address(number);
+    if first + 8 <= from || from.saturating_add(bytes.len()) <= first {
+        return false;
+    }
+    let mut is_some = false;
+    for k in 0..8 {
+        is_some |= setting_for(from, bytes, number, k).is_some();
+    }
+    is_some
+}
+
+/// What a datagram stores in byte k of a manager's eight.
+fn setting_for(from: usize, bytes: &[u8], number: usize, k: usize) -> Option<u8>
+    requires manager { number < 4 }
+    requires byte { k < 8 }
+    ensures { result ≡ setting_for (record { from = from; bytes = bytes.now }) number k }
+{
+    let address = manager_address(number) + k;
+    if is_stored(address) {
+        byte_for(from, bytes, address)
+    } else {
+        None
     }
 }
