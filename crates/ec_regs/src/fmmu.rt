@@ -4,6 +4,23 @@ ghost use Rattle.ec_regs.specs.Fmmus.{no_fmmu, fmmu_of, fmmu_bytes};
 
 use byteorder::{ByteOrder, LittleEndian};
 
+/// In an FMMU's sixteen bytes: the first logical byte, four bytes.
+const LOGICAL_START: usize = 0;
+/// How many logical bytes it touches, two bytes.
+const LENGTH: usize = 4;
+/// The first logical bit, in the first byte.
+const START_BIT: usize = 6;
+/// The last logical bit, in the last byte.
+const STOP_BIT: usize = 7;
+/// The first physical byte, two bytes.
+const PHYSICAL_START: usize = 8;
+/// The first physical bit, in that byte.
+const PHYSICAL_BIT: usize = 10;
+/// The type: bit 0 reads, bit 1 writes.
+const TYPE: usize = 11;
+/// Bit 0: the FMMU is active.
+const ACTIVATE: usize = 12;
+
 /// An FMMU as its sixteen bytes say it.
 #[derive(Clone, Copy, Debug, PartialEq, Eq)]
 pub struct FmmuSettings {
@@ -52,15 +69,15 @@ pub fn decode_fmmu(bytes: &[u8; 16]) -> FmmuSettings
     ensures { result ≡ fmmu_of (slice_index bytes.now) }
 {
     FmmuSettings {
-        logical_start: LittleEndian::read_u32(&bytes[0..4]),
-        length: LittleEndian::read_u16(&bytes[4..6]),
-        start_bit: bytes[6] % 8,
-        stop_bit: bytes[7] % 8,
-        physical_start: LittleEndian::read_u16(&bytes[8..10]),
-        physical_bit: bytes[10] % 8,
-        reads: bytes[11] % 2 == 1,
-        writes: bytes[11] / 2 % 2 == 1,
-        active: bytes[12] % 2 == 1,
+        logical_start: LittleEndian::read_u32(&bytes[LOGICAL_START..LENGTH]),
+        length: LittleEndian::read_u16(&bytes[LENGTH..START_BIT]),
+        start_bit: bytes[START_BIT] % 8,
+        stop_bit: bytes[STOP_BIT] % 8,
+        physical_start: LittleEndian::read_u16(&bytes[PHYSICAL_START..PHYSICAL_BIT]),
+        physical_bit: bytes[PHYSICAL_BIT] % 8,
+        reads: bytes[TYPE] % 2 == 1,
+        writes: bytes[TYPE] / 2 % 2 == 1,
+        active: bytes[ACTIVATE] % 2 == 1,
     }
 }
 

@@ -14,6 +14,15 @@ pub const CONTROL_OUTPUTS: u8 = 0x24;
 /// The control byte of a buffered manager that the ring reads.
 pub const CONTROL_INPUTS: u8 = 0x20;
 
+/// In a sync manager's eight bytes: the first byte of its span, two bytes.
+const START: usize = 0;
+/// How many bytes a value has, two bytes.
+const LENGTH: usize = 2;
+/// Mode, direction and interrupts.
+const CONTROL: usize = 4;
+/// Bit 0: the manager is active. Byte 5, between, is its status.
+const ACTIVATE: usize = 6;
+
 /// The bytes of a sync manager that the ring writes: 0 to 4 and 6 of its eight.
 #[derive(Clone, Copy, Debug, PartialEq, Eq)]
 pub struct SyncManagerSettings {
@@ -113,10 +122,10 @@ pub fn decode_manager(bytes: &[u8; 8]) -> SyncManagerSettings
     ensures { result ≡ settings_of (slice_index bytes.now) }
 {
     SyncManagerSettings {
-        start: LittleEndian::read_u16(&bytes[0..2]),
-        length: LittleEndian::read_u16(&bytes[2..4]),
-        control: bytes[4],
-        activate: bytes[6],
+        start: LittleEndian::read_u16(&bytes[START..LENGTH]),
+        length: LittleEndian::read_u16(&bytes[LENGTH..CONTROL]),
+        control: bytes[CONTROL],
+        activate: bytes[ACTIVATE],
     }
 }
 
