@@ -21,6 +21,23 @@ pub const NORMAL_UPLOAD: u8 = 0x41;
 /// The mailbox type of CoE.
 pub(crate) const COE: u8 = 3;
 
+/// In the mailbox header: how many bytes follow it, two bytes.
+const LENGTH: usize = 0;
+/// The address of the station that a message is for, two bytes; the channel and the priority stand behind it.
+const STATION: usize = 2;
+/// The type in the low four bits, and the counter in the three above them.
+const TYPE: usize = 5;
+/// In the CoE header: the service in the high four bits of its second byte.
+const SERVICE: usize = 7;
+/// Of the SDO: the command byte.
+const COMMAND: usize = 8;
+/// The index of the object, two bytes.
+const INDEX: usize = 9;
+/// The subindex.
+const SUBINDEX: usize = 11;
+/// The value or the abort code, four bytes.
+const DATA: usize = 12;
+
 /// What the CoE header says of a message.
 #[derive(Clone, Copy, Debug, PartialEq, Eq)]
 pub enum Service {
@@ -189,18 +206,18 @@ pub fn read_message(mailbox: &[u8]) -> Result<Message, BadMailbox>
     ensures { MatchResult result (λ m. message_read mailbox.now ≡ Some m) (λ _. message_read mailbox.now ≡ None) }
 {
     if mailbox.len() < MESSAGE_LENGTH
-        || LittleEndian::read_u16(&mailbox[0..2]) != BYTES_AFTER_HEADER
-        || mailbox[5] % 16 != COE
+        || LittleEndian::read_u16(&mailbox[LENGTH..STATION]) != BYTES_AFTER_HEADER
+        || mailbox[TYPE] % 16 != COE
     {
         return Err(BadMailbox);
     }
     Ok(Message {
-        counter: mailbox[5] / 16 % 8,
-        service: Service::of(mailbox[7] / 16),
-        command: SdoCommand::of(mailbox[8]),
-        index: LittleEndian::read_u16(&mailbox[9..11]),
-        subindex: mailbox[11],
-        value: LittleEndian::read_u32(&mailbox[12..16]),
+        counter: mailbox[TYPE] / 16 % 8,
+        service: Service::of(mailbox[SERVICE] / 16),
+        command: SdoCommand::of(mailbox[COMMAND]),
+        index: LittleEndian::read_u16(&mailbox[INDEX..SUBINDEX]),
+        subindex: mailbox[SUBINDEX],
+        value: LittleEndian::read_u32(&mailbox[DATA..MESSAGE_LENGTH]),
     })
 }
 
