@@ -14,7 +14,13 @@ use ec_al::State;
 use ec_coe::{Reply, SdoValue, read_reply};
 use ec_device::Device;
 use ec_link::SlavePlan;
+use ec_regs::registers::{AL_STATUS, AL_STATUS_CODE, SII_CONTROL, SII_DATA};
 use ec_regs::{AlWord, SiiControl};
+
+/// In what is read from the AL status on: where the status code stands.
+const CODE: usize = AL_STATUS_CODE - AL_STATUS;
+/// In what is read from the SII control on: where the data stand.
+const DATA: usize = SII_DATA - SII_CONTROL;
 
 /// What a returned datagram says of the action that it was sent for.
 #[derive(Clone, Copy)]
@@ -150,7 +156,7 @@ fn state_verdict(slave: usize, state: State, bytes: &[u8]) -> Verdict
 {
     let status = bytes[0] as u16;
     if AlWord(status).has_error() {
-        let code = LittleEndian::read_u16(&bytes[4..6]);
+        let code = LittleEndian::read_u16(&bytes[CODE..CODE + 2]);
         return Verdict::Fails(StartError::AlError { slave, code });
     }
     if status % 32 == state.number() {
@@ -171,7 +177,7 @@ fn word_verdict(kind: Device, seen: Device, slave: usize, which: usize, bytes: &
     if control.is_busy() {
         return Verdict::Again;
     }
-    let value = LittleEndian::read_u32(&bytes[6..10]);
+    let value = LittleEndian::read_u32(&bytes[DATA..DATA + 4]);
     let shown = with_word(seen, which, value);
     if which == 2 && !is_device(kind, shown) {
         return differs(slave, shown);
