@@ -183,9 +183,6 @@ reached-alike i (Down f m) s t a e h = down-rest f m s t a (init-alike s t (word
 reached-alike i (Up c) s t a e h = up-rest i c s t a (rises-alike c.rise s t (word-alike s t a) e h.rises) h
 
 pub faulted-alike : (i : ℕ) (st : Stage) (s t : SlaveState) → Alike s t → t.al ≡ s.al → HadFault i st s → HadFault i st t
-faulted-alike i Before s t a e h = absurd h
-faulted-alike i Called s t a e h = absurd h
-faulted-alike i (Down f m) s t a e h = absurd h
 faulted-alike i (Up c) s t a e h = let k = h.faulted in record {
   top = h.top;
   quiet = h.quiet;
@@ -199,6 +196,7 @@ faulted-alike i (Up c) s t a e h = let k = h.faulted in record {
     unlocked = λ n l ne. (a.managers.each n).locked ∙ k.unlocked n l ne;
   };
 }
+faulted-alike i _ s t a e h = absurd h
 
 -- what changes a slave that is gone in nothing, and another one in nothing that is known of it
 pub stands-alike : (kind : SlaveKind) (i : ℕ) (st : Stage) (trouble : Bool) (s t : SlaveState)

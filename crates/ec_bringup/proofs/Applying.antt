@@ -6,7 +6,7 @@ use Rattle.ec_sync.specs.SyncManager.{SyncManager, no_manager}
 use Rattle.ec_slave.specs.State.{SlaveState, manager_at}
 use Rattle.ec_slave.specs.Application.{is_running, with_manager}
 use Rattle.ec_start.specs.declared.action.Action.{Action}
-use Rattle.ec_start.specs.declared.action.Action.TheVariants.{CountSlaves, AskInit, AwaitInit, ClearFmmus, ClearManagers, ClearStations, NameSlave, AskWord, AwaitWord, SetManager, SetFmmu, AskState, AwaitState, SendRequest, AwaitReply}
+use Rattle.ec_start.specs.declared.action.Action.TheVariants.{AwaitInit, AskWord, AwaitWord, AwaitState, AwaitReply}
 use Rattle.ec_bringup.specs.Stages.{Stage}
 use Rattle.ec_bringup.specs.Standing.{unviewed, Stands}
 use Rattle.ec_bringup.specs.Undisturbed.{IsSpelled, Rising, turned, turns}
@@ -27,20 +27,10 @@ abbrev with_buffer : SlaveState → ℕ → Buffer → SlaveState
 with_buffer s n b = with_manager s n (record (manager_at s.managers n) { buffer = b })
 
 sure-buffered : (kind : SlaveKind) (i : ℕ) (a : Action) (s : SlaveState) (n : ℕ) (b : Buffer) → n ≢ 1 → Sure kind i a s → Sure kind i a (with_buffer s n b)
-sure-buffered kind i CountSlaves s n b ne h = tt
-sure-buffered kind i AskInit s n b ne h = tt
 sure-buffered kind i AwaitInit s n b ne h = record { state_is = h.state_is; no_error = h.no_error }
-sure-buffered kind i ClearFmmus s n b ne h = tt
-sure-buffered kind i ClearManagers s n b ne h = tt
-sure-buffered kind i ClearStations s n b ne h = tt
-sure-buffered kind i (NameSlave t) s n b ne h = tt
 sure-buffered kind i (AskWord t which) s n b ne h = h
 sure-buffered kind i (AwaitWord t which) s n b ne h = h
-sure-buffered kind i (SetManager t k m) s n b ne h = tt
-sure-buffered kind i (SetFmmu t k f) s n b ne h = tt
-sure-buffered kind i (AskState t to) s n b ne h = tt
 sure-buffered kind i (AwaitState t to) s n b ne h = λ q. let g = h q in record { state_is = g.state_is; no_error = g.no_error }
-sure-buffered kind i (SendRequest t counter x r) s n b ne h = tt
 sure-buffered kind i (AwaitReply t x r) s n b ne h = λ q.
     let g = h q in
     record {
@@ -49,6 +39,7 @@ sure-buffered kind i (AwaitReply t x r) s n b ne h = λ q.
       mail = ap (λ (m : SyncManager). m.mail) (get_or-set_other s.managers n 1 (record (manager_at s.managers n) { buffer = b }) no_manager (λ e. ne (sym e))) ∙ g.mail;
       fits = g.fits;
     }
+sure-buffered kind i _ s n b ne h = tt
 
 stood-buffered : (kind : SlaveKind) (i : ℕ) (st : Stage) (a : Action) (s : SlaveState) (n : ℕ) (b : Buffer) → n < 4 → n ≢ 1 → is_running s.al.state ≡ true → (n ≡ 2 → unviewed b ≡ unviewed (manager_at s.managers n).buffer)
     → Stood kind i st a s → Stood kind i st a (with_buffer s n b)

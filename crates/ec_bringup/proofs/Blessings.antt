@@ -17,9 +17,8 @@ use Rattle.ec_start.specs.Scripts.{named, identified, mailbox_set, raised, excha
 use Rattle.ec_bringup.specs.Stages.{Rise, Stays, Config, Stage, Before, Down, Up, fresh, told, answered, after, IsLow, asked_all, prepared}
 use Rattle.ec_bringup.specs.Instants.{Leads}
 use Rattle.ec_start.specs.Planned.{AreMailboxes, IsStartable}
-use Rattle.ec_bringup.proofs.Leading.{IsFor, AreFor}
-use Rattle.ec_bringup.proofs.Ends.{SameFrame, answered-frame, asked-frame, phase-leads, named-leads, identified-tells, identity_known, boxed, mailbox-tells, mailbox-for, raised-for, raised-tells, talked-for, talked-tells, mapped-for, mapped-tells, mapped_to, others-of}
-use Rattle.ec_bringup.proofs.Requests.{Answers}
+use Rattle.ec_bringup.proofs.Leading.{IsFor, AreFor, SameFrame, answered-frame, asked-frame, phase-leads, named-leads, identified-tells, identity_known, boxed, mailbox-tells, mailbox-for, raised-for, raised-tells, talked-for, talked-tells, mapped-for, mapped-tells, mapped_to, others-of}
+use Rattle.ec_bringup.proofs.Messages.{Answers}
 use Rattle.ec_bringup.proofs.Next.{Grants, Bears, Bless}
 use Rattle.ec_bringup.proofs.Climbs.{Blessed}
 
@@ -35,14 +34,6 @@ blessed-any kind i (a ∷ xs) bs st h k = (h.0, blessed-any kind i xs bs (after 
 
 -- an action for another slave
 other-bless : (kind : SlaveKind) (i t : ℕ) (a : Action) (st : Stage) → t ≢ i → IsFor t a → Bless kind i st a
-other-bless kind i t (AskWord s which) st ne h = λ e. absurd (ne (sym h ∙ e))
-other-bless kind i t (AwaitWord s which) st ne h = λ e. absurd (ne (sym h ∙ e))
-other-bless kind i t (SetManager s k m) st ne h = λ e. absurd (ne (sym h ∙ e))
-other-bless kind i t (SetFmmu s k f) st ne h = λ e. absurd (ne (sym h ∙ e))
-other-bless kind i t (AskState s to) st ne h = λ e. absurd (ne (sym h ∙ e))
-other-bless kind i t (AwaitState s to) st ne h = λ e. absurd (ne (sym h ∙ e))
-other-bless kind i t (SendRequest s counter b r) st ne h = λ e. absurd (ne (sym h ∙ e))
-other-bless kind i t (AwaitReply s b r) st ne h = λ e. absurd (ne (sym h ∙ e))
 other-bless kind i t CountSlaves st ne h = tt
 other-bless kind i t AskInit st ne h = tt
 other-bless kind i t AwaitInit st ne h = tt
@@ -50,6 +41,7 @@ other-bless kind i t ClearFmmus st ne h = tt
 other-bless kind i t ClearManagers st ne h = tt
 other-bless kind i t ClearStations st ne h = tt
 other-bless kind i t (NameSlave s) st ne h = tt
+other-bless kind i t _ st ne h = λ e. absurd (ne (sym h ∙ e))
 
 others-blessed : (kind : SlaveKind) (i t : ℕ) (xs : List Action) (st : Stage) → t ≢ i → AreFor t xs → Blessed kind i st xs
 others-blessed kind i t [] st ne h = tt

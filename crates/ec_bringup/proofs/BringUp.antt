@@ -26,7 +26,7 @@ use Rattle.ec_coe.specs.declared.reply.Reply.TheVariants.{Downloaded, Uploaded, 
 use Rattle.ec_start.specs.declared.action.Transfer.{Transfer}
 use Rattle.ec_start.specs.declared.action.Transfer.TheVariants.{Download, Upload}
 use Rattle.ec_start.specs.declared.action.SdoRequest.{SdoRequest}
-use Rattle.ec_start.specs.declared.action.Action.TheVariants.{CountSlaves, AskInit, AwaitInit, ClearFmmus, ClearManagers, ClearStations, NameSlave, AskWord, AwaitWord, SetManager, SetFmmu, AskState, AwaitState, SendRequest, AwaitReply}
+use Rattle.ec_start.specs.declared.action.Action.TheVariants.{CountSlaves, AskInit, AwaitInit, ClearFmmus, ClearManagers, ClearStations, AwaitWord, AwaitState, AwaitReply}
 use Rattle.ec_start.specs.Verdicts.{verdict, counted, word_verdict, state_verdict, reply_verdict, word_at, long_at, is_device, with_word}
 use Rattle.ec_start.specs.Scripts.{script}
 use Rattle.ec_start.specs.Running.{StartState, action_of, asked, asked_by, next_frame, next_frame_by, begun, sending, taken, judged, max_polls, second, is_ended, is_sent, last_number, type_of, IsStartTaken}
@@ -39,7 +39,7 @@ use Rattle.ec_bringup.specs.Undisturbed.{Rising, frame_at, all_passed, all_met, 
 use Rattle.ec_bringup.specs.ComesUp.{IsUpAndWorks, IsOnItsWay}
 use Rattle.ec_bringup.specs.BringUp.{rising, IsBroughtTo, Rests, RunsOut, Turns}
 use Rattle.ec_bringup.proofs.Rounds.{round}
-use Rattle.ec_bringup.proofs.Up.{comes-up}
+use Rattle.ec_bringup.proofs.ComesUp.{comes-up}
 
 -- ---- one turn
 
@@ -133,14 +133,12 @@ stopped s t ss xs free none state kept =
 -- ---- the numbers
 
 judged-next : (s : StartState) (v : Verdict) → (judged s v).next ≡ s.next
-judged-next s Next = refl
-judged-next s (Shows value) = refl
 judged-next s Again = by (s.polls + 1 == max_polls)
   where
     by : (b : Bool) → (let x : StartState = if b then record s { phase = Failed (TooSlow s.place) } else record s { polls = s.polls + 1; phase = Idle } in x.next) ≡ s.next
     by true = refl
     by false = refl
-judged-next s (Fails error) = refl
+judged-next s _ = refl
 
 -- a turn takes one number
 pub turned-next : (r : Rising) → (turned r).start.next ≡ r.start.next + 1
@@ -178,9 +176,6 @@ pub record AreTurns (r : Rising) (s : StartState) (ss : List SlaveState) (number
   pub free : is_sent s.phase ≡ false
   pub on : GoesOn r (rising s ss)
   pub next_number : s.next ≡ number
-
-pub turns-begin : (s : StartState) (ss : List SlaveState) (number : ℕ) → is_sent s.phase ≡ false → number ≡ s.next → AreTurns (rising s ss) s ss number
-turns-begin s ss number free e = record { free = free; on = λ x b. b; next_number = sym e }
 
 pub turns-go : (r : Rising) (s t : StartState) (ss xs : List SlaveState) (number : ℕ) → AreTurns r s ss number → next_frame s ≡ Send → rising t xs ≡ turned (rising s ss) → AreTurns r t xs (number + 1)
 turns-go r s t ss xs number h sends made =
@@ -255,16 +250,11 @@ verdict-fine n step s types AwaitInit d = counted-fine d.counter n step _ (eithe
 verdict-fine n step s types ClearFmmus d = counted-fine d.counter n step Next refl
 verdict-fine n step s types ClearManagers d = counted-fine d.counter n step Next refl
 verdict-fine n step s types ClearStations d = counted-fine d.counter n step Next refl
-verdict-fine n step s types (NameSlave i) d = counted-fine d.counter 1 step Next refl
-verdict-fine n step s types (AskWord i which) d = counted-fine d.counter 1 step Next refl
 verdict-fine n step s types (AwaitWord i which) d = counted-fine d.counter 1 step _ (word-fine (types i) s i which d.data_bytes)
-verdict-fine n step s types (SetManager i k m) d = counted-fine d.counter 1 step Next refl
-verdict-fine n step s types (SetFmmu i k f) d = counted-fine d.counter 1 step Next refl
-verdict-fine n step s types (AskState i state) d = counted-fine d.counter 1 step Next refl
 verdict-fine n step s types (AwaitState i state) d = counted-fine d.counter 1 step _ (state-fine i state d.data_bytes)
-verdict-fine n step s types (SendRequest i before b r) d = counted-fine d.counter 1 step Next refl
 verdict-fine n step s types (AwaitReply i b r) d =
     either (d.counter == 0) _ _ refl (counted-fine d.counter 1 step _ (reply-fine i r r.transfer (reply_of r.index r.subindex (message_read d.data_bytes))))
+verdict-fine n step s types _ d = counted-fine d.counter 1 step Next refl
 
 lost-none : (b : Bool) → lost_phase (if b then Idle else Ready) ≡ false
 lost-none true = refl
@@ -295,10 +285,6 @@ idle-not p e h = both_ways (is_ended p) (ap is_ended e) h
 
 ready-not : (p : Phase) → p ≡ Ready → p ≡ Idle → ⊥
 ready-not p e h = both_ways (is_ended p) (ap is_ended h) (ap is_ended e)
-
-turns-on : (n : ℕ) (r : Rising) → turns n (turned r) ≡ turned (turns n r)
-turns-on zero r = refl
-turns-on (suc n) r = turns-on n (turned r)
 
 -- behind k turns of a script that is on its way
 follow : (r e : Rising) (from n : ℕ) → from + n ≤ last_number → (turns n r).start.phase ≡ Ready → ((k : ℕ) → k < n → IsOnItsWay (from + k) (turns k r)) → IsBroughtTo r e → e ≡ turns n r

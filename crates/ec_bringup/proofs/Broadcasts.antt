@@ -25,8 +25,7 @@ use Rattle.ec_bringup.specs.Frames.{IsWriting, Arrives, IsOther, MayRepeat, Met}
 use Rattle.ec_bringup.proofs.Resets.{get_or-zeros}
 use Rattle.ec_slave.specs.Interface.{Wrote, set_by}
 use Rattle.ec_slave.proofs.RegisterAccess.{registers_written as wrote, managers_aside as unconfigured}
-use Rattle.ec_bringup.proofs.Writes.{slave-wrote}
-use Rattle.ec_bringup.proofs.Owns.{window-sent}
+use Rattle.ec_bringup.proofs.Owns.{slave-wrote, window-sent}
 use Rattle.ec_slave.specs.Interface.{OnlyWrites}
 use Rattle.ec_slave.proofs.Meetings.{writes_meet, goes_on}
 

@@ -11,7 +11,7 @@ use Rattle.ec_coe.specs.declared.message.Message.{Message}
 use Rattle.ec_coe.specs.declared.message.Service.{Service}
 use Rattle.ec_coe.specs.declared.message.Service.TheVariants.{Request as RequestService, Response, Other as OtherService}
 use Rattle.ec_coe.specs.declared.message.SdoCommand.{SdoCommand as Sdo}
-use Rattle.ec_coe.specs.declared.message.SdoCommand.TheVariants.{DownloadRequest, DownloadResponse, UploadRequest, UploadResponse, Abort as AbortCommand, Other as OtherCommand}
+use Rattle.ec_coe.specs.declared.message.SdoCommand.TheVariants.{DownloadRequest, DownloadResponse, UploadRequest, UploadResponse, Abort as AbortCommand}
 use Rattle.ec_coe.specs.declared.reply.Reply.{Reply}
 use Rattle.ec_coe.specs.declared.reply.Reply.TheVariants.{Downloaded as HasDownloaded, Uploaded, Aborted, Unexpected}
 use Rattle.ec_coe.specs.Messages.{message_bytes, message_read, message_in, command_of, command_number, size_number}
@@ -91,25 +91,17 @@ next-not f e = cc
 
 reply-done : (i : ℕ) (r : SdoRequest) (w : SdoValue) (x : Reply) → reply_verdict i r (Download w) x ≡ Next → x ≡ HasDownloaded
 reply-done i r w HasDownloaded e = refl
-reply-done i r w (Uploaded v) e = absurd (next-not _ e)
-reply-done i r w (Aborted code) e = absurd (next-not _ e)
-reply-done i r w Unexpected e = absurd (next-not _ e)
+reply-done i r w _ e = absurd (next-not _ e)
 
 response-done : (m : Message) (c : Sdo) → response_in m c ≡ HasDownloaded → c ≡ DownloadResponse
 response-done m DownloadResponse e = refl
 response-done m (UploadResponse size) e = absurd (let f : Uploaded (value_of size m.value) ≡ HasDownloaded = e in cc)
 response-done m AbortCommand e = absurd (let f : Aborted m.value ≡ HasDownloaded = e in cc)
-response-done m (DownloadRequest size) e = absurd (let f : Unexpected ≡ HasDownloaded = e in cc)
-response-done m UploadRequest e = absurd (let f : Unexpected ≡ HasDownloaded = e in cc)
-response-done m (OtherCommand n) e = absurd (let f : Unexpected ≡ HasDownloaded = e in cc)
+response-done m _ e = absurd (let f : Unexpected ≡ HasDownloaded = e in cc)
 
 abort-done : (m : Message) (c : Sdo) → abort_in m c ≡ HasDownloaded → ⊥
 abort-done m AbortCommand e = let f : Aborted m.value ≡ HasDownloaded = e in cc
-abort-done m DownloadResponse e = let f : Unexpected ≡ HasDownloaded = e in cc
-abort-done m (UploadResponse size) e = let f : Unexpected ≡ HasDownloaded = e in cc
-abort-done m (DownloadRequest size) e = let f : Unexpected ≡ HasDownloaded = e in cc
-abort-done m UploadRequest e = let f : Unexpected ≡ HasDownloaded = e in cc
-abort-done m (OtherCommand n) e = let f : Unexpected ≡ HasDownloaded = e in cc
+abort-done m _ e = let f : Unexpected ≡ HasDownloaded = e in cc
 
 service-done : (m : Message) (s : Service) → reply_by m s ≡ HasDownloaded → m.command ≡ DownloadResponse
 service-done m Response e = response-done m m.command e

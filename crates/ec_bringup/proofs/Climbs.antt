@@ -1,5 +1,5 @@
 -- From one frame to the next, and from the first to the last: an undisturbed start-up goes on as its script says.
-use Rattle.std.proofs.Common.{ℕ, zero, suc, ◌+◌, ◌^◌, ◌<◌, ◌≤◌, ◌≡◌, true, false, refl, sym, ◌∙◌, ap, subst, arith, List, [], ◌∷◌, length, map, drop, get_or, nat_lt}
+use Rattle.std.proofs.Common.{ℕ, zero, suc, ◌+◌, ◌^◌, ◌<◌, ◌≤◌, ◌≡◌, true, false, refl, sym, ◌∙◌, ap, subst, arith, List, [], ◌∷◌, length, map, drop, get_or, nat_lt, ◌==◌, Bool, Option, Some, None, if◌then◌else◌, ◌++◌}
 use Rattle.std.proofs.lemmas.Bool.{lt-ltb, le-ltb}
 use Rattle.std.proofs.lemmas.List.{length-map}
 use Rattle.ec_bits.proofs.AnyLaws.{if_true, if_false}
@@ -13,7 +13,7 @@ use Rattle.ec_link.specs.declared.settings.SlavePlan.{SlavePlan}
 use Rattle.ec_start.specs.declared.action.Action.{Action}
 use Rattle.ec_start.specs.declared.action.Action.TheVariants.{CountSlaves, AskInit, AwaitInit, ClearFmmus, ClearManagers, ClearStations, NameSlave, AskWord, AwaitWord, SetManager, SetFmmu, AskState, AwaitState, SendRequest, AwaitReply}
 use Rattle.ec_start.specs.Actions.{datagram_of}
-use Rattle.ec_start.specs.Scripts.{script}
+use Rattle.ec_start.specs.Scripts.{script, named, identified, mailbox_set, raised, exchanged, talked, fmmu_set, mapped, each_slave, cleared, phases, requests}
 use Rattle.ec_start.specs.Verdicts.{with_word, verdict}
 use Rattle.ec_start.specs.Running.{StartState, action_of, type_of, sending, advanced, with_shown, judged}
 use Rattle.ec_start.specs.declared.phase.Phase.TheVariants.{Idle, Ready}
@@ -21,18 +21,23 @@ use Rattle.ec_bringup.specs.Stages.{Stage, Up, Config, after}
 use Rattle.ec_bringup.specs.Instants.{Leads}
 use Rattle.ec_bringup.specs.Standing.{Stands}
 use Rattle.ec_bringup.specs.Frames.{MayEnd}
-use Rattle.ec_bringup.specs.Undisturbed.{all_passed, all_met, Rising, frame_at, turned}
+use Rattle.ec_bringup.specs.Undisturbed.{all_passed, all_met, Rising, frame_at, turned, plan_at}
 use Rattle.ec_bringup.specs.BringUp.{rising}
 use Rattle.ec_bringup.specs.Applied.{TurnsTo, Stays, Turns}
 use Rattle.ec_bringup.proofs.PassLaws.{take-law}
 use Rattle.ec_bringup.proofs.Messages.{stands-served}
-use Rattle.ec_bringup.proofs.Sendable.{IsSendable, datagram-good}
+use Rattle.ec_bringup.proofs.Sends.{IsSendable, datagram-good}
 use Rattle.ec_bringup.proofs.Commands.{word_of}
 use Rattle.ec_bringup.proofs.Shown.{Tells}
 use Rattle.ec_bringup.proofs.Next.{Prior, Prompted, Bless}
-use Rattle.ec_bringup.proofs.Passed.{Each, Priors, After, pass-all, spelled-served}
+use Rattle.ec_bringup.proofs.Passed.{Each, Priors, After, pass-all, spelled-served, wanted, IsInside, Told, sets-out, comes-back}
 use Rattle.ec_bringup.proofs.Applying.{Stood, stood-applied, each-applied, applied-length}
-use Rattle.ec_bringup.proofs.Goes.{wanted, IsInside, Told, sets-out, comes-back}
+use Rattle.ec_device.specs.declared.slave_type.Mailbox.{Mailbox}
+use Rattle.ec_al.specs.declared.state.State.{State}
+use Rattle.ec_al.specs.declared.state.State.TheVariants.{PreOp, SafeOp, Op}
+use Rattle.ec_start.specs.Plans.{settings_at, fmmu_at}
+use Rattle.ec_start.specs.declared.action.SdoRequest.{SdoRequest}
+use Rattle.ec_bringup.specs.Complete.{IsReachable, CanReach}
 
 -- ---- what is asked of the actions ahead
 
@@ -84,21 +89,8 @@ told-next types seen n a (AwaitReply t b r) i p h = tt
 -- ---- the start-up goes on
 
 judged-wanted : (types : ℕ → Device) (s : StartState) (a : Action) → action_of s ≡ a → judged s (wanted types a) ≡ advanced s (seen_by types s.seen a)
-judged-wanted types s CountSlaves e = refl
-judged-wanted types s AskInit e = refl
-judged-wanted types s AwaitInit e = refl
-judged-wanted types s ClearFmmus e = refl
-judged-wanted types s ClearManagers e = refl
-judged-wanted types s ClearStations e = refl
-judged-wanted types s (NameSlave t) e = refl
-judged-wanted types s (AskWord t which) e = refl
 judged-wanted types s (AwaitWord t which) e = ap (λ (x : Action). advanced s (with_shown s x (word_of (types t) which))) e
-judged-wanted types s (SetManager t k m) e = refl
-judged-wanted types s (SetFmmu t k f) e = refl
-judged-wanted types s (AskState t to) e = refl
-judged-wanted types s (AwaitState t to) e = refl
-judged-wanted types s (SendRequest t counter b r) e = refl
-judged-wanted types s (AwaitReply t b r) e = refl
+judged-wanted types s _ e = refl
 
 -- a verdict that is wanted ends the action
 ends-by : (n step : ℕ) (seen : Device) (types : ℕ → Device) (a : Action) (d : Datagram) → verdict n step seen types a d ≡ wanted types a → MayEnd a d
@@ -106,20 +98,7 @@ ends-by n step seen types a d e = by a e
   where
     by : (x : Action) → verdict n step seen types a d ≡ wanted types x → MayEnd a d
     by (AwaitWord t which) q = (take-law n step seen types a d).1 (word_of (types t) which) q
-    by CountSlaves q = (take-law n step seen types a d).0 q
-    by AskInit q = (take-law n step seen types a d).0 q
-    by AwaitInit q = (take-law n step seen types a d).0 q
-    by ClearFmmus q = (take-law n step seen types a d).0 q
-    by ClearManagers q = (take-law n step seen types a d).0 q
-    by ClearStations q = (take-law n step seen types a d).0 q
-    by (NameSlave t) q = (take-law n step seen types a d).0 q
-    by (AskWord t which) q = (take-law n step seen types a d).0 q
-    by (SetManager t k m) q = (take-law n step seen types a d).0 q
-    by (SetFmmu t k f) q = (take-law n step seen types a d).0 q
-    by (AskState t to) q = (take-law n step seen types a d).0 q
-    by (AwaitState t to) q = (take-law n step seen types a d).0 q
-    by (SendRequest t counter b r) q = (take-law n step seen types a d).0 q
-    by (AwaitReply t b r) q = (take-law n step seen types a d).0 q
+    by _ q = (take-law n step seen types a d).0 q
 
 -- ---- places in the script
 
@@ -311,3 +290,71 @@ rises ps kinds ends stages a (b ∷ rest) r path h (suc k) e (Turns _ _ _ ss app
       λ l. let w = both.0 (omega (arith, l)) in record { idle = w.idle; good = w.good; numbers = w.numbers ∙ m },
       λ q. let w = both.1 (omega (arith, q)) in record { count = w.count; ready = w.ready; numbers = w.numbers ∙ m; each = w.each },
     )
+
+-- ---- the script as a walk: each wait stands right behind what it waits for
+
+-- actions that may stand behind any
+abbrev pub Free : ℕ → List Action → Type 0
+Free n xs = (p : Action) → Chained n p xs
+
+chain-append : (n : ℕ) (p : Action) (xs bs : List Action) → Chained n p xs → Free n bs → Chained n p (xs ++ bs)
+chain-append n p [] bs h k = k p
+chain-append n p (a ∷ xs) bs h k = (h.0, h.1, h.2, chain-append n a xs bs h.3 k)
+
+free-append : (n : ℕ) (xs bs : List Action) → Free n xs → Free n bs → Free n (xs ++ bs)
+free-append n xs bs h k = λ p. chain-append n p xs bs (h p) k
+
+each-free : (f : ℕ → SlavePlan → List Action) (n k : ℕ) (ps : List SlavePlan) → k + length ps ≤ n → ((i : ℕ) → i < length ps → CanReach (plan_at ps i).kind.mailbox)
+    → ((t : ℕ) (q : SlavePlan) → t < n → CanReach q.kind.mailbox → Free n (f t q)) → Free n (each_slave f k ps)
+each-free f n k [] l r h = λ p. tt
+each-free f n k (q ∷ ps) l r h = free-append n (f k q) (each_slave f (k + 1) ps) (h k q (omega (arith, l)) (r 0 (omega arith))) (each-free f n (k + 1) ps (omega (arith, l)) (λ i b. r (suc i) (omega (arith, b))) h)
+
+named-free : (n t : ℕ) (q : SlavePlan) → t < n → Free n (named t q)
+named-free n t q l = λ p. (tt, l, tt, tt)
+
+identified-free : (n t : ℕ) (q : SlavePlan) → t < n → Free n (identified t q)
+identified-free n t q l =
+    λ p. (tt, (l, omega arith), tt, (refl, (l, omega arith), tt, (refl, (l, omega arith), tt, (refl, (l, omega arith), tt, (refl, (l, omega arith), tt, (refl, (l, omega arith), tt, tt))))))
+
+mailbox-free : (n t : ℕ) (q : SlavePlan) (o : Option Mailbox) → t < n → Free n (mailbox_set t q o)
+mailbox-free n t q None l = λ p. tt
+mailbox-free n t q (Some b) l = λ p. (tt, l, omega arith, (tt, l, omega arith, tt))
+
+raised-free : (n t : ℕ) (to : State) (q : SlavePlan) → t < n → Free n (raised to t q)
+raised-free n t to q l = λ p. (tt, l, tt, (refl, l, tt, tt))
+
+exchanged-free : (n t counter : ℕ) (b : Mailbox) (rs : List SdoRequest) → t < n → IsReachable b → Free n (exchanged t b counter rs)
+exchanged-free n t counter b [] l r = λ p. tt
+exchanged-free n t counter b (x ∷ rs) l r = λ p. (tt, l, r, ((counter, refl), l, r, exchanged-free n t (counter + 1) b rs l r (AwaitReply t b x)))
+
+talked-free : (n t : ℕ) (q : SlavePlan) (o : Option Mailbox) → t < n → CanReach o → Free n (talked t q o)
+talked-free n t q None l r = λ p. tt
+talked-free n t q (Some b) l r = exchanged-free n t 0 b (requests q) l r
+
+manager-free : (n t k : ℕ) (q : SlavePlan) (b : Bool) → t < n → k < 4 → Free n (if b then [] else SetManager t k (settings_at q.managers k) ∷ [])
+manager-free n t k q true l f = λ p. tt
+manager-free n t k q false l f = λ p. (tt, l, f, tt)
+
+fmmu-free : (n t k : ℕ) (q : SlavePlan) (b : Bool) → t < n → k < 4 → Free n (fmmu_set t q k b)
+fmmu-free n t k q true l f = λ p. (tt, l, f, tt)
+fmmu-free n t k q false l f = λ p. tt
+
+mapped-free : (n t : ℕ) (q : SlavePlan) → t < n → Free n (mapped t q)
+mapped-free n t q l =
+    free-append n _ _ (manager-free n t 2 q ((settings_at q.managers 2).activate == 0) l (omega arith))
+    (free-append n _ _ (manager-free n t 3 q ((settings_at q.managers 3).activate == 0) l (omega arith))
+    (free-append n _ _ (fmmu-free n t 0 q (fmmu_at q.fmmus 0).active l (omega arith)) (fmmu-free n t 1 q (fmmu_at q.fmmus 1).active l (omega arith))))
+
+pub phases-free : (ps : List SlavePlan) → ((i : ℕ) → i < length ps → CanReach (plan_at ps i).kind.mailbox) → Free (length ps) (phases ps)
+phases-free ps r =
+    let n : ℕ = length ps in
+    let k : 0 + length ps ≤ length ps = omega arith in
+    free-append (length ps) cleared _ (λ p. (tt, tt, tt, (refl, tt, tt, (tt, tt, tt, (tt, tt, tt, (tt, tt, tt, tt))))))
+    (free-append (length ps) (each_slave named 0 ps) _ (each-free named (length ps) 0 ps k r (λ t q l c. named-free (length ps) t q l))
+    (free-append (length ps) (each_slave identified 0 ps) _ (each-free identified (length ps) 0 ps k r (λ t q l c. identified-free (length ps) t q l))
+    (free-append (length ps) (each_slave (λ i q. mailbox_set i q q.kind.mailbox) 0 ps) _ (each-free (λ i q. mailbox_set i q q.kind.mailbox) (length ps) 0 ps k r (λ t q l c. mailbox-free (length ps) t q q.kind.mailbox l))
+    (free-append (length ps) (each_slave (raised PreOp) 0 ps) _ (each-free (raised PreOp) (length ps) 0 ps k r (λ t q l c. raised-free (length ps) t PreOp q l))
+    (free-append (length ps) (each_slave (λ i q. talked i q q.kind.mailbox) 0 ps) _ (each-free (λ i q. talked i q q.kind.mailbox) (length ps) 0 ps k r (λ t q l c. talked-free (length ps) t q q.kind.mailbox l c))
+    (free-append (length ps) (each_slave mapped 0 ps) _ (each-free mapped (length ps) 0 ps k r (λ t q l c. mapped-free (length ps) t q l))
+    (free-append (length ps) (each_slave (raised SafeOp) 0 ps) _ (each-free (raised SafeOp) (length ps) 0 ps k r (λ t q l c. raised-free (length ps) t SafeOp q l))
+    (each-free (raised Op) (length ps) 0 ps k r (λ t q l c. raised-free (length ps) t Op q l)))))))))

@@ -11,18 +11,22 @@ use Rattle.ec_bringup.specs.Standing.{Stands}
 use Rattle.ec_bringup.specs.Complete.{IsIdentity}
 use Rattle.ec_bringup.specs.Undisturbed.{AreDevices, ArePlans, Rising, unplanned, plan_at, slave_of}
 use Rattle.ec_bringup.specs.BringUp.{rising}
-use Rattle.ec_bringup.specs.Applied.{TurnsTo, Stays, Turns}
-use Rattle.ec_bringup.specs.ComesUp.{IsOnItsWay}
+use Rattle.ec_bringup.specs.Applied.{TurnsTo, Stays, Turns, AppliedUpLaw}
+use Rattle.ec_bringup.specs.ComesUp.{IsOnItsWay, ComesUpLaw, CompiledUpLaw, IsUpAndWorks}
 use Rattle.ec_bringup.specs.Turned.{IsBroughtUp, StandsUpLaw}
-use Rattle.ec_bringup.proofs.Ends.{script-leads}
-use Rattle.ec_bringup.proofs.Sendable.{datagram-good}
+use Rattle.ec_bringup.proofs.Leading.{script-leads}
+use Rattle.ec_bringup.proofs.Sends.{datagram-good}
 use Rattle.ec_bringup.proofs.Commands.{word_of}
 use Rattle.ec_bringup.proofs.Passed.{Each}
-use Rattle.ec_bringup.proofs.Applying.{Stood}
-use Rattle.ec_bringup.proofs.Climbs.{IsPath, IsNow, IsWaiting, HasRisen, rises}
-use Rattle.ec_bringup.proofs.Chains.{phases-free}
+use Rattle.ec_bringup.proofs.Applying.{Stood, turns-to}
+use Rattle.ec_bringup.proofs.Climbs.{IsPath, IsNow, IsWaiting, HasRisen, rises, phases-free}
 use Rattle.ec_bringup.proofs.Blessings.{phases-blessed}
 use Rattle.ec_bringup.proofs.Granting.{is-lively}
+use Rattle.std.proofs.lemmas.Bool.{both_ways}
+use Rattle.ec_bringup.specs.Runs.{Works, Shown, Working, Faulted, WasReset}
+use Rattle.ec_link.specs.Plan.{plan_of}
+use Rattle.ec_bringup.proofs.CompleteLaws.{are-plans}
+use Rattle.ec_bringup.proofs.Theorem.{stands-shown}
 
 -- ---- places and lists
 
@@ -116,3 +120,30 @@ none-up from (s ∷ ss) d k e turns = absurd (let c = d.count in omega (arith, c
 pub stands-up : StandsUpLaw
 stands-up [] h from ss d k e turns = none-up from ss d k e turns
 stands-up (p ∷ ps) h from ss d k e turns = brought-up p ps from ss h d k e turns
+
+-- ---- an undisturbed start-up ends Ready, in the words of a world
+
+works-of : (i : ℕ) (p : SlavePlan) (s : SlaveState) → Shown i p false s → Works i p s
+works-of i p s (Working h) = h
+works-of i p s (Faulted t h) = absurd (both_ways false refl t)
+works-of i p s (WasReset t h) = absurd (both_ways false refl t)
+
+works-by : (ps : List SlavePlan) → ArePlans ps → (number : ℕ) (r : Rising) → IsBroughtUp ps number r → IsUpAndWorks ps number r
+works-by ps h number r k = record {
+  ready = k.ready;
+  next_number = k.numbers;
+  count = k.count;
+  work = λ i l. works-of i (plan_at ps i) _ (stands-shown i (plan_at ps i) false _ (h.planned i l) (k.slaves i l));
+}
+
+pub applied_up : AppliedUpLaw
+applied_up ps h from ss d k e turns = let b = stands-up ps h from ss d k e turns in (b.0, λ q. works-by ps h (from + k) e (b.1 q))
+
+pub comes-up : ComesUpLaw
+comes-up ps h from ss d = (
+  (applied_up ps h from ss d (length (script ps)) _ (turns-to (length (script ps)) (rising (begun ps from) ss))).1 refl,
+  λ k l. (applied_up ps h from ss d k _ (turns-to k (rising (begun ps from) ss))).0 l,
+)
+
+pub compiled-up : CompiledUpLaw
+compiled-up t sound free from ss d = comes-up (plan_of t).slaves (are-plans t sound free) from ss d

@@ -29,7 +29,7 @@ use Rattle.ec_start.specs.Actions.{station, datagram_of, word_place}
 use Rattle.ec_bringup.specs.Stages.{IsStepUp}
 use Rattle.ec_bringup.specs.Standing.{IsAsked}
 use Rattle.ec_bringup.specs.Undisturbed.{IsSpelled}
-use Rattle.ec_bringup.proofs.Counts.{register-goes}
+use Rattle.ec_bringup.proofs.Polls.{register-goes}
 use Rattle.ec_slave.proofs.FirmwareSteps.{settles}
 
 -- ---- they count
@@ -71,16 +71,7 @@ pub answer-granted : (from to : State) (checks : Checks) → IsStepUp from to �
 answer-granted Init PreOp checks h p = if_true _ _ _ p
 answer-granted PreOp SafeOp checks h p = if_true _ _ _ p.0 ∙ if_true _ _ _ p.1
 answer-granted SafeOp Op checks h p = refl
-answer-granted Init Init checks h p = absurd h
-answer-granted Init SafeOp checks h p = absurd h
-answer-granted Init Op checks h p = absurd h
-answer-granted PreOp Init checks h p = absurd h
-answer-granted PreOp PreOp checks h p = absurd h
-answer-granted PreOp Op checks h p = absurd h
-answer-granted SafeOp Init checks h p = absurd h
-answer-granted SafeOp PreOp checks h p = absurd h
-answer-granted SafeOp SafeOp checks h p = absurd h
-answer-granted Op to checks h p = absurd h
+answer-granted _ _ checks h p = absurd h
 
 -- in the state, without an error
 pub record IsThere (state : State) (s : SlaveState) : Type 0 where

@@ -1,6 +1,7 @@
 -- A world that starts up goes on starting up: by the laws of one slave.
-use Rattle.std.proofs.Common.{ℕ, zero, suc, ◌+◌, ◌<◌, ◌≤◌, ◌≡◌, ◌≢◌, ◌==◌, Bool, false, refl, sym, ◌∙◌, ap, subst, inl, inr, arith, List, [], ◌∷◌, length, drop, set, get_or, length-set, get_or-set_same, get_or-set_other}
+use Rattle.std.proofs.Common.{ℕ, ◌+◌, ◌<◌, ◌≤◌, ◌≡◌, ◌≢◌, ◌==◌, Bool, false, refl, sym, ◌∙◌, subst, inl, inr, arith, List, length, drop, set, length-set, get_or-set_same, get_or-set_other}
 use Rattle.std.proofs.lemmas.Bool.{cases_Bool, cases_lt, cases_eq, lt-ltb, le-ltb}
+use Rattle.std.proofs.lemmas.List.{drop_more, drop_all}
 use Rattle.ec_bits.proofs.AnyLaws.{if_true, if_false}
 use Rattle.ec_device.specs.Types.{SlaveKind}
 use Rattle.ec_frame.specs.Datagram.{Datagram, IsDatagram}
@@ -23,19 +24,6 @@ use Rattle.ec_bringup.specs.Standing.{IsOfKind, Stands}
 use Rattle.ec_bringup.specs.Frames.{Arrives, MayRepeat, MayEnd, Met}
 use Rattle.ec_bringup.specs.Runs.{with_passed, with_start, with_slave}
 use Rattle.ec_bringup.specs.Starting.{Carried, Starting, no_slave, slave_at, trouble_at, kind_at, AreSlaves}
-
-drop_next : (xs : List Action) (k : ℕ) → k < length xs → drop k xs ≡ get_or xs k CountSlaves ∷ drop (k + 1) xs
-drop_next [] k l = absurd (omega arith)
-drop_next (x ∷ xs) zero l = refl
-drop_next (x ∷ xs) (suc k) l =
-    let e : suc k + 1 ≡ suc (k + 1) = omega arith in
-    drop_next xs k (omega arith) ∙ ap (λ (n : ℕ). get_or xs k CountSlaves ∷ drop n (x ∷ xs)) (sym e)
-
-drop_all : (xs : List Action) (k : ℕ) → length xs ≤ k → drop k xs ≡ []
-drop_all [] zero l = refl
-drop_all [] (suc k) l = refl
-drop_all (x ∷ xs) zero l = absurd (omega arith)
-drop_all (x ∷ xs) (suc k) l = drop_all xs k (omega arith)
 
 -- ---- a frame passes a slave
 
@@ -87,7 +75,7 @@ pass-met law later w c stages l e few fits good arrives met =
 fits_now : (w : Starting) (ends : ℕ → Config) (stages : ℕ → Stage) → w.start.place < length (script w.start.plan)
     → AreAhead w.start.plan (drop w.start.place (script w.start.plan)) ends stages
     → (i : ℕ) → i < length w.start.plan → Fits i (stages i) (action_of w.start) × Leads i (after i (stages i) (action_of w.start)) (drop (w.start.place + 1) (script w.start.plan)) (Up (ends i))
-fits_now w ends stages l ahead i b = subst (λ (xs : List Action). Leads i (stages i) xs (Up (ends i))) (drop_next (script w.start.plan) w.start.place l) (ahead.each i b)
+fits_now w ends stages l ahead i b = subst (λ (xs : List Action). Leads i (stages i) xs (Up (ends i))) (drop_more (script w.start.plan) w.start.place CountSlaves l) (ahead.each i b)
 
 -- the frame passes the next slave
 pub pass-starts : SlaveLaw → FrameLaw → LaterLaw → (ends : ℕ → Config) (w : Starting) → AreSlaves w → (u : IsUnderWay ends w) → u.carried.passed < length w.start.plan
@@ -138,7 +126,7 @@ done-starts ends w seen h u e m =
           stand = record {
             each = λ i b.
                 let end : after i (u.stages i) (action_of w.start) ≡ Up (ends i)
-                = subst (λ (xs : List Action). Leads i (after i (u.stages i) (action_of w.start)) xs (Up (ends i))) (drop_all (script w.start.plan) (w.start.place + 1) l) (leads i b) in
+                = subst (λ (xs : List Action). Leads i (after i (u.stages i) (action_of w.start)) xs (Up (ends i))) (drop_all (w.start.place + 1) (script w.start.plan) l) (leads i b) in
                 subst (λ (st : Stage). Stands (kind_at w.start.plan i) i st (trouble_at w.troubles i) (slave_at w.slaves i)) end (stood i b);
           };
         })

@@ -139,16 +139,12 @@ fault-reached i (Down f m) s e l h = absurd (other-state Init Op (sym h.init.sta
 fault-reached i (Up c) s e l h = inr (refl, inr (fault-up i c c.rise s refl e l h.rises h))
 
 gone-state : (st : Stage) (s : SlaveState) → IsGone st s → s.al.state ≡ Init
-gone-state Before s h = absurd h
-gone-state Called s h = absurd h
-gone-state (Down f m) s h = absurd h
 gone-state (Up c) s h = ap (λ (t : SlaveState). t.al.state) h ∙ ap (λ (a : Al). a.state) (switched_on s.kind s.identity).al
+gone-state _ s h = absurd h
 
 fault-state : (i : ℕ) (st : Stage) (s : SlaveState) → HadFault i st s → s.al.state ≡ SafeOp
-fault-state i Before s h = absurd h
-fault-state i Called s h = absurd h
-fault-state i (Down f m) s h = absurd h
 fault-state i (Up c) s h = h.faulted.state
+fault-state i _ s h = absurd h
 
 pub fault-stands : (kind : SlaveKind) (i : ℕ) (st : Stage) (trouble : Bool) (s : SlaveState) → s.al.state ≡ Op → Stands kind i st trouble s → Stands kind i st true (faulted s)
 fault-stands kind i st trouble s e h = subst (λ (t : SlaveState). Stands kind i st true t) (sym (faulted-is s e)) (record {

@@ -6,7 +6,7 @@ use Rattle.ec_device.specs.Types.{SlaveKind}
 use Rattle.ec_frame.specs.Datagram.{Datagram}
 use Rattle.ec_al.specs.Al as al
 use Rattle.ec_al.specs.declared.state.State.{State}
-use Rattle.ec_al.specs.declared.state.State.TheVariants.{Init, PreOp, SafeOp, Op}
+use Rattle.ec_al.specs.declared.state.State.TheVariants.{Op}
 use Rattle.ec_slave.proofs.Meetings.{faults, by_bytes}
 use Rattle.ec_slave.specs.State.{SlaveState, power_on}
 use Rattle.ec_slave.specs.Meeting.{slave_met, passes}
@@ -22,7 +22,7 @@ use Rattle.ec_bringup.specs.Devices.{IsGenuine, SwitchedOnLaw, DevicesLaw, RingL
 use Rattle.ec_bringup.proofs.Composes.{set_one}
 use Rattle.ec_bringup.proofs.Devices.{Same, true-on, met-same, served-same, put-same, got-by, fault-same, on-true, reset-true, device-of}
 use Rattle.ec_bringup.proofs.Events.{fault-stands, put-stands, got-stands}
-use Rattle.ec_bringup.proofs.Keeps.{slave-law}
+use Rattle.ec_bringup.proofs.Keeping.{slave-law}
 use Rattle.ec_bringup.proofs.Messages.{stands-served}
 use Rattle.ec_bringup.proofs.Resets.{power_on_is}
 
@@ -64,10 +64,8 @@ fault-kind kind s h = by s.al.state refl
     none e = subst (IsOfKind kind) (sym ((faults s).elsewhere e)) h
 
     by : (a : State) → s.al.state ≡ a → IsOfKind kind (faulted s)
-    by Init e = none (ap al.is_operational e)
-    by PreOp e = none (ap al.is_operational e)
-    by SafeOp e = none (ap al.is_operational e)
     by Op e = (fault-stands kind 0 Before false s e (stands kind s h)).slave
+    by _ e = none (ap al.is_operational e)
 
 reset : (kind : SlaveKind) (s : SlaveState) → IsGenuine kind s → IsGenuine kind (power_on s.kind s.identity)
 reset kind s h = record {

@@ -20,7 +20,7 @@ use Rattle.ec_start.specs.Planned.{AreMailboxes, IsStartable}
 use Rattle.ec_bringup.specs.Standing.{IsAssigned}
 use Rattle.ec_bringup.specs.Complete.{IsComplete, carries}
 use Rattle.ec_bringup.proofs.Assigns.{assignment-held}
-use Rattle.ec_bringup.proofs.Ends.{boxed, mapped_to}
+use Rattle.ec_bringup.proofs.Leading.{boxed, mapped_to}
 use Rattle.ec_bringup.proofs.Next.{Grants}
 use Rattle.ec_bringup.proofs.Blessings.{IsLively}
 use Rattle.ec_bringup.proofs.Offers.{requests-answered}

@@ -21,18 +21,17 @@ use Rattle.ec_start.specs.declared.action.Action.{Action}
 use Rattle.ec_start.specs.declared.action.Action.TheVariants.{CountSlaves, AskInit, AwaitInit, ClearFmmus, ClearManagers, ClearStations, NameSlave, AskWord, AwaitWord, SetManager, SetFmmu, AskState, AwaitState, SendRequest, AwaitReply}
 use Rattle.ec_start.specs.declared.action.SdoRequest.{SdoRequest}
 use Rattle.ec_start.specs.Actions.{station, sent, datagram_of, word_place, filled, request_bytes}
-use Rattle.ec_bringup.specs.Stages.{Rise, Stays, Climbs, Config, Stage, Before, Called, Down, Up, Talk, told, climbing, after, Fits, CanClimb}
+use Rattle.ec_bringup.specs.Stages.{Rise, Stays, Climbs, Config, Stage, Called, Up, Talk, told, climbing, after, Fits, CanClimb}
 use Rattle.ec_bringup.specs.Standing.{IsOfKind, IsIn, Rises, Claims, IsSent, IsSilent, Talks, IsUpAt, Reached, Stands}
 use Rattle.ec_bringup.specs.Frames.{Arrives, Untouched}
 use Rattle.ec_bringup.specs.Undisturbed.{IsSpelled}
 use Rattle.ec_bringup.proofs.Owns.{own-write, window-sent}
 use Rattle.ec_slave.proofs.RegisterAccess.{registers_written as wrote}
 use Rattle.ec_bringup.proofs.Sends.{sending, delivered}
-use Rattle.ec_bringup.proofs.Messages.{stands-served}
+use Rattle.ec_bringup.proofs.Messages.{stands-served, Answers, replied}
 use Rattle.ec_slave.proofs.FirmwareSteps.{settles}
 use Rattle.ec_bringup.proofs.Commands.{Passes, IsThere, granted, word_of, HasFound, word-found}
 use Rattle.ec_bringup.proofs.Shown.{HasReply}
-use Rattle.ec_bringup.proofs.Requests.{Answers, replied}
 
 -- ---- what is asked of an action at a stage
 
@@ -242,43 +241,28 @@ Shows kind i st number d s t a b = Prior kind i st a s → Arrives a number i d 
 
 word-shows : (kind : SlaveKind) (i which : ℕ) (st : Stage) (number : ℕ) (d : Datagram) (s t : SlaveState) → i < 64 → t ≡ slave_met s d → Shows kind i st number d s t (AskWord i which) (AwaitWord i which)
 word-shows kind i which (Up c) number d s t l m h r k e = next-word kind i which c number d s t l h r m
-word-shows kind i which Before number d s t l m h r k e = absurd h.fits.1
-word-shows kind i which Called number d s t l m h r k e = absurd h.fits.1
-word-shows kind i which (Down x y) number d s t l m h r k e = absurd h.fits.1
+word-shows kind i which _ number d s t l m h r k e = absurd h.fits.1
 
 state-shows : (kind : SlaveKind) (i : ℕ) (to : State) (st : Stage) (number : ℕ) (d : Datagram) (s t : SlaveState) → i < 64 → t ≡ slave_met s d → Shows kind i st number d s t (AskState i to) (AwaitState i to)
 state-shows kind i to (Up c) number d s t l m h r k e = next-state kind i to c number d s t l h r m (mine-after (λ x. Stands kind i x false t) i _ _ k)
-state-shows kind i to Before number d s t l m h r k e = absurd h.fits.1
-state-shows kind i to Called number d s t l m h r k e = absurd h.fits.1
-state-shows kind i to (Down x y) number d s t l m h r k e = absurd h.fits.1
+state-shows kind i to _ number d s t l m h r k e = absurd h.fits.1
 
 reply-shows : (kind : SlaveKind) (i counter : ℕ) (b : Mailbox) (q : SdoRequest) (st : Stage) (number : ℕ) (d : Datagram) (s t : SlaveState) → i < 64 → t ≡ slave_met s d
     → Shows kind i st number d s t (SendRequest i counter b q) (AwaitReply i b q)
 reply-shows kind i counter b q (Up c) number d s t l m h r k e = next-reply kind i counter b q c number d s t l h r m (mine-after (λ x. Stands kind i x false t) i _ _ k)
-reply-shows kind i counter b q Before number d s t l m h r k e = absurd h.fits.1
-reply-shows kind i counter b q Called number d s t l m h r k e = absurd h.fits.1
-reply-shows kind i counter b q (Down x y) number d s t l m h r k e = absurd h.fits.1
+reply-shows kind i counter b q _ number d s t l m h r k e = absurd h.fits.1
 
 pub next-sure : (kind : SlaveKind) (i : ℕ) (st : Stage) (number : ℕ) (d : Datagram) (s t : SlaveState) (a b : Action) → i < 64 → t ≡ slave_met s d → Prompted a b → Shows kind i st number d s t a b
-next-sure kind i st number d s t a CountSlaves l m p = λ h r k. tt
-next-sure kind i st number d s t a AskInit l m p = λ h r k. tt
 next-sure kind i st number d s t a AwaitInit l m p = subst (λ (x : Action). Shows kind i st number d s t x AwaitInit) (sym p) (λ h r k. next-init kind i t k)
-next-sure kind i st number d s t a ClearFmmus l m p = λ h r k. tt
-next-sure kind i st number d s t a ClearManagers l m p = λ h r k. tt
-next-sure kind i st number d s t a ClearStations l m p = λ h r k. tt
-next-sure kind i st number d s t a (NameSlave x) l m p = λ h r k. tt
 next-sure kind i st number d s t a (AskWord x zero) l m p = λ h r k. (settles t).idle
 next-sure kind i st number d s t a (AskWord x (suc which)) l m p = λ h r k. (settles t).idle
 next-sure kind i st number d s t a (AwaitWord x which) l m p =
     λ h r k e. subst (λ (y : ℕ). Shows kind i st number d s t (AskWord y which) (AwaitWord y which)) (sym e) (word-shows kind i which st number d s t l m)
     (subst (λ (y : Action). Prior kind i st y s) p h) (subst (λ (y : Action). Arrives y number i d) p r) (subst (λ (y : Action). Stands kind i (after i st y) false t) p k) e
-next-sure kind i st number d s t a (SetManager x n q) l m p = λ h r k. tt
-next-sure kind i st number d s t a (SetFmmu x n q) l m p = λ h r k. tt
-next-sure kind i st number d s t a (AskState x to) l m p = λ h r k. tt
 next-sure kind i st number d s t a (AwaitState x to) l m p =
     λ h r k e. subst (λ (y : ℕ). Shows kind i st number d s t (AskState y to) (AwaitState y to)) (sym e) (state-shows kind i to st number d s t l m)
     (subst (λ (y : Action). Prior kind i st y s) p h) (subst (λ (y : Action). Arrives y number i d) p r) (subst (λ (y : Action). Stands kind i (after i st y) false t) p k) e
-next-sure kind i st number d s t a (SendRequest x counter b q) l m p = λ h r k. tt
 next-sure kind i st number d s t a (AwaitReply x b q) l m (counter, p) =
     λ h r k e. subst (λ (y : ℕ). Shows kind i st number d s t (SendRequest y counter b q) (AwaitReply y b q)) (sym e) (reply-shows kind i counter b q st number d s t l m)
     (subst (λ (y : Action). Prior kind i st y s) p h) (subst (λ (y : Action). Arrives y number i d) p r) (subst (λ (y : Action). Stands kind i (after i st y) false t) p k) e
+next-sure kind i st number d s t a _ l m p = λ h r k. tt

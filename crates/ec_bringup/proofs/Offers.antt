@@ -30,7 +30,7 @@ use Rattle.ec_bringup.specs.Stages.{Claim, Config, answered, claimed, talked_ove
 use Rattle.ec_bringup.specs.Standing.{Claims}
 use Rattle.ec_bringup.specs.Complete.{IsNumbered, IsOffered, AreOffered, IsAssignable, IsComplete}
 use Rattle.ec_bringup.proofs.Assigns.{claim_at, object_at, own-claim}
-use Rattle.ec_bringup.proofs.Requests.{IsWanted, Knows, Answers}
+use Rattle.ec_bringup.proofs.Messages.{IsWanted, Knows, Answers}
 use Rattle.ec_bringup.proofs.Blessings.{AllAnswers}
 
 -- ---- uploads

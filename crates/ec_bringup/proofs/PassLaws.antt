@@ -1,23 +1,33 @@
--- A frame of a start-up at a slave: all actions.
-use Rattle.std.proofs.Common.{ℕ, ◌+◌, ◌%◌, ◌<◌, ◌≡◌, ◌≢◌, ◌==◌, Bool, true, false, Option, refl, sym, ◌∙◌, subst, inl, inr, arith, if◌then◌else◌, List, slice_index}
-use Rattle.std.specs.Int.{bit_at}
-use Rattle.std.proofs.lemmas.Bool.{cases_Bool, cases_eq, eq-eqb, ne_eqb}
-use Rattle.ec_bits.proofs.AnyLaws.{if_true, if_false}
+-- The broadcast reads of a start-up at any slave.
+use Rattle.std.proofs.Common.{ℕ, ◌+◌, ◌*◌, ◌/◌, ◌%◌, ◌<◌, ◌≤◌, ◌≡◌, Bool, true, false, Some, refl, sym, ◌∙◌, ap, subst, inl, inr, arith, slice_index, ◌≢◌, ◌==◌, Option, if◌then◌else◌, List}
+use Rattle.std.specs.Prelude.{bit_or}
+use Rattle.std.specs.Int.{from_bool, bit_at}
+use Rattle.std.proofs.lemmas.Nat.{le_or_l, le_or_r}
+use Rattle.std.proofs.lemmas.Bool.{both_ways, cases_Bool, cases_eq, eq-eqb, ne_eqb}
 use Rattle.ec_device.specs.Types.{SlaveKind}
-use Rattle.ec_device.specs.declared.slave_type.Device.{Device}
-use Rattle.ec_frame.specs.Datagram.{Datagram, IsDatagram}
+use Rattle.ec_frame.specs.Datagram.{Datagram, adp_of, ado_of, IsDatagram}
 use Rattle.ec_al.specs.declared.state.State.{State}
+use Rattle.ec_al.specs.declared.state.State.TheVariants.{Init}
 use Rattle.ec_al.specs.States.{state_number}
-use Rattle.ec_slave.specs.State.{SlaveState}
-use Rattle.ec_slave.specs.Meeting.{slave_met, datagram_met}
+use Rattle.ec_slave.specs.State.{SlaveState, Met as Meeting, with_answer}
+use Rattle.ec_slave.specs.Physical.{byte_at, retold}
+use Rattle.ec_slave.specs.Meeting.{meets, slave_met, datagram_met}
+use Rattle.ec_slave.proofs.Broadcast.{broadcast_read}
+use Rattle.ec_start.specs.declared.action.Action.TheVariants.{CountSlaves, AwaitInit, AskInit, ClearFmmus, ClearManagers, ClearStations, NameSlave, AskWord, AwaitWord, SetManager, SetFmmu, AskState, AwaitState, SendRequest, AwaitReply}
+use Rattle.ec_start.specs.Actions.{datagram_of}
+use Rattle.ec_bringup.specs.Stages.{Stage, Called, Down, Before, Up, Config, Fits, IsUp}
+use Rattle.ec_bringup.specs.Standing.{IsInInit, Reached, Stands}
+use Rattle.ec_bringup.specs.Frames.{IsBroadcast, ShowsInit, Arrives, MayEnd, Met, MayRepeat}
+use Rattle.ec_slave.proofs.RegisterAccess.{shows_itself, retold_by_place}
+use Rattle.ec_bits.proofs.AnyLaws.{if_true, if_false}
+use Rattle.ec_device.specs.declared.slave_type.Device.{Device}
 use Rattle.ec_coe.specs.declared.message.Message.{Message}
 use Rattle.ec_coe.specs.declared.value.SdoValue.{SdoValue}
 use Rattle.ec_coe.specs.declared.reply.Reply.{Reply}
-use Rattle.ec_coe.specs.declared.reply.Reply.TheVariants.{Downloaded, Uploaded, Aborted, Unexpected}
+use Rattle.ec_coe.specs.declared.reply.Reply.TheVariants.{Downloaded, Uploaded}
 use Rattle.ec_coe.specs.Messages.{message_read}
 use Rattle.ec_coe.specs.Replies.{reply_of}
 use Rattle.ec_start.specs.declared.action.Action.{Action}
-use Rattle.ec_start.specs.declared.action.Action.TheVariants.{CountSlaves, AskInit, AwaitInit, ClearFmmus, ClearManagers, ClearStations, NameSlave, AskWord, AwaitWord, SetManager, SetFmmu, AskState, AwaitState, SendRequest, AwaitReply}
 use Rattle.ec_start.specs.declared.action.SdoRequest.{SdoRequest}
 use Rattle.ec_start.specs.declared.action.Transfer.{Transfer}
 use Rattle.ec_start.specs.declared.action.Transfer.TheVariants.{Download, Upload}
@@ -25,18 +35,99 @@ use Rattle.ec_start.specs.declared.verdict.Verdict.{Verdict}
 use Rattle.ec_start.specs.declared.verdict.Verdict.TheVariants.{Next, Shows, Again, Fails}
 use Rattle.ec_start.specs.declared.error.StartError.{StartError}
 use Rattle.ec_start.specs.Verdicts.{verdict, counted, word_verdict, state_verdict, message_verdict, reply_verdict, upload_verdict, word_at}
-use Rattle.ec_bringup.specs.Stages.{Stage, Before, Called, Down, Up, Config, Fits, IsUp}
-use Rattle.ec_bringup.specs.Standing.{Stands}
-use Rattle.ec_bringup.specs.Frames.{Arrives, MayRepeat, MayEnd, Met}
 use Rattle.ec_bringup.proofs.Passing.{IsOne, pass-other, later-one, one-ask-word, one-await-word, one-set-manager, one-set-fmmu, one-ask-state, one-await-state, one-send, one-await-reply}
 use Rattle.ec_bringup.proofs.Owns.{pass-ask-state}
 use Rattle.ec_bringup.proofs.Polls.{pass-await-state, pass-await-word}
 use Rattle.ec_bringup.proofs.Broadcasts.{pass-ask-init, pass-clear-fmmus, pass-clear-managers, pass-clear-stations}
-use Rattle.ec_bringup.proofs.Looks.{pass-count, pass-await-init, later-await-init}
 use Rattle.ec_bringup.proofs.Names.{pass-name}
 use Rattle.ec_bringup.proofs.Sets.{pass-ask-word, pass-set-manager, pass-set-fmmu}
 use Rattle.ec_bringup.proofs.Sends.{pass-send}
 use Rattle.ec_bringup.proofs.Receives.{pass-await-reply}
+
+-- the datagram after it
+abbrev pub looked : SlaveState → Datagram → Datagram
+looked s d = with_answer d ((adp_of d + 1) % 65536 + 65536 * ado_of d) (retold d.data_bytes (λ k. Some (bit_or (slice_index d.data_bytes k) (byte_at s (ado_of d + k))))) 1
+
+pub ado-sent : (d : Datagram) (number : ℕ) → IsBroadcast (datagram_of AwaitInit number) d → ado_of d ≡ 0x0130
+ado-sent d number h = h.ado
+
+pub look : (s : SlaveState) (d : Datagram) (number : ℕ) → IsBroadcast (datagram_of AwaitInit number) d → meets s d ≡ record { slave = s; datagram = looked s d }
+look s d number h = let a = ado-sent d number h in let l = h.data_length in broadcast_read s d h.command (omega (arith, l)) (omega (arith, a, l))
+
+pub look-on : (s : SlaveState) (d : Datagram) (number : ℕ) → IsBroadcast (datagram_of AwaitInit number) d → IsBroadcast (datagram_of AwaitInit number) (datagram_met s d)
+look-on s d number h =
+    let q : datagram_met s d ≡ looked s d = ap (λ (m : Meeting). m.datagram) (look s d number h) in
+    let e : ((adp_of d + 1) % 65536 + 65536 * ado_of d) / 65536 ≡ ado_of d = omega arith in
+    subst (λ (x : Datagram). IsBroadcast (datagram_of AwaitInit number) x) (sym q) (record { command = h.command; ado = e ∙ h.ado; data_length = (retold_by_place d.data_bytes _).long ∙ h.data_length })
+
+-- a byte grows, and it gets each slave's bits
+pub look-byte : (s : SlaveState) (d : Datagram) (number k : ℕ) → IsBroadcast (datagram_of AwaitInit number) d → k < 2 → slice_index (datagram_met s d).data_bytes k ≡ bit_or (slice_index d.data_bytes k) (byte_at s (0x0130 + k))
+look-byte s d number k h l =
+    let n = h.data_length in
+    ap (λ (m : Meeting). slice_index m.datagram.data_bytes k) (look s d number h)
+    ∙ ((retold_by_place d.data_bytes (λ k. Some (bit_or (slice_index d.data_bytes k) (byte_at s (ado_of d + k))))).each k (omega (arith, n, l))
+    ∙ ap (λ (x : ℕ). bit_or (slice_index d.data_bytes k) (byte_at s (x + k))) (ado-sent d number h))
+
+-- ---- how many slaves there are
+
+pub pass-count : (kind : SlaveKind) (i : ℕ) (st : Stage) (trouble : Bool) (number : ℕ) (d : Datagram) (s : SlaveState)
+    → Arrives CountSlaves number i d → Stands kind i st trouble s → Met kind i st trouble CountSlaves (datagram_met s d) (slave_met s d) × Arrives CountSlaves number (i + 1) (datagram_met s d)
+pass-count kind i st trouble number d s arrives h =
+    let q : slave_met s d ≡ s = ap (λ (m : Meeting). m.slave) (look s d number arrives) in
+    (record { other = λ o. absurd o; repeated = λ o. absurd o; ended = λ _. subst (λ (t : SlaveState). Stands kind i st trouble t) (sym q) h }, look-on s d number arrives)
+
+-- ---- all in INIT
+
+low-state : (st : State) (e : Bool) → state_number st + 16 * from_bool e ≤ 1 → (st ≡ Init) × (e ≡ false)
+low-state Init false l = (refl, refl)
+low-state _ _ l = absurd (omega (arith, l))
+
+shows-more : (s : SlaveState) (d : Datagram) (number : ℕ) → IsBroadcast (datagram_of AwaitInit number) d → ShowsInit (datagram_met s d) → ShowsInit d × (byte_at s 0x0130 ≤ 1)
+shows-more s d number h k =
+    let a : bit_or (slice_index d.data_bytes 0) (byte_at s 0x0130) ≤ 1 = subst (λ (x : ℕ). x ≤ 1) (look-byte s d number 0 h (omega arith)) k.low in
+    let b : bit_or (slice_index d.data_bytes 1) (byte_at s 0x0131) ≡ 0 = sym (look-byte s d number 1 h (omega arith)) ∙ k.high in
+    let x = le_or_l (slice_index d.data_bytes 0) (byte_at s 0x0130) in
+    let y = le_or_r (slice_index d.data_bytes 0) (byte_at s 0x0130) in
+    let z = le_or_l (slice_index d.data_bytes 1) (byte_at s 0x0131) in
+    (record { low = omega (arith, a, x); high = omega (arith, b, z) }, omega (arith, a, y))
+
+-- a slave that a datagram passes later doesn't make it better
+pub later-await-init : (s : SlaveState) (d : Datagram) (number j : ℕ) → Arrives AwaitInit number j d → MayEnd AwaitInit (datagram_met s d) → MayEnd AwaitInit d
+later-await-init s d number j h k = (shows-more s d number h k).0
+
+init-shown : (i : ℕ) (s : SlaveState) → byte_at s 0x0130 ≤ 1 → Reached i Called s → IsInInit s
+init-shown i s l (inl h) =
+    let k = low-state s.al.state s.al.error (subst (λ (x : ℕ). x ≤ 1) (shows_itself s).status l) in
+    record { state = k.0; no_error = k.1; asked = λ _. h.1 }
+init-shown i s l (inr h) = h
+
+called-of : (kind : SlaveKind) (i : ℕ) (trouble : Bool) (s : SlaveState) → Stands kind i Called trouble s → Reached i Called s
+called-of kind i trouble s h = elim h.at [
+  | inl r ↦ r
+  | inr (t, inl g) ↦ absurd g
+  | inr (t, inr g) ↦ absurd g
+]
+
+pub pass-await-init : (kind : SlaveKind) (i : ℕ) (trouble : Bool) (number : ℕ) (d : Datagram) (s : SlaveState)
+    → Arrives AwaitInit number i d → Stands kind i Called trouble s → Met kind i Called trouble AwaitInit (datagram_met s d) (slave_met s d) × Arrives AwaitInit number (i + 1) (datagram_met s d)
+pass-await-init kind i trouble number d s arrives h =
+    let q : slave_met s d ≡ s = ap (λ (m : Meeting). m.slave) (look s d number arrives) in (
+      record {
+        other = λ o. absurd o;
+        repeated = λ _. subst (λ (t : SlaveState). Stands kind i Called trouble t) (sym q) h;
+        ended = λ m. subst (λ (t : SlaveState). Stands kind i (Down false false) trouble t) (sym q) (record {
+          slave = h.slave;
+          at = inl (record {
+            init = init-shown i s (shows-more s d number arrives m).1 (called-of kind i trouble s h);
+            fmmus = λ e. absurd (both_ways false refl e);
+            managers = λ e. absurd (both_ways false refl e);
+          });
+        });
+      },
+      look-on s d number arrives,
+    )
+
+-- ---- a frame of a start-up at a slave: all actions
 
 split : (t i : ℕ) (P : ℕ → Type 0) → P i → (t ≢ i → P t) → P t
 split t i P own other = elim (cases_eq t i) [
@@ -77,18 +168,7 @@ pass-law kind i st trouble (AskState t to) number d s l good f r h = by-one kind
 pass-law kind i st trouble (AwaitState t to) number d s l good f r h = by-one kind i t st trouble number d s (λ x. AwaitState x to) l good (λ x. one-await-state x to number) (λ c e f r h. pass-await-state kind i c trouble to number d s l (f.2 refl) good r h) f r h
 pass-law kind i st trouble (SendRequest t counter b q) number d s l good f r h = by-one kind i t st trouble number d s (λ x. SendRequest x counter b q) l good (λ x. one-send x counter b q number) (λ c e f r h. pass-send kind i counter b q c trouble number d s l (f.2 refl) good r h) f r h
 pass-law kind i st trouble (AwaitReply t b q) number d s l good f r h = by-one kind i t st trouble number d s (λ x. AwaitReply x b q) l good (λ x. one-await-reply x b q number) (λ c e f r h. pass-await-reply kind i b q c trouble number d s l (f.2 refl) good r h) f r h
-pass-law kind i Before trouble AwaitInit number d s l good f r h = absurd f
-pass-law kind i (Down x y) trouble AwaitInit number d s l good f r h = absurd f
-pass-law kind i (Up c) trouble AwaitInit number d s l good f r h = absurd f
-pass-law kind i Before trouble ClearFmmus number d s l good f r h = absurd f
-pass-law kind i Called trouble ClearFmmus number d s l good f r h = absurd f
-pass-law kind i (Up c) trouble ClearFmmus number d s l good f r h = absurd f
-pass-law kind i Before trouble ClearManagers number d s l good f r h = absurd f
-pass-law kind i Called trouble ClearManagers number d s l good f r h = absurd f
-pass-law kind i (Up c) trouble ClearManagers number d s l good f r h = absurd f
-pass-law kind i Before trouble ClearStations number d s l good f r h = absurd f
-pass-law kind i Called trouble ClearStations number d s l good f r h = absurd f
-pass-law kind i (Up c) trouble ClearStations number d s l good f r h = absurd f
+pass-law kind i _ trouble _ number d s l good f r h = absurd f
 
 -- ---- a slave that was passed, when the frame passes a later one
 
@@ -97,13 +177,7 @@ Later kind i st trouble other j sj had number d s t a =
     Fits j sj a → Arrives a number j d → Stands other j sj had t → Met kind i st trouble a d s → Met kind i st trouble a (datagram_met t d) s
 
 pub later-law : (kind : SlaveKind) (i : ℕ) (st : Stage) (trouble : Bool) (other : SlaveKind) (j : ℕ) (sj : Stage) (had : Bool) (a : Action) (number : ℕ) (d : Datagram) (s t : SlaveState) → i < j → j < 64 → IsDatagram d → Later kind i st trouble other j sj had number d s t a
-later-law kind i st trouble other j sj had CountSlaves number d s t l b good f r h m = record { other = m.other; repeated = λ o. absurd o; ended = λ o. m.ended tt }
-later-law kind i st trouble other j sj had AskInit number d s t l b good f r h m = record { other = m.other; repeated = λ o. absurd o; ended = λ o. m.ended tt }
 later-law kind i st trouble other j sj had AwaitInit number d s t l b good f r h m = record { other = m.other; repeated = λ o. m.repeated tt; ended = λ o. m.ended (later-await-init t d number j r o) }
-later-law kind i st trouble other j sj had ClearFmmus number d s t l b good f r h m = record { other = m.other; repeated = λ o. absurd o; ended = λ o. m.ended tt }
-later-law kind i st trouble other j sj had ClearManagers number d s t l b good f r h m = record { other = m.other; repeated = λ o. absurd o; ended = λ o. m.ended tt }
-later-law kind i st trouble other j sj had ClearStations number d s t l b good f r h m = record { other = m.other; repeated = λ o. absurd o; ended = λ o. m.ended tt }
-later-law kind i st trouble other j sj had (NameSlave x) number d s t l b good f r h m = record { other = m.other; repeated = λ o. absurd o; ended = λ o. m.ended tt }
 later-law kind i st trouble other j sj had (AskWord x which) number d s t l b good f r h m = later-one kind i st trouble other j x sj had (AskWord x which) number d s t (one-ask-word x which number) l b f good r h m
 later-law kind i st trouble other j sj had (AwaitWord x which) number d s t l b good f r h m = later-one kind i st trouble other j x sj had (AwaitWord x which) number d s t (one-await-word x which number) l b f good r h m
 later-law kind i st trouble other j sj had (SetManager x n y) number d s t l b good f r h m = later-one kind i st trouble other j x sj had (SetManager x n y) number d s t (one-set-manager x n y number) l b f good r h m
@@ -112,6 +186,7 @@ later-law kind i st trouble other j sj had (AskState x to) number d s t l b good
 later-law kind i st trouble other j sj had (AwaitState x to) number d s t l b good f r h m = later-one kind i st trouble other j x sj had (AwaitState x to) number d s t (one-await-state x to number) l b f good r h m
 later-law kind i st trouble other j sj had (SendRequest x counter y q) number d s t l b good f r h m = later-one kind i st trouble other j x sj had (SendRequest x counter y q) number d s t (one-send x counter y q number) l b f good r h m
 later-law kind i st trouble other j sj had (AwaitReply x y q) number d s t l b good f r h m = later-one kind i st trouble other j x sj had (AwaitReply x y q) number d s t (one-await-reply x y q number) l b f good r h m
+later-law kind i st trouble other j sj had _ number d s t l b good f r h m = record { other = m.other; repeated = λ o. absurd o; ended = λ o. m.ended tt }
 
 -- ---- what a verdict says
 
@@ -141,9 +216,6 @@ again-next e = cc
 
 again-shows : (v : ℕ) → again ≡ Shows v → ⊥
 again-shows v e = cc
-
-shows-next : (v : ℕ) → Shows v ≡ Next → ⊥
-shows-next v e = cc
 
 -- the counter is right, or the start-up has failed
 counted-is : (seen expected step : ℕ) (v x : Verdict) → ((f : StartError) → Fails f ≡ x → ⊥) → counted seen expected step v ≡ x → (seen ≡ expected) × (v ≡ x)
@@ -230,13 +302,8 @@ value-ends i r wanted v = either-ends _ _ _ (EndsFails _) (either-ends _ _ _ End
 
 reply-ends : (i : ℕ) (r : SdoRequest) (x : Transfer) (p : Reply) → Ends (reply_verdict i r x p)
 reply-ends i r (Download w) Downloaded = EndsNext
-reply-ends i r (Download w) (Uploaded v) = EndsFails _
-reply-ends i r (Download w) (Aborted code) = EndsFails _
-reply-ends i r (Download w) Unexpected = EndsFails _
-reply-ends i r (Upload w) Downloaded = EndsFails _
 reply-ends i r (Upload w) (Uploaded v) = value-ends i r w v
-reply-ends i r (Upload w) (Aborted code) = EndsFails _
-reply-ends i r (Upload w) Unexpected = EndsFails _
+reply-ends i r _ _ = EndsFails _
 
 message-ends : (i : ℕ) (r : SdoRequest) (o : Option Message) → Ends (message_verdict i r o)
 message-ends i r o = reply-ends i r r.transfer (reply_of r.index r.subindex o)

@@ -13,7 +13,7 @@ use Rattle.ec_start.specs.declared.action.Action.{Action}
 use Rattle.ec_start.specs.declared.action.Action.TheVariants.{AskWord, AwaitWord, SetManager, SetFmmu, AskState, AwaitState, SendRequest, AwaitReply}
 use Rattle.ec_start.specs.declared.action.SdoRequest.{SdoRequest}
 use Rattle.ec_start.specs.Actions.{station, at, datagram_of}
-use Rattle.ec_bringup.specs.Stages.{Stage, Before, Called, Down, Up, if_mine, after, Fits, FitsMine, IsUp}
+use Rattle.ec_bringup.specs.Stages.{Stage, Up, if_mine, after, Fits, FitsMine, IsUp}
 use Rattle.ec_bringup.specs.Standing.{Stands}
 use Rattle.ec_slave.proofs.SwitchedOn.{switched_on}
 use Rattle.ec_bringup.specs.Frames.{Untouched, ReadsOn, Arrives, IsOther, Met}
@@ -27,14 +27,12 @@ station-zero s e =
 
 -- a slave that has its station address, or lost it
 station-up : (kind : SlaveKind) (i : ℕ) (st : Stage) (trouble : Bool) (s : SlaveState) → IsUp st → Stands kind i st trouble s → (station_of s ≡ station i) ⊎ (station_of s ≡ 0)
-station-up kind i Before trouble s u h = absurd u
-station-up kind i Called trouble s u h = absurd u
-station-up kind i (Down f m) trouble s u h = absurd u
 station-up kind i (Up c) trouble s u h = elim h.at [
   | inl r ↦ inl r.configured.station_is
   | inr (e, inl g) ↦ inr (station-zero s g)
   | inr (e, inr g) ↦ inl g.faulted.configured.station_is
 ]
+station-up kind i _ trouble s u h = absurd u
 
 -- ---- a datagram for another slave passes
 

@@ -1,34 +1,36 @@
 -- A poll of registers at the slave that it is for.
 use Rattle.std.proofs.Common.{ℕ, ◌+◌, ◌*◌, ◌%◌, ◌<◌, ◌≤◌, ◌≡◌, ◌≢◌, ◌⊎◌, Bool, true, false, Option, None, refl, sym, ◌∙◌, ap, subst, inl, inr, arith, List, length, slice_index}
 use Rattle.std.specs.Int.{bit_at, from_bool}
-use Rattle.std.proofs.lemmas.Bool.{eq-eqb, both_ways}
+use Rattle.std.proofs.lemmas.Bool.{eq-eqb, both_ways, or_left}
 use Rattle.ec_bits.specs.Bits.{zeros}
-use Rattle.ec_bits.proofs.AnyLaws.{if_true}
+use Rattle.ec_bits.proofs.AnyLaws.{if_true, any_below_from}
 use Rattle.ec_device.specs.Types.{SlaveKind}
-use Rattle.ec_regs.specs.Memory.{ram_start}
+use Rattle.ec_regs.specs.Memory.{ram_start, takes_writes}
 use Rattle.ec_frame.specs.declared.command.Command.{Command}
-use Rattle.ec_frame.specs.declared.command.Command.TheVariants.{Fprd}
+use Rattle.ec_frame.specs.declared.command.Command.TheVariants.{Fprd, Apwr, Fpwr, Bwr}
 use Rattle.ec_frame.specs.Datagram.{Datagram, IsDatagram, adp_of, ado_of}
 use Rattle.ec_al.specs.declared.state.State.{State}
 use Rattle.ec_al.specs.declared.state.State.TheVariants.{Init, PreOp, SafeOp, Op}
 use Rattle.ec_al.specs.States.{state_number}
 use Rattle.ec_slave.specs.Roles.{role_of, adp_after, is_reading, is_writing, is_joining}
 use Rattle.ec_slave.specs.State.{SlaveState, Met as Meeting, station_of, power_on}
-use Rattle.ec_slave.specs.Physical.{Window, touches, physical_after, byte_at, byte_read, retold}
+use Rattle.ec_slave.specs.Physical.{Window, touches, physical_after, byte_at, byte_read, retold, may_read_byte, may_write_byte, some_byte_read, some_byte_written, is_written}
 use Rattle.ec_slave.specs.Meeting.{window_of, meets, slave_met, datagram_met}
 use Rattle.ec_slave.proofs.Bystanders.{other_station_passes}
-use Rattle.ec_slave.specs.Interface.{OnlyReads}
-use Rattle.ec_slave.proofs.Meetings.{reads_meet, goes_on}
+use Rattle.ec_slave.specs.Interface.{OnlyReads, OnlyWrites}
+use Rattle.ec_slave.proofs.Meetings.{reads_meet, goes_on, writes_meet}
 use Rattle.ec_slave.proofs.RegisterAccess.{registers_open, registers_read, shows_itself}
 use Rattle.ec_slave.proofs.Bytes.{reads_by_byte}
 use Rattle.ec_start.specs.declared.action.Action.{Action}
 use Rattle.ec_start.specs.declared.action.Action.TheVariants.{AwaitState, AwaitWord}
-use Rattle.ec_start.specs.Actions.{station, at}
+use Rattle.ec_start.specs.Actions.{station, at, sent}
 use Rattle.ec_bringup.specs.Stages.{Rise, Stays, Climbs, Config, Stage, Up, Talk, told, after, CanTell, IsClimbing, IsStepUp, IsLow}
 use Rattle.ec_bringup.specs.Standing.{IsConfigured, IsIn, StaysIn, Rises, IsSilent, Talks, IsUpAt, Reached, IsGone, IsFaulted, IsTop, HadFault, Stands}
 use Rattle.ec_bringup.specs.Frames.{Untouched, ReadsOn, Arrives, IsOther, MayEnd, Met}
 use Rattle.ec_bringup.proofs.Passing.{IsOne, one-await-state, one-await-word, station-zero}
-use Rattle.ec_bringup.proofs.Owns.{window-sent}
+use Rattle.ec_bringup.proofs.Owns.{window-sent, own-writes}
+use Rattle.ec_bringup.proofs.Names.{position-writes}
+use Rattle.ec_bringup.proofs.Broadcasts.{broadcast-writes}
 
 pub reads : (s : SlaveState) (d : Datagram) → d.command ≡ Fprd → adp_of d ≡ station_of s → is_reading (role_of d.command (adp_of d) (station_of s)) ≡ true
 reads s d c e = ap (λ (x : Command). is_reading (role_of x (adp_of d) (station_of s))) c ∙ ap is_reading (if_true _ _ _ (eq-eqb _ _ e))
@@ -128,16 +130,7 @@ not-yet : (from to : State) → IsStepUp from to → state_number from ≡ state
 not-yet Init PreOp h e = omega (arith, e)
 not-yet PreOp SafeOp h e = omega (arith, e)
 not-yet SafeOp Op h e = omega (arith, e)
-not-yet Init Init h e = h
-not-yet Init SafeOp h e = h
-not-yet Init Op h e = h
-not-yet PreOp Init h e = h
-not-yet PreOp PreOp h e = h
-not-yet PreOp Op h e = h
-not-yet SafeOp Init h e = h
-not-yet SafeOp PreOp h e = h
-not-yet SafeOp SafeOp h e = h
-not-yet Op to h e = h
+not-yet _ _ h e = h
 
 in-stays : (from to : State) (s : SlaveState) → IsStepUp from to → IsIn to s → StaysIn to s
 in-stays from PreOp s h k = k
@@ -257,3 +250,63 @@ pass-await-word kind i which c trouble number d s l can good arrives h =
     (λ shown m u. word-up i c s which (datagram_met s d) can.1 (shown 0 (omega arith)) (shown 1 (omega arith)) m u)
     (λ g. absurd (low-top c.rise can.0 g.top))
     good arrives h
+
+-- ---- the working counter and the data of a start-up's datagram, at the slave that it is for
+
+pub some-written : (s : SlaveState) (w : Window) (k : ℕ) → k < length w.bytes → may_write_byte s.managers s.sii.busy (touches w) (w.from + k) ≡ true → some_byte_written s.managers s.sii.busy w ≡ true
+some-written s w k l h = any_below_from (length w.bytes) (λ j. may_write_byte s.managers s.sii.busy (touches w) (w.from + j)) k l h
+
+pub some-read : (s : SlaveState) (w : Window) (k : ℕ) → k < length w.bytes → may_read_byte s.managers (touches w) (w.from + k) ≡ true → some_byte_read s.managers w ≡ true
+some-read s w k l h = any_below_from (length w.bytes) (λ j. may_read_byte s.managers (touches w) (w.from + j)) k l h
+
+-- ---- registers
+
+pub register-writes : (s : SlaveState) (w : Window) (k : ℕ) → w.from + k < ram_start → takes_writes s.sii.busy (w.from + k) ≡ true → may_write_byte s.managers s.sii.busy (touches w) (w.from + k) ≡ true
+register-writes s w k l h = (registers_open s.managers (touches w) (w.from + k) l).writes s.sii.busy ∙ h
+
+pub register-reads : (s : SlaveState) (w : Window) (k : ℕ) → w.from + k < ram_start → may_read_byte s.managers (touches w) (w.from + k) ≡ true
+register-reads s w k l = (registers_open s.managers (touches w) (w.from + k) l).reads
+
+-- ---- the commands
+
+-- a slave that is told to write counts
+write-counts : (s : SlaveState) (d : Datagram) (w : Window) (k : ℕ) → OnlyWrites s d → window_of d ≡ w → k < length w.bytes
+    → may_write_byte s.managers s.sii.busy (touches w) (w.from + k) ≡ true → (datagram_met s d).counter ≡ (d.counter + 1) % 65536
+write-counts s d w k h win l m =
+    (writes_meet s d h).counter
+    ∙ (ap (λ (x : Window). (d.counter + from_bool (is_written s x)) % 65536) win ∙ ap (λ (b : Bool). (d.counter + from_bool b) % 65536) (or_left _ _ (some-written s w k l m)))
+
+-- the slave that is meant counts
+pub own-write-counts : (s : SlaveState) (d : Datagram) (w : Window) (k : ℕ) → d.command ≡ Fpwr → adp_of d ≡ station_of s → window_of d ≡ w → k < length w.bytes
+    → may_write_byte s.managers s.sii.busy (touches w) (w.from + k) ≡ true → (datagram_met s d).counter ≡ (d.counter + 1) % 65536
+own-write-counts s d w k c e win l h = write-counts s d w k (own-writes s d c e) win l h
+
+pub own-read-counts : (s : SlaveState) (d : Datagram) (w : Window) (k : ℕ) → d.command ≡ Fprd → adp_of d ≡ station_of s → window_of d ≡ w → k < length w.bytes
+    → may_read_byte s.managers (touches w) (w.from + k) ≡ true → (datagram_met s d).counter ≡ (d.counter + 1) % 65536
+own-read-counts s d w k c e win l h =
+    (reads_meet s d (own-reads s d c e)).counter
+    ∙ (ap (λ (x : Window). (d.counter + from_bool (some_byte_read s.managers x)) % 65536) win ∙ ap (λ (b : Bool). (d.counter + from_bool b) % 65536) (some-read s w k l h))
+
+pub position-counts : (s : SlaveState) (d : Datagram) (w : Window) (k : ℕ) → d.command ≡ Apwr → adp_of d ≡ 0 → window_of d ≡ w → k < length w.bytes
+    → may_write_byte s.managers s.sii.busy (touches w) (w.from + k) ≡ true → (datagram_met s d).counter ≡ (d.counter + 1) % 65536
+position-counts s d w k c e win l h = write-counts s d w k (position-writes s d c e) win l h
+
+-- every slave counts a broadcast write
+pub broadcast-counts : (s : SlaveState) (d : Datagram) (w : Window) (k : ℕ) → d.command ≡ Bwr → window_of d ≡ w → k < length w.bytes
+    → may_write_byte s.managers s.sii.busy (touches w) (w.from + k) ≡ true → (datagram_met s d).counter ≡ (d.counter + 1) % 65536
+broadcast-counts s d w k c win l h = write-counts s d w k (broadcast-writes s d c) win l h
+
+-- ---- the datagrams of a start-up, as they were sent
+
+-- a stored register is written
+pub register-goes : (s : SlaveState) (i ado : ℕ) (bytes : List ℕ) (number k : ℕ) → station_of s ≡ station i → i < 64 → k < length bytes → ado + k < ram_start → takes_writes s.sii.busy (ado + k) ≡ true
+    → (datagram_met s (sent Fpwr (station i) ado bytes number)).counter ≡ 1
+register-goes s i ado bytes number k e l b r h =
+    own-write-counts s (sent Fpwr (station i) ado bytes number) (record { from = ado; bytes = bytes }) k refl (let a : (station i % 65536 + 65536 * ado) % 65536 ≡ station_of s = omega (arith, e, l) in a)
+    (window-sent Fpwr (station i) ado bytes number) b (register-writes s (record { from = ado; bytes = bytes }) k r h)
+
+pub register-shows : (s : SlaveState) (i ado : ℕ) (bytes : List ℕ) (number k : ℕ) → station_of s ≡ station i → i < 64 → k < length bytes → ado + k < ram_start
+    → (datagram_met s (sent Fprd (station i) ado bytes number)).counter ≡ 1
+register-shows s i ado bytes number k e l b r =
+    own-read-counts s (sent Fprd (station i) ado bytes number) (record { from = ado; bytes = bytes }) k refl (let a : (station i % 65536 + 65536 * ado) % 65536 ≡ station_of s = omega (arith, e, l) in a)
+    (window-sent Fprd (station i) ado bytes number) b (register-reads s (record { from = ado; bytes = bytes }) k r)

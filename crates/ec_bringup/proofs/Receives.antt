@@ -37,7 +37,7 @@ use Rattle.ec_bringup.proofs.Sets.{low-top}
 use Rattle.ec_bringup.proofs.Sends.{none-set, four-of, set-lies}
 use Rattle.ec_slave.proofs.Meetings.{reads_meet}
 use Rattle.ec_slave.proofs.RegisterAccess.{accesses_leave, managers_accessed, ram_governed, retold_whole}
-use Rattle.ec_bringup.proofs.Ends.{SameFrame, answered-frame}
+use Rattle.ec_bringup.proofs.Leading.{SameFrame, answered-frame}
 
 abbrev pub asking : Mailbox → Window
 asking b = record { from = b.send_start; bytes = zeros b.send_size }

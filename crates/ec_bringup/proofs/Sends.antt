@@ -8,10 +8,10 @@ use Rattle.ec_regs.specs.declared.manager.SyncManagerSettings.{SyncManagerSettin
 use Rattle.ec_device.specs.declared.slave_type.Mailbox.{Mailbox}
 use Rattle.ec_device.specs.Types.{SlaveKind}
 use Rattle.ec_regs.specs.Memory.{ram_start, ram_end}
-use Rattle.ec_regs.specs.Managers.{no_settings, is_set, is_mailbox, is_buffered, is_master_written, is_master_read, span}
+use Rattle.ec_regs.specs.Managers.{no_settings, is_set, is_mailbox, is_buffered, is_master_written, is_master_read, span, manager_bytes}
 use Rattle.ec_sync.specs.SyncManager.{SyncManager, may_write, is_enabled, ring_written}
 use Rattle.ec_sync.specs.Governing.{covers}
-use Rattle.ec_frame.specs.declared.command.Command.TheVariants.{Fpwr}
+use Rattle.ec_frame.specs.declared.command.Command.TheVariants.{Fpwr, Apwr, Fprd, Brd, Bwr}
 use Rattle.ec_frame.specs.Datagram.{Datagram, IsDatagram}
 use Rattle.ec_al.specs.Al.{Al}
 use Rattle.ec_slave.specs.State.{SlaveState, manager_at}
@@ -22,9 +22,9 @@ use Rattle.ec_slave.specs.Meeting.{slave_met, datagram_met}
 use Rattle.ec_slave.proofs.Bytes.{writes_by_byte}
 use Rattle.ec_coe.proofs.ReadBack.{length-message}
 use Rattle.ec_start.specs.Plans.{settings_at}
-use Rattle.ec_start.specs.declared.action.Action.TheVariants.{SendRequest}
+use Rattle.ec_start.specs.declared.action.Action.TheVariants.{SendRequest, CountSlaves, AskInit, AwaitInit, ClearFmmus, ClearManagers, ClearStations, NameSlave, AskWord, AwaitWord, SetManager, SetFmmu, AskState, AwaitState, AwaitReply}
 use Rattle.ec_start.specs.declared.action.SdoRequest.{SdoRequest}
-use Rattle.ec_start.specs.Actions.{station, filled, request_bytes, request_message}
+use Rattle.ec_start.specs.Actions.{station, filled, request_bytes, request_message, sent, datagram_of, word_place}
 use Rattle.ec_bringup.specs.Stages.{Config, Up, Talk, CanTell}
 use Rattle.ec_start.specs.Planned.{AreMailboxes, IsRequest}
 use Rattle.ec_bringup.specs.Standing.{HoldsZeros, IsOfKind, IsSilent, Talks, IsUpAt, IsTop, Stands}
@@ -34,6 +34,12 @@ use Rattle.ec_bringup.proofs.Passing.{one-send}
 use Rattle.ec_slave.proofs.RegisterAccess.{accesses_leave, managers_accessed, whole_values, managers_aside as unconfigured}
 use Rattle.ec_bringup.proofs.Owns.{window-sent, pass-own}
 use Rattle.ec_bringup.proofs.Sets.{aside-busy, low-top}
+use Rattle.ec_frame.specs.declared.command.Command.{Command}
+use Rattle.ec_regs.specs.Fmmus.{fmmu_bytes}
+use Rattle.ec_al.specs.States.{state_number}
+use Rattle.ec_sii.specs.Laws.{read_command}
+use Rattle.ec_start.specs.declared.action.Action.{Action}
+use Rattle.ec_bringup.specs.Complete.{IsReachable}
 
 -- ---- one manager
 
@@ -252,3 +258,46 @@ pass-send kind i counter b r c trouble number d s l can good arrives h =
     (λ k u. delivered-slave kind b counter r s (physical_after s false true (sending b counter r)) (delivered i counter c b r s k.four boxes u (silent u).no_message) k)
     (λ k u. delivered-up i counter c b r s (physical_after s false true (sending b counter r)) k.room none boxes q (low-top c.rise low) (delivered i counter c b r s k.four boxes u (silent u).no_message) u)
     good arrives h
+
+-- ---- the datagrams of a start-up are datagrams: each field fits its bits
+
+abbrev pub IsSendable : Action → Type 0
+IsSendable (SetManager t n m) = n < 4
+IsSendable (SetFmmu t n f) = n < 4
+IsSendable (SendRequest t counter b r) = IsReachable b
+IsSendable (AwaitReply t b r) = IsReachable b
+IsSendable _ = Unit {0}
+
+sent-good : (c : Command) (adp ado : ℕ) (bytes : List ℕ) (number : ℕ) → ado < 65536 → length bytes < 2048 → IsDatagram (sent c adp ado bytes number)
+sent-good c adp ado bytes number a l = record { index = omega arith; address = omega (arith, a); reserved = omega arith; irq = omega arith; data_bytes = l; counter = omega arith }
+
+zeros-few : (n : ℕ) → n < 2048 → length (zeros n) < 2048
+zeros-few n l = let e = length-replicate {A = ℕ} n 0 in omega (arith, e, l)
+
+filled-few : (b : Mailbox) (counter : ℕ) (r : SdoRequest) → IsReachable b → length (filled b.receive_size (request_bytes counter r)) < 2048
+filled-few b counter r h =
+    let a = length-message (request_message counter r) in
+    let e = length-append (request_bytes counter r) (zeros (b.receive_size - length (request_bytes counter r))) in
+    let f = length-replicate {A = ℕ} (b.receive_size - length (request_bytes counter r)) 0 in
+    let x = h.receive_few in let y = h.receive_some in
+    omega (arith, a, e, f, x, y)
+
+six : (which : ℕ) → length (read_command (word_place which)) ≡ 6
+six which = refl
+
+pub datagram-good : (a : Action) (number : ℕ) → IsSendable a → IsDatagram (datagram_of a number)
+datagram-good CountSlaves number h = sent-good Brd 0 0x0130 (zeros 2) number (omega arith) (zeros-few 2 (omega arith))
+datagram-good AskInit number h = sent-good Bwr 0 0x0120 _ number (omega arith) (omega arith)
+datagram-good AwaitInit number h = sent-good Brd 0 0x0130 (zeros 2) number (omega arith) (zeros-few 2 (omega arith))
+datagram-good ClearFmmus number h = sent-good Bwr 0 0x0600 (zeros 64) number (omega arith) (zeros-few 64 (omega arith))
+datagram-good ClearManagers number h = sent-good Bwr 0 0x0800 (zeros 32) number (omega arith) (zeros-few 32 (omega arith))
+datagram-good ClearStations number h = sent-good Bwr 0 0x0010 (zeros 2) number (omega arith) (zeros-few 2 (omega arith))
+datagram-good (NameSlave t) number h = sent-good Apwr (65536 - t) 0x0010 _ number (omega arith) (omega arith)
+datagram-good (AskWord t which) number h = let e = six which in sent-good Fpwr (station t) 0x0502 (read_command (word_place which)) number (omega arith) (omega (arith, e))
+datagram-good (AwaitWord t which) number h = sent-good Fprd (station t) 0x0502 (zeros 10) number (omega arith) (zeros-few 10 (omega arith))
+datagram-good (SetManager t n m) number h = sent-good Fpwr (station t) (0x0800 + 8 * n) (manager_bytes m) number (let l : n < 4 = h in omega (arith, l)) (omega arith)
+datagram-good (SetFmmu t n f) number h = sent-good Fpwr (station t) (0x0600 + 16 * n) (fmmu_bytes f) number (let l : n < 4 = h in omega (arith, l)) (omega arith)
+datagram-good (AskState t to) number h = sent-good Fpwr (station t) 0x0120 (state_number to ∷ 0 ∷ []) number (omega arith) (omega arith)
+datagram-good (AwaitState t to) number h = sent-good Fprd (station t) 0x0130 (zeros 6) number (omega arith) (zeros-few 6 (omega arith))
+datagram-good (SendRequest t counter b r) number h = sent-good Fpwr (station t) b.receive_start (filled b.receive_size (request_bytes counter r)) number h.receive (filled-few b counter r h)
+datagram-good (AwaitReply t b r) number h = sent-good Fprd (station t) b.send_start (zeros b.send_size) number h.send (zeros-few b.send_size (let x = h.send_few in omega (arith, x)))

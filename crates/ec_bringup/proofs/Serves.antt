@@ -26,11 +26,6 @@ use Rattle.ec_bringup.proofs.Alike.{SameFront, front-refl, SameFronts, fronts-re
 
 -- ---- the managers, where a state is entered
 
-map-at : (ms : List SyncManager) (n : ℕ) → (manager_at (map unlocked_empty ms) n).settings ≡ (manager_at ms n).settings
-map-at [] n = refl
-map-at (m ∷ ms) zero = refl
-map-at (m ∷ ms) (suc n) = map-at ms n
-
 map-unlocked : (ms : List SyncManager) (n : ℕ) → (manager_at (map unlocked_empty ms) n).locked ≡ false
 map-unlocked [] n = refl
 map-unlocked (m ∷ ms) zero = refl
@@ -80,49 +75,23 @@ Falls old Init = Unit {0}
 Falls old new = ⊥
 
 pub cases_fall : (old new : State) → NoFall old new ⊎ Falls old new
-cases_fall Init new = inl tt
 cases_fall PreOp Init = inr tt
 cases_fall SafeOp Init = inr tt
 cases_fall Op Init = inr tt
-cases_fall PreOp PreOp = inl tt
-cases_fall PreOp SafeOp = inl tt
-cases_fall PreOp Op = inl tt
-cases_fall SafeOp PreOp = inl tt
-cases_fall SafeOp SafeOp = inl tt
-cases_fall SafeOp Op = inl tt
-cases_fall Op PreOp = inl tt
-cases_fall Op SafeOp = inl tt
-cases_fall Op Op = inl tt
+cases_fall _ _ = inl tt
 
 falls-entered : (old new : State) (ms : List SyncManager) → Falls old new → managers_entered old new ms ≡ map unlocked_empty ms
-falls-entered Init new ms h = absurd h
 falls-entered PreOp Init ms h = refl
 falls-entered SafeOp Init ms h = refl
 falls-entered Op Init ms h = refl
-falls-entered PreOp PreOp ms h = absurd h
-falls-entered PreOp SafeOp ms h = absurd h
-falls-entered PreOp Op ms h = absurd h
-falls-entered SafeOp PreOp ms h = absurd h
-falls-entered SafeOp SafeOp ms h = absurd h
-falls-entered SafeOp Op ms h = absurd h
-falls-entered Op PreOp ms h = absurd h
-falls-entered Op SafeOp ms h = absurd h
-falls-entered Op Op ms h = absurd h
+falls-entered _ _ ms h = absurd h
 
 no_fall-init : (old new : State) → NoFall old new → new ≡ Init → old ≡ Init
 no_fall-init Init new h e = refl
 no_fall-init PreOp Init h e = absurd h
 no_fall-init SafeOp Init h e = absurd h
 no_fall-init Op Init h e = absurd h
-no_fall-init PreOp PreOp h e = cc
-no_fall-init PreOp SafeOp h e = cc
-no_fall-init PreOp Op h e = cc
-no_fall-init SafeOp PreOp h e = cc
-no_fall-init SafeOp SafeOp h e = cc
-no_fall-init SafeOp Op h e = cc
-no_fall-init Op PreOp h e = cc
-no_fall-init Op SafeOp h e = cc
-no_fall-init Op Op h e = cc
+no_fall-init _ _ h e = cc
 
 -- ---- the AL state machine is given another state
 
@@ -190,16 +159,7 @@ answer-climb PreOp SafeOp checks h = process checks.outputs checks.inputs
     process true false = inr (InvalidInputConfiguration, refl)
     process false c = inr (InvalidOutputConfiguration, refl)
 answer-climb SafeOp Op checks h = inl refl
-answer-climb Init Init checks h = absurd h
-answer-climb Init SafeOp checks h = absurd h
-answer-climb Init Op checks h = absurd h
-answer-climb PreOp Init checks h = absurd h
-answer-climb PreOp PreOp checks h = absurd h
-answer-climb PreOp Op checks h = absurd h
-answer-climb SafeOp Init checks h = absurd h
-answer-climb SafeOp PreOp checks h = absurd h
-answer-climb SafeOp SafeOp checks h = absurd h
-answer-climb Op to checks h = absurd h
+answer-climb _ _ checks h = absurd h
 
 pub decided-climb : (a : Al) (from to : State) (control : ℕ) (checks : Checks) → IsStepUp from to → a.state ≡ from → a.error ≡ false → control ≡ state_number to
     → Climbed from to (decided a control checks)
@@ -216,22 +176,13 @@ pub no_fall-up : (from to : State) → IsStepUp from to → NoFall from to
 no_fall-up Init to h = tt
 no_fall-up PreOp SafeOp h = tt
 no_fall-up SafeOp Op h = tt
-no_fall-up PreOp Init h = absurd h
-no_fall-up PreOp PreOp h = absurd h
-no_fall-up PreOp Op h = absurd h
-no_fall-up SafeOp Init h = absurd h
-no_fall-up SafeOp PreOp h = absurd h
-no_fall-up SafeOp SafeOp h = absurd h
-no_fall-up Op to h = absurd h
+no_fall-up _ _ h = absurd h
 
 no_fall-same : (s : State) → NoFall s s
 no_fall-same Init = tt
 no_fall-same PreOp = tt
 no_fall-same SafeOp = tt
 no_fall-same Op = tt
-
-deciding : SlaveState → Al
-deciding s = al.decided s.al (control_word s) (checks_of s)
 
 waits-none : (s : SlaveState) → s.al.requested ≡ false → request_decided s ≡ s
 waits-none s e = (requests_decided s).rests e
@@ -310,16 +261,12 @@ reached-decided i (Down f m) s l h = kept (kept-init s h.init)
 reached-decided i (Up c) s l h = up-decided i c c.rise s refl l h.rises h
 
 gone-waits : (st : Stage) (s : SlaveState) → IsGone st s → s.al.requested ≡ false
-gone-waits Before s h = absurd h
-gone-waits Called s h = absurd h
-gone-waits (Down f m) s h = absurd h
 gone-waits (Up c) s h = ap (λ (t : SlaveState). t.al.requested) h ∙ ap (λ (a : Al). a.requested) (switched_on s.kind s.identity).al
+gone-waits _ s h = absurd h
 
 fault-waits : (i : ℕ) (st : Stage) (s : SlaveState) → HadFault i st s → s.al.requested ≡ false
-fault-waits i Before s h = absurd h
-fault-waits i Called s h = absurd h
-fault-waits i (Down f m) s h = absurd h
 fault-waits i (Up c) s h = h.faulted.no_request
+fault-waits i _ s h = absurd h
 
 pub stands-decided : (kind : SlaveKind) (i : ℕ) (st : Stage) (trouble : Bool) (s : SlaveState) → Stands kind i st trouble s → Stands kind i st trouble (request_decided s)
 stands-decided kind i st trouble s h = record {
@@ -346,10 +293,8 @@ finished-alike s =
     }
 
 gone-idle : (st : Stage) (s : SlaveState) → IsGone st s → s.sii.busy ≡ false
-gone-idle Before s h = absurd h
-gone-idle Called s h = absurd h
-gone-idle (Down f m) s h = absurd h
 gone-idle (Up c) s h = ap (λ (t : SlaveState). t.sii.busy) h ∙ ap (λ (p : Sii). p.busy) (switched_on s.kind s.identity).sii
+gone-idle _ s h = absurd h
 
 pub stands-finished : (kind : SlaveKind) (i : ℕ) (st : Stage) (trouble : Bool) (s : SlaveState) → Stands kind i st trouble s → Stands kind i st trouble (read_finished s)
 stands-finished kind i st trouble s h =

@@ -28,8 +28,7 @@ use Rattle.ec_bringup.proofs.Alike.{claims-alike, rises-alike, word_of}
 use Rattle.ec_bringup.proofs.Passing.{one-ask-word, one-set-manager, one-set-fmmu}
 use Rattle.ec_slave.specs.Interface.{Wrote, set_by}
 use Rattle.ec_slave.proofs.RegisterAccess.{registers_written as wrote, managers_aside as unconfigured}
-use Rattle.ec_bringup.proofs.Writes.{set-locked, slave-wrote}
-use Rattle.ec_bringup.proofs.Owns.{window-sent, pass-own}
+use Rattle.ec_bringup.proofs.Owns.{set-locked, slave-wrote, window-sent, pass-own}
 
 -- ---- what stays where neither the station address nor the AL control word is written
 

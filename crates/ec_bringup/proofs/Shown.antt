@@ -26,9 +26,8 @@ use Rattle.ec_start.specs.declared.verdict.Verdict.TheVariants.{Next, Shows}
 use Rattle.ec_start.specs.Verdicts.{with_word, is_device, word_at, long_at, word_verdict, state_verdict, message_verdict, verdict}
 use Rattle.ec_slave.proofs.RegisterAccess.{shows_itself}
 use Rattle.ec_bringup.proofs.Owns.{window-sent}
-use Rattle.ec_bringup.proofs.Polls.{read-byte, read-bytes}
+use Rattle.ec_bringup.proofs.Polls.{read-byte, read-bytes, register-shows}
 use Rattle.ec_bringup.proofs.Receives.{Boxes, asking, read-counter, some-read, raw-read}
-use Rattle.ec_bringup.proofs.Counts.{register-shows}
 use Rattle.ec_bringup.proofs.Commands.{IsThere, HasFound, word_of}
 
 -- byte k of the data that comes back

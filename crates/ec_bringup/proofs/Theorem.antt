@@ -10,13 +10,13 @@ use Rattle.ec_slave.specs.Meeting.{slave_met, datagram_met, passes as passes_all
 use Rattle.ec_slave.specs.Serving.{served}
 use Rattle.ec_link.specs.declared.settings.SlavePlan.{SlavePlan}
 use Rattle.ec_start.specs.declared.action.Action.{Action}
-use Rattle.ec_start.specs.declared.action.Action.TheVariants.{CountSlaves, AskInit, AwaitInit, ClearFmmus, ClearManagers, ClearStations, NameSlave, AskWord, AwaitWord, SetManager, SetFmmu, AskState, AwaitState, SendRequest, AwaitReply}
+use Rattle.ec_start.specs.declared.action.Action.TheVariants.{CountSlaves, AskInit, AwaitInit, ClearFmmus, ClearManagers, ClearStations, NameSlave}
 use Rattle.ec_start.specs.Actions.{datagram_of, numbered}
 use Rattle.ec_start.specs.Scripts.{script}
 use Rattle.ec_start.specs.declared.error.StartError.{StartError}
 use Rattle.ec_start.specs.declared.error.StartError.TheVariants.{Lost, TooSlow}
 use Rattle.ec_start.specs.declared.verdict.Verdict.{Verdict}
-use Rattle.ec_start.specs.declared.verdict.Verdict.TheVariants.{Next, Shows, Again, Fails}
+use Rattle.ec_start.specs.declared.verdict.Verdict.TheVariants.{Again}
 use Rattle.ec_start.specs.Verdicts.{verdict}
 use Rattle.ec_start.specs.Running.{StartState, sending, action_of, type_of, taken, judged, begun}
 use Rattle.ec_start.specs.declared.phase.Phase.TheVariants.{Idle, Sent, Ready, Failed}
@@ -29,10 +29,10 @@ use Rattle.ec_bringup.proofs.Resets.{power_on_is, reset_stands}
 use Rattle.ec_bringup.proofs.Events.{fault-stands, put-stands, got-stands}
 use Rattle.ec_bringup.proofs.Messages.{stands-served}
 use Rattle.ec_bringup.proofs.PassLaws.{pass-law, later-law, take-law}
-use Rattle.ec_bringup.proofs.Keeps.{slave-law}
+use Rattle.ec_bringup.proofs.Keeping.{slave-law}
 use Rattle.ec_start.specs.Planned.{IsStartable}
 use Rattle.ec_bringup.proofs.Assigns.{assignment-held}
-use Rattle.ec_bringup.proofs.Ends.{script-leads, asked-frame}
+use Rattle.ec_bringup.proofs.Leading.{script-leads, asked-frame}
 use Rattle.ec_bringup.specs.Starting.{Carried, Starting, slave_at, trouble_at, kind_at, no_plan, AreSlaves}
 use Rattle.ec_bringup.specs.Runs.{is_idle, is_beginning, with_passed, with_start, with_sent, with_begun, with_empty, with_lost, AreStartable, ends_of, Happens, Sends, Passes, Loses, Returns, Strays, Closes, Serves, Puts, Gets, Faults, Resets, Runs, Stops, Steps, Begins, HoldsAll, Works, HasFault, Shown, Working, Faulted, WasReset, StartUpLaw, IsNew}
 use Rattle.ec_bringup.proofs.Composes.{pass-starts, pass-slaves, take-starts, slave-starts, Keeps}
@@ -58,14 +58,7 @@ sent-arrives ClearFmmus number = record { command = refl; ado = refl; adp_is = r
 sent-arrives ClearManagers number = record { command = refl; ado = refl; adp_is = refl; bytes = refl }
 sent-arrives ClearStations number = record { command = refl; ado = refl; adp_is = refl; bytes = refl }
 sent-arrives (NameSlave t) number = let e : ((65536 - t) % 65536 + 65536 * 0x0010) % 65536 ≡ (65536 - t + 0) % 65536 = omega arith in record { command = refl; ado = refl; adp_is = e; bytes = refl }
-sent-arrives (AskWord t which) number = record { to_come = λ l. refl; gone_by = record { command = refl; address = refl } }
-sent-arrives (AwaitWord t which) number = record { to_come = λ l. refl; gone_by = record { command = refl; address = refl } }
-sent-arrives (SetManager t n m) number = record { to_come = λ l. refl; gone_by = record { command = refl; address = refl } }
-sent-arrives (SetFmmu t n f) number = record { to_come = λ l. refl; gone_by = record { command = refl; address = refl } }
-sent-arrives (AskState t to) number = record { to_come = λ l. refl; gone_by = record { command = refl; address = refl } }
-sent-arrives (AwaitState t to) number = record { to_come = λ l. refl; gone_by = record { command = refl; address = refl } }
-sent-arrives (SendRequest t counter b r) number = record { to_come = λ l. refl; gone_by = record { command = refl; address = refl } }
-sent-arrives (AwaitReply t b r) number = record { to_come = λ l. refl; gone_by = record { command = refl; address = refl } }
+sent-arrives _ number = record { to_come = λ l. refl; gone_by = record { command = refl; address = refl } }
 
 -- the first frame clears the flags: whatever slaves stood at, a start-up leads them from before its first action on
 abbrev cleared : Starting → Starting
@@ -129,10 +122,6 @@ sent-starts ends w h good b = elim (cases_Bool (is_beginning w.start)) [
 ]
 
 -- ---- a start-up begins, in a new world or after a failure
-
-begun-at : (ps : List SlavePlan) (number : ℕ) → ((begun ps number).plan ≡ ps) × ((begun ps number).place ≡ 0) × ((begun ps number).phase ≡ Idle)
-unfolding begun
-begun-at ps number = (refl, refl, refl)
 
 some-script : (ps : List SlavePlan) → 0 < length (script ps)
 some-script [] = omega arith
@@ -315,10 +304,8 @@ again-plan s true = refl
 again-plan s false = refl
 
 judged-plan : (s : StartState) (x : Verdict) → (judged s x).plan ≡ s.plan
-judged-plan s Next = refl
-judged-plan s (Shows value) = refl
 judged-plan s Again = again-plan s (s.polls + 1 == 1000)
-judged-plan s (Fails f) = refl
+judged-plan s _ = refl
 
 pub taken-plan : (s : StartState) (d : Datagram) → (taken s d).plan ≡ s.plan
 taken-plan s d = judged-plan s (verdict (length s.plan) s.place s.seen (type_of s.plan) (action_of s) d)

@@ -24,7 +24,7 @@ pub fn comes_up()
 {}
 
 /// Nor do the slaves' applications keep it from that, whatever they read and write between its frames.
-#[tactic(auto, using(crate::proofs::Up::applied_up))]
+#[tactic(auto, using(crate::proofs::ComesUp::applied_up))]
 pub fn comes_up_beside_applications()
     ensures { AppliedUpLaw }
 {}

@@ -16,3 +16,4 @@ pub mod ProcessBits
 pub mod Outgoing
 pub mod Owning
 pub mod Variables
+pub mod OnTheirWay

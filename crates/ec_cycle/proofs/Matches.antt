@@ -12,6 +12,7 @@ use Rattle.ec_frame.specs.declared.command.Command.TheVariants.{Lrd, Lwr, Lrw}
 use Rattle.ec_link.specs.Shares.{sum_of, lwr_count, lrd_count, lrw_count}
 use Rattle.ec_cycle.specs.Frames.{name_datagram, status_datagram, process_datagram, process_bytes, returned_first, sent_datagrams}
 use Rattle.ec_cycle.specs.Closing.{KeptPart, bytes_at, input_place, kept_of}
+use Rattle.ec_cycle.specs.Interface.{MastersKeepTheirPlan}
 use Rattle.ec_cycle.specs.Master.{MasterState, OpenCycle, Shape, shape, Answers, IsAnswer, IsTaken, with_kept}
 use Rattle.ec_cycle.specs.Matching.{SameFrom, AnswersPart, Answered, Names}
 use Rattle.ec_cycle.specs.Kept.{IsUnderWay}
@@ -141,7 +142,7 @@ kept_on p number frames kept k ds way count kept_count h = record {
 }
 
 -- a master stays one of its plan
-pub taken_plan : (old new : MasterState) (payload : List ℕ) (is_kept : Bool) → IsTaken old payload is_kept new → new.plan ≡ old.plan
+pub taken_plan : MastersKeepTheirPlan
 taken_plan old new payload true h = let a = h.only refl in ap (λ (m : MasterState). m.plan) (h.kept a.cycle a.part a.frame a.answer).1
 taken_plan old new payload false h = ap (λ (m : MasterState). m.plan) (h.foreign (λ c k p a. false_true (h.kept c k p a).0)).1
   where

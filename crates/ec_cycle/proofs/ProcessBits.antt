@@ -8,7 +8,7 @@ use Rattle.ec_bits.proofs.BitLaws.{bit-overlay, bit-zeros}
 use Rattle.ec_bits.proofs.AnyLaws.{within_parts}
 use Rattle.ec_link.specs.Plan.{PlanState, part_at}
 use Rattle.ec_link.specs.Meaning.{slave_at, area_at, out_source}
-use Rattle.ec_link.specs.Usable.{IsUsable}
+use Rattle.ec_cycle.specs.Laws.{OutputsBySource}
 use Rattle.ec_cycle.specs.Frames.{image_bit, process_bytes}
 use Rattle.ec_cycle.proofs.Placing.{image_bit_is, nobody_bit}
 
@@ -25,9 +25,7 @@ bit_is p k i image lt =
     ∙ (ap (unwrap_or (option_map (bit image) (image_bit p.out_links k 0 p.slaves (8 * (part_at p.parts k).address + i)))) (bit-zeros (part_at p.parts k).bytes i)
     ∙ told image (image_bit p.out_links k 0 p.slaves (8 * (part_at p.parts k).address + i)))
 
-pub outputs_by_source : (p : PlanState) (k s o i : ℕ) (image : List ℕ) → IsUsable p → s < length p.slaves → (slave_at p s).share.part ≡ k → o < (slave_at p s).share.outs
-    → i < 8 * (part_at p.parts k).bytes → 8 * (part_at p.parts k).address + i ≡ (area_at p s).out_at + o
-    → bit (process_bytes p k image) i ≡ option_map_or (bit image) (out_source p.out_links s o) false
+pub outputs_by_source : OutputsBySource
 outputs_by_source p k s o i image sound there part less lt here =
     let z : 0 + s ≡ s = omega arith in
     bit_is p k i image lt

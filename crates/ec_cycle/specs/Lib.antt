@@ -6,9 +6,11 @@ pub mod Frames
 pub mod Closing
 -- the master as a value, and what each of its calls does to it
 pub mod Master
--- Laws: other words for the same, proved; two of them say what one copy of a run of bits a link makes.
+-- Laws: other words for the same, proved; two of them say what one copy of a run of bits a link makes, and Interface is what the
+-- crates above may know.
 pub mod Copies
 pub mod Laws
+pub mod Interface
 -- To be believed, too: the refusals' numbers and names.
 pub mod Refusals
 -- Private: these serve private code and its proofs alone.

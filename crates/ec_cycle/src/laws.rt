@@ -2,6 +2,7 @@
 ghost use Rattle.ec_cycle.specs.Laws.{ProcessByLinks, InputsByLinks, AnswersBySent};
 ghost use Rattle.ec_cycle.specs.Laws.{OutputsBySource, OtherBitsAreZero, UnlinkedGoOutAsZero};
 ghost use Rattle.ec_cycle.specs.Laws.{PredictedMeansWhole, SetReadsBack, SetKeepsOthers, SetKeepsFrames};
+ghost use Rattle.ec_cycle.specs.Interface.{ProcessDataFillTheirPart, NamesTell, FramesOnTheirWayAnswer, FramesAreKept, MastersKeepTheirPlan};
 
 /// One copy of a run of bits a link of outputs makes the process data of a frame.
 #[tactic(auto, using(crate::proofs::Placing::process_by_links))]
@@ -59,4 +60,22 @@ pub fn set_keeps_others()
 /// What a begun frame says isn't changed by setting a variable later.
 pub fn set_keeps_frames()
     ensures { SetKeepsFrames }
+{}
+
+/// The process data of a frame fill its part, and its name tells of which cycle and part it is.
+pub fn frames_are_of_their_part()
+    ensures data { ProcessDataFillTheirPart }
+    ensures names { NamesTell }
+{}
+
+/// A frame answers its part whatever slaves it passed, and what is kept of it is what those made of it.
+pub fn frames_come_back()
+    ensures answers { FramesOnTheirWayAnswer }
+    ensures kept { FramesAreKept }
+{}
+
+/// Whatever is handed in, a master keeps its plan.
+#[tactic(auto, using(crate::proofs::Matches::taken_plan))]
+pub fn masters_keep_their_plan()
+    ensures { MastersKeepTheirPlan }
 {}

@@ -9,6 +9,7 @@ use Rattle.ec_table.specs.Contents.{Contents}
 use Rattle.ec_link.specs.declared.image.Variable.{Variable}
 use Rattle.ec_link.specs.Image.{bits_if, image_bits, placed, image}
 use Rattle.ec_link.specs.Plan.{PlanState, plan_of}
+use Rattle.ec_link.specs.Interface.{VariablesAreApart}
 use Rattle.ec_link.specs.Variables.{AreApart}
 use Rattle.ec_link.proofs.EachFrom.{get_or-each, length-each_from}
 use Rattle.ec_link.proofs.LinksOnce.{ends_before, no_variable}
@@ -48,9 +49,12 @@ no_common ws v w x y ne ex ey same i j li lj clash =
       | inr ge ↦ let lt : w < v = omega arith in omega (arith, ends ws w v y x lt b a (sym same), clash)
     ]
 
-plan_variables : (t : Contents) → (plan_of t).variables ≡ image t.variables
+pub plan_variables : (t : Contents) → (plan_of t).variables ≡ image t.variables
 unfolding plan_of
 plan_variables t = refl
 
 pub variables_apart : (t : Contents) (p : PlanState) → p ≡ plan_of t → AreApart p.variables
 variables_apart t p e = subst AreApart (sym (ap (λ (q : PlanState). q.variables) e ∙ plan_variables t)) (record { no_common = no_common t.variables })
+
+pub bits_are_apart : VariablesAreApart
+bits_are_apart t = variables_apart t (plan_of t) refl

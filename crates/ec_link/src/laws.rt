@@ -2,6 +2,9 @@
 
 ghost use Rattle.ec_link.specs.FaultLaw.{FirstLinkFault};
 ghost use Rattle.ec_link.specs.ShownFull.{ShownFullGivesFaces};
+ghost use Rattle.ec_link.specs.Example.{AcceptedLaw, AcceptedTwoLaw};
+ghost use Rattle.ec_link.specs.Interface.{PlansAreSound, PlansAreUsable, PlansHaveTheLinks, VariablesAreApart, VariablesArePlaced};
+ghost use Rattle.ec_link.specs.Interface.{LinkedBitsAreThere, LinkedInputsAreThere, PlansListTheUnits, SlavesAreOfTheirTypes, SettingsAreListed};
 
 /// The fault that is told of a table is the first that it has, by the numbers of the kinds and then by the places; a table of
 /// which none is told has none.
@@ -14,4 +17,68 @@ pub fn first_link_fault()
 #[tactic(auto, using(crate::proofs::FacesShown::faces))]
 pub fn shown_full_gives_faces()
     ensures { ShownFullGivesFaces }
+{}
+
+/// The compiler accepts a table: what is promised of accepted tables is not empty.
+#[tactic(auto, using(crate::proofs::Accepted::accepted_law))]
+pub fn a_table_is_accepted()
+    ensures { AcceptedLaw }
+{}
+
+/// The compiler accepts a table of two sync units too, with a mailbox, a slave without LRW, and links both ways.
+#[tactic(auto, using(crate::proofs::AcceptedTwo::accepted_two))]
+pub fn a_table_of_two_units_is_accepted()
+    ensures { AcceptedTwoLaw }
+{}
+
+/// The plan of an accepted table is sound.
+pub fn plans_are_sound()
+    ensures { PlansAreSound }
+{}
+
+/// The plan of an accepted table is usable.
+pub fn plans_are_usable()
+    ensures { PlansAreUsable }
+{}
+
+/// The links of the plan of an accepted table are the table's.
+#[tactic(auto, using(crate::proofs::InputsBack::links_are_the_tables))]
+pub fn plans_have_the_links()
+    ensures { PlansHaveTheLinks }
+{}
+
+/// Each variable of a table has its place in the image, and no two have a bit in common.
+#[tactic(auto, using(crate::proofs::VariablesApart::bits_are_apart, crate::proofs::Placed::variables_are_placed))]
+pub fn variables_are_placed()
+    ensures apart { VariablesAreApart }
+    ensures placed { VariablesArePlaced }
+{}
+
+/// A linked bit is one of a variable of the table.
+pub fn linked_bits_are_there()
+    ensures { LinkedBitsAreThere }
+{}
+
+/// What is linked to an input of the image is an input of a slave.
+pub fn linked_inputs_are_there()
+    ensures { LinkedInputsAreThere }
+{}
+
+/// A plan lists the sync units of its slaves, each once.
+#[tactic(auto, using(crate::proofs::UnitsListed::lists_units))]
+pub fn plans_list_the_units()
+    ensures { PlansListTheUnits }
+{}
+
+/// A slave of a plan is of a type of the table: it keeps the type's limits, its assignments are proper, and it has the bits of
+/// the PDOs that are assigned.
+#[tactic(auto, using(crate::proofs::OfTypes::slaves_are_of_their_types))]
+pub fn slaves_are_of_their_types()
+    ensures { SlavesAreOfTheirTypes }
+{}
+
+/// The settings of a slave of a usable plan are four managers of which no two share a byte, and two FMMUs, one for each direction.
+#[tactic(auto, using(crate::proofs::Listed::listed))]
+pub fn settings_are_listed()
+    ensures { SettingsAreListed }
 {}

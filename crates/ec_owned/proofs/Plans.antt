@@ -8,20 +8,20 @@ use Rattle.ec_link.specs.Faults.{compile_fault}
 use Rattle.ec_link.specs.Plan.{PlanState, plan_of}
 use Rattle.ec_link.specs.Usable.{IsUsable}
 use Rattle.ec_link.proofs.UsableLaws.{plan_usable}
-use Rattle.ec_start.specs.Planned.{HasFewAssigned}
-use Rattle.ec_start.proofs.Assigned.{has_few}
+use Rattle.ec_start.specs.Planned.{HasFewAssigned, IsStartable}
+use Rattle.ec_start.proofs.Assigned.{startable_is_taken}
 use Rattle.ec_start.proofs.LawLemmas.{plans_stay}
 use Rattle.ec_start.specs.Running.{IsStartTaken, StartState, asked, has_failed, restarted}
 use Rattle.ec_owned.specs.Machines.{resumed}
 use Rattle.ec_bringup.specs.Starting.{no_plan}
-use Rattle.ec_bringup.proofs.StartableLaws.{slave_startable}
+use Rattle.ec_bringup.proofs.CompleteLaws.{are-plans}
 
 pub can_be_used : (t : Contents) (plan : PlanState) → table.IsSound t → compile_fault t ≡ None → plan ≡ plan_of t → IsUsable plan
 can_be_used t plan sound free is = subst IsUsable (sym is) (plan_usable t sound free)
 
 pub has_few_assigned : (t : Contents) (plan : PlanState) → table.IsSound t → compile_fault t ≡ None → plan ≡ plan_of t → All HasFewAssigned plan.slaves
 has_few_assigned t plan sound free is = subst (λ (p : PlanState). All HasFewAssigned p.slaves) (sym is)
-    (All-from_get_or HasFewAssigned (plan_of t).slaves no_plan (λ i l. has_few (get_or (plan_of t).slaves i no_plan) (slave_startable t sound free i l)))
+    (startable_is_taken (plan_of t).slaves (All-from_get_or IsStartable (plan_of t).slaves no_plan (are-plans t sound free).planned))
 
 -- ---- whatever a start-up does, it is one of the same plan
 

@@ -12,7 +12,7 @@ use Rattle.ec_world.specs.declared.event.Event.TheVariants.{StartNext, Set, Begi
 use Rattle.ec_world.specs.Laws.{IsRun}
 use Rattle.ec_world.specs.NewWorld.{AreTurns, BringUp, IsToStart, servings, turn_of}
 use Rattle.ec_world.specs.World.{Flight, WorldState, IsStep}
-use Rattle.ec_world.proofs.Runs.{runs_join}
+use Rattle.ec_world.proofs.StepLaws.{runs_join}
 use Rattle.ec_world.proofs.TurnLaws.{turn_law}
 use Rattle.ec_world.proofs.Turns.{HasTurned, turn_goes}
 use Rattle.ec_world.proofs.Turns as world

@@ -7,3 +7,5 @@ pub mod Answering
 pub mod LawLemmas
 pub mod Assigned
 pub mod FullScripts
+pub mod Startable
+pub mod ScriptLengths

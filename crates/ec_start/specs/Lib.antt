@@ -12,6 +12,8 @@ pub mod Planned
 pub mod ThreeSlaves
 pub mod Laws
 pub mod ShownFull
+-- what the crates above may know
+pub mod Interface
 -- To be believed, too: what an action must be for its own calls.
 pub mod Doable
 -- Private: these serve private code and its proofs alone.

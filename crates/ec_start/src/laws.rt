@@ -1,6 +1,7 @@
 //! What the definitions of this crate say together. The functions do nothing: their contracts are the laws.
 
 ghost use Rattle.ec_start.specs.ShownFull.{ShownFullHasTheScript};
+ghost use Rattle.ec_start.specs.Interface.{PlannedSlavesAreStartable, ScriptsAreShort};
 ghost use Rattle.ec_start.specs.Laws.{IsScriptOfThree, UploadsComeFirst, CountersRunToSeven, EndedStays, PlansStay, PollsEnd, ForeignChangesNothing, FramesAreAnswered, StartablesAreTaken};
 
 /// The script of the example's three slaves has 75 steps, and step 10 is the first wait for slave 0's SII.
@@ -60,4 +61,16 @@ pub fn startables_are_taken()
 #[tactic(auto, using(crate::proofs::FullScripts::full_scripts))]
 pub fn shown_full_has_the_script()
     ensures { ShownFullHasTheScript }
+{}
+
+/// A slave of a plan, of a type of its table, can be started up.
+#[tactic(auto, using(crate::proofs::Startable::startable))]
+pub fn planned_slaves_are_startable()
+    ensures { PlannedSlavesAreStartable }
+{}
+
+/// The script of a plan that can be started up is short.
+#[tactic(auto, using(crate::proofs::ScriptLengths::scripts_are_short))]
+pub fn scripts_are_short()
+    ensures { ScriptsAreShort }
 {}

@@ -20,7 +20,7 @@ use Rattle.ec_bringup.specs.ComesUp.{IsOnItsWay, IsUpAndWorks}
 use Rattle.ec_bringup.specs.Applied.{Applied, Rests as Idles, Reads, Writes, AreApplied, TurnsTo, Stays}
 use Rattle.ec_bringup.proofs.Applying.{turns-on}
 use Rattle.ec_bringup.proofs.BringUp.{is-sending, turn-kept, turn-made}
-use Rattle.ec_bringup.proofs.Up.{applied_up}
+use Rattle.ec_bringup.proofs.ComesUp.{applied_up}
 use Rattle.ec_wire.specs.Wires.{WireState, Carries, Grows, is_fault}
 use Rattle.ec_wire.specs.Applications.{IsServed, AreServed, has_data, inputs_written, outputs_read}
 use Rattle.ec_wire.specs.Segments.{IsAnswer, IsTreated, AreTreated}

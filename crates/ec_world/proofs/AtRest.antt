@@ -1,5 +1,5 @@
 -- A cycle of a world that is Ready, with no cycle open and no frame on its way: it can begin, and be closed.
-use Rattle.std.proofs.Common.{ℕ, zero, suc, ◌+◌, ◌-◌, ◌^◌, ◌<◌, ◌≤◌, ◌≡◌, nat_le, Bool, true, false, Option, Some, None, refl, sym, ◌∙◌, ap, subst, arith, List, [], ◌∷◌, ◌++◌, length, map, get_or, replicate, is_none, option_map, unwrap_or}
+use Rattle.std.proofs.Common.{ℕ, zero, suc, ◌+◌, ◌-◌, ◌^◌, ◌<◌, ◌≤◌, ◌≡◌, nat_le, Bool, true, Option, Some, None, refl, sym, ◌∙◌, ap, subst, arith, List, [], ◌∷◌, ◌++◌, length, map, get_or, replicate, is_none, option_map, unwrap_or}
 use Rattle.std.proofs.lemmas.Bool.{and_from, lt-ltb, le-leb}
 use Rattle.std.proofs.lemmas.List.{length-map}
 use Rattle.ec_bits.proofs.AnyLaws.{if_true}
@@ -22,28 +22,15 @@ use Rattle.ec_world.specs.Whole.{IsNew, plain_of}
 use Rattle.ec_world.specs.Promises.{IsBegun, IsClosedAs}
 use Rattle.ec_world.specs.Headline.{Says}
 use Rattle.ec_world.specs.Undisturbed.{rounds_of, IsAtRest, Rests}
-use Rattle.ec_world.proofs.InSlots.{same_progress}
-use Rattle.ec_world.proofs.Runs.{runs_show, runs_join}
+use Rattle.ec_world.proofs.Lists.{same_progress, none_some, some_same, all_none}
+use Rattle.ec_world.proofs.StepLaws.{runs_show, runs_join}
 use Rattle.ec_world.proofs.Promising.{inputs_law}
 use Rattle.ec_world.proofs.Sized.{run_many}
 use Rattle.ec_world.proofs.Calm.{Slots, at_way, empty, fresh, Between, AllMade, Goes, get_mapped, first_made, both_made, rounds_go, filled_fresh}
 use Rattle.ec_world.proofs.Headlines.{MadeAt, made_at, run_plan, Sees, sees}
 use Rattle.ec_world.proofs.HeadlineInputs.{says}
 
-none_some : {X : Type 0} (x : X) → None ≡ Some x → ⊥
-none_some x e = cc
-
-some_same : {X : Type 0} (x y : X) → Some x ≡ Some y → x ≡ y
-some_same x y e = cc
-
-true_false : true ≡ false → ⊥
-true_false e = cc
-
 -- ---- empty slots
-
-all_none : {X : Type 0} (os : List (Option X)) → ((k : ℕ) → get_or os k None ≡ None) → os ≡ replicate (length os) None
-all_none [] h = refl
-all_none {X} (o ∷ os) h = ap (λ (x : Option X). x ∷ os) (h 0) ∙ ap (λ (xs : List (Option X)). None ∷ xs) (all_none os (λ k. h (suc k)))
 
 count_none : (z : ℕ) → (let none : Option PlainFrame = None in nones (replicate z none)) ≡ z
 count_none zero = refl

@@ -1,30 +1,34 @@
 -- Closing a cycle: a master that goes by counters takes what the plain machine takes by its notes.
-use Rattle.std.proofs.Common.{ℕ, ◌+◌, ◌-◌, ◌*◌, ◌<◌, ◌≡◌, ◌≢◌, ◌==◌, true, false, Option, Some, None, refl, sym, ◌∙◌, ap, subst, inl, inr, arith, List, [], length, map, get_or, is_some, slice_get, if◌then◌else◌, option_and_then, option_map, unwrap_or}
-use Rattle.std.proofs.lemmas.Bool.{cases_Bool, eq-eqb, eqb-true, and_parts}
+use Rattle.std.proofs.Common.{ℕ, ◌+◌, ◌-◌, ◌*◌, ◌<◌, ◌≡◌, ◌≢◌, ◌==◌, true, false, Option, Some, None, refl, sym, ◌∙◌, ap, subst, inl, inr, arith, List, [], length, map, get_or, is_some, slice_get, if◌then◌else◌, option_and_then, option_map, unwrap_or, suc, Bool, ◌∷◌}
+use Rattle.std.proofs.Math.ListN.{get_or-map as get_or-mapped}
+use Rattle.std.proofs.lemmas.Bool.{cases_Bool, eq-eqb, eqb-true, and_parts, cases_eq}
 use Rattle.std.proofs.lemmas.List.{length-map, get_or-map}
 use Rattle.std.proofs.lemmas.Option.{slice_get-get_or}
-use Rattle.ec_link.proofs.LinkLaws.{ins_linked}
+use Rattle.ec_link.proofs.LinkLaws.{linked_inputs}
 use Rattle.ec_bits.specs.Bits.{bit}
 use Rattle.ec_bits.proofs.BitLaws.{overlay_alike}
 use Rattle.ec_bits.proofs.AnyLaws.{if_true, if_false}
 use Rattle.ec_link.specs.declared.settings.Share.{Share}
 use Rattle.ec_link.specs.declared.plan.ExpectedCounters.{ExpectedCounters}
-use Rattle.ec_link.specs.declared.plan.ExpectedCounters.TheVariants.{Lrw, Split}
-use Rattle.ec_link.specs.Shares.{same_counters, unit_of_part, predicted}
-use Rattle.ec_link.specs.Meaning.{share_of, Linked, slave_at, area_at, meaning, in_source}
+use Rattle.ec_link.specs.declared.plan.ExpectedCounters.TheVariants.{Lrw, Split, Lrw as InOne}
+use Rattle.ec_link.specs.Shares.{same_counters, unit_of_part, predicted, Gave, counters_of, sum_of, lwr_count, lrd_count, lrw_count, whole_share, nothing_given}
+use Rattle.ec_link.specs.Meaning.{share_of, Linked, slave_at, area_at, meaning, in_source, place_of_part}
 use Rattle.ec_link.specs.Plan.{PlanState, part_at, no_part}
 use Rattle.ec_link.specs.declared.plan.PartPlan.{PartPlan}
 use Rattle.ec_link.specs.Usable.{IsUsable}
-use Rattle.ec_cycle.specs.Closing.{KeptPart, is_good, unit_taken, bytes_of, returned_bit, inputs_closed, report_of, nones}
-use Rattle.ec_cycle.specs.Master.{OpenCycle}
-use Rattle.ec_world.specs.Plain.{Note, Other, Short, Full, Cycle, is_full, all_full, unit_full, noted_bit, notes_of_part, taken_bit, inputs_taken}
-use Rattle.ec_world.specs.FrameShows.{note_at}
+use Rattle.ec_cycle.specs.Closing.{KeptPart, is_good, unit_taken, bytes_of, returned_bit, inputs_closed, report_of, nones, kept_of}
+use Rattle.ec_cycle.specs.Master.{OpenCycle, Answers}
+use Rattle.ec_world.specs.Plain.{Note, Other, Short, Full, Cycle, is_full, all_full, unit_full, noted_bit, notes_of_part, taken_bit, inputs_taken, PlainFrame}
+use Rattle.ec_world.specs.FrameShows.{note_at, GaveAs, DatagramsShow, KeptShows}
 use Rattle.ec_world.specs.Shows.{CycleShows, said, CountersPredicted}
 use Rattle.ec_world.specs.Promises.{IsCounted}
-use Rattle.ec_world.proofs.Settings.{get_or-mapped}
 use Rattle.ec_world.proofs.Knowing.{share_is}
 use Rattle.ec_world.proofs.Lists.{all_from-each, all_from-alike, nones-alike, there_too, map-alike, all_each}
-use Rattle.ec_world.proofs.CountLaws.{good_is_full}
+use Rattle.ec_world.proofs.RoundTrips.{good_is_full, at}
+use Rattle.ec_frame.specs.Datagram.{Datagram}
+use Rattle.ec_world.proofs.DataLaws.{same_place, full_in_part}
+use Rattle.ec_cycle.specs.Interface.{IsKept}
+use Rattle.ec_cycle.proofs.OnTheirWay.{answer_on_their_way, frames_are_kept}
 
 unit_is : (plan : PlanState) (k : ℕ) → unit_of_part (meaning plan) k ≡ (part_at plan.parts k).unit
 unit_is plan k = get_or-mapped (λ (x : PartPlan). x.unit) plan.parts k no_part
@@ -94,7 +98,7 @@ inputs_same plan c q image sound h = overlay_alike image _ _ (λ b l. ap (λ o. 
     go : (b : ℕ) (o : Option Linked) → in_source plan.in_links b ≡ o → option_and_then (returned_bit plan c.kept) (in_source plan.in_links b) ≡ option_and_then (taken_bit (meaning plan) q) (in_source plan.in_links b)
     go b None e = ap (option_and_then (returned_bit plan c.kept)) e ∙ sym (ap (option_and_then (taken_bit (meaning plan) q)) e)
     go b (Some i) e =
-        let linked = ins_linked plan plan.in_links b i sound.in_links e in
+        let linked = linked_inputs plan sound b i e in
         let few : i.slave < length plan.slaves = let x = length-map plan.slaves (λ s. s.share) in let y = linked.0 in omega arith in
         let inside : i.bit_of < (area_at plan i.slave).ins = let x = sound.laid.ins i.slave in let y = linked.1 in omega arith in
         ap (option_and_then (returned_bit plan c.kept)) e ∙ (returned_is_taken plan c q i sound h few inside ∙ sym (ap (option_and_then (taken_bit (meaning plan) q)) e))
@@ -156,3 +160,77 @@ counters_predicted plan kept len i k b taken there unit =
     let on : unit_taken plan kept u ≡ true = sym (get_or-map (unit_taken plan kept) plan.units i 0 false b) ∙ taken in
     let own : is_good plan k (get_or kept k None) ≡ true = good_part plan kept k len there (ap (unit_taken plan kept) unit ∙ on) in
     get_or-mapped (λ (o : Option KeptPart). option_map (λ q. q.counters) o) kept k None ∙ good_counters plan k (get_or kept k None) own
+
+-- ---- a cyclic frame that comes back answers its part, and no other; what is kept of it agrees with its notes
+
+-- ---- it answers
+
+half : (a b n : ℕ) → a ≡ 8 * n → a ≡ 8 * b → n ≡ b
+half a b n e f = omega arith
+
+pub answers_own : (plan : PlanState) (f : PlainFrame) (ds : List Datagram) → DatagramsShow plan f ds → Answers plan f.number f.part ds
+answers_own plan f ds shows =
+    let bytes = (part_at plan.parts f.part).bytes in
+    subst (Answers plan f.number f.part) (sym shows.is) (answer_on_their_way plan f.number f.part (length f.notes) shows.al shows.sent shows.returned shows.gave shows.al_word
+    (half (8 * bytes) bytes (length shows.sent) shows.process.sent_room refl) (half (8 * bytes) bytes (length shows.returned) shows.process.returned_room refl))
+
+-- ---- what is kept
+
+sum_nothing : (c : Gave → ℕ) (gs : List Gave) → c nothing_given ≡ 0 → ((t : ℕ) → t < length gs → at gs t ≡ nothing_given) → sum_of c gs ≡ 0
+sum_nothing c [] z h = refl
+sum_nothing c (g ∷ gs) z h = let a = ap c (h 0 (omega arith)) ∙ z in let b = sum_nothing c gs z (λ t l. h (suc t) (omega arith)) in omega arith
+
+-- in a part without bytes nobody gives anything
+nothing_there : (plan : PlanState) (f : PlainFrame) (ds : List Datagram) → IsUsable plan → DatagramsShow plan f ds → (part_at plan.parts f.part).bytes ≡ 0 → (t : ℕ) → t < length f.notes
+    → (share_of (meaning plan) t).part ≡ f.part → ((area_at plan t).ins ≡ 0) × (whole_share (share_of (meaning plan) t) ≡ nothing_given)
+nothing_there plan f ds sound shows z t l e =
+    let m = meaning plan in
+    let c = same_place m (area_at plan) (place_of_part plan) f.part t sound.laid (let x = shows.not_more in let y = length-map plan.slaves (λ s. s.share) in omega arith) e in
+    let no_outs : (share_of m t).outs ≡ 0 = let x = c.out_to in let y = c.out_from in let w = sound.laid.outs t in omega arith in
+    let no_ins : (area_at plan t).ins ≡ 0 = let x = c.in_to in let y = c.in_from in omega arith in
+    let no_ins2 : (share_of m t).ins ≡ 0 = sym (sound.laid.ins t) ∙ no_ins in
+    (no_ins, rw (no_outs, no_ins2) refl)
+
+gave_nothing : (h : Share) (n : Note) (g : Gave) → GaveAs h n g → whole_share h ≡ nothing_given → g ≡ nothing_given
+gave_nothing h Other g x e = x
+gave_nothing h Short g x e = absurd (let a = x.less in let b = ap lrw_count e in omega arith)
+gave_nothing h (Full v) g x e = x ∙ e
+
+pub kept_shows : (plan : PlanState) (f : PlainFrame) (ds : List Datagram) → IsUsable plan → DatagramsShow plan f ds → length f.notes ≡ length plan.slaves
+    → KeptShows plan f.part f.notes (kept_of (part_at plan.parts f.part) ds)
+kept_shows plan f ds sound shows all =
+    let m = meaning plan in
+    let part = part_at plan.parts f.part in
+    let own : IsKept part (length f.notes) shows.returned shows.gave (kept_of part ds)
+    = subst (λ ds. IsKept part (length f.notes) shows.returned shows.gave (kept_of part ds)) (sym shows.is) (frames_are_kept part f.number f.part (length f.notes) shows.al shows.sent shows.returned shows.gave) in
+    let empty : part.bytes ≡ 0 → (t : ℕ) → t < length shows.gave → at shows.gave t ≡ nothing_given
+    = λ z t l.
+    let b : t < length f.notes = let x = shows.process.as_many in omega arith in
+    elim (cases_eq (share_of m t).part f.part) [
+      | inl e ↦ gave_nothing (share_of m t) (note_at f.notes t) (at shows.gave t) (shows.process.each t b) (nothing_there plan f ds sound shows z t b e).1
+      | inr ne ↦ subst (λ (n : Note). GaveAs (share_of m t) n (at shows.gave t)) (shows.process.elsewhere t b ne) (shows.process.each t b)
+    ] in
+    let none : part.bytes ≡ 0 → (c : Gave → ℕ) → c nothing_given ≡ 0 → 0 ≡ sum_of c shows.gave = λ z c x. sym (sum_nothing c shows.gave x (empty z)) in
+    record {
+      all = all;
+      broadcast = own.broadcast ∙ all;
+      gave = shows.gave;
+      counters = elim (cases_eq part.bytes 0) [
+        | inl z ↦ own.no_bytes z ∙ same_nothing part.split (none z lwr_count refl) (none z lrd_count refl) (none z lrw_count refl)
+        | inr ne ↦ own.counters ne
+      ];
+      as_many = shows.process.as_many;
+      each = shows.process.each;
+      in_part = shows.process.in_part;
+      elsewhere = shows.process.elsewhere;
+      noted = λ t o v l e b.
+          let mine = full_in_part m t f.part (note_at f.notes t) v e (shows.process.elsewhere t l) in
+          elim (cases_eq part.bytes 0) [
+            | inl z ↦ absurd (let x = (nothing_there plan f ds sound shows z t l mine).0 in omega arith)
+            | inr ne ↦ ap (λ bs. bit bs ((area_at plan t).in_at + o - 8 * part.address)) (own.bytes ne) ∙ shows.process.noted t o v l e b
+          ];
+    }
+  where
+    same_nothing : (y : Bool) → 0 ≡ sum_of lwr_count shows.gave → 0 ≡ sum_of lrd_count shows.gave → 0 ≡ sum_of lrw_count shows.gave → counters_of y [] ≡ counters_of y shows.gave
+    same_nothing true w r b = ap (λ n. Split n 0) w ∙ ap (λ n. Split (sum_of lwr_count shows.gave) n) r
+    same_nothing false w r b = ap (λ n. InOne n) b

@@ -1,11 +1,19 @@
--- A start-up that nothing disturbs ends Ready, in a new world and after a failure.
-use Rattle.std.proofs.Common.{ℕ, zero, suc, ◌+◌, ◌<◌, ◌≡◌, ◌⊎◌, Bool, true, false, if◌then◌else◌, Option, None, refl, sym, ◌∙◌, ap, subst, inl, inr, arith, List, [], ◌∷◌, ◌++◌, length, get_or, replicate}
+-- The slaves of a new world are devices of their types.
+use Rattle.std.proofs.Common.{ℕ, zero, suc, ◌<◌, ◌≡◌, refl, sym, ◌∙◌, ap, arith, List, [], ◌∷◌, length, get_or, None, ◌+◌, ◌⊎◌, Bool, true, false, if◌then◌else◌, Option, subst, inl, inr, ◌++◌, replicate}
 use Rattle.ec_device.specs.declared.slave_type.Identity.{Identity}
-use Rattle.ec_slave.specs.State.{SlaveState}
-use Rattle.ec_table.specs.Contents.{Contents}
 use Rattle.ec_link.specs.declared.settings.SlavePlan.{SlavePlan}
-use Rattle.ec_link.specs.Plan.{PlanState, plan_of}
+use Rattle.ec_link.specs.Plan.{plan_of, PlanState}
 use Rattle.ec_link.proofs.Soundness.{plan_sound}
+use Rattle.ec_bringup.specs.Devices.{IsOfType, IsGenuine, AreGenuine}
+use Rattle.ec_bringup.specs.Undisturbed.{plan_at, slave_of, Rising, turns}
+use Rattle.ec_bringup.proofs.Genuine.{switched_on as genuine-on, stay}
+use Rattle.ec_bringup.specs.SwitchedOn.{no_identity, switched_on}
+use Rattle.ec_table.specs.Contents.{Contents}
+use Rattle.ec_table.specs.Sound as table
+use Rattle.ec_link.specs.Faults.{compile_fault}
+use Rattle.ec_world.specs.NewWorld.{AreOfTypes, IsTurn, AreTurns, BringUp, IsToStart, IsBroughtUp, NewLaw, rising_of}
+use Rattle.std.proofs.lemmas.List.{append-nil, length-append}
+use Rattle.ec_slave.specs.State.{SlaveState}
 use Rattle.ec_link.proofs.UsableLaws.{plan_usable}
 use Rattle.ec_cycle.specs.Master.{MasterState, readied, cycle_limit}
 use Rattle.ec_start.specs.declared.error.StartError.{StartError}
@@ -13,24 +21,47 @@ use Rattle.ec_start.specs.declared.phase.Phase.{Phase}
 use Rattle.ec_start.specs.declared.phase.Phase.TheVariants.{Idle, Ready, Failed}
 use Rattle.ec_start.specs.Scripts.{script}
 use Rattle.ec_start.specs.Running.{StartState, begun}
-use Rattle.ec_bringup.specs.Undisturbed.{Rising, turns}
 use Rattle.ec_bringup.specs.ComesUp.{IsUpAndWorks}
 use Rattle.ec_bringup.specs.Runs.{AreStartable}
-use Rattle.ec_bringup.proofs.Genuine.{stay}
-use Rattle.ec_bringup.proofs.StartableLaws.{slave_startable}
-use Rattle.ec_bringup.proofs.Up.{compiled-up}
+use Rattle.ec_bringup.proofs.CompleteLaws.{are-plans}
+use Rattle.ec_bringup.proofs.ComesUp.{compiled-up}
 use Rattle.ec_world.specs.declared.event.Event.{Event}
 use Rattle.ec_world.specs.World.{WorldState, Flight, flight_at, phase_ready, phase_awaits, is_up, awaits, resumed, ready_with}
 use Rattle.ec_world.specs.Laws.{IsRun}
 use Rattle.ec_world.specs.Whole.{IsNew, new_world}
-use Rattle.ec_world.specs.NewWorld.{IsTurn, AreTurns, BringUp, IsToStart, IsBroughtUp, NewLaw, rising_of}
-use Rattle.ec_world.proofs.NewWorlds.{devices}
 use Rattle.ec_world.proofs.ScriptLengths.{script_fits}
 use Rattle.ec_world.proofs.Sized.{run_many}
-use Rattle.ec_world.proofs.StillRising.{StillRises, still_rises}
+use Rattle.ec_world.proofs.Whole.{StillRises, still_rises, new-rises, new-low}
 use Rattle.ec_world.proofs.Turning.{Sending, length-turned}
 use Rattle.ec_world.proofs.Turns.{HasTurned, turns_once}
-use Rattle.ec_world.proofs.Whole.{new-rises, new-low}
+use Rattle.ec_world.proofs.Lists.{all_none}
+
+length-on : (ps : List SlavePlan) (is : List Identity) → length is ≡ length ps → length (switched_on ps is) ≡ length ps
+length-on [] is e = refl
+length-on (p ∷ ps) [] e = absurd (omega (arith, e))
+length-on (p ∷ ps) (i ∷ is) e = ap (λ (n : ℕ). suc n) (length-on ps is (omega (arith, e)))
+
+each-on : (ps : List SlavePlan) (is : List Identity) → length is ≡ length ps → ((k : ℕ) → k < length ps → IsOfType (plan_at ps k).kind.device (get_or is k no_identity))
+    → (k : ℕ) → k < length ps → IsGenuine (plan_at ps k).kind (slave_of (switched_on ps is) k)
+each-on [] is e h k l = absurd (omega (arith, l))
+each-on (p ∷ ps) [] e h k l = absurd (omega (arith, e))
+each-on (p ∷ ps) (i ∷ is) e h zero l = genuine-on p.kind i (h 0 (omega arith))
+each-on (p ∷ ps) (i ∷ is) e h (suc k) l = each-on ps is (omega (arith, e)) (λ n m. h (suc n) (omega (arith, m))) k (omega (arith, l))
+
+pub devices : (t : Contents) (is : List Identity) → table.IsSound t → compile_fault t ≡ None → length is ≡ length t.slaves → AreOfTypes t is
+    → AreGenuine (plan_of t).slaves (switched_on (plan_of t).slaves is)
+devices t is sound free e h =
+    let plan = plan_sound t sound free in
+    let many = plan.as_many in
+    let few = plan.few in
+    let same : length is ≡ length (plan_of t).slaves = e ∙ sym many in
+    record {
+      count = length-on (plan_of t).slaves is same;
+      few = omega (arith, few, many);
+      each = each-on (plan_of t).slaves is same (λ i l. h i (omega (arith, l, many)));
+    }
+
+-- ---- a start-up that nothing disturbs ends Ready, in a new world and after a failure
 
 -- ---- turn after turn
 
@@ -50,14 +81,6 @@ split (x ∷ xs) ys w v made h =
     let k : ℕ = if h.1 then 1 else 0 in
     let z : k + h.2 ≡ k + r.first + r.rest = omega (arith, s) in
     record { mid = r.mid; first = k + r.first; rest = r.rest; to_mid = (h.0, h.1, r.first, h.3, r.to_mid, refl); onward = r.onward; sum = h.5 ∙ z }
-
-both_long : (xs ys : List Event) → length (xs ++ ys) ≡ length xs + length ys
-both_long [] ys = omega arith
-both_long (x ∷ xs) ys = let e = both_long xs ys in omega (arith, e)
-
-append_none : (xs : List Event) → xs ++ [] ≡ xs
-append_none [] = refl
-append_none (x ∷ xs) = ap (λ (ys : List Event). x ∷ ys) (append_none xs)
 
 pub record IsGoing (r : Rising) : Type 0 where
   pub idle : r.start.phase ≡ Idle
@@ -88,7 +111,7 @@ record HaveTurned (k n : ℕ) (w : WorldState) (s : StartState) (es : List Event
 turns_all : (k n : ℕ) (w : WorldState) (s : StartState) (es : List Event) (v : WorldState) (made : ℕ) → Sending w s → w.slots ≡ None ∷ replicate n None
     → ((j : ℕ) → j < suc k → IsGoing (turns j (from_state s w.slaves))) → AreTurns (length w.slaves) (suc k) es → IsRun w es v made → HaveTurned (suc k) n w s es v made
 turns_all zero n w s es v made can free go are h =
-    let same : es ≡ are.0 = are.2 ∙ (ap (λ (xs : List Event). are.0 ++ xs) are.4 ∙ append_none are.0) in
+    let same : es ≡ are.0 = are.2 ∙ (ap (λ (xs : List Event). are.0 ++ xs) are.4 ∙ append-nil are.0) in
     let o = turns_once n w s es v made can free (subst (IsTurn (length w.slaves)) (sym same) are.3) h in
     record { is = o.1.is; slots = o.1.slots; master = o.1.master; count = o.0 }
 turns_all (suc k) n w s es v made can free go are h =
@@ -101,7 +124,7 @@ turns_all (suc k) n w s es v made can free go are h =
     (λ j l. subst (λ (x : Rising). IsGoing (turns j x)) (sym o.is) (go (suc j) (omega (arith, l))))
     (subst (λ (m : ℕ). AreTurns m (suc k) are.1) (sym many) are.4) p.onward in
     let low : ready_with w.master p.mid.start ≡ w.master = low_master w.master p.mid.start (is_up p.mid.start) refl (ap (λ (q : Phase). phase_ready q) now.idle) in
-    let long = both_long are.0 are.1 in
+    let long = length-append are.0 are.1 in
     let c = once.0 in
     let d = r.count in
     let sum = p.sum in
@@ -120,10 +143,7 @@ some_script [] = (_, refl)
 some_script (p ∷ ps) = (_, refl)
 
 pub free_slots : (n : ℕ) (os : List (Option Flight)) → length os ≡ n → ((k : ℕ) → get_or os k None ≡ None) → os ≡ replicate n None
-free_slots zero [] e h = refl
-free_slots zero (o ∷ os) e h = absurd (omega (arith, e))
-free_slots (suc n) [] e h = absurd (omega (arith, e))
-free_slots (suc n) (o ∷ os) e h = ap (λ (x : Option Flight). x ∷ os) (h 0) ∙ ap (λ (xs : List (Option Flight)). None ∷ xs) (free_slots n os (omega (arith, e)) (λ k. h (suc k)))
+free_slots n os e h = all_none os h ∙ ap (λ m. replicate m None) e
 
 none_free : (n k : ℕ) → (let o : Option Flight = None in get_or (replicate n o) k o) ≡ None
 none_free zero k = refl
@@ -160,7 +180,7 @@ risen t w s low =
     let n = s.new in
     let sound = plan_sound t n.sound n.accepted in
     let many = sound.as_many in
-    let planned : AreStartable (plan_of t).slaves = record { each = λ i l. slave_startable t n.sound n.accepted i l } in
+    let planned : AreStartable (plan_of t).slaves = record { each = (are-plans t n.sound n.accepted).planned } in
     let usable = plan_usable t n.sound n.accepted in
     still_rises s.events (plan_of t).slaves (new_world (plan_of t) s.identities) w s.made _ usable planned
     (new-rises (plan_of t) s.identities usable planned (n.one_each ∙ sym many)) (new-low (plan_of t) s.identities)

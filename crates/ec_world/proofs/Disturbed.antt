@@ -1,7 +1,7 @@
 -- What disturbs a cycle for a unit keeps the unit from being taken: one of its parts is spoiled, and stays so.
-use Rattle.std.proofs.Common.{ℕ, suc, ◌+◌, ◌<◌, ◌≤◌, ◌≡◌, ◌≢◌, ◌==◌, ◌&&◌, ◌||◌, Bool, true, false, Option, Some, None, refl, sym, ◌∙◌, ap, subst, inl, inr, arith, List, [], ◌∷◌, ◌++◌, length, map, get_or, set, is_none, if◌then◌else◌, unwrap_or, nat_le, get_or-set_same, length-set}
+use Rattle.std.proofs.Common.{ℕ, suc, ◌+◌, ◌<◌, ◌≤◌, ◌≡◌, ◌≢◌, ◌==◌, ◌&&◌, ◌||◌, Bool, true, false, Option, Some, None, refl, sym, ◌∙◌, ap, subst, inl, inr, arith, List, [], ◌∷◌, ◌++◌, length, map, get_or, set, if◌then◌else◌, unwrap_or, nat_le, get_or-set_same, length-set}
 use Rattle.std.specs.List.{list_all, list_any}
-use Rattle.std.proofs.lemmas.Bool.{cases_Bool, cases_eq, and_cases, and_parts, and_left, and_right, or_cases, or_left, eqb-true, eq-eqb, leb-true}
+use Rattle.std.proofs.lemmas.Bool.{cases_Bool, cases_eq, and_cases, and_parts, and_left, and_right, or_cases, or_left, eqb-true, eq-eqb, leb-true, true≢false}
 use Rattle.std.proofs.lemmas.List.{length-map, length_push}
 use Rattle.ec_bits.proofs.AnyLaws.{if_true}
 use Rattle.ec_link.specs.Meaning.{Meaning, share_of, meaning}
@@ -10,25 +10,16 @@ use Rattle.ec_link.specs.declared.plan.PartPlan.{PartPlan}
 use Rattle.ec_link.specs.Plan.{PlanState}
 use Rattle.ec_link.specs.Usable.{IsUsable}
 use Rattle.ec_world.specs.declared.event.Event.{Event}
-use Rattle.ec_world.specs.declared.event.Event.TheVariants.{StartNext, Set, Begin, Pass, Lose, Return, Close, Serve, AppPut, AppGet, Fault, Reset as ResetSlave}
+use Rattle.ec_world.specs.declared.event.Event.TheVariants.{Pass, Lose, Fault, Reset as ResetSlave}
 use Rattle.ec_world.specs.Plain.{Plain, PlainSlave, PlainFrame, Health, Working, Faulted, Reset, Note, Short, Cycle, unit_full, step, run, frame_at, plain_slave, no_plain_slave, keeping, filled, new_frames, with_note, with_slot, met_note, giving, is_full, all_full}
 use Rattle.ec_world.specs.Promises.{IsBegun, FallsShort, QuietLaw, unit_of_slave, is_of_unit, holds_of_unit, still_comes, is_awaited, disturbs}
-use Rattle.ec_world.proofs.Lists.{all_from-each}
+use Rattle.ec_world.proofs.Lists.{all_from-each, none_some, some_same}
 use Rattle.ec_world.proofs.CloseLaws.{all_full_kept}
 use Rattle.ec_world.proofs.Knowing.{share_is}
-use Rattle.ec_world.proofs.Tracing.{mapped, guarded, Leaves, Stays, Begins, Moves, Loses, Returns, Closes, leaves, Treats, Same, Uses, Fails, Resets, treats, Turned, faulted, switched}
-use Rattle.ec_world.proofs.Histories.{run_always, run_joins, begun_below, filled_has, new_one, set_has, set_at, none_there, keeping_number, used_health, other_health, count_kept}
+use Rattle.ec_world.proofs.Tracing.{guarded, Leaves, leaves, Turned, faulted, switched}
+use Rattle.ec_world.proofs.Histories.{run_always, run_joins, begun_below, filled_has, new_one, none_there, keeping_number, count_kept, frames_left, cycle_left, next_left, kept_on, Rests, HasFailed, HasRestarted, became}
 use Rattle.ec_world.proofs.Quiet.{short_alike}
 use Rattle.ec_world.proofs.Single.{left_there, Single, single_step, single_begun}
-
-none_some : {X : Type 0} (x : X) → None ≡ Some x → ⊥
-none_some x e = cc
-
-some_same : {X : Type 0} (x y : X) → Some x ≡ Some y → x ≡ y
-some_same x y e = cc
-
-true_false : true ≡ false → ⊥
-true_false e = cc
 
 -- ---- a slave that falls short goes on to do so
 
@@ -40,30 +31,12 @@ has_bits : (m : Meaning) (s : ℕ) (q : PlainSlave) → FallsShort m s q → (ha
 has_bits m s q (inl x) = x.1
 has_bits m s q (inr x) = or_left _ _ x.1
 
-short_stays : (m : Meaning) (p : Plain) (e : Event) (q : Plain) (s : ℕ) → step m p e ≡ Some q → s < length p.slaves → FallsShort m s (plain_slave p s) → FallsShort m s (plain_slave q s)
-short_stays m p e q s h inside short = by (treats m p e q h)
-  where
-    among : (qs : List PlainSlave) → q.slaves ≡ qs → FallsShort m s (get_or qs s no_plain_slave) → FallsShort m s (plain_slave q s)
-    among qs is there = subst (λ (xs : List PlainSlave). FallsShort m s (get_or xs s no_plain_slave)) (sym is) there
-
-    other : (t : ℕ) (y : PlainSlave) → s ≢ t → FallsShort m s (get_or (set p.slaves t y) s no_plain_slave)
-    other t y ne = short_alike m s (get_or (set p.slaves t y) s no_plain_slave) (plain_slave p s) (sym (other_health p.slaves t y s ne)) short
-
-    by : Treats m p e q → FallsShort m s (plain_slave q s)
-    by (Same is) = among p.slaves is short
-    by (Uses t y is own) = among (set p.slaves t y) is (short_alike m s (get_or (set p.slaves t y) s no_plain_slave) (plain_slave p s) (sym (used_health p.slaves t y s own)) short)
-    by (Fails t y own is now before) = elim (cases_eq s t) [
-      | inr ne ↦ among (set p.slaves t y) is (other t y ne)
-      | inl same ↦ absurd (in_op_whole m s (plain_slave p s) (ap (λ (n : ℕ). (plain_slave p n).health) same ∙ before) short)
-    ]
-    by (Resets t y own is now) = elim (cases_eq s t) [
-      | inr ne ↦ among (set p.slaves t y) is (other t y ne)
-      | inl same ↦ among (set p.slaves t y) is (inl (
-        ap (λ (n : ℕ). (get_or (set p.slaves t y) n no_plain_slave).health) same
-            ∙ (ap (λ (x : PlainSlave). x.health) (get_or-set_same p.slaves t y no_plain_slave (omega (arith, inside, same))) ∙ now),
-        has_bits m s (plain_slave p s) short,
-      ))
-    ]
+short_stays : (m : Meaning) (p : Plain) (e : Event) (q : Plain) (s : ℕ) → step m p e ≡ Some q → FallsShort m s (plain_slave p s) → FallsShort m s (plain_slave q s)
+short_stays m p e q s h short = elim (became m p e q s h) [
+  | Rests same ↦ short_alike m s (plain_slave q s) (plain_slave p s) (sym same) short
+  | HasFailed is now was ↦ absurd (in_op_whole m s (plain_slave p s) was short)
+  | HasRestarted is now ↦ inl (now, has_bits m s (plain_slave p s) short)
+]
 
 giving_short : (m : Meaning) (s : ℕ) (q : PlainSlave) (h : Health) → q.health ≡ h → FallsShort m s q → giving (share_of m s) q h ≡ Short
 giving_short m s q Working is short = absurd (in_op_whole m s q is short)
@@ -77,7 +50,7 @@ short_note m s f q part short = if_true _ _ _ (eq-eqb _ _ part) ∙ giving_short
 -- ---- a part that is spoiled
 
 not_full_then : (ns : List Note) (n : Note) → list_all is_full ns ≡ false → list_all is_full (ns ++ (n ∷ [])) ≡ false
-not_full_then [] n e = absurd (true_false e)
+not_full_then [] n e = absurd (true≢false e)
 not_full_then (x ∷ ns) n e = elim (and_cases (is_full x) (list_all is_full ns) e) [
   | inl here ↦ and_left (is_full x) (list_all is_full (ns ++ (n ∷ []))) here
   | inr there ↦ and_right (is_full x) (list_all is_full (ns ++ (n ∷ []))) (not_full_then ns n there)
@@ -94,7 +67,7 @@ pub data IsBad (m : Meaning) (p : Plain) (f : PlainFrame) : Type 0 where
 
 bad_stays : (m : Meaning) (p : Plain) (e : Event) (q : Plain) (f : PlainFrame) → step m p e ≡ Some q → IsBad m p f → IsBad m q f
 bad_stays m p e q f h (Noted x) = Noted x
-bad_stays m p e q f h (Coming s le l part short) = Coming s le (let n = count_kept m p e q h in omega (arith, l, n)) part (short_stays m p e q s h l short)
+bad_stays m p e q f h (Coming s le l part short) = Coming s le (let n = count_kept m p e q h in omega (arith, l, n)) part (short_stays m p e q s h short)
 
 bad_moves : (m : Meaning) (p : Plain) (e : Event) (q : Plain) (f : PlainFrame) → step m p e ≡ Some q → IsBad m p f
     → IsBad m q (with_note f (met_note m (length f.notes) f (plain_slave p (length f.notes))))
@@ -103,7 +76,7 @@ bad_moves m p e q f h (Coming s le l part short) = elim (cases_eq s (length f.no
   | inl same ↦ Noted (subst (λ (n : Note). list_all is_full (f.notes ++ (n ∷ [])) ≡ false) (sym (subst (λ (t : ℕ). met_note m t f (plain_slave p t) ≡ Short) same (short_note m s f (plain_slave p s) part short)))
       (not_full_at_last f.notes))
   | inr ne ↦ Coming s (let more = length_push f.notes (met_note m (length f.notes) f (plain_slave p (length f.notes))) in omega (arith, le, ne, more))
-      (let n = count_kept m p e q h in omega (arith, l, n)) part (short_stays m p e q s h l short)
+      (let n = count_kept m p e q h in omega (arith, l, n)) part (short_stays m p e q s h short)
 ]
 
 -- No whole frame of the part is on its way or kept.
@@ -113,70 +86,30 @@ pub record Spoiled (m : Meaning) (number k : ℕ) (p : Plain) : Type 0 where
   pub kept : (c : Cycle) → p.cycle ≡ Some c → c.number ≡ number → (notes : List Note) → get_or c.kept k None ≡ Some notes → list_all is_full notes ≡ false
 
 spoiled_step : (m : Meaning) (number k : ℕ) (p : Plain) (e : Event) (q : Plain) → step m p e ≡ Some q → Spoiled m number k p → Spoiled m number k q
-spoiled_step m number k p e q h c = by (leaves m p e q h)
+spoiled_step m number k p e q h c = record {
+  past = omega (arith, c.past, next_left m p e q l);
+  ways = frames_left m p e q l B (λ g is next new own part. absurd (omega (arith, new.number_is, c.past, own))) (λ j g own there inside num part. bad_moves m p e q g h (c.ways j g there num part))
+      (λ i f at num part. bad_stays m p e q f h (c.ways i f at num part));
+  kept = cycle_left m p e q l (λ d. d.number ≡ number → (notes : List Note) → get_or d.kept k None ≡ Some notes → list_all is_full notes ≡ false) (λ is own. absurd (omega (arith, c.past, own))) back c.kept;
+}
   where
+    l : Leaves m p e q
+    l = leaves m p e q h
+
     B : PlainFrame → Type 0
     B f = f.number ≡ number → f.part ≡ k → IsBad m q f
 
-    stays : (i : ℕ) (f : PlainFrame) → frame_at p i ≡ Some f → B f
-    stays i f at num part = bad_stays m p e q f h (c.ways i f at num part)
+    -- it passed all slaves
+    noted : (g : PlainFrame) → length g.notes ≡ length p.slaves → IsBad m p g → list_all is_full g.notes ≡ false
+    noted g all (Noted x) = x
+    noted g all (Coming s le few part short) = absurd (omega (arith, le, few, all))
 
-    by : Leaves m p e q → Spoiled m number k q
-    by (Stays slots next cycle) = record {
-      past = let x = c.past in omega (arith, x, next);
-      ways = λ i f at. stays i f (ap (λ os. get_or os i None) (sym slots) ∙ at);
-      kept = λ d is. c.kept d (sym cycle ∙ is);
-    }
-    by (Closes slots next cycle) = record {
-      past = let x = c.past in omega (arith, x, next);
-      ways = λ i f at. stays i f (ap (λ os. get_or os i None) (sym slots) ∙ at);
-      kept = λ d is. absurd (none_some d (sym cycle ∙ is));
-    }
-    by (Begins is_begin slots next cycle slaves room) = record {
-      past = let x = c.past in omega (arith, x, next);
-      ways = λ i f at. filled_has B (new_frames p.next p.outputs 0 m.parts) p.slots
-          (λ a g there own part. absurd (let x = c.past in let n = (new_one p.next 0 p.outputs m.parts a g there).number_is in omega (arith, x, n, own)))
-          stays i f (ap (λ os. get_or os i None) (sym slots) ∙ at);
-      kept = λ d is own. absurd (let n = ap (λ (x : Cycle). x.number) (some_same _ d (sym cycle ∙ is)) in let x = c.past in omega (arith, x, n, own));
-    }
-    by (Moves j g own there held is) = record {
-      past = let x = c.past in let next = ap (λ (z : Plain). z.next) is in omega (arith, x, next);
-      ways = λ i f at. set_has B p.slots j (Some moved_on) (λ x same. subst B (some_same moved_on x same) bad) stays i f (ap (λ (z : Plain). frame_at z i) (sym is) ∙ at);
-      kept = λ d at. c.kept d (sym (ap (λ (z : Plain). z.cycle) is) ∙ at);
-    }
-      where
-        moved_on : PlainFrame
-        moved_on = with_note g (met_note m (length g.notes) g (plain_slave p (length g.notes)))
-
-        bad : B moved_on
-        bad num part = bad_moves m p e q g h (c.ways j g there num part)
-    by (Loses j own is) = record {
-      past = let x = c.past in let next = ap (λ (z : Plain). z.next) is in omega (arith, x, next);
-      ways = λ i f at. set_has B p.slots j None (λ x no. absurd (none_some x no)) stays i f (ap (λ (z : Plain). frame_at z i) (sym is) ∙ at);
-      kept = λ d at. c.kept d (sym (ap (λ (z : Plain). z.cycle) is) ∙ at);
-    }
-    by (Returns j g there is all) = record {
-      past = let x = c.past in let next = ap (λ (z : Plain). z.next) is in omega (arith, x, next);
-      ways = λ i f at. set_has B p.slots j None (λ x no. absurd (none_some x no)) stays i f (ap (λ (z : Plain). frame_at z i) (sym is) ∙ at);
-      kept = λ d at own notes there.
-          let r = mapped (keeping g) p.cycle d (sym (ap (λ (z : Plain). z.cycle) is) ∙ at) in
-          back r.value r.there (sym (keeping_number g r.value) ∙ (ap (λ (x : Cycle). x.number) r.is ∙ own)) notes (ap (λ (x : Cycle). get_or x.kept k None) r.is ∙ there);
-    }
-      where
-        -- it passed all slaves
-        noted : IsBad m p g → list_all is_full g.notes ≡ false
-        noted (Noted x) = x
-        noted (Coming s le l part short) = absurd (omega (arith, le, l, all))
-
-        back : (x : Cycle) → p.cycle ≡ Some x → x.number ≡ number → (notes : List Note) → get_or (keeping g x).kept k None ≡ Some notes → list_all is_full notes ≡ false
-        back x at own = go ((g.number == x.number) && is_none (get_or x.kept g.part None)) refl
-          where
-            go : (b : Bool) → ((g.number == x.number) && is_none (get_or x.kept g.part None)) ≡ b → (notes : List Note)
-                → get_or (if b then record x { kept = set x.kept g.part (Some g.notes) } else x).kept k None ≡ Some notes → list_all is_full notes ≡ false
-            go true on notes e = set_at (λ i ns. i ≡ k → list_all is_full ns ≡ false) x.kept g.part g.notes
-                (λ part. noted (c.ways j g there (eqb-true _ _ (and_parts (g.number == x.number) _ on).0 ∙ own) part))
-                (λ i ns here same. c.kept x at own ns (ap (λ (n : ℕ). get_or x.kept n None) (sym same) ∙ here)) k notes e refl
-            go false off notes e = c.kept x at own notes e
+    back : (j : ℕ) (g : PlainFrame) (x : Cycle) → frame_at p j ≡ Some g → length g.notes ≡ length p.slaves → p.cycle ≡ Some x → (keeping g x).number ≡ number
+        → (notes : List Note) → get_or (keeping g x).kept k None ≡ Some notes → list_all is_full notes ≡ false
+    back j g x there all at num notes e =
+        let own : x.number ≡ number = sym (keeping_number g x) ∙ num in
+        kept_on (λ i ns. i ≡ k → list_all is_full ns ≡ false) number g x (λ mine part. noted g all (c.ways j g there mine part)) own
+        (λ i ns here same. c.kept x at own ns (ap (λ (n : ℕ). get_or x.kept n None) (sym same) ∙ here)) k notes e refl
 
 -- ---- what spoils a part
 
@@ -217,7 +150,7 @@ found {X} t (o ∷ os) never e = elim (or_cases (t o) (list_any t os) e) [
 ]
   where
     first : (x : Option X) → o ≡ x → t o ≡ true → Found t (o ∷ os)
-    first None is on = absurd (true_false (sym on ∙ (ap t is ∙ never)))
+    first None is on = absurd (true≢false (sym on ∙ (ap t is ∙ never)))
     first (Some x) is on = record { slot = 0; value = x; there = is; meets = sym (ap t is) ∙ on }
 
 -- a slave comes to fall short before the frame of its part
@@ -265,20 +198,11 @@ short_spoils m number u p s x q r c short unit awaited = record {
     there = subst (λ (z : Plain). FallsShort m s (plain_slave z s)) r.is (subst (FallsShort m s) (sym (get_or-set_same p.slaves s r.slave no_plain_slave r.inside)) short)
 
 spoils : (m : Meaning) (number u : ℕ) (p : Plain) (e : Event) (q : Plain) → Single m number p → step m p e ≡ Some q → disturbs m number u p e ≡ true → SpoiledPart m number u q
-spoils m number u p StartNext q c h d = absurd (true_false (sym d))
-spoils m number u p (Set v x) q c h d = absurd (true_false (sym d))
-spoils m number u p Begin q c h d = absurd (true_false (sym d))
-spoils m number u p (Pass k) q c h d = absurd (true_false (sym d))
 spoils m number u p (Lose k) q c h d = by (frame_at p k) refl d
   where
     by : (o : Option PlainFrame) → frame_at p k ≡ o → holds_of_unit m number u o ≡ true → SpoiledPart m number u q
-    by None at own = absurd (true_false (sym own))
+    by None at own = absurd (true≢false (sym own))
     by (Some f) at own = lost_spoils m number u p k f q c at (guarded _ _ q h) own
-spoils m number u p (Return k) q c h d = absurd (true_false (sym d))
-spoils m number u p Close q c h d = absurd (true_false (sym d))
-spoils m number u p (Serve s) q c h d = absurd (true_false (sym d))
-spoils m number u p (AppPut s i x) q c h d = absurd (true_false (sym d))
-spoils m number u p (AppGet s i) q c h d = absurd (true_false (sym d))
 spoils m number u p (Fault s) q c h d =
     let r = faulted m p s q h in
     let both = and_parts (unit_of_slave m s == u) _ d in
@@ -289,6 +213,7 @@ spoils m number u p (ResetSlave s) q c h d =
     let both = and_parts (unit_of_slave m s == u) _ d in
     let more = and_parts (has_outs (share_of m s) || has_ins (share_of m s)) _ both.1 in
     short_spoils m number u p s Reset q r c (inl (r.now, more.0)) both.0 more.1
+spoils m number u p _ q c h d = absurd (true≢false (sym d))
 
 -- a slave that falls short as the cycle begins
 begun_spoiled : (m : Meaning) (p begun : Plain) (s : ℕ) → IsBegun m p begun → Single m p.next begun → s < length p.slaves → FallsShort m s (plain_slave p s) → Spoiled m p.next (share_of m s).part begun
@@ -340,7 +265,7 @@ quiet_law m p begun after c u inside b opened own taken = record {
     | inl on ↦ absurd (
         let tests = and_parts (f.number == p.next) _ on in
         let num = eqb-true _ _ tests.0 in
-        true_false (sym (whole_part f.part (end.inside k f at num) (eqb-true _ _ tests.1)) ∙ ap all_full (end.missing c opened own k f at num)))
+        true≢false (sym (whole_part f.part (end.inside k f at num) (eqb-true _ _ tests.1)) ∙ ap all_full (end.missing c opened own k f at num)))
   ];
 }
   where
@@ -361,7 +286,7 @@ quiet_law m p begun after c u inside b opened own taken = record {
     not_spoiled : (k : ℕ) → k < length m.parts → unit_of_part m k ≡ u → Spoiled m p.next k (run m begun after).plain → ⊥
     not_spoiled k l mine s =
         let r = all_full_kept (get_or c.kept k None) (whole_part k l mine) in
-        true_false (sym (sym (ap all_full r.1) ∙ whole_part k l mine) ∙ s.kept c opened own r.0 r.1)
+        true≢false (sym (sym (ap all_full r.1) ∙ whole_part k l mine) ∙ s.kept c opened own r.0 r.1)
 
     cut : (before rest : List Event) (e : Event) (next : Plain) → after ≡ before ++ (e ∷ rest) → step m (run m begun before).plain e ≡ Some next → (run m begun after).plain ≡ (run m next rest).plain
     cut before rest e next split made =
@@ -389,7 +314,7 @@ spoiled_not_full m p begun after c u b opened own taken before behind slot q f s
     let end : Spoiled m p.next f.part (run m begun after).plain = subst (Spoiled m p.next f.part) (sym cut) later in
     let full : all_full (get_or c.kept f.part None) ≡ true = whole in
     let r = all_full_kept (get_or c.kept f.part None) full in
-    true_false (sym (sym (ap all_full r.1) ∙ full) ∙ end.kept c opened own r.0 r.1)
+    true≢false (sym (sym (ap all_full r.1) ∙ full) ∙ end.kept c opened own r.0 r.1)
   where
     x : Plain
     x = (run m begun before).plain

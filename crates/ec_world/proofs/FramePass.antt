@@ -1,14 +1,14 @@
--- A cyclic frame passes the next slave.
-use Rattle.std.proofs.Common.{ℕ, ◌+◌, ◌*◌, ◌%◌, ◌<◌, ◌≤◌, ◌≡◌, Some, refl, sym, ◌∙◌, ap, subst, arith, List, [], ◌∷◌, ◌++◌, length, slice_index, bit_or, mod-eq_of_lt}
-use Rattle.std.proofs.lemmas.List.{length_push, length-map}
+-- The AL word in a cyclic frame: each slave that the frame passes joins its own by OR.
+use Rattle.std.proofs.Common.{ℕ, ◌+◌, ◌≡◌, sym, ◌∙◌, ap, subst, arith, List, [], ◌∷◌, slice_index, bit_or, Some, ◌*◌, ◌%◌, ◌<◌, ◌≤◌, refl, ◌++◌, length, mod-eq_of_lt}
 use Rattle.ec_al.specs.Al.{status_word}
+use Rattle.ec_slave.specs.State.{SlaveState, with_answer}
+use Rattle.ec_slave.specs.Physical.{byte_at, retold}
+use Rattle.ec_slave.proofs.RegisterAccess.{shows_itself, retold_by_place}
+use Rattle.std.proofs.lemmas.List.{length_push, length-map}
 use Rattle.ec_frame.specs.Datagram.{Datagram, adp_of, ado_of}
 use Rattle.ec_frame.specs.Frame.{Payload, IsFrame, with_datagrams}
 use Rattle.ec_frame.proofs.Verdict.{one_payload}
-use Rattle.ec_slave.specs.State.{SlaveState, with_answer}
-use Rattle.ec_slave.specs.Physical.{byte_at, retold}
 use Rattle.ec_slave.proofs.Meetings.{logical_meet}
-use Rattle.ec_slave.proofs.RegisterAccess.{retold_by_place}
 use Rattle.ec_slave.specs.Meeting.{meets, passes, Passed, IsPassed}
 use Rattle.ec_slave.proofs.Broadcast.{broadcast_read}
 use Rattle.ec_link.specs.Plan.{PlanState, part_at}
@@ -23,7 +23,19 @@ use Rattle.ec_world.specs.Exchanging.{given_in, slave_left}
 use Rattle.ec_world.specs.Laws.{BringsWord}
 use Rattle.ec_world.proofs.ProcessPass.{ProcessPassed, process_pass, passes_first}
 use Rattle.ec_world.proofs.Knowing.{knows, left_shows}
-use Rattle.ec_world.proofs.Saying.{joins}
+
+-- what a broadcast read of it makes of a word
+pub joins : (s : SlaveState) (al : List ℕ) (word a : ℕ) → a ≡ 0x0130 → al ≡ word ∷ 0 ∷ [] → retold al (λ k. Some (bit_or (slice_index al k) (byte_at s (a + k)))) ≡ bit_or word (status_word s.al) ∷ 0 ∷ []
+joins s al word a at is = subst (λ (xs : List ℕ). retold xs (λ k. Some (bit_or (slice_index xs k) (byte_at s (a + k)))) ≡ bit_or word (status_word s.al) ∷ 0 ∷ []) (sym is) two
+  where
+    two : bit_or word (byte_at s (a + 0)) ∷ bit_or 0 (byte_at s (a + 1)) ∷ [] ≡ bit_or word (status_word s.al) ∷ 0 ∷ []
+    two =
+        ap (λ (n : ℕ). bit_or word (byte_at s n) ∷ bit_or 0 (byte_at s (a + 1)) ∷ []) (let z : a + 0 ≡ 0x0130 = omega (arith, at) in z)
+        ∙ (ap (λ (n : ℕ). bit_or word n ∷ bit_or 0 (byte_at s (a + 1)) ∷ []) (shows_itself s).status
+        ∙ (ap (λ (n : ℕ). bit_or word (status_word s.al) ∷ bit_or 0 (byte_at s n) ∷ []) (let z : a + 1 ≡ 0x0131 = omega (arith, at) in z)
+        ∙ ap (λ (n : ℕ). bit_or word (status_word s.al) ∷ bit_or 0 n ∷ []) (shows_itself s).status_high))
+
+-- ---- a cyclic frame passes the next slave
 
 nop_meets : (s : SlaveState) (number k : ℕ) → meets s (name_datagram number k) ≡ record { slave = s; datagram = name_datagram number k }
 nop_meets s number k = (logical_meet s (name_datagram number k)).nop refl

@@ -1,8 +1,8 @@
 -- Events on frames: a pass, a loss, a beginning.
-use Rattle.std.proofs.Common.{ℕ, zero, suc, ◌+◌, ◌++◌, ◌<◌, ◌≡◌, Bool, true, false, Option, Some, None, refl, sym, ◌∙◌, ap, subst, inl, inr, arith, List, [], ◌∷◌, length, get_or, set, is_some, if◌then◌else◌, option_map, unwrap_or, nat_lt, length-set, get_or-set_same, get_or-set_other}
+use Rattle.std.proofs.Common.{ℕ, ◌+◌, ◌++◌, ◌<◌, ◌≡◌, Bool, true, false, Option, Some, None, refl, sym, ◌∙◌, ap, subst, inl, inr, arith, [], ◌∷◌, length, get_or, set, is_some, if◌then◌else◌, option_map, unwrap_or, nat_lt, length-set, get_or-set_same, get_or-set_other}
 use Rattle.std.specs.List.{list_all}
 use Rattle.std.proofs.lemmas.Bool.{cases_eq, and_parts, ltb-true}
-use Rattle.std.proofs.lemmas.List.{length_push}
+use Rattle.std.proofs.lemmas.List.{length_push, map-set}
 use Rattle.ec_bits.proofs.AnyLaws.{if_true}
 use Rattle.ec_frame.specs.Frame.{Payload}
 use Rattle.ec_slave.specs.State.{SlaveState}
@@ -17,17 +17,7 @@ use Rattle.ec_world.specs.Shows.{Shows}
 use Rattle.ec_world.specs.SlaveShows.{SlaveShows}
 use Rattle.ec_world.specs.FrameShows.{FrameShows}
 use Rattle.ec_world.proofs.FramePass.{frame_pass}
-use Rattle.ec_world.proofs.InSlots.{map-set, get_or-set_default, same_progress, flight_pairs, passes_there, is_some-guarded}
-
-none_some : {X : Type 0} (x : X) → None ≡ Some x → ⊥
-none_some x e = cc
-
-some_same : {X : Type 0} (x y : X) → Some x ≡ Some y → x ≡ y
-some_same x y e = cc
-
-if_some : (o : Option PlainFrame) → is_some o ≡ true → (f : PlainFrame) × (o ≡ Some f)
-if_some None e = absurd (let z : false ≡ true = e in cc)
-if_some (Some f) e = (f, refl)
+use Rattle.ec_world.proofs.Lists.{get_or-set_default, same_progress, flight_pairs, passes_there, is_some-guarded, none_some, some_same, within_of}
 
 -- ---- a loss
 
@@ -118,8 +108,8 @@ pass_shows w p k w2 sound s can pass =
     let w4 = record w { slaves = set w.slaves t after; slots = set w.slots k (Some x2) } in
     let is : w2 ≡ w4 = pass.is ∙ ap (λ ss. record w { slaves = ss; slots = set w.slots k (Some x2) }) (by_ring.slaves p1 shows.spelled) in
     let more : length (f.notes ++ (n ∷ [])) ≡ t + 1 = length_push f.notes n in
-    let inside : k < length w.slots = in_list w.slots k x pass.there in
-    let inside2 : k < length p.slots = in_list p.slots k f both.there in
+    let inside : k < length w.slots = within_of w.slots k x pass.there in
+    let inside2 : k < length p.slots = within_of p.slots k f both.there in
     let stands : flight_progress x2 ≡ progress_of (with_note f n)
     = ap (λ a. record { number = a; part = x.part; passed = x.passed + 1 }) both.number
     ∙ (ap (λ a. record { number = f.number; part = a; passed = x.passed + 1 }) both.part
@@ -161,8 +151,3 @@ pass_shows w p k w2 sound s can pass =
   where
     list_all_lets : PlainFrame → Plain → Bool
     list_all_lets f p = list_all (lets_by (progress_of f)) (all_progress p.slots)
-
-    in_list : {X : Type 0} (os : List (Option X)) (k : ℕ) (x : X) → get_or os k None ≡ Some x → k < length os
-    in_list [] k x e = absurd (none_some x e)
-    in_list (o ∷ os) zero x e = omega arith
-    in_list (o ∷ os) (suc k) x e = let y = in_list os k x e in omega arith

@@ -1,8 +1,8 @@
 -- A cyclic frame as it is sent.
-use Rattle.std.proofs.Common.{ℕ, ◌+◌, ◌-◌, ◌*◌, ◌^◌, ◌<◌, ◌≡◌, refl, sym, ◌∙◌, ap, subst, arith, List, [], length, option_map, unwrap_or}
-use Rattle.std.proofs.lemmas.List.{length-map, length-replicate}
+use Rattle.std.proofs.Common.{ℕ, ◌+◌, ◌-◌, ◌*◌, ◌^◌, ◌<◌, ◌≡◌, refl, sym, ◌∙◌, ap, subst, arith, List, [], length, Option, Some, None, false, option_map, unwrap_or}
+use Rattle.std.specs.Option.{option_map_or}
+use Rattle.std.proofs.lemmas.List.{length-map}
 use Rattle.ec_bits.specs.Bits.{bit, zeros}
-use Rattle.ec_bits.proofs.BitLaws.{bit-overlay, bit-zeros}
 use Rattle.ec_bits.proofs.AnyLaws.{if_false}
 use Rattle.ec_frame.specs.Frame.{IsFrame}
 use Rattle.ec_frame.specs.Building.{bare_payload}
@@ -10,12 +10,12 @@ use Rattle.ec_link.specs.Meaning.{share_of, slave_at, area_at, place_of_part, me
 use Rattle.ec_link.specs.declared.settings.Share.{Share}
 use Rattle.ec_link.specs.Plan.{PlanState, part_at}
 use Rattle.ec_link.specs.Usable.{IsUsable}
-use Rattle.ec_cycle.specs.Frames.{image_bit, process_bytes, returned_first, sent_datagrams}
-use Rattle.ec_cycle.proofs.Placing.{image_bit_is}
-use Rattle.ec_cycle.proofs.Answering.{length-process_bytes, length-returned_first}
+use Rattle.ec_cycle.specs.Frames.{process_bytes, returned_first, sent_datagrams}
+use Rattle.ec_cycle.proofs.OnTheirWay.{data_fill_their_part}
+use Rattle.ec_cycle.proofs.ProcessBits.{outputs_by_source}
 use Rattle.ec_world.specs.Plain.{PlainFrame}
 use Rattle.ec_world.specs.FrameShows.{out_bit, DatagramsShow, FrameShows}
-use Rattle.ec_world.proofs.DataLaws.{no_overlap, same_place}
+use Rattle.ec_world.proofs.DataLaws.{same_place}
 use Rattle.ec_world.proofs.Knowing.{share_is}
 
 abbrev pub fresh : ℕ → ℕ → List ℕ → PlainFrame
@@ -27,21 +27,15 @@ fresh_bit : (plan : PlanState) (k : ℕ) (image : List ℕ) (t o : ℕ) → IsUs
 fresh_bit plan k image t o sound b part e =
     let m = meaning plan in
     let a = area_at plan t in
-    let n = (part_at plan.parts k).bytes in
     let from = 8 * (part_at plan.parts k).address in
     let c = same_place m (area_at plan) (place_of_part plan) k t sound.laid (subst (λ (n : ℕ). t < n) (sym (length-map plan.slaves (λ s. s.share))) b) part in
     let i = a.out_at + o - from in
-    let back : from + i ≡ a.out_at + o = let x = c.out_from in omega arith in
-    let here : i < 8 * length (zeros n) = let x = c.out_to in let y = c.out_from in let z = length-replicate {A = ℕ} n 0 in omega (arith, z) in
     let own : (slave_at plan t).share.part ≡ k = ap (λ (x : Share). x.part) (sym (share_is plan t)) ∙ part in
-    let decides : image_bit plan.out_links k 0 plan.slaves (a.out_at + o) ≡ out_source plan.out_links t o
-    = image_bit_is plan.out_links k 0 plan.slaves (a.out_at + o) t o b own e refl
-    (λ u l. no_overlap (area_at plan u).out_at a.out_at (area_at plan u).outs a.outs (λ x y. sound.laid.out_out u t x y (omega arith)) o e)
-    ∙ ap (λ s. out_source plan.out_links s o) (let z : 0 + t ≡ t = omega arith in z) in
-    bit-overlay (zeros n) (λ i. option_map (bit image) (image_bit plan.out_links k 0 plan.slaves (from + i))) i here
-    ∙ (ap (λ j. unwrap_or (option_map (bit image) (image_bit plan.out_links k 0 plan.slaves j)) (bit (zeros n) i)) back
-    ∙ (ap (λ s. unwrap_or (option_map (bit image) s) (bit (zeros n) i)) decides
-    ∙ ap (unwrap_or (option_map (bit image) (out_source plan.out_links t o))) (bit-zeros n i)))
+    outputs_by_source plan k t o i image sound b own e (omega (arith, c.out_to, c.out_from)) (omega (arith, c.out_from)) ∙ or_false (out_source plan.out_links t o)
+  where
+    or_false : (s : Option ℕ) → option_map_or (bit image) s false ≡ unwrap_or (option_map (bit image) s) false
+    or_false None = refl
+    or_false (Some j) = refl
 
 pub fresh_datagrams : (plan : PlanState) (number k : ℕ) (image : List ℕ) → IsUsable plan → number < 2 ^ 64 → k < length plan.parts
     → DatagramsShow plan (fresh number k image) (sent_datagrams plan number k image)
@@ -54,8 +48,8 @@ fresh_datagrams plan number k image sound fits there = record {
   is = refl;
   one_datagram = λ e. sym (if_false _ _ _ e);
   process = record {
-    sent_room = ap (λ n. 8 * n) (sym (length-process_bytes plan k image));
-    returned_room = ap (λ n. 8 * n) (sym (length-returned_first plan k image));
+    sent_room = ap (λ n. 8 * n) (sym (data_fill_their_part plan k image).sent);
+    returned_room = ap (λ n. 8 * n) (sym (data_fill_their_part plan k image).returned);
     to_come = λ t o a b e l. fresh_bit plan k image t o sound (let x = length-map plan.slaves (λ s. s.share) in omega arith) e l;
     noted = λ t o v a. absurd (omega arith);
     in_part = λ t a. absurd (omega arith);

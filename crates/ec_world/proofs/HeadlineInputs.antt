@@ -1,9 +1,10 @@
 -- The headline of a close, of what a world's calls show.
 use Rattle.std.proofs.Common.{ℕ, zero, suc, ◌+◌, ◌*◌, ◌<◌, ◌≤◌, ◌≡◌, ◌≢◌, ◌==◌, ◌||◌, Bool, true, false, Option, Some, None, refl, sym, ◌∙◌, ap, subst, inl, inr, arith, List, [], ◌∷◌, ◌++◌, length, map, get_or, is_some, if◌then◌else◌, option_map, slice_get}
+use Rattle.std.proofs.Math.ListN.{get_or-map as get_or-mapped}
 use Rattle.std.specs.Option.{option_map_or}
 use Rattle.std.specs.List.{AllByRecursion}
 use Rattle.std.specs.Int.{bit_at}
-use Rattle.std.proofs.lemmas.Bool.{cases_Bool, cases_lt, cases_eq, and_from, or_left, or_right, or_cases, lt-ltb, ltb-true, eq-eqb}
+use Rattle.std.proofs.lemmas.Bool.{cases_Bool, cases_lt, cases_eq, and_from, or_left, or_right, or_cases, lt-ltb, ltb-true, eq-eqb, true≢false}
 use Rattle.std.proofs.lemmas.List.{append_assoc, get_or-map, length-replicate}
 use Rattle.std.proofs.lemmas.Nat.Bits.{bit_at_above}
 use Rattle.std.proofs.lemmas.Option.{slice_get-get_or}
@@ -24,17 +25,19 @@ use Rattle.ec_link.specs.declared.settings.SlavePlan.{SlavePlan}
 use Rattle.ec_link.specs.declared.plan.PartPlan.{PartPlan}
 use Rattle.ec_link.specs.Shares.{has_outs, has_ins, predicted, unit_of_part as unit_of_plain}
 use Rattle.ec_link.specs.LinkRuns.{IsLinked, is_out}
-use Rattle.ec_link.specs.Image.{image, image_from, placed}
+use Rattle.ec_link.specs.Image.{image_from, placed}
 use Rattle.ec_link.specs.Laws.{IsPair, AreItsLinks}
 use Rattle.ec_link.specs.Meaning.{Meaning, Linked, meaning, share_of, in_source, slave_at as settings_of}
 use Rattle.ec_link.specs.Plan.{PlanState, plan_of, part_of, part_at, no_part}
 use Rattle.ec_link.specs.Sound as link
 use Rattle.ec_link.specs.Usable.{IsUsable, IsInImage}
-use Rattle.ec_link.proofs.LinkLaws.{ins_linked}
-use Rattle.ec_link.proofs.PlanSound.{no_fault}
+use Rattle.ec_link.specs.Interface.{HasBit, IsPlaced}
+use Rattle.ec_link.proofs.LinkLaws.{linked_inputs}
+use Rattle.ec_link.proofs.Placed.{variables_are_placed, linked_bits_are_there}
 use Rattle.ec_link.proofs.Soundness.{plan_sound}
-use Rattle.ec_link.proofs.InputsBack.{its_links}
-use Rattle.ec_link.proofs.VariablesApart.{variables_apart}
+use Rattle.ec_link.proofs.InputsBack.{links_are_the_tables}
+use Rattle.ec_link.proofs.UnitsListed.{lists_units}
+use Rattle.ec_link.proofs.VariablesApart.{bits_are_apart}
 use Rattle.ec_cycle.specs.Closing.{ReportState}
 use Rattle.ec_cycle.specs.Master.{MasterState, OpenCycle, value_at, value_of}
 use Rattle.ec_world.specs.declared.event.Event.{Event}
@@ -47,30 +50,20 @@ use Rattle.ec_world.specs.Shows.{Shows, CyclesShow}
 use Rattle.ec_world.specs.Laws.{IsRun}
 use Rattle.ec_world.specs.Whole.{IsNew, plain_of}
 use Rattle.ec_world.specs.Promises.{IsNoted, IsMissed as IsMissedPlain, NotBack, FellShort as FellShortAt, FallsShort, IsClosedAs, IsNotedAt, IsBegun as IsBegunPlain, IsQuiet, unit_of_slave, is_of_unit, holds_of_unit}
-use Rattle.ec_world.specs.Headline.{IsMade, IsBegun, HasLost, IsUnderWay, HadTrouble, IsInOp, progress_at, variable_bit, output_bits, input_bits, GivesLess, unit_of, unit_of_part, Says, IsRead, IsTaken, FellShort, Cause, ByLoss, ByEarlyClose, ByFallingShort, IsMissed, ListsUnits, CloseShows}
-use Rattle.ec_world.proofs.InSlots.{same_progress}
+use Rattle.ec_world.specs.Headline.{IsMade, IsBegun, HasLost, IsUnderWay, HadTrouble, IsInOp, progress_at, variable_bit, output_bits, input_bits, GivesLess, unit_of, unit_of_part, Says, IsRead, IsTaken, FellShort, Cause, ByLoss, ByEarlyClose, ByFallingShort, IsMissed, ListsUnits, CloseShows, HeadlineLaw, EachIsPromised}
+use Rattle.ec_world.proofs.Lists.{same_progress, none_some, some_same}
 use Rattle.ec_world.proofs.Knowing.{share_is}
-use Rattle.ec_world.proofs.Settings.{get_or-mapped}
 use Rattle.ec_world.proofs.MasterSteps.{OpenBoth, open_both}
-use Rattle.ec_world.proofs.Runs.{runs_show, runs_join}
+use Rattle.ec_world.proofs.StepLaws.{runs_show, runs_join, steps_show}
 use Rattle.ec_world.proofs.Promising.{inputs_law, notes_law}
 use Rattle.ec_world.proofs.Published.{published_law}
-use Rattle.ec_world.proofs.Imaged.{bit_past, HasBit, has_bit, shown_bit, variable_there}
+use Rattle.ec_world.proofs.Headlines.{bit_past, shown_bit, MadeAt, made_at, made_later, run_plan, Sees, sees, PassedOn, passed_on, op_works, works_op, part_is, free_slots, outs_are, ins_are, safe_faulted, init_reset, faulted_safe, reset_init, Cut, cut, headline_outputs}
 use Rattle.ec_world.proofs.Since.{BeganAt, are_begun, begun_of, begun_on}
-use Rattle.ec_world.proofs.StepLaws.{steps_show}
 use Rattle.ec_world.proofs.Disturbed.{in_parts, quiet_law, spoiled_not_full}
 use Rattle.ec_world.proofs.Quiet.{Away}
 use Rattle.ec_world.proofs.Located.{Place, IsKept, OnItsWay, Lost, LostAt, located}
 use Rattle.ec_world.proofs.Sized.{run_same}
-use Rattle.ec_world.proofs.UnitsListed.{lists_units}
 use Rattle.ec_world.proofs.Troubles.{without_start, extended, preceded, falls}
-use Rattle.ec_world.proofs.Headlines.{MadeAt, made_at, made_later, run_plan, Sees, sees, PassedOn, passed_on, op_works, works_op, part_is, plan_variables, free_slots, outs_are, ins_are, safe_faulted, init_reset, faulted_safe, reset_init}
-
-none_some : {X : Type 0} (x : X) → None ≡ Some x → ⊥
-none_some x e = cc
-
-some_same : {X : Type 0} (x y : X) → Some x ≡ Some y → x ≡ y
-some_same x y e = cc
 
 -- ---- events behind the beginning of a cycle
 
@@ -135,14 +128,11 @@ all_at P (y ∷ xs) (suc k) x h e = all_at P xs k x h.1 e
 -- where a bit of an input variable stands
 in_image : (t : Contents) → IsUsable (plan_of t) → (x b : ℕ) → HasBit t In x b → image_from t.variables x + b < (plan_of t).in_bits
 in_image t usable x b h =
-    let v : Variable = placed t.variables x h.row in
-    let there : slice_get (plan_of t).variables x ≡ Some v = ap (λ vs. slice_get vs x) (plan_variables t) ∙ variable_there t.variables x h.row h.there in
-    let fits = all_at (IsInImage (plan_of t)) (plan_of t).variables x v usable.variables there in
-    let bits : (if is_out v.direction then (plan_of t).out_bits else (plan_of t).in_bits) ≡ (plan_of t).in_bits = ap (λ d. if is_out d then (plan_of t).out_bits else (plan_of t).in_bits) h.way in
-    let from : image_from t.variables x ≡ v.from = ap (λ o. option_map_or (λ r. (placed t.variables x r).from) o 0) h.there in
-    let inside = fits.inside in
-    let few = h.inside in
-    omega (arith, bits, from, inside, few)
+    let at = variables_are_placed t x h.row h.there in
+    let v : Variable = at.placed in
+    let fits = all_at (IsInImage (plan_of t)) (plan_of t).variables x v usable.variables at.there in
+    let bits : (if is_out v.direction then (plan_of t).out_bits else (plan_of t).in_bits) ≡ (plan_of t).in_bits = ap (λ d. if is_out d then (plan_of t).out_bits else (plan_of t).in_bits) (at.way ∙ h.way) in
+    omega (arith, bits, at.from, at.bits, fits.inside, h.inside)
 
 -- ---- a unit in the report
 
@@ -197,7 +187,7 @@ module _ (t : Contents) (ids : List Identity) (old : WorldState) (events : List 
   sound = plan_sound t n.sound n.accepted
 
   links : AreItsLinks t w.plan
-  links = its_links t w.plan n.sound n.accepted w_plan
+  links = subst (AreItsLinks t) (sym w_plan) (links_are_the_tables t n.sound n.accepted)
 
   closes : Closes w v
   closes = subst (λ (b : Bool). ByStart b (GivesUp w v) (Closes w v)) shown.no_start (does.happens refl)
@@ -241,13 +231,13 @@ module _ (t : Contents) (ids : List Identity) (old : WorldState) (events : List 
 
   -- ---- bits
 
-  variables_w : w.master.plan.variables ≡ image t.variables
-  variables_w = ap (λ (x : PlanState). x.variables) (shown.same_plan ∙ w_plan) ∙ plan_variables t
+  variables_w : w.master.plan.variables ≡ (plan_of t).variables
+  variables_w = ap (λ (x : PlanState). x.variables) (shown.same_plan ∙ w_plan)
 
   same_plan : v.master.plan ≡ w.master.plan
   same_plan = ap (λ (x : WorldState). x.master.plan) closed.rest
 
-  variables_v : v.master.plan.variables ≡ image t.variables
+  variables_v : v.master.plan.variables ≡ (plan_of t).variables
   variables_v = ap (λ (x : PlanState). x.variables) same_plan ∙ variables_w
 
   sized : length w.master.inputs ≡ bytes_of_bits (plan_of t).in_bits
@@ -264,9 +254,9 @@ module _ (t : Contents) (ids : List Identity) (old : WorldState) (events : List 
 
   pub bit_in : (x y i o : ℕ) → IsLinked t In x y i o → BitIn x y i o
   bit_in x y i o l =
-      let has : HasBit t In x y = has_bit t In x y i o (no_fault t n.accepted).link l in
+      let has : HasBit t In x y = linked_bits_are_there t n.accepted In x y i o l in
       let source : in_source w.plan.in_links (image_from t.variables x + y) ≡ Some (record { slave = i; bit_of = o }) = (links.inputs (image_from t.variables x + y) i o).1 (record { variable = x; bit = y; linked = l; image_is = refl }) in
-      let here = ins_linked w.plan w.plan.in_links (image_from t.variables x + y) (record { slave = i; bit_of = o }) usable.in_links source in
+      let here = linked_inputs w.plan usable (image_from t.variables x + y) (record { slave = i; bit_of = o }) source in
       record {
         inside = let e = in_image t usable_t x y has in let z = sized in omega (arith, e, z);
         source = source;
@@ -516,9 +506,6 @@ module _ (t : Contents) (ids : List Identity) (old : WorldState) (events : List 
       (eq-eqb g.number pb.next (ap (λ (z : Progress). z.number) same ∙ (num ∙ sym b.number_is)))
       (eq-eqb _ _ (ap (λ (z : Progress). unit_of_plain M z.part) same ∙ (ap (λ (z : Meaning). unit_of_plain z f.part) (sym same_meaning) ∙ (unit_part f.part ∙ unit))))
 
-  true_false : true ≡ false → ⊥
-  true_false e = cc
-
   no_cause : (u : ℕ) → unit_full m c u ≡ true → Cause t begun u → ⊥
   no_cause u full = by
     where
@@ -586,10 +573,10 @@ module _ (t : Contents) (ids : List Identity) (old : WorldState) (events : List 
       by (ByLoss x) =
           let e = seen_ (Lose x.slot) x.event in
           let g = frame_of x.event.at (run M b.begun x.event.before).plain x.slot x.frame e.shows x.there in
-          true_false (sym (of_unit g.0 x.frame u g.1.1 x.number_is x.unit_is) ∙ (sym (ap (holds_of_unit M pb.next u) g.1.0) ∙ quiet.undisturbed x.event.before x.event.behind (Lose x.slot) e.next e.split e.makes))
+          true≢false (sym (of_unit g.0 x.frame u g.1.1 x.number_is x.unit_is) ∙ (sym (ap (holds_of_unit M pb.next u) g.1.0) ∙ quiet.undisturbed x.event.before x.event.behind (Lose x.slot) e.next e.split e.makes))
       by (ByEarlyClose x) =
           let g = frame_of w p x.slot x.frame shown x.there in
-          true_false (sym (of_unit g.0 x.frame u g.1.1 x.number_is x.unit_is) ∙ quiet.back x.slot g.0 (ap (λ (z : Plain). frame_at z x.slot) (sym on) ∙ g.1.0))
+          true≢false (sym (of_unit g.0 x.frame u g.1.1 x.number_is x.unit_is) ∙ quiet.back x.slot g.0 (ap (λ (z : Plain). frame_at z x.slot) (sym on) ∙ g.1.0))
       by (ByFallingShort x) = by_short x
 
   -- ---- a bit without a link
@@ -619,27 +606,27 @@ module _ (t : Contents) (ids : List Identity) (old : WorldState) (events : List 
                     let e1 : Some g ≡ Some own = sym e ∙ (ap (λ (z : ℕ). slice_get w.master.plan.variables z) (sym same) ∙ there) in
                     let from1 : g.from ≡ own.from = ap (λ (z : Variable). z.from) (some_same g own e1) in
                     let at1 = pair.image_is in
-                    let bit1 : pair.bit ≡ y = omega (arith, from1, from, at1) in
+                    let bit1 : pair.bit ≡ y = omega (arith, from1, at.from, at1) in
                     none l.slave l.bit_of (subst (λ (z : ℕ). IsLinked t In x z l.slave l.bit_of) bit1 (subst (λ (z : ℕ). IsLinked t In z pair.bit l.slave l.bit_of) same pair.linked))
                 | inr ne ↦
                     let at1 = pair.image_is in
-                    (variables_apart t (plan_of t) refl).no_common pair.variable x own g ne (in_t pair.variable own there) (in_t x g e) (has.way ∙ sym (in_way g.direction way)) pair.bit y has.inside few (omega (arith, from, at1))
+                    (bits_are_apart t).no_common pair.variable x own g ne (in_t pair.variable own there) (in_t x g e) (at.way ∙ has.way ∙ sym (in_way g.direction way)) pair.bit y (omega (arith, has.inside, at.bits)) few (omega (arith, at.from, at1))
               ]
                 where
                   has : HasBit t In pair.variable pair.bit
-                  has = has_bit t In pair.variable pair.bit l.slave l.bit_of (no_fault t n.accepted).link pair.linked
+                  has = linked_bits_are_there t n.accepted In pair.variable pair.bit l.slave l.bit_of pair.linked
+
+                  at : IsPlaced t pair.variable has.row
+                  at = variables_are_placed t pair.variable has.row has.there
 
                   own : Variable
-                  own = placed t.variables pair.variable has.row
+                  own = at.placed
 
                   there : slice_get w.master.plan.variables pair.variable ≡ Some own
-                  there = ap (λ vs. slice_get vs pair.variable) variables_w ∙ variable_there t.variables pair.variable has.row has.there
-
-                  from : image_from t.variables pair.variable ≡ own.from
-                  from = ap (λ o. option_map_or (λ r. (placed t.variables pair.variable r).from) o 0) has.there
+                  there = ap (λ vs. slice_get vs pair.variable) variables_w ∙ at.there
 
                   in_t : (z : ℕ) (a : Variable) → slice_get w.master.plan.variables z ≡ Some a → slice_get (plan_of t).variables z ≡ Some a
-                  in_t z a at = ap (λ vs. slice_get vs z) (plan_variables t ∙ sym variables_w) ∙ at
+                  in_t z a e = ap (λ vs. slice_get vs z) (sym variables_w) ∙ e
 
       by : (o : Option Variable) → slice_get w.master.plan.variables x ≡ o → variable_bit v x y ≡ variable_bit w x y
       by None e = ap (λ o. bit_at (value_at v.master o) y == 1) (there_too ∙ e) ∙ sym (ap (λ o. bit_at (value_at w.master o) y == 1) e)
@@ -683,7 +670,9 @@ module _ (t : Contents) (ids : List Identity) (old : WorldState) (events : List 
     begun = begun;
     report = closed.report;
     reported = closed.reported;
-    listed = subst (ListsUnits t) (sym (closed.units ∙ ap (λ (x : PlanState). x.units) w_plan)) (lists_units t n.sound);
+    listed = (
+        let own = lists_units t n.sound in
+        subst (ListsUnits t) (sym (closed.units ∙ ap (λ (x : PlanState). x.units) w_plan)) (record { each = own.each; once = own.once; only = own.only; zero_alone = own.zero_alone }));
     each = λ u. elim (cases_Bool (unit_full m c u)) [
       | inl full ↦ inl (taken_one u full)
       | inr off ↦ inr (missed_one u off)
@@ -695,3 +684,29 @@ module _ (t : Contents) (ids : List Identity) (old : WorldState) (events : List 
 pub headline_inputs : (t : Contents) (identities : List Identity) (old : WorldState) (events : List Event) (w : WorldState) (made : ℕ) → IsNew t identities old → IsRun old events w made → is_up w.start ≡ true
     → (v : WorldState) → IsStep w Close v true → CloseShows t old events w v
 headline_inputs t ids old events w made n h up v does = close_shows t ids old events w made n h up v does
+
+-- ---- the headline as one law, and over the events of a list
+
+pub headline_law : HeadlineLaw
+headline_law t ids old events w made n h up (Pass k) v does = headline_outputs t ids old events w made n h up k v does
+headline_law t ids old events w made n h up Close v does = headline_inputs t ids old events w made n h up v does
+headline_law t ids old events w made n h up _ v does = tt
+
+-- ---- over a list of events
+
+pub each_promised : (t : Contents) (identities : List Identity) (first : WorldState) (past : List Event) (old : WorldState) (count : ℕ) (events : List Event) (new : WorldState) (made : ℕ) → IsNew t identities first
+    → IsRun first past old count → IsRun old events new made → EachIsPromised t first past old events new
+each_promised t ids first past old count events new made n h g before e behind split = record {
+  at = c.at;
+  next = c.next;
+  made = c.one;
+  count = c.first;
+  rest = c.rest;
+  to_it = c.to_it;
+  step = c.step;
+  onward = c.onward;
+  shows = λ yes up. headline_law t ids first (past ++ before) c.at (count + c.first) n (runs_join first past old count before c.at c.first h c.to_it) up e c.next (subst (λ (b : Bool). IsStep c.at e c.next b) yes c.step);
+}
+  where
+    c : Cut old before e behind new
+    c = cut old before e behind new made (subst (λ (xs : List Event). IsRun old xs new made) split g)

@@ -1,11 +1,25 @@
--- The headline, of what a world's calls show.
-use Rattle.std.proofs.Common.{ℕ, zero, suc, ◌+◌, ◌*◌, ◌<◌, ◌≡◌, ◌≢◌, ◌⊎◌, ◌==◌, ◌&&◌, Bool, true, false, Option, Some, None, refl, sym, ◌∙◌, ap, subst, inl, inr, arith, List, [], ◌∷◌, ◌++◌, length, map, get_or, set, replicate, is_some, if◌then◌else◌, option_map, unwrap_or, nat_lt, get_or-set_same, get_or-set_other}
+-- A linked bit of a variable, as a bit of the image.
+use Rattle.std.proofs.Common.{ℕ, ◌+◌, ◌*◌, ◌/◌, ◌%◌, ◌≤◌, ◌≡◌, ◌==◌, false, ◌∙◌, ap, arith, List, length, get_or, if◌then◌else◌, slice_get, zero, suc, ◌<◌, ◌≢◌, ◌⊎◌, ◌&&◌, Bool, true, Option, Some, None, refl, sym, subst, inl, inr, [], ◌∷◌, ◌++◌, map, set, replicate, is_some, option_map, unwrap_or, nat_lt, get_or-set_same, get_or-set_other}
+use Rattle.std.specs.Int.{bit_at}
+use Rattle.std.proofs.lemmas.List.{get_or_past, append_assoc, set-get_or}
+use Rattle.std.proofs.lemmas.Nat.Bits.{bit_at-zero}
+use Rattle.ec_bits.specs.Bits.{bit, bytes_of_bits}
+use Rattle.ec_bits.proofs.Numbers.{bit_at-bits_number}
+use Rattle.ec_table.specs.declared.rows.Direction.{Direction}
+use Rattle.ec_table.specs.Contents.{Contents}
+use Rattle.ec_link.specs.declared.image.Variable.{Variable}
+use Rattle.ec_link.specs.LinkRuns.{is_out, IsLinked}
+use Rattle.ec_link.specs.Image.{image_from, image}
+use Rattle.ec_link.specs.Interface.{HasBit, output_manager}
+use Rattle.ec_link.specs.Plan.{plan_of, PlanState, part_of}
+use Rattle.ec_link.proofs.Placed.{variables_are_placed, linked_bits_are_there}
+use Rattle.ec_cycle.specs.Master.{value_at}
+use Rattle.ec_world.specs.World.{WorldState, Flight, slave_of, no_slave, flight_at, flight_progress, flights_progress, is_up, Passes, IsStep}
+use Rattle.ec_world.specs.Headline.{variable_bit, IsMade, IsBegun, HadTrouble, IsInOp, progress_at, output_bits, input_bits, ShowsLinked, PassShows}
 use Rattle.std.specs.List.{list_all}
 use Rattle.std.specs.Option.{option_map_or}
-use Rattle.std.proofs.lemmas.Bool.{cases_Bool, cases_lt, and_parts, and_from, and_left, ltb-true, eqb-true, eq-eqb, lt-ltb, le-ltb}
-use Rattle.std.proofs.lemmas.List.{append_assoc, set-get_or}
+use Rattle.std.proofs.lemmas.Bool.{cases_Bool, cases_lt, and_parts, and_from, and_left, ltb-true, eqb-true, eq-eqb, lt-ltb, le-ltb, true≢false}
 use Rattle.std.proofs.lemmas.Option.{slice_get-get_or, slice_get_within}
-use Rattle.ec_bits.specs.Bits.{bit, bytes_of_bits}
 use Rattle.ec_bits.proofs.AnyLaws.{if_true, if_false}
 use Rattle.ec_device.specs.declared.slave_type.Identity.{Identity}
 use Rattle.ec_regs.specs.declared.manager.SyncManagerSettings.{SyncManagerSettings}
@@ -25,63 +39,63 @@ use Rattle.ec_slave.specs.Meeting.{IsPassed, passes as passes_all}
 use Rattle.ec_ring.specs.Rings.{IsPassedAt}
 use Rattle.ec_table.specs.declared.rows.Direction.TheVariants.{Out}
 use Rattle.ec_table.specs.declared.rows.SlaveRow.{SlaveRow}
-use Rattle.ec_table.specs.Contents.{Contents}
 use Rattle.ec_table.specs.Objects.{object_bits}
 use Rattle.ec_table.specs.Sound as table
 use Rattle.ec_link.specs.declared.settings.Share.{Share}
 use Rattle.ec_link.specs.declared.settings.SlavePlan.{SlavePlan}
 use Rattle.ec_link.specs.Shares.{Gave, has_outs}
 use Rattle.ec_link.specs.Faults.{compile_fault}
-use Rattle.ec_link.specs.LinkRuns.{IsLinked}
-use Rattle.ec_link.specs.Image.{image, image_from}
 use Rattle.ec_link.specs.Laws.{AreItsLinks}
 use Rattle.ec_link.specs.Meaning.{Meaning, meaning, share_of, out_source, slave_at as settings_of, no_slave as no_slave_plan}
-use Rattle.ec_link.specs.Plan.{PlanState, plan_of, part_of}
 use Rattle.ec_link.specs.Sound as link
-use Rattle.ec_link.specs.Usable.{IsUsable, output_manager}
+use Rattle.ec_link.specs.Usable.{IsUsable}
 use Rattle.ec_link.proofs.Listed.{listed}
-use Rattle.ec_link.proofs.PlanSound.{no_fault}
 use Rattle.ec_link.proofs.Soundness.{plan_sound}
 use Rattle.ec_link.proofs.UsableLaws.{plan_usable}
-use Rattle.ec_link.proofs.InputsBack.{its_links}
+use Rattle.ec_link.proofs.InputsBack.{links_are_the_tables}
 use Rattle.ec_bringup.specs.Starting.{trouble_at}
 use Rattle.ec_bringup.specs.Runs.{AreStartable}
-use Rattle.ec_bringup.proofs.StartableLaws.{slave_startable}
+use Rattle.ec_bringup.proofs.CompleteLaws.{are-plans}
 use Rattle.ec_world.specs.declared.event.Event.{Event}
 use Rattle.ec_world.specs.declared.event.Event.TheVariants.{Begin, Pass}
 use Rattle.ec_world.specs.declared.progress.Progress.{Progress}
 use Rattle.ec_world.specs.Plain.{Plain, PlainSlave, PlainFrame, Health, Working, Faulted, Reset, step, run, frame_at, plain_slave, linked_outputs, progress_of, all_progress, may_pass, lets_by}
-use Rattle.ec_world.specs.World.{WorldState, Flight, slave_of, no_slave, flight_at, flight_progress, flights_progress, is_up, Passes, IsStep}
 use Rattle.ec_world.specs.Exchanging.{given_by, given_in, slave_left}
 use Rattle.ec_world.specs.SlaveShows.{IsAs, IsWorking}
 use Rattle.ec_world.specs.Shows.{Shows}
 use Rattle.ec_world.specs.Laws.{IsRun}
 use Rattle.ec_world.specs.Whole.{IsNew, new_world, plain_of}
 use Rattle.ec_world.specs.Promises.{AreLinked}
-use Rattle.ec_world.specs.Headline.{IsMade, IsBegun, HadTrouble, IsInOp, progress_at, output_bits, input_bits, ShowsLinked, PassShows}
 use Rattle.ec_world.proofs.FramePass.{frame_pass}
 use Rattle.ec_world.proofs.FrameSteps.{pass_can}
-use Rattle.ec_world.proofs.InSlots.{flight_pairs}
+use Rattle.ec_world.proofs.Lists.{flight_pairs, some_same, within_of}
 use Rattle.ec_world.proofs.Knowing.{share_is}
-use Rattle.ec_world.proofs.Settings.{for_bits, some_bits, no_bits, set_for_outs, unset}
-use Rattle.ec_world.proofs.Mapped.{third_held, holds_mapped}
-use Rattle.ec_world.proofs.Runs.{runs_show, runs_join}
-use Rattle.ec_world.proofs.StepLaws.{steps_show}
+use Rattle.ec_world.proofs.Mapped.{for_bits, some_bits, no_bits, set_for_outs, unset, third_held, holds_mapped}
+use Rattle.ec_world.proofs.StepLaws.{runs_show, runs_join, steps_show}
 use Rattle.ec_world.proofs.Whole.{new-rises, new-low}
 use Rattle.ec_world.proofs.Promising.{linked as linked_exactly}
 use Rattle.ec_world.proofs.Histories.{snapshots_law}
-use Rattle.ec_world.proofs.Imaged.{bit_past, HasBit, has_bit, shown_bit}
 use Rattle.ec_world.proofs.Origins.{Origin, none_flagged, started}
 use Rattle.ec_world.proofs.Since.{BeganAt, are_begun, begun_of, begun_on}
 
-none_some : {X : Type 0} (x : X) → None ≡ Some x → ⊥
-none_some x e = cc
+-- no bit past the end
+pub bit_past : (xs : List ℕ) (i : ℕ) → 8 * length xs ≤ i → bit xs i ≡ false
+unfolding bit
+bit_past xs i l =
+    let z : get_or xs (i / 8) 0 ≡ 0 = get_or_past xs (i / 8) 0 (omega (arith, l)) in
+    ap (λ x. bit_at x (i % 8) == 1) z ∙ ap (λ x. x == 1) (bit_at-zero (i % 8))
 
-some_same : {X : Type 0} (x y : X) → Some x ≡ Some y → x ≡ y
-some_same x y e = cc
+pub shown_bit : (t : Contents) (w : WorldState) (d : Direction) (x b : ℕ) → HasBit t d x b → w.master.plan.variables ≡ (plan_of t).variables
+    → variable_bit w x b ≡ bit (if is_out d then w.master.outputs else w.master.inputs) (image_from t.variables x + b)
+shown_bit t w d x b h same =
+    let at = variables_are_placed t x h.row h.there in
+    let v : Variable = at.placed in
+    ap (λ o. bit_at (value_at w.master o) b == 1) (ap (λ vs. slice_get vs x) same ∙ at.there)
+    ∙ (bit_at-bits_number (if is_out v.direction then w.master.outputs else w.master.inputs) v.from v.bits b (omega (arith, h.inside, at.bits))
+    ∙ (ap (λ (n : ℕ). bit (if is_out v.direction then w.master.outputs else w.master.inputs) (n + b)) at.from
+    ∙ ap (λ (e : Direction). bit (if is_out e then w.master.outputs else w.master.inputs) (image_from t.variables x + b)) (at.way ∙ h.way)))
 
-true_false : true ≡ false → ⊥
-true_false e = cc
+-- ---- the headline, of what a world's calls show
 
 -- ---- an event of a world's run, where the plain run makes it
 
@@ -183,13 +197,13 @@ pub record Sees (t : Contents) (old : WorldState) (events : List Event) (w : Wor
   pub told : (i : ℕ) → i < length ready.plan.slaves → ((plain_slave (plain_of ready) i).health ≡ Working) ⊎ HadTrouble old before ready i
 
 no_flag : (n i : ℕ) → trouble_at (replicate n false) i ≡ true → ⊥
-no_flag n i e = true_false (sym e ∙ none_flagged n i)
+no_flag n i e = true≢false (sym e ∙ none_flagged n i)
 
 pub sees : (t : Contents) (identities : List Identity) (old : WorldState) (events : List Event) (w : WorldState) (made : ℕ) → IsNew t identities old → IsRun old events w made → is_up w.start ≡ true → Sees t old events w
 sees t ids old events w made n h up =
     let plan = plan_of t in
     let sound : IsUsable plan = plan_usable t n.sound n.accepted in
-    let planned : AreStartable plan.slaves = record { each = λ i l. slave_startable t n.sound n.accepted i l } in
+    let planned : AreStartable plan.slaves = record { each = (are-plans t n.sound n.accepted).planned } in
     let many : length ids ≡ length plan.slaves = let x = n.one_each in let y = (plan_sound t n.sound n.accepted).as_many in omega (arith, x, y) in
     let flags : List Bool = replicate (length plan.slaves) false in
     let run : IsRun (new_world plan ids) events w made = subst (λ (x : WorldState). IsRun x events w made) n.is h in
@@ -229,15 +243,6 @@ pub record PassedOn (w : WorldState) (p : Plain) (k : ℕ) (f : Progress) (v : W
   pub goes_on : progress_at v k ≡ Some (record { number = frame.number; part = frame.part; passed = length frame.notes + 1 })
   pub slots : (j : ℕ) → j ≢ k → flight_at v j ≡ flight_at w j
   pub rest : v ≡ record w { slaves = v.slaves; slots = v.slots }
-
-mapped_some : (o : Option Flight) (f : Progress) → option_map flight_progress o ≡ Some f → (x : Flight) × ((o ≡ Some x) × (flight_progress x ≡ f))
-mapped_some None f e = absurd (none_some f e)
-mapped_some (Some x) f e = (x, (refl, some_same (flight_progress x) f e))
-
-within_of : {X : Type 0} (os : List (Option X)) (k : ℕ) (x : X) → get_or os k None ≡ Some x → k < length os
-within_of [] k x e = absurd (none_some x e)
-within_of (o ∷ os) zero x e = omega arith
-within_of (o ∷ os) (suc k) x e = let l = within_of os k x e in omega (arith, l)
 
 same_way : (x : Flight) (g : PlainFrame) → x.number ≡ g.number → x.part ≡ g.part → x.passed ≡ length g.notes → flight_progress x ≡ progress_of g
 same_way x g number part passed =
@@ -425,10 +430,6 @@ part_is plan s l =
     ap (λ o. option_map_or (λ (x : SlavePlan). x.share.part) o 0) (slice_get-get_or plan.slaves s no_slave_plan l)
     ∙ ap (λ (h : Share). h.part) (sym (share_is plan s))
 
-pub plan_variables : (t : Contents) → (plan_of t).variables ≡ image t.variables
-unfolding plan_of
-plan_variables t = refl
-
 no_row : SlaveRow
 no_row = record { name = []; type_place = 0; serial = 0; outputs = []; inputs = []; unit = 0 }
 
@@ -451,7 +452,7 @@ bit_of_source image o b e = ap (λ x. unwrap_or (option_map (bit image) x) false
 
 -- where a slave with outputs shows the linked outputs of the image of a world, and one without shows nothing
 pub shows_linked : (t : Contents) → table.IsSound t → compile_fault t ≡ None → (plan : PlanState) → plan ≡ plan_of t → (source v : WorldState) (u : ℕ) → u < length plan.slaves
-    → source.master.plan.variables ≡ image t.variables
+    → source.master.plan.variables ≡ (plan_of t).variables
     → (0 < (settings_of plan u).share.outs → outputs_shown (slave_of v u) ≡ linked_outputs (meaning plan) u source.master.outputs)
     → ((settings_of plan u).share.outs ≡ 0 → outputs_shown (slave_of v u) ≡ []) → ShowsLinked t source v u
 shows_linked t fine free plan is source v u here variables shown nothing = record {
@@ -460,7 +461,7 @@ shows_linked t fine free plan is source v u here variables shown nothing = recor
       let some : 0 < (settings_of plan u).share.outs = omega (arith, outs, within) in
       let inside : i < 8 * length value = omega (arith, outs, share, within, fits.size) in
       let source_is : out_source plan.out_links u i ≡ Some (image_from t.variables x + c) = (links.outputs u i (image_from t.variables x + c)).1 (record { variable = x; bit = c; linked = l; image_is = refl }) in
-      let has : HasBit t Out x c = has_bit t Out x c u i (no_fault t free).link l in
+      let has : HasBit t Out x c = linked_bits_are_there t free Out x c u i l in
       ap (λ ys. bit ys i) (shown some)
       ∙ (fits.each i inside
       ∙ (bit_of_source source.master.outputs (out_source plan.out_links u i) (image_from t.variables x + c) source_is
@@ -494,7 +495,7 @@ shows_linked t fine free plan is source v u here variables shown nothing = recor
     outs = ap (λ (z : PlanState). (settings_of z u).share.outs) is ∙ outs_are t (plan_sound t fine free) u in_plan
 
     links : AreItsLinks t plan
-    links = its_links t plan fine free is
+    links = subst (AreItsLinks t) (sym is) (links_are_the_tables t fine free)
 
     off : (i : ℕ) (a : Option ℕ) → out_source plan.out_links u i ≡ a → ((x c : ℕ) → IsLinked t Out x c u i → ⊥) → unwrap_or (option_map (bit source.master.outputs) a) false ≡ false
     off i None e none = refl
@@ -574,8 +575,8 @@ headline_outputs t ids old events w made n h up k v does f at = subst (λ (g : P
         k g (ap (λ (x : Plain). frame_at x k) (sym (begun_on (meaning s.ready.plan) first s.after g.number b)) ∙ o.there) (sym b.number_is)
         ∙ sym made_begin.at_shows.outputs
 
-    variables_then : made_begin.made.at.master.plan.variables ≡ image t.variables
-    variables_then = ap (λ (x : PlanState). x.variables) (made_begin.at_shows.same_plan ∙ (made_begin.at_plan ∙ s.plan_is)) ∙ plan_variables t
+    variables_then : made_begin.made.at.master.plan.variables ≡ (plan_of t).variables
+    variables_then = ap (λ (x : PlanState). x.variables) (made_begin.at_shows.same_plan ∙ (made_begin.at_plan ∙ s.plan_is))
 
     -- the slave
     part_here : part_of (plan_of t) u ≡ (share_of m u).part

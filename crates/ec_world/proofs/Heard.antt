@@ -1,7 +1,7 @@
 -- What the frames of a cycle hear of the slaves' AL status, over a world's run; and the AL word of a report.
 use Rattle.std.proofs.Common.{ℕ, zero, suc, ◌+◌, ◌*◌, ◌^◌, ◌<◌, ◌≡◌, ◌⊎◌, ◌==◌, ◌&&◌, not, Bool, true, false, Option, Some, None, refl, sym, ◌∙◌, ap, subst, inl, inr, arith, List, [], ◌∷◌, ◌++◌, length, map, get_or, set, is_some, option_map, nat_lt, slice_get, slice_index, bit_or}
 use Rattle.std.specs.List.{fold}
-use Rattle.std.proofs.lemmas.Bool.{cases_lt, and_parts, eqb-true}
+use Rattle.std.proofs.lemmas.Bool.{cases_lt, and_parts, eqb-true, false≢true}
 use Rattle.std.proofs.lemmas.List.{append_assoc, length_push, length-map, get_or-map}
 use Rattle.std.proofs.lemmas.List.Sums.{fold-append}
 use Rattle.std.proofs.Math.Seq.{get_or-append_seam}
@@ -32,22 +32,12 @@ use Rattle.ec_world.specs.AlWords.{said_by, IsHeard, AreHeard, PartSays, IsNotBa
 use Rattle.ec_world.proofs.FramePass.{FrameBrings, frame_word}
 use Rattle.ec_world.proofs.ReturnStep.{answer_tells}
 use Rattle.ec_world.proofs.Stepping.{next-there}
-use Rattle.ec_world.proofs.InSlots.{flight_pairs}
+use Rattle.ec_world.proofs.Lists.{flight_pairs, none_some, some_same}
 use Rattle.ec_world.proofs.Histories.{AreBelow, filled_has, set_has, set_at, none_there, begun_below}
 use Rattle.ec_world.proofs.MasterSteps.{OpenBoth, open_both}
 use Rattle.ec_world.proofs.Since.{BeganAt, are_begun, begun_of}
-use Rattle.ec_world.proofs.StepLaws.{steps_show}
-use Rattle.ec_world.proofs.Runs.{runs_show, run_more}
+use Rattle.ec_world.proofs.StepLaws.{steps_show, runs_show, run_more}
 use Rattle.ec_world.proofs.Headlines.{MadeAt, made_at, made_later, run_plan, Sees, sees, free_slots}
-
-none_some : {X : Type 0} (x : X) → None ≡ Some x → ⊥
-none_some x e = cc
-
-some_same : {X : Type 0} (x y : X) → Some x ≡ Some y → x ≡ y
-some_same x y e = cc
-
-false_true : false ≡ true → ⊥
-false_true e = cc
 
 -- ---- frames as a cycle begins
 
@@ -214,7 +204,7 @@ module _ (base : WorldState) (all : List Event) (last : WorldState) (number : �
       x = r.flight
 
       foreign : IsTaken w.master x.bytes false v.master → v.master ≡ w.master
-      foreign t = (t.foreign (λ c i q a. false_true (t.kept c i q a).0)).1
+      foreign t = (t.foreign (λ c i q a. false≢true (t.kept c i q a).0)).1
 
       next : (b : Bool) → IsTaken w.master x.bytes b v.master → v.master.next ≡ w.master.next
       next true t = let a = t.only refl in ap (λ (m : MasterState). m.next) (t.kept a.cycle a.part a.frame a.answer).1
@@ -258,7 +248,7 @@ module _ (base : WorldState) (all : List Event) (last : WorldState) (number : �
   up_starts : (w : WorldState) (p : Plain) → Shows w p → can_start w ≡ true → ⊥
   up_starts w p s can =
       let low = (and_parts (not (is_up w.start)) (not (awaits w.start) && ((nones w.slots == length w.slots) && nat_lt w.start.next last_number)) can).0 in
-      false_true (sym (ap not s.started) ∙ low)
+      false≢true (sym (ap not s.started) ∙ low)
 
   closed : (n : ℕ) (w v : WorldState) → Closes w v → Hearing n w → Hearing n v
   closed n w v x h = record {
@@ -432,7 +422,7 @@ one_eight (w ∷ ws) (suc k) h l e = elim (h 0 (omega arith)) [
 part_in_op : (t : Contents) (old : WorldState) (events : List Event) (new : WorldState) (number k : ℕ) (counters : Option ExpectedCounters) (word : ℕ) → 0 < length t.slaves
     → ((s : ℕ) (pass : HasPassed old events new number k s) → said_by pass.event.at s ≡ 8) → PartSays t old events new number k counters word
     → (is_some counters ≡ true → word ≡ 8) × ((word ≡ 0) ⊎ (word ≡ 8))
-part_in_op t old events new number k counters word some all (IsNotBack none z) = (λ back. absurd (false_true (sym (ap (λ (o : Option ExpectedCounters). is_some o) none) ∙ back)), inl z)
+part_in_op t old events new number k counters word some all (IsNotBack none z) = (λ back. absurd (false≢true (sym (ap (λ (o : Option ExpectedCounters). is_some o) none) ∙ back)), inl z)
 part_in_op t old events new number k counters word some all (IsBack back words count heard is) =
     let said : (s : ℕ) → s < length words → get_or words s 0 ≡ 8 = λ s l. (heard s l).word_is ∙ all s (heard s l).pass in
     let first : 0 < length words = omega (arith, some, count) in

@@ -1,24 +1,17 @@
 -- What holds over runs of the plain machine: frames keep the image of their beginning, and slaves in OP stay there.
-use Rattle.std.proofs.Common.{ℕ, zero, suc, ◌+◌, ◌<◌, ◌≤◌, ◌≡◌, ◌≢◌, ◌==◌, ◌&&◌, Bool, true, false, Option, Some, None, refl, sym, ◌∙◌, ap, subst, arith, List, [], ◌∷◌, ◌++◌, length, map, get_or, set, is_none, if◌then◌else◌, unwrap_or, slice_get, get_or-set_other, length-set}
+use Rattle.std.proofs.Common.{ℕ, zero, suc, ◌+◌, ◌<◌, ◌≤◌, ◌≡◌, ◌≢◌, ◌⊎◌, ◌==◌, ◌&&◌, Bool, true, false, Option, Some, None, refl, sym, ◌∙◌, ap, subst, inl, inr, arith, List, [], ◌∷◌, ◌++◌, length, map, get_or, set, is_none, if◌then◌else◌, unwrap_or, slice_get, get_or-set_same, get_or-set_other, length-set}
 use Rattle.std.specs.List.{list_all}
-use Rattle.std.proofs.lemmas.Bool.{and_parts}
-use Rattle.std.proofs.lemmas.List.{append-nil, append_assoc}
+use Rattle.std.proofs.lemmas.Bool.{and_parts, cases_Bool, eqb-true, cases_eq, cases_lt}
+use Rattle.std.proofs.lemmas.List.{append-nil, append_assoc, get_or_past}
+use Rattle.ec_bits.proofs.AnyLaws.{if_true, if_false}
 use Rattle.ec_link.specs.Meaning.{Meaning}
 use Rattle.ec_cycle.specs.Closing.{nones}
 use Rattle.ec_world.specs.declared.event.Event.{Event}
-use Rattle.ec_world.specs.declared.event.Event.TheVariants.{Begin, Fault, Reset as ResetSlave}
-use Rattle.ec_world.specs.Plain.{Plain, PlainSlave, PlainFrame, Cycle, step, run, frame_at, plain_slave, no_plain_slave, keeping, filled, new_frames, with_note, met_note}
+use Rattle.ec_world.specs.declared.event.Event.TheVariants.{Begin, Pass, Fault, Reset as ResetSlave}
+use Rattle.ec_world.specs.Plain.{Plain, PlainSlave, PlainFrame, Note, Cycle, step, run, frame_at, plain_slave, no_plain_slave, keeping, filled, new_frames, with_note, met_note, Working, Faulted, Reset}
 use Rattle.ec_world.specs.Promises.{IsBegun, SnapshotsLaw, WorkingLaw}
-use Rattle.ec_world.proofs.Tracing.{guarded, Leaves, Stays, Begins, Moves, Loses, Returns, Closes, leaves, Treats, Same, Uses, Fails, Resets, treats}
-
-none_some : {X : Type 0} (x : X) → None ≡ Some x → ⊥
-none_some x e = cc
-
-some_same : {X : Type 0} (x y : X) → Some x ≡ Some y → x ≡ y
-some_same x y e = cc
-
-false_true : false ≡ true → ⊥
-false_true e = cc
+use Rattle.ec_world.proofs.Tracing.{guarded, Leaves, Stays, Begins, Moves, Loses, Returns, Closes, leaves, Treats, Same, Uses, Fails, Resets, treats, mapped}
+use Rattle.ec_world.proofs.Lists.{none_some, some_same}
 
 -- ---- a run by its steps
 
@@ -138,6 +131,57 @@ keeping_number g c = go ((g.number == c.number) && is_none (get_or c.kept g.part
     go true = refl
     go false = refl
 
+-- what is kept of the parts of a cycle, after a frame came back to it
+pub kept_on : (R : ℕ → List Note → Type 0) (number : ℕ) (g : PlainFrame) (c : Cycle) → (g.number ≡ number → R g.part g.notes) → c.number ≡ number
+    → ((k : ℕ) (notes : List Note) → get_or c.kept k None ≡ Some notes → R k notes) → (k : ℕ) (notes : List Note) → get_or (keeping g c).kept k None ≡ Some notes → R k notes
+kept_on R number g c new own old k notes e = elim (cases_Bool ((g.number == c.number) && is_none (get_or c.kept g.part None))) [
+  | inl on ↦ set_at R c.kept g.part g.notes (new (eqb-true _ _ (and_parts (g.number == c.number) _ on).0 ∙ own)) old k notes (ap (λ (x : Cycle). get_or x.kept k None) (sym (if_true _ _ _ on)) ∙ e)
+  | inr off ↦ old k notes (ap (λ (x : Cycle). get_or x.kept k None) (sym (if_false _ _ _ off)) ∙ e)
+]
+
+-- ---- what an event leaves, frame by frame, and of the open cycle
+
+-- a frame that passed its next slave
+abbrev pub passed_on : Meaning → Plain → PlainFrame → PlainFrame
+passed_on m p g = with_note g (met_note m (length g.notes) g (plain_slave p (length g.notes)))
+
+-- a frame on its way is one of a cycle that begins, one that passed a slave, or one that was there
+pub frames_left : (m : Meaning) (p : Plain) (e : Event) (q : Plain) → Leaves m p e q → (R : PlainFrame → Type 0)
+    → ((g : PlainFrame) → e ≡ Begin → q.next ≡ p.next + 1 → IsNew p.next p.outputs g → R g)
+    → ((k : ℕ) (g : PlainFrame) → e ≡ Pass k → frame_at p k ≡ Some g → length g.notes < length p.slaves → R (passed_on m p g))
+    → ((k : ℕ) (g : PlainFrame) → frame_at p k ≡ Some g → R g) → (k : ℕ) (f : PlainFrame) → frame_at q k ≡ Some f → R f
+frames_left m p e q (Stays slots next cycle) R new on old k f at = old k f (ap (λ os. get_or os k None) (sym slots) ∙ at)
+frames_left m p e q (Closes slots next cycle) R new on old k f at = old k f (ap (λ os. get_or os k None) (sym slots) ∙ at)
+frames_left m p e q (Begins is slots next cycle slaves room) R new on old k f at =
+    filled_has R (new_frames p.next p.outputs 0 m.parts) p.slots (λ i g there. new g is next (new_one p.next 0 p.outputs m.parts i g there)) old k f (ap (λ os. get_or os k None) (sym slots) ∙ at)
+frames_left m p e q (Moves j g own there inside is) R new on old k f at =
+    set_has R p.slots j (Some (passed_on m p g)) (λ x same. subst R (some_same (passed_on m p g) x same) (on j g own there inside)) old k f (ap (λ (z : Plain). frame_at z k) (sym is) ∙ at)
+frames_left m p e q (Loses j own is) R new on old k f at = set_has R p.slots j None (λ x no. absurd (none_some x no)) old k f (ap (λ (z : Plain). frame_at z k) (sym is) ∙ at)
+frames_left m p e q (Returns j g there is all) R new on old k f at = set_has R p.slots j None (λ x no. absurd (none_some x no)) old k f (ap (λ (z : Plain). frame_at z k) (sym is) ∙ at)
+
+-- the open cycle is one that begins, one to which a frame came back, or the one that was open
+pub cycle_left : (m : Meaning) (p : Plain) (e : Event) (q : Plain) → Leaves m p e q → (K : Cycle → Type 0)
+    → (e ≡ Begin → K (record { number = p.next; kept = map (λ u. None) m.parts }))
+    → ((k : ℕ) (g : PlainFrame) (c : Cycle) → frame_at p k ≡ Some g → length g.notes ≡ length p.slaves → p.cycle ≡ Some c → K (keeping g c))
+    → ((c : Cycle) → p.cycle ≡ Some c → K c) → (d : Cycle) → q.cycle ≡ Some d → K d
+cycle_left m p e q (Stays slots next cycle) K new back old d at = old d (sym cycle ∙ at)
+cycle_left m p e q (Closes slots next cycle) K new back old d at = absurd (none_some d (sym cycle ∙ at))
+cycle_left m p e q (Begins is slots next cycle slaves room) K new back old d at = subst K (some_same _ d (sym cycle ∙ at)) (new is)
+cycle_left m p e q (Moves j g own there inside is) K new back old d at = old d (sym (ap (λ (z : Plain). z.cycle) is) ∙ at)
+cycle_left m p e q (Loses j own is) K new back old d at = old d (sym (ap (λ (z : Plain). z.cycle) is) ∙ at)
+cycle_left m p e q (Returns j g there is all) K new back old d at =
+    let r = mapped (keeping g) p.cycle d (sym (ap (λ (z : Plain). z.cycle) is) ∙ at) in
+    subst K r.is (back j g r.value there all r.there)
+
+-- and numbers only go up
+pub next_left : (m : Meaning) (p : Plain) (e : Event) (q : Plain) → Leaves m p e q → p.next ≤ q.next
+next_left m p e q (Stays slots next cycle) = omega (arith, next)
+next_left m p e q (Closes slots next cycle) = omega (arith, next)
+next_left m p e q (Begins is slots next cycle slaves room) = omega (arith, next)
+next_left m p e q (Moves j g own there inside is) = let next = ap (λ (z : Plain). z.next) is in omega (arith, next)
+next_left m p e q (Loses j own is) = let next = ap (λ (z : Plain). z.next) is in omega (arith, next)
+next_left m p e q (Returns j g there is all) = let next = ap (λ (z : Plain). z.next) is in omega (arith, next)
+
 -- ---- frames keep the image of their beginning
 
 -- frames have numbers below the next one; those of this number carry this image
@@ -150,66 +194,23 @@ abbrev pub AreBelow : Plain → Type 0
 AreBelow p = (k : ℕ) (f : PlainFrame) → frame_at p k ≡ Some f → f.number < p.next
 
 pub below_step : (m : Meaning) (p : Plain) (e : Event) (q : Plain) → any_event e ≡ true → step m p e ≡ Some q → AreBelow p → AreBelow q
-below_step m p e q ok h b = by (leaves m p e q h)
-  where
-    by : Leaves m p e q → (k : ℕ) (f : PlainFrame) → frame_at q k ≡ Some f → f.number < q.next
-    by (Stays slots next cycle) k f at = let x = b k f (ap (λ os. get_or os k None) (sym slots) ∙ at) in omega (arith, x, next)
-    by (Closes slots next cycle) k f at = let x = b k f (ap (λ os. get_or os k None) (sym slots) ∙ at) in omega (arith, x, next)
-    by (Begins is_begin slots next cycle slaves room) k f at =
-        filled_has (λ (g : PlainFrame). g.number < q.next) (new_frames p.next p.outputs 0 m.parts) p.slots
-        (λ i g there. let x = (new_one p.next 0 p.outputs m.parts i g there).number_is in omega (arith, x, next))
-        (λ i g there. let x = b i g there in omega (arith, x, next))
-        k f (ap (λ os. get_or os k None) (sym slots) ∙ at)
-    by (Moves j g own there inside is) k f at =
-        let next : q.next ≡ p.next = ap (λ (x : Plain). x.next) is in
-        let x = set_has (λ (y : PlainFrame). y.number < p.next) p.slots j (Some (with_note g (met_note m (length g.notes) g (plain_slave p (length g.notes)))))
-        (λ y own. let z = b j g there in let w = ap (λ (y : PlainFrame). y.number) (some_same _ y own) in omega (arith, z, w)) b k f (ap (λ (x : Plain). frame_at x k) (sym is) ∙ at) in
-        omega (arith, x, next)
-    by (Loses j own is) k f at =
-        let next : q.next ≡ p.next = ap (λ (x : Plain). x.next) is in
-        let x = set_has (λ (y : PlainFrame). y.number < p.next) p.slots j None (λ y no. absurd (none_some y no)) b k f (ap (λ (x : Plain). frame_at x k) (sym is) ∙ at) in
-        omega (arith, x, next)
-    by (Returns j g there is all) k f at =
-        let next : q.next ≡ p.next = ap (λ (x : Plain). x.next) is in
-        let x = set_has (λ (y : PlainFrame). y.number < p.next) p.slots j None (λ y no. absurd (none_some y no)) b k f (ap (λ (x : Plain). frame_at x k) (sym is) ∙ at) in
-        omega (arith, x, next)
+below_step m p e q ok h b =
+    let l = leaves m p e q h in
+    frames_left m p e q l (λ f. f.number < q.next) (λ g is next new. omega (arith, new.number_is, next)) (λ k g is there inside. omega (arith, b k g there, next_left m p e q l)) (λ k g there. omega (arith, b k g there, next_left m p e q l))
 
 same_step : (n : ℕ) (image : List ℕ) (m : Meaning) (p : Plain) (e : Event) (q : Plain) → any_event e ≡ true → step m p e ≡ Some q → Carry n image p → Carry n image q
-same_step n image m p e q ok h c = by (leaves m p e q h)
-  where
-    R : PlainFrame → Type 0
-    R f = f.number ≡ n → f.snapshot ≡ image
-
-    below : (k : ℕ) (f : PlainFrame) → frame_at q k ≡ Some f → f.number < q.next
-    below = below_step m p e q ok h c.below
-
-    made : n < q.next → ((k : ℕ) (f : PlainFrame) → frame_at q k ≡ Some f → f.number ≡ n → f.snapshot ≡ image) → Carry n image q
-    made l s = record { past = l; below = below; same = s }
-
-    by : Leaves m p e q → Carry n image q
-    by (Stays slots next cycle) = made (let x = c.past in omega (arith, x, next)) (λ k f at. c.same k f (ap (λ os. get_or os k None) (sym slots) ∙ at))
-    by (Closes slots next cycle) = made (let x = c.past in omega (arith, x, next)) (λ k f at. c.same k f (ap (λ os. get_or os k None) (sym slots) ∙ at))
-    by (Begins is_begin slots next cycle slaves room) = made (let x = c.past in omega (arith, x, next)) (λ k f at.
-        filled_has (λ (g : PlainFrame). g.number ≡ n → g.snapshot ≡ image) (new_frames p.next p.outputs 0 m.parts) p.slots
-        (λ i g there own. absurd (let x = (new_one p.next 0 p.outputs m.parts i g there).number_is in let y = c.past in omega (arith, x, y, own)))
-        c.same k f (ap (λ os. get_or os k None) (sym slots) ∙ at))
-    by (Moves j g own there inside is) = made (let x = c.past in let next = ap (λ (x : Plain). x.next) is in omega (arith, x, next)) (λ k f at.
-        set_has (λ (y : PlainFrame). y.number ≡ n → y.snapshot ≡ image) p.slots j (Some (with_note g (met_note m (length g.notes) g (plain_slave p (length g.notes)))))
-        (λ y own num. let same = some_same _ y own in sym (ap (λ (y : PlainFrame). y.snapshot) same) ∙ c.same j g there (ap (λ (y : PlainFrame). y.number) same ∙ num))
-        c.same k f (ap (λ (x : Plain). frame_at x k) (sym is) ∙ at))
-    by (Loses j own is) = made (let x = c.past in let next = ap (λ (x : Plain). x.next) is in omega (arith, x, next)) (λ k f at.
-        set_has (λ (y : PlainFrame). y.number ≡ n → y.snapshot ≡ image) p.slots j None (λ y no. absurd (none_some y no)) c.same k f (ap (λ (x : Plain). frame_at x k) (sym is) ∙ at))
-    by (Returns j g there is all) = made (let x = c.past in let next = ap (λ (x : Plain). x.next) is in omega (arith, x, next)) (λ k f at.
-        set_has (λ (y : PlainFrame). y.number ≡ n → y.snapshot ≡ image) p.slots j None (λ y no. absurd (none_some y no)) c.same k f (ap (λ (x : Plain). frame_at x k) (sym is) ∙ at))
+same_step n image m p e q ok h c =
+    let l = leaves m p e q h in
+    record {
+      past = omega (arith, c.past, next_left m p e q l);
+      below = below_step m p e q ok h c.below;
+      same = frames_left m p e q l (λ f. f.number ≡ n → f.snapshot ≡ image) (λ g is next new own. absurd (omega (arith, new.number_is, c.past, own))) (λ k g is there inside. c.same k g there) c.same;
+    }
 
 -- before a cycle begins, frames have earlier numbers
 pub begun_below : (m : Meaning) (p begun : Plain) → IsBegun m p begun → AreBelow p
 begun_below m p begun b = subst (λ (x : Plain). (k : ℕ) (f : PlainFrame) → frame_at x k ≡ Some f → f.number < x.next) (sym b.reached)
     (run_keeps AreBelow m any_event (below_step m) b.first b.before (all_any b.before) (λ k f at. absurd (none_some f (sym (b.no_frame k) ∙ at))))
-
--- and then those of its number are new
-begins_of : (m : Meaning) (p q : Plain) → step m p Begin ≡ Some q → Leaves m p Begin q
-begins_of m p q h = leaves m p Begin q h
 
 pub snapshots_law : SnapshotsLaw
 snapshots_law m p begun after b = (run_keeps (Carry p.next p.outputs) m any_event (same_step p.next p.outputs m) begun after (all_any after) first).same
@@ -236,7 +237,7 @@ snapshots_law m p begun after b = (run_keeps (Carry p.next p.outputs) m any_even
 
 -- ---- slaves in OP stay there
 
-pub used_health : (qs : List PlainSlave) (t : ℕ) (y : PlainSlave) (s : ℕ) → y.health ≡ (get_or qs t no_plain_slave).health
+used_health : (qs : List PlainSlave) (t : ℕ) (y : PlainSlave) (s : ℕ) → y.health ≡ (get_or qs t no_plain_slave).health
     → (get_or (set qs t y) s no_plain_slave).health ≡ (get_or qs s no_plain_slave).health
 used_health [] t y s e = refl
 used_health (q ∷ qs) zero y zero e = e
@@ -244,20 +245,46 @@ used_health (q ∷ qs) zero y (suc s) e = refl
 used_health (q ∷ qs) (suc t) y zero e = refl
 used_health (q ∷ qs) (suc t) y (suc s) e = used_health qs t y s e
 
-pub other_health : (qs : List PlainSlave) (t : ℕ) (y : PlainSlave) (s : ℕ) → s ≢ t → (get_or (set qs t y) s no_plain_slave).health ≡ (get_or qs s no_plain_slave).health
+other_health : (qs : List PlainSlave) (t : ℕ) (y : PlainSlave) (s : ℕ) → s ≢ t → (get_or (set qs t y) s no_plain_slave).health ≡ (get_or qs s no_plain_slave).health
 other_health qs t y s ne = ap (λ (x : PlainSlave). x.health) (get_or-set_other qs t s y no_plain_slave ne)
 
-pub health_kept : (m : Meaning) (p : Plain) (e : Event) (q : Plain) (s : ℕ) → step m p e ≡ Some q → e ≢ Fault s → e ≢ ResetSlave s → (plain_slave q s).health ≡ (plain_slave p s).health
-health_kept m p e q s h nf nr = by (treats m p e q h)
+-- what an event makes of one slave: its health stays, or it was a fault of it, or a reset
+pub data Became (e : Event) (s : ℕ) (old new : PlainSlave) : Type 0 where
+  Rests : new.health ≡ old.health → Became e s old new
+  HasFailed : e ≡ Fault s → new.health ≡ Faulted → old.health ≡ Working → Became e s old new
+  HasRestarted : e ≡ ResetSlave s → new.health ≡ Reset → Became e s old new
+
+pub became : (m : Meaning) (p : Plain) (e : Event) (q : Plain) (s : ℕ) → step m p e ≡ Some q → Became e s (plain_slave p s) (plain_slave q s)
+became m p e q s h = by (treats m p e q h)
   where
     in_slaves : (qs : List PlainSlave) → q.slaves ≡ qs → (plain_slave q s).health ≡ (get_or qs s no_plain_slave).health
     in_slaves qs is = ap (λ (xs : List PlainSlave). (get_or xs s no_plain_slave).health) is
 
-    by : Treats m p e q → (plain_slave q s).health ≡ (plain_slave p s).health
-    by (Same is) = in_slaves p.slaves is
-    by (Uses t y is own) = in_slaves (set p.slaves t y) is ∙ used_health p.slaves t y s own
-    by (Fails t y own is now before) = in_slaves (set p.slaves t y) is ∙ other_health p.slaves t y s (λ z. nf (own ∙ ap (λ (n : ℕ). Fault n) (sym z)))
-    by (Resets t y own is now) = in_slaves (set p.slaves t y) is ∙ other_health p.slaves t y s (λ z. nr (own ∙ ap (λ (n : ℕ). ResetSlave n) (sym z)))
+    -- of the slave that was set, and of none past the last
+    own_slave : (t : ℕ) (y : PlainSlave) → q.slaves ≡ set p.slaves t y → s ≡ t → ((plain_slave q s).health ≡ (plain_slave p s).health) ⊎ ((plain_slave q s).health ≡ y.health)
+    own_slave t y is same = elim (cases_lt s (length p.slaves)) [
+      | inl inside ↦ inr (in_slaves (set p.slaves t y) is ∙ (ap (λ (n : ℕ). (get_or (set p.slaves t y) n no_plain_slave).health) same
+          ∙ ap (λ (x : PlainSlave). x.health) (get_or-set_same p.slaves t y no_plain_slave (omega (arith, inside, same)))))
+      | inr past ↦ inl (in_slaves (set p.slaves t y) is ∙ ap (λ (x : PlainSlave). x.health) (get_or_past (set p.slaves t y) s no_plain_slave (omega (arith, past, length-set p.slaves t y)) ∙ sym (get_or_past p.slaves s no_plain_slave past)))
+    ]
+
+    by : Treats m p e q → Became e s (plain_slave p s) (plain_slave q s)
+    by (Same is) = Rests (in_slaves p.slaves is)
+    by (Uses t y is own) = Rests (in_slaves (set p.slaves t y) is ∙ used_health p.slaves t y s own)
+    by (Fails t y own is now before) = elim (cases_eq s t) [
+      | inr ne ↦ Rests (in_slaves (set p.slaves t y) is ∙ other_health p.slaves t y s ne)
+      | inl same ↦ elim (own_slave t y is same) [
+        | inl stays ↦ Rests stays
+        | inr it ↦ HasFailed (own ∙ ap (λ (n : ℕ). Fault n) (sym same)) (it ∙ now) (ap (λ (n : ℕ). (plain_slave p n).health) same ∙ before)
+      ]
+    ]
+    by (Resets t y own is now) = elim (cases_eq s t) [
+      | inr ne ↦ Rests (in_slaves (set p.slaves t y) is ∙ other_health p.slaves t y s ne)
+      | inl same ↦ elim (own_slave t y is same) [ inl stays ↦ Rests stays | inr it ↦ HasRestarted (own ∙ ap (λ (n : ℕ). ResetSlave n) (sym same)) (it ∙ now) ]
+    ]
+
+pub health_kept : (m : Meaning) (p : Plain) (e : Event) (q : Plain) (s : ℕ) → step m p e ≡ Some q → e ≢ Fault s → e ≢ ResetSlave s → (plain_slave q s).health ≡ (plain_slave p s).health
+health_kept m p e q s h nf nr = elim (became m p e q s h) [ Rests same ↦ same | HasFailed is now was ↦ absurd (nf is) | HasRestarted is now ↦ absurd (nr is) ]
 
 pub working_law : WorkingLaw
 working_law m p e q s h nf nr w = health_kept m p e q s h nf nr ∙ w

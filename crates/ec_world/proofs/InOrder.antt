@@ -16,17 +16,11 @@ use Rattle.ec_world.specs.Whole.{plain_of}
 use Rattle.ec_world.specs.RunLaws.{OrderLaw}
 use Rattle.ec_world.specs.Headline.{progress_at}
 use Rattle.ec_world.proofs.Tracing.{Leaves, Stays, Begins, Moves, Loses, Returns, Closes, leaves}
-use Rattle.ec_world.proofs.Histories.{run_always, run_joins, new_one, AreBelow, below_step}
-use Rattle.ec_world.proofs.InSlots.{same_progress}
+use Rattle.ec_world.proofs.Histories.{run_always, run_joins, new_one, AreBelow, below_step, next_left}
+use Rattle.ec_world.proofs.Lists.{same_progress, none_some, some_same}
 use Rattle.ec_world.proofs.Calm.{get_mapped}
-use Rattle.ec_world.proofs.Runs.{runs_show}
+use Rattle.ec_world.proofs.StepLaws.{runs_show}
 use Rattle.ec_world.proofs.Headlines.{run_plan, Sees, sees, free_slots}
-
-none_some : {X : Type 0} (x : X) → None ≡ Some x → ⊥
-none_some x e = cc
-
-some_same : {X : Type 0} (x y : X) → Some x ≡ Some y → x ≡ y
-some_same x y e = cc
 
 -- a slot of the filled ones has one of the new frames, or what it had
 filled_either : (fs : List PlainFrame) (os : List (Option PlainFrame)) {number : ℕ} → ((i : ℕ) (x : PlainFrame) → slice_get fs i ≡ Some x → x.number ≡ number)
@@ -68,15 +62,12 @@ pub record Stayed (base p : Plain) : Type 0 where
   pub each : (k : ℕ) (f : PlainFrame) → frame_at p k ≡ Some f → f.number < base.next → Was base k f
 
 stayed_step : (base : Plain) (m : Meaning) (p : Plain) (e : Event) (q : Plain) → step m p e ≡ Some q → Stayed base p → Stayed base q
-stayed_step base m p e q h c = by (leaves m p e q h)
+stayed_step base m p e q h c = record { past = omega (arith, c.past, next_left m p e q (leaves m p e q h)); each = by (leaves m p e q h) }
   where
-    by : Leaves m p e q → Stayed base q
-    by (Stays slots next cycle) = record { past = let x = c.past in omega (arith, x, next); each = λ k f at. c.each k f (ap (λ os. get_or os k None) (sym slots) ∙ at) }
-    by (Closes slots next cycle) = record { past = let x = c.past in omega (arith, x, next); each = λ k f at. c.each k f (ap (λ os. get_or os k None) (sym slots) ∙ at) }
-    by (Begins is_begin slots next cycle slaves room) = record {
-      past = let x = c.past in omega (arith, x, next);
-      each = λ k f at low. slot k f (new_or_old k f (ap (λ os. get_or os k None) (sym slots) ∙ at)) low;
-    }
+    by : Leaves m p e q → (k : ℕ) (f : PlainFrame) → frame_at q k ≡ Some f → f.number < base.next → Was base k f
+    by (Stays slots next cycle) k f at low = c.each k f (ap (λ os. get_or os k None) (sym slots) ∙ at) low
+    by (Closes slots next cycle) k f at low = c.each k f (ap (λ os. get_or os k None) (sym slots) ∙ at) low
+    by (Begins is_begin slots next cycle slaves room) k f at low = slot k f (new_or_old k f (ap (λ os. get_or os k None) (sym slots) ∙ at)) low
       where
         new_or_old : (k : ℕ) (f : PlainFrame) → get_or (filled (new_frames p.next p.outputs 0 m.parts) p.slots) k None ≡ Some f → (f.number ≡ p.next) ⊎ (frame_at p k ≡ Some f)
         new_or_old k f at = filled_either (new_frames p.next p.outputs 0 m.parts) p.slots (λ i x there. (new_one p.next 0 p.outputs m.parts i x there).number_is) k f at
@@ -84,13 +75,10 @@ stayed_step base m p e q h c = by (leaves m p e q h)
         slot : (k : ℕ) (f : PlainFrame) → (f.number ≡ p.next) ⊎ (frame_at p k ≡ Some f) → f.number < base.next → Was base k f
         slot k f (inl new) low = absurd (let x = c.past in omega (arith, x, new, low))
         slot k f (inr old) low = c.each k f old low
-    by (Moves j g own there inside is) = record {
-      past = let x = c.past in let next = ap (λ (z : Plain). z.next) is in omega (arith, x, next);
-      each = λ k f at low. elim (set_either p.slots j (Some moved_on) k f (ap (λ (z : Plain). frame_at z k) (sym is) ∙ at)) [
-        | inr old ↦ c.each k f old low
-        | inl new ↦ moved k f new.0 (some_same moved_on f new.1) low
-      ];
-    }
+    by (Moves j g own there inside is) k f at low = elim (set_either p.slots j (Some moved_on) k f (ap (λ (z : Plain). frame_at z k) (sym is) ∙ at)) [
+      | inr old ↦ c.each k f old low
+      | inl new ↦ moved k f new.0 (some_same moved_on f new.1) low
+    ]
       where
         moved_on : PlainFrame
         moved_on = with_note g (met_note m (length g.notes) g (plain_slave p (length g.notes)))
@@ -105,14 +93,8 @@ stayed_step base m p e q h c = by (leaves m p e q h)
               part_is = w.part_is ∙ ap (λ (x : PlainFrame). x.part) is_f;
               behind = let a = w.behind in let b = length_push g.notes (met_note m (length g.notes) g (plain_slave p (length g.notes))) in let d = ap (λ (x : PlainFrame). length x.notes) is_f in omega (arith, a, b, d);
             }
-    by (Loses j own is) = record {
-      past = let x = c.past in let next = ap (λ (z : Plain). z.next) is in omega (arith, x, next);
-      each = λ k f at low. c.each k f (left_old p.slots j k f (ap (λ (z : Plain). frame_at z k) (sym is) ∙ at)) low;
-    }
-    by (Returns j g there is all) = record {
-      past = let x = c.past in let next = ap (λ (z : Plain). z.next) is in omega (arith, x, next);
-      each = λ k f at low. c.each k f (left_old p.slots j k f (ap (λ (z : Plain). frame_at z k) (sym is) ∙ at)) low;
-    }
+    by (Loses j own is) k f at low = c.each k f (left_old p.slots j k f (ap (λ (z : Plain). frame_at z k) (sym is) ∙ at)) low
+    by (Returns j g there is all) k f at low = c.each k f (left_old p.slots j k f (ap (λ (z : Plain). frame_at z k) (sym is) ∙ at)) low
 
 -- ---- prefixes of one list
 

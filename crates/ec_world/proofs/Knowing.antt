@@ -2,6 +2,7 @@
 use Rattle.std.proofs.Common.{ℕ, ◌+◌, ◌-◌, ◌*◌, ◌<◌, ◌≡◌, ◌≢◌, ◌==◌, ◌||◌, Bool, true, false, Some, None, refl, sym, ◌∙◌, ap, subst, inl, inr, arith, if◌then◌else◌, List, [], ◌∷◌, length, nat_lt, slice_index}
 use Rattle.std.specs.Int.{bit_at}
 use Rattle.std.proofs.Math.Seq.{map-set_same}
+use Rattle.std.proofs.Math.ListN.{get_or-map}
 use Rattle.std.proofs.lemmas.List.{length-replicate, length-map}
 use Rattle.std.proofs.lemmas.Bool.{cases_Bool, cases_eq, cases_lt, and_from, and_left, and_right, lt-ltb, le-ltb, eq-eqb, ne_eqb, both_ways}
 use Rattle.ec_link.proofs.Listed.{listed}
@@ -25,15 +26,14 @@ use Rattle.ec_link.specs.Shares.{Gave, has_outs, has_ins, nothing_given}
 use Rattle.ec_link.specs.Meaning.{Meaning, share_of, slave_at, no_slave as no_slave_plan, area_of, area_at, place_of_part, meaning, IsLaid}
 use Rattle.ec_link.specs.Plan.{PlanState, part_at}
 use Rattle.ec_link.specs.declared.settings.SlavePlan.{SlavePlan}
-use Rattle.ec_link.specs.Usable.{IsUsable, AreListed}
+use Rattle.ec_link.specs.Interface.{AreListed}
+use Rattle.ec_link.specs.Usable.{IsUsable}
 use Rattle.ec_world.specs.Plain.{PlainSlave, PlainFrame, Health, Working, Faulted, Reset, Note, Other, Short, Full, linked_outputs, giving, met_note, met_slave, taking}
 use Rattle.ec_world.specs.SlaveShows.{Holds, IsWorking, IsFaulted, IsReset, IsAs, SlaveShows}
 use Rattle.ec_world.specs.FrameShows.{GaveAs}
 use Rattle.ec_world.specs.Exchanging.{given_by, given_in, slave_left}
-use Rattle.ec_world.proofs.Acting.{Acts}
-use Rattle.ec_world.proofs.ProcessPass.{Does, Acting, Missing, Knows}
-use Rattle.ec_world.proofs.Settings.{get_or-mapped, outs_enabled, ins_enabled, locked_denies}
-use Rattle.ec_world.proofs.Mapped.{holds_mapped, third_held, fourth_held}
+use Rattle.ec_world.proofs.ProcessPass.{Acts, Does, Acting, Missing, Knows}
+use Rattle.ec_world.proofs.Mapped.{outs_enabled, ins_enabled, locked_denies, holds_mapped, third_held, fourth_held}
 
 -- ---- notes and shares
 
@@ -47,10 +47,8 @@ gave_as h q Faulted = go (has_outs h) refl
 gave_as h q Reset = go (has_outs h) (has_ins h) refl refl
   where
     go : (w r : Bool) → has_outs h ≡ w → has_ins h ≡ r → GaveAs h (if w || r then Short else Full q.inputs.published) nothing_given
-    go true true x y = record { wrote = omega arith; read = omega arith; less = rw (x, y) (omega arith) }
-    go true false x y = record { wrote = omega arith; read = omega arith; less = rw (x, y) (omega arith) }
-    go false true x y = record { wrote = omega arith; read = omega arith; less = rw (x, y) (omega arith) }
     go false false x y = ap (λ b. record { wrote = b; read = false }) (sym x) ∙ ap (λ b. record { wrote = has_outs h; read = b }) (sym y)
+    go _ _ x y = record { wrote = omega arith; read = omega arith; less = rw (x, y) (omega arith) }
 
 full_other : (v : List ℕ) → Full v ≢ Other
 full_other v e = cc
@@ -145,7 +143,7 @@ other_misses m area place k s t laid l ne h =
 -- ---- a slave of a sound plan
 
 pub share_is : (plan : PlanState) (t : ℕ) → share_of (meaning plan) t ≡ (slave_at plan t).share
-share_is plan t = get_or-mapped (λ (s : SlavePlan). s.share) plan.slaves t no_slave_plan
+share_is plan t = get_or-map (λ (s : SlavePlan). s.share) plan.slaves t no_slave_plan
 
 takes_is : (a : Area) (s : SlaveState) (n : ℕ) → a.outs ≡ n → (0 < n → may_write (manager_at s.managers 2) ≡ true) → takes s a ≡ nat_lt 0 n
 takes_is a s n e may = elim (cases_lt 0 n) [

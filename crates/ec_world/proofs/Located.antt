@@ -1,6 +1,6 @@
 -- Where the frames of an open cycle are: kept, on their way, or lost in an event since the cycle began.
 use Rattle.std.proofs.Common.{ℕ, ◌+◌, ◌<◌, ◌≤◌, ◌≡◌, ◌==◌, ◌&&◌, Bool, true, false, Option, Some, None, refl, sym, ◌∙◌, ap, subst, inl, inr, arith, List, [], ◌∷◌, ◌++◌, length, map, get_or, set, is_none, if◌then◌else◌, option_map, get_or-set_same, get_or-set_other, length-set}
-use Rattle.std.proofs.lemmas.Bool.{cases_Bool, cases_eq, and_from, eq-eqb}
+use Rattle.std.proofs.lemmas.Bool.{cases_Bool, cases_eq, and_from, eq-eqb, false≢true}
 use Rattle.std.proofs.lemmas.List.{length-map, append_assoc}
 use Rattle.ec_bits.proofs.AnyLaws.{if_true, if_false}
 use Rattle.ec_link.specs.Meaning.{Meaning}
@@ -9,17 +9,9 @@ use Rattle.ec_world.specs.declared.event.Event.{Event}
 use Rattle.ec_world.specs.declared.event.Event.TheVariants.{Begin, Lose}
 use Rattle.ec_world.specs.Plain.{Plain, PlainFrame, Note, Cycle, step, run, frame_at, plain_slave, keeping, filled, new_frames, with_note, met_note}
 use Rattle.ec_world.proofs.Tracing.{mapped, guarded, Leaves, Stays, Begins, Moves, Loses, Returns, Closes, leaves}
-use Rattle.ec_world.proofs.Histories.{run_tells, filled_holds, new_at, as_many, keeping_number}
+use Rattle.ec_world.proofs.Histories.{run_tells, filled_holds, new_at, as_many, keeping_number, next_left}
 use Rattle.ec_world.proofs.Quiet.{IsAway, Away, moved_away}
-
-none_some : {X : Type 0} (x : X) → None ≡ Some x → ⊥
-none_some x e = cc
-
-some_same : {X : Type 0} (x y : X) → Some x ≡ Some y → x ≡ y
-some_same x y e = cc
-
-false_true : false ≡ true → ⊥
-false_true e = cc
+use Rattle.ec_world.proofs.Lists.{none_some, some_same}
 
 -- the frame of part k was lost on the way
 pub record LostAt (m : Meaning) (begun : Plain) (number : ℕ) (done : List Event) (k : ℕ) : Type 0 where
@@ -65,7 +57,7 @@ still : (m : Meaning) (begun : Plain) (number : ℕ) (done : List Event) (e : Ev
 still m begun number done e p h = record { past = h.past; each = λ c at own k l. later_place m begun number done e p.slots c.kept k (h.each c at own k l) }
 
 is_some_or : {X : Type 0} (o : Option X) → is_none o ≡ false → (x : X) × (o ≡ Some x)
-is_some_or None e = absurd (false_true (sym e))
+is_some_or None e = absurd (false≢true (sym e))
 is_some_or (Some x) e = (x, refl)
 
 -- what is kept stays kept as a frame comes back
@@ -94,7 +86,7 @@ keeping_length g c = go ((g.number == c.number) && is_none (get_or c.kept g.part
 
 located_step : (m : Meaning) (begun : Plain) (number : ℕ) (done : List Event) (e : Event) (q : Plain)
     → step m (run m begun done).plain e ≡ Some q → Located m begun number done (run m begun done).plain → Located m begun number (done ++ (e ∷ [])) q
-located_step m begun number done e q h c = by (leaves m p e q h)
+located_step m begun number done e q h c = record { past = omega (arith, c.past, next_left m p e q (leaves m p e q h)); each = by (leaves m p e q h) }
   where
     p : Plain
     p = (run m begun done).plain
@@ -105,23 +97,11 @@ located_step m begun number done e q h c = by (leaves m p e q h)
     P : List (Option PlainFrame) → List (Option (List Note)) → ℕ → Type 0
     P slots kept k = Place m begun number (done ++ (e ∷ [])) slots kept k
 
-    by : Leaves m p e q → Located m begun number (done ++ (e ∷ [])) q
-    by (Stays slots next cycle) = record {
-      past = let x = c.past in omega (arith, x, next);
-      each = λ d at own k l. subst (λ os. P os d.kept k) (sym slots) (now.each d (sym cycle ∙ at) own k l);
-    }
-    by (Closes slots next cycle) = record {
-      past = let x = c.past in omega (arith, x, next);
-      each = λ d at own k l. absurd (none_some d (sym cycle ∙ at));
-    }
-    by (Begins is_begin slots next cycle slaves room) = record {
-      past = let x = c.past in omega (arith, x, next);
-      each = λ d at own k l. absurd (let n = ap (λ (x : Cycle). x.number) (some_same _ d (sym cycle ∙ at)) in let x = c.past in omega (arith, x, n, own));
-    }
-    by (Moves j g own there inside is) = record {
-      past = let x = c.past in let next = ap (λ (z : Plain). z.next) is in omega (arith, x, next);
-      each = λ d at num k l. subst (λ os. P os d.kept k) (sym (ap (λ (z : Plain). z.slots) is)) (move d.kept k (now.each d (sym (ap (λ (z : Plain). z.cycle) is) ∙ at) num k l));
-    }
+    by : Leaves m p e q → (d : Cycle) → q.cycle ≡ Some d → d.number ≡ number → (k : ℕ) → k < length d.kept → P q.slots d.kept k
+    by (Stays slots next cycle) d at own k l = subst (λ os. P os d.kept k) (sym slots) (now.each d (sym cycle ∙ at) own k l)
+    by (Closes slots next cycle) d at own k l = absurd (none_some d (sym cycle ∙ at))
+    by (Begins is_begin slots next cycle slaves room) d at own k l = absurd (let n = ap (λ (x : Cycle). x.number) (some_same _ d (sym cycle ∙ at)) in let x = c.past in omega (arith, x, n, own))
+    by (Moves j g own there inside is) d at num k l = subst (λ os. P os d.kept k) (sym (ap (λ (z : Plain). z.slots) is)) (move d.kept k (now.each d (sym (ap (λ (z : Plain). z.cycle) is) ∙ at) num k l))
       where
         moved_on : PlainFrame
         moved_on = with_note g (met_note m (length g.notes) g (plain_slave p (length g.notes)))
@@ -130,10 +110,7 @@ located_step m begun number done e q h c = by (leaves m p e q h)
         move kept k (IsKept notes x) = IsKept notes x
         move kept k (OnItsWay a) = OnItsWay (moved_away number k p.slots j g moved_on there refl refl a.slot a.frame a.there a.is)
         move kept k (Lost x) = Lost x
-    by (Loses j own is) = record {
-      past = let x = c.past in let next = ap (λ (z : Plain). z.next) is in omega (arith, x, next);
-      each = λ d at num k l. subst (λ os. P os d.kept k) (sym (ap (λ (z : Plain). z.slots) is)) (lose d.kept k (now.each d (sym (ap (λ (z : Plain). z.cycle) is) ∙ at) num k l));
-    }
+    by (Loses j own is) d at num k l = subst (λ os. P os d.kept k) (sym (ap (λ (z : Plain). z.slots) is)) (lose d.kept k (now.each d (sym (ap (λ (z : Plain). z.cycle) is) ∙ at) num k l))
       where
         lose : (kept : List (Option (List Note))) (k : ℕ) → P p.slots kept k → P (set p.slots j None) kept k
         lose kept k (IsKept notes x) = IsKept notes x
@@ -152,10 +129,7 @@ located_step m begun number done e q h c = by (leaves m p e q h)
             is = a.is;
           })
         ]
-    by (Returns j g there is all) = record {
-      past = let x = c.past in let next = ap (λ (z : Plain). z.next) is in omega (arith, x, next);
-      each = λ d at own k l. subst (λ os. P os d.kept k) (sym (ap (λ (z : Plain). z.slots) is)) (back d (sym (ap (λ (z : Plain). z.cycle) is) ∙ at) own k l);
-    }
+    by (Returns j g there is all) d at own k l = subst (λ os. P os d.kept k) (sym (ap (λ (z : Plain). z.slots) is)) (back d (sym (ap (λ (z : Plain). z.cycle) is) ∙ at) own k l)
       where
         come : (r : Cycle) (k : ℕ) → k < length r.kept → r.number ≡ number → P p.slots r.kept k → P (set p.slots j None) (keeping g r).kept k
         come r k l num (IsKept notes x) = let y = kept_on g r k notes l x in IsKept y.0 y.1

@@ -1,16 +1,19 @@
--- A slave that holds its plan is mapped at its area.
-use Rattle.std.proofs.Common.{ℕ, ◌+◌, ◌*◌, ◌<◌, ◌≡◌, Bool, true, false, Option, refl, sym, ◌∙◌, ap, subst, inl, inr, arith, if◌then◌else◌, List, [], ◌∷◌, length, get_or}
-use Rattle.std.proofs.lemmas.List.{length-map}
+-- The sync managers of process data, as a plan sets them.
+use Rattle.std.proofs.Common.{ℕ, ◌+◌, ◌*◌, ◌<◌, ◌≡◌, ◌&&◌, not, true, false, Some, refl, ◌∙◌, ap, arith, if◌then◌else◌, List, [], ◌∷◌, map, Bool, Option, sym, subst, inl, inr, length, get_or}
 use Rattle.std.specs.List.{position_from}
-use Rattle.std.proofs.lemmas.Bool.{cases_Bool, and_from, both_ways}
+use Rattle.std.proofs.lemmas.Bool.{and_from, and_left, and_right, lt-ltb, le-leb, ne_eqb, eq-eqb, cases_Bool, both_ways}
 use Rattle.ec_bits.specs.Bits.{bytes_of_bits}
-use Rattle.ec_bits.proofs.AnyLaws.{within_true}
+use Rattle.ec_bits.proofs.AnyLaws.{if_true, if_false, within_true}
 use Rattle.ec_regs.specs.declared.manager.SyncManagerSettings.{SyncManagerSettings}
 use Rattle.ec_regs.specs.Managers.{no_settings, is_set, is_mailbox, span}
+use Rattle.ec_regs.specs.Memory.{ram_start, ram_end}
+use Rattle.ec_sync.specs.SyncManager.{SyncManager, may_read, may_write, may_app_put, may_app_get, no_manager}
+use Rattle.ec_sync.specs.Governing.{governs, governor}
+use Rattle.ec_link.specs.SlavePlan.{process_manager}
+use Rattle.ec_link.specs.Interface.{has_byte, FitsRam, AreListed, output_manager, input_manager}
+use Rattle.std.proofs.Math.ListN.{get_or-map}
+use Rattle.std.proofs.lemmas.List.{length-map}
 use Rattle.ec_regs.specs.Fmmus.{no_fmmu}
-use Rattle.ec_sync.specs.SyncManager.{SyncManager, no_manager}
-use Rattle.ec_sync.specs.Governing.{governor}
-use Rattle.ec_sync.proofs.Lengths.{set_lies_in_ram}
 use Rattle.ec_fmmu.specs.Sets.{target, source, readers, writers}
 use Rattle.ec_fmmu.proofs.RunLaws.{read_set_is_run, write_set_is_run}
 use Rattle.ec_slave.specs.State.{SlaveState, manager_at, fmmus}
@@ -18,15 +21,69 @@ use Rattle.ec_slave.specs.Exchange.{IsMapped, IsBufferAt}
 use Rattle.ec_link.specs.declared.settings.SlavePlan.{SlavePlan}
 use Rattle.ec_link.specs.Meaning.{area_of}
 use Rattle.ec_link.specs.Sound.{fmmu_of}
-use Rattle.ec_link.specs.Usable.{AreListed, has_byte, output_manager, input_manager}
 use Rattle.ec_world.specs.SlaveShows.{Holds}
-use Rattle.ec_world.proofs.Settings.{get_or-mapped, for_bits, some_bits, set_for_outs, set_for_ins, governor_of, third_governs, fourth_governs}
+
+-- set for so many bits
+abbrev pub for_bits : ℕ → ℕ → ℕ → SyncManagerSettings
+for_bits bits start control = record { start = start; length = bytes_of_bits bits; control = control; activate = 1 }
+
+pub some_bits : (bits start control : ℕ) → 0 < bits → process_manager start bits control ≡ for_bits bits start control
+some_bits bits start control l = if_false _ _ _ (ne_eqb bits 0 (omega arith))
+
+pub no_bits : (bits start control : ℕ) → bits ≡ 0 → process_manager start bits control ≡ no_settings
+no_bits bits start control e = if_true _ _ _ (eq-eqb bits 0 e)
+
+pub set_for_outs : (bits start : ℕ) → 0 < bits → FitsRam bits start → is_set (for_bits bits start 0x24) ≡ true
+unfolding is_set
+set_for_outs bits start l fits = let f = fits l in and_from _ _ (lt-ltb 0 (bytes_of_bits bits) (omega arith)) (and_from _ _ (le-leb ram_start start f.0) (le-leb (start + 3 * bytes_of_bits bits) ram_end f.1))
+
+pub set_for_ins : (bits start : ℕ) → 0 < bits → FitsRam bits start → is_set (for_bits bits start 0x20) ≡ true
+unfolding is_set
+set_for_ins bits start l fits = let f = fits l in and_from _ _ (lt-ltb 0 (bytes_of_bits bits) (omega arith)) (and_from _ _ (le-leb ram_start start f.0) (le-leb (start + 3 * bytes_of_bits bits) ram_end f.1))
+
+pub unset : is_set no_settings ≡ false
+unfolding is_set
+unset = refl
+
+-- ---- who governs
+
+pub governor_of : (k : ℕ) (ms : List SyncManager) (a : ℕ) → position_from (λ m. governs m a) k ms ≡ position_from (λ x. has_byte x a) k (map (λ m. m.settings) ms)
+governor_of k [] a = refl
+governor_of k (m ∷ ms) a = ap (λ o. if governs m a then Some k else o) (governor_of (k + 1) ms a)
+
+pub third_governs : (m0 m1 m2 m3 : SyncManagerSettings) (a : ℕ) → has_byte m0 a ≡ false → has_byte m1 a ≡ false → has_byte m2 a ≡ true → position_from (λ x. has_byte x a) 0 (m0 ∷ m1 ∷ m2 ∷ m3 ∷ []) ≡ Some 2
+third_governs m0 m1 m2 m3 a e0 e1 e2 = if_false _ _ _ e0 ∙ (if_false _ _ _ e1 ∙ if_true _ _ _ e2)
+
+pub fourth_governs : (m0 m1 m2 m3 : SyncManagerSettings) (a : ℕ) → has_byte m0 a ≡ false → has_byte m1 a ≡ false → has_byte m2 a ≡ false → has_byte m3 a ≡ true → position_from (λ x. has_byte x a) 0 (m0 ∷ m1 ∷ m2 ∷ m3 ∷ []) ≡ Some 3
+fourth_governs m0 m1 m2 m3 a e0 e1 e2 e3 = if_false _ _ _ e0 ∙ (if_false _ _ _ e1 ∙ (if_false _ _ _ e2 ∙ if_true _ _ _ e3))
+
+-- ---- who may do what
+
+pub outs_enabled : (m : SyncManager) (bits start : ℕ) → 0 < bits → FitsRam bits start → m.settings ≡ process_manager start bits 0x24 → m.locked ≡ false → (may_write m ≡ true) × (may_app_get m ≡ true)
+outs_enabled m bits start l fits e u =
+    let same : m.settings ≡ for_bits bits start 0x24 = e ∙ some_bits bits start 0x24 l in
+    let set : is_set (for_bits bits start 0x24) ≡ true = set_for_outs bits start l fits in
+    (rw (same, u, set) refl, rw (same, u, set) refl)
+
+pub ins_enabled : (m : SyncManager) (bits start : ℕ) → 0 < bits → FitsRam bits start → m.settings ≡ process_manager start bits 0x20 → m.locked ≡ false → (may_read m ≡ true) × (may_app_put m ≡ true)
+ins_enabled m bits start l fits e u =
+    let same : m.settings ≡ for_bits bits start 0x20 = e ∙ some_bits bits start 0x20 l in
+    let set : is_set (for_bits bits start 0x20) ≡ true = set_for_ins bits start l fits in
+    (rw (same, u, set) refl, rw (same, u, set) refl)
+
+-- a locked manager denies
+pub locked_denies : (m : SyncManager) → m.locked ≡ true → (may_write m ≡ false) × (may_app_get m ≡ false)
+locked_denies m e =
+    let off : (is_set m.settings && not m.locked) ≡ false = and_right _ _ (ap not e) in
+    (and_left _ _ off, and_left _ _ off)
+
+-- ---- a slave that holds its plan is mapped at its area
 
 abbrev governor_by : List SyncManagerSettings → ℕ → Option ℕ
 governor_by ms b = position_from (λ x. has_byte x b) 0 ms
 
 pub settings_held : (i : ℕ) (p : SlavePlan) (s : SlaveState) (n : ℕ) → Holds i p s → (manager_at s.managers n).settings ≡ get_or p.managers n no_settings
-settings_held i p s n h = sym (get_or-mapped (λ (m : SyncManager). m.settings) s.managers n no_manager) ∙ ap (λ xs. get_or xs n no_settings) h.managers
+settings_held i p s n h = sym (get_or-map (λ (m : SyncManager). m.settings) s.managers n no_manager) ∙ ap (λ xs. get_or xs n no_settings) h.managers
 
 pub third_held : (i : ℕ) (p : SlavePlan) (s : SlaveState) → Holds i p s → AreListed p → (manager_at s.managers 2).settings ≡ output_manager p
 third_held i p s h a = settings_held i p s 2 h ∙ ap (λ xs. get_or xs 2 no_settings) a.managers
@@ -40,16 +97,6 @@ has_own bits start control k set l = and_from _ _ set (within_true start (span (
     longer : (b : Bool) → start + k < start + (if b then bytes_of_bits bits else 3 * bytes_of_bits bits)
     longer true = omega arith
     longer false = omega arith
-
--- what is set has its own first byte
-begins : (m : SyncManagerSettings) → is_set m ≡ true → has_byte m m.start ≡ true
-begins m set =
-    let some = (set_lies_in_ram m set).some in
-    and_from _ _ set (within_true m.start (span m) m.start (omega arith) (longer (is_mailbox m) some))
-  where
-    longer : (b : Bool) → 0 < m.length → m.start < m.start + (if b then m.length else 3 * m.length)
-    longer true l = omega arith
-    longer false l = omega arith
 
 pub holds_mapped : (i : ℕ) (p : SlavePlan) (s : SlaveState) → Holds i p s → AreListed p → IsMapped s (area_of p)
 holds_mapped i p s h a =

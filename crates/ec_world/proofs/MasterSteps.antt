@@ -18,17 +18,10 @@ use Rattle.ec_world.specs.Plain.{Plain, PlainFrame, Note, Cycle, progress_of, al
 use Rattle.ec_world.specs.World.{WorldState, Flight, flight_progress, flights_progress, flights_from, can_begin, Begins, Closes}
 use Rattle.ec_world.specs.Shows.{Shows, CyclesShow, CycleShows, said, CountersPredicted}
 use Rattle.ec_world.specs.FrameShows.{FrameShows}
-use Rattle.ec_world.proofs.Lists.{theres, nones-alike}
-use Rattle.ec_world.proofs.InSlots.{same_slots}
+use Rattle.ec_world.proofs.Lists.{theres, nones-alike, none_some, some_same, same_slots}
 use Rattle.ec_world.proofs.Filling.{filled-map, filled-both}
 use Rattle.ec_world.proofs.Fresh.{fresh, fresh_shows}
 use Rattle.ec_world.proofs.CloseLaws.{inputs_same, report_said, counters_predicted}
-
-none_some : {X : Type 0} (x : X) → None ≡ Some x → ⊥
-none_some x e = cc
-
-some_same : {X : Type 0} (x y : X) → Some x ≡ Some y → x ≡ y
-some_same x y e = cc
 
 -- ---- cycles
 

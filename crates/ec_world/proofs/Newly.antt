@@ -1,5 +1,5 @@
 -- A new world of a table, and what its plan is.
-use Rattle.std.proofs.Common.{ℕ, ◌≡◌, None, sym, subst, List, get_or}
+use Rattle.std.proofs.Common.{ℕ, ◌≡◌, None, sym, subst, List}
 use Rattle.std.specs.Prelude.{All}
 use Rattle.std.proofs.lemmas.List.Elements.{All-from_get_or}
 use Rattle.ec_device.specs.declared.slave_type.Identity.{Identity}
@@ -9,10 +9,10 @@ use Rattle.ec_link.specs.Faults.{compile_fault}
 use Rattle.ec_link.specs.Plan.{PlanState, plan_of}
 use Rattle.ec_link.specs.Usable.{IsUsable}
 use Rattle.ec_link.proofs.UsableLaws.{plan_usable}
-use Rattle.ec_start.specs.Planned.{HasFewAssigned}
-use Rattle.ec_start.proofs.Assigned.{has_few}
+use Rattle.ec_start.specs.Planned.{HasFewAssigned, IsStartable}
+use Rattle.ec_start.proofs.Assigned.{startable_is_taken}
 use Rattle.ec_bringup.specs.Starting.{no_plan}
-use Rattle.ec_bringup.proofs.StartableLaws.{slave_startable}
+use Rattle.ec_bringup.proofs.CompleteLaws.{are-plans}
 use Rattle.ec_world.specs.declared.event.Event.{Event}
 use Rattle.ec_world.specs.World.{WorldState}
 use Rattle.ec_world.specs.Laws.{IsRun}
@@ -24,7 +24,7 @@ usable-of t plan sound free is = subst IsUsable (sym is) (plan_usable t sound fr
 
 pub few-of : (t : Contents) (plan : PlanState) → table.IsSound t → compile_fault t ≡ None → plan ≡ plan_of t → All HasFewAssigned plan.slaves
 few-of t plan sound free is = subst (λ (p : PlanState). All HasFewAssigned p.slaves) (sym is)
-    (All-from_get_or HasFewAssigned (plan_of t).slaves no_plan (λ i l. has_few (get_or (plan_of t).slaves i no_plan) (slave_startable t sound free i l)))
+    (startable_is_taken (plan_of t).slaves (All-from_get_or IsStartable (plan_of t).slaves no_plan (are-plans t sound free).planned))
 
 -- a run of a new world
 pub told-new : (t : Contents) (is : List Identity) (w : WorldState) (es : List Event) (v : WorldState) (made : ℕ) → IsNew t is w → IsRun w es v made → Told w es v made (no_trouble w)

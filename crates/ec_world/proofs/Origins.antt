@@ -1,13 +1,13 @@
 -- A world that is Ready: the world in which its start-up ended, and where its slaves' troubles come from.
 use Rattle.std.proofs.Common.{ℕ, zero, suc, ◌+◌, ◌≡◌, ◌⊎◌, ◌&&◌, Bool, true, false, refl, sym, ◌∙◌, ap, subst, inl, inr, List, [], ◌∷◌, ◌++◌, length, replicate, if◌then◌else◌, get_or-set_other}
-use Rattle.std.proofs.lemmas.Bool.{cases_Bool, cases_eq, both_ways}
+use Rattle.std.proofs.lemmas.Bool.{cases_Bool, cases_eq, both_ways, true≢false}
 use Rattle.ec_bits.proofs.AnyLaws.{if_true, if_false}
 use Rattle.ec_link.specs.Plan.{PlanState}
 use Rattle.ec_link.specs.Usable.{IsUsable}
 use Rattle.ec_bringup.specs.Starting.{trouble_at}
 use Rattle.ec_bringup.specs.Runs.{AreStartable, is_beginning}
 use Rattle.ec_world.specs.declared.event.Event.{Event}
-use Rattle.ec_world.specs.declared.event.Event.TheVariants.{StartNext, Set, Begin, Pass, Lose, Return, Close, Serve, AppPut, AppGet, Fault, Reset}
+use Rattle.ec_world.specs.declared.event.Event.TheVariants.{StartNext, Fault, Reset}
 use Rattle.ec_world.specs.World.{WorldState, is_up, resumed, IsStep}
 use Rattle.ec_world.specs.Laws.{IsRun}
 use Rattle.ec_world.specs.Whole.{flags_after, flags_of, no_trouble, IsReadyWorld}
@@ -16,9 +16,6 @@ use Rattle.ec_world.specs.Headline.{HadTrouble, IsRunWithoutStart, begins_start}
 use Rattle.ec_world.specs.RunLaws.{TroubleLaw}
 use Rattle.ec_world.proofs.Readies.{ready-world}
 use Rattle.ec_world.proofs.Whole.{step-rises, step-plan}
-
-true_false : true ≡ false → ⊥
-true_false e = cc
 
 -- ---- flags
 
@@ -33,18 +30,9 @@ Flagged one w e flags i = ((trouble_at flags i ≡ true) × ((one && begins_star
 
 flagged : (w : WorldState) (e : Event) (flags : List Bool) (i : ℕ) → trouble_at (flags_after w e flags) i ≡ true → Flagged true w e flags i
 flagged w StartNext flags i h = elim (cases_Bool (is_beginning (resumed w.start w.start.phase))) [
-  | inl on ↦ absurd (true_false (sym (sym (ap (λ fs. trouble_at fs i) (if_true _ _ _ on)) ∙ h) ∙ none_flagged (length (resumed w.start w.start.phase).plan) i))
+  | inl on ↦ absurd (true≢false (sym (sym (ap (λ fs. trouble_at fs i) (if_true _ _ _ on)) ∙ h) ∙ none_flagged (length (resumed w.start w.start.phase).plan) i))
   | inr off ↦ inl (sym (ap (λ fs. trouble_at fs i) (if_false _ _ _ off)) ∙ h, off)
 ]
-flagged w (Set v x) flags i h = inl (h, refl)
-flagged w Begin flags i h = inl (h, refl)
-flagged w (Pass k) flags i h = inl (h, refl)
-flagged w (Lose k) flags i h = inl (h, refl)
-flagged w (Return k) flags i h = inl (h, refl)
-flagged w Close flags i h = inl (h, refl)
-flagged w (Serve s) flags i h = inl (h, refl)
-flagged w (AppPut s j x) flags i h = inl (h, refl)
-flagged w (AppGet s j) flags i h = inl (h, refl)
 flagged w (Fault s) flags i h = elim (cases_eq i s) [
   | inl same ↦ inr (inl (ap (λ (n : ℕ). Fault n) (sym same)), refl)
   | inr ne ↦ inl (sym (get_or-set_other flags s i true false ne) ∙ h, refl)
@@ -53,6 +41,7 @@ flagged w (Reset s) flags i h = elim (cases_eq i s) [
   | inl same ↦ inr (inr (ap (λ (n : ℕ). Reset n) (sym same)), refl)
   | inr ne ↦ inl (sym (get_or-set_other flags s i true false ne) ∙ h, refl)
 ]
+flagged w _ flags i h = inl (h, refl)
 
 flagged_by : (one : Bool) (w : WorldState) (e : Event) (flags : List Bool) (i : ℕ) → trouble_at (if one then flags_after w e flags else flags) i ≡ true → Flagged one w e flags i
 flagged_by true w e flags i h = flagged w e flags i h
@@ -164,5 +153,5 @@ flags_come (e ∷ es) old new made run flags i t =
 pub trouble_law : TroubleLaw
 trouble_law t ids old events w made n run s flag = elim (flags_come events old w made run (no_trouble old) s flag) [
   | inr h ↦ h
-  | inl h ↦ absurd (true_false (sym h.0 ∙ none_flagged (length old.plan.slaves) s))
+  | inl h ↦ absurd (true≢false (sym h.0 ∙ none_flagged (length old.plan.slaves) s))
 ]

@@ -1,30 +1,80 @@
--- The process datagrams of a frame pass the next slave.
-use Rattle.std.proofs.Common.{ℕ, ◌+◌, ◌*◌, ◌%◌, ◌<◌, ◌≤◌, ◌≡◌, ◌≢◌, ◌==◌, Bool, true, false, refl, sym, ◌∙◌, ap, subst, inl, inr, arith, if◌then◌else◌, List, [], ◌∷◌, ◌++◌, length, mod-eq_of_lt}
+-- What a slave does with a logical datagram over its area, where it is known what it takes and gives.
+use Rattle.std.proofs.Common.{ℕ, ◌+◌, ◌*◌, ◌<◌, ◌≡◌, Bool, true, false, refl, ◌∙◌, ap, arith, if◌then◌else◌, List, length, nat_lt, ◌&&◌, ◌%◌, ◌≤◌, ◌≢◌, ◌==◌, sym, subst, inl, inr, [], ◌∷◌, ◌++◌, mod-eq_of_lt}
 use Rattle.std.specs.Int.{from_bool}
+use Rattle.ec_frame.specs.Datagram.{Datagram}
+use Rattle.ec_sync.specs.SyncManager.{SyncManager, may_read, may_write}
+use Rattle.ec_slave.specs.State.{SlaveState, with_answer, Met}
+use Rattle.ec_slave.specs.Logical.{place_of, meets_logically}
+use Rattle.ec_slave.specs.Exchange.{IsMapped, takes, gives, outputs_from, inputs_into, inputs_of, with_outputs}
+use Rattle.ec_fmmu.specs.Areas.{Area, Spans}
+use Rattle.ec_slave.proofs.ExchangeLaw.{exchange}
+use Rattle.ec_slave.proofs.Kept.{mapped_kept, outputs_published}
+use Rattle.ec_link.specs.Shares.{Gave, lwr_count, lrd_count, lrw_count, nothing_given, sum_of}
 use Rattle.std.proofs.lemmas.Bool.{cases_Bool, and_left, le-ltb, both_ways, eq-eqb, eqb-true}
 use Rattle.ec_frame.specs.declared.command.Command.TheVariants.{Lrd, Lwr, Lrw}
-use Rattle.ec_frame.specs.Datagram.{Datagram}
 use Rattle.ec_bits.proofs.AnyLaws.{if_true, if_false}
 use Rattle.ec_fmmu.specs.Applied.{Place}
-use Rattle.ec_slave.specs.State.{SlaveState, Met, with_answer}
-use Rattle.ec_slave.specs.Logical.{place_of, meets_logically}
 use Rattle.ec_slave.specs.LogicalLaws.{Misses}
-use Rattle.ec_slave.specs.Exchange.{outputs_from, inputs_into}
-use Rattle.ec_fmmu.specs.Areas.{Area, Spans}
 use Rattle.ec_bits.specs.Bits.{bit}
 use Rattle.ec_slave.specs.Meeting.{meets, passes, Passed}
-use Rattle.std.proofs.lemmas.Bool.{cases_Bool}
 use Rattle.ec_slave.proofs.Meetings.{logical_meet}
 use Rattle.ec_slave.proofs.Misses.{misses}
-use Rattle.ec_link.specs.Shares.{Gave, nothing_given, lwr_count, lrd_count, lrw_count, sum_of}
 use Rattle.ec_link.specs.Meaning.{Meaning, share_of, IsLaid}
 use Rattle.ec_link.specs.declared.plan.PartPlan.{PartPlan}
 use Rattle.ec_cycle.specs.Frames.{process_datagram, process_datagrams}
 use Rattle.ec_world.specs.Plain.{PlainSlave, PlainFrame, Note, Other, Full, linked_outputs, met_note, with_note}
 use Rattle.ec_world.specs.FrameShows.{GaveAs, ShowsData}
 use Rattle.ec_world.specs.Exchanging.{given_in, slave_left}
-use Rattle.ec_world.proofs.Acting.{Acts, left, data_left, lrw_acts, lwr_acts, lrd_acts, acts_left}
 use Rattle.ec_world.proofs.DataLaws.{outputs_are, Took, took, Meets, data_passed, same_place}
+
+-- a mapped slave that takes and gives this, and these inputs
+pub record Acts (s : SlaveState) (a : Area) (g : Gave) (v : List ℕ) : Type 0 where
+  pub mapped : IsMapped s a
+  pub takes_is : takes s a ≡ g.wrote
+  pub gives_is : gives s a ≡ g.read
+  pub inputs_is : inputs_of s ≡ v
+
+abbrev pub left : SlaveState → Gave → List ℕ → SlaveState
+left s g u = if g.wrote then with_outputs s u else s
+
+abbrev pub data_left : Gave → Area → Datagram → List ℕ → List ℕ
+data_left g a d v = if g.read then inputs_into a (place_of d) v d.data_bytes else d.data_bytes
+
+pub lrw_acts : (s : SlaveState) (a : Area) (g : Gave) (v : List ℕ) (d : Datagram) → Acts s a g v → Spans (place_of d) a
+    → meets_logically true true 2 s d ≡ record { slave = left s g (outputs_from a (place_of d) d.data_bytes); datagram = with_answer d d.address (data_left g a d v) (lrw_count g) }
+lrw_acts s a g v d h c = exchange true true 2 s a d h.mapped c ∙ rw (h.takes_is, h.gives_is, h.inputs_is) refl
+
+pub lwr_acts : (s : SlaveState) (a : Area) (g : Gave) (v : List ℕ) (d : Datagram) → Acts s a g v → Spans (place_of d) a
+    → meets_logically false true 1 s d ≡ record { slave = left s g (outputs_from a (place_of d) d.data_bytes); datagram = with_answer d d.address d.data_bytes (lwr_count g) }
+lwr_acts s a g v d h c =
+    let one : 0 + 1 * from_bool g.wrote ≡ from_bool g.wrote = omega arith in
+    exchange false true 1 s a d h.mapped c ∙ rw h.takes_is (ap (λ n. record { slave = left s g (outputs_from a (place_of d) d.data_bytes); datagram = with_answer d d.address d.data_bytes n }) one)
+
+pub lrd_acts : (s : SlaveState) (a : Area) (g : Gave) (v : List ℕ) (d : Datagram) → Acts s a g v → Spans (place_of d) a
+    → meets_logically true false 1 s d ≡ record { slave = s; datagram = with_answer d d.address (data_left g a d v) (lrd_count g) }
+lrd_acts s a g v d h c =
+    let one : from_bool g.read + 1 * 0 ≡ from_bool g.read = omega arith in
+    exchange true false 1 s a d h.mapped c ∙ rw (h.gives_is, h.inputs_is) (ap (λ n. record { slave = s; datagram = with_answer d d.address (data_left g a d v) n }) one)
+
+published : (s : SlaveState) (a : Area) (g : Gave) (v u : List ℕ) → Acts s a g v → Acts (with_outputs s u) a g v
+published s a g v u h =
+    let two : 2 < length s.managers = let e = h.mapped.four in omega arith in
+    record {
+      mapped = mapped_kept s a u h.mapped;
+      takes_is = ap (λ m. nat_lt 0 a.outs && may_write m) ((outputs_published s u).own two) ∙ h.takes_is;
+      gives_is = ap (λ m. nat_lt 0 a.ins && may_read m) ((outputs_published s u).others 3 (omega arith)) ∙ h.gives_is;
+      inputs_is = ap (λ (m : SyncManager). m.buffer.published) ((outputs_published s u).others 3 (omega arith)) ∙ h.inputs_is;
+    }
+
+-- it goes on so after it published
+pub acts_left : (s : SlaveState) (a : Area) (g : Gave) (v u : List ℕ) → Acts s a g v → Acts (left s g u) a g v
+acts_left s a g v u h = go g.wrote
+  where
+    go : (b : Bool) → Acts (if b then with_outputs s u else s) a g v
+    go true = published s a g v u h
+    go false = h
+
+-- ---- the process datagrams of a frame pass the next slave
 
 -- ---- what is known of the slave that meets the frame
 

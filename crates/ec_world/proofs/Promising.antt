@@ -18,7 +18,7 @@ use Rattle.ec_link.specs.Shares.{has_outs, has_ins, whole_share, nothing_given, 
 use Rattle.ec_link.specs.Meaning.{Meaning, Linked, share_of, meaning, slave_at}
 use Rattle.ec_link.specs.Usable.{IsUsable}
 use Rattle.ec_link.specs.Plan.{PlanState}
-use Rattle.ec_link.proofs.LinkLaws.{ins_linked}
+use Rattle.ec_link.proofs.LinkLaws.{linked_inputs}
 use Rattle.ec_cycle.specs.Closing.{ReportState, report_of, inputs_closed, all_from}
 use Rattle.ec_cycle.specs.Master.{OpenCycle}
 use Rattle.ec_world.specs.Plain.{Plain, PlainSlave, PlainFrame, Health, Note, Other, Short, Full, Cycle, Working, Faulted, Reset, unit_full, all_full, is_full, Closed, giving, plain_slave, linked_outputs, inputs_taken, taken_bit, noted_bit, notes_of_part, progress_of, all_progress, may_pass, lets_by}
@@ -30,17 +30,10 @@ use Rattle.ec_world.specs.Shows.{Shows, CycleShows, CyclesShow}
 use Rattle.ec_world.specs.Promises.{AreLinked, has_outputs_for, IsPublished, OutputsLaw, FallsShort, NotesLaw, IsNoted, IsMissed, NotBack, FellShort, unit_of_slave, IsCounted, InputsLaw}
 use Rattle.ec_world.proofs.FramePass.{frame_pass}
 use Rattle.ec_world.proofs.FrameSteps.{pass_can}
-use Rattle.ec_world.proofs.InSlots.{flight_pairs}
-use Rattle.ec_world.proofs.Lists.{all_from-each, all_each, there_too}
+use Rattle.ec_world.proofs.Lists.{flight_pairs, all_from-each, all_each, there_too, some_same}
 use Rattle.ec_world.proofs.Knowing.{share_is}
 use Rattle.ec_world.proofs.MasterSteps.{open_both}
 use Rattle.ec_world.proofs.CloseLaws.{inputs_same, report_said, counted, all_full_kept}
-
-none_some : {X : Type 0} (x : X) → None ≡ Some x → ⊥
-none_some x e = cc
-
-some_same : {X : Type 0} (x y : X) → Some x ≡ Some y → x ≡ y
-some_same x y e = cc
 
 -- ---- a pass
 
@@ -278,7 +271,7 @@ module _ (old : WorldState) (p : Plain) (q : Cycle) (c : OpenCycle) (sound : IsU
       → unit_full (meaning old.plan) q (unit_of_slave (meaning old.plan) i.slave) ≡ true
       → (v : List ℕ) × IsNoted q (share_of (meaning old.plan) i.slave).part i.slave v × (bit after b ≡ bit v i.bit_of)
   taken_one b i l e on =
-      let linked_at = ins_linked old.plan old.plan.in_links b i sound.in_links e in
+      let linked_at = linked_inputs old.plan sound b i e in
       let few : i.slave < length old.plan.slaves = let x = length-map old.plan.slaves (λ y. y.share) in let y = linked_at.0 in omega (arith, x, y) in
       let n = noted old.plan c q i sound shows few on in
       let told : found b ≡ Some (bit n.value i.bit_of) = ap (option_and_then (taken_bit (meaning old.plan) q)) e ∙ (if_true _ _ _ on ∙ n.bits i.bit_of) in

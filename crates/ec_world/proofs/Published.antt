@@ -1,22 +1,15 @@
 -- What a cycle keeps was noted as its frames passed: each note of a frame, and each that is kept, goes back to its pass.
-use Rattle.std.proofs.Common.{ℕ, zero, suc, ◌+◌, ◌<◌, ◌≡◌, ◌⊎◌, ◌==◌, ◌&&◌, Some, None, refl, sym, ◌∙◌, ap, subst, inl, inr, arith, List, [], ◌∷◌, ◌++◌, length, map, get_or, is_none, option_map, slice_get}
-use Rattle.std.proofs.lemmas.Bool.{cases_Bool, and_parts, eqb-true}
+use Rattle.std.proofs.Common.{ℕ, zero, suc, ◌+◌, ◌<◌, ◌≡◌, ◌⊎◌, Some, None, refl, sym, ◌∙◌, ap, subst, inl, inr, arith, List, [], ◌∷◌, ◌++◌, length, map, get_or, slice_get}
 use Rattle.std.proofs.lemmas.List.{append_assoc}
-use Rattle.ec_bits.proofs.AnyLaws.{if_true, if_false}
 use Rattle.ec_link.specs.Meaning.{Meaning}
 use Rattle.ec_world.specs.declared.event.Event.{Event}
 use Rattle.ec_world.specs.declared.event.Event.TheVariants.{Pass}
-use Rattle.ec_world.specs.Plain.{Plain, PlainFrame, Note, Cycle, step, run, frame_at, plain_slave, keeping, filled, new_frames, with_note, met_note}
+use Rattle.ec_world.specs.Plain.{Plain, PlainFrame, Note, Cycle, step, run, frame_at, plain_slave, filled, new_frames, met_note}
 use Rattle.ec_world.specs.Promises.{IsBegun, IsNotedAt, PublishedLaw}
-use Rattle.ec_world.proofs.Tracing.{mapped, guarded, Leaves, Stays, Begins, Moves, Loses, Returns, Closes, leaves}
+use Rattle.ec_world.proofs.Tracing.{guarded, Leaves, leaves}
 use Rattle.ec_world.proofs.Promising.{notes_law}
-use Rattle.ec_world.proofs.Histories.{run_tells, begun_below, filled_has, new_one, set_has, set_at, keeping_number, none_there}
-
-none_some : {X : Type 0} (x : X) → None ≡ Some x → ⊥
-none_some x e = cc
-
-some_same : {X : Type 0} (x y : X) → Some x ≡ Some y → x ≡ y
-some_same x y e = cc
+use Rattle.ec_world.proofs.Histories.{run_tells, begun_below, filled_has, new_one, keeping_number, none_there, frames_left, cycle_left, next_left, passed_on, kept_on}
+use Rattle.ec_world.proofs.Lists.{none_some, some_same}
 
 -- a note behind others is one of them, or the last
 pushed_note : (ns : List Note) (n : Note) (s : ℕ) (x : Note) → slice_get (ns ++ (n ∷ [])) s ≡ Some x → (slice_get ns s ≡ Some x) ⊎ ((length ns ≡ s) × (x ≡ n))
@@ -86,20 +79,24 @@ noted_now m begun number done j q f s n made there own meets is =
       published = λ v e. (notes_law m s f (plain_slave p s)).full v (sym note ∙ e);
     }
 
--- a frame comes back to its own cycle
-kept_on : (R : ℕ → List Note → Type 0) (number : ℕ) (g : PlainFrame) (c : Cycle) → (g.number ≡ number → R g.part g.notes) → c.number ≡ number
-    → ((k : ℕ) (notes : List Note) → get_or c.kept k None ≡ Some notes → R k notes) → (k : ℕ) (notes : List Note) → get_or (keeping g c).kept k None ≡ Some notes → R k notes
-kept_on R number g c new own old k notes e = elim (cases_Bool ((g.number == c.number) && is_none (get_or c.kept g.part None))) [
-  | inl on ↦ set_at R c.kept g.part g.notes (new (eqb-true _ _ (and_parts (g.number == c.number) _ on).0 ∙ own)) old k notes (ap (λ (x : Cycle). get_or x.kept k None) (sym (if_true _ _ _ on)) ∙ e)
-  | inr off ↦ old k notes (ap (λ (x : Cycle). get_or x.kept k None) (sym (if_false _ _ _ off)) ∙ e)
-]
-
 traced_step : (m : Meaning) (begun : Plain) (number : ℕ) (done : List Event) (e : Event) (q : Plain)
     → step m (run m begun done).plain e ≡ Some q → Traced m begun number done (run m begun done).plain → Traced m begun number (done ++ (e ∷ [])) q
-traced_step m begun number done e q h c = by (leaves m p e q h)
+traced_step m begun number done e q h c = record {
+  past = omega (arith, c.past, next_left m p e q l);
+  frames = frames_left m p e q l R (λ g is next new own. absurd (omega (arith, new.number_is, c.past, own))) on now.frames;
+  kept = cycle_left m p e q l (λ d. d.number ≡ number → (k : ℕ) (notes : List Note) → get_or d.kept k None ≡ Some notes → AreNoted m begun number (done ++ (e ∷ [])) k notes)
+      (λ is own. absurd (omega (arith, c.past, own)))
+      (λ k g x there all at num.
+      let own : x.number ≡ number = sym (keeping_number g x) ∙ num in
+      kept_on (AreNoted m begun number (done ++ (e ∷ []))) number g x (now.frames k g there) own (now.kept x at own))
+      now.kept;
+}
   where
     p : Plain
     p = (run m begun done).plain
+
+    l : Leaves m p e q
+    l = leaves m p e q h
 
     now : Traced m begun number (done ++ (e ∷ [])) p
     now = still_traced m begun number done e p c
@@ -107,60 +104,12 @@ traced_step m begun number done e q h c = by (leaves m p e q h)
     R : PlainFrame → Type 0
     R f = f.number ≡ number → AreNoted m begun number (done ++ (e ∷ [])) f.part f.notes
 
-    K : Cycle → Type 0
-    K d = (k : ℕ) (notes : List Note) → get_or d.kept k None ≡ Some notes → AreNoted m begun number (done ++ (e ∷ [])) k notes
-
-    by : Leaves m p e q → Traced m begun number (done ++ (e ∷ [])) q
-    by (Stays slots next cycle) = record {
-      past = let x = c.past in omega (arith, x, next);
-      frames = λ j f at. now.frames j f (ap (λ os. get_or os j None) (sym slots) ∙ at);
-      kept = λ d is. now.kept d (sym cycle ∙ is);
-    }
-    by (Closes slots next cycle) = record {
-      past = let x = c.past in omega (arith, x, next);
-      frames = λ j f at. now.frames j f (ap (λ os. get_or os j None) (sym slots) ∙ at);
-      kept = λ d is. absurd (none_some d (sym cycle ∙ is));
-    }
-    by (Begins is_begin slots next cycle slaves room) = record {
-      past = let x = c.past in omega (arith, x, next);
-      frames = λ j f at. filled_has R (new_frames p.next p.outputs 0 m.parts) p.slots
-          (λ i g there own. absurd (let x = (new_one p.next 0 p.outputs m.parts i g there).number_is in let y = c.past in omega (arith, x, y, own)))
-          now.frames j f (ap (λ os. get_or os j None) (sym slots) ∙ at);
-      kept = λ d is own. absurd (let n = ap (λ (x : Cycle). x.number) (some_same _ d (sym cycle ∙ is)) in let x = c.past in omega (arith, x, n, own));
-    }
-    by (Moves j g own there inside is) = record {
-      past = let x = c.past in let next = ap (λ (z : Plain). z.next) is in omega (arith, x, next);
-      frames = λ i f at. set_has R p.slots j (Some (with_note g note)) (λ y same. subst R (some_same _ y same) new) now.frames i f (ap (λ (x : Plain). frame_at x i) (sym is) ∙ at);
-      kept = λ d at. now.kept d (sym (ap (λ (x : Plain). x.cycle) is) ∙ at);
-    }
-      where
-        note : Note
-        note = met_note m (length g.notes) g (plain_slave p (length g.notes))
-
-        made : step m p (Pass j) ≡ Some q
-        made = subst (λ (x : Event). step m p x ≡ Some q) own h
-
-        new : R (with_note g note)
-        new num s n at = elim (pushed_note g.notes note s n at) [
-          | inl old ↦ now.frames j g there num s n old
-          | inr last ↦ subst (λ (x : Event). IsNotedAt m begun number (done ++ (x ∷ [])) g.part s n) (sym own) (noted_now m begun number done j q g s n made there num last.0 last.1)
-        ]
-    by (Loses j own is) = record {
-      past = let x = c.past in let next = ap (λ (z : Plain). z.next) is in omega (arith, x, next);
-      frames = λ i f at. set_has R p.slots j None (λ y no. absurd (none_some y no)) now.frames i f (ap (λ (x : Plain). frame_at x i) (sym is) ∙ at);
-      kept = λ d at. now.kept d (sym (ap (λ (x : Plain). x.cycle) is) ∙ at);
-    }
-    by (Returns j g there is all) = record {
-      past = let x = c.past in let next = ap (λ (z : Plain). z.next) is in omega (arith, x, next);
-      frames = λ i f at. set_has R p.slots j None (λ y no. absurd (none_some y no)) now.frames i f (ap (λ (x : Plain). frame_at x i) (sym is) ∙ at);
-      kept = λ d at own. back d (sym (ap (λ (z : Plain). z.cycle) is) ∙ at) own;
-    }
-      where
-        back : (d : Cycle) → option_map (keeping g) p.cycle ≡ Some d → d.number ≡ number → K d
-        back d at own =
-            let r = mapped (keeping g) p.cycle d at in
-            let num : r.value.number ≡ number = sym (keeping_number g r.value) ∙ (ap (λ (x : Cycle). x.number) r.is ∙ own) in
-            subst K r.is (kept_on (AreNoted m begun number (done ++ (e ∷ []))) number g r.value (now.frames j g there) num (now.kept r.value r.there num))
+    on : (j : ℕ) (g : PlainFrame) → e ≡ Pass j → frame_at p j ≡ Some g → length g.notes < length p.slaves → R (passed_on m p g)
+    on j g own there inside num s n at = elim (pushed_note g.notes (met_note m (length g.notes) g (plain_slave p (length g.notes))) s n at) [
+      | inl old ↦ now.frames j g there num s n old
+      | inr last ↦ subst (λ (x : Event). IsNotedAt m begun number (done ++ (x ∷ [])) g.part s n) (sym own)
+          (noted_now m begun number done j q g s n (subst (λ (x : Event). step m p x ≡ Some q) own h) there num last.0 last.1)
+    ]
 
 traced_begun : (m : Meaning) (p begun : Plain) → IsBegun m p begun → Traced m begun p.next [] begun
 traced_begun m p begun b = record {

@@ -1,7 +1,7 @@
 -- A cycle that is quiet for a unit takes it: its frames note whole shares, and each of its parts is kept or still on its way.
 use Rattle.std.proofs.Common.{ℕ, zero, suc, ◌+◌, ◌<◌, ◌≤◌, ◌≡◌, ◌≢◌, ◌⊎◌, ◌==◌, ◌&&◌, ◌||◌, Bool, true, false, Option, Some, None, refl, sym, ◌∙◌, ap, subst, inl, inr, arith, List, [], ◌∷◌, ◌++◌, length, map, get_or, set, is_none, if◌then◌else◌, option_map, get_or-set_same, get_or-set_other, length-set}
 use Rattle.std.specs.List.{list_all, list_any}
-use Rattle.std.proofs.lemmas.Bool.{cases_Bool, cases_eq, and_parts, and_from, or_right, eqb-true, eq-eqb, le-leb}
+use Rattle.std.proofs.lemmas.Bool.{cases_Bool, cases_eq, and_parts, and_from, or_right, eqb-true, eq-eqb, le-leb, true≢false}
 use Rattle.std.proofs.lemmas.List.{length-map, length_push}
 use Rattle.ec_bits.proofs.AnyLaws.{if_true, if_false}
 use Rattle.ec_link.specs.Meaning.{Meaning, share_of}
@@ -9,20 +9,12 @@ use Rattle.ec_link.specs.Shares.{has_outs, has_ins, unit_of_part}
 use Rattle.ec_cycle.specs.Closing.{nones, all_from}
 use Rattle.ec_world.specs.declared.event.Event.{Event}
 use Rattle.ec_world.specs.declared.event.Event.TheVariants.{Begin, Lose, Fault, Reset as ResetSlave}
-use Rattle.ec_world.specs.Plain.{Plain, PlainSlave, PlainFrame, Faulted, Reset, Note, Other, Short, Full, Cycle, step, run, frame_at, plain_slave, no_plain_slave, keeping, filled, new_frames, with_note, met_note, is_full, all_full}
+use Rattle.ec_world.specs.Plain.{Plain, PlainSlave, PlainFrame, Faulted, Reset, Note, Other, Short, Full, Cycle, step, run, frame_at, plain_slave, keeping, filled, new_frames, met_note, is_full, all_full}
 use Rattle.ec_world.specs.Promises.{IsBegun, FallsShort, TakenLaw, unit_of_slave, holds_of_unit, still_comes, is_awaited, disturbs}
-use Rattle.ec_world.proofs.Tracing.{mapped, guarded, Leaves, Stays, Begins, Moves, Loses, Returns, Closes, leaves, Treats, Same, Uses, Fails, Resets, treats}
-use Rattle.ec_world.proofs.Histories.{run_tells, begun_below, filled_has, filled_holds, new_one, new_at, as_many, set_has, set_at, none_there, keeping_number, used_health, other_health, count_kept}
+use Rattle.ec_world.proofs.Tracing.{mapped, guarded, Leaves, Stays, Begins, Moves, Loses, Returns, Closes, leaves}
+use Rattle.ec_world.proofs.Histories.{run_tells, begun_below, filled_has, filled_holds, new_one, new_at, as_many, set_at, none_there, keeping_number, count_kept, frames_left, next_left, passed_on, Rests, HasFailed, HasRestarted, became}
 use Rattle.ec_world.proofs.Promising.{notes_law}
-
-none_some : {X : Type 0} (x : X) → None ≡ Some x → ⊥
-none_some x e = cc
-
-some_same : {X : Type 0} (x y : X) → Some x ≡ Some y → x ≡ y
-some_same x y e = cc
-
-true_false : true ≡ false → ⊥
-true_false e = cc
+use Rattle.ec_world.proofs.Lists.{none_some, some_same}
 
 -- ---- frames on their way
 
@@ -87,30 +79,12 @@ data ComesShort (m : Meaning) (e : Event) (s : ℕ) (old : PlainSlave) : Type 0 
   ByFault : e ≡ Fault s → has_outs (share_of m s) ≡ true → ComesShort m e s old
   ByReset : e ≡ ResetSlave s → (has_outs (share_of m s) || has_ins (share_of m s)) ≡ true → ComesShort m e s old
 
-comes_short : (m : Meaning) (p : Plain) (e : Event) (q : Plain) (s : ℕ) → step m p e ≡ Some q → s < length p.slaves → FallsShort m s (plain_slave q s) → ComesShort m e s (plain_slave p s)
-comes_short m p e q s h inside short = by (treats m p e q h)
-  where
-    among : (qs : List PlainSlave) → q.slaves ≡ qs → FallsShort m s (get_or qs s no_plain_slave)
-    among qs is = subst (λ (xs : List PlainSlave). FallsShort m s (get_or xs s no_plain_slave)) is short
-
-    itself : (t : ℕ) (y : PlainSlave) → s ≡ t → (get_or (set p.slaves t y) s no_plain_slave).health ≡ y.health
-    itself t y same = ap (λ (n : ℕ). (get_or (set p.slaves t y) n no_plain_slave).health) same
-        ∙ ap (λ (x : PlainSlave). x.health) (get_or-set_same p.slaves t y no_plain_slave (omega (arith, inside, same)))
-
-    other : (t : ℕ) (y : PlainSlave) → q.slaves ≡ set p.slaves t y → s ≢ t → ComesShort m e s (plain_slave p s)
-    other t y is ne = Before (short_alike m s (plain_slave p s) (get_or (set p.slaves t y) s no_plain_slave) (other_health p.slaves t y s ne) (among (set p.slaves t y) is))
-
-    by : Treats m p e q → ComesShort m e s (plain_slave p s)
-    by (Same is) = Before (among p.slaves is)
-    by (Uses t y is own) = Before (short_alike m s (plain_slave p s) (get_or (set p.slaves t y) s no_plain_slave) (used_health p.slaves t y s own) (among (set p.slaves t y) is))
-    by (Fails t y own is now before) = elim (cases_eq s t) [
-      | inr ne ↦ other t y is ne
-      | inl same ↦ ByFault (own ∙ ap (λ (n : ℕ). Fault n) (sym same)) (faulted_short m s (get_or (set p.slaves t y) s no_plain_slave) (itself t y same ∙ now) (among (set p.slaves t y) is))
-    ]
-    by (Resets t y own is now) = elim (cases_eq s t) [
-      | inr ne ↦ other t y is ne
-      | inl same ↦ ByReset (own ∙ ap (λ (n : ℕ). ResetSlave n) (sym same)) (reset_short m s (get_or (set p.slaves t y) s no_plain_slave) (itself t y same ∙ now) (among (set p.slaves t y) is))
-    ]
+comes_short : (m : Meaning) (p : Plain) (e : Event) (q : Plain) (s : ℕ) → step m p e ≡ Some q → FallsShort m s (plain_slave q s) → ComesShort m e s (plain_slave p s)
+comes_short m p e q s h short = elim (became m p e q s h) [
+  | Rests same ↦ Before (short_alike m s (plain_slave p s) (plain_slave q s) same short)
+  | HasFailed is now was ↦ ByFault is (faulted_short m s (plain_slave q s) now short)
+  | HasRestarted is now ↦ ByReset is (reset_short m s (plain_slave q s) now short)
+]
 
 full_note : (n : Note) → (n ≡ Short → ⊥) → is_full n ≡ true
 full_note Other h = refl
@@ -143,7 +117,7 @@ all_push [] n h e = and_from (is_full n) true e refl
 all_push (x ∷ ns) n h e = let b = and_parts (is_full x) (list_all is_full ns) h in and_from (is_full x) (list_all is_full (ns ++ (n ∷ []))) b.0 (all_push ns n b.1 e)
 
 is_kept_or : {X : Type 0} (o : Option X) → is_none o ≡ false → (x : X) × (o ≡ Some x)
-is_kept_or None e = absurd (true_false e)
+is_kept_or None e = absurd (true≢false e)
 is_kept_or (Some x) e = (x, refl)
 
 -- what is kept of the unit's parts is full, and each of them is kept or on its way
@@ -215,20 +189,30 @@ kept_more m number u os j g c at full own h = elim (cases_Bool ((g.number == c.n
         ]
 
 peaceful_step : (m : Meaning) (number u : ℕ) (p : Plain) (e : Event) (q : Plain) → disturbs m number u p e ≡ false → step m p e ≡ Some q → Peaceful m number u p → Peaceful m number u q
-peaceful_step m number u p e q ok h c = by (leaves m p e q h)
+peaceful_step m number u p e q ok h c = record {
+  past = omega (arith, c.past, next_left m p e q l);
+  ahead = frames_left m p e q l A (λ g is next new own. absurd (omega (arith, new.number_is, c.past, own)))
+      (λ j g is there inside num mine s le. later j g there num mine s (let more = length_push g.notes (met_note m (length g.notes) g (plain_slave p (length g.notes))) in omega (arith, le, more))) later;
+  full = frames_left m p e q l R (λ g is next new own mine. ap (list_all is_full) new.notes)
+      (λ j g is there inside num mine. all_push g.notes _ (c.full j g there num mine) (whole_full m (length g.notes) g (plain_slave p (length g.notes)) (c.ahead j g there num mine (length g.notes) (omega arith) inside))) c.full;
+  cycle = by l;
+}
   where
+    l : Leaves m p e q
+    l = leaves m p e q h
+
     R : PlainFrame → Type 0
     R f = f.number ≡ number → unit_of_part m f.part ≡ u → list_all is_full f.notes ≡ true
 
     quiet : (x : Event) → e ≡ x → disturbs m number u p x ≡ true → ⊥
-    quiet x same bad = true_false (sym bad ∙ (ap (disturbs m number u p) (sym same) ∙ ok))
+    quiet x same bad = true≢false (sym bad ∙ (ap (disturbs m number u p) (sym same) ∙ ok))
 
     -- no slave came to fall short before a frame that was there
     A : PlainFrame → Type 0
     A f = f.number ≡ number → unit_of_part m f.part ≡ u → IsAhead m q f
 
     later : (k : ℕ) (f : PlainFrame) → frame_at p k ≡ Some f → A f
-    later k f at num mine s le l part short = one (comes_short m p e q s h inside short)
+    later k f at num mine s le l part short = one (comes_short m p e q s h short)
       where
         inside : s < length p.slaves
         inside = let n = count_kept m p e q h in omega (arith, l, n)
@@ -244,69 +228,21 @@ peaceful_step m number u p e q ok h c = by (leaves m p e q h)
         one (ByFault is outs) = quiet (Fault s) is (and_from _ _ unit (and_from _ _ outs here))
         one (ByReset is bits) = quiet (ResetSlave s) is (and_from _ _ unit (and_from _ _ bits here))
 
-    by : Leaves m p e q → Peaceful m number u q
-    by (Stays slots next cycle) = record {
-      past = let x = c.past in omega (arith, x, next);
-      ahead = λ k f at. later k f (ap (λ os. get_or os k None) (sym slots) ∙ at);
-      full = λ k f at. c.full k f (ap (λ os. get_or os k None) (sym slots) ∙ at);
-      cycle = λ d is own. subst (λ os. Complete m number u os d) (sym slots) (c.cycle d (sym cycle ∙ is) own);
-    }
-    by (Closes slots next cycle) = record {
-      past = let x = c.past in omega (arith, x, next);
-      ahead = λ k f at. later k f (ap (λ os. get_or os k None) (sym slots) ∙ at);
-      full = λ k f at. c.full k f (ap (λ os. get_or os k None) (sym slots) ∙ at);
-      cycle = λ d is own. absurd (none_some d (sym cycle ∙ is));
-    }
-    by (Begins is_begin slots next cycle slaves room) = record {
-      past = let x = c.past in omega (arith, x, next);
-      ahead = λ k f at. filled_has A (new_frames p.next p.outputs 0 m.parts) p.slots
-          (λ i g there own. absurd (let x = c.past in let n = (new_one p.next 0 p.outputs m.parts i g there).number_is in omega (arith, x, n, own)))
-          later k f (ap (λ os. get_or os k None) (sym slots) ∙ at);
-      full = λ k f at. filled_has R (new_frames p.next p.outputs 0 m.parts) p.slots
-          (λ i g there own mine. ap (list_all is_full) (new_one p.next 0 p.outputs m.parts i g there).notes) c.full k f (ap (λ os. get_or os k None) (sym slots) ∙ at);
-      cycle = λ d is own. absurd (let n = ap (λ (x : Cycle). x.number) (some_same _ d (sym cycle ∙ is)) in let x = c.past in omega (arith, x, n, own));
-    }
-    by (Moves j g own there inside is) = record {
-      past = let x = c.past in let next = ap (λ (z : Plain). z.next) is in omega (arith, x, next);
-      ahead = λ k f at. set_has A p.slots j (Some moved_on) (λ x same. subst A (some_same moved_on x same) further) later k f (ap (λ (z : Plain). frame_at z k) (sym is) ∙ at);
-      full = λ k f at. set_has R p.slots j (Some moved_on) (λ x same. subst R (some_same moved_on x same) new) c.full k f (ap (λ (z : Plain). frame_at z k) (sym is) ∙ at);
-      cycle = λ d at own. subst (λ os. Complete m number u os d) (sym (ap (λ (z : Plain). z.slots) is))
-          (still m number u p.slots (set p.slots j (Some moved_on)) d (λ k mine a. moved_away number k p.slots j g moved_on there refl refl a.slot a.frame a.there a.is)
-          (c.cycle d (sym (ap (λ (z : Plain). z.cycle) is) ∙ at) own));
-    }
-      where
-        t : ℕ
-        t = length g.notes
-
-        note : Note
-        note = met_note m t g (plain_slave p t)
-
-        moved_on : PlainFrame
-        moved_on = with_note g note
-
-        new : R moved_on
-        new num mine = all_push g.notes note (c.full j g there num mine) (whole_full m t g (plain_slave p t) (c.ahead j g there num mine t (omega arith) inside))
-
-        further : A moved_on
-        further num mine s le = later j g there num mine s (let more = length_push g.notes note in omega (arith, le, more))
-    by (Loses j own is) = record {
-      past = let x = c.past in let next = ap (λ (z : Plain). z.next) is in omega (arith, x, next);
-      ahead = λ k f at. set_has A p.slots j None (λ x no. absurd (none_some x no)) later k f (ap (λ (z : Plain). frame_at z k) (sym is) ∙ at);
-      full = λ k f at. set_has R p.slots j None (λ x no. absurd (none_some x no)) c.full k f (ap (λ (z : Plain). frame_at z k) (sym is) ∙ at);
-      cycle = λ d at num. subst (λ os. Complete m number u os d) (sym (ap (λ (z : Plain). z.slots) is))
-          (still m number u p.slots (set p.slots j None) d (λ k mine a. left_away number k p.slots j (λ f there away. lost k f mine there away) a)
-          (c.cycle d (sym (ap (λ (z : Plain). z.cycle) is) ∙ at) num));
-    }
+    by : Leaves m p e q → (d : Cycle) → q.cycle ≡ Some d → d.number ≡ number → Complete m number u q.slots d
+    by (Stays slots next cycle) d is own = subst (λ os. Complete m number u os d) (sym slots) (c.cycle d (sym cycle ∙ is) own)
+    by (Closes slots next cycle) d is own = absurd (none_some d (sym cycle ∙ is))
+    by (Begins is_begin slots next cycle slaves room) d is own = absurd (let n = ap (λ (x : Cycle). x.number) (some_same _ d (sym cycle ∙ is)) in let x = c.past in omega (arith, x, n, own))
+    by (Moves j g own there inside is) d at num = subst (λ os. Complete m number u os d) (sym (ap (λ (z : Plain). z.slots) is))
+        (still m number u p.slots (set p.slots j (Some (passed_on m p g))) d (λ k mine a. moved_away number k p.slots j g (passed_on m p g) there refl refl a.slot a.frame a.there a.is)
+        (c.cycle d (sym (ap (λ (z : Plain). z.cycle) is) ∙ at) num))
+    by (Loses j own is) d at num = subst (λ os. Complete m number u os d) (sym (ap (λ (z : Plain). z.slots) is))
+        (still m number u p.slots (set p.slots j None) d (λ k mine a. left_away number k p.slots j (λ f there away. lost k f mine there away) a)
+        (c.cycle d (sym (ap (λ (z : Plain). z.cycle) is) ∙ at) num))
       where
         lost : (k : ℕ) (f : PlainFrame) → unit_of_part m k ≡ u → frame_at p j ≡ Some f → IsAway number k f → ⊥
         lost k f mine there away =
             quiet (Lose j) own (ap (holds_of_unit m number u) there ∙ and_from _ _ (eq-eqb f.number number away.number_is) (eq-eqb (unit_of_part m f.part) u (ap (unit_of_part m) away.part_is ∙ mine)))
-    by (Returns j g there is all) = record {
-      past = let x = c.past in let next = ap (λ (z : Plain). z.next) is in omega (arith, x, next);
-      ahead = λ k f at. set_has A p.slots j None (λ x no. absurd (none_some x no)) later k f (ap (λ (z : Plain). frame_at z k) (sym is) ∙ at);
-      full = λ k f at. set_has R p.slots j None (λ x no. absurd (none_some x no)) c.full k f (ap (λ (z : Plain). frame_at z k) (sym is) ∙ at);
-      cycle = λ d at own. subst (λ os. Complete m number u os d) (sym (ap (λ (z : Plain). z.slots) is)) (back d (sym (ap (λ (z : Plain). z.cycle) is) ∙ at) own);
-    }
+    by (Returns j g there is all) d at own = subst (λ os. Complete m number u os d) (sym (ap (λ (z : Plain). z.slots) is)) (back d (sym (ap (λ (z : Plain). z.cycle) is) ∙ at) own)
       where
         back : (d : Cycle) → option_map (keeping g) p.cycle ≡ Some d → d.number ≡ number → Complete m number u (set p.slots j None) d
         back d at own =
@@ -372,7 +308,7 @@ taken_law m p begun after c u b quiet opened own = all_places (λ k notes. if un
 
     gone : (k : ℕ) → unit_of_part m k ≡ u → Away p.next k (run m begun after).plain.slots → ⊥
     gone k mine a =
-        true_false (sym (and_from _ _ (eq-eqb a.frame.number p.next a.is.number_is) (eq-eqb (unit_of_part m a.frame.part) u (ap (unit_of_part m) a.is.part_is ∙ mine))) ∙ quiet.back a.slot a.frame a.there)
+        true≢false (sym (and_from _ _ (eq-eqb a.frame.number p.next a.is.number_is) (eq-eqb (unit_of_part m a.frame.part) u (ap (unit_of_part m) a.is.part_is ∙ mine))) ∙ quiet.back a.slot a.frame a.there)
 
     kept : (k : ℕ) → k < length c.kept → unit_of_part m k ≡ u → all_full (get_or c.kept k None) ≡ true
     kept k l mine = elim (whole.each k l mine) [

@@ -1,10 +1,10 @@
 -- A world whose start-up is ready shows a plain state.
 use Rattle.std.proofs.Common.{ℕ, zero, suc, ◌<◌, ◌≡◌, ◌⊎◌, Bool, true, false, Option, Some, None, refl, sym, ◌∙◌, ap, subst, inl, inr, arith, List, [], ◌∷◌, length, map, get_or, option_map}
+use Rattle.std.proofs.Math.ListN.{get_or-map as get_or-mapped}
 use Rattle.std.proofs.lemmas.Bool.{cases_lt, and_from, and_left}
-use Rattle.std.proofs.lemmas.List.{get_or_past, get_or-map, length-map, length-replicate}
+use Rattle.std.proofs.lemmas.List.{ext_get_or, get_or_past, get_or-map, length-map, length-replicate}
 use Rattle.ec_bits.specs.Bits.{bytes_of_bits}
 use Rattle.ec_bits.proofs.AnyLaws.{if_true, if_false}
-use Rattle.ec_regs.specs.declared.manager.SyncManagerSettings.{SyncManagerSettings}
 use Rattle.ec_regs.specs.Managers.{no_settings}
 use Rattle.ec_regs.specs.Fmmus.{no_fmmu}
 use Rattle.ec_device.specs.declared.slave_type.Identity.{Identity}
@@ -17,8 +17,9 @@ use Rattle.ec_slave.proofs.SwitchedOn.{switched_on}
 use Rattle.ec_slave.specs.State.{SlaveState, manager_at, power_on}
 use Rattle.ec_link.specs.declared.settings.SlavePlan.{SlavePlan}
 use Rattle.ec_link.specs.Meaning.{slave_at as settings_of}
-use Rattle.ec_link.specs.Usable.{AreListed, IsUsable, input_manager}
-use Rattle.ec_link.proofs.Listed.{listed, four_of}
+use Rattle.ec_link.specs.Interface.{AreListed, input_manager}
+use Rattle.ec_link.specs.Usable.{IsUsable}
+use Rattle.ec_link.proofs.Listed.{listed}
 use Rattle.ec_start.specs.Planned.{IsStartable}
 use Rattle.ec_bringup.specs.Stages.{end_of}
 use Rattle.ec_start.specs.declared.phase.Phase.{Phase}
@@ -41,12 +42,9 @@ use Rattle.ec_world.specs.Shows.{CyclesShow, said}
 use Rattle.ec_slave.specs.Interface.{AreWhole}
 use Rattle.ec_world.specs.Rising.{SlotsHold, seen_of, Rising}
 use Rattle.ec_world.specs.Whole.{health_of, plain_slave_of, plain_of, ShowsZeros, IsReadyWorld}
-use Rattle.ec_world.proofs.Settings.{get_or-mapped, some_bits, no_bits, set_for_ins, unset}
-use Rattle.ec_world.proofs.Mapped.{third_held, fourth_held}
-use Rattle.ec_world.proofs.SlaveSteps.{out_length}
-
-none_some : {X : Type 0} (x : X) → None ≡ Some x → ⊥
-none_some x e = cc
+use Rattle.ec_world.proofs.Mapped.{some_bits, no_bits, set_for_ins, unset, third_held, fourth_held}
+use Rattle.ec_world.proofs.AppSteps.{out_length}
+use Rattle.ec_world.proofs.Lists.{none_some}
 
 in_length : (p : SlavePlan) → AreListed p → buffer_length (input_manager p) ≡ bytes_of_bits p.share.ins
 in_length p a = elim (cases_lt 0 p.share.ins) [
@@ -57,12 +55,6 @@ in_length p a = elim (cases_lt 0 p.share.ins) [
 ]
 
 -- ---- one slave
-
-end-fmmus : (p : SlavePlan) → (end_of p).fmmus ≡ p.fmmus
-end-fmmus p = refl
-
-end-managers : (p : SlavePlan) → (end_of p).managers ≡ p.managers
-end-managers p = refl
 
 -- zeros of some length are zeros of their own
 shows-zeros : (b : Buffer) (n : ℕ) → unviewed b ≡ emptied_buffer n → ShowsZeros b
@@ -75,24 +67,17 @@ module _ (i : ℕ) (p : SlavePlan) (s : SlaveState) (listed : AreListed p) (good
   four-managers : length p.managers ≡ 4
   four-managers = ap length listed.managers
 
-  four-fmmus : length p.fmmus ≡ 4
-  four-fmmus = ap length listed.fmmus
-
   held : HoldsAll i p s → Holds i p s
   held h =
       let c = h.configured in
+      let many : length (map (λ (m : SyncManager). m.settings) s.managers) ≡ 4 = length-map s.managers (λ (m : SyncManager). m.settings) ∙ slave.four in
       let own : (n : ℕ) → n < 4 → get_or (map (λ (m : SyncManager). m.settings) s.managers) n no_settings ≡ get_or p.managers n no_settings
       = λ n l. get_or-mapped (λ (m : SyncManager). m.settings) s.managers n no_manager ∙ c.settings n l in
-      let of4 : (a b d e : SyncManagerSettings) → get_or (map (λ (m : SyncManager). m.settings) s.managers) 0 no_settings ≡ a → get_or (map (λ (m : SyncManager). m.settings) s.managers) 1 no_settings ≡ b
-      → get_or (map (λ (m : SyncManager). m.settings) s.managers) 2 no_settings ≡ d → get_or (map (λ (m : SyncManager). m.settings) s.managers) 3 no_settings ≡ e
-      → get_or (map (λ (m : SyncManager). m.settings) s.managers) 0 no_settings ∷ get_or (map (λ (m : SyncManager). m.settings) s.managers) 1 no_settings ∷ get_or (map (λ (m : SyncManager). m.settings) s.managers) 2 no_settings ∷ get_or (map (λ (m : SyncManager). m.settings) s.managers) 3 no_settings ∷ [] ≡ a ∷ b ∷ d ∷ e ∷ []
-      = λ a b d e x y z u. cc in
       record {
         kind = slave.kind_is;
         station = c.station_is;
-        fmmus = fmmus-held i (end_of p) s good.readable c ∙ sym (four_of p.fmmus no_fmmu four-fmmus);
-        managers = four_of (map (λ (m : SyncManager). m.settings) s.managers) no_settings (length-map s.managers (λ (m : SyncManager). m.settings) ∙ slave.four)
-            ∙ (of4 _ _ _ _ (own 0 (omega arith)) (own 1 (omega arith)) (own 2 (omega arith)) (own 3 (omega arith)) ∙ sym (four_of p.managers no_settings four-managers));
+        fmmus = fmmus-held i (end_of p) s good.readable c ∙ (ap (λ fs. get_or fs 0 no_fmmu ∷ get_or fs 1 no_fmmu ∷ get_or fs 2 no_fmmu ∷ get_or fs 3 no_fmmu ∷ []) listed.fmmus ∙ sym listed.fmmus);
+        managers = ext_get_or no_settings (map (λ (m : SyncManager). m.settings) s.managers) p.managers (many ∙ sym four-managers) (λ n l. own n (let f = many in omega (arith, l, f)));
         outputs = h.outs;
         inputs = h.ins;
       }
@@ -166,10 +151,8 @@ no-frames (None ∷ os) h = ap (λ xs. None ∷ xs) (no-frames os (λ k. h (suc 
 no-frames (Some f ∷ os) h = absurd (none_some f (sym (h 0)))
 
 up-ready : (p : Phase) → phase_ready p ≡ true → p ≡ Ready
-up-ready Idle e = absurd (let z : false ≡ true = e in cc)
-up-ready (Sent n) e = absurd (let z : false ≡ true = e in cc)
 up-ready Ready e = refl
-up-ready (Failed f) e = absurd (let z : false ≡ true = e in cc)
+up-ready _ e = absurd (let z : false ≡ true = e in cc)
 
 ready-slot : (ends : ℕ → Config) (v : Starting) → Starts ends v → v.start.phase ≡ Ready → v.slot ≡ None
 ready-slot ends v h e = by h.instant

@@ -1,7 +1,7 @@
 -- A frame comes back to the master.
 use Rattle.std.proofs.Common.{ℕ, ◌^◌, ◌<◌, ◌≡◌, ◌==◌, ◌&&◌, Bool, true, false, Option, Some, None, refl, sym, ◌∙◌, ap, subst, inl, inr, arith, List, length, get_or, set, is_some, is_none, option_map, unwrap_or, length-set, get_or-set_same, get_or-set_other}
 use Rattle.std.proofs.lemmas.Bool.{cases_Bool, cases_eq, and_from, and_parts, eq-eqb, eqb-true, both_ways}
-use Rattle.std.proofs.lemmas.List.{length-map}
+use Rattle.std.proofs.lemmas.List.{length-map, map-set}
 use Rattle.ec_bits.proofs.AnyLaws.{if_true, if_false}
 use Rattle.ec_frame.specs.Frame.{Payload}
 use Rattle.ec_frame.proofs.Verdict.{one_payload}
@@ -13,17 +13,10 @@ use Rattle.ec_world.specs.Plain.{Plain, PlainFrame, Note, Cycle, progress_of, ma
 use Rattle.ec_world.specs.World.{WorldState, flight_progress, flight_at, Returns}
 use Rattle.ec_world.specs.Shows.{Shows, CyclesShow, CycleShows}
 use Rattle.ec_world.specs.FrameShows.{FrameShows, KeptShows}
-use Rattle.ec_world.proofs.Lists.{theres, there_too}
-use Rattle.ec_world.proofs.InSlots.{map-set, same_progress, flight_pairs, returns_there, is_some-guarded}
+use Rattle.ec_world.proofs.Lists.{theres, there_too, none_some, some_same, same_progress, flight_pairs, returns_there, is_some-guarded}
 use Rattle.ec_world.proofs.FrameSteps.{emptied_shows}
-use Rattle.ec_world.proofs.Answering.{answers_own, kept_shows}
+use Rattle.ec_world.proofs.CloseLaws.{answers_own, kept_shows}
 use Rattle.ec_cycle.proofs.Answering.{names_tell}
-
-none_some : {X : Type 0} (x : X) → None ≡ Some x → ⊥
-none_some x e = cc
-
-some_same : {X : Type 0} (x y : X) → Some x ≡ Some y → x ≡ y
-some_same x y e = cc
 
 none_is : {X : Type 0} (o : Option X) → is_none o ≡ true → o ≡ None
 none_is None e = refl

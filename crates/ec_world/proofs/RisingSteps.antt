@@ -4,10 +4,9 @@ use Rattle.std.specs.List.{AllByRecursion}
 use Rattle.std.proofs.lemmas.Bool.{cases_Bool, cases_eq, both_ways, and_parts, eqb-true, ltb-true}
 use Rattle.std.proofs.Math.ListN.{length-set}
 use Rattle.std.proofs.lemmas.List.{get_or-set_same, get_or-set_other}
-use Rattle.ec_bits.proofs.AnyLaws.{if_false}
 use Rattle.ec_al.specs.Al as al
 use Rattle.ec_al.specs.declared.state.State.{State}
-use Rattle.ec_al.specs.declared.state.State.TheVariants.{Init, PreOp, SafeOp, Op}
+use Rattle.ec_al.specs.declared.state.State.TheVariants.{Op}
 use Rattle.ec_frame.specs.Datagram.{Datagram, IsDatagram}
 use Rattle.ec_frame.specs.Frame.{Payload, with_datagrams}
 use Rattle.ec_frame.specs.Building.{bare_payload}
@@ -23,7 +22,7 @@ use Rattle.ec_cycle.specs.Master.{MasterState, OpenCycle, IsAnswer, readied}
 use Rattle.ec_start.specs.Actions.{numbered, frame_of, datagram_of}
 use Rattle.ec_start.specs.declared.error.StartError.{StartError}
 use Rattle.ec_start.specs.declared.error.StartError.TheVariants.{Lost}
-use Rattle.ec_start.specs.Running.{StartState, action_of, sending, begun, taken, given_up_by}
+use Rattle.ec_start.specs.Running.{StartState, action_of, sending, begun, taken, given_up_by, second}
 use Rattle.ec_start.specs.declared.phase.Phase.{Phase}
 use Rattle.ec_start.specs.declared.phase.Phase.TheVariants.{Idle, Sent, Ready, Failed}
 use Rattle.ec_bringup.specs.Stages.{Config}
@@ -32,7 +31,6 @@ use Rattle.ec_bringup.specs.Instants.{Starts, Instant, Between, UnderWay, Adrift
 use Rattle.ec_bringup.specs.Slots.{IsCarried}
 use Rattle.ec_bringup.specs.Runs.{AreStartable, ends_of, flags_sent, with_begun, with_slave as with_slave_at, Sends as SendsNext, Passes as PassesOne, Loses as LosesOne, Returns as ReturnsOne, Strays, Closes as ClosesOne, Serves, Puts as PutsOne, Gets as GetsOne, Faults, Resets}
 use Rattle.ec_bringup.proofs.Theorem.{taken-plan, happens-starts, begun-starts, frame-passes}
-use Rattle.ec_bringup.proofs.Carrying.{second-carried}
 use Rattle.ec_world.specs.declared.event.Event.{Event}
 use Rattle.ec_world.specs.declared.event.Event.TheVariants.{StartNext, Set, Begin, Pass, Lose, Return, Close, Serve, AppPut, AppGet, Fault, Reset as ResetSlave}
 use Rattle.ec_world.specs.Plain.{filled, may_pass, may_return}
@@ -42,13 +40,7 @@ use Rattle.ec_world.specs.Whole.{flags_after}
 use Rattle.ec_world.specs.Rising.{IsInSlot, SlotsHold, seen_of, Rising}
 use Rattle.ec_slave.proofs.StayWhole.{stay_whole}
 use Rattle.ec_slave.proofs.SwitchedOn.{on_whole}
-use Rattle.ec_world.proofs.InSlots.{get_or-set_default}
-
-none_some : {X : Type 0} (x : X) → None ≡ Some x → ⊥
-none_some x e = cc
-
-some_same : {X : Type 0} (x y : X) → Some x ≡ Some y → x ≡ y
-some_same x y e = cc
+use Rattle.ec_world.proofs.Lists.{get_or-set_default, none_some, some_same}
 
 -- ---- slots
 
@@ -256,36 +248,16 @@ module _ (flags : List Bool) (w : WorldState) (r : Rising flags w) where
 
 -- ---- a frame comes back
 
-idle-sent : (n : ℕ) → Idle ≡ Sent n → ⊥
-idle-sent n e = cc
-
 failed-sent : (f : StartError) (n : ℕ) → Failed f ≡ Sent n → ⊥
 failed-sent f n e = cc
-
-sent-ready : (n : ℕ) → Sent n ≡ Ready → ⊥
-sent-ready n e = cc
-
-sent-failed : (n : ℕ) (f : StartError) → Sent n ≡ Failed f → ⊥
-sent-failed n f e = cc
-
-ready-idle : Ready ≡ Idle → ⊥
-ready-idle e = cc
-
-ready-failed : (f : StartError) → Ready ≡ Failed f → ⊥
-ready-failed f e = cc
-
-idle-failed : (f : StartError) → Idle ≡ Failed f → ⊥
-idle-failed f e = cc
 
 -- a start-up that awaits a frame awaits one of some number
 some-number : (s : StartState) → awaits s ≡ true → (number : ℕ) × (s.phase ≡ Sent number)
 some-number s e = go s.phase refl e
   where
     go : (p : Phase) → s.phase ≡ p → phase_awaits p ≡ true → (number : ℕ) × (s.phase ≡ Sent number)
-    go Idle q z = absurd (let x : false ≡ true = z in cc)
     go (Sent n) q z = (n, q)
-    go Ready q z = absurd (let x : false ≡ true = z in cc)
-    go (Failed f) q z = absurd (let x : false ≡ true = z in cc)
+    go _ q z = absurd (let x : false ≡ true = z in cc)
 
 -- the frame that is under way is the one that is awaited
 awaited : (ends : ℕ → Config) (v : Starting) (c : Carried) (number : ℕ) → Starts ends v → v.slot ≡ Some c → v.start.phase ≡ Sent number → v.start.phase ≡ Sent c.number
@@ -348,9 +320,6 @@ module _ (flags : List Bool) (w : WorldState) (r : Rising flags w) (low : is_up 
     no_report = r.no_report;
   }
 
-  still : (s : StartState) → s ≡ w.start → ready_with w.master s ≡ w.master
-  still s e = if_false (is_up s) (readied w.master s.next) w.master (ap is_up e ∙ low)
-
   return-by : (slot : Option Carried) (k : ℕ) (w2 : WorldState) → Starts (ends_of w.plan.slaves) (seen_of w flags slot) → SlotsHold w.slots slot → awaits w.start ≡ true
       → ((flight : Flight) → flight_at w k ≡ Some flight → flight.passed ≡ length w.slaves) → StartReturns w k w2 → Rising flags w2
   return-by None k w2 starts holds on all p = absurd (none_some p.flight (sym (holds k) ∙ p.there))
@@ -370,7 +339,7 @@ module _ (flags : List Bool) (w : WorldState) (r : Rising flags w) (low : is_up 
       elim (cases_Bool p.is_kept) as (λ _. Rising flags w2) [
         | inl kept ↦
             let new : StartState = taken w.start c.datagram in
-            let is : w2.start ≡ new = p.start.kept car.payload c.datagram kept car.spelled (second-carried p.flight.bytes c car) in
+            let is : w2.start ≡ new = p.start.kept car.payload c.datagram kept car.spelled (ap second car.datagrams) in
             subst (Rising flags) (sym (gone new is))
             (with-start-none new slots (taken-plan w.start c.datagram) there empty (happens-starts ends v _ (ReturnsOne c refl around sent refl) starts))
         | inr foreign ↦
@@ -516,10 +485,8 @@ module _ (flags : List Bool) (w : WorldState) (r : Rising flags w) (low : is_up 
   no-begin e = both_ways _ (r.master_ready ∙ low) (and_parts w.master.is_ready _ e).0
 
   in-op : (s : State) → al.is_operational s ≡ true → s ≡ Op
-  in-op Init e = absurd (let z : false ≡ true = e in cc)
-  in-op PreOp e = absurd (let z : false ≡ true = e in cc)
-  in-op SafeOp e = absurd (let z : false ≡ true = e in cc)
   in-op Op e = refl
+  in-op _ e = absurd (let z : false ≡ true = e in cc)
 
   pub event-rises : (e : Event) (w2 : WorldState) → AreStartable w.plan.slaves → can_happen w e ≡ true → Happens w e w2 → Rising (flags_after w e flags) w2
   event-rises StartNext w2 planned can h = start-rises w2 planned can h

@@ -1,31 +1,18 @@
 -- Frames that go round: as the frame of its part passes a slave in OP, the slave publishes the linked outputs of the image that
 -- the frame was made of, and no other frame changes that.
-use Rattle.std.proofs.Common.{ℕ, zero, suc, ◌<◌, ◌≤◌, ◌≡◌, ◌≢◌, ◌⊎◌, ◌==◌, Bool, true, false, Option, Some, None, refl, sym, ◌∙◌, ap, subst, inl, inr, arith, List, [], ◌∷◌, length, get_or, set, if◌then◌else◌, option_map, get_or-set_same, get_or-set_other}
-use Rattle.std.proofs.lemmas.Bool.{cases_Bool, cases_eq, eqb-true, eq-eqb}
+use Rattle.std.proofs.Common.{ℕ, ◌<◌, ◌≤◌, ◌≡◌, ◌≢◌, ◌⊎◌, ◌==◌, Bool, true, false, Some, None, refl, sym, ◌∙◌, ap, subst, inl, inr, arith, List, length, get_or, set, if◌then◌else◌, option_map, get_or-set_same, get_or-set_other}
+use Rattle.std.proofs.lemmas.Bool.{cases_Bool, cases_eq, eqb-true, eq-eqb, true≢false}
 use Rattle.std.proofs.lemmas.List.{length_push}
 use Rattle.ec_bits.proofs.AnyLaws.{if_true, if_false}
 use Rattle.ec_link.specs.Meaning.{Meaning, share_of}
 use Rattle.ec_link.specs.Shares.{has_outs}
 use Rattle.ec_world.specs.declared.event.Event.{Event}
-use Rattle.ec_world.specs.declared.event.Event.TheVariants.{StartNext, Set, Begin, Pass, Lose, Return, Close, Serve, AppPut, AppGet, Fault, Reset}
+use Rattle.ec_world.specs.declared.event.Event.TheVariants.{Pass, Return, Fault, Reset}
 use Rattle.ec_world.specs.Plain.{Plain, PlainSlave, PlainFrame, Health, Working, step, frame_at, plain_slave, no_plain_slave, met_slave, met_note, taking, with_note, linked_outputs, moved, keeping, may_pass, may_return, all_progress, progress_of}
 use Rattle.ec_world.proofs.Tracing.{guarded_map}
 use Rattle.ec_world.proofs.Histories.{set_has, health_kept, count_kept}
 use Rattle.ec_world.proofs.Calm.{is_round}
-
-true_false : true ≡ false → ⊥
-true_false e = cc
-
-none_some : {X : Type 0} (x : X) → None ≡ Some x → ⊥
-none_some x e = cc
-
-some_same : {X : Type 0} (x y : X) → Some x ≡ Some y → x ≡ y
-some_same x y e = cc
-
-within_of : {X : Type 0} (os : List (Option X)) (k : ℕ) (x : X) → get_or os k None ≡ Some x → k < length os
-within_of [] k x e = absurd (none_some x e)
-within_of (o ∷ os) zero x e = omega arith
-within_of (o ∷ os) (suc k) x e = let l = within_of os k x e in omega (arith, l)
+use Rattle.ec_world.proofs.Lists.{none_some, some_same, within_of}
 
 -- ---- a frame comes back
 
@@ -165,13 +152,4 @@ module _ (m : Meaning) (s : ℕ) (image : List ℕ) (outs : has_outs (share_of m
           ]
         ];
       }
-  publishes_step p StartNext q r does h = absurd (true_false (sym r))
-  publishes_step p (Set v x) q r does h = absurd (true_false (sym r))
-  publishes_step p Begin q r does h = absurd (true_false (sym r))
-  publishes_step p (Lose k) q r does h = absurd (true_false (sym r))
-  publishes_step p Close q r does h = absurd (true_false (sym r))
-  publishes_step p (Serve i) q r does h = absurd (true_false (sym r))
-  publishes_step p (AppPut i j x) q r does h = absurd (true_false (sym r))
-  publishes_step p (AppGet i j) q r does h = absurd (true_false (sym r))
-  publishes_step p (Fault i) q r does h = absurd (true_false (sym r))
-  publishes_step p (Reset i) q r does h = absurd (true_false (sym r))
+  publishes_step p _ q r does h = absurd (true≢false (sym r))

@@ -1,19 +1,14 @@
 -- Each frame on its way, and each open cycle, goes back to the event that began it.
-use Rattle.std.proofs.Common.{ℕ, ◌≡◌, Option, Some, None, refl, sym, ◌∙◌, ap, subst, List, [], ◌∷◌, ◌++◌, length, get_or, option_map, unwrap_or}
+use Rattle.std.proofs.Common.{ℕ, ◌≡◌, Option, Some, None, refl, sym, ◌∙◌, ap, subst, List, [], ◌∷◌, ◌++◌, unwrap_or}
 use Rattle.std.proofs.lemmas.List.{append_assoc}
 use Rattle.ec_link.specs.Meaning.{Meaning}
 use Rattle.ec_world.specs.declared.event.Event.{Event}
 use Rattle.ec_world.specs.declared.event.Event.TheVariants.{Begin}
-use Rattle.ec_world.specs.Plain.{Plain, PlainFrame, Note, Cycle, step, run, frame_at, plain_slave, keeping, new_frames, with_note, met_note}
+use Rattle.ec_world.specs.Plain.{Plain, PlainFrame, Cycle, step, run, frame_at}
 use Rattle.ec_world.specs.Promises.{IsBegun, HasNoFrame}
-use Rattle.ec_world.proofs.Tracing.{mapped, Leaves, Stays, Begins, Moves, Loses, Returns, Closes, leaves}
-use Rattle.ec_world.proofs.Histories.{run_tells, run_joins, filled_has, new_one, set_has, keeping_number}
-
-none_some : {X : Type 0} (x : X) → None ≡ Some x → ⊥
-none_some x e = cc
-
-some_same : {X : Type 0} (x y : X) → Some x ≡ Some y → x ≡ y
-some_same x y e = cc
+use Rattle.ec_world.proofs.Tracing.{Leaves, leaves}
+use Rattle.ec_world.proofs.Histories.{run_tells, run_joins, keeping_number, frames_left, cycle_left}
+use Rattle.ec_world.proofs.Lists.{none_some}
 
 -- the cycle with this number was begun on the way
 pub record BeganAt (m : Meaning) (first : Plain) (done : List Event) (number : ℕ) : Type 0 where
@@ -46,63 +41,30 @@ still m first done e p h = record {
 
 begun_step : (m : Meaning) (first : Plain) (done : List Event) (e : Event) (q : Plain)
     → step m (run m first done).plain e ≡ Some q → AreBegun m first done (run m first done).plain → AreBegun m first (done ++ (e ∷ [])) q
-begun_step m first done e q h c = by (leaves m p e q h)
+begun_step m first done e q h c = record {
+  frames = frames_left m p e q l (λ f. BeganAt m first (done ++ (e ∷ [])) f.number) (λ g is next new. own is g.number (sym new.number_is)) (λ k g is there inside. now.frames k g there) now.frames;
+  cycle = cycle_left m p e q l (λ d. BeganAt m first (done ++ (e ∷ [])) d.number) (λ is. own is p.next refl)
+      (λ k g x there all at. subst (λ (n : ℕ). BeganAt m first (done ++ (e ∷ [])) n) (sym (keeping_number g x)) (now.cycle x at)) now.cycle;
+}
   where
     p : Plain
     p = (run m first done).plain
 
-    R : PlainFrame → Type 0
-    R f = BeganAt m first (done ++ (e ∷ [])) f.number
+    l : Leaves m p e q
+    l = leaves m p e q h
 
     now : AreBegun m first (done ++ (e ∷ [])) p
     now = still m first done e p c
 
-    by : Leaves m p e q → AreBegun m first (done ++ (e ∷ [])) q
-    by (Stays slots next cycle) = record {
-      frames = λ k f at. now.frames k f (ap (λ os. get_or os k None) (sym slots) ∙ at);
-      cycle = λ d is. now.cycle d (sym cycle ∙ is);
+    own : e ≡ Begin → (n : ℕ) → p.next ≡ n → BeganAt m first (done ++ (e ∷ [])) n
+    own is n same = record {
+      before = done;
+      behind = [];
+      split = ap (λ (x : Event). done ++ (x ∷ [])) is;
+      begun = q;
+      begins = subst (λ (x : Event). step m p x ≡ Some q) is h;
+      number_is = same;
     }
-    by (Closes slots next cycle) = record {
-      frames = λ k f at. now.frames k f (ap (λ os. get_or os k None) (sym slots) ∙ at);
-      cycle = λ d is. absurd (none_some d (sym cycle ∙ is));
-    }
-    by (Begins is_begin slots next cycle slaves room) = record {
-      frames = λ k f at. filled_has R (new_frames p.next p.outputs 0 m.parts) p.slots
-          (λ i g there. own g.number (sym (new_one p.next 0 p.outputs m.parts i g there).number_is))
-          now.frames k f (ap (λ os. get_or os k None) (sym slots) ∙ at);
-      cycle = λ d is. own d.number (ap (λ (x : Cycle). x.number) (some_same _ d (sym cycle ∙ is)));
-    }
-      where
-        own : (n : ℕ) → p.next ≡ n → BeganAt m first (done ++ (e ∷ [])) n
-        own n same = record {
-          before = done;
-          behind = [];
-          split = ap (λ (x : Event). done ++ (x ∷ [])) is_begin;
-          begun = q;
-          begins = subst (λ (x : Event). step m p x ≡ Some q) is_begin h;
-          number_is = same;
-        }
-    by (Moves j g own there inside is) = record {
-      frames = λ i f at. set_has R p.slots j (Some (with_note g note)) (λ y same. subst R (some_same _ y same) (now.frames j g there)) now.frames i f (ap (λ (x : Plain). frame_at x i) (sym is) ∙ at);
-      cycle = λ d at. now.cycle d (sym (ap (λ (x : Plain). x.cycle) is) ∙ at);
-    }
-      where
-        note : Note
-        note = met_note m (length g.notes) g (plain_slave p (length g.notes))
-    by (Loses j own is) = record {
-      frames = λ i f at. set_has R p.slots j None (λ y no. absurd (none_some y no)) now.frames i f (ap (λ (x : Plain). frame_at x i) (sym is) ∙ at);
-      cycle = λ d at. now.cycle d (sym (ap (λ (x : Plain). x.cycle) is) ∙ at);
-    }
-    by (Returns j g there is all) = record {
-      frames = λ i f at. set_has R p.slots j None (λ y no. absurd (none_some y no)) now.frames i f (ap (λ (x : Plain). frame_at x i) (sym is) ∙ at);
-      cycle = λ d at. back d (sym (ap (λ (z : Plain). z.cycle) is) ∙ at);
-    }
-      where
-        back : (d : Cycle) → option_map (keeping g) p.cycle ≡ Some d → BeganAt m first (done ++ (e ∷ [])) d.number
-        back d at =
-            let r = mapped (keeping g) p.cycle d at in
-            let num : r.value.number ≡ d.number = sym (keeping_number g r.value) ∙ ap (λ (x : Cycle). x.number) r.is in
-            subst (λ (n : ℕ). BeganAt m first (done ++ (e ∷ [])) n) num (now.cycle r.value r.there)
 
 -- of a run that finds no frame and no cycle
 pub are_begun : (m : Meaning) (first : Plain) (es : List Event) → HasNoFrame first → first.cycle ≡ None → AreBegun m first es (run m first es).plain

@@ -8,12 +8,7 @@ use Rattle.ec_world.specs.Plain.{Plain, PlainFrame, Note, Cycle, step, frame_at,
 use Rattle.ec_world.specs.Promises.{IsBegun}
 use Rattle.ec_world.proofs.Tracing.{mapped, guarded, Leaves, Stays, Begins, Moves, Loses, Returns, Closes, leaves}
 use Rattle.ec_world.proofs.Histories.{begun_below, filled_has, new_one, keeping_number}
-
-none_some : {X : Type 0} (x : X) → None ≡ Some x → ⊥
-none_some x e = cc
-
-some_same : {X : Type 0} (x y : X) → Some x ≡ Some y → x ≡ y
-some_same x y e = cc
+use Rattle.ec_world.proofs.Lists.{none_some, some_same}
 
 -- ---- slots
 

@@ -5,7 +5,7 @@ use Rattle.ec_bits.proofs.BitLaws.{length-overlay}
 use Rattle.ec_start.specs.Running.{StartState}
 use Rattle.ec_cycle.specs.Master.{MasterState, IsTaken, readied}
 use Rattle.ec_world.specs.declared.event.Event.{Event}
-use Rattle.ec_world.specs.declared.event.Event.TheVariants.{StartNext, Set, Begin, Pass, Lose, Return, Close, Serve, AppPut, AppGet, Fault, Reset}
+use Rattle.ec_world.specs.declared.event.Event.TheVariants.{StartNext, Begin, Pass, Lose, Return, Close, AppPut, AppGet}
 use Rattle.ec_world.specs.Plain.{filled}
 use Rattle.ec_world.specs.World.{WorldState, awaits, is_up, ready_with, Happens, IsStep, ByStart, StartReturns, Returns, GivesUp, Closes}
 use Rattle.ec_world.specs.Laws.{IsRun}
@@ -41,17 +41,13 @@ close_same false old new h = ap (λ (w : WorldState). length w.master.inputs) h.
 
 event_same : (old : WorldState) (e : Event) (new : WorldState) → Happens old e new → Same old new
 event_same old StartNext new h = ap (λ (w : WorldState). length w.master.inputs) h.is
-event_same old (Set v x) new h = ap (λ (w : WorldState). length w.master.inputs) h
 event_same old Begin new h = ap (λ (m : MasterState). length m.inputs) h.master.is
 event_same old (Pass k) new h = ap (λ (w : WorldState). length w.master.inputs) h.is
-event_same old (Lose k) new h = ap (λ (w : WorldState). length w.master.inputs) h
 event_same old (Return k) new h = return_same (awaits old.start) old k new h
 event_same old Close new h = close_same (awaits old.start) old new h
-event_same old (Serve s) new h = ap (λ (w : WorldState). length w.master.inputs) h
 event_same old (AppPut s i x) new h = ap (λ (w : WorldState). length w.master.inputs) h.is
 event_same old (AppGet s i) new h = ap (λ (w : WorldState). length w.master.inputs) h.is
-event_same old (Fault s) new h = ap (λ (w : WorldState). length w.master.inputs) h
-event_same old (Reset s) new h = ap (λ (w : WorldState). length w.master.inputs) h
+event_same old _ new h = ap (λ (w : WorldState). length w.master.inputs) h
 
 step_same : (old : WorldState) (e : Event) (new : WorldState) (one : Bool) → IsStep old e new one → Same old new
 step_same old e new true h = event_same old e new (h.happens refl)
@@ -82,17 +78,14 @@ close_many false old new h = ap (λ (w : WorldState). length w.slots) h.is
 
 event_many : (old : WorldState) (e : Event) (new : WorldState) → Happens old e new → AsMany old new
 event_many old StartNext new h = ap (λ (w : WorldState). length w.slots) h.is ∙ length_filled _ old.slots
-event_many old (Set v x) new h = ap (λ (w : WorldState). length w.slots) h
 event_many old Begin new h = ap (λ (w : WorldState). length w.slots) h.is ∙ length_filled _ old.slots
 event_many old (Pass k) new h = ap (λ (w : WorldState). length w.slots) h.is ∙ length-set old.slots k _
 event_many old (Lose k) new h = ap (λ (w : WorldState). length w.slots) h ∙ length-set old.slots k None
 event_many old (Return k) new h = return_many (awaits old.start) old k new h
 event_many old Close new h = close_many (awaits old.start) old new h
-event_many old (Serve s) new h = ap (λ (w : WorldState). length w.slots) h
 event_many old (AppPut s i x) new h = ap (λ (w : WorldState). length w.slots) h.is
 event_many old (AppGet s i) new h = ap (λ (w : WorldState). length w.slots) h.is
-event_many old (Fault s) new h = ap (λ (w : WorldState). length w.slots) h
-event_many old (Reset s) new h = ap (λ (w : WorldState). length w.slots) h
+event_many old _ new h = ap (λ (w : WorldState). length w.slots) h
 
 step_many : (old : WorldState) (e : Event) (new : WorldState) (one : Bool) → IsStep old e new one → AsMany old new
 step_many old e new true h = event_many old e new (h.happens refl)

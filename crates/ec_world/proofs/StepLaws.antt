@@ -1,5 +1,5 @@
 -- One event, and runs of events.
-use Rattle.std.proofs.Common.{ℕ, ◌<◌, ◌≡◌, ◌&&◌, ◌||◌, not, Bool, true, false, Option, Some, None, refl, sym, ◌∙◌, ap, subst, inl, inr, length, is_some, if◌then◌else◌, unwrap_or}
+use Rattle.std.proofs.Common.{ℕ, ◌<◌, ◌≡◌, ◌&&◌, ◌||◌, not, Bool, true, false, Option, Some, None, refl, sym, ◌∙◌, ap, subst, inl, inr, length, is_some, if◌then◌else◌, unwrap_or, ◌+◌, ◌++◌, arith, List, [], ◌∷◌}
 use Rattle.std.proofs.lemmas.Bool.{cases_Bool, cases_lt, both_ways, and_parts, and_left}
 use Rattle.ec_link.proofs.Listed.{listed}
 use Rattle.ec_bits.proofs.AnyLaws.{if_true}
@@ -9,32 +9,36 @@ use Rattle.ec_link.specs.Meaning.{slave_at, meaning}
 use Rattle.ec_link.specs.Usable.{IsUsable}
 use Rattle.ec_world.specs.declared.event.Event.{Event}
 use Rattle.ec_world.specs.declared.event.Event.TheVariants.{StartNext, Set, Begin, Pass, Lose, Return, Close, Serve, AppPut, AppGet, Fault, Reset as ResetSlave}
-use Rattle.ec_world.specs.Plain.{Plain, PlainSlave, step, plain_slave, is_working, failing, restarting, at_slave}
+use Rattle.ec_world.specs.Plain.{Plain, PlainSlave, step, plain_slave, is_working, failing, restarting, at_slave, run}
 use Rattle.ec_world.specs.Plain as plain
-use Rattle.ec_world.specs.World.{WorldState, awaits, ByStart, Returns, Closes, can_start, can_happen, Happens, is_slave, slave_of, StartReturns, GivesUp, with_slave}
+use Rattle.ec_world.specs.World.{WorldState, awaits, ByStart, Returns, Closes, can_start, can_happen, Happens, is_slave, slave_of, StartReturns, GivesUp, with_slave, IsStep, is_up, ready_with, resumed}
 use Rattle.ec_slave.specs.Serving.{served}
 use Rattle.ec_slave.specs.Faulting.{faulted}
 use Rattle.ec_world.specs.Shows.{Shows}
-use Rattle.ec_world.specs.Laws.{StepsShow}
+use Rattle.ec_world.specs.Laws.{StepsShow, IsRun, RunsShow, RunsJoin}
 use Rattle.ec_world.proofs.FrameSteps.{lose_can, lose_shows, pass_made, pass_shows}
 use Rattle.ec_world.proofs.MasterSteps.{set_can, set_shows, begin_can, begin_shows, close_can, close_shows}
 use Rattle.ec_world.proofs.ReturnStep.{return_made, return_shows}
-use Rattle.ec_world.proofs.SlaveSteps.{slave_changed, at_there, at_none, is_there, is_gone, both_let, here_of, serve_shows, reset_shows, fault_let, fault_as}
-use Rattle.ec_world.proofs.AppSteps.{put_can, put_shows_both, get_can, get_shows_both}
+use Rattle.ec_world.proofs.AppSteps.{slave_changed, at_there, at_none, is_there, is_gone, both_let, here_of, serve_shows, reset_shows, fault_let, fault_as, put_can, put_shows_both, get_can, get_shows_both}
+use Rattle.ec_link.specs.Plan.{PlanState}
+use Rattle.ec_link.specs.declared.settings.SlavePlan.{SlavePlan}
+use Rattle.ec_start.specs.declared.phase.Phase.{Phase}
+use Rattle.ec_start.specs.declared.phase.Phase.TheVariants.{Failed}
+use Rattle.ec_start.specs.Running.{StartState, asked, begun, IsStartTaken}
+use Rattle.ec_start.proofs.LawLemmas.{plans_stay}
+use Rattle.ec_cycle.specs.Master.{MasterState, readied}
+use Rattle.ec_cycle.proofs.Matches.{taken_plan as master_plan}
+use Rattle.ec_world.specs.Held.{AreOfPlan, IsAnswered, IsTakenIn, IsHandedIn}
 
 same_plan : (old : WorldState) (event : Event) (new : WorldState) → awaits old.start ≡ false → can_start old ≡ false → can_happen old event ≡ true → Happens old event new → new.plan ≡ old.plan
 same_plan old StartNext new a e c h = absurd (both_ways _ e c)
-same_plan old (Set v x) new a e c h = ap (λ (w : WorldState). w.plan) h
 same_plan old Begin new a e c h = ap (λ (w : WorldState). w.plan) h.is
 same_plan old (Pass k) new a e c h = ap (λ (w : WorldState). w.plan) h.is
-same_plan old (Lose k) new a e c h = ap (λ (w : WorldState). w.plan) h
 same_plan old (Return k) new a e c h = let r : Returns old k new = subst (λ (b : Bool). ByStart b (StartReturns old k new) (Returns old k new)) a h in ap (λ (w : WorldState). w.plan) r.is
 same_plan old Close new a e c h = let r : Closes old new = subst (λ (b : Bool). ByStart b (GivesUp old new) (Closes old new)) a h in ap (λ (w : WorldState). w.plan) r.is
-same_plan old (Serve s) new a e c h = ap (λ (w : WorldState). w.plan) h
 same_plan old (AppPut s i x) new a e c h = ap (λ (w : WorldState). w.plan) h.is
 same_plan old (AppGet s i) new a e c h = ap (λ (w : WorldState). w.plan) h.is
-same_plan old (Fault s) new a e c h = ap (λ (w : WorldState). w.plan) h
-same_plan old (ResetSlave s) new a e c h = ap (λ (w : WorldState). w.plan) h
+same_plan old _ new a e c h = ap (λ (w : WorldState). w.plan) h
 
 -- ---- events at any slave
 
@@ -137,3 +141,82 @@ steps_show old event new made sound h = record {
         (subst (λ (q : Plain). Shows old q) (sym (none_if (step (meaning old.plan) p event) p none)) s)
   ];
 }
+
+-- ---- runs of events, by induction over the events
+
+run_shows : (old : WorldState) (events : List Event) (new : WorldState) (made : ℕ) → IsUsable old.plan
+    → IsRun old events new made → (p : Plain) → Shows old p → Shows new (run (meaning old.plan) p events).plain × (made ≡ (run (meaning old.plan) p events).made)
+run_shows old [] new made sound h p s = (subst (λ (w : WorldState). Shows w p) (sym h.0) s, h.1)
+run_shows old (e ∷ es) new made sound h p s =
+    let mid = h.0 in
+    let one = steps_show old e mid h.1 sound h.3 in
+    let same : mid.plan ≡ old.plan = one.same_plan p s in
+    let p2 = unwrap_or (step (meaning old.plan) p e) p in
+    let rest = run_shows mid es new h.2 (subst (λ (x : PlanState). IsUsable x) (sym same) sound) h.4 p2 (one.shown p s) in (
+      subst (λ (x : PlanState). Shows new (run (meaning x) p2 es).plain) same rest.0,
+      h.5 ∙ (ap (λ b. (if b then 1 else 0) + h.2) (one.made_is p s) ∙ ap (λ n. (if is_some (step (meaning old.plan) p e) then 1 else 0) + n) (rest.1 ∙ ap (λ x. (run (meaning x) p2 es).made) same)),
+    )
+
+pub runs_show : RunsShow
+runs_show old events new made sound h = record {
+  shown = λ p s. (run_shows old events new made sound h p s).0;
+  made_is = λ p s. (run_shows old events new made sound h p s).1;
+}
+
+-- a run with one step more, for a loop over the events
+pub run_more : (old : WorldState) (events : List Event) (mid : WorldState) (made : ℕ) (e : Event) (new : WorldState) (one : Bool)
+    → IsRun old events mid made → IsStep mid e new one → IsRun old (events ++ (e ∷ [])) new (made + (if one then 1 else 0))
+run_more old [] mid made e new one h step =
+    let z : made + (if one then 1 else 0) ≡ (if one then 1 else 0) + 0 = let y = h.1 in omega arith in
+    (new, one, 0, subst (λ (w : WorldState). IsStep w e new one) h.0 step, (refl, refl), z)
+run_more old (d ∷ events) mid made e new one h step =
+    let rest = run_more h.0 events mid h.2 e new one h.4 step in
+    let z : made + (if one then 1 else 0) ≡ (if h.1 then 1 else 0) + (h.2 + (if one then 1 else 0)) = let y = h.5 in omega arith in
+    (h.0, h.1, h.2 + (if one then 1 else 0), h.3, rest, z)
+
+pub runs_join : RunsJoin
+runs_join old [] mid made second new more h g =
+    let z : more ≡ made + more = let y = h.1 in omega arith in
+    subst (λ (n : ℕ). IsRun old second new n) z (subst (λ (w : WorldState). IsRun w second new more) h.0 g)
+runs_join old (e ∷ es) mid made second new more h g =
+    let z : made + more ≡ (if h.1 then 1 else 0) + (h.2 + more) = let y = h.5 in omega arith in
+    (h.0, h.1, h.2 + more, h.3, runs_join h.0 es mid h.2 second new more h.4 g, z)
+
+-- ---- the start-up and the master of a world stay of its plan
+
+pub begun_plan : (ps : List SlavePlan) (number : ℕ) → (begun ps number).plan ≡ ps
+unfolding begun
+begun_plan ps number = refl
+
+pub resumed_plan : (s : StartState) (p : Phase) → (resumed s p).plan ≡ s.plan
+resumed_plan s (Failed failure) = begun_plan s.plan s.next
+resumed_plan s _ = refl
+
+pub taken_plan : (s t : StartState) (payload : List ℕ) (is_kept : Bool) → IsStartTaken s payload is_kept t → t.plan ≡ s.plan
+taken_plan s t payload is_kept h = (plans_stay s).take_keeps payload is_kept t h
+
+ready_plan : (m : MasterState) (s : StartState) → (ready_with m s).plan ≡ m.plan
+ready_plan m s = go (is_up s)
+  where
+    go : (b : Bool) → (let n : MasterState = if b then readied m s.next else m in n.plan) ≡ m.plan
+    go true = refl
+    go false = refl
+
+-- whoever a payload is handed in to
+pub handed_plans : (plan : PlanState) (s t : StartState) (m n : MasterState) (payload : List ℕ) → AreOfPlan plan s m → IsHandedIn s m payload t n → AreOfPlan plan t n
+handed_plans plan s t m n payload of h = go (awaits s) h
+  where
+    go : (b : Bool) → ByStart b (IsAnswered s m payload t n) (IsTakenIn s m payload t n) → AreOfPlan plan t n
+    go true x = record {
+      usable = of.usable;
+      start = taken_plan s t payload x.is_kept x.start ∙ of.start;
+      master = ap (λ (y : MasterState). y.plan) x.master ∙ (ready_plan m t ∙ of.master);
+    }
+    go false x = record {
+      usable = of.usable;
+      start = ap (λ (y : StartState). y.plan) x.start ∙ of.start;
+      master = master_plan m n payload x.is_kept x.master ∙ of.master;
+    }
+
+pub asked_plan : (s : StartState) → (asked s).plan ≡ s.plan
+asked_plan s = (plans_stay s).next_keeps

@@ -1,9 +1,9 @@
 -- Steps of a world, from what the calls of its parts say.
-use Rattle.std.proofs.Common.{ℕ, ◌<◌, ◌≡◌, ◌==◌, ◌&&◌, not, Bool, true, false, Option, Some, None, refl, sym, ◌∙◌, ap, subst, inl, inr, arith, List, [], ◌∷◌, length, get_or, set, is_some, slice_get, option_map, unwrap_or, nat_lt, if◌then◌else◌}
+use Rattle.std.proofs.Common.{ℕ, ◌<◌, ◌≡◌, ◌==◌, ◌&&◌, not, Bool, true, false, Option, Some, None, refl, sym, ◌∙◌, ap, subst, arith, List, [], ◌∷◌, length, set, is_some, slice_get, option_map, unwrap_or, nat_lt, if◌then◌else◌}
 use Rattle.std.specs.Prelude.{IsTrue, ◌↔◌}
 use Rattle.std.specs.List.{list_all}
-use Rattle.std.proofs.lemmas.Bool.{lt-ltb, ltb-true, ne_eqb, and_parts, cases_lt}
-use Rattle.std.proofs.lemmas.List.{set-get_or, get_or_past}
+use Rattle.std.proofs.lemmas.Bool.{lt-ltb, ltb-true, ne_eqb, and_parts}
+use Rattle.std.proofs.lemmas.List.{set-get_or}
 use Rattle.std.proofs.lemmas.Option.{slice_get-get_or, get_or_from_slice_get}
 use Rattle.ec_al.specs.Al as al
 use Rattle.ec_al.specs.declared.state.State.{State}
@@ -31,6 +31,7 @@ use Rattle.ec_world.specs.Plain.{may_pass, may_return, lets_by, filled}
 use Rattle.ec_world.specs.Held.{IsAnswered, IsTakenIn, IsHandedIn}
 use Rattle.ec_world.specs.World.{ByStart, StartReturns, Returns, can_start, awaits, is_up, phase_awaits, phase_ready, ready_with, resumed, WorldState, Flight, IsStep, no_slave, slave_of, with_slave, flight_at, flight_progress, flights_progress}
 use Rattle.ec_world.specs.Slots.{HavePassed}
+use Rattle.ec_world.proofs.Lists.{some_same}
 
 -- ---- a slave's own events
 
@@ -70,9 +71,6 @@ get-step w s i b old t l there byte after = go (output_got (slave_of w s) i) ref
     (subst (λ (y : SlaveState). Some b ≡ option_map (λ (g : Got). g.byte) (output_got y i)) (lent w s old there) byte)
     (subst (λ (y : SlaveState). t ≡ output_taken y (output_got y i)) (lent w s old there) after)
   where
-    some_same : (x y : ℕ) → Some x ≡ Some y → x ≡ y
-    some_same x y e = cc
-
     go : (o : Option Got) → output_got (slave_of w s) i ≡ o → Some b ≡ option_map (λ (g : Got). g.byte) (output_got (slave_of w s) i) → t ≡ output_taken (slave_of w s) (output_got (slave_of w s) i)
         → IsStep w (AppGet s i) (record (with_slave w s t) { got = Some b }) true
     go None q e a = absurd (let z : Some b ≡ None = e ∙ ap (λ (o : Option Got). option_map (λ (g : Got). g.byte) o) q in cc)
@@ -112,22 +110,13 @@ fault-step w s made old t l there taken after =
     }
   where
     by : (b : Bool) (st : State) → (IsTrue b ↔ (st ≡ Op)) → b ≡ al.is_operational st
-    by true Op h = refl
     by true Init h = absurd (let z : Init ≡ Op = h.0 refl in cc)
     by true PreOp h = absurd (let z : PreOp ≡ Op = h.0 refl in cc)
     by true SafeOp h = absurd (let z : SafeOp ≡ Op = h.0 refl in cc)
     by false Op h = absurd (let z : false ≡ true = h.1 refl in cc)
-    by false Init h = refl
-    by false PreOp h = refl
-    by false SafeOp h = refl
+    by _ _ h = refl
 
 -- ---- a frame passes its next slave
-
-pub slot-there : {X : Type 0} (xs : List (Option X)) (k : ℕ) → is_some (get_or xs k None) ≡ true → k < length xs
-slot-there {X} xs k h = elim (cases_lt k (length xs)) [
-  | inl l ↦ l
-  | inr g ↦ absurd (let nothing : Option X = None in let z : false ≡ true = sym (ap is_some (get_or_past xs k nothing g)) ∙ h in cc)
-]
 
 pub next-there : (n : ℕ) (all : List (Option Progress)) (o : Option Flight) (f : Flight) → o ≡ Some f → may_pass n all (option_map flight_progress o) ≡ true → f.passed < n
 next-there n all o f e h =

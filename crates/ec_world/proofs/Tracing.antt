@@ -1,7 +1,7 @@
 -- What each event of the plain machine leaves of frames, of the open cycle and of slaves.
-use Rattle.std.proofs.Common.{ℕ, zero, suc, ◌+◌, ◌-◌, ◌^◌, ◌<◌, ◌≤◌, ◌≡◌, ◌==◌, ◌&&◌, not, Bool, true, false, Option, Some, None, refl, sym, ◌∙◌, ap, subst, List, [], ◌∷◌, length, map, get_or, set, is_none, if◌then◌else◌, option_map, option_and_then, nat_lt, nat_le, slice_get}
+use Rattle.std.proofs.Common.{ℕ, ◌+◌, ◌-◌, ◌^◌, ◌<◌, ◌≤◌, ◌≡◌, ◌==◌, ◌&&◌, not, Bool, true, false, Option, Some, None, refl, sym, ◌∙◌, ap, subst, length, map, set, is_none, if◌then◌else◌, option_map, option_and_then, nat_lt, nat_le, slice_get}
 use Rattle.std.proofs.lemmas.Bool.{and_parts, leb-true, ltb-true, eqb-true}
-use Rattle.std.proofs.lemmas.Option.{slice_get_within}
+use Rattle.std.proofs.lemmas.Option.{slice_get_within, get_or_from_slice_get}
 use Rattle.ec_link.specs.declared.image.Variable.{Variable}
 use Rattle.ec_link.specs.Meaning.{Meaning, share_of}
 use Rattle.ec_link.specs.Shares.{has_outs}
@@ -12,12 +12,7 @@ use Rattle.ec_world.specs.declared.event.Event.{Event}
 use Rattle.ec_world.specs.declared.event.Event.TheVariants.{StartNext, Set, Begin, Pass, Lose, Return, Close, Serve, AppPut, AppGet, Fault, Reset as ResetSlave}
 use Rattle.ec_world.specs.Plain.{Plain, PlainSlave, PlainFrame, step, frame_at, setting, moved, keeping, closing, filled, new_frames, is_working, is_reset, got_byte, failing, restarting, plain_slave, no_plain_slave, linked_outputs, may_pass, may_return, all_progress, progress_of, met_slave, taking, Health, Working, Faulted, Reset}
 use Rattle.ec_world.specs.Plain as plain
-
-none_some : {X : Type 0} (x : X) → None ≡ Some x → ⊥
-none_some x e = cc
-
-some_same : {X : Type 0} (x y : X) → Some x ≡ Some y → x ≡ y
-some_same x y e = cc
+use Rattle.ec_world.proofs.Lists.{none_some, some_same}
 
 pub guarded : {X : Type 0} (b : Bool) (x q : X) → (if b then Some x else None) ≡ Some q → x ≡ q
 guarded true x q e = some_same x q e
@@ -123,11 +118,6 @@ pub data Treats (m : Meaning) (p : Plain) (e : Event) (q : Plain) : Type 0 where
   Fails : (t : ℕ) (y : PlainSlave) → e ≡ Fault t → q.slaves ≡ set p.slaves t y → y.health ≡ Faulted → (plain_slave p t).health ≡ Working → Treats m p e q
   Resets : (t : ℕ) (y : PlainSlave) → e ≡ ResetSlave t → q.slaves ≡ set p.slaves t y → y.health ≡ Reset → Treats m p e q
 
-had : {X : Type 0} (xs : List X) (k : ℕ) (x d : X) → slice_get xs k ≡ Some x → get_or xs k d ≡ x
-had [] k x d e = absurd (none_some x e)
-had (y ∷ xs) zero x d e = some_same y x e
-had (y ∷ xs) (suc k) x d e = had xs k x d e
-
 taking_health : (m : Meaning) (s : ℕ) (f : PlainFrame) (q : PlainSlave) (h : Health) → (taking m s f q h).health ≡ q.health
 taking_health m s f q Faulted = refl
 taking_health m s f q Reset = refl
@@ -185,15 +175,15 @@ treats m p (Serve s) q e = let r = chained (λ x. Some p) (slice_get p.slaves s)
 treats m p (AppPut s i x) q e =
     let r = chained (λ y. if not (is_reset y.health) then option_map (λ b. plain.with_slave p s (record y { inputs = b })) (app_written y.inputs i x) else None) (slice_get p.slaves s) q e in
     let t = guarded_map (not (is_reset r.value.health)) (λ b. plain.with_slave p s (record r.value { inputs = b })) (app_written r.value.inputs i x) q r.is in
-    Uses s (record r.value { inputs = t.value }) (sym (ap (λ (y : Plain). y.slaves) t.is)) (ap (λ (y : PlainSlave). y.health) (sym (had p.slaves s r.value no_plain_slave r.there)))
+    Uses s (record r.value { inputs = t.value }) (sym (ap (λ (y : Plain). y.slaves) t.is)) (ap (λ (y : PlainSlave). y.health) (sym (get_or_from_slice_get p.slaves s r.value no_plain_slave r.there)))
 treats m p (AppGet s i) q e =
     let r = chained (λ y. if is_working y.health then option_map (got_byte p s y) (app_read y.outputs i) else None) (slice_get p.slaves s) q e in
     let t = guarded_map (is_working r.value.health) (got_byte p s r.value) (app_read r.value.outputs i) q r.is in
-    Uses s (record r.value { outputs = t.value.buffer }) (sym (ap (λ (y : Plain). y.slaves) t.is)) (ap (λ (y : PlainSlave). y.health) (sym (had p.slaves s r.value no_plain_slave r.there)))
+    Uses s (record r.value { outputs = t.value.buffer }) (sym (ap (λ (y : Plain). y.slaves) t.is)) (ap (λ (y : PlainSlave). y.health) (sym (get_or_from_slice_get p.slaves s r.value no_plain_slave r.there)))
 treats m p (Fault s) q e =
     let r = chained (λ y. if is_working y.health then Some (plain.with_slave p s (failing y)) else None) (slice_get p.slaves s) q e in
     Fails s (failing r.value) refl (sym (ap (λ (y : Plain). y.slaves) (guarded (is_working r.value.health) _ q r.is))) refl
-    (ap (λ (y : PlainSlave). y.health) (had p.slaves s r.value no_plain_slave r.there) ∙ is_in_op r.value.health (on_true (is_working r.value.health) _ q r.is))
+    (ap (λ (y : PlainSlave). y.health) (get_or_from_slice_get p.slaves s r.value no_plain_slave r.there) ∙ is_in_op r.value.health (on_true (is_working r.value.health) _ q r.is))
 treats m p (ResetSlave s) q e =
     let r = chained (λ y. Some (plain.with_slave p s (restarting y))) (slice_get p.slaves s) q e in
     Resets s (restarting r.value) refl (sym (ap (λ (y : Plain). y.slaves) (some_same _ q r.is))) refl

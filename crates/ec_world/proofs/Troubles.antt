@@ -1,21 +1,18 @@
 -- A slave that is not in OP any more had a fault or a reset, and no start-up began since.
-use Rattle.std.proofs.Common.{ℕ, ◌+◌, ◌≡◌, ◌≢◌, ◌⊎◌, ◌&&◌, Bool, true, false, Option, Some, None, refl, sym, ◌∙◌, ap, subst, inl, inr, List, [], ◌∷◌, ◌++◌, get_or, set, is_some, unwrap_or}
-use Rattle.std.proofs.lemmas.Bool.{cases_eq}
+use Rattle.std.proofs.Common.{ℕ, ◌+◌, ◌≡◌, ◌≢◌, ◌⊎◌, ◌&&◌, Bool, true, false, Option, Some, None, refl, sym, ◌∙◌, ap, subst, inl, inr, List, [], ◌∷◌, ◌++◌, is_some, unwrap_or}
 use Rattle.std.proofs.lemmas.List.{append_assoc}
 use Rattle.ec_link.specs.Meaning.{Meaning, meaning}
 use Rattle.ec_link.specs.Plan.{PlanState}
 use Rattle.ec_link.specs.Usable.{IsUsable}
 use Rattle.ec_world.specs.declared.event.Event.{Event}
-use Rattle.ec_world.specs.declared.event.Event.TheVariants.{StartNext, Set, Begin, Pass, Lose, Return, Close, Serve, AppPut, AppGet, Fault, Reset as ResetSlave}
-use Rattle.ec_world.specs.Plain.{Plain, PlainSlave, Health, Working, Faulted, Reset, step, run, plain_slave, no_plain_slave}
+use Rattle.ec_world.specs.declared.event.Event.TheVariants.{StartNext, Fault, Reset as ResetSlave}
+use Rattle.ec_world.specs.Plain.{Plain, Health, Working, Faulted, Reset, step, run, plain_slave}
 use Rattle.ec_world.specs.World.{WorldState, IsStep}
 use Rattle.ec_world.specs.Shows.{Shows}
 use Rattle.ec_world.specs.Laws.{IsRun, StepShows}
 use Rattle.ec_world.specs.Headline.{HadTrouble, IsRunWithoutStart, begins_start}
-use Rattle.ec_world.proofs.Tracing.{Treats, Same, Uses, Fails, Resets, treats}
-use Rattle.ec_world.proofs.Histories.{used_health, other_health}
-use Rattle.ec_world.proofs.Runs.{runs_join}
-use Rattle.ec_world.proofs.StepLaws.{steps_show}
+use Rattle.ec_world.proofs.Histories.{Rests, HasFailed, HasRestarted, became}
+use Rattle.ec_world.proofs.StepLaws.{runs_join, steps_show}
 use Rattle.ec_world.proofs.Origins.{more}
 
 -- ---- a Ready world begins no start-up
@@ -26,17 +23,7 @@ and_false false = refl
 
 none_begins : (m : Meaning) (p : Plain) (w : WorldState) (b : Bool) (e : Event) → b ≡ is_some (step m p e) → (b && begins_start w e) ≡ false
 none_begins m p w b StartNext h = ap (λ (x : Bool). x && begins_start w StartNext) h
-none_begins m p w b (Set v x) h = and_false b
-none_begins m p w b Begin h = and_false b
-none_begins m p w b (Pass k) h = and_false b
-none_begins m p w b (Lose k) h = and_false b
-none_begins m p w b (Return k) h = and_false b
-none_begins m p w b Close h = and_false b
-none_begins m p w b (Serve s) h = and_false b
-none_begins m p w b (AppPut s i x) h = and_false b
-none_begins m p w b (AppGet s i) h = and_false b
-none_begins m p w b (Fault s) h = and_false b
-none_begins m p w b (ResetSlave s) h = and_false b
+none_begins m p w b _ h = and_false b
 
 pub without_start : (es : List Event) (old new : WorldState) (made : ℕ) (p : Plain) → IsUsable old.plan → Shows old p → IsRun old es new made → IsRunWithoutStart old es new
 without_start [] old new made p sound s h = h.0
@@ -79,22 +66,7 @@ works_or Faulted = inr (λ e. let z : Faulted ≡ Working = e in cc)
 works_or Reset = inr (λ e. let z : Reset ≡ Working = e in cc)
 
 stopped : (m : Meaning) (p : Plain) (e : Event) (q : Plain) (i : ℕ) → step m p e ≡ Some q → (plain_slave p i).health ≡ Working → (plain_slave q i).health ≢ Working → (e ≡ Fault i) ⊎ (e ≡ ResetSlave i)
-stopped m p e q i h was bad = by (treats m p e q h)
-  where
-    in_slaves : (qs : List PlainSlave) → q.slaves ≡ qs → (plain_slave q i).health ≡ (get_or qs i no_plain_slave).health
-    in_slaves qs is = ap (λ (xs : List PlainSlave). (get_or xs i no_plain_slave).health) is
-
-    by : Treats m p e q → (e ≡ Fault i) ⊎ (e ≡ ResetSlave i)
-    by (Same is) = absurd (bad (in_slaves p.slaves is ∙ was))
-    by (Uses t y is own) = absurd (bad (in_slaves (set p.slaves t y) is ∙ (used_health p.slaves t y i own ∙ was)))
-    by (Fails t y own is now before) = elim (cases_eq i t) [
-      | inl same ↦ inl (own ∙ ap (λ (n : ℕ). Fault n) (sym same))
-      | inr ne ↦ absurd (bad (in_slaves (set p.slaves t y) is ∙ (other_health p.slaves t y i ne ∙ was)))
-    ]
-    by (Resets t y own is now) = elim (cases_eq i t) [
-      | inl same ↦ inr (own ∙ ap (λ (n : ℕ). ResetSlave n) (sym same))
-      | inr ne ↦ absurd (bad (in_slaves (set p.slaves t y) is ∙ (other_health p.slaves t y i ne ∙ was)))
-    ]
+stopped m p e q i h was bad = elim (became m p e q i h) [ Rests same ↦ absurd (bad (same ∙ was)) | HasFailed is now before ↦ inl is | HasRestarted is now ↦ inr is ]
 
 pub falls : (es : List Event) (old new : WorldState) (made : ℕ) (p : Plain) (i : ℕ) → IsUsable old.plan → Shows old p → IsRun old es new made
     → (plain_slave p i).health ≡ Working → (plain_slave (run (meaning old.plan) p es).plain i).health ≢ Working → HadTrouble old es new i

@@ -1,6 +1,6 @@
 -- The events of a script's `ready` are turns.
 use Rattle.std.proofs.Common.{ℕ, zero, suc, ◌+◌, ◌≡◌, Bool, true, false, refl, sym, ◌∙◌, ap, subst, arith, List, [], ◌∷◌, ◌++◌, get_or, set, replicate}
-use Rattle.std.proofs.lemmas.List.{length-replicate}
+use Rattle.std.proofs.lemmas.List.{length-replicate, append-nil}
 use Rattle.ec_world.specs.declared.event.Event.{Event}
 use Rattle.ec_world.specs.declared.event.Event.TheVariants.{Pass, Return}
 use Rattle.ec_world.specs.NewWorld.{IsRest, Passes, Returns, Serves, Ends, servings, TurnLaw}
@@ -9,10 +9,6 @@ use Rattle.ec_world.specs.NewWorld.{IsRest, Passes, Returns, Serves, Ends, servi
 push_mark : (b : Bool) (j : ℕ) (xs : List Bool) → replicate j b ++ (b ∷ xs) ≡ replicate (suc j) b ++ xs
 push_mark b zero xs = refl
 push_mark b (suc j) xs = ap (λ (bs : List Bool). b ∷ bs) (push_mark b j xs)
-
-append_none : (xs : List Bool) → xs ++ [] ≡ xs
-append_none [] = refl
-append_none (x ∷ xs) = ap (λ (ys : List Bool). x ∷ ys) (append_none xs)
 
 mark_at : (j : ℕ) (xs : List Bool) → get_or (replicate j true ++ (false ∷ xs)) j true ≡ false
 mark_at zero xs = refl
@@ -27,12 +23,12 @@ passes_rest n zero j es e h = let z : n ≡ j = omega (arith, e) in subst (λ (i
 passes_rest n (suc k) j es e h =
     let long = length-replicate {A = Bool} j false in
     Passes (replicate j false) (replicate k (Pass 0) ++ es) (omega (arith, long, e))
-    (subst (λ (bs : List Bool). IsRest n bs false (replicate k (Pass 0) ++ es)) (sym (push_mark false j [] ∙ append_none (replicate (suc j) false))) (passes_rest n k (suc j) es (omega (arith, e)) h))
+    (subst (λ (bs : List Bool). IsRest n bs false (replicate k (Pass 0) ++ es)) (sym (push_mark false j [] ∙ append-nil (replicate (suc j) false))) (passes_rest n k (suc j) es (omega (arith, e)) h))
 
 serves_rest : (n k j : ℕ) (es : List Event) → j + k ≡ n → IsRest n (replicate n true) false es → IsRest n (replicate j true ++ replicate k false) false (servings j k ++ es)
 serves_rest n zero j es e h =
     let z : n ≡ j = omega (arith, e) in
-    subst (λ (bs : List Bool). IsRest n bs false es) (sym (append_none (replicate j true))) (subst (λ (i : ℕ). IsRest n (replicate i true) false es) z h)
+    subst (λ (bs : List Bool). IsRest n bs false es) (sym (append-nil (replicate j true))) (subst (λ (i : ℕ). IsRest n (replicate i true) false es) z h)
 serves_rest n (suc k) j es e h =
     let one : suc j ≡ j + 1 = omega arith in
     Serves (replicate j true ++ (false ∷ replicate k false)) false j (servings (j + 1) k ++ es) (mark_at j (replicate k false))

@@ -12,10 +12,9 @@ use Rattle.ec_slave.specs.Serving.{served}
 use Rattle.ec_cycle.specs.Closing.{nones}
 use Rattle.ec_cycle.specs.Master.{cycle_limit}
 use Rattle.ec_start.specs.Actions.{numbered, frame_of, datagram_of}
-use Rattle.ec_start.specs.Running.{StartState, action_of, sending, taken, IsStartAnswer}
+use Rattle.ec_start.specs.Running.{StartState, action_of, sending, taken, IsStartAnswer, second}
 use Rattle.ec_bringup.specs.Undisturbed.{all_passed, all_met, Rising, turned, IsRound}
 use Rattle.ec_bringup.proofs.Rounds.{round}
-use Rattle.ec_bringup.proofs.Carrying.{second-carried}
 use Rattle.ec_bringup.specs.Starting.{Carried}
 use Rattle.ec_bringup.specs.Slots.{IsCarried}
 use Rattle.ec_bringup.proofs.Theorem.{frame-passes}
@@ -23,6 +22,7 @@ use Rattle.ec_world.specs.declared.event.Event.TheVariants.{StartNext, Pass, Ret
 use Rattle.ec_world.specs.declared.progress.Progress.{Progress}
 use Rattle.ec_world.specs.Plain.{filled, may_pass, may_return, lets_by, is_older}
 use Rattle.ec_world.specs.World.{WorldState, Flight, no_slave, slave_of, flight_at, flight_progress, flights_progress, can_happen, awaits, resumed, is_up, ready_with, ByStart, Sends, Passes, Returns, StartReturns, IsStep}
+use Rattle.ec_world.proofs.Lists.{some_same}
 
 -- ---- lists
 
@@ -84,9 +84,6 @@ not-older number k = rw (not-less number, eq-eqb number number refl) refl
 lets-all : (n number k : ℕ) → (let f : Progress = record { number = number; part = 0; passed = k } in list_all (lets_by f) (Some f ∷ flights_progress (replicate n None))) ≡ true
 lets-all n number k = let f : Progress = record { number = number; part = 0; passed = k } in rw (not-older number k) (none-in-way f n)
 
-some-same : {X : Type 0} (x y : X) → Some x ≡ Some y → x ≡ y
-some-same x y e = cc
-
 pub one-past : (n : ℕ) (m : WorldState) (c : Carried) (pre : List SlaveState) (s : SlaveState) (ss : List SlaveState) (u : WorldState) (one : Bool)
     → InSlot n m c → c.passed ≡ length pre → m.slaves ≡ pre ++ (s ∷ ss) → IsStep m (Pass 0) u one → OnePast n m c pre s ss u one
 one-past n m c pre s ss u one i at e step =
@@ -99,7 +96,7 @@ one-past n m c pre s ss u one i at e step =
     let can : can_happen m (Pass 0) ≡ true
     = ap (λ (os : List (Option Flight)). may_pass (length m.slaves) (flights_progress os) (option_map flight_progress (get_or os 0 None))) i.slots ∙ may in
     let p : Passes m 0 u = step.happens (step.can ∙ can) in
-    let same : p.flight ≡ f = some-same p.flight f (sym p.there ∙ there) in
+    let same : p.flight ≡ f = some_same p.flight f (sym p.there ∙ there) in
     let place : p.flight.passed ≡ length pre = ap (λ (x : Flight). x.passed) same ∙ at in
     let own : slave_of m p.flight.passed ≡ s = ap (λ (k : ℕ). get_or m.slaves k no_slave) place ∙ (ap (λ (xs : List SlaveState). get_or xs (length pre) no_slave) e ∙ at-end pre s ss) in
     let car : IsCarried p.flight.bytes c = subst (λ (x : Flight). IsCarried x.bytes c) (sym same) i.carried in
@@ -205,7 +202,7 @@ return-one n m s ss passed u one i at e good step =
     = ap (λ (o : Option Flight). may_return (length m.slaves) (option_map flight_progress o)) there ∙ eq-eqb passed (length m.slaves) at in
     let on : awaits m.start ≡ true = ap (λ (x : StartState). awaits x) e in
     let p : StartReturns m 0 u = subst (λ (b : Bool). ByStart b (StartReturns m 0 u) (Returns m 0 u)) on (step.happens (step.can ∙ can)) in
-    let same : p.flight ≡ f = some-same p.flight f (sym p.there ∙ there) in
+    let same : p.flight ≡ f = some_same p.flight f (sym p.there ∙ there) in
     let car : IsCarried p.flight.bytes c = subst (λ (x : Flight). IsCarried x.bytes c) (sym same) i.carried in
     let r : IsRound (sending s) s.next ss = round (sending s) s.next ss good in
     let answer : IsStartAnswer m.start s.next car.payload.datagrams
@@ -213,7 +210,7 @@ return-one n m s ss passed u one i at e good step =
     let kept : p.is_kept ≡ true = (p.start.answers s.next car.payload (ap (λ (x : StartState). x.phase) e) car.spelled).1 answer in
     record {
       made = step.can ∙ can;
-      start = p.start.kept car.payload d kept car.spelled (second-carried p.flight.bytes c car) ∙ ap (λ (x : StartState). taken x d) e;
+      start = p.start.kept car.payload d kept car.spelled (ap second car.datagrams) ∙ ap (λ (x : StartState). taken x d) e;
       master = ap (λ (w : WorldState). w.master) p.is;
       slaves = ap (λ (w : WorldState). w.slaves) p.is;
       slots = ap (λ (w : WorldState). w.slots) p.is ∙ ap (λ (os : List (Option Flight)). set os 0 None) i.slots;

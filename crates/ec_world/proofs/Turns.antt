@@ -1,6 +1,6 @@
 -- Turns of a start-up that nothing disturbs, in any order of the slaves' firmware steps behind the frame.
-use Rattle.std.proofs.Common.{ℕ, zero, suc, ◌+◌, ◌<◌, ◌≡◌, nat_lt, Bool, true, false, if◌then◌else◌, None, refl, sym, ◌∙◌, ap, subst, arith, List, [], ◌∷◌, ◌++◌, length, get_or, set, map, replicate, length-set}
-use Rattle.std.proofs.lemmas.Bool.{lt-ltb}
+use Rattle.std.proofs.Common.{ℕ, zero, suc, ◌+◌, ◌<◌, ◌≡◌, nat_lt, Bool, true, false, if◌then◌else◌, None, refl, sym, ◌∙◌, ap, subst, arith, List, [], ◌∷◌, ◌++◌, length, get_or, set, map, replicate, length-set, ◌-◌, ◌≤◌, cond, take, Option, Some, is_none, option_map, position}
+use Rattle.std.proofs.lemmas.Bool.{lt-ltb, true≢false, le-ltb, ltb-true, ltb-false}
 use Rattle.std.proofs.lemmas.List.{length-replicate}
 use Rattle.ec_frame.specs.Datagram.{Datagram, IsDatagram}
 use Rattle.ec_slave.specs.State.{SlaveState}
@@ -13,13 +13,15 @@ use Rattle.ec_bringup.specs.Starting.{Carried}
 use Rattle.ec_bringup.specs.Undisturbed.{all_passed, all_met, Rising, turned}
 use Rattle.ec_world.specs.declared.event.Event.{Event}
 use Rattle.ec_world.specs.declared.event.Event.TheVariants.{StartNext, Pass, Return, Serve}
-use Rattle.ec_world.specs.World.{WorldState, no_slave, slave_of, ready_with, IsStep, with_slave, can_happen}
+use Rattle.ec_world.specs.World.{WorldState, no_slave, slave_of, ready_with, IsStep, with_slave, can_happen, Flight, flight_progress, flights_progress}
 use Rattle.ec_world.specs.Laws.{IsRun}
 use Rattle.ec_world.specs.NewWorld.{IsRest, Passes, Returns, Serves, Ends, IsTurn, rising_of}
 use Rattle.ec_world.proofs.Turning.{InSlot, one-past, send-one, return-one, Sending, rising-by, push-one, length-push}
-
-true_false : true ≡ false → ⊥
-true_false e = cc
+use Rattle.std.specs.List.{count_by, fold, position_or_len}
+use Rattle.ec_world.specs.declared.progress.Progress.{Progress}
+use Rattle.ec_cycle.specs.Closing.{nones}
+use Rattle.ec_world.specs.Slots.{AreInUse, way_behind}
+use Rattle.ec_world.proofs.Filling.{nones_counted}
 
 -- ---- the slaves that the frame has passed: those that are marked have served since
 
@@ -45,16 +47,16 @@ mixed_all [] = refl
 mixed_all (s ∷ ss) = ap (λ (xs : List SlaveState). served s ∷ xs) (mixed_all ss)
 
 marked_below : (bs : List Bool) (s : ℕ) → get_or bs s true ≡ false → s < length bs
-marked_below [] s h = absurd (true_false h)
+marked_below [] s h = absurd (true≢false h)
 marked_below (b ∷ bs) zero h = omega arith
 marked_below (b ∷ bs) (suc s) h = let l = marked_below bs s h in omega (arith, l)
 
 mixed_set : (bs : List Bool) (ss tail : List SlaveState) (s : ℕ) → length bs ≡ length ss → get_or bs s true ≡ false
     → set (mixed bs ss ++ tail) s (served (get_or (mixed bs ss ++ tail) s no_slave)) ≡ mixed (set bs s true) ss ++ tail
-mixed_set [] ss tail s e h = absurd (true_false h)
+mixed_set [] ss tail s e h = absurd (true≢false h)
 mixed_set (b ∷ bs) [] tail s e h = absurd (omega (arith, e))
 mixed_set (false ∷ bs) (x ∷ ss) tail zero e h = refl
-mixed_set (true ∷ bs) (x ∷ ss) tail zero e h = absurd (true_false h)
+mixed_set (true ∷ bs) (x ∷ ss) tail zero e h = absurd (true≢false h)
 mixed_set (b ∷ bs) (x ∷ ss) tail (suc s) e h = ap (λ (xs : List SlaveState). (if b then served x else x) ∷ xs) (mixed_set bs ss tail s (omega (arith, e)) h)
 
 length_both : (xs ys : List SlaveState) → length (xs ++ ys) ≡ length xs + length ys
@@ -74,7 +76,7 @@ Goes (e ∷ es) old new all = (mid : WorldState) × (one : Bool) × IsStep old e
 
 onward : {X : Type 0} (Y : Type 0) (one : Bool) → one ≡ true → Onward one X Y → X
 onward Y true e h = h
-onward Y false e h = absurd (true_false (sym e))
+onward Y false e h = absurd (true≢false (sym e))
 
 -- a run is one such, if each was
 record RunGoes (es : List Event) (w v : WorldState) (made : ℕ) : Type 0 where
@@ -86,7 +88,7 @@ record RunGoes (es : List Event) (w v : WorldState) (made : ℕ) : Type 0 where
 more_goes : (e : Event) (es : List Event) (w mid v : WorldState) (one : Bool) (rest made : ℕ) → IsStep w e mid one → made ≡ (if one then 1 else 0) + rest → RunGoes es mid v rest → RunGoes (e ∷ es) w v made
 more_goes e es w mid v true rest made step sum r =
     record { new = r.new; all = r.all; goes = (mid, true, step, r.goes); whole = λ a. ((r.whole a).0, let n = (r.whole a).1 in omega (arith, sum, n)) }
-more_goes e es w mid v false rest made step sum r = record { new = mid; all = false; goes = (mid, false, step, (refl, refl)); whole = λ a. absurd (true_false (sym a)) }
+more_goes e es w mid v false rest made step sum r = record { new = mid; all = false; goes = (mid, false, step, (refl, refl)); whole = λ a. absurd (true≢false (sym a)) }
 
 run_goes : (es : List Event) (w v : WorldState) (made : ℕ) → IsRun w es v made → RunGoes es w v made
 run_goes [] w v made h = record { new = v; all = true; goes = (h.0, refl); whole = λ a. (refl, h.1) }
@@ -155,8 +157,8 @@ next e es m v all h made = onward ((v ≡ h.0) × (all ≡ false)) h.1 made h.3
 
 back_goes : (n : ℕ) (w : WorldState) (s : StartState) (m v : WorldState) (marks : List Bool) (back : Bool) (pre : List SlaveState) (es : List Event) (all : Bool)
     → IsRest (length w.slaves) marks back es → back ≡ true → Back n w s m marks pre → Goes es m v all → (all ≡ true) × HasTurned n w s v
-back_goes n w s m v marks back pre es all (Passes ms xs l rest) e b h = absurd (true_false (sym e))
-back_goes n w s m v marks back pre es all (Returns ms xs l rest) e b h = absurd (true_false (sym e))
+back_goes n w s m v marks back pre es all (Passes ms xs l rest) e b h = absurd (true≢false (sym e))
+back_goes n w s m v marks back pre es all (Returns ms xs l rest) e b h = absurd (true≢false (sym e))
 back_goes n w s m v marks back pre es all (Serves ms bk k xs free rest) e b h =
     let o = one_served m k h.0 h.1 marks pre [] b.marked free b.slaves h.2 in
     back_goes n w s h.0 v (set marks k true) back pre xs all rest e (record {
@@ -259,7 +261,7 @@ under_goes n w s m v marks back pre tail d es all good (Serves ms bk k xs free r
       many = b.many;
       master = ap (λ (x : WorldState). x.master) o.is ∙ b.master;
     }) (next (Serve k) xs m v all h o.made)
-under_goes n w s m v marks back pre tail d es all good (Ends ms served_all) e b h = absurd (true_false e)
+under_goes n w s m v marks back pre tail d es all good (Ends ms served_all) e b h = absurd (true≢false e)
 
 -- from a world that can send the first frame of such a state
 pub turn_goes : (n : ℕ) (w : WorldState) (s : StartState) (es : List Event) (v : WorldState) (all : Bool) → Sending w s → w.slots ≡ None ∷ replicate n None
@@ -287,3 +289,94 @@ turns_once n w s es v made can free turn h =
     let r = run_goes es w v made h in
     let o = turn_goes n w s es r.new r.all can free turn r.goes in
     ((r.whole o.0).1, subst (λ (x : WorldState). HasTurned n w s x) (r.whole o.0).0 o.1)
+
+-- ---- slots of which all from some number on are free: the first ones tell what all do
+
+abbrev Slot : Type 0
+Slot = Option Flight
+
+-- ---- how many are free
+
+all_free : (xs : List Slot) → ((i : ℕ) → get_or xs i None ≡ None) → nones xs ≡ length xs
+all_free [] free = refl
+all_free (None ∷ xs) free = let e = all_free xs (λ i. free (suc i)) in omega (arith, e)
+all_free (Some f ∷ xs) free = absurd (let e : Some f ≡ None = free 0 in cc)
+
+count_first : (k : ℕ) (xs : List Slot) → k ≤ length xs → ((i : ℕ) → k ≤ i → get_or xs i None ≡ None) → nones xs ≡ (length xs - k) + nones (take k xs)
+count_first zero xs le free = let e = all_free xs (λ i. free i (omega arith)) in omega (arith, e)
+count_first (suc k) [] le free = absurd (omega arith)
+count_first (suc k) (None ∷ xs) le free = let e = count_first k xs (omega arith) (λ i l. free (suc i) (omega arith)) in omega (arith, e)
+count_first (suc k) (Some f ∷ xs) le free = let e = count_first k xs (omega arith) (λ i l. free (suc i) (omega arith)) in omega (arith, e)
+
+pub free_counted : (xs us : List Slot) → AreInUse xs us → (length xs - length us) + count_by (λ o. is_none o) us ≡ count_by (λ o. is_none o) xs
+free_counted xs us h =
+    ap (λ (n : ℕ). (length xs - length us) + n) (sym (nones_counted us) ∙ ap (λ (ys : List Slot). nones ys) h.is)
+    ∙ (sym (count_first (length us) xs h.behind.within h.behind.free) ∙ nones_counted xs)
+
+-- ---- the way behind the frames
+
+rest_free : (f : Progress) (xs : List Slot) (far : ℕ) → ((i : ℕ) → get_or xs i None ≡ None) → far ≡ fold (way_behind f) far (flights_progress xs)
+rest_free f [] far free = refl
+rest_free f (None ∷ xs) far free = rest_free f xs far (λ i. free (suc i))
+rest_free f (Some g ∷ xs) far free = absurd (let e : Some g ≡ None = free 0 in cc)
+
+first_behind : (f : Progress) (k : ℕ) (xs : List Slot) (far : ℕ) → ((i : ℕ) → k ≤ i → get_or xs i None ≡ None)
+    → fold (way_behind f) far (flights_progress (take k xs)) ≡ fold (way_behind f) far (flights_progress xs)
+first_behind f zero xs far free = rest_free f xs far (λ i. free i (omega arith))
+first_behind f (suc k) [] far free = refl
+first_behind f (suc k) (o ∷ xs) far free = first_behind f k xs (way_behind f far (option_map flight_progress o)) (λ i l. free (suc i) (omega arith))
+
+pub behind_in_use : (f : Progress) (far : ℕ) (xs us : List Slot) → AreInUse xs us → fold (way_behind f) far (flights_progress us) ≡ fold (way_behind f) far (flights_progress xs)
+behind_in_use f far xs us h =
+    ap (λ (ys : List Slot). fold (way_behind f) far (flights_progress ys)) h.is ∙ first_behind f (length us) xs far h.behind.free
+
+-- ---- the lowest free one
+
+place_first : (k : ℕ) (xs : List Slot) → k ≤ length xs → ((i : ℕ) → k ≤ i → get_or xs i None ≡ None) → position_or_len (λ o. is_none o) xs ≡ position_or_len (λ o. is_none o) (take k xs)
+place_first zero [] le free = refl
+place_first zero (None ∷ xs) le free = refl
+place_first zero (Some f ∷ xs) le free = absurd (let e : Some f ≡ None = free 0 (omega arith) in cc)
+place_first (suc k) [] le free = absurd (omega arith)
+place_first (suc k) (None ∷ xs) le free = refl
+place_first (suc k) (Some f ∷ xs) le free = ap (λ (n : ℕ). 1 + n) (place_first k xs (omega arith) (λ i l. free (suc i) (omega arith)))
+
+place_most : (xs : List Slot) → position_or_len (λ o. is_none o) xs ≤ length xs
+place_most [] = omega arith
+place_most (None ∷ xs) = omega arith
+place_most (Some f ∷ xs) = omega (arith, place_most xs)
+
+at_place : (q n : ℕ) → q < n → cond (nat_lt q n) (Some q) None ≡ Some q
+at_place q n l = ap (λ (b : Bool). cond b (Some q) None) (lt-ltb q n l)
+
+pub lowest_found : (xs us : List Slot) (j : ℕ) → AreInUse xs us → Some j ≡ position (λ o. is_none o) us → Some j ≡ position (λ o. is_none o) xs
+lowest_found xs us j h e = go (nat_lt (position_or_len (λ o. is_none o) us) (length us)) refl e
+  where
+    same : position_or_len (λ o. is_none o) xs ≡ position_or_len (λ o. is_none o) us
+    same = place_first (length us) xs h.behind.within h.behind.free ∙ ap (λ (ys : List Slot). position_or_len (λ o. is_none o) ys) (sym h.is)
+
+    go : (b : Bool) → nat_lt (position_or_len (λ o. is_none o) us) (length us) ≡ b → Some j ≡ cond b (Some (position_or_len (λ o. is_none o) us)) None → Some j ≡ position (λ o. is_none o) xs
+    go false q f = absurd (let z : Some j ≡ None = f in cc)
+    go true q f =
+        let l = ltb-true (position_or_len (λ o. is_none o) us) (length us) q in
+        f ∙ (ap (λ (n : ℕ). Some n) (sym same) ∙ sym (at_place (position_or_len (λ o. is_none o) xs) (length xs) (omega (arith, l, same, h.behind.within))))
+
+-- the first ones are all taken
+place_behind : (xs us : List Slot) → AreInUse xs us → None ≡ position (λ o. is_none o) us → position_or_len (λ o. is_none o) xs ≡ length us
+place_behind xs us h e = go (nat_lt (position_or_len (λ o. is_none o) us) (length us)) refl e
+  where
+    same : position_or_len (λ o. is_none o) xs ≡ position_or_len (λ o. is_none o) us
+    same = place_first (length us) xs h.behind.within h.behind.free ∙ ap (λ (ys : List Slot). position_or_len (λ o. is_none o) ys) (sym h.is)
+
+    go : (b : Bool) → nat_lt (position_or_len (λ o. is_none o) us) (length us) ≡ b → None ≡ cond b (Some (position_or_len (λ o. is_none o) us)) None → position_or_len (λ o. is_none o) xs ≡ length us
+    go true q f = absurd (let z : None ≡ Some (position_or_len (λ o. is_none o) us) = f in cc)
+    go false q f = let l = ltb-false (position_or_len (λ o. is_none o) us) (length us) q in omega (arith, l, same, place_most us)
+
+pub lowest_behind : (xs us : List Slot) → AreInUse xs us → None ≡ position (λ o. is_none o) us → length us < length xs → Some (length us) ≡ position (λ o. is_none o) xs
+lowest_behind xs us h e l =
+    let at = place_behind xs us h e in
+    ap (λ (n : ℕ). Some n) (sym at) ∙ sym (at_place (position_or_len (λ o. is_none o) xs) (length xs) (omega (arith, at, l)))
+
+pub none_lowest : (xs us : List Slot) → AreInUse xs us → None ≡ position (λ o. is_none o) us → length xs ≤ length us → None ≡ position (λ o. is_none o) xs
+none_lowest xs us h e l =
+    let at = place_behind xs us h e in
+    sym (ap (λ (b : Bool). cond b (Some (position_or_len (λ o. is_none o) xs)) None) (le-ltb (position_or_len (λ o. is_none o) xs) (length xs) (omega (arith, at, l))))

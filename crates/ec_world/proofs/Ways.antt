@@ -1,5 +1,6 @@
 -- How far a frame may go behind older ones, and that this stays while frames move.
 use Rattle.std.proofs.Common.{ℕ, zero, suc, ◌+◌, ◌≤◌, ◌<◌, ◌≡◌, ◌⊎◌, ◌&&◌, Bool, true, false, nat_lt, min, List, [], ◌∷◌, get_or, length, set, Option, Some, None, option_map, if◌then◌else◌, refl, sym, ◌∙◌, ap, subst, inl, inr, arith}
+use Rattle.std.proofs.Math.ListN.{get_or-map}
 use Rattle.std.proofs.lemmas.Bool.{lt-ltb, le-ltb, cases_lt}
 use Rattle.std.proofs.lemmas.List.{length-set}
 use Rattle.std.specs.List.{fold, list_all}
@@ -8,7 +9,7 @@ use Rattle.ec_world.specs.declared.progress.Progress.{Progress}
 use Rattle.ec_world.specs.Plain.{is_older, lets_by}
 use Rattle.ec_world.specs.World.{Flight, flight_progress, flights_progress}
 use Rattle.ec_world.specs.Slots.{AreFreeFrom, HasPassed, HasWay, no_end, way_behind}
-use Rattle.ec_world.proofs.Settings.{get_or-mapped}
+use Rattle.ec_world.proofs.Lists.{some_same}
 
 -- ---- what is behind all of some frames
 
@@ -73,11 +74,8 @@ way_within f (o ∷ os) far (suc i) g e old = way_within f os (way_behind f far 
 
 -- ---- the way of the frame in a slot
 
-some_same : {X : Type 0} (x y : X) → Some x ≡ Some y → x ≡ y
-some_same x y e = cc
-
 progress_at : (slots : List (Option Flight)) (i : ℕ) → get_or (flights_progress slots) i None ≡ option_map flight_progress (get_or slots i None)
-progress_at slots i = get_or-mapped (λ (o : Option Flight). option_map flight_progress o) slots i None
+progress_at slots i = get_or-map (λ (o : Option Flight). option_map flight_progress o) slots i None
 
 pub finds_way : (slots : List (Option Flight)) (k : ℕ) (f : Progress) → option_map flight_progress (get_or slots k None) ≡ Some f → HasWay slots k (fold (way_behind f) no_end (flights_progress slots))
 finds_way slots k f is = λ i a b ak bi old.

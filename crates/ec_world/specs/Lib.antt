@@ -27,7 +27,6 @@ pub mod Whole
 pub mod NewWorld
 -- what the AL word of a report says
 pub mod AlWords
-pub mod Example
 -- what can be seen of its frames
 pub mod Watching
 -- Private: the rest serves the code and the proofs alone, and no public clause cites it.

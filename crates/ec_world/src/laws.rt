@@ -1,7 +1,6 @@
 //! What is promised of a world, and laws of the definitions. Each function does nothing: its contract is the law.
 ghost use Rattle.ec_world.specs.Laws.{RoundTrip, CycleLaw, StepsShow, RunsShow, RunsJoin};
 ghost use Rattle.ec_world.specs.Whole.{WholeLaw, CompiledLaw};
-ghost use Rattle.ec_world.specs.Example.{AcceptedLaw, AcceptedTwoLaw};
 ghost use Rattle.ec_world.specs.NewWorld.{NewLaw, TurnLaw};
 ghost use Rattle.ec_world.specs.AlWords.{WordLaw, OpWordLaw};
 ghost use Rattle.ec_world.specs.Headline.{HeadlineLaw};
@@ -81,13 +80,13 @@ pub fn steps_show()
 {}
 
 /// The same of every list of events, with the number of events that were made.
-#[tactic(auto, using(crate::proofs::Runs::runs_show))]
+#[tactic(auto, using(crate::proofs::StepLaws::runs_show))]
 pub fn runs_show()
     ensures { RunsShow }
 {}
 
 /// Two runs, one after the other, are one: a caller may make the events of a list piece by piece.
-#[tactic(auto, using(crate::proofs::Runs::runs_join))]
+#[tactic(auto, using(crate::proofs::StepLaws::runs_join))]
 pub fn runs_join()
     ensures { RunsJoin }
 {}
@@ -115,18 +114,6 @@ pub fn turns_of_a_script()
     ensures { TurnLaw }
 {}
 
-/// The compiler accepts a table: what is promised of the worlds of accepted tables is not empty.
-#[tactic(auto, using(crate::proofs::Accepted::accepted_law))]
-pub fn a_table_is_accepted()
-    ensures { AcceptedLaw }
-{}
-
-/// The compiler accepts a table of two sync units too, with a mailbox, a slave without LRW, and links both ways.
-#[tactic(auto, using(crate::proofs::AcceptedTwo::accepted_two))]
-pub fn a_table_of_two_units_is_accepted()
-    ensures { AcceptedTwoLaw }
-{}
-
 /// The headline, over what a world's calls show. In a new world of an accepted table, after any events at whose end the start-up
 /// is Ready: a cyclic frame that passes a slave in OP, of the frame's part, makes it show exactly the linked bits of the output
 /// variables as they were when the cycle began, and 0 elsewhere, and changes nothing else. A close takes each sync unit as a
@@ -134,7 +121,7 @@ pub fn a_table_of_two_units_is_accepted()
 /// passed it in this cycle, the working counters are the predicted ones, and the report says so; or no linked input bit of them
 /// changes, the report says so, and there is a cause: a frame of the unit was lost since the cycle began, or is under way, or
 /// passed a slave that gave less than its share, since it had a fault or was reset. Where there is a cause it is not taken.
-#[tactic(auto, using(crate::proofs::Headline::headline_law))]
+#[tactic(auto, using(crate::proofs::HeadlineInputs::headline_law))]
 pub fn headline()
     ensures { HeadlineLaw }
 {}

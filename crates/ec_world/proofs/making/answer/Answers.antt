@@ -1,6 +1,6 @@
 use Rattle.std.proofs.Common.{◌∙◌}
 use Rattle.ec_start.specs.Running.{is_kept}
-use Rattle.ec_world.proofs.Plans.{taken_plan}
+use Rattle.ec_world.proofs.StepLaws.{taken_plan}
 use Rattle.ec_world.proofs.making.answer.Goals as goal
 
 pub ready-requires-clause-same : goal.ready-requires-clause-same

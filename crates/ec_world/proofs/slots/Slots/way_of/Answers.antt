@@ -4,7 +4,7 @@ use Rattle.std.specs.List.{fold, list_all}
 use Rattle.ec_world.specs.Plain.{lets_by}
 use Rattle.ec_world.specs.World.{Flight, flight_progress, flights_progress}
 use Rattle.ec_world.specs.Slots.{HasWay, no_end, way_behind}
-use Rattle.ec_world.proofs.Using.{behind_in_use}
+use Rattle.ec_world.proofs.Turns.{behind_in_use}
 use Rattle.ec_world.proofs.Ways.{finds_way, way_open, way_passes}
 use Rattle.ec_world.proofs.slots.Slots.way_of.Goals as goal
 

@@ -2,8 +2,9 @@ use Rattle.std.proofs.Common.{◌∙◌, ap, length, sym, List}
 use Rattle.ec_link.specs.declared.settings.SlavePlan.{SlavePlan}
 use Rattle.ec_start.specs.Running.{StartState}
 use Rattle.ec_cycle.specs.Master.{MasterState}
-use Rattle.ec_bringup.proofs.SwitchedOn.{slaves-of}
-use Rattle.ec_world.proofs.Plans.{begun_plan}
+use Rattle.ec_link.specs.Plan.{PlanState}
+use Rattle.ec_link.proofs.Soundness.{plan_sound}
+use Rattle.ec_world.proofs.StepLaws.{begun_plan}
 use Rattle.ec_world.proofs.Newly.{usable-of, few-of}
 use Rattle.ec_world.proofs.world.World.new.Goals as goal
 
@@ -15,7 +16,7 @@ ends_of-requires-clause-usable c = usable-of c.args.table.now c.args.plan.now c.
 
 pub switched_on-requires : goal.switched_on-requires
 switched_on-requires c =
-    c.requires.one_each ∙ (sym (slaves-of c.args.table.now c.args.plan.now c.version-version.ensures.sound c.requires.accepted c.requires.plan) ∙ ap (λ (xs : List SlavePlan). length xs) (sym c.slaves.ensures.value))
+    c.requires.one_each ∙ (sym (ap (λ (p : PlanState). length p.slaves) c.requires.plan ∙ (plan_sound c.args.table.now c.version-version.ensures.sound c.requires.accepted).as_many) ∙ ap (λ (xs : List SlavePlan). length xs) (sym c.slaves.ensures.value))
 
 pub invariant_of-result : goal.invariant_of-result
 invariant_of-result c = record {

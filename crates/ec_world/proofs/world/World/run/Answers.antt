@@ -3,10 +3,10 @@ use Rattle.std.proofs.lemmas.List.{take_more, take_all}
 use Rattle.ec_world.specs.declared.event.Event.{Event}
 use Rattle.ec_world.specs.declared.event.Event.TheVariants.{StartNext}
 use Rattle.ec_world.specs.Laws.{IsRun}
-use Rattle.ec_world.proofs.Runs.{run_more, runs_show}
+use Rattle.ec_world.proofs.StepLaws.{run_more, runs_show}
 use Rattle.ec_world.proofs.ComingUp.{comes_up}
 use Rattle.ec_world.proofs.Newly.{told-new}
-use Rattle.ec_world.proofs.Headline.{each_promised}
+use Rattle.ec_world.proofs.HeadlineInputs.{each_promised}
 use Rattle.ec_world.proofs.world.World.run.Goals as goal
 use Rattle.ec_world.proofs.world.World.run.Goals.{then-make, else-make}
 

@@ -5,7 +5,7 @@ use Rattle.ec_start.specs.Actions.{frame_of}
 use Rattle.ec_start.specs.Running.{StartState, action_of}
 use Rattle.ec_world.specs.Plain.{filled}
 use Rattle.ec_world.specs.World.{Flight, can_start}
-use Rattle.ec_world.proofs.Plans.{asked_plan, resumed_plan}
+use Rattle.ec_world.proofs.StepLaws.{asked_plan, resumed_plan}
 use Rattle.ec_world.proofs.Stepping.{world_of, next-sends, start-step}
 use Rattle.ec_world.proofs.world.World.start_next.Goals as goal
 

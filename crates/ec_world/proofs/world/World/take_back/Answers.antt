@@ -2,7 +2,7 @@ use Rattle.std.proofs.Common.{Bool, ℕ, ◌∙◌, ap, get_or, None, option_map
 use Rattle.ec_link.specs.Plan.{PlanState}
 use Rattle.ec_world.specs.Plain.{may_return}
 use Rattle.ec_world.specs.World.{flight_progress}
-use Rattle.ec_world.proofs.Plans.{handed_plans}
+use Rattle.ec_world.proofs.StepLaws.{handed_plans}
 use Rattle.ec_world.proofs.Stepping.{world_of, return-step}
 use Rattle.ec_world.proofs.world.World.take_back.Goals as goal
 

@@ -21,7 +21,7 @@ use Rattle.ec_link.specs.LinkRuns.{run_of, link_run_of}
 use Rattle.ec_link.specs.SlavePlan.{managers_of}
 use Rattle.ec_link.specs.Layout.{layout, units_below, unit_count, seated, joined, opened, with_slave, joins}
 use Rattle.ec_link.specs.Faults.{compile_fault, link_fault, slave_fault, part_fault, memory_fault, variable_fault, managers_at}
-use Rattle.ec_world.specs.Example.{two_way, box, split_type, boxed_type, slave_in, variable_of, link_to, two_units, AcceptedTwoLaw}
+use Rattle.ec_link.specs.Example.{two_way, box, split_type, boxed_type, slave_in, variable_of, link_to, two_units, AcceptedTwoLaw}
 
 accepted : compile_fault two_units ≡ None
 unfolding compile_fault link_fault slave_fault part_fault memory_fault variable_fault managers_at entries_of run_of link_run_of managers_of layout units_below unit_count seated joined opened with_slave joins

@@ -6,11 +6,12 @@ use Rattle.std.proofs.lemmas.Bool.{cases_Bool, cases_eq, cases_lt, or_left, or_r
 use Rattle.std.proofs.lemmas.Option.{slice_get-get_or}
 use Rattle.ec_table.specs.declared.rows.SlaveRow.{SlaveRow}
 use Rattle.ec_table.specs.Contents.{Contents}
-use Rattle.ec_table.specs.Sound as table
 use Rattle.ec_link.specs.Layout.{is_unit_of, units_below, unit_count, units}
 use Rattle.ec_link.specs.Sizes.{each_from, size_of, table_sizes}
 use Rattle.ec_link.specs.Plan.{plan_of}
-use Rattle.ec_world.specs.Headline.{unit_of, ListsUnits}
+use Rattle.ec_link.specs.Interface.{unit_of, PlansListTheUnits}
+use Rattle.ec_link.proofs.Plans.{no_row}
+use Rattle.ec_link.proofs.UsableLaws.{plan_units}
 
 true_false : true ≡ false → ⊥
 true_false e = cc
@@ -98,10 +99,6 @@ row_of t n (r ∷ rows) u e = elim (or_cases (r.unit == u) (is_unit_of (each_fro
 
 -- ---- the plan's
 
-plan_units : (t : Contents) → (plan_of t).units ≡ units (table_sizes t)
-unfolding plan_of
-plan_units t = refl
-
 units_are : (t : Contents) (rows : List SlaveRow) → 0 < length rows → units (each_from (size_of t) 0 rows) ≡ kept (is_unit_of (each_from (size_of t) 0 rows)) 0 64
 unfolding units_below unit_count
 units_are t [] l = absurd (omega (arith, l))
@@ -111,10 +108,7 @@ units_none : (t : Contents) (rows : List SlaveRow) → length rows ≡ 0 → uni
 units_none t [] e = refl
 units_none t (r ∷ rows) e = absurd (omega (arith, e))
 
-no_row : SlaveRow
-no_row = record { name = []; type_place = 0; serial = 0; outputs = []; inputs = []; unit = 0 }
-
-pub lists_units : (t : Contents) → table.IsSound t → ListsUnits t (plan_of t).units
+pub lists_units : PlansListTheUnits
 lists_units t fine = record {
   each = λ s l. subst (λ (us : List ℕ). Contains us (unit_of t s)) (sym (some (omega (arith, l)))) (kept_has test 0 64 (unit_of t s) (omega arith) (let x = low s l in omega (arith, x)) (row_has t 0 t.slaves s l));
   once = λ i j l k e. elim (cases_lt 0 (length t.slaves)) [

@@ -16,7 +16,7 @@ use Rattle.ec_link.specs.LinkRuns.{run_of, link_run_of}
 use Rattle.ec_link.specs.SlavePlan.{managers_of}
 use Rattle.ec_link.specs.Layout.{layout, units_below, unit_count, seated, joined, opened, with_slave, joins}
 use Rattle.ec_link.specs.Faults.{compile_fault, link_fault, slave_fault, part_fault, memory_fault, variable_fault, managers_at}
-use Rattle.ec_world.specs.Example.{small_type, small_slave, small_variable, small_link, small_table, AcceptedLaw}
+use Rattle.ec_link.specs.Example.{small_type, small_slave, small_variable, small_link, small_table, AcceptedLaw}
 
 pub accepted : compile_fault small_table ≡ None
 unfolding compile_fault link_fault slave_fault part_fault memory_fault variable_fault managers_at entries_of run_of link_run_of managers_of layout units_below unit_count seated joined opened with_slave joins

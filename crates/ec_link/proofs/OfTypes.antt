@@ -1,0 +1,125 @@
+-- A slave of the plan of an accepted table is of its type.
+use Rattle.std.proofs.Common.{◌≡◌, ◌≢◌, ℕ, zero, suc, ◌<◌, ◌≤◌, List, [], ◌∷◌, length, get_or, refl, sym, ap, ◌∙◌, subst, arith, Some, None, Option, slice_get, unwrap_or, option_map, option_and_then, All}
+use Rattle.std.specs.List.{Contains}
+use Rattle.std.specs.Option.{ForSome}
+use Rattle.std.proofs.lemmas.Option.{slice_get_within, get_or_from_slice_get}
+use Rattle.ec_device.specs.declared.slave_type.Pdo.{Pdo}
+use Rattle.ec_device.specs.declared.slave_type.Mailbox.{Mailbox}
+use Rattle.ec_device.specs.Types.{SlaveKind, IsWithinLimits, plain_kind}
+use Rattle.ec_device.specs.Objects.{bits_of, bits_assigned, assigned_entries}
+use Rattle.ec_device.proofs.Objects.{bits_assigned_law}
+use Rattle.ec_table.specs.declared.rows.Direction.{Direction}
+use Rattle.ec_table.specs.declared.rows.Direction.TheVariants.{Out, In}
+use Rattle.ec_table.specs.declared.rows.SlaveRow.{SlaveRow}
+use Rattle.ec_table.specs.declared.rows.TypeRow.{TypeRow}
+use Rattle.ec_table.specs.Contents.{Contents, pdos_toward, assigned_toward}
+use Rattle.ec_table.specs.Objects.{type_of, kind_at, entries_of}
+use Rattle.ec_table.specs.Pdos.{indices_of}
+use Rattle.ec_table.specs.Sound as table
+use Rattle.ec_link.specs.declared.settings.SlavePlan.{SlavePlan}
+use Rattle.ec_link.specs.declared.settings.Share.{Share}
+use Rattle.ec_link.specs.Faults.{compile_fault}
+use Rattle.ec_link.specs.Interface.{IsOfItsType, SlavesAreOfTheirTypes}
+use Rattle.ec_link.specs.Layout.{layout}
+use Rattle.ec_link.specs.Meaning.{slave_at}
+use Rattle.ec_link.specs.Plan.{plan_of, kind_of, part_plans}
+use Rattle.ec_link.specs.SlavePlan.{fmmus_of}
+use Rattle.ec_link.specs.Sizes.{table_sizes}
+use Rattle.ec_link.specs.Sound.{AreSettings, IsSound}
+use Rattle.ec_link.proofs.Plans.{no_row}
+use Rattle.ec_link.proofs.PlanSound.{slave_is, share_is}
+use Rattle.ec_link.proofs.SlavesSound.{has_type, made_fmmus}
+use Rattle.ec_link.proofs.Soundness.{plan_sound}
+use Rattle.ec_link.proofs.UsableLaws.{row_at}
+
+-- ---- once each of so many is at most so many
+
+abbrev without : List ℕ → ℕ → List ℕ
+without [] k = []
+without (y ∷ ys) zero = ys
+without (y ∷ ys) (suc k) = y ∷ without ys k
+
+length-without : (ys : List ℕ) (k : ℕ) → k < length ys → length ys ≡ suc (length (without ys k))
+length-without [] k l = absurd (omega (arith, l))
+length-without (y ∷ ys) zero l = refl
+length-without (y ∷ ys) (suc k) l = ap (λ (n : ℕ). suc n) (length-without ys k (omega (arith, l)))
+
+still-in : (ys : List ℕ) (k m x z : ℕ) → k < length ys → m < length ys → get_or ys k x ≡ x → get_or ys m z ≡ z → x ≢ z → Contains (without ys k) z
+still-in [] k m x z a b e f ne = absurd (omega (arith, a))
+still-in (y ∷ ys) zero zero x z a b e f ne = absurd (ne (sym e ∙ f))
+still-in (y ∷ ys) zero (suc m) x z a b e f ne = (m, omega (arith, b), f)
+still-in (y ∷ ys) (suc k) zero x z a b e f ne = (0, omega arith, f)
+still-in (y ∷ ys) (suc k) (suc m) x z a b e f ne = let r = still-in ys k m x z (omega (arith, a)) (omega (arith, b)) e f ne in (suc r.0, omega (arith, r.1), r.2)
+
+few-once : (xs ys : List ℕ) → ((i j d : ℕ) → i < j → j < length xs → get_or xs i d ≢ get_or xs j d) → ((k d : ℕ) → k < length xs → Contains ys (get_or xs k d)) → length xs ≤ length ys
+few-once [] ys once known = omega arith
+few-once (x ∷ xs) ys once known =
+    let c = known 0 x (omega arith) in
+    let rest : length xs ≤ length (without ys c.0) = few-once xs (without ys c.0) (λ i j d a b. once (suc i) (suc j) d (omega (arith, a)) (omega (arith, b))) (λ k d l.
+    let m = known (suc k) d (omega (arith, l)) in
+    still-in ys c.0 m.0 x (get_or xs k d) c.1 m.1 c.2 m.2 (once 0 (suc k) d (omega arith) (omega (arith, l)))) in
+    omega (arith, rest, length-without ys c.0 c.1)
+
+length-indices : (ps : List Pdo) → length (indices_of ps) ≡ length ps
+length-indices [] = refl
+length-indices (p ∷ ps) = ap (λ (n : ℕ). suc n) (length-indices ps)
+
+few-assigned : (mailbox : Option Mailbox) (ps : List Pdo) (is : List ℕ) → table.IsAssignment mailbox ps is → length is ≤ length ps
+few-assigned mailbox ps is a = omega (arith, few-once is (indices_of ps) (λ i j e lt b. a.once i j e lt b) (λ k e l. a.known k e l), length-indices ps)
+
+-- ---- a slave
+
+-- the kind of a slave is its type's
+kind_told : (t : Contents) (s : ℕ) (k : TypeRow) → type_of t s ≡ Some k → kind_of t s ≡ kind_at t s k
+kind_told t s k e = ap (λ (o : Option TypeRow). unwrap_or (option_map (kind_at t s) o) plain_kind) e
+
+entries-told : (t : Contents) (s : ℕ) (r : SlaveRow) (k : TypeRow) (d : Direction) → slice_get t.slaves s ≡ Some r → slice_get t.types r.type_place ≡ Some k → entries_of t s d ≡ assigned_entries (pdos_toward d k) (assigned_toward d r)
+unfolding entries_of
+entries-told t s r k d a b = rw (a, b) refl
+
+type_there : (t : Contents) (s : ℕ) (r : SlaveRow) (k : TypeRow) → slice_get t.slaves s ≡ Some r → type_of t s ≡ Some k → slice_get t.types r.type_place ≡ Some k
+type_there t s r k is type = ap (λ (o : Option SlaveRow). option_and_then (λ (q : SlaveRow). slice_get t.types q.type_place) o) (sym is) ∙ type
+
+module _ (t : Contents) (sound : table.IsSound t) (free : compile_fault t ≡ None) where
+  own : IsSound t (plan_of t)
+  own = plan_sound t sound free
+
+  of_type : (s : ℕ) (r : SlaveRow) (k : TypeRow) → slice_get t.slaves s ≡ Some r → type_of t s ≡ Some k → table.IsType k → IsOfItsType (slave_at (plan_of t) s)
+  of_type s r k is type good =
+      let lt : s < length t.slaves = slice_get_within t.slaves s r is in
+      let place = type_there t s r k is type in
+      let set : AreSettings t (plan_of t) s r = own.each s r is in
+      let x : SlavePlan = slave_at (plan_of t) s in
+      let row : table.IsSlave t.version t.types r = subst (table.IsSlave t.version t.types) (get_or_from_slice_get t.slaves s r r is) (sound.slaves.each s r lt) in
+      let kind : x.kind ≡ kind_at t s k = set.kind ∙ kind_told t s k type in
+      let outputs : table.IsAssignment x.kind.mailbox x.kind.outputs x.outputs
+      = subst (λ (y : SlaveKind). table.IsAssignment y.mailbox y.outputs x.outputs) (sym kind) (subst (λ (xs : List ℕ). table.IsAssignment k.mailbox k.process.outputs xs) (sym set.outputs) (row.assigned k Out place)) in
+      let inputs : table.IsAssignment x.kind.mailbox x.kind.inputs x.inputs
+      = subst (λ (y : SlaveKind). table.IsAssignment y.mailbox y.inputs x.inputs) (sym kind) (subst (λ (xs : List ℕ). table.IsAssignment k.mailbox k.process.inputs xs) (sym set.inputs) (row.assigned k In place)) in
+      let outs : x.share.outs ≡ bits_assigned k.process.outputs r.outputs
+      = ap (λ (h : Share). h.outs) (share_is t s lt) ∙ (ap bits_of (entries-told t s r k Out is place) ∙ sym (bits_assigned_law k.process.outputs r.outputs)) in
+      let ins : x.share.ins ≡ bits_assigned k.process.inputs r.inputs
+      = ap (λ (h : Share). h.ins) (share_is t s lt) ∙ (ap bits_of (entries-told t s r k In is place) ∙ sym (bits_assigned_law k.process.inputs r.inputs)) in
+      record {
+        device = subst (λ (y : SlaveKind). table.IsDevice y.device) (sym kind) good.device;
+        limits = subst (λ (y : SlaveKind). IsWithinLimits y.mailbox y.outputs y.inputs) (sym kind) good.limits;
+        starts = subst (λ (y : SlaveKind). ForSome y.mailbox table.HasMailboxStarts) (sym kind) good.mailbox;
+        out_names = subst (λ (y : SlaveKind). All (λ (q : Pdo). All table.HasName q.entries) y.outputs) (sym kind) (good.entries Out);
+        in_names = subst (λ (y : SlaveKind). All (λ (q : Pdo). All table.HasName q.entries) y.inputs) (sym kind) (good.entries In);
+        outputs = outputs;
+        inputs = inputs;
+        few_outputs = few-assigned x.kind.mailbox x.kind.outputs x.outputs outputs;
+        few_inputs = few-assigned x.kind.mailbox x.kind.inputs x.inputs inputs;
+        outs = subst (λ (y : SlaveKind). x.share.outs ≡ bits_assigned y.outputs x.outputs) (sym kind) (subst (λ (xs : List ℕ). x.share.outs ≡ bits_assigned k.process.outputs xs) (sym set.outputs) outs);
+        ins = subst (λ (y : SlaveKind). x.share.ins ≡ bits_assigned y.inputs x.inputs) (sym kind) (subst (λ (xs : List ℕ). x.share.ins ≡ bits_assigned k.process.inputs xs) (sym set.inputs) ins);
+        few_outs = set.few_outs;
+        few_ins = set.few_ins;
+        fmmus = subst (λ (y : SlavePlan). y.fmmus ≡ fmmus_of y.from y.kind.out_start y.kind.in_start y.share.outs y.share.ins) (sym (slave_is t s lt))
+            (made_fmmus t (part_plans t) (layout (table_sizes t)).seats s (get_or t.slaves s no_row));
+      }
+
+pub slaves_are_of_their_types : SlavesAreOfTheirTypes
+slaves_are_of_their_types t sound free s l =
+    let r = row_at t.slaves s (omega (arith, l, (plan_sound t sound free).as_many)) in
+    let k = has_type t sound s r.0 r.1 in
+    of_type t sound free s r.0 k.row r.1 k.is k.sound

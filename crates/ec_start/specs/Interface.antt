@@ -1,0 +1,24 @@
+-- What the crates above may know of start-ups besides what their words say: which plans can be started up, and how long the script
+-- of one gets.
+use Rattle.std.specs.Prelude.{ℕ, ◌+◌, ◌*◌, ◌<◌, ◌≤◌, ◌≡◌, List, length, get_or, false}
+use Rattle.ec_regs.specs.Fmmus.{no_fmmu}
+use Rattle.ec_link.specs.declared.settings.SlavePlan.{SlavePlan}
+use Rattle.ec_link.specs.Interface.{AreListed, IsOfItsType}
+use Rattle.ec_link.specs.Meaning.{no_slave}
+use Rattle.ec_link.specs.Sound.{AreManagers}
+use Rattle.ec_start.specs.Plans.{fmmu_at}
+use Rattle.ec_start.specs.Planned.{IsFmmu, IsStartable}
+use Rattle.ec_start.specs.Scripts.{script}
+
+-- each FMMU can be written to a register and read back, and one that isn't active is none
+pub record HasPlainFmmus (x : SlavePlan) : Type 0 where
+  pub readable : (n : ℕ) → n < 4 → IsFmmu (fmmu_at x.fmmus n)
+  pub idle : (n : ℕ) → n < 2 → (fmmu_at x.fmmus n).active ≡ false → fmmu_at x.fmmus n ≡ no_fmmu
+
+-- A slave of a plan, of a type of its table, can be started up.
+abbrev pub PlannedSlavesAreStartable : Type 0
+PlannedSlavesAreStartable = (x : SlavePlan) → AreManagers x → AreListed x → IsOfItsType x → HasPlainFmmus x → IsStartable x
+
+-- Its script is short: a request has a subindex of one byte, so there are few of them.
+abbrev pub ScriptsAreShort : Type 0
+ScriptsAreShort = (ps : List SlavePlan) → ((k : ℕ) → k < length ps → IsStartable (get_or ps k no_slave)) → length (script ps) ≤ 6 + 400100 * length ps
