@@ -63,7 +63,7 @@ fn turn(startup: &mut Startup, ring: &mut Ring, frame: &mut Frame) -> bool
         NextFrame::Waiting | NextFrame::Ended => return false,
     }
     let payload = frame.as_mut_slice();
-    let _ = ring.pass_all(payload);
+    ring.pass_frame(payload);
     serve_all(ring);
     startup.take(payload);
     true

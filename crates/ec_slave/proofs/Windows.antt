@@ -1,5 +1,6 @@
 -- What one byte of a window gives.
 use Rattle.std.proofs.Common.{ℕ, ◌+◌, ◌-◌, ◌<◌, ◌≤◌, ◌≡◌, ◌⊎◌, List, length, Bool, true, false, slice_index, get_or, Option, Some, None, bit_or, ◌&&◌, ◌||◌, not, is_none, nat_lt, refl, sym, ◌∙◌, ap, inl, inr, arith, if◌then◌else◌}
+use Rattle.std.proofs.Math.Bool.{and-false}
 use Rattle.std.proofs.lemmas.Bool.{cases_lt, ltb-true, lt-ltb, le-ltb, or_left, and_parts}
 use Rattle.ec_bits.specs.Bits.{within}
 use Rattle.ec_bits.proofs.Overlays.{or_true}
@@ -10,7 +11,7 @@ use Rattle.ec_sync.specs.Governing.{covers, governor, in_first_buffer, shown_byt
 use Rattle.ec_slave.specs.State.{SlaveState, manager_at}
 use Rattle.ec_slave.specs.Managers.{reads_under, writes_under}
 use Rattle.ec_slave.specs.Physical.{Window, touches, register_byte, ram_byte, byte_at, byte_from, byte_read, may_read_byte, may_write_byte, is_kept, retold_from}
-use Rattle.ec_slave.proofs.Told.{told_along, get-told_outside, retold-alike}
+use Rattle.ec_slave.proofs.Told.{told_along, get-told_outside, retold-alike, retold-none}
 
 pub from-outside : (w : Window) (a : ℕ) → (a < w.from) ⊎ (w.from + length w.bytes ≤ a) → byte_from w a ≡ None
 from-outside w a h =
@@ -41,6 +42,17 @@ all-kept ms w memory h = retold-alike memory (byte_from w) (kept_byte ms w) (λ 
   | inr x ↦ elim (cases_lt a (w.from + length w.bytes)) [
     | inl y ↦ sym (if_true (is_kept ms a) (byte_from w a) None (h a (omega arith) y))
     | inr y ↦ from-outside w a (inr (omega arith)) ∙ sym (kept-outside ms w a (inr (omega arith)))
+  ]
+])
+
+-- and one of which it keeps none
+pub none-kept : (ms : List SyncManager) (w : Window) (memory : List ℕ) → ((a : ℕ) → w.from ≤ a → a < w.from + length w.bytes → is_kept ms a ≡ false)
+    → memory ≡ retold_from 0 memory (kept_byte ms w)
+none-kept ms w memory h = retold-none memory (kept_byte ms w) (λ a l. elim (cases_lt a w.from) [
+  | inl x ↦ kept-outside ms w a (inl x)
+  | inr x ↦ elim (cases_lt a (w.from + length w.bytes)) [
+    | inl y ↦ if_false (is_kept ms a) (byte_from w a) None (h a (omega arith) y)
+    | inr y ↦ kept-outside ms w a (inr (omega arith))
   ]
 ])
 
@@ -136,6 +148,13 @@ kept-alike ms a b la lb high g =
     ∙ (ap (λ (x : Bool). x && is_none (governor ms a)) high
     ∙ (ap (λ (o : Option ℕ). nat_lt b ram_end && is_none o) g
     ∙ sym (if_false (nat_lt b ram_start) (is_stored b && not (within 0x0800 32 b)) (nat_lt b ram_end && is_none (governor ms b)) (le-ltb b ram_start lb))))
+
+-- the memory itself keeps no register of a manager
+pub manager-unkept : (ms : List SyncManager) (a : ℕ) → 0x0800 ≤ a → a < 0x0820 → is_kept ms a ≡ false
+unfolding is_kept
+manager-unkept ms a l h =
+    if_true (nat_lt a ram_start) (is_stored a && not (within 0x0800 32 a)) (nat_lt a ram_end && is_none (governor ms a)) (lt-ltb a ram_start (omega arith))
+    ∙ (ap (λ (x : Bool). is_stored a && not x) (within_true 0x0800 32 a l (omega arith)) ∙ and-false (is_stored a))
 
 -- a byte that is kept lies in the memory
 pub kept-below : (ms : List SyncManager) (a : ℕ) → is_kept ms a ≡ true → a < ram_end

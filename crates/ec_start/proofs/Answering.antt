@@ -1,6 +1,8 @@
 -- A payload of two datagrams, and whether it answers an action.
-use Rattle.std.proofs.Common.{◌≡◌, ◌≤◌, ℕ, ◌%◌, List, [], ◌∷◌, length, map, take, slice_range, Bool, true, false, refl, sym, ap, ◌∙◌, arith}
-use Rattle.std.specs.Int.{to_le_bytes, w64}
+use Rattle.std.proofs.Common.{◌≡◌, ◌≤◌, ◌<◌, ◌↔◌, ◌==◌, ◌^◌, ℕ, ◌%◌, List, get_or, [], ◌∷◌, length, map, take, slice_range, Bool, true, false, refl, sym, ap, ◌∙◌, arith}
+use Rattle.std.specs.Int.{from_le_bytes, to_le_bytes, w64}
+use Rattle.std.proofs.lemmas.Bool.{eq-eqb, eqb-true}
+use Rattle.std.proofs.lemmas.Nat.{from_le_bytes-to_le_bytes_8, le_bytes_8}
 use Rattle.ec_frame.specs.declared.command.Command.{Command}
 use Rattle.ec_frame.specs.declared.command.Command.TheVariants.{Nop}
 use Rattle.ec_frame.specs.declared.cursor.DatagramSpan.{DatagramSpan}
@@ -57,6 +59,15 @@ pub is_pair : (payload : List ℕ) (name answer : DatagramSpan) (places one : Da
     → ((d : Datagram) (es : List Datagram) → IsAhead payload one (d ∷ es) → slice_range payload answer.from answer.to ≡ spelling (is_followed es) d)
     → IsPair payload name answer
 is_pair payload name answer places one p f two ahead first others second = pair_of payload name answer places one p p.datagrams refl f two ahead first others second
+
+-- ---- the number
+
+pub bytes_tell : (bytes : List ℕ) (number r : ℕ) → length bytes ≡ 8 → ((i : ℕ) → get_or bytes i 0 < 256) → number < 2 ^ 64
+    → r ≡ from_le_bytes w64 bytes → ((r == number) ≡ true) ↔ (bytes ≡ to_le_bytes w64 number)
+bytes_tell bytes number r eight fits small e = (
+  λ same. sym (le_bytes_8 bytes number eight fits (sym (eqb-true r number same) ∙ e)),
+  λ same. eq-eqb r number (e ∙ (ap (from_le_bytes w64) same ∙ from_le_bytes-to_le_bytes_8 number small)),
+)
 
 -- ---- shapes
 

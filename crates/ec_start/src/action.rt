@@ -1,6 +1,7 @@
 //! What a start-up does, one action after another, and the datagram of each.
 
 ghost use Rattle.std.specs.Prelude.{◌≡◌, ◌≤◌, ◌-◌, ◌%◌, ◌/◌, length};
+ghost use Rattle.ec_bits.specs.Bits.{zeros};
 ghost use Rattle.ec_start.specs.Actions.{station, word_place, request_message, datagram_of};
 ghost use Rattle.ec_start.specs.Scripts.{downloads, uploads};
 ghost use Rattle.ec_start.specs.Doable.{IsDoable};
@@ -203,13 +204,12 @@ impl Action {
         }
     }
 
-    /// Writes the data of its datagram.
+    /// Writes the data of its datagram over as many zeros.
     pub fn write_data(&self, bytes: &mut [u8])
         requires doable { IsDoable self.now }
-        requires length { length bytes.old ≡ length (datagram_of self.now 0).data_bytes }
+        requires zeroed { bytes.old ≡ zeros (length (datagram_of self.now 0).data_bytes) }
         ensures { bytes.new ≡ (datagram_of self.now 0).data_bytes }
     {
-        bytes.fill(0);
         match self {
             Action::AskInit => bytes.copy_from_slice(&[0x11, 0]),
             Action::NameSlave { slave } => {

@@ -68,8 +68,17 @@ fn tells(part: &[u8], number: u64) -> bool
         → (result ≡ true) ↔ (take 8 d.data_bytes ≡ to_le_bytes w64 number) }
 {
     let data = read_data(part);
-    let bytes = number.to_le_bytes();
-    data.len() >= 8 && &data[..8] == bytes.as_slice()
+    data.len() >= 8 && are_bytes_of(&data[..8], number)
+}
+
+/// Whether eight bytes are those of a number. They are compared at once.
+fn are_bytes_of(bytes: &[u8], number: u64) -> bool
+    requires { length bytes.now ≡ 8 }
+    ensures { (result ≡ true) ↔ (bytes.now ≡ to_le_bytes w64 number) }
+{
+    let mut eight = [0; 8];
+    eight.copy_from_slice(bytes);
+    u64::from_le_bytes(eight) == number
 }
 
 /// Whether a datagram has this command, this index and so many bytes of data.

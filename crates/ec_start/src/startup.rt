@@ -2,6 +2,7 @@
 
 ghost use Rattle.std.specs.Prelude.{◌≡◌, ◌≢◌, ◌++◌, ◌<◌, ◌≤◌, ◌+◌, length, true, false, ◌↔◌, All, IfOk, IsTrue};
 ghost use Rattle.std.specs.Int.{to_le_bytes, w16, w64};
+ghost use Rattle.ec_bits.specs.Bits.{zeros};
 ghost use Rattle.ec_frame.specs.Building.{bare_payload};
 ghost use Rattle.ec_frame.specs.Frame.{IsFrame};
 ghost use Rattle.ec_start.specs.declared.verdict.Verdict.TheVariants.{Again};
@@ -27,6 +28,9 @@ use std::marker::Model;
 
 /// So many bytes are enough for the data of each datagram but a mailbox message.
 const SHORT_DATA: usize = 64;
+
+/// And so many for most mailbox messages, with what is behind them in the mailbox.
+const USUAL_MAILBOX: usize = 256;
 
 /// How often a wait is tried.
 const MAX_POLLS: u16 = 1000;
@@ -263,8 +267,11 @@ fn write_frame(action: &Action, number: u64, frame: &mut Frame)
     requires { IsDoable action.now }
     ensures { IsFrame frame.new.items (bare_payload (frame_of action.now number)) }
 {
-    if action.data_length() <= SHORT_DATA {
+    let count = action.data_length();
+    if count <= SHORT_DATA {
         write_through(&mut [0; SHORT_DATA], action, number, frame);
+    } else if count <= USUAL_MAILBOX {
+        write_usual(action, number, frame);
     } else {
         write_long(action, number, frame);
     }
@@ -280,10 +287,21 @@ fn write_long(action: &Action, number: u64, frame: &mut Frame)
     write_through(&mut [0; MAX_DATA], action, number, frame);
 }
 
+/// The same by way of a buffer that has room for a usual mailbox.
+#[inline(never)]
+fn write_usual(action: &Action, number: u64, frame: &mut Frame)
+    requires doable { IsDoable action.now }
+    requires room { length (datagram_of action.now 0).data_bytes ≤ 256 }
+    ensures { IsFrame frame.new.items (bare_payload (frame_of action.now number)) }
+{
+    write_through(&mut [0; USUAL_MAILBOX], action, number, frame);
+}
+
 /// Writes the frame of an action with a number: the datagram that names it, and the action's, whose data come by way of
-/// a buffer.
+/// a buffer of zeros.
 fn write_through(buffer: &mut [u8], action: &Action, number: u64, frame: &mut Frame)
     requires doable { IsDoable action.now }
+    requires zeroed { buffer.old ≡ zeros (length buffer.old) }
     requires room { length (datagram_of action.now 0).data_bytes ≤ length buffer.old }
     ensures { IsFrame frame.new.items (bare_payload (frame_of action.now number)) }
 {

@@ -246,6 +246,45 @@ fn write_fmmus(memory: &mut [u8], from: usize, bytes: &[u8]) -> bool
     !bytes.is_empty()
 }
 
+/// The same, byte by byte.
+fn keep_each(memory: &mut [u8], from: usize, bytes: &[u8])
+    requires room { length memory.old ≡ ram_end }
+    requires inside { from + length bytes.now ≤ ram_start }
+    ensures { (ms : List SyncManager) → memory.new ≡ memory_written ms (record { from = from; bytes = bytes.now }) memory.old }
+{
+    for (i, byte) in bytes.iter().enumerate() {
+        let address = from + i;
+        if is_kept_register(address) {
+            memory[address] = *byte;
+        }
+    }
+}
+
+/// Stores what the memory itself keeps of a datagram that lies within the registers. Of the managers' registers it keeps
+/// none.
+fn keep_registers(memory: &mut [u8], from: usize, bytes: &[u8])
+    requires room { length memory.old ≡ ram_end }
+    requires inside { from + length bytes.now ≤ ram_start }
+    ensures { (ms : List SyncManager) → memory.new ≡ memory_written ms (record { from = from; bytes = bytes.now }) memory.old }
+{
+    if from < SYNC_MANAGERS || SYNC_MANAGERS_END < from + bytes.len() {
+        keep_each(memory, from, bytes);
+    }
+}
+
+/// Whether one of the bytes of a datagram that lies within the registers is written. Mostly the first is.
+fn takes_some(is_busy: bool, from: usize, bytes: &[u8]) -> bool
+    requires { from + length bytes.now ≤ ram_start }
+    ensures { (ms : List SyncManager) → result ≡ some_byte_written ms is_busy (record { from = from; bytes = bytes.now }) }
+{
+    for i in 0..bytes.len() {
+        if takes_writes(from + i, is_busy) {
+            return true;
+        }
+    }
+    false
+}
+
 /// Writes the bytes of a datagram that lies within the registers, and answers whether one is written. No manager
 /// governs a register.
 fn write_registers(memory: &mut [u8], is_busy: bool, from: usize, bytes: &[u8]) -> bool
@@ -257,15 +296,8 @@ fn write_registers(memory: &mut [u8], is_busy: bool, from: usize, bytes: &[u8]) 
     if FMMUS <= from && from + bytes.len() <= FMMUS_END {
         return write_fmmus(memory, from, bytes);
     }
-    let mut is_some = false;
-    for (i, byte) in bytes.iter().enumerate() {
-        let address = from + i;
-        is_some |= takes_writes(address, is_busy);
-        if is_kept_register(address) {
-            memory[address] = *byte;
-        }
-    }
-    is_some
+    keep_registers(memory, from, bytes);
+    takes_some(is_busy, from, bytes)
 }
 
 /// Joins bytes to data bytes by OR.
