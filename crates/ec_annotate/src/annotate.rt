@@ -6,6 +6,7 @@ ghost use Rattle.ec_decode.specs.Indented.{without_indented};
 ghost use Rattle.ec_link.specs.Usable.{IsUsable};
 ghost use Rattle.ec_annotate.specs.Annotating.{Annotates, IsWoven};
 
+use crate::names::Names;
 use crate::remarks::remarks_of;
 use ec_decode::laws::texts_have_no_indented_lines;
 use ec_decode::{Decoded, decode_text, weave};
@@ -22,14 +23,14 @@ pub struct Links<'a> {
     pub plan: &'a Plan,
 }
 
-/// What `ec_decode::decode_text` prints of a text, with remarks for people behind its lines: where `named`
-/// says so, what each datagram says by the standard's names, and what is wrong with a payload that is no
+/// What `ec_decode::decode_text` prints of a text, with remarks for people behind its lines: where names are
+/// told, what each datagram says by the standard's names, and what is wrong with a payload that is no
 /// frame; and which variables a datagram carries by the links, if there are any. Each line of a remark is indented, so that `ec_decode::encode_text` reads the
 /// whole back as the same frames. The error is want of memory.
 pub fn annotate_text(
     alloc: Global,
     text: &str,
-    named: bool,
+    names: Names,
     links: Option<Links<'_>>,
 ) -> Result<Decoded, AllocError>
     requires { ForSome links (λ links. IsUsable links.plan.now) }
@@ -38,7 +39,7 @@ pub fn annotate_text(
     // It does nothing: what is printed without remarks has no indented line.
     texts_have_no_indented_lines();
     let decoded = decode_text(alloc, text)?;
-    let text = woven(alloc, &decoded, text, named, links)?;
+    let text = woven(alloc, &decoded, text, names, links)?;
     Ok(Decoded {
         text,
         is_whole: decoded.is_whole,
@@ -50,7 +51,7 @@ fn woven(
     alloc: Global,
     decoded: &Decoded,
     text: &str,
-    named: bool,
+    names: Names,
     links: Option<Links<'_>>,
 ) -> Result<String, AllocError>
     requires { ForSome links (λ links. IsUsable links.plan.now) }
@@ -58,6 +59,6 @@ fn woven(
     ensures same { IfOk result (λ answer. without_indented (string_bytes answer)
         ≡ without_indented (string_bytes decoded.now.text)) }
 {
-    let remarks = remarks_of(alloc, text, named, links)?;
+    let remarks = remarks_of(alloc, text, names, links)?;
     weave(alloc, decoded.text.as_str(), remarks.as_slice())
 }

@@ -3,6 +3,8 @@
 #![tactic(auto)]
 
 mod annotate;
+mod names;
 mod remarks;
 
 pub use crate::annotate::{Links, annotate_text};
+pub use crate::names::Names;

@@ -3,6 +3,7 @@ ghost use Rattle.std.specs.Option.{ForSome};
 ghost use Rattle.ec_link.specs.Usable.{IsUsable};
 
 use crate::annotate::Links;
+use crate::names::Names;
 use ec_carried::{Told, write_process};
 use ec_decode::check_placed;
 use ec_frame::FrameError;
@@ -16,14 +17,14 @@ use std::alloc::{AllocError, Global};
 pub(crate) fn remarks_of(
     alloc: Global,
     text: &str,
-    named: bool,
+    names: Names,
     links: Option<Links<'_>>,
 ) -> Result<Vec<String>, AllocError>
     requires { ForSome links (λ links. IsUsable links.plan.now) }
 {
     let mut remarks = Vec::new(alloc);
     for line in text.lines() {
-        if !line.is_empty() && !add_line(alloc, &mut remarks, line, named, links)? {
+        if !line.is_empty() && !add_line(alloc, &mut remarks, line, names, links)? {
             break;
         }
     }
@@ -35,14 +36,14 @@ fn add_line(
     alloc: Global,
     remarks: &mut Vec<String>,
     line: &str,
-    named: bool,
+    names: Names,
     links: Option<Links<'_>>,
 ) -> Result<bool, AllocError>
     requires { ForSome links (λ links. IsUsable links.plan.now) }
 {
     match hex::decode(alloc, line) {
         Ok(payload) => {
-            add_payload(alloc, remarks, payload.as_slice(), named, links)?;
+            add_payload(alloc, remarks, payload.as_slice(), names, links)?;
             Ok(true)
         }
         Err(FromHexError::OutOfMemory) => Err(AllocError),
@@ -55,7 +56,7 @@ fn add_payload(
     alloc: Global,
     remarks: &mut Vec<String>,
     payload: &[u8],
-    named: bool,
+    names: Names,
     links: Option<Links<'_>>,
 ) -> Result<(), AllocError>
     requires { ForSome links (λ links. IsUsable links.plan.now) }
@@ -67,11 +68,14 @@ fn add_payload(
     match check_placed(payload) {
         Ok(count) => {
             remarks.push(String::new(alloc))?;
-            add_datagrams(alloc, remarks, count, bytes, named, links)
+            add_datagrams(alloc, remarks, count, bytes, names, links)
         }
         Err(refused) => {
-            add_datagrams(alloc, remarks, refused.whole, bytes, named, links)?;
-            let fault = if named { fault_text(refused.error) } else { "" };
+            add_datagrams(alloc, remarks, refused.whole, bytes, names, links)?;
+            let fault = match names {
+                Names::Told => fault_text(refused.error),
+                Names::Untold => "",
+            };
             remarks.push(String::from_str(alloc, fault)?)?;
             Ok(())
         }
@@ -84,7 +88,7 @@ fn add_datagrams(
     remarks: &mut Vec<String>,
     count: usize,
     bytes: &[u8],
-    named: bool,
+    names: Names,
     links: Option<Links<'_>>,
 ) -> Result<(), AllocError>
     requires { ForSome links (λ links. IsUsable links.plan.now) }
@@ -94,7 +98,7 @@ fn add_datagrams(
         let Some((seen, after)) = first_seen(rest) else {
             return Ok(());
         };
-        remarks.push(remark_on(alloc, seen, named, links)?)?;
+        remarks.push(remark_on(alloc, seen, names, links)?)?;
         rest = after;
     }
     Ok(())
@@ -104,14 +108,15 @@ fn add_datagrams(
 fn remark_on(
     alloc: Global,
     seen: Seen<'_>,
-    named: bool,
+    names: Names,
     links: Option<Links<'_>>,
 ) -> Result<String, AllocError>
     requires { ForSome links (λ links. IsUsable links.plan.now) }
 {
     let mut remark = String::new(alloc);
-    if named {
-        write_remarks(alloc, &mut remark, seen)?;
+    match names {
+        Names::Told => write_remarks(alloc, &mut remark, seen)?,
+        Names::Untold => {}
     }
     if let Some(links) = links {
         write_variables(alloc, &mut remark, seen, links)?;

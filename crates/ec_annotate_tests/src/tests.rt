@@ -1,4 +1,4 @@
-use ec_annotate::{Links, annotate_text};
+use ec_annotate::{Links, Names, annotate_text};
 use ec_decode::{decode_text, encode_text};
 use ec_link::compile;
 use ec_table::read_table;
@@ -50,14 +50,14 @@ refused 6 BadCommand datagram 1 byte 16
 ";
 
 /// What a text is printed as with remarks, by the table of three slaves.
-fn by_table(rt: &impl AllocGlobal, text: &str, named: bool) -> Result<String, Fail> {
+fn by_table(rt: &impl AllocGlobal, text: &str, names: Names) -> Result<String, Fail> {
     let table = read_table(rt.alloc(), TABLE)?;
     let plan = compile(rt.alloc(), &table)?;
     let links = Links {
         table: &table,
         plan: &plan,
     };
-    Ok(annotate_text(rt.alloc(), text, named, Some(links))?.text)
+    Ok(annotate_text(rt.alloc(), text, names, Some(links))?.text)
 }
 
 /// The lines of a text that don't begin with a blank.
@@ -74,12 +74,12 @@ fn bare(rt: &impl AllocGlobal, text: &str) -> Result<String, Fail> {
 
 #[test]
 fn frames_are_told_by_a_table(rt: HostRuntime) -> Result<(), Fail> {
-    let text = by_table(&rt, SENT, true)?;
+    let text = by_table(&rt, SENT, Names::Told)?;
     assert_eq!(rt; text.as_str(), SENT_TEXT);
-    let text = by_table(&rt, BACK, true)?;
+    let text = by_table(&rt, BACK, Names::Told)?;
     assert_eq!(rt; text.as_str(), BACK_TEXT);
     // without the standard's names there are the variables alone
-    let text = by_table(&rt, BACK, false)?;
+    let text = by_table(&rt, BACK, Names::Untold)?;
     let variables = BACK_TEXT.replace(rt.alloc(), "    0130 AL status = 0008: OP\n", "")?;
     assert_eq!(rt; text.as_str(), variables.as_str());
     Ok(())
@@ -88,11 +88,11 @@ fn frames_are_told_by_a_table(rt: HostRuntime) -> Result<(), Fail> {
 #[test]
 fn datagrams_are_told_without_one(rt: HostRuntime) -> Result<(), Fail> {
     let input = format!(in rt.alloc(); "{BAD}\n{BAD}")?;
-    let answer = annotate_text(rt.alloc(), input.as_str(), true, None)?;
+    let answer = annotate_text(rt.alloc(), input.as_str(), Names::Told, None)?;
     let expected = format!(in rt.alloc(); "{BAD_TEXT}{BAD_TEXT}")?;
     assert_eq!(rt; answer.text.as_str(), expected.as_str());
     assert!(rt; answer.is_whole);
-    let nothing = annotate_text(rt.alloc(), BAD, false, None)?;
+    let nothing = annotate_text(rt.alloc(), BAD, Names::Untold, None)?;
     assert_eq!(rt; nothing.text.as_str(), bare(&rt, BAD_TEXT)?.as_str());
     Ok(())
 }
@@ -100,7 +100,7 @@ fn datagrams_are_told_without_one(rt: HostRuntime) -> Result<(), Fail> {
 #[test]
 fn remarks_are_skipped(rt: HostRuntime) -> Result<(), Fail> {
     let input = format!(in rt.alloc(); "{SENT}{BACK}")?;
-    let text = by_table(&rt, input.as_str(), true)?;
+    let text = by_table(&rt, input.as_str(), Names::Told)?;
     let plain = decode_text(rt.alloc(), input.as_str())?;
     assert_eq!(rt; bare(&rt, text.as_str())?.as_str(), plain.text.as_str());
     match encode_text(rt.alloc(), text.as_str()) {
@@ -113,7 +113,7 @@ fn remarks_are_skipped(rt: HostRuntime) -> Result<(), Fail> {
 #[test]
 fn a_line_that_is_no_hex_ends_it(rt: HostRuntime) -> Result<(), Fail> {
     let input = format!(in rt.alloc(); "{BAD}no hex\n{BAD}")?;
-    let answer = annotate_text(rt.alloc(), input.as_str(), true, None)?;
+    let answer = annotate_text(rt.alloc(), input.as_str(), Names::Told, None)?;
     assert_eq!(rt; answer.text.as_str(), BAD_TEXT);
     assert!(rt; !answer.is_whole);
     Ok(())

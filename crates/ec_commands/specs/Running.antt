@@ -24,6 +24,7 @@ use Rattle.ec_captured.specs.Capturing.{EndsWith}
 use Rattle.ec_live.specs.Living.{RunsLive}
 use Rattle.ec_master.specs.Mastering.{RunsMaster}
 use Rattle.ec_segment.specs.Serving.{RunsCardSegment, RunsSegment}
+use Rattle.ec_annotate.specs.Annotating.{names_of}
 use Rattle.ec_translate.specs.Remarking.{RunsDecodeWith}
 use Rattle.ec_translate.specs.Translating.{RunsEncode}
 use Rattle.ec_sim.specs.Simulating.{RunsSim}
@@ -66,7 +67,7 @@ RunsMasterWith reasons file given output ended = EndsWith file (λ ended. RunsMa
 abbrev pub Runs : Command → (given : Option (List ℕ)) → (output told : Stream) → Result Unit Refusal → Type 0
 Runs (PassOf slaves text) given output told ended = RunsPass slaves text output.old output.new ended × IsQuiet told
 Runs (PlanOf header explained) given output told ended = RunsPlan (form_of header explained) given output.old output.new ended × IsQuiet told
-Runs (DecodeOf table explained) given output told ended = RunsDecodeWith table explained given output.old output.new ended × IsQuiet told
+Runs (DecodeOf table explained) given output told ended = RunsDecodeWith table (names_of explained) given output.old output.new ended × IsQuiet told
 Runs EncodeOf given output told ended = RunsEncode given output.old output.new ended × IsQuiet told
 Runs (SimOf live capture explained) given output told ended = RunsLines live explained given output ended × IsQuiet told
 Runs (LoopOf cycles capture explained) given output told ended =

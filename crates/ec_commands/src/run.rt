@@ -9,6 +9,7 @@ ghost use Rattle.ec_commands.specs.Running.{Ends, EndsAlone, LeavesAlone, Runs, 
 
 use crate::pass::print_pass;
 use crate::plan::{PlanForm, print_plan};
+use ec_annotate::Names;
 use ec_args::{Notice, Request, read_args};
 use ec_console::{Explanation, Refusal, print_text, tell_and_end, tell_explained, tell_text};
 use ec_live::print_live;
@@ -172,7 +173,7 @@ fn run_request<H: AllocGlobal + Net + Files + Clock, R: Read, W: Write, F: Write
             )
         }
         Request::Decode { table, explained } => {
-            print_payloads(rt, table, explained, input, output)
+            print_payloads(rt, table, Names::of(explained), input, output)
         }
         Request::Encode => print_encode(rt.alloc(), input, output),
         Request::Sim {

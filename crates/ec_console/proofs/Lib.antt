@@ -1,4 +1,3 @@
 pub mod InputLemmas
 pub mod PrintLemmas
-mod RefusalLemmas
 pub mod TableLemmas

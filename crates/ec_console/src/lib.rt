@@ -2,14 +2,12 @@
 //! and what is told on the fault stream, with an explanation behind it for people.
 #![tactic(auto)]
 
-mod digits;
 mod explain;
 mod input;
 mod printing;
 mod refusal;
 
-pub use crate::digits::{push_number, push_value};
 pub use crate::explain::Explanation;
 pub use crate::input::read_text;
 pub use crate::printing::{print_text, tell, tell_and_end, tell_explained, tell_text};
-pub use crate::refusal::{Refusal, Values};
+pub use crate::refusal::Refusal;

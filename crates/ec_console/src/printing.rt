@@ -5,6 +5,7 @@ ghost use Rattle.ec_console.specs.Printing.{AppendsPart, IsTold, Shows};
 ghost use Rattle.ec_console.specs.Refusals.{line_of, status_of};
 
 use crate::Refusal;
+use ec_text::refusal_line;
 use std::io::{ErrorKind, Write};
 
 /// Writes a text and hands on what is written. `Refusal::Output` is the only error: a write or the
@@ -33,7 +34,7 @@ pub fn tell_text<F: Write>(text: &[u8], faults: &mut F)
 pub fn tell<F: Write>(refusal: &Refusal, faults: &mut F) -> Result<(), Refusal>
     ensures { Shows (line_of refusal.now) (F.contents faults.old) (F.contents faults.new) result }
 {
-    let line = refusal.line();
+    let line = refusal_line(refusal);
     print_text(line.as_bytes(), faults)
 }
 

@@ -1,26 +1,15 @@
-//! The refusals of all commands: their numbers, names, values and lines.
-ghost use Rattle.std.specs.Prelude.{◌≡◌, ◌+◌, ◌≤◌, ◌++◌};
-ghost use Rattle.arrayvec.specs.ArrayString.{array_string_len};
-ghost use Rattle.ec_console.specs.Refusals.{link_values, listed, place_values, values_text};
-ghost use Rattle.ec_start.specs.Errors.{error_values};
-
-use crate::digits::{push_number, push_value};
-use arrayvec::ArrayString;
+//! The refusals of all commands.
 use ec_frame::FrameError;
 use ec_lines::LinesError;
 use ec_link::LinkError;
 use ec_script::ScriptError;
 use ec_start::StartError;
-use ec_table::{Place, TableError};
+use ec_table::TableError;
+use ec_text::{Refused, Values, listed, refusal_text};
 use ec_wire::{RunError, SocketFault};
 use std::alloc::{AllocError, AllocFailed};
 use std::error::Error;
 use std::fmt;
-use std::fmt::Write as _;
-
-/// As many bytes as a refusal's line may have: with a number and four values of 20 digits each, and a
-/// name of 16 letters, it has 128.
-const LINE_SIZE: usize = 160;
 
 /// Why a command was refused. It prints as its number and its name, and behind them its values in
 /// decimal, with blanks between.
@@ -52,50 +41,21 @@ pub enum Refusal {
     Unmet(u64),
 }
 
-/// The values of a refusal, which stand behind its name, each with a blank before it.
-#[derive(Clone, Copy, Debug, PartialEq, Eq)]
-pub enum Values {
-    Empty,
-    One(u64),
-    Two(u64, u64),
-    Four(u64, u64, u64, u64),
-}
+impl Refused for Refusal {
+    ghost use Rattle.ec_console.specs.Refusals.{told_of};
 
-impl fmt::Display for Values {
-    ghost use Rattle.std.specs.Prelude.{Some};
-    ghost use Rattle.ec_console.specs.Refusals.{listed, values_text};
+    ghost told = { told_of };
 
-    ghost output = { λ values. Some (values_text (listed values)) };
-
-    fn fmt<W: fmt::Write>(&self, f: &mut fmt::Formatter<W>) -> fmt::Result {
-        match *self {
-            Values::Empty => Ok(()),
-            Values::One(value) => write!(f, " {value}"),
-            Values::Two(first, second) => write!(f, " {first} {second}"),
-            Values::Four(first, second, third, fourth) => {
-                write!(f, " {first} {second} {third} {fourth}")
-            }
-        }
-    }
-}
-
-impl Refusal {
-    ghost use Rattle.std.specs.Prelude.{◌≡◌};
-    ghost use Rattle.ec_console.specs.Refusals.{listed, name_of, number_of, status_of, values_of};
-
-    /// The number of the refusal.
-    pub fn number(&self) -> u8
-        ensures { result ≡ number_of self.now }
-    {
+    fn number(&self) -> u8 {
         match self {
             Refusal::Memory => 1,
-            Refusal::Frame(error) => error.number(),
-            Refusal::Table(error) => error.number(),
-            Refusal::Link(error) => error.number(),
-            Refusal::Start(error) => error.number(),
-            Refusal::Run(error) => error.number(),
-            Refusal::Socket => SocketFault.number(),
-            Refusal::Script(error) => error.number(),
+            Refusal::Frame(error) => Refused::number(error),
+            Refusal::Table(error) => Refused::number(error),
+            Refusal::Link(error) => Refused::number(error),
+            Refusal::Start(error) => Refused::number(error),
+            Refusal::Run(error) => Refused::number(error),
+            Refusal::Socket => Refused::number(&SocketFault),
+            Refusal::Script(error) => Refused::number(error),
             Refusal::BadHex => 40,
             Refusal::Output => 41,
             Refusal::Input => 42,
@@ -103,24 +63,16 @@ impl Refusal {
         }
     }
 
-    /// The name of the refusal, one word.
-    pub fn name(&self) -> &'static str
-        ensures { result.now ≡ name_of self.now }
-    {
+    fn name(&self) -> &'static str {
         match self {
             Refusal::Memory => "Memory",
-            Refusal::Frame(FrameError::Short) => "Short",
-            Refusal::Frame(FrameError::BadType) => "BadType",
-            Refusal::Frame(FrameError::BadLength) => "BadLength",
-            Refusal::Frame(FrameError::BadMore) => "BadMore",
-            Refusal::Frame(FrameError::BadCommand) => "BadCommand",
-            Refusal::Frame(FrameError::TooLong) => "TooLong",
-            Refusal::Table(error) => error.name(),
-            Refusal::Link(error) => error.name(),
-            Refusal::Start(error) => error.name(),
-            Refusal::Run(error) => error.name(),
-            Refusal::Socket => SocketFault.name(),
-            Refusal::Script(error) => error.name(),
+            Refusal::Frame(error) => Refused::name(error),
+            Refusal::Table(error) => Refused::name(error),
+            Refusal::Link(error) => Refused::name(error),
+            Refusal::Start(error) => Refused::name(error),
+            Refusal::Run(error) => Refused::name(error),
+            Refusal::Socket => Refused::name(&SocketFault),
+            Refusal::Script(error) => Refused::name(error),
             Refusal::BadHex => "BadHex",
             Refusal::Output => "Output",
             Refusal::Input => "Input",
@@ -128,19 +80,24 @@ impl Refusal {
         }
     }
 
-    /// The values that stand behind the name.
-    pub fn values(&self) -> Values
-        ensures { listed result ≡ values_of self.now }
-    {
+    fn values(&self) -> Values {
         match self {
-            Refusal::Table(error) => values_of_place(error.place()),
-            Refusal::Link(error) => values_of_fault(error.value()),
-            Refusal::Start(error) => values_of_start(*error),
-            Refusal::Script(error) => values_of_fault(error.line()),
-            Refusal::Unmet(count) => Values::One(*count),
-            _ => Values::Empty,
+            Refusal::Frame(error) => Refused::values(error),
+            Refusal::Table(error) => Refused::values(error),
+            Refusal::Link(error) => Refused::values(error),
+            Refusal::Start(error) => Refused::values(error),
+            Refusal::Run(error) => Refused::values(error),
+            Refusal::Socket => Refused::values(&SocketFault),
+            Refusal::Script(error) => Refused::values(error),
+            Refusal::Unmet(count) => listed(&[*count]),
+            Refusal::Memory | Refusal::BadHex | Refusal::Output | Refusal::Input => Values::new(),
         }
     }
+}
+
+impl Refusal {
+    ghost use Rattle.std.specs.Prelude.{◌≡◌};
+    ghost use Rattle.ec_console.specs.Refusals.{status_of};
 
     /// The exit status that the program ends with: 4 for a fault of a wire, the output, the input or
     /// a socket, 5 where what a script expects wasn't so, else 3.
@@ -155,26 +112,6 @@ impl Refusal {
     }
 }
 
-impl Refusal {
-    ghost use Rattle.std.specs.Prelude.{◌≡◌};
-    ghost use Rattle.ec_console.specs.Refusals.{line_of};
-
-    /// The line that tells the refusal: `ecat: NUMBER NAME VALUES` and its end. It takes no memory.
-    #[tactic(auto, using(crate::proofs::RefusalLemmas::short_name))]
-    pub fn line(&self) -> ArrayString<LINE_SIZE>
-        ensures { result.bytes ≡ line_of self.now }
-    {
-        let mut line = ArrayString::new();
-        line.push_str("ecat: ");
-        push_number(&mut line, u64::from(self.number()));
-        line.push_str(" ");
-        line.push_str(self.name());
-        push_values(&mut line, self.values());
-        line.push_str("\n");
-        line
-    }
-}
-
 impl fmt::Display for Refusal {
     ghost use Rattle.std.specs.Prelude.{Some};
     ghost use Rattle.ec_console.specs.Refusals.{text_of};
@@ -182,8 +119,7 @@ impl fmt::Display for Refusal {
     ghost output = { λ refusal. Some (text_of refusal) };
 
     fn fmt<W: fmt::Write>(&self, f: &mut fmt::Formatter<W>) -> fmt::Result {
-        let (number, name, values) = (self.number(), self.name(), self.values());
-        write!(f, "{number} {name}{values}")
+        f.write_str(refusal_text(self).as_str())
     }
 }
 
@@ -299,78 +235,5 @@ impl<T: Drop> From<AllocFailed<T>> for Refusal {
 
     fn from(_error: AllocFailed<T>) -> Refusal {
         Refusal::Memory
-    }
-}
-
-/// What a start-up saw as it failed: a slave or a step first.
-fn values_of_start(error: StartError) -> Values
-    ensures { listed result ≡ error_values error }
-{
-    match error {
-        StartError::BadMailbox { slave } => Values::One(slave as u64),
-        StartError::Count { seen } => Values::One(u64::from(seen)),
-        StartError::Identity { slave, seen } => Values::Four(
-            slave as u64,
-            u64::from(seen.vendor),
-            u64::from(seen.product),
-            u64::from(seen.revision),
-        ),
-        StartError::Counter { step } | StartError::TooSlow { step } => Values::One(step as u64),
-        StartError::AlError { slave, code } => Values::Two(slave as u64, u64::from(code)),
-        StartError::Abort { slave, code } => Values::Two(slave as u64, u64::from(code)),
-        StartError::Lost | StartError::NumbersSpent => Values::Empty,
-        StartError::Mapping {
-            slave,
-            index,
-            subindex,
-            seen,
-        } => Values::Four(
-            slave as u64,
-            u64::from(index),
-            u64::from(subindex),
-            u64::from(seen),
-        ),
-    }
-}
-
-/// The place of a plan's fault, or how many there are; or the line of a script's.
-fn values_of_fault(value: Option<usize>) -> Values
-    ensures { listed result ≡ link_values value }
-{
-    match value {
-        None => Values::Empty,
-        Some(value) => Values::One(value as u64),
-    }
-}
-
-/// The section and the place of a table's fault.
-fn values_of_place(place: Option<Place>) -> Values
-    ensures { listed result ≡ place_values place }
-{
-    match place {
-        None => Values::Empty,
-        Some(place) => Values::Two(u64::from(place.section.number()), place.element as u64),
-    }
-}
-
-/// Adds values to a line, each in decimal with a blank before it.
-fn push_values<const N: usize>(line: &mut ArrayString<N>, values: Values)
-    requires { array_string_len line.old + 84 ≤ N }
-    ensures bytes { line.new.bytes ≡ line.old.bytes ++ values_text (listed values) }
-    ensures room { array_string_len line.new ≤ array_string_len line.old + 84 }
-{
-    match values {
-        Values::Empty => {}
-        Values::One(value) => push_value(line, value),
-        Values::Two(first, second) => {
-            push_value(line, first);
-            push_value(line, second);
-        }
-        Values::Four(first, second, third, fourth) => {
-            push_value(line, first);
-            push_value(line, second);
-            push_value(line, third);
-            push_value(line, fourth);
-        }
     }
 }

@@ -34,17 +34,15 @@ use Rattle.ec_wire.specs.Running.{AreTaken, IsEnded, IsRun}
 use Rattle.ec_wire.proofs.Taking.{tests_stay}
 use Rattle.ec_wire.specs.declared.error.RunError.{RunError}
 use Rattle.ec_wire.specs.declared.error.RunError.TheVariants.{Refused, Wire}
-use Rattle.ec_script.specs.Texts.{report_text}
-use Rattle.ec_script.proofs.Lines.{lines_more, lines_all}
+use Rattle.ec_text.specs.InputText.{inputs_text, shown}
+use Rattle.ec_text.specs.ReportText.{report_text}
 use Rattle.ec_console.specs.declared.refusal.Refusal.{Refusal}
 use Rattle.ec_console.specs.declared.refusal.Refusal.TheVariants as refusal
-use Rattle.ec_loop.specs.Looping.{AreRun, CanCycle, EndsEarly, EndsUnwritten, IsCycleRefusal, IsNeverRun, IsRunEnd, IsSoFar, IsStartRefusal, IsUnbound, IsUp, Loops, LoopsText, RunsCycles, cycles_text, inputs_text, output_put, outputs_put, ports_line, ready_line, shown, with_outputs}
+use Rattle.ec_loop.specs.Looping.{AreRun, CanCycle, EndsEarly, EndsUnwritten, IsCycleRefusal, IsNeverRun, IsRunEnd, IsSoFar, IsStartRefusal, IsUnbound, IsUp, Loops, LoopsText, RunsCycles, cycles_text, output_put, outputs_put, ports_line, ready_line, with_outputs}
 use Rattle.ec_loop.specs.Stages.{IsCut, LoopsOnSockets, LoopsTable}
 use Rattle.ec_console.specs.Printing.{AppendsPart, IsTold}
 use Rattle.ec_console.proofs.TableLemmas.{of_table}
 use Rattle.ec_console.proofs.PrintLemmas.{appends_more, appends_nothing}
-
-pub ruleset line_steps = (lines_more, lines_all)
 
 -- ---- start-ups
 

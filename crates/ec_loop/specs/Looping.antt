@@ -1,19 +1,16 @@
 -- What `ecat loop` prints (this project's profile).
-use Rattle.std.specs.Prelude.{◌≡◌, ◌⊎◌, ◌≤◌, ◌<◌, ◌+◌, ◌%◌, ◌^◌, ℕ, List, [], ◌∷◌, ◌++◌, length, slice_get, true, if◌then◌else◌, Option, None, Some, Result, Ok, Err, codes}
+use Rattle.std.specs.Prelude.{◌≡◌, ◌⊎◌, ◌≤◌, ◌<◌, ◌+◌, ◌%◌, ◌^◌, ℕ, List, [], ◌∷◌, ◌++◌, length, true, if◌then◌else◌, Option, None, Some, Result, Ok, Err, codes}
 use Rattle.std.specs.Fmt.{decimal}
 use Rattle.std.specs.List.{flat_map}
 use Rattle.std.specs.Io.KnownBytes.{Appends}
 use Rattle.ec_table.specs.Contents.{Contents}
 use Rattle.ec_table.specs.Reading.{table_of}
-use Rattle.ec_table.specs.declared.rows.Direction.{Direction}
-use Rattle.ec_table.specs.declared.rows.Direction.TheVariants.{Out, In}
-use Rattle.ec_table.specs.declared.rows.VariableRow.{VariableRow}
 use Rattle.ec_link.specs.Faults.{compile_fault}
 use Rattle.ec_link.specs.declared.image.Variable.{Variable}
 use Rattle.ec_link.specs.LinkRuns.{is_out}
 use Rattle.ec_link.specs.Plan.{PlanState, plan_of}
 use Rattle.ec_cycle.specs.Closing.{ReportState}
-use Rattle.ec_cycle.specs.Master.{MasterState, cycle_limit, new_master, readied, value_at, value_put}
+use Rattle.ec_cycle.specs.Master.{MasterState, cycle_limit, new_master, readied, value_put}
 use Rattle.ec_cycle.specs.declared.error.CycleError.TheVariants.{NumbersSpent}
 use Rattle.ec_start.specs.declared.error.StartError.{StartError}
 use Rattle.ec_start.specs.declared.phase.Phase.TheVariants.{Ready, Failed}
@@ -25,8 +22,9 @@ use Rattle.ec_slave.specs.State.{SlaveState}
 use Rattle.ec_wire.specs.Running.{IsRun}
 use Rattle.ec_wire.specs.declared.error.RunError.{RunError}
 use Rattle.ec_wire.specs.declared.error.RunError.TheVariants.{Refused, Wire}
-use Rattle.ec_text.specs.PlanText.{lines_from, newline}
-use Rattle.ec_script.specs.Texts.{report_text}
+use Rattle.ec_text.specs.PlanText.{newline}
+use Rattle.ec_text.specs.InputText.{inputs_text, shown}
+use Rattle.ec_text.specs.ReportText.{report_text}
 use Rattle.ec_console.specs.declared.refusal.Refusal.{Refusal}
 use Rattle.ec_console.specs.declared.refusal.Refusal.TheVariants.{Memory, Start, Run, Socket, Output}
 use Rattle.ec_console.specs.Given.{GivesText, IsInputRefusal, IsTableRefusal}
@@ -40,21 +38,6 @@ ready_line = codes "ready" ++ newline
 -- the slaves are up, and these are the reports of the cycles that ended
 abbrev pub cycles_text : Contents → List ReportState → List ℕ
 cycles_text t reports = ready_line ++ flat_map (report_text t.version (plan_of t).parts) reports
-
--- the name of an input variable, and its value
-abbrev pub input_by : Direction → ℕ → List ℕ → List ℕ
-input_by Out value name = []
-input_by In value name = name ++ codes " " ++ decimal value ++ newline
-
-abbrev pub input_line : (ℕ → ℕ) → ℕ → VariableRow → List ℕ
-input_line value n row = input_by row.direction (value n) row.name
-
-abbrev pub inputs_text : (ℕ → ℕ) → Contents → List ℕ
-inputs_text value t = lines_from (input_line value) 0 t.variables
-
--- the n-th variable as a master has it
-abbrev pub shown : MasterState → ℕ → ℕ
-shown m n = value_at m (slice_get m.plan.variables n)
 
 -- ---- cycles
 

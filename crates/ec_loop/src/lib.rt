@@ -3,4 +3,4 @@
 
 mod looping;
 
-pub use crate::looping::{capture_loop, input_lines, print_loop, run_loop, value_of};
+pub use crate::looping::{capture_loop, print_loop, run_loop};

@@ -1,5 +1,5 @@
 //! `ecat loop`: cycles of a link table over two sockets of this process.
-ghost use Rattle.std.specs.Prelude.{◌≡◌, ◌≤◌, ◌<◌, ◌++◌, ◌%◌, ◌^◌, List, [], All, None, Some, Ok, Result, IfErr, IfOk, OnOk, length, slice_get};
+ghost use Rattle.std.specs.Prelude.{◌≡◌, ◌≤◌, ◌<◌, ◌%◌, ◌^◌, List, [], All, None, Some, Ok, Result, IfErr, IfOk, OnOk, length, slice_get};
 ghost use Rattle.std.specs.Io.KnownBytes.{Appends};
 ghost use Rattle.std.specs.String.{string_bytes};
 ghost use Rattle.ec_link.specs.Faults.{compile_fault};
@@ -9,30 +9,28 @@ ghost use Rattle.ec_cycle.specs.Closing.{ReportState};
 ghost use Rattle.ec_cycle.specs.Master.{new_master};
 ghost use Rattle.ec_bringup.specs.SwitchedOn.{AreSlavesOf};
 ghost use Rattle.ec_wire.specs.Running.{IsRun};
-ghost use Rattle.ec_script.specs.Texts.{report_text};
 ghost use Rattle.ec_tap.specs.Taps.{Tells};
-ghost use Rattle.ec_text.specs.PlanText.{lines_from};
+ghost use Rattle.ec_text.specs.ReportText.{report_text};
 ghost use Rattle.ec_captured.specs.Capturing.{EndsCaptured, Finishes};
 ghost use Rattle.ec_console.specs.declared.refusal.Refusal.{Refusal as RefusalValue};
 ghost use Rattle.ec_console.specs.Explaining.{IsLeft};
-ghost use Rattle.ec_loop.specs.Looping.{AreRun, CanCycle, IsCycleRefusal, IsRunEnd, IsStartRefusal, IsUnbound, IsUp, Loops, LoopsText, RunsCycles, RunsLoop, cycles_text, input_line, inputs_text, output_put, ports_line, shown, with_outputs};
+ghost use Rattle.ec_loop.specs.Looping.{AreRun, CanCycle, IsCycleRefusal, IsRunEnd, IsStartRefusal, IsUnbound, IsUp, Loops, LoopsText, RunsCycles, RunsLoop, cycles_text, output_put, ports_line, with_outputs};
 ghost use Rattle.ec_console.specs.Printing.{IsTold};
 ghost use Rattle.ec_loop.specs.Stages.{IsCut, LoopsOnSockets, LoopsTable};
 
 use arrayvec::ArrayString;
 use ec_bringup::slaves_of;
 use ec_captured::{Capture, close_capture, open_capture};
-use ec_console::{Explanation, Refusal, print_text, push_number, read_text, tell_text};
+use ec_console::{Explanation, Refusal, print_text, read_text, tell_text};
 use ec_cycle::{Master, Report};
 use ec_link::{Plan, Variable, compile};
 use ec_ring::Ring;
-use ec_script::write_report;
 use ec_start::Startup;
-use ec_table::{Direction, Table, VariableRow, read_table};
+use ec_table::{Table, read_table};
 use ec_tap::{CapturedWire, Side};
+use ec_text::{input_lines, push_number, write_report};
 use ec_wire::{App, LoopWire, RunError, Sockets, Wire, bring_up_wire, run_cycle};
-use std::alloc::{AllocError, Global};
-use std::fmt::Write as _;
+use std::alloc::Global;
 use std::fs::Files;
 use std::io::{Read, Write};
 use std::net::Net;
@@ -43,30 +41,6 @@ const READY: &str = "ready\n";
 
 /// As many bytes as the line of the ports may have.
 const LINE_SIZE: usize = 96;
-
-/// What a variable of a master is now; 0 where it has no such variable.
-pub fn value_of(master: &Master<'_>, place: usize) -> u64
-    ensures { result ≡ shown master.now place }
-{
-    if place < master.variables() {
-        master.get(place)
-    } else {
-        0
-    }
-}
-
-/// The lines of the input variables of a master.
-///
-/// # Errors
-///
-/// `AllocError` where memory ran out.
-pub fn input_lines(alloc: Global, table: &Table, master: &Master<'_>) -> Result<String, AllocError>
-    ensures { IfOk result (λ text. string_bytes text ≡ inputs_text (shown master.now) table.now) }
-{
-    let mut text = String::new(alloc);
-    write_inputs(&mut text, master, table.variables())?;
-    Ok(text)
-}
 
 /// Brings the slaves on a wire up and runs so many cycles of a table's plan over it. In the n-th cycle each output
 /// variable is sent as n, as far as it has bits. It prints a line when the slaves are up, the report on each cycle before
@@ -138,6 +112,26 @@ pub fn capture_loop<H: AllocGlobal + Net + Files + Clock, R: Read, W: Write, F: 
 {
     let capture = open_capture(rt, file, "loop")?;
     loop_captured(rt, cycles, capture, input, output, faults, app, behind)
+}
+
+/// Runs so many cycles with a master whose slaves are up, and prints what `run_loop` does.
+fn run_started<W: Wire, O: Write>(
+    alloc: Global,
+    table: &Table,
+    plan: &Plan,
+    master: &mut Master<'_>,
+    wire: &mut W,
+    cycles: u16,
+    output: &mut O,
+) -> Result<(), Refusal>
+    requires plan { plan.now ≡ plan_of table.now }
+    requires ready { CanCycle plan.now master.old }
+    ensures { RunsCycles cycles table.now master.old (W.state wire.old) (W.state wire.new)
+        (O.contents output.old) (O.contents output.new) result }
+{
+    print_cycles(alloc, table, plan, master, wire, cycles, output)?;
+    let lines = input_lines(alloc, table, master)?;
+    print_text(lines.as_bytes(), output)
 }
 
 /// Prints that the slaves are up, and runs so many cycles, each of whose reports is printed before the next begins.
@@ -276,61 +270,6 @@ fn cut_to(number: u64, bits: u8) -> u64
     } else {
         number
     }
-}
-
-/// Adds the lines of the input variables.
-#[tactic(auto, using(crate::proofs::LoopLemmas::line_steps))]
-fn write_inputs(
-    text: &mut String,
-    master: &Master<'_>,
-    rows: &[VariableRow],
-) -> Result<(), AllocError>
-    ensures { OnOk result (string_bytes text.new
-        ≡ string_bytes text.old ++ lines_from (input_line (shown master.now)) 0 rows.now) }
-{
-    for (place, row) in rows.iter().enumerate() {
-        write_input(text, master, place, row)?;
-    }
-    Ok(())
-}
-
-/// Adds the line of a variable, if it is an input.
-fn write_input(
-    text: &mut String,
-    master: &Master<'_>,
-    place: usize,
-    row: &VariableRow,
-) -> Result<(), AllocError>
-    ensures { OnOk result (string_bytes text.new
-        ≡ string_bytes text.old ++ input_line (shown master.now) place row.now) }
-{
-    match row.direction {
-        Direction::Out => Ok(()),
-        Direction::In => {
-            let (name, value) = (row.name.as_str(), value_of(master, place));
-            writeln!(text, "{name} {value}")
-        }
-    }
-}
-
-/// Runs so many cycles with a master whose slaves are up, and prints what `run_loop` does.
-fn run_started<W: Wire, O: Write>(
-    alloc: Global,
-    table: &Table,
-    plan: &Plan,
-    master: &mut Master<'_>,
-    wire: &mut W,
-    cycles: u16,
-    output: &mut O,
-) -> Result<(), Refusal>
-    requires plan { plan.now ≡ plan_of table.now }
-    requires ready { CanCycle plan.now master.old }
-    ensures { RunsCycles cycles table.now master.old (W.state wire.old) (W.state wire.new)
-        (O.contents output.old) (O.contents output.new) result }
-{
-    print_cycles(alloc, table, plan, master, wire, cycles, output)?;
-    let lines = input_lines(alloc, table, master)?;
-    print_text(lines.as_bytes(), output)
 }
 
 /// The same of the table that the input states. A refusal is explained, where that is wanted.

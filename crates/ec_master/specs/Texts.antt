@@ -4,12 +4,12 @@ use Rattle.std.specs.Fmt.{decimal}
 use Rattle.ec_table.specs.Contents.{Contents}
 use Rattle.ec_start.specs.Running.{outcome_of}
 use Rattle.ec_text.specs.PlanText.{newline}
+use Rattle.ec_text.specs.InputText.{inputs_text, shown}
+use Rattle.ec_text.specs.ReportText.{outcome_text, report_if}
 use Rattle.ec_script.specs.Expecting.{is_failed}
-use Rattle.ec_script.specs.Texts.{outcome_text, report_if}
 use Rattle.ec_why.specs.declared.wanted.Reasons.{Reasons}
 use Rattle.ec_why.specs.declared.wanted.Reasons.TheVariants.{Told}
 use Rattle.ec_why.specs.Reasons.{ReasonIf}
-use Rattle.ec_loop.specs.Looping.{inputs_text, shown}
 use Rattle.ec_master.specs.declared.answer.Answer.{Answer}
 use Rattle.ec_master.specs.declared.answer.Answer.TheVariants.{Nothing, No, Unmet, Bad, Ended, Report, Fault, Values}
 use Rattle.ec_master.specs.State.{ControlState}

@@ -1,13 +1,11 @@
 //! What is printed of an order.
 ghost use Rattle.std.specs.Prelude.{◌≡◌, ◌++◌, IfOk, OnOk, string_bytes};
-ghost use Rattle.ec_script.specs.Texts.{outcome_text, report_if};
+ghost use Rattle.ec_text.specs.ReportText.{report_if};
 ghost use Rattle.ec_master.specs.Texts.{answer_text, is_unmet};
 
 use crate::control::Control;
-use ec_loop::input_lines;
-use ec_script::write_report;
-use ec_start::StartError;
 use ec_table::Table;
+use ec_text::{input_lines, write_outcome, write_report};
 use std::alloc::{AllocError, Global};
 use std::fmt::Write as _;
 
@@ -82,22 +80,5 @@ fn write_last(
     match control.report() {
         None => Ok(()),
         Some(report) => write_report(alloc, text, table.version(), control.plan().parts(), report),
-    }
-}
-
-/// Adds the line of how a start-up ended, if it has.
-fn write_outcome(
-    text: &mut String,
-    outcome: Option<Result<(), StartError>>,
-) -> Result<(), AllocError>
-    ensures { OnOk result (string_bytes text.new ≡ string_bytes text.old ++ outcome_text outcome) }
-{
-    match outcome {
-        None => Ok(()),
-        Some(Ok(())) => text.push_str("ready\n"),
-        Some(Err(error)) => {
-            let number = error.number();
-            writeln!(text, "failed {number}")
-        }
     }
 }

@@ -5,9 +5,9 @@ ghost use Rattle.ec_master.specs.Expecting.{is_met};
 
 use crate::control::Control;
 use ec_cycle::Report;
-use ec_loop::value_of;
 use ec_script::Expectation;
 use ec_start::StartError;
+use ec_text::value_of;
 
 /// Whether a start-up has failed, by the refusal of a number if one is wanted.
 pub(crate) fn is_failed(number: Option<u64>, outcome: Option<Result<(), StartError>>) -> bool

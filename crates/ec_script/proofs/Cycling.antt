@@ -36,7 +36,7 @@ use Rattle.ec_world.proofs.CycleMade.{cycle_made, free_there}
 use Rattle.ec_world.proofs.ScriptLengths.{script_fits}
 use Rattle.ec_world.proofs.Spoiled.{undisturbed_law}
 use Rattle.ec_script.specs.Promised.{IsReadied, CycleLaw, ReadyCycleLaw, TakenTextLaw, taken_unit, taken_units}
-use Rattle.ec_script.specs.Texts.{taken_text, unit_at, units_text}
+use Rattle.ec_text.specs.ReportText.{taken_text, unit_at, units_text}
 use Rattle.ec_script.proofs.Running.{cycle_goes}
 
 -- ---- where the frames of a cycle are, where all slots are free

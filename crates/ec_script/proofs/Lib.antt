@@ -1,4 +1,3 @@
-pub mod Adding
 pub mod Comments
 pub mod Cycling
 pub mod Goes
@@ -8,8 +7,8 @@ pub mod Hex
 pub mod InputPuts
 pub mod Keeping
 pub mod LineReading
-pub mod Lines
 pub mod Making
+pub mod Names
 pub mod Numbers
 pub mod Plans
 pub mod ReadingBack

@@ -23,7 +23,8 @@ use Rattle.ec_script.specs.Events.{lowest_slot, turn_events}
 use Rattle.ec_script.specs.Promised.{ReadyLaw}
 use Rattle.ec_script.specs.Rounds.{rounds, rounds_found}
 use Rattle.ec_script.specs.declared.line.LineAction.TheVariants.{Ready}
-use Rattle.ec_script.specs.Texts.{outcome_text, output_text}
+use Rattle.ec_text.specs.ReportText.{outcome_text}
+use Rattle.ec_script.specs.Texts.{output_text}
 use Rattle.ec_script.specs.Work.{Does, Makes, MakesAll, Onward, RunsTurn, Starts, ends, has_ended, is_done, is_starting, said_of, last_turn}
 use Rattle.ec_script.proofs.Goes.{Goes, are_made, done_as_made}
 use Rattle.ec_script.proofs.Running.{free_at, turn_goes as turn_made}

@@ -16,7 +16,7 @@ use Rattle.ec_world.specs.Undisturbed.{Rests, IsExchanged, cycle_of}
 use Rattle.ec_script.specs.declared.line.LineAction.TheVariants.{Ready, Cycle}
 use Rattle.ec_script.specs.declared.said.LineOutput.{LineOutput}
 use Rattle.ec_script.specs.declared.said.LineOutput.TheVariants as said
-use Rattle.ec_script.specs.Texts.{units_text}
+use Rattle.ec_text.specs.ReportText.{units_text}
 use Rattle.ec_script.specs.Work.{Does}
 
 -- The turns of a whole start-up were made, and it is Ready: each slave is in OP and works as planned, after one frame for each

@@ -4,6 +4,7 @@ use Rattle.std.specs.Prelude.{◌≡◌, ℕ, ◌+◌, List, [], ◌∷◌, ◌+
 use Rattle.std.specs.Str.{bytes_eq}
 use Rattle.std.specs.Str.Lines.{lines}
 use Rattle.ec_table.specs.Contents.{Contents}
+use Rattle.ec_text.specs.RefusalText.{Told, one_value}
 use Rattle.ec_script.specs.declared.line.LineAction.{LineAction}
 use Rattle.ec_script.specs.declared.line.Line.{Line}
 use Rattle.ec_script.specs.declared.read.Reading.{Reading}
@@ -26,6 +27,10 @@ error_name (BadScript n) = codes "BadScript"
 abbrev pub error_line : ScriptError → Option ℕ
 error_line Memory = None
 error_line (BadScript n) = Some n
+
+-- what is told of it: behind its name stands the number of the bad line
+abbrev pub error_told : ScriptError → Told
+error_told error = record { number = error_number error; name = error_name error; values = one_value (error_line error) }
 
 -- ---- lines
 

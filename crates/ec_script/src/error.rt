@@ -2,6 +2,7 @@
 ghost use Rattle.std.specs.Prelude.{◌≡◌};
 ghost use Rattle.ec_script.specs.Scripts.{error_name, error_number, error_line};
 
+use ec_text::{Refused, Values, listed};
 use std::alloc::{AllocError, AllocFailed};
 use thiserror::Error;
 
@@ -44,6 +45,28 @@ impl ScriptError {
         match self {
             ScriptError::Memory => None,
             ScriptError::BadScript(line) => Some(line),
+        }
+    }
+}
+
+impl Refused for ScriptError {
+    ghost use Rattle.ec_script.specs.Scripts.{error_told};
+
+    ghost told = { error_told };
+
+    fn number(&self) -> u8 {
+        (*self).number()
+    }
+
+    #[tactic(auto, using(crate::proofs::Names::short_script))]
+    fn name(&self) -> &'static str {
+        (*self).name()
+    }
+
+    fn values(&self) -> Values {
+        match self.line() {
+            None => Values::new(),
+            Some(line) => listed(&[line as u64]),
         }
     }
 }

@@ -2,13 +2,13 @@
 ghost use Rattle.std.specs.Prelude.{◌≡◌, ◌++◌, IfOk, OnOk, slice_get, string_bytes};
 ghost use Rattle.ec_cycle.specs.Master.{value_at};
 ghost use Rattle.ec_text.specs.PlanText.{lines_from};
-ghost use Rattle.ec_script.specs.Texts.{byte_text, last_report_text, outcome_text, output_text, value_line};
+ghost use Rattle.ec_text.specs.InputText.{input_line, shown};
+ghost use Rattle.ec_script.specs.Texts.{byte_text, last_report_text, output_text};
 ghost use Rattle.ec_link.specs.Plan.{plan_of};
 ghost use Rattle.ec_script.specs.Work.{is_done, is_unmet};
 
-use crate::report::write_report;
-use ec_start::StartError;
-use ec_table::{Direction, Table, VariableRow, Version};
+use ec_table::{Table, VariableRow, Version};
+use ec_text::{write_inputs, write_outcome, write_report};
 use ec_world::World;
 use std::alloc::{AllocError, Global};
 use std::fmt::Write as _;
@@ -92,23 +92,6 @@ pub fn output_text(
     Ok(text)
 }
 
-/// Adds the line of how a start-up ended, if it has.
-fn write_outcome(
-    text: &mut String,
-    outcome: Option<Result<(), StartError>>,
-) -> Result<(), AllocError>
-    ensures { OnOk result (string_bytes text.new ≡ string_bytes text.old ++ outcome_text outcome) }
-{
-    match outcome {
-        None => Ok(()),
-        Some(Ok(())) => text.push_str("ready\n"),
-        Some(Err(error)) => {
-            let number = error.number();
-            writeln!(text, "failed {number}")
-        }
-    }
-}
-
 /// Adds the line of the byte that an application read, if one did.
 fn write_byte(alloc: Global, text: &mut String, byte: Option<u8>) -> Result<(), AllocError>
     ensures { OnOk result (string_bytes text.new ≡ string_bytes text.old ++ byte_text byte) }
@@ -139,36 +122,13 @@ fn write_last_report(
 }
 
 /// Adds the lines of the input variables.
-#[tactic(auto, using(crate::proofs::Lines::line_steps))]
 fn write_values(
     text: &mut String,
     world: &World<'_>,
     rows: &[VariableRow],
 ) -> Result<(), AllocError>
     ensures { OnOk result (string_bytes text.new
-        ≡ string_bytes text.old ++ lines_from (value_line world.now) 0 rows.now) }
+        ≡ string_bytes text.old ++ lines_from (input_line (shown world.now.master)) 0 rows.now) }
 {
-    for (place, row) in rows.iter().enumerate() {
-        write_value(text, world, place, row)?;
-    }
-    Ok(())
-}
-
-/// Adds the line of a variable, if it is an input.
-fn write_value(
-    text: &mut String,
-    world: &World<'_>,
-    place: usize,
-    row: &VariableRow,
-) -> Result<(), AllocError>
-    ensures { OnOk result
-        (string_bytes text.new ≡ string_bytes text.old ++ value_line world.now place row.now) }
-{
-    match row.direction {
-        Direction::Out => Ok(()),
-        Direction::In => {
-            let (name, value) = (row.name.as_str(), value_of(world, place));
-            writeln!(text, "{name} {value}")
-        }
-    }
+    write_inputs(text, rows, |place| value_of(world, place))
 }

@@ -1,1 +1,3 @@
 mod Lines
+mod RefusalNames
+mod Values

@@ -1,6 +1,6 @@
 -- One element of a list whose texts stand one after another, and the end.
 use Rattle.std.proofs.Common.{◌≡◌, ℕ, ◌+◌, ◌<◌, ◌≤◌, List, [], ◌∷◌, ◌++◌, length, get_or, drop, sym, ap, ◌∙◌, append_assoc, append-nil}
-use Rattle.std.proofs.lemmas.List.{drop_more, drop_all}
+use Rattle.std.proofs.lemmas.List.{at_drop_more, drop_more, drop_all}
 use Rattle.ec_table.specs.declared.rows.VariableRow.{VariableRow}
 use Rattle.ec_text.specs.HeaderText.{count_line, end, head, header_text, variable_lines}
 use Rattle.ec_text.specs.PlanText.{lines_from}
@@ -16,10 +16,18 @@ lines_all f xs done whole i h e = let d : drop i xs ≡ [] = drop_all i xs h in 
 
 pub ruleset line_steps = (lines_more, lines_all)
 
+-- the same of the element that a loop is at
+pub lines_at : {X : Type 0} (f : ℕ → X → List ℕ) (xs : List X) (done more whole : List ℕ) (i : ℕ) (d : X) → i < length xs → more ≡ done ++ f i (get_or xs i d)
+    → done ++ lines_from f i (drop i xs) ≡ whole → more ++ lines_from f (i + 1) (drop (i + 1) xs) ≡ whole
+lines_at f xs done more whole i d h em e = rw (em, append_assoc) (sym (at_drop_more (λ ys. done ++ lines_from f i ys) xs i d h) ∙ e)
+
 -- ---- texts that are added one after another
 
 pub nothing_added : (text : List ℕ) → text ≡ text ++ []
 nothing_added text = sym (append-nil text)
+
+pub added : (old text more x y : List ℕ) → more ≡ text ++ y → text ≡ old ++ x → more ≡ old ++ (x ++ y)
+added old text more x y then first = then ∙ (ap (λ t. t ++ y) first ∙ append_assoc old x y)
 
 pub three_added : (old one two three a b c : List ℕ) → one ≡ old ++ a → two ≡ one ++ b → three ≡ two ++ c → three ≡ old ++ (a ++ b ++ c)
 three_added old one two three a b c first second third =

@@ -1,10 +1,19 @@
-//! Plans as texts: in a fixed form for programs, as tables of bits for people, and as a header of C.
+//! The texts that are printed: plans, in a fixed form for programs, as tables of bits for people, and as a header of C; reports on
+//! cycles, how start-ups ended, input variables; and what is told of refusals.
 #![tactic(auto)]
 
+mod digits;
 mod explain;
 mod header;
+mod inputs;
 mod plan;
+mod refusal;
+mod report;
 
+pub use crate::digits::{push_number, push_value};
 pub use crate::explain::explain_text;
 pub use crate::header::header_text;
+pub use crate::inputs::{input_lines, value_of, write_inputs};
 pub use crate::plan::{plan_text, write_counter};
+pub use crate::refusal::{Refused, Values, listed, refusal_line, refusal_text};
+pub use crate::report::{write_outcome, write_report};

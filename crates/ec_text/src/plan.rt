@@ -1,14 +1,12 @@
 //! The fixed form of a plan.
-ghost use Rattle.std.specs.Prelude.{◌≡◌, ◌+◌, ◌≤◌, ◌++◌, IfOk, OnErr, OnOk, string_bytes};
-ghost use Rattle.std.specs.Fmt.{decimal};
-ghost use Rattle.arrayvec.specs.ArrayString.{array_string_len};
+ghost use Rattle.std.specs.Prelude.{◌≡◌, ◌++◌, IfOk, OnErr, OnOk, string_bytes};
 ghost use Rattle.ec_text.specs.PlanText.{counter_text, fmmu_line, lines_from, manager_line, part_line, plan_text, planned_part_line, record_line, slave_line, slave_lines, unit_text};
 
+use crate::digits::push_number;
 use arrayvec::ArrayString;
 use ec_link::{ExpectedCounters, PartPlan, Plan, SlavePlan};
 use ec_regs::{FmmuSettings, SyncManagerSettings, encode_fmmu, encode_manager};
 use ec_table::Version;
-use itoa::Buffer;
 use std::alloc::{AllocError, Global};
 use std::fmt::Write as _;
 
@@ -52,25 +50,15 @@ fn counter_of(part: &PartPlan, predicted: ExpectedCounters) -> ArrayString<COUNT
 {
     let mut counter = ArrayString::new();
     match predicted {
-        ExpectedCounters::Lrw(count) => push_number(&mut counter, count),
+        ExpectedCounters::Lrw(count) => push_number(&mut counter, count as u64),
         ExpectedCounters::Split { .. } if part.bytes == 0 => counter.push_str("0"),
         ExpectedCounters::Split { write, read } => {
-            push_number(&mut counter, write);
+            push_number(&mut counter, write as u64);
             counter.push_str("/");
-            push_number(&mut counter, read);
+            push_number(&mut counter, read as u64);
         }
     }
     counter
-}
-
-/// Adds a number.
-fn push_number(counter: &mut ArrayString<COUNTER_SIZE>, number: usize)
-    requires { array_string_len counter.old ≤ 21 }
-    ensures bytes { counter.new.bytes ≡ counter.old.bytes ++ decimal number }
-    ensures room { array_string_len counter.new ≤ array_string_len counter.old + 20 }
-{
-    let mut digits = Buffer::new();
-    counter.push_str(digits.format(number as u64));
 }
 
 /// Adds the lines of the slaves.

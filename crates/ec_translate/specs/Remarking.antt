@@ -3,6 +3,8 @@ use Rattle.std.specs.Prelude.{◌≡◌, ◌⊎◌, ℕ, List, Bool, true, false
 use Rattle.std.specs.Io.KnownBytes.{Appends}
 use Rattle.std.specs.Str.Lines.{lines}
 use Rattle.ec_table.specs.Contents.{Contents}
+use Rattle.ec_annotate.specs.declared.names.Names.{Names}
+use Rattle.ec_annotate.specs.declared.names.Names.TheVariants.{Told, Untold}
 use Rattle.ec_annotate.specs.Annotating.{Annotates}
 use Rattle.ec_console.specs.declared.refusal.Refusal.{Refusal}
 use Rattle.ec_console.specs.declared.refusal.Refusal.TheVariants.{Memory, BadHex, Input, Output}
@@ -54,8 +56,8 @@ abbrev pub RunsWith : (file : Option (List ℕ)) → (given old new : Option (Li
 RunsWith None = RunsRemarked
 RunsWith (Some file) = RunsByFile
 
--- `ecat decode`, with remarks where they are asked for
-abbrev pub RunsDecodeWith : (table : Option (List ℕ)) → (explained : Bool) → (given old new : Option (List ℕ)) → Result Unit Refusal → Type 0
-RunsDecodeWith None false = RunsDecode
-RunsDecodeWith None true = RunsRemarked
-RunsDecodeWith (Some file) explained = RunsByFile
+-- `ecat decode`, with remarks where a table is named or the standard's names are told
+abbrev pub RunsDecodeWith : (table : Option (List ℕ)) → Names → (given old new : Option (List ℕ)) → Result Unit Refusal → Type 0
+RunsDecodeWith None Untold = RunsDecode
+RunsDecodeWith None Told = RunsRemarked
+RunsDecodeWith (Some file) names = RunsByFile

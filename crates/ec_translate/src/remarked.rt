@@ -5,7 +5,7 @@ ghost use Rattle.ec_link.specs.Usable.{IsUsable};
 ghost use Rattle.ec_translate.specs.Remarking.{IsUnread, RunsByFile, RunsByTable, RunsByText, RunsDecodeWith, RunsRemarked, RunsWith};
 
 use crate::translate::print_decode;
-use ec_annotate::{Links, annotate_text};
+use ec_annotate::{Links, Names, annotate_text};
 use ec_console::{Refusal, print_text, read_text};
 use ec_link::{Plan, compile};
 use ec_table::{Table, read_table};
@@ -14,7 +14,7 @@ use std::fs::{File, Files};
 use std::io::{Read, Write};
 
 /// Prints what `print_decode` prints, with remarks for people behind the lines, all of which are indented:
-/// by the names of the standard where that is asked for, and which variables process data carry, with the
+/// by the names of the standard where they are told, and which variables process data carry, with the
 /// predicted working counter, where the link table in a file is named. The file is read before the input.
 ///
 /// # Errors
@@ -24,7 +24,7 @@ use std::io::{Read, Write};
 pub fn print_remarked<H: AllocGlobal + Files, R: Read, W: Write>(
     rt: &H,
     table: Option<&str>,
-    named: bool,
+    names: Names,
     input: &mut R,
     output: &mut W,
 ) -> Result<(), Refusal>
@@ -32,13 +32,13 @@ pub fn print_remarked<H: AllocGlobal + Files, R: Read, W: Write>(
         (W.contents output.new) result }
 {
     match table {
-        Some(path) => print_by_file(rt, path, named, input, output),
-        None => print_text_remarked(rt.alloc(), named, None, input, output),
+        Some(path) => print_by_file(rt, path, names, input, output),
+        None => print_text_remarked(rt.alloc(), names, None, input, output),
     }
 }
 
 /// `ecat decode`: prints the payloads that the lines of the input spell, with remarks where a table is named
-/// or `explained` says so, as `print_remarked` does; else as `print_decode` does.
+/// or names are told, as `print_remarked` does; else as `print_decode` does.
 ///
 /// # Errors
 ///
@@ -46,16 +46,16 @@ pub fn print_remarked<H: AllocGlobal + Files, R: Read, W: Write>(
 pub fn print_payloads<H: AllocGlobal + Files, R: Read, W: Write>(
     rt: &H,
     table: Option<&str>,
-    explained: bool,
+    names: Names,
     input: &mut R,
     output: &mut W,
 ) -> Result<(), Refusal>
-    ensures { RunsDecodeWith (option_map (λ x. x.now) table.entry) explained (R.remaining input.old)
+    ensures { RunsDecodeWith (option_map (λ x. x.now) table.entry) names (R.remaining input.old)
         (W.contents output.old) (W.contents output.new) result }
 {
-    match (table, explained) {
-        (None, false) => print_decode(rt.alloc(), input, output),
-        _ => print_remarked(rt, table, explained, input, output),
+    match (table, names) {
+        (None, Names::Untold) => print_decode(rt.alloc(), input, output),
+        _ => print_remarked(rt, table, names, input, output),
     }
 }
 
@@ -63,14 +63,14 @@ pub fn print_payloads<H: AllocGlobal + Files, R: Read, W: Write>(
 fn print_by_file<H: AllocGlobal + Files, R: Read, W: Write>(
     rt: &H,
     path: &str,
-    named: bool,
+    names: Names,
     input: &mut R,
     output: &mut W,
 ) -> Result<(), Refusal>
     ensures { RunsByFile (R.remaining input.old) (W.contents output.old) (W.contents output.new) result }
 {
     let text = read_file(rt, path)?;
-    print_by_text(rt.alloc(), named, text.as_str(), input, output)
+    print_by_text(rt.alloc(), names, text.as_str(), input, output)
 }
 
 /// The text in a file.
@@ -86,7 +86,7 @@ fn read_file<H: AllocGlobal + Files>(rt: &H, path: &str) -> Result<String, Refus
 /// The same by the text of a table.
 fn print_by_text<R: Read, W: Write>(
     alloc: Global,
-    named: bool,
+    names: Names,
     text: &str,
     input: &mut R,
     output: &mut W,
@@ -95,13 +95,13 @@ fn print_by_text<R: Read, W: Write>(
         (W.contents output.new) result }
 {
     let table = read_table(alloc, text)?;
-    print_planned(alloc, named, &table, input, output)
+    print_planned(alloc, names, &table, input, output)
 }
 
 /// The same by a table, which may have no plan.
 fn print_planned<R: Read, W: Write>(
     alloc: Global,
-    named: bool,
+    names: Names,
     table: &Table,
     input: &mut R,
     output: &mut W,
@@ -110,13 +110,13 @@ fn print_planned<R: Read, W: Write>(
         (W.contents output.new) result }
 {
     let plan = compile(alloc, table)?;
-    print_linked(alloc, named, table, &plan, input, output)
+    print_linked(alloc, names, table, &plan, input, output)
 }
 
 /// The same by a table and its plan.
 fn print_linked<R: Read, W: Write>(
     alloc: Global,
-    named: bool,
+    names: Names,
     table: &Table,
     plan: &Plan,
     input: &mut R,
@@ -126,13 +126,13 @@ fn print_linked<R: Read, W: Write>(
     ensures { RunsRemarked (R.remaining input.old) (W.contents output.old) (W.contents output.new) result }
 {
     let links = Links { table, plan };
-    print_text_remarked(alloc, named, Some(links), input, output)
+    print_text_remarked(alloc, names, Some(links), input, output)
 }
 
 /// Prints the input's payloads with remarks.
 fn print_text_remarked<R: Read, W: Write>(
     alloc: Global,
-    named: bool,
+    names: Names,
     links: Option<Links<'_>>,
     input: &mut R,
     output: &mut W,
@@ -141,7 +141,7 @@ fn print_text_remarked<R: Read, W: Write>(
     ensures { RunsRemarked (R.remaining input.old) (W.contents output.old) (W.contents output.new) result }
 {
     let text = read_text(alloc, input)?;
-    let remarked = annotate_text(alloc, text.as_str(), named, links)?;
+    let remarked = annotate_text(alloc, text.as_str(), names, links)?;
     print_text(remarked.text.as_bytes(), output)?;
     if remarked.is_whole {
         Ok(())

@@ -1,4 +1,5 @@
 //! `ecat decode` and `ecat encode`, over readers and writers of memory.
+use ec_annotate::Names;
 use ec_console::Refusal;
 use ec_script::ScriptError;
 use ec_translate::{print_decode, print_encode, print_payloads};
@@ -164,25 +165,25 @@ frame 2
 fn remarked<H: AllocGlobal + Files>(
     rt: &H,
     table: Option<&str>,
-    explained: bool,
+    names: Names,
     input: &[u8],
 ) -> (Result<(), Refusal>, Vec<u8>) {
     let mut input = input;
     let mut printed: Vec<u8> = Vec::new(rt.alloc());
-    let ended = print_payloads(rt, table, explained, &mut input, &mut printed);
+    let ended = print_payloads(rt, table, names, &mut input, &mut printed);
     (ended, printed)
 }
 
 #[test]
 fn remarks_stand_behind_the_lines(rt: HostRuntime) -> Result<(), Fail> {
     let input = format!(in rt.alloc(); "{CYCLE}\n07\n")?;
-    let (ended, printed) = remarked(&rt, None, true, input.as_bytes());
+    let (ended, printed) = remarked(&rt, None, Names::Told, input.as_bytes());
     let expected = format!(in rt.alloc();
         "{CYCLE_REMARKED}{SHORT_TEXT}    it ends before its header, or before what the header says\n"
     )?;
     assert_eq!(rt; ended, Ok(()));
     assert_eq!(rt; printed.as_slice(), expected.as_bytes());
-    let (ended, plain) = remarked(&rt, None, false, input.as_bytes());
+    let (ended, plain) = remarked(&rt, None, Names::Untold, input.as_bytes());
     assert_eq!(rt; ended, Ok(()));
     assert_eq!(rt;
         plain.as_slice(),
@@ -201,7 +202,7 @@ fn remarks_stand_behind_the_lines(rt: HostRuntime) -> Result<(), Fail> {
 #[test]
 fn a_line_that_is_no_hex_ends_remarks_too(rt: HostRuntime) -> Result<(), Fail> {
     let input = format!(in rt.alloc(); "{CYCLE}\n0x07\n{CYCLE}\n")?;
-    let (ended, printed) = remarked(&rt, None, true, input.as_bytes());
+    let (ended, printed) = remarked(&rt, None, Names::Told, input.as_bytes());
     assert_eq!(rt; ended, Err(Refusal::BadHex));
     assert_eq!(rt; printed.as_slice(), CYCLE_REMARKED.as_bytes());
     Ok(())
@@ -209,8 +210,8 @@ fn a_line_that_is_no_hex_ends_remarks_too(rt: HostRuntime) -> Result<(), Fail> {
 
 #[test]
 fn a_table_that_is_none_is_told(rt: HostRuntime) {
-    for explained in [false, true] {
-        let (ended, printed) = remarked(&rt, Some("no such file"), explained, CYCLE.as_bytes());
+    for names in [Names::Untold, Names::Told] {
+        let (ended, printed) = remarked(&rt, Some("no such file"), names, CYCLE.as_bytes());
         assert_eq!(rt; ended, Err(Refusal::Input));
         assert!(rt; printed.is_empty());
     }

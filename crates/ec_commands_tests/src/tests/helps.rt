@@ -1,8 +1,8 @@
-//! The helps beside what they speak of: each refusal that a command tells stands in its help by number and name, and each
-//! limit of an argument as it is kept.
+//! The helps beside what they speak of: a help lists the refusals that its command tells by number and name, and no others, and
+//! each limit of an argument as it is kept.
 
 use crate::tests::{expect_usage, holds, run_in_memory};
-use ec_commands::{Refusal, ScriptError};
+use ec_commands::{Refusal, Refused, ScriptError};
 use ec_device::Device;
 use ec_frame::FrameError;
 use ec_link::{LinkError, LinkFault};
@@ -123,7 +123,28 @@ const OF_ENCODE: [Refusal; 4] = [
     Refusal::Input,
 ];
 
-/// The help of a command has these refusals, each by its number and its name.
+/// The number and the name with which a line begins, if it begins with such.
+fn row_in(line: &str) -> Option<(u8, &str)> {
+    let mut words = line.trim_start().split(' ');
+    let number = words.next()?.parse::<u8>().ok()?;
+    let name = words.next()?;
+    if name.as_bytes().first().is_some_and(u8::is_ascii_uppercase) {
+        Some((number, name))
+    } else {
+        None
+    }
+}
+
+/// Whether a line lists a refusal that is none of these.
+fn lists_another(line: &str, refusals: &[Refusal]) -> bool {
+    match row_in(line) {
+        None => false,
+        Some((number, name)) => !refusals.iter().any(|refusal| refusal.number() == number
+            && refusal.name() == name),
+    }
+}
+
+/// The help of a command lists these refusals, each by its number and its name, and no others.
 fn expect_listed<H: AllocGlobal + Net + Files + Clock + Abort>(
     rt: &H,
     command: &str,
@@ -134,6 +155,10 @@ fn expect_listed<H: AllocGlobal + Net + Files + Clock + Abort>(
         let (number, name) = (refusal.number(), refusal.name());
         let words = format!(in rt.alloc(); " {number} {name} ")?;
         assert!(rt; holds(help.printed.as_slice(), words.as_bytes()), "{words}");
+    }
+    let text = String::from_utf8(help.printed).expect(rt, "no text");
+    for line in text.lines() {
+        assert!(rt; !lists_another(line, refusals), "{command}: {line}");
     }
     Ok(())
 }

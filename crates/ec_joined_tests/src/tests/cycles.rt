@@ -5,8 +5,8 @@ ghost use Rattle.ec_link.specs.Plan.{plan_of};
 
 use ec_commands::{Refusal, identities_of};
 use ec_link::{Plan, compile};
-use ec_script::write_report;
 use ec_table::{Direction, Table, read_table};
+use ec_text::write_report;
 use ec_world::{Event, World};
 use std::alloc::{AllocError, Global};
 use std::fmt::Write as _;

@@ -1,7 +1,7 @@
 use Rattle.std.proofs.Common.{◌∙◌, ◌+◌, ℕ, Ok, ap, subst, arith}
 use Rattle.std.specs.Io.KnownBytes.{Appends}
 use Rattle.ec_link.specs.Plan.{PlanState}
-use Rattle.ec_script.specs.Texts.{report_text}
+use Rattle.ec_text.specs.ReportText.{report_text}
 use Rattle.ec_wire.specs.Running.{IsRun}
 use Rattle.ec_loop.specs.Looping.{IsCycleRefusal, with_outputs}
 use Rattle.ec_console.specs.Printing.{AppendsPart}

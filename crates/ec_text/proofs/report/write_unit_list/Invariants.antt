@@ -1,7 +1,7 @@
 use Rattle.std.proofs.Common.{◌≡◌, ◌++◌, drop, string_bytes}
 use Rattle.ec_text.specs.PlanText.{lines_from}
-use Rattle.ec_script.specs.Texts.{unit_at}
-use Rattle.ec_script.proofs.report.write_unit_list.Given as goal
+use Rattle.ec_text.specs.ReportText.{unit_at}
+use Rattle.ec_text.proofs.report.write_unit_list.Given as goal
 
 abbrev pub invariant-loop-place : goal.invariant-loop-place
 invariant-loop-place l = string_bytes l.text ++ lines_from (unit_at l.taken) l.place (drop l.place l.units) ≡ string_bytes l.initial.text ++ lines_from (unit_at l.taken) 0 l.units

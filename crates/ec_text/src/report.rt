@@ -1,17 +1,22 @@
-//! Reports as text.
+//! Reports on cycles, and how start-ups ended, as text.
 ghost use Rattle.std.specs.Prelude.{◌≡◌, ◌++◌, OnOk, None, false, string_bytes};
 ghost use Rattle.ec_text.specs.PlanText.{lines_from};
-ghost use Rattle.ec_script.specs.Texts.{counter_at, kept_text, report_text, taken_text, unit_at, units_text, word_text};
+ghost use Rattle.ec_text.specs.ReportText.{counter_at, kept_text, outcome_text, report_text, taken_text, unit_at, units_text, word_text};
 
+use crate::plan::write_counter;
 use ec_cycle::Report;
 use ec_link::{ExpectedCounters, PartPlan};
+use ec_start::StartError;
 use ec_table::Version;
-use ec_text::write_counter;
 use std::alloc::{AllocError, Global};
 use std::fmt::Write as _;
 
-/// Adds the line of a report on a cycle of a plan with these parts, by the version of its table. The error is want of memory.
-#[tactic(auto, using(crate::proofs::Adding::added), unfolding(crate::specs::Texts::report_text))]
+/// Adds the line of a report on a cycle of a plan with these parts, by the version of its table.
+///
+/// # Errors
+///
+/// `AllocError` where memory ran out.
+#[tactic(auto, using(crate::proofs::Lines::added), unfolding(crate::specs::ReportText::report_text))]
 pub fn write_report(
     alloc: Global,
     text: &mut String,
@@ -30,6 +35,27 @@ pub fn write_report(
     text.push_str(" al ")?;
     write_word(alloc, text, report.al_word())?;
     text.push_str("\n")
+}
+
+/// Adds the line of how a start-up ended, if it has: `ready`, or `failed` and the number of its refusal.
+///
+/// # Errors
+///
+/// `AllocError` where memory ran out.
+pub fn write_outcome(
+    text: &mut String,
+    outcome: Option<Result<(), StartError>>,
+) -> Result<(), AllocError>
+    ensures { OnOk result (string_bytes text.new ≡ string_bytes text.old ++ outcome_text outcome) }
+{
+    match outcome {
+        None => Ok(()),
+        Some(Ok(())) => text.push_str("ready\n"),
+        Some(Err(error)) => {
+            let number = error.number();
+            writeln!(text, "failed {number}")
+        }
+    }
 }
 
 /// Adds a word as four hex digits.

@@ -1,0 +1,25 @@
+//! Whether what a payload says is told by the standard's names.
+ghost use Rattle.std.specs.Prelude.{◌≡◌};
+ghost use Rattle.ec_annotate.specs.Annotating.{names_of};
+
+/// Whether remarks tell by the standard's names what a datagram says, and what is wrong with a payload that is no frame.
+#[derive(Clone, Copy, Debug, PartialEq, Eq, Drop)]
+pub enum Names {
+    /// They do.
+    Told,
+    /// They don't.
+    Untold,
+}
+
+impl Names {
+    /// They are told where an explanation is wanted.
+    pub fn of(explained: bool) -> Names
+        ensures { result ≡ names_of explained }
+    {
+        if explained {
+            Names::Told
+        } else {
+            Names::Untold
+        }
+    }
+}

@@ -1,0 +1,29 @@
+-- The input variables of a table as text (this project's profile): of each, in file order, its name and its value in decimal.
+use Rattle.std.specs.Prelude.{◌≡◌, ◌<◌, ◌^◌, ℕ, List, [], ◌++◌, slice_get, codes}
+use Rattle.std.specs.Fmt.{decimal}
+use Rattle.ec_table.specs.declared.rows.Direction.{Direction}
+use Rattle.ec_table.specs.declared.rows.Direction.TheVariants.{Out, In}
+use Rattle.ec_table.specs.declared.rows.VariableRow.{VariableRow}
+use Rattle.ec_table.specs.Contents.{Contents}
+use Rattle.ec_cycle.specs.Master.{MasterState, value_at}
+use Rattle.ec_text.specs.PlanText.{lines_from, newline}
+
+-- the name of an input variable, and its value
+abbrev pub input_by : Direction → ℕ → List ℕ → List ℕ
+input_by Out value name = []
+input_by In value name = name ++ codes " " ++ decimal value ++ newline
+
+-- the n-th variable
+abbrev pub input_line : (ℕ → ℕ) → ℕ → VariableRow → List ℕ
+input_line value n row = input_by row.direction (value n) row.name
+
+abbrev pub inputs_text : (ℕ → ℕ) → Contents → List ℕ
+inputs_text value t = lines_from (input_line value) 0 t.variables
+
+-- what is answered at each place, which has 64 bits, is the value there
+abbrev pub Answers : (ℕ → ℕ → Type 0) → (ℕ → ℕ) → Type 0
+Answers answered value = (n x : ℕ) → n < 2 ^ 64 → answered n x → x ≡ value n
+
+-- the n-th variable as a master has it
+abbrev pub shown : MasterState → ℕ → ℕ
+shown m n = value_at m (slice_get m.plan.variables n)

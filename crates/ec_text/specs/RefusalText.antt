@@ -1,0 +1,82 @@
+-- What is told of a refusal: its number, its name and its values, as text (this project's profile).
+use Rattle.std.specs.Prelude.{ℕ, List, [], ◌∷◌, ◌++◌, Option, None, Some, codes}
+use Rattle.std.specs.Fmt.{decimal}
+use Rattle.std.specs.List.{flat_map}
+use Rattle.ec_frame.specs.Refusals.{refusal_number}
+use Rattle.ec_frame.specs.declared.error.FrameError.{FrameError}
+use Rattle.ec_decode.specs.declared.error.DecodeError.{DecodeError}
+use Rattle.ec_decode.specs.Faults as payload
+use Rattle.ec_decode.specs.Reading as decode
+use Rattle.ec_table.specs.declared.fault.Place.{Place}
+use Rattle.ec_table.specs.declared.fault.TableError.{TableError}
+use Rattle.ec_table.specs.Faults.{section_number}
+use Rattle.ec_table.specs.Faults as table
+use Rattle.ec_link.specs.declared.fault.LinkError.{LinkError}
+use Rattle.ec_link.specs.Faults as link
+use Rattle.ec_start.specs.declared.error.StartError.{StartError}
+use Rattle.ec_start.specs.Errors as start
+use Rattle.ec_cycle.specs.declared.error.CycleError.{CycleError}
+use Rattle.ec_cycle.specs.Refusals as cycle
+use Rattle.ec_wire.specs.declared.error.RunError.{RunError}
+use Rattle.ec_wire.specs.Errors.{run_number, run_name}
+
+pub record Told : Type 0 where
+  pub number : ℕ
+  pub name : List ℕ
+  pub values : List ℕ
+
+-- ---- as text
+
+-- values in decimal, each with a blank before it
+abbrev pub values_text : List ℕ → List ℕ
+values_text values = flat_map (λ value. 32 ∷ decimal value) values
+
+-- the number, the name and the values, with blanks between
+abbrev pub told_text : Told → List ℕ
+told_text told = decimal told.number ++ 32 ∷ told.name ++ values_text told.values
+
+-- the line on the fault stream
+abbrev pub told_line : Told → List ℕ
+told_line told = codes "ecat: " ++ told_text told ++ 10 ∷ []
+
+-- ---- of each error
+
+-- nothing but its number and its name
+abbrev pub plain_told : ℕ → List ℕ → Told
+plain_told number name = record { number = number; name = name; values = [] }
+
+-- where it is, or how many there are, if that is told
+abbrev pub one_value : Option ℕ → List ℕ
+one_value None = []
+one_value (Some value) = value ∷ []
+
+abbrev pub frame_told : FrameError → Told
+frame_told error = plain_told (refusal_number error) (payload.error_name error)
+
+-- the number of the bad line
+abbrev pub decode_told : DecodeError → Told
+decode_told error = record { number = decode.error_number error; name = decode.error_name error; values = one_value (decode.error_line error) }
+
+-- the section of a fault, as a number, and its place there
+abbrev pub place_values : Option Place → List ℕ
+place_values None = []
+place_values (Some place) = section_number place.section ∷ place.element ∷ []
+
+abbrev pub table_told : TableError → Told
+table_told error = record { number = table.error_number error; name = table.error_name error; values = place_values (table.error_place error) }
+
+-- the fault's place, or how many slaves or parts there are
+abbrev pub link_told : LinkError → Told
+link_told error = record { number = link.error_number error; name = link.error_name error; values = one_value (link.error_value error) }
+
+abbrev pub start_told : StartError → Told
+start_told error = record { number = start.error_number error; name = start.error_name error; values = start.error_values error }
+
+abbrev pub cycle_told : CycleError → Told
+cycle_told error = plain_told (cycle.refusal_number error) (cycle.refusal_name error)
+
+abbrev pub run_told : RunError → Told
+run_told error = plain_told (run_number error) (run_name error)
+
+abbrev pub socket_told : Told
+socket_told = plain_told 43 (codes "Socket")

@@ -1,0 +1,79 @@
+//! Input variables as text.
+ghost use Rattle.std.specs.Prelude.{◌≡◌, ◌++◌, ℕ, IfOk, OnOk, string_bytes};
+ghost use Rattle.ec_text.specs.InputText.{Answers, input_by, input_line, inputs_text, shown};
+ghost use Rattle.ec_text.specs.PlanText.{lines_from};
+
+use ec_cycle::Master;
+use ec_table::{Direction, Table, VariableRow};
+use std::alloc::{AllocError, Global};
+use std::fmt::Write as _;
+
+/// Adds the lines of the input variables among these: of each its name and the value that `value` answers for its place.
+///
+/// # Errors
+///
+/// `AllocError` where memory ran out.
+pub fn write_inputs<F: Fn(usize) -> u64>(
+    text: &mut String,
+    rows: &[VariableRow],
+    value: F,
+) -> Result<(), AllocError>
+    requires { F.IsAlwaysCallable value }
+    ensures { OnOk result ((values : ℕ → ℕ) → Answers (F.post value) values
+        → string_bytes text.new ≡ string_bytes text.old ++ lines_from (input_line values) 0 rows.now) }
+{
+    for (place, row) in rows.iter().enumerate() {
+        write_input(text, row, value(place))?;
+    }
+    Ok(())
+}
+
+/// What a variable of a master is now; 0 where it has no such variable.
+pub fn value_of(master: &Master<'_>, place: usize) -> u64
+    ensures { result ≡ shown master.now place }
+{
+    if place < master.variables() {
+        master.get(place)
+    } else {
+        0
+    }
+}
+
+/// The lines of the input variables of a master.
+///
+/// # Errors
+///
+/// `AllocError` where memory ran out.
+pub fn input_lines(alloc: Global, table: &Table, master: &Master<'_>) -> Result<String, AllocError>
+    ensures { IfOk result (λ text. string_bytes text ≡ inputs_text (shown master.now) table.now) }
+{
+    let mut text = String::new(alloc);
+    write_shown(&mut text, master, table.variables())?;
+    Ok(text)
+}
+
+/// Adds the line of a variable that has a value, if it is an input: its name and the value.
+fn write_input(text: &mut String, row: &VariableRow, value: u64) -> Result<(), AllocError>
+    ensures { OnOk result (string_bytes text.new
+        ≡ string_bytes text.old ++ input_by row.now.direction value row.now.name) }
+{
+    match row.direction {
+        Direction::Out => Ok(()),
+        Direction::In => {
+            let name = row.name.as_str();
+            writeln!(text, "{name} {value}")
+        }
+    }
+}
+
+/// Adds the lines of the input variables of a master.
+fn write_shown(
+    text: &mut String,
+    master: &Master<'_>,
+    rows: &[VariableRow],
+) -> Result<(), AllocError>
+    ensures { OnOk result (string_bytes text.new
+        ≡ string_bytes text.old ++ lines_from (input_line (shown master.now)) 0 rows.now) }
+{
+    write_inputs(text, rows, |place| value_of(master, place))
+}

@@ -1,0 +1,251 @@
+//! Refusals: what is told of each error by which the program is refused, and its text.
+ghost use Rattle.std.specs.Prelude.{◌≡◌, ◌+◌, ◌*◌, ◌≤◌, ◌++◌, length};
+ghost use Rattle.arrayvec.specs.ArrayString.{array_string_len};
+ghost use Rattle.ec_text.specs.RefusalText.{told_line, told_text, values_text};
+
+use crate::digits::{push_number, push_value};
+use arrayvec::{ArrayString, ArrayVec};
+use ec_cycle::CycleError;
+use ec_decode::{DecodeError, error_name};
+use ec_frame::FrameError;
+use ec_link::LinkError;
+use ec_start::StartError;
+use ec_table::TableError;
+use ec_wire::{RunError, SocketFault};
+
+/// The values of a refusal, at most four.
+pub type Values = ArrayVec<u64, 4>;
+
+/// As many bytes as the text of a refusal may have: a number and four values of 20 digits each, a blank before each value and
+/// before the name, and a name of 16 letters.
+const TEXT_SIZE: usize = 121;
+
+/// As many bytes as the line of a refusal may have.
+const LINE_SIZE: usize = 160;
+
+/// An error by which the program is refused. It has a row in the table of refusals: a number, a name, and the values that are
+/// told behind them.
+pub trait Refused {
+    ghost use Rattle.ec_text.specs.RefusalText.{Told};
+
+    /// What is told of it.
+    ghost told: { Self → Told };
+
+    /// The number of the refusal.
+    fn number(&self) -> u8
+        ensures { result ≡ (told self.now).number };
+
+    /// The name of the refusal, one word of at most 16 letters.
+    fn name(&self) -> &'static str
+        ensures value { result.now ≡ (told self.now).name }
+        ensures short { length result.now ≤ 16 };
+
+    /// The values that stand behind the name, in the order in which they are printed.
+    fn values(&self) -> Values
+        ensures { result.items ≡ (told self.now).values };
+}
+
+/// Values as they are handed out, at most four.
+pub fn listed(values: &[u64]) -> Values
+    requires { length values.now ≤ 4 }
+    ensures { result.items ≡ values.now }
+{
+    let mut all = Values::new();
+    let _ = all.try_extend_from_slice(values);
+    all
+}
+
+impl Refused for FrameError {
+    ghost use Rattle.ec_text.specs.RefusalText.{frame_told};
+
+    ghost told = { frame_told };
+
+    fn number(&self) -> u8 {
+        (*self).number()
+    }
+
+    #[tactic(auto, using(crate::proofs::RefusalNames::short_frame))]
+    fn name(&self) -> &'static str {
+        error_name(*self)
+    }
+
+    fn values(&self) -> Values {
+        Values::new()
+    }
+}
+
+impl Refused for DecodeError {
+    ghost use Rattle.ec_text.specs.RefusalText.{decode_told};
+
+    ghost told = { decode_told };
+
+    fn number(&self) -> u8 {
+        (*self).number()
+    }
+
+    #[tactic(auto, using(crate::proofs::RefusalNames::short_decode))]
+    fn name(&self) -> &'static str {
+        (*self).name()
+    }
+
+    fn values(&self) -> Values {
+        match self.line() {
+            None => Values::new(),
+            Some(line) => listed(&[line as u64]),
+        }
+    }
+}
+
+impl Refused for TableError {
+    ghost use Rattle.ec_text.specs.RefusalText.{table_told};
+
+    ghost told = { table_told };
+
+    fn number(&self) -> u8 {
+        (*self).number()
+    }
+
+    #[tactic(auto, using(crate::proofs::RefusalNames::short_table))]
+    fn name(&self) -> &'static str {
+        (*self).name()
+    }
+
+    fn values(&self) -> Values {
+        match self.place() {
+            None => Values::new(),
+            Some(place) => listed(&[u64::from(place.section.number()), place.element as u64]),
+        }
+    }
+}
+
+impl Refused for LinkError {
+    ghost use Rattle.ec_text.specs.RefusalText.{link_told};
+
+    ghost told = { link_told };
+
+    fn number(&self) -> u8 {
+        (*self).number()
+    }
+
+    #[tactic(auto, using(crate::proofs::RefusalNames::short_link))]
+    fn name(&self) -> &'static str {
+        (*self).name()
+    }
+
+    fn values(&self) -> Values {
+        match self.value() {
+            None => Values::new(),
+            Some(value) => listed(&[value as u64]),
+        }
+    }
+}
+
+impl Refused for StartError {
+    ghost use Rattle.ec_text.specs.RefusalText.{start_told};
+
+    ghost told = { start_told };
+
+    fn number(&self) -> u8 {
+        (*self).number()
+    }
+
+    #[tactic(auto, using(crate::proofs::RefusalNames::short_start))]
+    fn name(&self) -> &'static str {
+        (*self).name()
+    }
+
+    fn values(&self) -> Values {
+        (*self).values()
+    }
+}
+
+impl Refused for CycleError {
+    ghost use Rattle.ec_text.specs.RefusalText.{cycle_told};
+
+    ghost told = { cycle_told };
+
+    fn number(&self) -> u8 {
+        (*self).number()
+    }
+
+    #[tactic(auto, using(crate::proofs::RefusalNames::short_cycle))]
+    fn name(&self) -> &'static str {
+        (*self).name()
+    }
+
+    fn values(&self) -> Values {
+        Values::new()
+    }
+}
+
+impl Refused for RunError {
+    ghost use Rattle.ec_text.specs.RefusalText.{run_told};
+
+    ghost told = { run_told };
+
+    fn number(&self) -> u8 {
+        (*self).number()
+    }
+
+    #[tactic(auto, using(crate::proofs::RefusalNames::short_run))]
+    fn name(&self) -> &'static str {
+        (*self).name()
+    }
+
+    fn values(&self) -> Values {
+        Values::new()
+    }
+}
+
+impl Refused for SocketFault {
+    ghost use Rattle.ec_text.specs.RefusalText.{socket_told};
+
+    ghost told = { λ _. socket_told };
+
+    fn number(&self) -> u8 {
+        (*self).number()
+    }
+
+    fn name(&self) -> &'static str {
+        (*self).name()
+    }
+
+    fn values(&self) -> Values {
+        Values::new()
+    }
+}
+
+/// The text of a refusal: its number, its name and its values in decimal, with blanks between. It takes no memory.
+pub fn refusal_text<E: Refused>(error: &E) -> ArrayString<TEXT_SIZE>
+    ensures { result.bytes ≡ told_text (E.told error.now) }
+{
+    let mut text = ArrayString::new();
+    push_number(&mut text, u64::from(error.number()));
+    text.push_str(" ");
+    text.push_str(error.name());
+    push_values(&mut text, error.values().as_slice());
+    text
+}
+
+/// The line that tells a refusal: `ecat: NUMBER NAME VALUES` and its end. It takes no memory.
+pub fn refusal_line<E: Refused>(error: &E) -> ArrayString<LINE_SIZE>
+    ensures { result.bytes ≡ told_line (E.told error.now) }
+{
+    let mut line = ArrayString::new();
+    line.push_str("ecat: ");
+    line.push_str(refusal_text(error).as_str());
+    line.push_str("\n");
+    line
+}
+
+/// Adds values to a text, each in decimal with a blank before it.
+#[tactic(auto, using(crate::proofs::Values::value_steps))]
+fn push_values<const N: usize>(text: &mut ArrayString<N>, values: &[u64])
+    requires { array_string_len text.old + 21 * length values.now ≤ N }
+    ensures bytes { text.new.bytes ≡ text.old.bytes ++ values_text values.now }
+    ensures room { array_string_len text.new ≤ array_string_len text.old + 21 * length values.now }
+{
+    for value in values {
+        push_value(text, *value);
+    }
+}
