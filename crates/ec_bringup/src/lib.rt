@@ -6,5 +6,5 @@ pub mod laws;
 mod switching;
 mod turns;
 
-pub use crate::switching::{identities_of, slaves_of, switched_on};
+pub use crate::switching::{identities_of, slaves_of, slaves_of_machine, switched_on};
 pub use crate::turns::bring_up;

@@ -6,7 +6,7 @@ ghost use Rattle.ec_link.specs.Plan.{plan_of};
 ghost use Rattle.ec_bringup.specs.SwitchedOn.{AreIdentities, AreSlavesOf, switched_on};
 
 use ec_device::Identity;
-use ec_link::{Plan, SlavePlan};
+use ec_link::{Machine, Plan, SlavePlan};
 use ec_ring::Ring;
 use ec_slave::Slave;
 use ec_table::Table;
@@ -63,4 +63,15 @@ pub fn slaves_of(alloc: Global, table: &Table, plan: &Plan) -> Result<Ring, Allo
     let _version = table.version();
     let identities = identities_of(alloc, table)?;
     switched_on(alloc, plan.slaves(), identities.as_slice())
+}
+
+/// A ring of the slaves of a machine, just switched on, with the identities that its table gives them.
+///
+/// # Errors
+///
+/// `AllocError` where memory ran out.
+pub fn slaves_of_machine(alloc: Global, machine: &Machine) -> Result<Ring, AllocError>
+    ensures { IfOk result (AreSlavesOf machine.now) }
+{
+    slaves_of(alloc, machine.table(), machine.plan())
 }

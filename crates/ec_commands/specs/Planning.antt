@@ -1,8 +1,7 @@
 -- What `ecat plan` answers (this project's profile).
-use Rattle.std.specs.Prelude.{◌≡◌, ℕ, List, Bool, true, false, Option, None, Result, Ok}
+use Rattle.std.specs.Prelude.{◌≡◌, ℕ, List, Bool, true, false, Option, Result}
 use Rattle.ec_table.specs.Contents.{Contents}
-use Rattle.ec_table.specs.Reading.{table_of}
-use Rattle.ec_link.specs.Faults.{compile_fault}
+use Rattle.ec_link.specs.Machine.{StatesMachine}
 use Rattle.ec_link.specs.Plan.{plan_of}
 use Rattle.ec_text.specs.HeaderText.{header_text}
 use Rattle.ec_text.specs.PlanText.{plan_text}
@@ -24,10 +23,10 @@ IsShown Fixed table answer = answer ≡ plan_text table.version (plan_of table)
 IsShown Explained table answer = Unit {0}
 IsShown Header table answer = answer ≡ header_text table.variables
 
--- the text states a table without a fault, and this shows its plan
+-- the text states a machine, and this shows its plan
 abbrev pub IsPlanAnswer : PlanForm → List ℕ → List ℕ → Type 0
 IsPlanAnswer form text answer =
-    (table : Contents) × (table_of text ≡ Ok table) × (compile_fault table ≡ None) × IsShown form table answer
+    (table : Contents) × StatesMachine text table × IsShown form table answer
 
 -- what `ecat plan` prints, by what the input gives
 abbrev pub AnswersPlan : PlanForm → Option (List ℕ) → List ℕ → Type 0

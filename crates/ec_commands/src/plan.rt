@@ -1,16 +1,12 @@
 //! `ecat plan`: a link table on the input, and its plan.
-ghost use Rattle.std.specs.Prelude.{◌≡◌, None, IfErr, IfOk, OnOk};
+ghost use Rattle.std.specs.Prelude.{◌≡◌, IfErr, IfOk};
 ghost use Rattle.std.specs.String.{string_bytes};
 ghost use Rattle.ec_console.specs.Explaining.{IsLeft};
 ghost use Rattle.ec_commands.specs.Planning.{IsPlanAnswer, IsShown, RunsPlan, form_of};
 ghost use Rattle.ec_console.specs.Given.{IsTableRefusal};
-ghost use Rattle.ec_console.specs.Given.{IsLinkRefusal};
-ghost use Rattle.ec_link.specs.Faults.{compile_fault};
-ghost use Rattle.ec_link.specs.Plan.{plan_of};
 
-use ec_console::{Explanation, Refusal, print_text, read_text};
-use ec_link::{Plan, compile};
-use ec_table::{Table, read_table};
+use ec_console::{Explanation, Refusal, print_text, read_machine, read_text};
+use ec_link::Machine;
 use ec_text::{explain_text, header_text, plan_text};
 use std::alloc::Global;
 use std::io::{Read, Write};
@@ -44,8 +40,8 @@ pub fn show_plan(alloc: Global, form: PlanForm, text: &str) -> Result<String, Re
     ensures answer { IfOk result (λ answer. IsPlanAnswer form text.now (string_bytes answer)) }
     ensures refused { IfErr result (IsTableRefusal text.now) }
 {
-    let table = read_table(alloc, text)?;
-    show_table(alloc, form, &table)
+    let machine = read_machine(alloc, text)?;
+    text_of(alloc, form, &machine)
 }
 
 /// Prints what `show_plan` answers to all that the input gives; a refusal of it is explained, where
@@ -71,23 +67,13 @@ pub fn print_plan<R: Read, W: Write>(
     }
 }
 
-/// The plan of a table that was read, in a form.
-fn show_table(alloc: Global, form: PlanForm, table: &Table) -> Result<String, Refusal>
-    ensures accepted { OnOk result (compile_fault table.now ≡ None) }
-    ensures answer { IfOk result (λ answer. IsShown form table.now (string_bytes answer)) }
-    ensures refused { IfErr result (IsLinkRefusal table.now) }
-{
-    let plan = compile(alloc, table)?;
-    text_of(alloc, form, table, &plan)
-}
-
-/// The plan of the table in a form.
+/// The plan of a machine in a form.
 #[tactic(auto, using(crate::proofs::PlanLemmas::shown_fixed, crate::proofs::PlanLemmas::shown_explained, crate::proofs::PlanLemmas::shown_header))]
-fn text_of(alloc: Global, form: PlanForm, table: &Table, plan: &Plan) -> Result<String, Refusal>
-    requires { plan.now ≡ plan_of table.now }
-    ensures shown { IfOk result (λ answer. IsShown form table.now (string_bytes answer)) }
+fn text_of(alloc: Global, form: PlanForm, machine: &Machine) -> Result<String, Refusal>
+    ensures shown { IfOk result (λ answer. IsShown form machine.now (string_bytes answer)) }
     ensures memory { IfErr result (λ refusal. refusal ≡ Refusal.Memory) }
 {
+    let (table, plan) = (machine.table(), machine.plan());
     match form {
         PlanForm::Fixed => Ok(plan_text(alloc, table.version(), plan)?),
         PlanForm::Explained => Ok(explain_text(alloc, table, plan)?),

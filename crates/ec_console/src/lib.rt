@@ -4,10 +4,12 @@
 
 mod explain;
 mod input;
+mod machine;
 mod printing;
 mod refusal;
 
 pub use crate::explain::Explanation;
 pub use crate::input::read_text;
+pub use crate::machine::read_machine;
 pub use crate::printing::{print_text, tell, tell_and_end, tell_explained, tell_text};
 pub use crate::refusal::Refusal;

@@ -1,5 +1,5 @@
 -- Lines that are taken from an input and run as they come.
-use Rattle.std.proofs.Common.{◌≡◌, ◌∙◌, inl, inr, ℕ, ◌+◌, ◌-◌, ◌^◌, ◌<◌, ◌==◌, List, [], ◌∷◌, ◌++◌, length, min, Bool, true, false, Option, refl, sym, ap, subst, append_assoc, append-nil, length-append, arith, if◌then◌else◌, Result, Ok, Err, IfOk}
+use Rattle.std.proofs.Common.{◌≡◌, ◌∙◌, inl, inr, ℕ, ◌+◌, ◌-◌, ◌^◌, ◌<◌, ◌==◌, List, [], ◌∷◌, ◌++◌, length, min, Bool, true, false, Option, refl, sym, ap, subst, append_assoc, append-nil, length-append, arith, if◌then◌else◌, Result, Ok, Err, IfErr, IfOk, OnErr}
 use Rattle.std.specs.Io.KnownBytes.{Appends}
 use Rattle.std.proofs.lemmas.Bool.Decides.{nat_tests}
 use Rattle.ec_table.specs.Contents.{Contents}
@@ -138,10 +138,21 @@ ran true given old new reasons t w count unmet is begins counts all =
     (w, begins, subst (λ (n : ℕ). LivesOut reasons t w given n old new) none all)
 ran false given old new reasons t w count unmet is begins counts all = inr (inr (unmet, counted_some count unmet counts is, ap Unmet counts, (w, begins, all)))
 
-pub lives_ran : (r : Result Unit Refusal) (given old new : Option (List ℕ)) (reasons : Reasons) (t : Contents) (w : WorldState) (count : ℕ) → r ≡ ended_by count → BeginsAs t w
-    → (unmet : ℕ) × (count ≡ counted unmet) × LivesOut reasons t w given unmet old new → RunsLiveTable reasons t given old new r
-lives_ran r given old new reasons t w count is begins (unmet, counts, all) =
-    subst (RunsLiveTable reasons t given old new) (sym is) (ran (count == 0) given old new reasons t w count unmet refl begins counts all)
+pub lives_ran : (r : Result Unit Refusal) (given old new : Option (List ℕ)) (reasons : Reasons) (t u : Contents) (w : WorldState) (count : ℕ) → u ≡ t → r ≡ ended_by count → BeginsAs t w
+    → (unmet : ℕ) × (count ≡ counted unmet) × LivesOut reasons u w given unmet old new → RunsLiveTable reasons t given old new r
+lives_ran r given old new reasons t u w count same is begins (unmet, counts, all) =
+    let of_it : LivesOut reasons t w given unmet old new = subst (λ (x : Contents). LivesOut reasons x w given unmet old new) same all in
+    subst (RunsLiveTable reasons t given old new) (sym is) (ran (count == 0) given old new reasons t w count unmet refl begins counts of_it)
+
+-- and lines that are cut short
+pub lives_cut : {T : Type 0} (r : Result Unit Refusal) (printed : Result T Refusal) (e : Refusal) (given old new : Option (List ℕ)) (reasons : Reasons) (t u : Contents) (w : WorldState) → u ≡ t → BeginsAs t w
+    → printed ≡ Err e → OnErr printed (LivesPart reasons u w given old new) → IfErr printed IsLiveLate → IsErrAnd r (λ x. x ≡ e) → RunsLiveTable reasons t given old new r
+lives_cut (Ok done) printed e given old new reasons t u w table begins is some late same = absurd same
+lives_cut {T} (Err x) printed e given old new reasons t u w table begins is some late same =
+    let of_table : LivesPart reasons u w given old new = subst (λ (p : Result T Refusal). OnErr p (LivesPart reasons u w given old new)) is some in
+    let part : LivesPart reasons t w given old new = subst (λ (y : Contents). LivesPart reasons y w given old new) table of_table in
+    let is_late : IsLiveLate e = subst (λ (p : Result T Refusal). IfErr p IsLiveLate) is late in
+    inr (inl (subst IsLiveLate (sym same) is_late, w, begins, part))
 
 -- a text that can't be taken
 pub untaken : (reasons : Reasons) (r : Result Unit Refusal) (given mid known : Option (List ℕ)) (error : LinesError) → IsErrAnd r (λ refusal. refusal ≡ lines_refusal error) → RefusesText given mid error

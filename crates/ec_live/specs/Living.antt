@@ -1,12 +1,11 @@
 -- What `ecat sim --live` answers (this project's profile).
-use Rattle.std.specs.Prelude.{◌≡◌, ◌⊎◌, ℕ, ◌+◌, List, [], ◌∷◌, ◌++◌, length, replicate, if◌then◌else◌, Option, None, Result, Ok, Err, codes}
+use Rattle.std.specs.Prelude.{◌≡◌, ◌⊎◌, ℕ, ◌+◌, List, [], ◌∷◌, ◌++◌, length, replicate, if◌then◌else◌, Option, Result, Ok, Err, codes}
 use Rattle.std.specs.Fmt.{decimal}
 use Rattle.std.specs.Io.KnownBytes.{Appends}
 use Rattle.ec_lines.specs.declared.error.LinesError.{LinesError}
 use Rattle.ec_lines.specs.Taking.{RefusesText, TakesLine, TakesLines, TakesText, is_text_line, without_end}
 use Rattle.ec_table.specs.Contents.{Contents}
-use Rattle.ec_table.specs.Reading.{table_of}
-use Rattle.ec_link.specs.Faults.{compile_fault}
+use Rattle.ec_link.specs.Machine.{StatesMachine}
 use Rattle.ec_text.specs.PlanText.{newline}
 use Rattle.ec_world.specs.World.{WorldState}
 use Rattle.ec_script.specs.declared.read.Reading.{Reading}
@@ -92,7 +91,7 @@ RunsLiveTable reasons t given old new (Err refusal) =
 -- the input begins with a table that is accepted; or with one that is refused, or can't be taken, and nothing is printed
 abbrev pub RunsLive : Reasons → (given old new : Option (List ℕ)) → Result Unit Refusal → Type 0
 RunsLive reasons given old new ended =
-    ((mid : Option (List ℕ)) × (table : List ℕ) × TakesText given mid table × (t : Contents) × (table_of table ≡ Ok t) × (compile_fault t ≡ None) × RunsLiveTable reasons t mid old new ended)
+    ((mid : Option (List ℕ)) × (table : List ℕ) × TakesText given mid table × (t : Contents) × StatesMachine table t × RunsLiveTable reasons t mid old new ended)
     ⊎ ((refusal : Refusal) × (ended ≡ Err refusal) × (new ≡ old)
     × (((mid : Option (List ℕ)) × (table : List ℕ) × TakesText given mid table × IsTableRefusal table refusal)
     ⊎ ((mid : Option (List ℕ)) × (error : LinesError) × RefusesText given mid error × (refusal ≡ lines_refusal error))))

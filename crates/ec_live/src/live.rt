@@ -1,25 +1,23 @@
 //! `ecat sim --live`: a link table on the input, and behind its line `%%` the lines of a script, each run as it comes.
 
-ghost use Rattle.std.specs.Prelude.{◌≡◌, ◌++◌, ℕ, List, IfOk, IfErr, OnOk, OnErr, None, codes};
+ghost use Rattle.std.specs.Prelude.{◌≡◌, ◌++◌, ℕ, List, IfOk, IfErr, OnOk, OnErr, codes};
 ghost use Rattle.std.specs.Fmt.{decimal};
 ghost use Rattle.std.specs.Io.KnownBytes.{Appends};
-ghost use Rattle.ec_link.specs.Faults.{compile_fault};
 ghost use Rattle.ec_link.specs.Plan.{plan_of};
 ghost use Rattle.ec_text.specs.PlanText.{newline};
 ghost use Rattle.ec_live.specs.Living.{IsLiveLate, LivesOut, LivesPart, RunsLive, RunsLiveTable, SaysPart, SaysReading};
 ghost use Rattle.ec_console.specs.Explaining.{IsLeft};
 ghost use Rattle.ec_console.specs.Printing.{AppendsPart};
 ghost use Rattle.ec_sim.specs.Simulating.{IsLate, counted};
-ghost use Rattle.ec_live.specs.Stages.{RunsLiveRead, RunsLiveText, taken_reading};
+ghost use Rattle.ec_live.specs.Stages.{RunsLiveText, taken_reading};
 
-use ec_bringup::identities_of;
 use ec_captured::{Recording, finish_recording, open_segment};
-use ec_console::{Explanation, Refusal, print_text};
+use ec_console::{Explanation, Refusal, print_text, read_machine};
 use ec_lines::{NextLine, take_line, take_text};
-use ec_link::{Plan, compile};
+use ec_link::Machine;
 use ec_script::{Reading, read_line};
-use ec_sim::{end_of, print_line};
-use ec_table::{Table, read_table};
+use ec_sim::{end_of, print_line, world_of};
+use ec_table::Table;
 use ec_watch::Watch;
 use ec_why::Reasons;
 use ec_world::{Unwatched, Watcher, World};
@@ -56,7 +54,7 @@ pub fn print_live<H: AllocGlobal + Files, R: Read, W: Write>(
     ended
 }
 
-/// The same of the table that a text states.
+/// The same of the machine that a text states.
 fn run_live_text<H: AllocGlobal + Files, R: Read, W: Write>(
     rt: &H,
     file: Option<&str>,
@@ -68,43 +66,24 @@ fn run_live_text<H: AllocGlobal + Files, R: Read, W: Write>(
     ensures { RunsLiveText reasons text.now (R.remaining input.old) (W.contents output.old)
         (W.contents output.new) result }
 {
-    let table = read_table(rt.alloc(), text)?;
-    run_live_table(rt, file, &table, reasons, input, output)
+    let machine = read_machine(rt.alloc(), text)?;
+    run_live_machine(rt, file, &machine, reasons, input, output)
 }
 
-/// The same of a table that was read, which may have no plan.
-fn run_live_table<H: AllocGlobal + Files, R: Read, W: Write>(
+/// Runs the lines that an input gives over a new segment of a machine.
+fn run_live_machine<H: AllocGlobal + Files, R: Read, W: Write>(
     rt: &H,
     file: Option<&str>,
-    table: &Table,
+    machine: &Machine,
     reasons: Reasons,
     input: &mut R,
     output: &mut W,
 ) -> Result<(), Refusal>
-    ensures { RunsLiveRead reasons table.now (R.remaining input.old) (W.contents output.old)
+    ensures { RunsLiveTable reasons machine.now (R.remaining input.old) (W.contents output.old)
         (W.contents output.new) result }
 {
-    let plan = compile(rt.alloc(), table)?;
-    run_live_plan(rt, file, table, reasons, &plan, input, output)
-}
-
-/// Runs the lines that an input gives over a new segment of a table.
-fn run_live_plan<H: AllocGlobal + Files, R: Read, W: Write>(
-    rt: &H,
-    file: Option<&str>,
-    table: &Table,
-    reasons: Reasons,
-    plan: &Plan,
-    input: &mut R,
-    output: &mut W,
-) -> Result<(), Refusal>
-    requires accepted { compile_fault table.now ≡ None }
-    requires plan { plan.now ≡ plan_of table.now }
-    ensures { RunsLiveTable reasons table.now (R.remaining input.old) (W.contents output.old)
-        (W.contents output.new) result }
-{
-    let identities = identities_of(rt.alloc(), table)?;
-    let mut world = World::new(rt.alloc(), table, plan, identities.as_slice())?;
+    let table = machine.table();
+    let mut world = world_of(rt.alloc(), machine)?;
     let unmet = print_live_watched(rt, table, reasons, &mut world, file, input, output)?;
     end_of(unmet)
 }

@@ -1,5 +1,5 @@
 -- Cycles one after another, what they print, and how a loop ends.
-use Rattle.std.proofs.Common.{◌≡◌, ◌∙◌, inl, inr, ℕ, zero, suc, ◌+◌, ◌%◌, ◌^◌, ◌<◌, ◌≤◌, ◌==◌, ◌&&◌, not, if◌then◌else◌, get_or, slice_get, List, [], ◌∷◌, ◌++◌, length, take, Bool, true, false, Option, None, Some, is_some, nat_lt, refl, sym, ap, subst, append_assoc, append-nil, arith, Result, Ok, Err, IfErr, IfOk, OnOk, OnErr}
+use Rattle.std.proofs.Common.{◌≡◌, ◌∙◌, inl, inr, ◌⊎◌, ℕ, zero, suc, ◌+◌, ◌%◌, ◌^◌, ◌<◌, ◌≤◌, ◌==◌, ◌&&◌, not, if◌then◌else◌, get_or, slice_get, List, [], ◌∷◌, ◌++◌, length, take, Bool, true, false, Option, None, Some, is_some, nat_lt, refl, sym, ap, subst, append_assoc, append-nil, arith, Result, Ok, Err, IfErr, IfOk, OnOk, OnErr}
 use Rattle.std.proofs.Math.Nat.{mod-lt}
 use Rattle.std.proofs.lemmas.Bool.{eq-eqb, eqb-true, lt-ltb, ltb-false}
 use Rattle.std.proofs.lemmas.List.{take_more}
@@ -14,12 +14,11 @@ use Rattle.ec_table.specs.Contents.{Contents}
 use Rattle.ec_table.specs.declared.rows.Direction.{Direction}
 use Rattle.ec_table.specs.declared.rows.Direction.TheVariants.{Out, In}
 use Rattle.ec_link.specs.declared.image.Variable.{Variable}
-use Rattle.ec_table.specs.Reading.{table_of}
 use Rattle.ec_link.specs.LinkRuns.{is_out}
 use Rattle.ec_link.specs.Plan.{PlanState, plan_of}
 use Rattle.ec_start.specs.declared.phase.Phase.{Phase}
 use Rattle.ec_start.specs.declared.phase.Phase.TheVariants.{Idle, Sent, Ready, Failed}
-use Rattle.ec_link.specs.Faults.{compile_fault}
+use Rattle.ec_link.specs.Machine.{StatesMachine}
 use Rattle.ec_start.specs.declared.error.StartError.{StartError}
 use Rattle.ec_start.specs.Running.{StartState, begun, is_ended, outcome_of}
 use Rattle.ec_wire.specs.BringingUp.{IsBroughtUp}
@@ -39,9 +38,9 @@ use Rattle.ec_text.specs.ReportText.{report_text}
 use Rattle.ec_console.specs.declared.refusal.Refusal.{Refusal}
 use Rattle.ec_console.specs.declared.refusal.Refusal.TheVariants as refusal
 use Rattle.ec_loop.specs.Looping.{AreRun, CanCycle, EndsEarly, EndsUnwritten, IsCycleRefusal, IsNeverRun, IsRunEnd, IsSoFar, IsStartRefusal, IsUnbound, IsUp, Loops, LoopsText, RunsCycles, cycles_text, output_put, outputs_put, ports_line, ready_line, with_outputs}
-use Rattle.ec_loop.specs.Stages.{IsCut, LoopsOnSockets, LoopsTable}
+use Rattle.ec_loop.specs.Stages.{IsCut, LoopsOnSockets}
+use Rattle.ec_console.specs.Given.{IsTableRefusal}
 use Rattle.ec_console.specs.Printing.{AppendsPart, IsTold}
-use Rattle.ec_console.proofs.TableLemmas.{of_table}
 use Rattle.ec_console.proofs.PrintLemmas.{appends_more, appends_nothing}
 
 -- ---- start-ups
@@ -521,16 +520,14 @@ looped_between r cycles t slaves sockets ports before after old new quiet told a
   runs = runs;
 })
 
-pub on_table : (cycles : ℕ) (t : Contents) (old new quiet told : Option (List ℕ)) (r : Result Unit Refusal) → compile_fault t ≡ None → LoopsOnSockets cycles t old new quiet told r
-    → LoopsTable cycles t old new quiet told r
-on_table cycles t old new quiet told r accepted (inl loops) = inl (accepted, loops)
-on_table cycles t old new quiet told r accepted (inr (x, is, why, kept, mute)) = inr (x, is, inr why, kept, mute)
+pub looped : (cycles : ℕ) (text : List ℕ) (t : Contents) (old new quiet told : Option (List ℕ)) (r : Result Unit Refusal) → StatesMachine text t
+    → LoopsOnSockets cycles t old new quiet told r → LoopsText cycles text old new quiet told r
+looped cycles text t old new quiet told r states (inl loops) = inl (t, states, loops)
+looped cycles text t old new quiet told r states (inr (x, is, why, kept, mute)) = inr (x, is, inr why, kept, mute)
 
-pub looped : (cycles : ℕ) (text : List ℕ) (t : Contents) (old new quiet told : Option (List ℕ)) (r : Result Unit Refusal) → table_of text ≡ Ok t
-    → LoopsTable cycles t old new quiet told r → LoopsText cycles text old new quiet told r
-looped cycles text t old new quiet told r read (inl (accepted, loops)) = inl (t, read, accepted, loops)
-looped cycles text t old new quiet told r read (inr (x, is, inl link, kept, mute)) = inr (x, is, inl (of_table text t x read link), kept, mute)
-looped cycles text t old new quiet told r read (inr (x, is, inr why, kept, mute)) = inr (x, is, inr why, kept, mute)
+-- a text that states none
+pub unstated : (r : Result Unit Refusal) (x : Refusal) (cycles : ℕ) (text : List ℕ) (known quiet : Option (List ℕ)) → IsErrAnd r (λ e. e ≡ x) → IsTableRefusal text x → LoopsText cycles text known known quiet quiet r
+unstated r x cycles text known quiet is why = inr (never_run r x (λ refusal. IsTableRefusal text refusal ⊎ IsUnbound refusal) known quiet is (inl why))
 
 -- cycles over a wire whose payloads are noted are cycles over the wire
 pub tapped_loops : {W : Type 0} (state : W → WireState) (cycles : ℕ) (t : Contents) (first began after : WireState) (last : W) (old new : Option (List ℕ)) (r : Result Unit Refusal)

@@ -4,8 +4,7 @@ use Rattle.std.specs.Fmt.{decimal}
 use Rattle.std.specs.List.{flat_map}
 use Rattle.std.specs.Io.KnownBytes.{Appends}
 use Rattle.ec_table.specs.Contents.{Contents}
-use Rattle.ec_table.specs.Reading.{table_of}
-use Rattle.ec_link.specs.Faults.{compile_fault}
+use Rattle.ec_link.specs.Machine.{StatesMachine}
 use Rattle.ec_link.specs.declared.image.Variable.{Variable}
 use Rattle.ec_link.specs.LinkRuns.{is_out}
 use Rattle.ec_link.specs.Plan.{PlanState, plan_of}
@@ -181,7 +180,7 @@ IsUnbound refusal = (refusal ≡ Memory) ⊎ (refusal ≡ Socket)
 -- cycles of the table that a text states; or it is refused, or there are no sockets
 abbrev pub LoopsText : ℕ → List ℕ → (old new quiet told : Option (List ℕ)) → Result Unit Refusal → Type 0
 LoopsText cycles text old new quiet told ended =
-    ((t : Contents) × (table_of text ≡ Ok t) × (compile_fault t ≡ None) × LoopsBetween cycles t old new quiet told ended)
+    ((t : Contents) × StatesMachine text t × LoopsBetween cycles t old new quiet told ended)
     ⊎ IsNeverRun (λ refusal. IsTableRefusal text refusal ⊎ IsUnbound refusal) old new quiet told ended
 
 -- the same of what the input gives; or the input is refused

@@ -1,11 +1,9 @@
 -- What private code answers once a table was read; none of it is needed to read what is printed.
-use Rattle.std.specs.Prelude.{◌≡◌, ◌⊎◌, ℕ, List, Option, None, Result}
+use Rattle.std.specs.Prelude.{◌⊎◌, ℕ, List, Option, Result}
 use Rattle.ec_table.specs.Contents.{Contents}
-use Rattle.ec_link.specs.Faults.{compile_fault}
 use Rattle.ec_cycle.specs.Master.{MasterState}
 use Rattle.ec_wire.specs.Wires.{WireState}
 use Rattle.ec_console.specs.declared.refusal.Refusal.{Refusal}
-use Rattle.ec_console.specs.Given.{IsLinkRefusal}
 use Rattle.ec_loop.specs.Looping.{EndsEarly, EndsUnwritten, IsNeverRun, IsSoFar, IsUnbound, LoopsBetween}
 
 -- the cycles of a master are cut short
@@ -15,9 +13,3 @@ IsCut cycles t first before after old new refusal = EndsEarly cycles t first bef
 -- the cycles of a table; or there is no memory for its slaves, or no sockets
 abbrev pub LoopsOnSockets : ℕ → Contents → (old new quiet told : Option (List ℕ)) → Result Unit Refusal → Type 0
 LoopsOnSockets cycles t old new quiet told ended = LoopsBetween cycles t old new quiet told ended ⊎ IsNeverRun IsUnbound old new quiet told ended
-
--- the same of a table that was read; or it is refused
-abbrev pub LoopsTable : ℕ → Contents → (old new quiet told : Option (List ℕ)) → Result Unit Refusal → Type 0
-LoopsTable cycles t old new quiet told ended =
-    ((compile_fault t ≡ None) × LoopsBetween cycles t old new quiet told ended)
-    ⊎ IsNeverRun (λ refusal. IsLinkRefusal t refusal ⊎ IsUnbound refusal) old new quiet told ended

@@ -2,7 +2,6 @@
 ghost use Rattle.std.specs.Prelude.{◌≡◌, ◌≤◌, ◌<◌, ◌%◌, ◌^◌, List, [], All, None, Some, Ok, Result, IfErr, IfOk, OnOk, length, slice_get};
 ghost use Rattle.std.specs.Io.KnownBytes.{Appends};
 ghost use Rattle.std.specs.String.{string_bytes};
-ghost use Rattle.ec_link.specs.Faults.{compile_fault};
 ghost use Rattle.ec_link.specs.Plan.{plan_of};
 ghost use Rattle.ec_start.specs.Planned.{HasFewAssigned};
 ghost use Rattle.ec_cycle.specs.Closing.{ReportState};
@@ -16,17 +15,16 @@ ghost use Rattle.ec_console.specs.declared.refusal.Refusal.{Refusal as RefusalVa
 ghost use Rattle.ec_console.specs.Explaining.{IsLeft};
 ghost use Rattle.ec_loop.specs.Looping.{AreRun, CanCycle, IsCycleRefusal, IsRunEnd, IsStartRefusal, IsUnbound, IsUp, Loops, LoopsText, RunsCycles, RunsLoop, cycles_text, output_put, ports_line, with_outputs};
 ghost use Rattle.ec_console.specs.Printing.{IsTold};
-ghost use Rattle.ec_loop.specs.Stages.{IsCut, LoopsOnSockets, LoopsTable};
+ghost use Rattle.ec_loop.specs.Stages.{IsCut, LoopsOnSockets};
 
 use arrayvec::ArrayString;
-use ec_bringup::slaves_of;
+use ec_bringup::slaves_of_machine;
 use ec_captured::{Capture, close_capture, open_capture};
-use ec_console::{Explanation, Refusal, print_text, read_text, tell_text};
+use ec_console::{Explanation, Refusal, print_text, read_machine, read_text, tell_text};
 use ec_cycle::{Master, Report};
-use ec_link::{Plan, Variable, compile};
+use ec_link::{Machine, Plan, Variable};
 use ec_ring::Ring;
 use ec_start::Startup;
-use ec_table::{Table, read_table};
 use ec_tap::{CapturedWire, Side};
 use ec_text::{input_lines, push_number, write_report};
 use ec_wire::{App, LoopWire, RunError, Sockets, Wire, bring_up_wire, run_cycle};
@@ -42,7 +40,7 @@ const READY: &str = "ready\n";
 /// As many bytes as the line of the ports may have.
 const LINE_SIZE: usize = 96;
 
-/// Brings the slaves on a wire up and runs so many cycles of a table's plan over it. In the n-th cycle each output
+/// Brings the slaves on a wire up and runs so many cycles of a machine over it. In the n-th cycle each output
 /// variable is sent as n, as far as it has bits. It prints a line when the slaves are up, the report on each cycle before
 /// the next begins, and at the end the input variables.
 ///
@@ -52,19 +50,16 @@ const LINE_SIZE: usize = 96;
 /// run, and `Refusal::Output` where the output could not be written.
 pub fn run_loop<W: Wire, O: Write>(
     alloc: Global,
-    table: &Table,
-    plan: &Plan,
+    machine: &Machine,
     wire: &mut W,
     cycles: u16,
     output: &mut O,
 ) -> Result<(), Refusal>
-    requires accepted { compile_fault table.now ≡ None }
-    requires plan { plan.now ≡ plan_of table.now }
-    ensures { Loops cycles table.now (W.state wire.old) (W.state wire.new)
+    ensures { Loops cycles machine.now (W.state wire.old) (W.state wire.new)
         (O.contents output.old) (O.contents output.new) result }
 {
-    let mut master = started(alloc, table, plan, wire)?;
-    run_started(alloc, table, plan, &mut master, wire, cycles, output)
+    let mut master = started(alloc, machine, wire)?;
+    run_started(alloc, machine, &mut master, wire, cycles, output)
 }
 
 /// Runs so many cycles of the table that the input states, master and slaves on two sockets of this process, the slaves'
@@ -117,44 +112,40 @@ pub fn capture_loop<H: AllocGlobal + Net + Files + Clock, R: Read, W: Write, F: 
 /// Runs so many cycles with a master whose slaves are up, and prints what `run_loop` does.
 fn run_started<W: Wire, O: Write>(
     alloc: Global,
-    table: &Table,
-    plan: &Plan,
+    machine: &Machine,
     master: &mut Master<'_>,
     wire: &mut W,
     cycles: u16,
     output: &mut O,
 ) -> Result<(), Refusal>
-    requires plan { plan.now ≡ plan_of table.now }
-    requires ready { CanCycle plan.now master.old }
-    ensures { RunsCycles cycles table.now master.old (W.state wire.old) (W.state wire.new)
+    requires ready { CanCycle (plan_of machine.now) master.old }
+    ensures { RunsCycles cycles machine.now master.old (W.state wire.old) (W.state wire.new)
         (O.contents output.old) (O.contents output.new) result }
 {
-    print_cycles(alloc, table, plan, master, wire, cycles, output)?;
-    let lines = input_lines(alloc, table, master)?;
+    print_cycles(alloc, machine, master, wire, cycles, output)?;
+    let lines = input_lines(alloc, machine.table(), master)?;
     print_text(lines.as_bytes(), output)
 }
 
 /// Prints that the slaves are up, and runs so many cycles, each of whose reports is printed before the next begins.
 fn print_cycles<W: Wire, O: Write>(
     alloc: Global,
-    table: &Table,
-    plan: &Plan,
+    machine: &Machine,
     master: &mut Master<'_>,
     wire: &mut W,
     cycles: u16,
     output: &mut O,
 ) -> Result<(), Refusal>
-    requires plan { plan.now ≡ plan_of table.now }
-    requires ready { CanCycle plan.now master.old }
+    requires ready { CanCycle (plan_of machine.now) master.old }
     ensures all { OnOk result ((reports : List ReportState)
         × AreRun master.old (W.state wire.old) 1 reports master.new (W.state wire.new) × (length reports ≡ cycles)
-        × Appends (O.contents output.old) (O.contents output.new) (cycles_text table.now reports)) }
-    ensures part { IfErr result (IsCut cycles table.now master.old (W.state wire.old) (W.state wire.new)
+        × Appends (O.contents output.old) (O.contents output.new) (cycles_text machine.now reports)) }
+    ensures part { IfErr result (IsCut cycles machine.now master.old (W.state wire.old) (W.state wire.new)
         (O.contents output.old) (O.contents output.new)) }
 {
     print_text(READY.as_bytes(), output)?;
     for cycle in 0..cycles {
-        let line = cycle_line(alloc, table, plan, master, wire, u64::from(cycle) + 1)?;
+        let line = cycle_line(alloc, machine, master, wire, u64::from(cycle) + 1)?;
         print_text(line.as_bytes(), output)?;
     }
     Ok(())
@@ -163,22 +154,22 @@ fn print_cycles<W: Wire, O: Write>(
 /// The line of the report on one cycle that sends a number.
 fn cycle_line<W: Wire>(
     alloc: Global,
-    table: &Table,
-    plan: &Plan,
+    machine: &Machine,
     master: &mut Master<'_>,
     wire: &mut W,
     number: u64,
 ) -> Result<String, Refusal>
-    requires ready { CanCycle plan.now master.old }
+    requires ready { CanCycle (plan_of machine.now) master.old }
     ensures line { IfOk result (λ text. (r : ReportState)
         × IsRun (with_outputs master.old number) (W.state wire.old) (W.state wire.new) (Ok r) master.new
-        × (string_bytes text ≡ report_text table.now.version plan.now.parts r)) }
-    ensures ready { OnOk result (CanCycle plan.now master.new) }
+        × (string_bytes text ≡ report_text machine.now.version (plan_of machine.now).parts r)) }
+    ensures ready { OnOk result (CanCycle (plan_of machine.now) master.new) }
     ensures refused { IfErr result (IsCycleRefusal (with_outputs master.old number) (W.state wire.old) (W.state wire.new)) }
 {
+    let (version, plan) = (machine.table().version(), machine.plan());
     let report = run_number(plan, master, wire, number)?;
     let mut text = String::new(alloc);
-    write_report(alloc, &mut text, table.version(), plan.parts(), &report)?;
+    write_report(alloc, &mut text, version, plan.parts(), &report)?;
     Ok(text)
 }
 
@@ -198,20 +189,17 @@ fn run_number<W: Wire>(
     run_cycle(master, wire)
 }
 
-/// A master whose slaves were brought up over a wire.
+/// A master of a machine, whose slaves were brought up over a wire.
 fn started<'p, W: Wire>(
     alloc: Global,
-    table: &Table,
-    plan: &'p Plan,
+    machine: &'p Machine,
     wire: &mut W,
 ) -> Result<Master<'p>, Refusal>
-    requires accepted { compile_fault table.now ≡ None }
-    requires plan { plan.now ≡ plan_of table.now }
-    ensures ready { IfOk result (CanCycle plan.now) }
-    ensures up { IfOk result (IsUp plan.now (W.state wire.old) (W.state wire.new)) }
-    ensures refused { IfErr result (IsStartRefusal plan.now (W.state wire.old) (W.state wire.new)) }
+    ensures ready { IfOk result (CanCycle (plan_of machine.now)) }
+    ensures up { IfOk result (IsUp (plan_of machine.now) (W.state wire.old) (W.state wire.new)) }
+    ensures refused { IfErr result (IsStartRefusal (plan_of machine.now) (W.state wire.old) (W.state wire.new)) }
 {
-    let _version = table.version();
+    let plan = machine.plan();
     let mut master = Master::new(alloc, plan)?;
     bring_up_for(alloc, plan, &mut master, wire)?;
     Ok(master)
@@ -295,7 +283,7 @@ fn loop_input<H: AllocGlobal + Net + Files + Clock, R: Read, W: Write, F: Write>
     ended
 }
 
-/// Runs cycles of the table that a text states, over two sockets.
+/// Runs cycles of the machine that a text states, over two sockets.
 fn loop_text<H: AllocGlobal + Net + Files + Clock, W: Write, F: Write>(
     rt: &H,
     cycles: u16,
@@ -308,78 +296,54 @@ fn loop_text<H: AllocGlobal + Net + Files + Clock, W: Write, F: Write>(
     ensures { LoopsText cycles text.now (W.contents output.old) (W.contents output.new)
         (F.contents faults.old) (F.contents faults.new) result }
 {
-    let table = read_table(rt.alloc(), text)?;
-    loop_table(rt, cycles, capture, &table, output, faults, app)
+    let machine = read_machine(rt.alloc(), text)?;
+    loop_machine(rt, &machine, cycles, capture, output, faults, app)
 }
 
-/// Runs cycles of a table that was read, over two sockets.
-#[tactic(auto, using(crate::proofs::LoopLemmas::never_run, crate::proofs::LoopLemmas::on_table))]
-fn loop_table<H: AllocGlobal + Net + Files + Clock, W: Write, F: Write>(
-    rt: &H,
-    cycles: u16,
-    capture: &mut Capture<H::File>,
-    table: &Table,
-    output: &mut W,
-    faults: &mut F,
-    app: &mut dyn App,
-) -> Result<(), Refusal>
-    ensures { LoopsTable cycles table.now (W.contents output.old) (W.contents output.new)
-        (F.contents faults.old) (F.contents faults.new) result }
-{
-    let plan = compile(rt.alloc(), table)?;
-    loop_plan(rt, table, &plan, cycles, capture, output, faults, app)
-}
-
-/// Runs cycles of a table's plan over two sockets.
+/// Runs cycles of a machine over two sockets.
 #[tactic(auto, using(crate::proofs::LoopLemmas::no_wire, crate::proofs::LoopLemmas::looped_between))]
-fn loop_plan<H: AllocGlobal + Net + Files + Clock, W: Write, F: Write>(
+fn loop_machine<H: AllocGlobal + Net + Files + Clock, W: Write, F: Write>(
     rt: &H,
-    table: &Table,
-    plan: &Plan,
+    machine: &Machine,
     cycles: u16,
     capture: &mut Capture<H::File>,
     output: &mut W,
     faults: &mut F,
     app: &mut dyn App,
 ) -> Result<(), Refusal>
-    requires accepted { compile_fault table.now ≡ None }
-    requires plan { plan.now ≡ plan_of table.now }
-    ensures { LoopsOnSockets cycles table.now (W.contents output.old) (W.contents output.new)
+    ensures { LoopsOnSockets cycles machine.now (W.contents output.old) (W.contents output.new)
         (F.contents faults.old) (F.contents faults.new) result }
 {
-    let ends = loop_ends(rt, table, plan)?;
+    let ends = loop_ends(rt, machine)?;
     tell_ports(ends.1.ports(), faults);
     let wire = LoopWire::new(ends.1, ends.0, app);
-    run_tapped(rt, table, plan, wire, cycles, capture, output)
+    run_tapped(rt, machine, wire, cycles, capture, output)
 }
 
-/// Runs cycles of a table's plan over a wire that has carried nothing yet, and notes what it carries in a capture, if there
+/// Runs cycles of a machine over a wire that has carried nothing yet, and notes what it carries in a capture, if there
 /// is one.
 #[tactic(auto, using(crate::proofs::LoopLemmas::tapped_loops))]
 fn run_tapped<H: AllocGlobal + Files + Clock, W: Wire + Drop, O: Write>(
     rt: &H,
-    table: &Table,
-    plan: &Plan,
+    machine: &Machine,
     wire: W,
     cycles: u16,
     capture: &mut Capture<H::File>,
     output: &mut O,
 ) -> Result<(), Refusal>
-    requires accepted { compile_fault table.now ≡ None }
-    requires plan { plan.now ≡ plan_of table.now }
     requires sent { Tells (W.state wire).sent [] }
     requires received { Tells (W.state wire).received [] }
-    ensures { (last : W) × Loops cycles table.now (W.state wire) (W.state last)
+    ensures { (last : W) × Loops cycles machine.now (W.state wire) (W.state last)
         (O.contents output.old) (O.contents output.new) result }
 {
     match capture.take() {
         None => {
             let mut wire = wire;
-            run_loop(rt.alloc(), table, plan, &mut wire, cycles, output)
+            run_loop(rt.alloc(), machine, &mut wire, cycles, output)
         }
         Some(recording) => {
             let mut tapped = CapturedWire::new(wire, recording, Side::Master, rt);
-            let ended = run_loop(rt.alloc(), table, plan, &mut tapped, cycles, output);
+            let ended = run_loop(rt.alloc(), machine, &mut tapped, cycles, output);
             let (_, recording) = tapped.into_parts();
             *capture = Some(recording);
             ended
@@ -408,18 +372,12 @@ fn between(ports: (u16, u16)) -> ArrayString<LINE_SIZE>
     line
 }
 
-/// What a loop of a table runs between: its slaves, just switched on, and two sockets of this process.
-fn loop_ends<H: AllocGlobal + Net>(
-    rt: &H,
-    table: &Table,
-    plan: &Plan,
-) -> Result<(Ring, Sockets), Refusal>
-    requires accepted { compile_fault table.now ≡ None }
-    requires plan { plan.now ≡ plan_of table.now }
-    ensures slaves { IfOk result (λ ends. AreSlavesOf table.now ends.0) }
+/// What a loop of a machine runs between: its slaves, just switched on, and two sockets of this process.
+fn loop_ends<H: AllocGlobal + Net>(rt: &H, machine: &Machine) -> Result<(Ring, Sockets), Refusal>
+    ensures slaves { IfOk result (λ ends. AreSlavesOf machine.now ends.0) }
     ensures refused { IfErr result IsUnbound }
 {
-    let slaves = slaves_of(rt.alloc(), table, plan)?;
+    let slaves = slaves_of_machine(rt.alloc(), machine)?;
     let sockets = Sockets::bind(rt)?;
     Ok((slaves, sockets))
 }

@@ -1,8 +1,7 @@
 -- What `ecat master` does (this project's profile).
-use Rattle.std.specs.Prelude.{◌≡◌, ◌⊎◌, ℕ, List, Option, None, Result, Ok, Err}
+use Rattle.std.specs.Prelude.{◌≡◌, ◌⊎◌, ℕ, List, Option, Result, Ok, Err}
 use Rattle.ec_table.specs.Contents.{Contents}
-use Rattle.ec_table.specs.Reading.{table_of}
-use Rattle.ec_link.specs.Faults.{compile_fault}
+use Rattle.ec_link.specs.Machine.{StatesMachine}
 use Rattle.ec_link.specs.Plan.{plan_of}
 use Rattle.ec_wire.specs.Wires.{WireState, silent}
 use Rattle.ec_lines.specs.declared.error.LinesError.{LinesError}
@@ -42,10 +41,10 @@ RunsOnWire reasons t input old new ended = (after : WireState) × RunsOver reaso
 abbrev pub IsNeverRun : (Refusal → Type 0) → (old new : Option (List ℕ)) → Result Unit Refusal → Type 0
 IsNeverRun Refuses old new ended = (refusal : Refusal) × (ended ≡ Err refusal) × Refuses refusal × (new ≡ old)
 
--- a text states a table that has a plan, and lines behind it are done; or it is refused, or there is no such socket
+-- a text states a machine, and lines behind it are done; or it is refused, or there is no such socket
 abbrev pub RunsText : Reasons → List ℕ → (input old new : Option (List ℕ)) → Result Unit Refusal → Type 0
 RunsText reasons text input old new ended =
-    ((t : Contents) × (table_of text ≡ Ok t) × (compile_fault t ≡ None) × RunsOnWire reasons t input old new ended)
+    ((t : Contents) × StatesMachine text t × RunsOnWire reasons t input old new ended)
     ⊎ IsNeverRun (λ refusal. IsTableRefusal text refusal ⊎ (refusal ≡ Socket)) old new ended
 
 -- no text stands before a line `%%`

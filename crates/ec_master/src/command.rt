@@ -1,23 +1,20 @@
 //! `ecat master`: a link table on the input, and behind it lines that move its master over a socket or a card.
-ghost use Rattle.std.specs.Prelude.{◌≡◌, [], IfOk, None, Result};
-ghost use Rattle.ec_link.specs.Faults.{compile_fault};
-ghost use Rattle.ec_link.specs.Plan.{plan_of};
+ghost use Rattle.std.specs.Prelude.{◌≡◌, [], IfOk, Result};
 ghost use Rattle.ec_tap.specs.Taps.{Tells};
 ghost use Rattle.ec_captured.specs.Capturing.{EndsCaptured, Finishes};
 ghost use Rattle.ec_console.specs.declared.refusal.Refusal.{Refusal as RefusalValue};
 ghost use Rattle.ec_console.specs.Explaining.{IsLeft};
 ghost use Rattle.ec_master.specs.Mastering.{RunsMaster, RunsOver, RunsText};
-ghost use Rattle.ec_master.specs.Stages.{RunsPlan, RunsTable};
+ghost use Rattle.ec_master.specs.Stages.{RunsMachine};
 
 use crate::control::Control;
 use crate::saying::print_lines;
 use ec_captured::{Capture, close_capture, open_capture};
 use ec_card::{CardWire, Patience, Sender};
-use ec_console::{Explanation, Refusal};
+use ec_console::{Explanation, Refusal, read_machine};
 use ec_lines::take_text;
-use ec_link::{Plan, compile};
+use ec_link::Machine;
 use ec_sim::end_of;
-use ec_table::{Table, read_table};
 use ec_tap::{CapturedWire, Side};
 use ec_why::Reasons;
 use ec_wire::{SocketFault, UdpWire, Wire};
@@ -37,26 +34,24 @@ pub struct Connection<'a> {
     pub patience: u16,
 }
 
-/// Does the lines of an input with a new master of a table's plan over a wire, and prints what they tell.
+/// Does the lines of an input with a new master of a machine over a wire, and prints what they tell.
 ///
 /// # Errors
 ///
 /// Those of [`print_lines`], and `Refusal::Unmet` where what lines expect isn't so.
 pub fn run_master<W: Wire, R: Read, O: Write>(
     alloc: Global,
-    table: &Table,
+    machine: &Machine,
     reasons: Reasons,
-    plan: &Plan,
     wire: &mut W,
     input: &mut R,
     output: &mut O,
 ) -> Result<(), Refusal>
-    requires accepted { compile_fault table.now ≡ None }
-    requires plan { plan.now ≡ plan_of table.now }
-    ensures { RunsOver reasons table.now (W.state wire.old) (W.state wire.new) (R.remaining input.old)
+    ensures { RunsOver reasons machine.now (W.state wire.old) (W.state wire.new) (R.remaining input.old)
         (O.contents output.old) (O.contents output.new) result }
 {
-    let mut control = Control::new(alloc, table, plan)?;
+    let table = machine.table();
+    let mut control = Control::new(alloc, machine)?;
     let unmet = print_lines(alloc, table, reasons, &mut control, wire, input, output)?;
     end_of(unmet)
 }
@@ -129,7 +124,7 @@ fn run_input<H: AllocGlobal + Net + Files + Clock, R: Read, O: Write>(
     ended
 }
 
-/// The same of the table that a text states.
+/// The same of the machine that a text states.
 fn run_text<H: AllocGlobal + Net + Files + Clock, R: Read, O: Write>(
     rt: &H,
     text: &str,
@@ -141,50 +136,31 @@ fn run_text<H: AllocGlobal + Net + Files + Clock, R: Read, O: Write>(
 ) -> Result<(), Refusal>
     ensures { RunsText reasons text.now (R.remaining input.old) (O.contents output.old) (O.contents output.new) result }
 {
-    let table = read_table(rt.alloc(), text)?;
-    run_table(rt, &table, reasons, way, capture, input, output)
+    let machine = read_machine(rt.alloc(), text)?;
+    run_machine(rt, &machine, reasons, way, capture, input, output)
 }
 
-/// The same of a table that was read, which may have no plan.
-fn run_table<H: AllocGlobal + Net + Files + Clock, R: Read, O: Write>(
+/// Does the lines of an input with a new master of a machine.
+fn run_machine<H: AllocGlobal + Net + Files + Clock, R: Read, O: Write>(
     rt: &H,
-    table: &Table,
+    machine: &Machine,
     reasons: Reasons,
     way: Connection<'_>,
     capture: &mut Capture<H::File>,
     input: &mut R,
     output: &mut O,
 ) -> Result<(), Refusal>
-    ensures { RunsTable reasons table.now (R.remaining input.old) (O.contents output.old) (O.contents output.new) result }
-{
-    let plan = compile(rt.alloc(), table)?;
-    run_plan(rt, table, reasons, &plan, way, capture, input, output)
-}
-
-/// Does the lines of an input with a new master of a table's plan.
-fn run_plan<H: AllocGlobal + Net + Files + Clock, R: Read, O: Write>(
-    rt: &H,
-    table: &Table,
-    reasons: Reasons,
-    plan: &Plan,
-    way: Connection<'_>,
-    capture: &mut Capture<H::File>,
-    input: &mut R,
-    output: &mut O,
-) -> Result<(), Refusal>
-    requires accepted { compile_fault table.now ≡ None }
-    requires plan { plan.now ≡ plan_of table.now }
-    ensures { RunsPlan reasons table.now (R.remaining input.old) (O.contents output.old) (O.contents output.new) result }
+    ensures { RunsMachine reasons machine.now (R.remaining input.old) (O.contents output.old) (O.contents output.new) result }
 {
     match way.descriptor {
         None => {
             let wire = connect(rt, way)?;
-            run_tapped(rt, table, reasons, plan, wire, capture, input, output)
+            run_tapped(rt, machine, reasons, wire, capture, input, output)
         }
         Some(descriptor) => {
             let own = Sender::Master;
             let wire = CardWire::of_descriptor(i32::from(descriptor), own, patience_of(way))?;
-            run_tapped(rt, table, reasons, plan, wire, capture, input, output)
+            run_tapped(rt, machine, reasons, wire, capture, input, output)
         }
     }
 }
@@ -207,29 +183,26 @@ fn connect<R: Net>(rt: &R, way: Connection<'_>) -> Result<UdpWire, SocketFault>
 /// The same over a wire that has carried nothing yet, and notes what it carries in a capture, if there is one.
 fn run_tapped<H: AllocGlobal + Files + Clock, W: Wire + Drop, R: Read, O: Write>(
     rt: &H,
-    table: &Table,
+    machine: &Machine,
     reasons: Reasons,
-    plan: &Plan,
     wire: W,
     capture: &mut Capture<H::File>,
     input: &mut R,
     output: &mut O,
 ) -> Result<(), Refusal>
-    requires accepted { compile_fault table.now ≡ None }
-    requires plan { plan.now ≡ plan_of table.now }
     requires sent { Tells (W.state wire).sent [] }
     requires received { Tells (W.state wire).received [] }
-    ensures { (last : W) × RunsOver reasons table.now (W.state wire) (W.state last) (R.remaining input.old)
+    ensures { (last : W) × RunsOver reasons machine.now (W.state wire) (W.state last) (R.remaining input.old)
         (O.contents output.old) (O.contents output.new) result }
 {
     match capture.take() {
         None => {
             let mut wire = wire;
-            run_master(rt.alloc(), table, reasons, plan, &mut wire, input, output)
+            run_master(rt.alloc(), machine, reasons, &mut wire, input, output)
         }
         Some(recording) => {
             let mut tapped = CapturedWire::new(wire, recording, Side::Master, rt);
-            let ended = run_master(rt.alloc(), table, reasons, plan, &mut tapped, input, output);
+            let ended = run_master(rt.alloc(), machine, reasons, &mut tapped, input, output);
             let (_, recording) = tapped.into_parts();
             *capture = Some(recording);
             ended

@@ -1,6 +1,5 @@
 //! A master over a wire.
 ghost use Rattle.std.specs.Prelude.{◌≡◌, IfOk, MatchOption, None, OnErr, OnOk, Some};
-ghost use Rattle.ec_link.specs.Faults.{compile_fault};
 ghost use Rattle.ec_link.specs.Plan.{plan_of};
 ghost use Rattle.ec_start.specs.Running.{outcome_of};
 ghost use Rattle.ec_script.specs.Expecting.{is_ready};
@@ -14,9 +13,8 @@ use crate::answer::Answer;
 use crate::meeting::is_met;
 use crate::order::Order;
 use ec_cycle::{Master, Report};
-use ec_link::Plan;
+use ec_link::{Machine, Plan};
 use ec_start::{StartError, Startup};
-use ec_table::Table;
 use ec_wire::{RunError, Wire, bring_up_wire, run_cycle};
 use std::alloc::{AllocError, Global};
 use std::marker::Model;
@@ -42,17 +40,15 @@ impl<'p> Model for Control<'p> {
 }
 
 impl<'p> Control<'p> {
-    /// A master of the plan of a table that has brought no slave up yet. All variables are 0.
+    /// A master of a machine that has brought no slave up yet. All variables are 0.
     ///
     /// # Errors
     ///
     /// `AllocError` where there is no memory.
-    pub fn new(alloc: Global, table: &Table, plan: &'p Plan) -> Result<Control<'p>, AllocError>
-        requires accepted { compile_fault table.now ≡ None }
-        requires plan { plan.now ≡ plan_of table.now }
-        ensures { IfOk result (λ c. c ≡ new_control plan.now) }
+    pub fn new(alloc: Global, machine: &'p Machine) -> Result<Control<'p>, AllocError>
+        ensures { IfOk result (λ c. c ≡ new_control (plan_of machine.now)) }
     {
-        let _version = table.version();
+        let plan = machine.plan();
         let startup = Startup::new(alloc, plan, 0)?;
         Ok(Control {
             plan,

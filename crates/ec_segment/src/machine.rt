@@ -5,9 +5,9 @@ ghost use Rattle.ec_console.specs.Given.{IsTableRefusal, RefusesTable};
 ghost use Rattle.ec_segment.specs.Serving.{GivesSlaves, HasSlaves, StatesSlaves};
 ghost use Rattle.ec_console.specs.Given.{IsLinkRefusal};
 
-use ec_bringup::slaves_of;
+use ec_bringup::slaves_of_machine;
 use ec_console::{Explanation, Refusal, read_text};
-use ec_link::compile;
+use ec_link::Machine;
 use ec_ring::Ring;
 use ec_table::{Table, read_table};
 use std::alloc::Global;
@@ -42,14 +42,14 @@ fn slaves_of_text(alloc: Global, text: &str, full: bool) -> Result<Ring, Refusal
 {
     let mut table = read_table(alloc, text)?;
     table.show_as(full);
-    slaves_of_table(alloc, &table)
+    slaves_of_table(alloc, table)
 }
 
-/// The slaves of a table that was read, as they are switched on.
-fn slaves_of_table(alloc: Global, table: &Table) -> Result<Ring, Refusal>
-    ensures slaves { IfOk result (HasSlaves table.now) }
-    ensures refused { IfErr result (IsLinkRefusal table.now) }
+/// The slaves of a table, as they are switched on.
+fn slaves_of_table(alloc: Global, table: Table) -> Result<Ring, Refusal>
+    ensures slaves { IfOk result (HasSlaves table) }
+    ensures refused { IfErr result (IsLinkRefusal table) }
 {
-    let plan = compile(alloc, table)?;
-    Ok(slaves_of(alloc, table, &plan)?)
+    let machine = Machine::new(alloc, table)?;
+    Ok(slaves_of_machine(alloc, &machine)?)
 }

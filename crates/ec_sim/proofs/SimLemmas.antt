@@ -1,12 +1,11 @@
 -- Lines that print one after another, and how a simulation ends.
-use Rattle.std.proofs.Common.{◌≡◌, ◌∙◌, inl, inr, ℕ, zero, suc, ◌+◌, ◌-◌, ◌^◌, ◌<◌, ◌≤◌, ◌==◌, List, [], ◌∷◌, ◌++◌, length, get_or, take, drop, min, replicate, Bool, true, false, Option, None, refl, sym, ap, subst, append_assoc, append-nil, arith, if◌then◌else◌, Result, Ok, Err, IfErr, IfOk, OnErr}
+use Rattle.std.proofs.Common.{◌≡◌, ◌∙◌, inl, inr, ℕ, zero, suc, ◌+◌, ◌-◌, ◌^◌, ◌<◌, ◌≤◌, ◌==◌, List, [], ◌∷◌, ◌++◌, length, get_or, take, drop, min, replicate, Bool, true, false, Option, refl, sym, ap, subst, append_assoc, append-nil, arith, if◌then◌else◌, Result, Ok, Err, IfErr, IfOk, OnErr}
 use Rattle.std.specs.Result.{IsErrAnd}
 use Rattle.std.specs.Io.KnownBytes.{Appends}
 use Rattle.std.proofs.lemmas.Bool.Decides.{nat_tests}
 use Rattle.std.proofs.lemmas.List.{drop_all, replicate-append-replicate, take-append-drop, take_all, take_more}
 use Rattle.ec_table.specs.Contents.{Contents}
-use Rattle.ec_table.specs.Reading.{table_of}
-use Rattle.ec_link.specs.Faults.{compile_fault}
+use Rattle.ec_link.specs.Machine.{StatesMachine}
 use Rattle.ec_world.specs.World.{WorldState}
 use Rattle.ec_script.specs.declared.line.Line.{Line}
 use Rattle.ec_script.specs.declared.said.LineOutput.{LineOutput}
@@ -20,8 +19,8 @@ use Rattle.ec_console.specs.declared.refusal.Refusal.{Refusal}
 use Rattle.ec_console.specs.declared.refusal.Refusal.TheVariants as refusal
 use Rattle.ec_console.specs.declared.refusal.Refusal.TheVariants.{Memory, Unmet}
 use Rattle.ec_console.specs.Printing.{AppendsPart}
-use Rattle.ec_sim.specs.Stages.{IsBadScript, IsLineText, RunsHalves}
-use Rattle.ec_console.specs.Given.{IsLinkRefusal}
+use Rattle.ec_sim.specs.Stages.{IsBadScript, IsLineText}
+use Rattle.ec_console.specs.Given.{IsTableRefusal}
 use Rattle.ec_sim.specs.Simulating.{BeginsAs, IsHalfRefusal, IsLate, IsSimRefusal, IsSimulation, PrintsAll, PrintsLines, PrintsPart, PrintsSome, RunsLines, RunsText, Says, SaysLine, counted, ended_by, unmet_of}
 use Rattle.ec_captured.specs.Capturing.{IsUnopened}
 use Rattle.ec_console.proofs.PrintLemmas.{appends_more, appends_nothing, whole_part}
@@ -261,17 +260,19 @@ ran true old new reasons t w lines count unmet is begins counts all =
     (w, begins, subst (λ (n : ℕ). PrintsLines reasons t w lines n old new) none all)
 ran false old new reasons t w lines count unmet is begins counts all = inr (inr (unmet, counted_some count unmet counts is, ap Unmet counts, (w, begins, all)))
 
-pub lines_ran : (r : Result Unit Refusal) (old new : Option (List ℕ)) (reasons : Reasons) (t : Contents) (w : WorldState) (lines : List Line) (count : ℕ) → r ≡ ended_by count → BeginsAs t w
-    → (unmet : ℕ) × (count ≡ counted unmet) × PrintsLines reasons t w lines unmet old new → RunsLines reasons t lines old new r
-lines_ran r old new reasons t w lines count is begins (unmet, counts, all) =
-    subst (RunsLines reasons t lines old new) (sym is) (ran (count == 0) old new reasons t w lines count unmet refl begins counts all)
+pub lines_ran : (r : Result Unit Refusal) (old new : Option (List ℕ)) (reasons : Reasons) (t u : Contents) (w : WorldState) (lines : List Line) (count : ℕ) → u ≡ t → r ≡ ended_by count → BeginsAs t w
+    → (unmet : ℕ) × (count ≡ counted unmet) × PrintsLines reasons u w lines unmet old new → RunsLines reasons t lines old new r
+lines_ran r old new reasons t u w lines count same is begins (unmet, counts, all) =
+    let of_it : PrintsLines reasons t w lines unmet old new = subst (λ (x : Contents). PrintsLines reasons x w lines unmet old new) same all in
+    subst (RunsLines reasons t lines old new) (sym is) (ran (count == 0) old new reasons t w lines count unmet refl begins counts of_it)
 
 -- and lines that are cut short
-pub lines_cut : {T : Type 0} (r : Result Unit Refusal) (printed : Result T Refusal) (e : Refusal) (old new : Option (List ℕ)) (reasons : Reasons) (t : Contents) (w : WorldState) (lines : List Line) → BeginsAs t w
-    → printed ≡ Err e → OnErr printed (PrintsSome reasons t w lines old new) → IfErr printed IsLate → IsErrAnd r (λ x. x ≡ e) → RunsLines reasons t lines old new r
-lines_cut (Ok done) printed e old new reasons t w lines begins is some late same = absurd same
-lines_cut {T} (Err x) printed e old new reasons t w lines begins is some late same =
-    let part : PrintsSome reasons t w lines old new = subst (λ (p : Result T Refusal). OnErr p (PrintsSome reasons t w lines old new)) is some in
+pub lines_cut : {T : Type 0} (r : Result Unit Refusal) (printed : Result T Refusal) (e : Refusal) (old new : Option (List ℕ)) (reasons : Reasons) (t u : Contents) (w : WorldState) (lines : List Line) → u ≡ t → BeginsAs t w
+    → printed ≡ Err e → OnErr printed (PrintsSome reasons u w lines old new) → IfErr printed IsLate → IsErrAnd r (λ x. x ≡ e) → RunsLines reasons t lines old new r
+lines_cut (Ok done) printed e old new reasons t u w lines table begins is some late same = absurd same
+lines_cut {T} (Err x) printed e old new reasons t u w lines table begins is some late same =
+    let of_table : PrintsSome reasons u w lines old new = subst (λ (p : Result T Refusal). OnErr p (PrintsSome reasons u w lines old new)) is some in
+    let part : PrintsSome reasons t w lines old new = subst (λ (x : Contents). PrintsSome reasons x w lines old new) table of_table in
     let is_late : IsLate e = subst (λ (p : Result T Refusal). IfErr p IsLate) is late in
     inr (inl (subst IsLate (sym same) is_late, w, begins, part))
 
@@ -291,46 +292,44 @@ simulated (Err e) text old new reasons t lines is (inr (inr (unmet, some, is_unm
     inr (inr (unmet, some, is_unmet, record { t = t; lines = lines; world = w; simulation = is; begins = begins; printed = all }))
 
 -- a script that is bad is the fault of its text
-half_of_script : (table script : List ℕ) (t : Contents) (x : Refusal) → table_of table ≡ Ok t → compile_fault t ≡ None → IsBadScript t script x → IsHalfRefusal table script x
-half_of_script table script t Memory stated accepted is = tt
-half_of_script table script t (refusal.Script e) stated accepted is = (t, stated, accepted, is)
-half_of_script table script t (refusal.Frame e) stated accepted is = absurd is
-half_of_script table script t (refusal.Table e) stated accepted is = absurd is
-half_of_script table script t (refusal.Link e) stated accepted is = absurd is
-half_of_script table script t (refusal.Start e) stated accepted is = absurd is
-half_of_script table script t (refusal.Run e) stated accepted is = absurd is
-half_of_script table script t refusal.Socket stated accepted is = absurd is
-half_of_script table script t refusal.BadHex stated accepted is = absurd is
-half_of_script table script t refusal.Output stated accepted is = absurd is
-half_of_script table script t refusal.Input stated accepted is = absurd is
-half_of_script table script t (refusal.Unmet n) stated accepted is = absurd is
+half_of_script : (table script : List ℕ) (t : Contents) (x : Refusal) → StatesMachine table t → IsBadScript t script x → IsHalfRefusal table script x
+half_of_script table script t Memory states is = tt
+half_of_script table script t (refusal.Script e) states is = (t, states, is)
+half_of_script table script t (refusal.Frame e) states is = absurd is
+half_of_script table script t (refusal.Table e) states is = absurd is
+half_of_script table script t (refusal.Link e) states is = absurd is
+half_of_script table script t (refusal.Start e) states is = absurd is
+half_of_script table script t (refusal.Run e) states is = absurd is
+half_of_script table script t refusal.Socket states is = absurd is
+half_of_script table script t refusal.BadHex states is = absurd is
+half_of_script table script t refusal.Output states is = absurd is
+half_of_script table script t refusal.Input states is = absurd is
+half_of_script table script t (refusal.Unmet n) states is = absurd is
 
 -- and so is a fault of the table that it states
-half_of_table : (table script : List ℕ) (t : Contents) (x : Refusal) → table_of table ≡ Ok t → IsLinkRefusal t x → IsHalfRefusal table script x
-half_of_table table script t Memory stated is = tt
-half_of_table table script t (refusal.Link e) stated is = (t, stated, is)
-half_of_table table script t (refusal.Frame e) stated is = absurd is
-half_of_table table script t (refusal.Table e) stated is = absurd is
-half_of_table table script t (refusal.Start e) stated is = absurd is
-half_of_table table script t (refusal.Run e) stated is = absurd is
-half_of_table table script t refusal.Socket stated is = absurd is
-half_of_table table script t (refusal.Script e) stated is = absurd is
-half_of_table table script t refusal.BadHex stated is = absurd is
-half_of_table table script t refusal.Output stated is = absurd is
-half_of_table table script t refusal.Input stated is = absurd is
-half_of_table table script t (refusal.Unmet n) stated is = absurd is
+pub half_of_table : (table script : List ℕ) (x : Refusal) → IsTableRefusal table x → IsHalfRefusal table script x
+half_of_table table script Memory is = is
+half_of_table table script (refusal.Table e) is = is
+half_of_table table script (refusal.Link e) is = is
+half_of_table table script (refusal.Frame e) is = absurd is
+half_of_table table script (refusal.Start e) is = absurd is
+half_of_table table script (refusal.Run e) is = absurd is
+half_of_table table script refusal.Socket is = absurd is
+half_of_table table script (refusal.Script e) is = absurd is
+half_of_table table script refusal.BadHex is = absurd is
+half_of_table table script refusal.Output is = absurd is
+half_of_table table script refusal.Input is = absurd is
+half_of_table table script (refusal.Unmet n) is = absurd is
 
-halves_refused : (r : Result Unit Refusal) (text : List ℕ) (old new : Option (List ℕ)) (x : Refusal) (reasons : Reasons) → r ≡ Err x → new ≡ old → IsSimRefusal text x → RunsText reasons text old new r
-halves_refused r text old new x reasons ended same is = subst (RunsText reasons text old new) (sym ended) (inl (is, same))
+script_refused : (r : Result Unit Refusal) (text : List ℕ) (old new : Option (List ℕ)) (x : Refusal) (reasons : Reasons) → r ≡ Err x → new ≡ old → IsSimRefusal text x → RunsText reasons text old new r
+script_refused r text old new x reasons ended same is = subst (RunsText reasons text old new) (sym ended) (inl (is, same))
 
-pub halves_run : (r : Result Unit Refusal) (text table script : List ℕ) (reasons : Reasons) (t : Contents) (old new : Option (List ℕ)) → Splits text table script → table_of table ≡ Ok t
-    → RunsHalves reasons t script old new r → RunsText reasons text old new r
-halves_run r text table script reasons t old new split stated (inl (accepted, inl (lines, read, runs))) =
-    simulated r text old new reasons t lines (record { table = table; script = script; split = split; stated = stated; accepted = accepted; read = read }) runs
-halves_run r text table script reasons t old new split stated (inl (accepted, inr (x, ended, is, same))) =
-    halves_refused r text old new x reasons ended same (table, script, split, half_of_script table script t x stated accepted is)
-halves_run r text table script reasons t old new split stated (inr (x, ended, is, same)) =
-    halves_refused r text old new x reasons ended same (table, script, split, half_of_table table script t x stated is)
+pub script_run : (r : Result Unit Refusal) (text table script : List ℕ) (reasons : Reasons) (t : Contents) (old new : Option (List ℕ)) → Splits text table script → StatesMachine table t
+    → RunsScript reasons t script old new r → RunsText reasons text old new r
+script_run r text table script reasons t old new split states (inl (lines, read, runs)) =
+    simulated r text old new reasons t lines (record { table = table; script = script; split = split; states = states; read = read }) runs
+script_run r text table script reasons t old new split states (inr (x, ended, is, same)) =
+    script_refused r text old new x reasons ended same (table, script, split, half_of_script table script t x states is)
 
 pub on_err : {P : Type 0} (r : Result Unit Refusal) → P → OnErr r P
 on_err (Ok done) p = tt

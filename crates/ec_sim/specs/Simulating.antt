@@ -1,10 +1,9 @@
 -- What `ecat sim` answers (this project's profile).
-use Rattle.std.specs.Prelude.{◌≡◌, ◌⊎◌, ℕ, ◌+◌, ◌-◌, ◌^◌, ◌<◌, ◌==◌, min, List, [], ◌∷◌, ◌++◌, take, if◌then◌else◌, Option, None, Result, Ok, Err}
+use Rattle.std.specs.Prelude.{◌≡◌, ◌⊎◌, ℕ, ◌+◌, ◌-◌, ◌^◌, ◌<◌, ◌==◌, min, List, [], ◌∷◌, ◌++◌, take, if◌then◌else◌, Option, Result, Ok, Err}
 use Rattle.std.specs.Io.KnownBytes.{Appends}
 use Rattle.ec_device.specs.declared.slave_type.Identity.{Identity}
 use Rattle.ec_table.specs.Contents.{Contents}
-use Rattle.ec_table.specs.Reading.{table_of}
-use Rattle.ec_link.specs.Faults.{compile_fault}
+use Rattle.ec_link.specs.Machine.{StatesMachine}
 use Rattle.ec_link.specs.Plan.{plan_of}
 use Rattle.ec_bringup.specs.SwitchedOn.{AreIdentities}
 use Rattle.ec_world.specs.Whole.{new_world}
@@ -90,13 +89,12 @@ IsLate _ = ⊥
 
 -- ---- the whole
 
--- a text is a table that has a plan, and a script
+-- a text states a machine, and a script
 pub record IsSimulation (text : List ℕ) (t : Contents) (lines : List Line) : Type 0 where
   pub table : List ℕ
   pub script : List ℕ
   pub split : Splits text table script
-  pub stated : table_of table ≡ Ok t
-  pub accepted : compile_fault t ≡ None
+  pub states : StatesMachine table t
   pub read : script_of t script ≡ Ok lines
 
 -- its slaves are switched on
@@ -117,7 +115,7 @@ RunsLines reasons t lines old new (Err refusal) =
 
 -- the first fault of the table, or of its plan, or the first bad line of the script, in this order
 abbrev pub IsScriptRefusal : List ℕ → List ℕ → ScriptError → Type 0
-IsScriptRefusal table script error = (t : Contents) × (table_of table ≡ Ok t) × (compile_fault t ≡ None) × ScriptFails error (script_of t script)
+IsScriptRefusal table script error = (t : Contents) × StatesMachine table t × ScriptFails error (script_of t script)
 
 abbrev pub IsHalfRefusal : List ℕ → List ℕ → Refusal → Type 0
 IsHalfRefusal table script (Script error) = IsScriptRefusal table script error

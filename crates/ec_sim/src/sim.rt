@@ -1,19 +1,18 @@
 //! `ecat sim`: a link table and a script on the input, and what the script does to a simulated segment of the table.
-ghost use Rattle.std.specs.Prelude.{◌≡◌, ◌∷◌, [], ℕ, IfErr, IfOk, None, OnErr, string_bytes, if◌then◌else◌, replicate};
-ghost use Rattle.ec_link.specs.Faults.{compile_fault};
+ghost use Rattle.std.specs.Prelude.{◌≡◌, ◌∷◌, [], ℕ, IfErr, IfOk, OnErr, string_bytes, if◌then◌else◌, replicate};
 ghost use Rattle.ec_link.specs.Plan.{plan_of};
 ghost use Rattle.ec_console.specs.Explaining.{IsLeft};
-ghost use Rattle.ec_sim.specs.Simulating.{IsLate, PrintsAll, PrintsLines, PrintsPart, PrintsSome, RunsLines, RunsSim, RunsText, counted, ended_by};
+ghost use Rattle.ec_sim.specs.Simulating.{BeginsAs, IsLate, PrintsAll, PrintsLines, PrintsPart, PrintsSome, RunsLines, RunsSim, RunsText, counted, ended_by};
 ghost use Rattle.ec_script.specs.Seeing.{Sees};
 ghost use Rattle.ec_sim.specs.Capturing.{NotesRun};
-ghost use Rattle.ec_sim.specs.Stages.{IsLineText, RunsHalves, RunsScript};
+ghost use Rattle.ec_sim.specs.Stages.{IsLineText, RunsScript};
 
 use ec_bringup::identities_of;
 use ec_captured::{Recording, finish_recording, open_segment};
-use ec_console::{Explanation, Refusal, print_text, read_text};
-use ec_link::{Plan, compile};
+use ec_console::{Explanation, Refusal, print_text, read_machine, read_text};
+use ec_link::Machine;
 use ec_script::{Line, LineOutput, output_text, read_script, split_script, watch_act};
-use ec_table::{Table, read_table};
+use ec_table::Table;
 use ec_watch::Watch;
 use ec_why::{Reasons, has_cycle, reason_text};
 use ec_world::{Unwatched, Watcher, World};
@@ -87,6 +86,21 @@ pub fn end_of(unmet: u64) -> Result<(), Refusal>
     } else {
         Err(Refusal::Unmet(unmet))
     }
+}
+
+/// The world of a machine: its slaves are switched on, with the identities that its table says.
+///
+/// # Errors
+///
+/// `AllocError` where there is no memory.
+pub fn world_of<'m>(alloc: Global, machine: &'m Machine) -> Result<World<'m>, AllocError>
+    ensures begins { IfOk result (BeginsAs machine.now) }
+    ensures plan { IfOk result (λ world. world.plan ≡ plan_of machine.now) }
+{
+    let table = machine.table();
+    let identities = identities_of(alloc, table)?;
+    let world = World::new(alloc, table, machine.plan(), identities.as_slice())?;
+    Ok(world)
 }
 
 /// Runs the script that the input gives behind a link table and a line `%%`. Its slaves begin at power-on, with the
@@ -249,7 +263,7 @@ fn print_captured<F: Write + Drop, W: Write>(
     finish_recording(ended, watch.into_capture())
 }
 
-/// Runs the script of a text over a segment of its table, and prints what it says.
+/// Runs the script of a text over a segment of its machine, and prints what it says.
 fn run_text<H: AllocGlobal + Files, W: Write>(
     rt: &H,
     file: Option<&str>,
@@ -260,61 +274,39 @@ fn run_text<H: AllocGlobal + Files, W: Write>(
     ensures { RunsText reasons text.now (W.contents output.old) (W.contents output.new) result }
 {
     let (head, script) = split_script(text);
-    let table = read_table(rt.alloc(), head)?;
-    run_halves(rt, file, &table, reasons, script, output)
+    let machine = read_machine(rt.alloc(), head)?;
+    run_script(rt, file, &machine, reasons, script, output)
 }
 
-/// The same of a table that was read, which may have no plan.
-fn run_halves<H: AllocGlobal + Files, W: Write>(
-    rt: &H,
-    file: Option<&str>,
-    table: &Table,
-    reasons: Reasons,
-    script: &str,
-    output: &mut W,
-) -> Result<(), Refusal>
-    ensures { RunsHalves reasons table.now script.now (W.contents output.old) (W.contents output.new)
-        result }
-{
-    let plan = compile(rt.alloc(), table)?;
-    run_script(rt, file, table, reasons, &plan, script, output)
-}
-
-/// Reads a script and runs it over a new segment of a table, and prints what it says.
+/// Reads a script and runs it over a new segment of a machine, and prints what it says.
 fn run_script<H: AllocGlobal + Files, W: Write>(
     rt: &H,
     file: Option<&str>,
-    table: &Table,
+    machine: &Machine,
     reasons: Reasons,
-    plan: &Plan,
     script: &str,
     output: &mut W,
 ) -> Result<(), Refusal>
-    requires accepted { compile_fault table.now ≡ None }
-    requires plan { plan.now ≡ plan_of table.now }
-    ensures { RunsScript reasons table.now script.now (W.contents output.old) (W.contents output.new)
+    ensures { RunsScript reasons machine.now script.now (W.contents output.old) (W.contents output.new)
         result }
 {
-    let lines = read_script(rt.alloc(), table, script)?;
-    run_lines(rt, file, table, reasons, plan, lines.as_slice(), output)
+    let lines = read_script(rt.alloc(), machine.table(), script)?;
+    run_lines(rt, file, machine, reasons, lines.as_slice(), output)
 }
 
-/// Runs the lines of a script over a new segment of a table, and prints what they say.
+/// Runs the lines of a script over a new segment of a machine, and prints what they say.
 fn run_lines<H: AllocGlobal + Files, W: Write>(
     rt: &H,
     file: Option<&str>,
-    table: &Table,
+    machine: &Machine,
     reasons: Reasons,
-    plan: &Plan,
     lines: &[Line],
     output: &mut W,
 ) -> Result<(), Refusal>
-    requires accepted { compile_fault table.now ≡ None }
-    requires plan { plan.now ≡ plan_of table.now }
-    ensures { RunsLines reasons table.now lines.now (W.contents output.old) (W.contents output.new) result }
+    ensures { RunsLines reasons machine.now lines.now (W.contents output.old) (W.contents output.new) result }
 {
-    let identities = identities_of(rt.alloc(), table)?;
-    let mut world = World::new(rt.alloc(), table, plan, identities.as_slice())?;
+    let table = machine.table();
+    let mut world = world_of(rt.alloc(), machine)?;
     let unmet = print_watched(rt, table, reasons, &mut world, lines, file, output)?;
     end_of(unmet)
 }

@@ -2,13 +2,12 @@
 use Rattle.std.specs.Prelude.{◌≡◌, ◌⊎◌, ℕ, List, Bool, true, false, Option, Some, None, Result, Ok, Err}
 use Rattle.std.specs.Io.KnownBytes.{Appends}
 use Rattle.std.specs.Str.Lines.{lines}
-use Rattle.ec_table.specs.Contents.{Contents}
 use Rattle.ec_annotate.specs.declared.names.Names.{Names}
 use Rattle.ec_annotate.specs.declared.names.Names.TheVariants.{Told, Untold}
 use Rattle.ec_annotate.specs.Annotating.{Annotates}
 use Rattle.ec_console.specs.declared.refusal.Refusal.{Refusal}
 use Rattle.ec_console.specs.declared.refusal.Refusal.TheVariants.{Memory, BadHex, Input, Output}
-use Rattle.ec_console.specs.Given.{GivesText, IsInputRefusal, IsLinkRefusal, IsTableRefusal}
+use Rattle.ec_console.specs.Given.{GivesText, IsInputRefusal, IsTableRefusal}
 use Rattle.ec_console.specs.Printing.{AppendsPart}
 use Rattle.ec_translate.specs.Translating.{RunsDecode}
 
@@ -31,10 +30,6 @@ RunsRemarked given old new (Err refusal) = IsInputRefusal given refusal × (new 
 abbrev pub OrRefused : (Refusal → Type 0) → (given old new : Option (List ℕ)) → Result Unit Refusal → Type 0
 OrRefused Refuses given old new ended =
     RunsRemarked given old new ended ⊎ ((refusal : Refusal) × (ended ≡ Err refusal) × Refuses refusal × (new ≡ old))
-
--- by a table that was read, which may have no plan
-abbrev pub RunsByTable : Contents → (given old new : Option (List ℕ)) → Result Unit Refusal → Type 0
-RunsByTable t = OrRefused (IsLinkRefusal t)
 
 -- by the text of a table
 abbrev pub RunsByText : List ℕ → (given old new : Option (List ℕ)) → Result Unit Refusal → Type 0

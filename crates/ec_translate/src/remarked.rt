@@ -2,13 +2,12 @@
 ghost use Rattle.std.specs.Prelude.{IfErr, option_map};
 ghost use Rattle.std.specs.Option.{ForSome};
 ghost use Rattle.ec_link.specs.Usable.{IsUsable};
-ghost use Rattle.ec_translate.specs.Remarking.{IsUnread, RunsByFile, RunsByTable, RunsByText, RunsDecodeWith, RunsRemarked, RunsWith};
+ghost use Rattle.ec_translate.specs.Remarking.{IsUnread, RunsByFile, RunsByText, RunsDecodeWith, RunsRemarked, RunsWith};
 
 use crate::translate::print_decode;
 use ec_annotate::{Links, Names, annotate_text};
-use ec_console::{Refusal, print_text, read_text};
-use ec_link::{Plan, compile};
-use ec_table::{Table, read_table};
+use ec_console::{Refusal, print_text, read_machine, read_text};
+use ec_link::Machine;
 use std::alloc::Global;
 use std::fs::{File, Files};
 use std::io::{Read, Write};
@@ -94,38 +93,24 @@ fn print_by_text<R: Read, W: Write>(
     ensures { RunsByText text.now (R.remaining input.old) (W.contents output.old)
         (W.contents output.new) result }
 {
-    let table = read_table(alloc, text)?;
-    print_planned(alloc, names, &table, input, output)
+    let machine = read_machine(alloc, text)?;
+    print_linked(alloc, names, &machine, input, output)
 }
 
-/// The same by a table, which may have no plan.
-fn print_planned<R: Read, W: Write>(
-    alloc: Global,
-    names: Names,
-    table: &Table,
-    input: &mut R,
-    output: &mut W,
-) -> Result<(), Refusal>
-    ensures { RunsByTable table.now (R.remaining input.old) (W.contents output.old)
-        (W.contents output.new) result }
-{
-    let plan = compile(alloc, table)?;
-    print_linked(alloc, names, table, &plan, input, output)
-}
-
-/// The same by a table and its plan.
+/// The same by a machine.
 fn print_linked<R: Read, W: Write>(
     alloc: Global,
     names: Names,
-    table: &Table,
-    plan: &Plan,
+    machine: &Machine,
     input: &mut R,
     output: &mut W,
 ) -> Result<(), Refusal>
-    requires { IsUsable plan.now }
     ensures { RunsRemarked (R.remaining input.old) (W.contents output.old) (W.contents output.new) result }
 {
-    let links = Links { table, plan };
+    let links = Links {
+        table: machine.table(),
+        plan: machine.plan(),
+    };
     print_text_remarked(alloc, names, Some(links), input, output)
 }
 

@@ -1,15 +1,11 @@
 //! `ecat loop`, over the system's sockets, and over a wire in memory whose calls can fail.
-ghost use Rattle.std.specs.Prelude.{◌≡◌, None};
-ghost use Rattle.ec_link.specs.Faults.{compile_fault};
-ghost use Rattle.ec_link.specs.Plan.{plan_of};
 
 use crate::tests::Idle;
 use crate::tests::tables::THREE_SLAVES;
-use ec_bringup::slaves_of;
+use ec_bringup::slaves_of_machine;
 use ec_commands::{Refusal, run_command, run_loop};
-use ec_link::{Plan, compile};
+use ec_link::Machine;
 use ec_start::StartError;
-use ec_table::{Table, read_table};
 use ec_wire::{Echo, MemoryWire, RunError};
 use std::alloc::Global;
 use std::fs::Files;
@@ -97,36 +93,22 @@ fn runs_cycles(rt: HostRuntime) {
     }
 }
 
-/// Runs two cycles of a table over a wire that fails at a call, and answers how that ends and what is printed.
+/// Runs two cycles of a machine over a wire that fails at a call, and answers how that ends and what is printed.
 fn run_failing(
     alloc: Global,
-    table: &Table,
-    plan: &Plan,
-    fails_at: u64,
-) -> Result<(Result<(), Refusal>, Vec<u8>), Fail>
-    requires accepted { compile_fault table.now ≡ None }
-    requires plan { plan.now ≡ plan_of table.now }
-{
-    let mut output = Vec::new(alloc);
-    let mut wire = MemoryWire::new(alloc, slaves_of(alloc, table, plan)?, 100, fails_at)?;
-    let ended = run_loop(alloc, table, plan, &mut wire, 2, &mut output);
-    Ok((ended, output))
-}
-
-/// The same of a table that was read.
-fn fail_over(
-    alloc: Global,
-    table: &Table,
+    machine: &Machine,
     fails_at: u64,
 ) -> Result<(Result<(), Refusal>, Vec<u8>), Fail> {
-    let plan = compile(alloc, table)?;
-    run_failing(alloc, table, &plan, fails_at)
+    let mut output = Vec::new(alloc);
+    let mut wire = MemoryWire::new(alloc, slaves_of_machine(alloc, machine)?, 100, fails_at)?;
+    let ended = run_loop(alloc, machine, &mut wire, 2, &mut output);
+    Ok((ended, output))
 }
 
 /// The same of the three slaves.
 fn fail_at(alloc: Global, fails_at: u64) -> Result<(Result<(), Refusal>, Vec<u8>), Fail> {
-    let table = read_table(alloc, THREE_SLAVES)?;
-    fail_over(alloc, &table, fails_at)
+    let machine = Machine::read(alloc, THREE_SLAVES)?;
+    run_failing(alloc, &machine, fails_at)
 }
 
 /// The call of the wire that fails, how a run of two cycles then ends, and what it has printed.

@@ -1,14 +1,10 @@
 //! The serial number of a slave, read over a socket from the words of its SII.
-ghost use Rattle.std.specs.Prelude.{◌≡◌, None};
-ghost use Rattle.ec_link.specs.Faults.{compile_fault};
-ghost use Rattle.ec_link.specs.Plan.{plan_of};
 
 use crate::tests::Idle;
-use ec_bringup::slaves_of;
+use ec_bringup::slaves_of_machine;
 use ec_commands::{UdpWire, print_served_segment};
-use ec_link::{Plan, compile};
+use ec_link::Machine;
 use ec_ring::Ring;
-use ec_table::{Table, read_table};
 use std::alloc::Global;
 use std::net::{Ipv4Addr, Net, SocketAddr, UdpSocket};
 use std::test::Fail;
@@ -54,24 +50,10 @@ fn serve(alloc: Global, slaves: &mut Ring, wire: &mut UdpWire) -> Vec<u8> {
     output
 }
 
-/// The slaves of a table.
-fn ring_of_plan(alloc: Global, table: &Table, plan: &Plan) -> Result<Ring, Fail>
-    requires accepted { compile_fault table.now ≡ None }
-    requires plan { plan.now ≡ plan_of table.now }
-{
-    Ok(slaves_of(alloc, table, plan)?)
-}
-
-/// The slaves of a table that was read.
-fn ring_of_table(alloc: Global, table: &Table) -> Result<Ring, Fail> {
-    let plan = compile(alloc, table)?;
-    ring_of_plan(alloc, table, &plan)
-}
-
 /// The one slave.
 fn one_slave(alloc: Global) -> Result<Ring, Fail> {
-    let table = read_table(alloc, ONE_SLAVE)?;
-    ring_of_table(alloc, &table)
+    let machine = Machine::read(alloc, ONE_SLAVE)?;
+    Ok(slaves_of_machine(alloc, &machine)?)
 }
 
 /// Reads the serial number over a socket: what is printed, and what came back of the second frame.

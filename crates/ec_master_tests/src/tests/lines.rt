@@ -1,13 +1,9 @@
 //! What lines print, and how often what they expect isn't so.
-ghost use Rattle.std.specs.Prelude.{◌≡◌, None};
-ghost use Rattle.ec_link.specs.Faults.{compile_fault};
-ghost use Rattle.ec_link.specs.Plan.{plan_of};
 
-use ec_bringup::slaves_of;
+use ec_bringup::slaves_of_machine;
 use ec_console::Refusal;
-use ec_link::{Plan, compile};
+use ec_link::Machine;
 use ec_master::{Control, print_lines};
-use ec_table::{Table, read_table};
 use ec_why::Reasons;
 use ec_wire::MemoryWire;
 use std::alloc::Global;
@@ -93,25 +89,21 @@ const NEVER: u64 = u64::MAX;
 /// How often what lines expect isn't so, or how they are cut short, and what they print.
 type Ended = (Result<u64, Refusal>, Vec<u8>);
 
-/// Runs lines over a wire to the slaves of a plan.
-fn run_plan(
+/// Runs lines over a wire to the slaves of a machine.
+fn run_bytes(
     alloc: Global,
-    table: &Table,
-    plan: &Plan,
+    machine: &Machine,
     reasons: Reasons,
     lines: &[u8],
     fails_at: u64,
-) -> Result<Ended, Fail>
-    requires accepted { compile_fault table.now ≡ None }
-    requires plan { plan.now ≡ plan_of table.now }
-{
-    let mut control = Control::new(alloc, table, plan)?;
-    let mut wire = MemoryWire::new(alloc, slaves_of(alloc, table, plan)?, 1000, fails_at)?;
+) -> Result<Ended, Fail> {
+    let mut control = Control::new(alloc, machine)?;
+    let mut wire = MemoryWire::new(alloc, slaves_of_machine(alloc, machine)?, 1000, fails_at)?;
     let mut input = lines;
     let mut output = Vec::new(alloc);
     let ended = print_lines(
         alloc,
-        table,
+        machine.table(),
         reasons,
         &mut control,
         &mut wire,
@@ -121,22 +113,10 @@ fn run_plan(
     Ok((ended, output))
 }
 
-/// The same of a table that was read.
-fn run_bytes(
-    alloc: Global,
-    table: &Table,
-    reasons: Reasons,
-    lines: &[u8],
-    fails_at: u64,
-) -> Result<Ended, Fail> {
-    let plan = compile(alloc, table)?;
-    run_plan(alloc, table, &plan, reasons, lines, fails_at)
-}
-
 /// The same of the three slaves.
 fn run(alloc: Global, reasons: Reasons, lines: &str, fails_at: u64) -> Result<Ended, Fail> {
-    let table = read_table(alloc, THREE_SLAVES)?;
-    run_bytes(alloc, &table, reasons, lines.as_bytes(), fails_at)
+    let machine = Machine::read(alloc, THREE_SLAVES)?;
+    run_bytes(alloc, &machine, reasons, lines.as_bytes(), fails_at)
 }
 
 /// Lines, the call of the wire that fails, how often what they expect isn't so, and what they print.
@@ -344,10 +324,10 @@ fn lines_tell_why(rt: HostRuntime) -> Result<(), Fail> {
 // A line that is no text is a bad one.
 #[test]
 fn bytes_that_are_no_text(rt: HostRuntime) -> Result<(), Fail> {
-    let table = read_table(rt.alloc(), THREE_SLAVES)?;
+    let machine = Machine::read(rt.alloc(), THREE_SLAVES)?;
     let (ended, output) = run_bytes(
         rt.alloc(),
-        &table,
+        &machine,
         Reasons::Untold,
         b"show # \xff\nshow\n",
         NEVER,

@@ -1,11 +1,12 @@
 use Rattle.std.proofs.Common.{◌≤◌}
+use Rattle.ec_link.specs.Plan.{plan_of}
 use Rattle.ec_loop.specs.Looping.{CanCycle}
 use Rattle.ec_loop.proofs.LoopLemmas.{AreReported}
 use Rattle.ec_loop.proofs.looping.print_cycles.Given as goal
 
 abbrev pub invariant-loop-cycle : goal.invariant-loop-cycle
 invariant-loop-cycle g l = record {
-  can : CanCycle l.plan l.master;
-  printed : AreReported l.table l.initial.master (g.W.Wire.state l.initial.wire) l.master (g.W.Wire.state l.wire) (g.O.Write.contents l.initial.output) (g.O.Write.contents l.output) l.cycle;
+  can : CanCycle (plan_of l.machine) l.master;
+  printed : AreReported l.machine l.initial.master (g.W.Wire.state l.initial.wire) l.master (g.W.Wire.state l.wire) (g.O.Write.contents l.initial.output) (g.O.Write.contents l.output) l.cycle;
   within : l.cycle ≤ l.cycles;
 }

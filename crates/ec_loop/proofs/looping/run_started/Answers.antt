@@ -1,4 +1,6 @@
-use Rattle.std.proofs.Common.{◌∙◌, refl}
+use Rattle.std.proofs.Common.{◌∙◌, ap, refl}
+use Rattle.ec_table.specs.Contents.{Contents}
+use Rattle.ec_loop.specs.Looping.{inputs_text, shown}
 use Rattle.ec_loop.proofs.LoopLemmas.{cycles_shown, cycles_unshown}
 use Rattle.ec_loop.proofs.looping.run_started.Goals as goal
 
@@ -10,5 +12,6 @@ returns-in_err-lines g c =
 pub returns : goal.returns
 returns g c =
     let r = c.in_ok-print_cycles.ensures.all in
-    cycles_shown c.print_text.result _ c.args.table.now _ c.print_cycles.new.master _ _ _ _ _ r.0 c.as_bytes.result.now r.1 r.2 r.3 (c.as_bytes.ensures.value ∙ c.in_ok-lines.ensures) c.print_text.ensures.all
+    cycles_shown c.print_text.result _ c.args.machine.now _ c.print_cycles.new.master _ _ _ _ _ r.0 c.as_bytes.result.now r.1 r.2 r.3
+    (c.as_bytes.ensures.value ∙ (c.in_ok-lines.ensures ∙ ap (λ (t : Contents). inputs_text (shown c.print_cycles.new.master) t) c.table.ensures.value)) c.print_text.ensures.all
     c.print_text.ensures.part c.print_text.ensures.fault

@@ -5,5 +5,5 @@ use Rattle.ec_master.proofs.command.run_tapped.Goals as goal
 
 pub returns-in-Some : goal.returns-in-Some
 returns-in-Some g c =
-    tapped_runs g.W.Wire.state c.args.reasons c.args.table.now (g.W.Wire.state c.args.wire) c.new-tapped.result.wire c.run_master-ended.new.wire.wire c.into_parts-recording.result.0 _ _ _ c.run_master-ended.result
+    tapped_runs g.W.Wire.state c.args.reasons c.args.machine.now (g.W.Wire.state c.args.wire) c.new-tapped.result.wire c.run_master-ended.new.wire.wire c.into_parts-recording.result.0 _ _ _ c.run_master-ended.result
     (ap (λ (t : Tap). t.wire) c.new-tapped.ensures) c.into_parts-recording.ensures.wire c.run_master-ended.ensures
