@@ -205,7 +205,7 @@ impl Action {
     }
 
     /// Writes the data of its datagram over as many zeros.
-    pub fn write_data(&self, bytes: &mut [u8])
+    pub(crate) fn write_data(&self, bytes: &mut [u8])
         requires doable { IsDoable self.now }
         requires zeroed { bytes.old ≡ zeros (length (datagram_of self.now 0).data_bytes) }
         ensures { bytes.new ≡ (datagram_of self.now 0).data_bytes }
