@@ -1,3 +1,6 @@
+-- what the first bytes of an input say of all of it
 pub mod InputLemmas
+-- streams that grow in steps
 pub mod PrintLemmas
+-- what keeps a text from stating a machine is a refusal of its table
 pub mod TableLemmas

@@ -1,19 +1,38 @@
+-- cursors over the datagrams of two frames
 pub mod Stepping
+-- one copy a link gives the images
 pub mod Copying
+-- one copy a link gives the process data of a frame
 pub mod Placing
+-- when a payload answers a frame of the cycle
 pub mod Answering
+-- to be the same from the first datagram on is to have the same shapes, the same name and the same process addresses
 pub mod Comparing
+-- what `take` does, from what was compared
 pub mod Matches
+-- the process datagrams of a split part
 pub mod Makes
+-- a list that grows by what belongs to its next place
 pub mod Lists
+-- what the calls of a master make of its fields
 pub mod States
+-- no slave gives more than its share, so predicted counters mean that each gave the whole of it
 pub mod Counting
+-- what stands at the first places is what the definitions count out
 pub mod Places
+-- the frame of a part, with another number and other outputs
 pub mod Renewed
+-- copies run after run, and where the runs lie
 pub mod Runs
+-- loops over what is kept
 pub mod Judging
+-- the bits of a frame's process data, one by one
 pub mod ProcessBits
+-- what goes out in a begun frame
 pub mod Outgoing
+-- a master that goes through a call keeps its plan, and so what stood apart from the plan fits it again
 pub mod Owning
+-- what setting a variable does to the values of variables
 pub mod Variables
+-- cyclic frames on their way
 pub mod OnTheirWay
