@@ -5,7 +5,7 @@ use Rattle.ec_script.specs.Work.{Does}
 use Rattle.ec_script.proofs.Readying.{ready_law, says_ready}
 use Rattle.ec_script.proofs.run.run_line.Goals as goal
 
-pub output_text-requires : goal.said_text-requires
+pub output_text-requires : goal.output_text-requires
 output_text-requires c = c.do_act-said.ensures.plan ∙ c.requires
 
 pub returns-clause-up : goal.returns-clause-up
@@ -13,5 +13,5 @@ returns-clause-up c = λ from is.
     let t = c.args.table.now in
     let does = subst (λ (a : LineAction). Does a c.args.world.now c.do_act-said.new.world c.do_act-said.result) is c.do_act-said.ensures.does in (
       (ready_law t c.args.world.now c.do_act-said.new.world c.do_act-said.result from does).1,
-      subst (λ (xs : List ℕ). IfOk c.said_text.result (λ text. string_bytes text ≡ xs)) (says_ready t c.args.world.now c.do_act-said.new.world c.args.line.now.number c.do_act-said.result from does) c.said_text.ensures,
+      subst (λ (xs : List ℕ). IfOk c.output_text.result (λ text. string_bytes text ≡ xs)) (says_ready t c.args.world.now c.do_act-said.new.world c.args.line.now.number c.do_act-said.result from does) c.output_text.ensures,
     )

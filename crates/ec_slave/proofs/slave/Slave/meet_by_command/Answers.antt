@@ -25,7 +25,7 @@ returns-in-Physical-clause-datagram c =
     let d : Datagram = carrying c.args.command c.args.carried c.args.bytes.now in
     let w : Window = record { from = c.args.carried.address / 65536; bytes = c.args.bytes.now } in
     let m : MetBytes = physical_met c.args.self.now c.in-Physical.role w in
-    ap (λ (n : ℕ). with_answer d n c.access_bytes-added.new.bytes c.access_bytes-added.result) c.physical.ensures
+    ap (λ (n : ℕ). with_answer d n c.access_bytes-added.new.bytes c.access_bytes-added.result) c.address_of.ensures
     ∙ (ap (λ (t : List ℕ). with_answer d (c.in-Physical.adp + 65536 * (c.args.carried.address / 65536)) t c.access_bytes-added.result) c.access_bytes-added.ensures.bytes
     ∙ (ap (with_answer d (c.in-Physical.adp + 65536 * (c.args.carried.address / 65536)) m.bytes) c.access_bytes-added.ensures.added
     ∙ ap (λ (x : Met). x.datagram) (meets-is c.args.self.now d _ (sym c.in-Physical.is ∙ c.of.ensures))))

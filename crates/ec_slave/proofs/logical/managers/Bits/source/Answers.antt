@@ -15,7 +15,7 @@ returns-clause-bits c =
     let bytes = me.bytes.now in
     let p : Place = record { from = me.from; bits = 8 * length bytes } in
     let start = c.args.start in
-    IfSome_then c.wholly_brought_from.result c.wholly_brought_from.ensures.pairs (λ at h k l.
+    IfSome_then c.whole_source.result c.whole_source.ensures.pairs (λ at h k l.
     let q : ℕ = 8 * start + k in
     let own : is_ungoverned lower (q / 8) ≡ true = c.if-not-are_ungoverned.ensures (q / 8) (omega arith) (omega (arith, l)) in
     let same : at + (q - 8 * start) ≡ at + k = omega arith in
