@@ -19,7 +19,7 @@ use Rattle.ec_console.specs.declared.refusal.Refusal.{Refusal}
 use Rattle.ec_console.specs.declared.refusal.Refusal.TheVariants as refusal
 use Rattle.ec_console.specs.declared.refusal.Refusal.TheVariants.{Memory, Unmet}
 use Rattle.ec_console.specs.Printing.{AppendsPart}
-use Rattle.ec_sim.specs.Stages.{IsBadScript, IsLineText}
+use Rattle.ec_sim.specs.Stages.{IsBadScript, IsLineText, RunsScript}
 use Rattle.ec_console.specs.Given.{IsTableRefusal}
 use Rattle.ec_sim.specs.Simulating.{BeginsAs, IsHalfRefusal, IsLate, IsSimRefusal, IsSimulation, PrintsAll, PrintsLines, PrintsPart, PrintsSome, RunsLines, RunsText, Says, SaysLine, counted, ended_by, unmet_of}
 use Rattle.ec_captured.specs.Capturing.{IsUnopened}

@@ -1,6 +1,6 @@
 use Rattle.std.proofs.Common.{◌∙◌, ap, refl}
 use Rattle.ec_table.specs.Contents.{Contents}
-use Rattle.ec_loop.specs.Looping.{inputs_text, shown}
+use Rattle.ec_text.specs.InputText.{inputs_text, shown}
 use Rattle.ec_loop.proofs.LoopLemmas.{cycles_shown, cycles_unshown}
 use Rattle.ec_loop.proofs.looping.run_started.Goals as goal
 
