@@ -5,6 +5,7 @@ mod tables;
 use self::tables::THREE_SLAVES;
 use ec_console::{Explanation, Refusal};
 use ec_live::print_live;
+use ec_text::refusal_line;
 use ec_why::Reasons;
 use std::cell::Cell;
 use std::fs::Files;
@@ -80,7 +81,10 @@ fn expect_live<H: AllocGlobal + Files + Abort>(
         &mut behind,
     ) {
         Ok(()) => assert_eq!(rt; (0, ""), (status, told)),
-        Err(refusal) => assert_eq!(rt; (refusal.status(), refusal.line().as_str()), (status, told)),
+        Err(refusal) => assert_eq!(rt;
+            (refusal.status(), refusal_line(&refusal).as_str()),
+            (status, told)
+        ),
     }
     assert!(rt; output.as_slice() == printed.as_bytes());
 }
