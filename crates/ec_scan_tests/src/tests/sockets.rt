@@ -36,7 +36,7 @@ fn here(port: u16) -> SocketAddr {
 }
 /// A call of the client's socket failed.
 fn fault_of(_: io::Error) -> ScanError {
-    ScanError::Link(SocketFault)
+    ScanError::Carrier(SocketFault)
 }
 
 impl UdpLink {
