@@ -1,7 +1,8 @@
-//! The commands that `ecat` has. Each is built in a function of its own, which adds two arguments at most: one function
-//! that builds them all takes minutes to check.
-ghost use Rattle.std.specs.Prelude.{◌≡◌, false, IfOk};
-ghost use Rattle.clap.specs.Simple.{app_of, shape_of};
+//! The commands that `ecat` has. Each is built in a function of its own, which adds two arguments at most, and none sets
+//! a text on its own: one function that builds them all takes minutes to check, and so does a chain of texts in each.
+ghost use Rattle.std.specs.Prelude.{◌≡◌, codes, false, IfOk, true};
+ghost use Rattle.clap.specs.Simple.{app_of, new_app, on_top, shape_of, with_rule};
+ghost use Rattle.clap.specs.Walk.{rule_of};
 ghost use Rattle.clap.specs.declared.builder.command.Command.TheViews.{out-Command as fields_of};
 ghost use Rattle.ec_args.specs.CommandLine.{asking, cycling, decode_shape, ecat, encode_shape, listening, loop_shape, master_shape, pass_shape, plan_shape, planning, reaching, running, segment_shape, showing, sim_shape, telling, turning, waiting};
 
@@ -15,7 +16,7 @@ use crate::helps::{
     DECODE_LINES, ENCODE_LINES, EXIT_STATUSES, LOOP_LINES, MASTER_LINES, PASS_REFUSALS, PLAN_LINES,
     SEGMENT_LINES, SIM_LINES,
 };
-use clap::Command;
+use clap::{Arg, Command};
 use std::alloc::{AllocError, Global};
 
 /// All commands of `ecat`.
@@ -49,11 +50,7 @@ fn telling_commands<'a>(alloc: Global) -> Result<Command<'a>, AllocError>
 fn planning_commands<'a>(alloc: Global) -> Result<Command<'a>, AllocError>
     ensures { IfOk result (λ command. app_of command ≡ planning) }
 {
-    Command::new(alloc, "ecat")
-        .about("An EtherCAT master and a segment of simulated slaves")
-        .version("0.1.0")
-        .after_help(EXIT_STATUSES)
-        .subcommand_required(true)
+    program(alloc)
         .subcommand(pass_command(alloc)?)?
         .subcommand(plan_command(alloc)?)
 }
@@ -63,7 +60,7 @@ fn master_command<'a>(alloc: Global) -> Result<Command<'a>, AllocError>
     ensures shape { IfOk result (λ command. shape_of command ≡ master_shape) }
     ensures local { IfOk result (λ command. (fields_of command).has_globals ≡ false) }
 {
-    asking_command(alloc)?.arg(explain_argument(alloc))
+    with_argument(asking_command(alloc)?, explain_argument(alloc))
 }
 
 /// The same with those that say how long it waits for an answer, and what is noted.
@@ -71,9 +68,8 @@ fn asking_command<'a>(alloc: Global) -> Result<Command<'a>, AllocError>
     ensures shape { IfOk result (λ command. shape_of command ≡ asking.top) }
     ensures local { IfOk result (λ command. (fields_of command).has_globals ≡ false) }
 {
-    reaching_command(alloc)?
-        .arg(patience_argument(alloc))?
-        .arg(capture_argument(alloc))
+    let command = with_argument(reaching_command(alloc)?, patience_argument(alloc))?;
+    with_argument(command, capture_argument(alloc))
 }
 
 /// `ecat master` with the arguments that say which segment it speaks with.
@@ -81,14 +77,14 @@ fn reaching_command<'a>(alloc: Global) -> Result<Command<'a>, AllocError>
     ensures shape { IfOk result (λ command. shape_of command ≡ reaching.top) }
     ensures local { IfOk result (λ command. (fields_of command).has_globals ≡ false) }
 {
-    Command::new(alloc, "master")
-        .override_usage(
-            "ecat master [--to <ADDRESS:PORT> | --descriptor <N>] [--patience <MS>] [--capture <FILE>] [--explain] < TABLE_AND_LINES",
-        )
-        .about("Runs lines of standard input with a link table's master over UDP, or a card")
-        .after_help(MASTER_LINES)
-        .arg(to_argument(alloc))?
-        .arg(descriptor_argument(alloc))
+    let usage =
+        "ecat master [--to <ADDRESS:PORT> | --descriptor <N>] [--patience <MS>] [--capture <FILE>] [--explain] < TABLE_AND_LINES";
+    let about = "Runs lines of standard input with a link table's master over UDP, or a card";
+    let command = with_argument(
+        used_as(alloc, "master", usage, about, MASTER_LINES),
+        to_argument(alloc),
+    )?;
+    with_argument(command, descriptor_argument(alloc))
 }
 
 /// `ecat segment --frames N [--port P | --descriptor N] [--full] [--idle SECONDS] [--capture FILE] [--explain]`.
@@ -96,7 +92,7 @@ fn segment_command<'a>(alloc: Global) -> Result<Command<'a>, AllocError>
     ensures shape { IfOk result (λ command. shape_of command ≡ segment_shape) }
     ensures local { IfOk result (λ command. (fields_of command).has_globals ≡ false) }
 {
-    waiting_command(alloc)?.arg(explain_argument(alloc))
+    with_argument(waiting_command(alloc)?, explain_argument(alloc))
 }
 
 /// The same with those that say how long it waits for one, and what is noted of them.
@@ -104,9 +100,8 @@ fn waiting_command<'a>(alloc: Global) -> Result<Command<'a>, AllocError>
     ensures shape { IfOk result (λ command. shape_of command ≡ waiting.top) }
     ensures local { IfOk result (λ command. (fields_of command).has_globals ≡ false) }
 {
-    showing_command(alloc)?
-        .arg(idle_argument(alloc))?
-        .arg(capture_argument(alloc))
+    let command = with_argument(showing_command(alloc)?, idle_argument(alloc))?;
+    with_argument(command, capture_argument(alloc))
 }
 
 /// The same with those that say where they may come in the place of a port, and what slaves answer them.
@@ -114,9 +109,8 @@ fn showing_command<'a>(alloc: Global) -> Result<Command<'a>, AllocError>
     ensures shape { IfOk result (λ command. shape_of command ≡ showing.top) }
     ensures local { IfOk result (λ command. (fields_of command).has_globals ≡ false) }
 {
-    listening_command(alloc)?
-        .arg(descriptor_argument(alloc))?
-        .arg(full_argument(alloc))
+    let command = with_argument(listening_command(alloc)?, descriptor_argument(alloc))?;
+    with_argument(command, full_argument(alloc))
 }
 
 /// `ecat segment` with the arguments that say which payloads come.
@@ -124,16 +118,15 @@ fn listening_command<'a>(alloc: Global) -> Result<Command<'a>, AllocError>
     ensures shape { IfOk result (λ command. shape_of command ≡ listening.top) }
     ensures local { IfOk result (λ command. (fields_of command).has_globals ≡ false) }
 {
-    Command::new(alloc, "segment")
-        .override_usage(
-            "ecat segment --frames <N> [--port <P> | --descriptor <N>] [--full] [--idle <SECONDS>] [--capture <FILE>] [--explain] < TABLE",
-        )
-        .about(
-            "Answers frames on a UDP port of 127.0.0.1, or a card, as the slaves of a link table",
-        )
-        .after_help(SEGMENT_LINES)
-        .arg(frames_argument(alloc))?
-        .arg(port_argument(alloc))
+    let usage =
+        "ecat segment --frames <N> [--port <P> | --descriptor <N>] [--full] [--idle <SECONDS>] [--capture <FILE>] [--explain] < TABLE";
+    let about =
+        "Answers frames on a UDP port of 127.0.0.1, or a card, as the slaves of a link table";
+    let command = with_argument(
+        used_as(alloc, "segment", usage, about, SEGMENT_LINES),
+        frames_argument(alloc),
+    )?;
+    with_argument(command, port_argument(alloc))
 }
 
 /// `ecat loop --cycles N [--capture FILE] [--explain]`.
@@ -141,7 +134,7 @@ fn loop_command<'a>(alloc: Global) -> Result<Command<'a>, AllocError>
     ensures shape { IfOk result (λ command. shape_of command ≡ loop_shape) }
     ensures local { IfOk result (λ command. (fields_of command).has_globals ≡ false) }
 {
-    turning_command(alloc)?.arg(explain_argument(alloc))
+    with_argument(turning_command(alloc)?, explain_argument(alloc))
 }
 
 /// `ecat loop` with the arguments that say what is run and noted.
@@ -149,12 +142,13 @@ fn turning_command<'a>(alloc: Global) -> Result<Command<'a>, AllocError>
     ensures shape { IfOk result (λ command. shape_of command ≡ turning.top) }
     ensures local { IfOk result (λ command. (fields_of command).has_globals ≡ false) }
 {
-    Command::new(alloc, "loop")
-        .override_usage("ecat loop --cycles <N> [--capture <FILE>] [--explain] < TABLE")
-        .about("Runs cycles of a link table over two sockets of this process and prints reports")
-        .after_help(LOOP_LINES)
-        .arg(cycles_argument(alloc))?
-        .arg(capture_argument(alloc))
+    let usage = "ecat loop --cycles <N> [--capture <FILE>] [--explain] < TABLE";
+    let about = "Runs cycles of a link table over two sockets of this process and prints reports";
+    let command = with_argument(
+        used_as(alloc, "loop", usage, about, LOOP_LINES),
+        cycles_argument(alloc),
+    )?;
+    with_argument(command, capture_argument(alloc))
 }
 
 /// `ecat sim [--live] [--capture FILE] [--explain]`.
@@ -162,7 +156,7 @@ fn sim_command<'a>(alloc: Global) -> Result<Command<'a>, AllocError>
     ensures shape { IfOk result (λ command. shape_of command ≡ sim_shape) }
     ensures local { IfOk result (λ command. (fields_of command).has_globals ≡ false) }
 {
-    running_command(alloc)?.arg(explain_argument(alloc))
+    with_argument(running_command(alloc)?, explain_argument(alloc))
 }
 
 /// `ecat sim` with the arguments that say how a script is run.
@@ -170,12 +164,13 @@ fn running_command<'a>(alloc: Global) -> Result<Command<'a>, AllocError>
     ensures shape { IfOk result (λ command. shape_of command ≡ running.top) }
     ensures local { IfOk result (λ command. (fields_of command).has_globals ≡ false) }
 {
-    Command::new(alloc, "sim")
-        .override_usage("ecat sim [--live] [--capture <FILE>] [--explain] < TABLE_AND_SCRIPT")
-        .about("Reads a link table and a script from standard input and prints what comes of it")
-        .after_help(SIM_LINES)
-        .arg(live_argument(alloc))?
-        .arg(capture_argument(alloc))
+    let usage = "ecat sim [--live] [--capture <FILE>] [--explain] < TABLE_AND_SCRIPT";
+    let about = "Reads a link table and a script from standard input and prints what comes of it";
+    let command = with_argument(
+        used_as(alloc, "sim", usage, about, SIM_LINES),
+        live_argument(alloc),
+    )?;
+    with_argument(command, capture_argument(alloc))
 }
 
 /// `ecat encode`.
@@ -183,12 +178,9 @@ fn encode_command<'a>(alloc: Global) -> Result<Command<'a>, AllocError>
     ensures shape { IfOk result (λ command. shape_of command ≡ encode_shape) }
     ensures local { IfOk result (λ command. (fields_of command).has_globals ≡ false) }
 {
-    Ok(
-        Command::new(alloc, "encode")
-            .override_usage("ecat encode < TEXT")
-            .about("Reads frames as `ecat decode` prints them and prints each in hex")
-            .after_help(ENCODE_LINES),
-    )
+    let usage = "ecat encode < TEXT";
+    let about = "Reads frames as `ecat decode` prints them and prints each in hex";
+    Ok(used_as(alloc, "encode", usage, about, ENCODE_LINES))
 }
 
 /// `ecat decode [--table FILE] [--explain]`.
@@ -196,12 +188,13 @@ fn decode_command<'a>(alloc: Global) -> Result<Command<'a>, AllocError>
     ensures shape { IfOk result (λ command. shape_of command ≡ decode_shape) }
     ensures local { IfOk result (λ command. (fields_of command).has_globals ≡ false) }
 {
-    Command::new(alloc, "decode")
-        .override_usage("ecat decode [--table <FILE>] [--explain] < PAYLOADS")
-        .about("Reads payloads in hex from standard input, one a line, and prints them as text")
-        .after_help(DECODE_LINES)
-        .arg(table_argument(alloc))?
-        .arg(explain_frames_argument(alloc))
+    let usage = "ecat decode [--table <FILE>] [--explain] < PAYLOADS";
+    let about = "Reads payloads in hex from standard input, one a line, and prints them as text";
+    let command = with_argument(
+        used_as(alloc, "decode", usage, about, DECODE_LINES),
+        table_argument(alloc),
+    )?;
+    with_argument(command, explain_frames_argument(alloc))
 }
 
 /// `ecat plan [--header] [--explain]`.
@@ -209,12 +202,13 @@ fn plan_command<'a>(alloc: Global) -> Result<Command<'a>, AllocError>
     ensures shape { IfOk result (λ command. shape_of command ≡ plan_shape) }
     ensures local { IfOk result (λ command. (fields_of command).has_globals ≡ false) }
 {
-    Command::new(alloc, "plan")
-        .override_usage("ecat plan [--header] [--explain] < TABLE")
-        .about("Reads a link table from standard input and prints its plan")
-        .after_help(PLAN_LINES)
-        .arg(header_argument(alloc))?
-        .arg(explain_plan_argument(alloc))
+    let usage = "ecat plan [--header] [--explain] < TABLE";
+    let about = "Reads a link table from standard input and prints its plan";
+    let command = with_argument(
+        used_as(alloc, "plan", usage, about, PLAN_LINES),
+        header_argument(alloc),
+    )?;
+    with_argument(command, explain_plan_argument(alloc))
 }
 
 /// `ecat pass --slaves N HEX`.
@@ -222,9 +216,58 @@ fn pass_command<'a>(alloc: Global) -> Result<Command<'a>, AllocError>
     ensures shape { IfOk result (λ command. shape_of command ≡ pass_shape) }
     ensures local { IfOk result (λ command. (fields_of command).has_globals ≡ false) }
 {
-    Command::new(alloc, "pass")
-        .about("Passes a frame through a ring of slaves at power-on and prints it as it comes back")
-        .after_help(PASS_REFUSALS)
-        .arg(slaves_argument(alloc))?
-        .arg(frame_argument(alloc))
+    let about =
+        "Passes a frame through a ring of slaves at power-on and prints it as it comes back";
+    let command = with_argument(
+        told_of(alloc, "pass", about, PASS_REFUSALS),
+        slaves_argument(alloc),
+    )?;
+    with_argument(command, frame_argument(alloc))
+}
+
+/// `ecat` without a command.
+fn program<'a>(alloc: Global) -> Command<'a>
+    ensures shape { app_of result
+        ≡ on_top (λ s. record s { has_version = true; subcommand_required = true }) (new_app (codes "ecat")) }
+    ensures local { (fields_of result).has_globals ≡ false }
+{
+    told_of(
+        alloc,
+        "ecat",
+        "An EtherCAT master and a segment of simulated slaves",
+        EXIT_STATUSES,
+    )
+    .version("0.1.0")
+    .subcommand_required(true)
+}
+
+/// The same whose help says in these words how it is used.
+fn used_as<'a>(
+    alloc: Global,
+    name: &'a str,
+    usage: &'a str,
+    about: &'a str,
+    lines: &'a str,
+) -> Command<'a>
+    ensures app { app_of result ≡ new_app name.now }
+    ensures local { (fields_of result).has_globals ≡ false }
+{
+    told_of(alloc, name, about, lines).override_usage(usage)
+}
+
+/// A command of a name without arguments, what it does, and what stands below its help.
+fn told_of<'a>(alloc: Global, name: &'a str, about: &'a str, lines: &'a str) -> Command<'a>
+    ensures app { app_of result ≡ new_app name.now }
+    ensures local { (fields_of result).has_globals ≡ false }
+{
+    Command::new(alloc, name).about(about).after_help(lines)
+}
+
+/// A command with an argument more.
+fn with_argument<'a>(command: Command<'a>, argument: Arg<'a>) -> Result<Command<'a>, AllocError>
+    requires { argument.global ≡ false }
+    ensures app { IfOk result (λ larger. app_of larger ≡ with_rule (app_of command.entry) (rule_of argument.entry)) }
+    ensures local { IfOk result (λ larger. (fields_of larger).has_globals ≡ (fields_of command.entry).has_globals) }
+{
+    command.arg(argument)
 }

@@ -94,7 +94,19 @@ impl Write for Narrow {
     }
 }
 
-/// Runs the program, and answers the exit status. It promises nothing, so what calls it is quickly checked.
+/// Runs the program with an application, and answers the exit status. It promises nothing, so what calls it is quickly checked.
+fn run_with<H: AllocGlobal + Net + Files + Clock, R: Read, W: Write, F: Write>(
+    rt: &H,
+    args: &[&str],
+    input: &mut R,
+    output: &mut W,
+    faults: &mut F,
+    app: &mut dyn App,
+) -> u8 {
+    run_command(rt, args, input, output, faults, app)
+}
+
+/// The same with an application that does nothing.
 fn run_args<H: AllocGlobal + Net + Files + Clock, R: Read, W: Write, F: Write>(
     rt: &H,
     args: &[&str],
@@ -102,7 +114,7 @@ fn run_args<H: AllocGlobal + Net + Files + Clock, R: Read, W: Write, F: Write>(
     output: &mut W,
     faults: &mut F,
 ) -> u8 {
-    run_command(rt, args, input, output, faults, &mut Idle)
+    run_with(rt, args, input, output, faults, &mut Idle)
 }
 
 /// How a run of the program ended: its exit status, what it printed and what it told.
@@ -140,27 +152,43 @@ struct Run<'a> {
     told: &'a str,
 }
 
-/// Runs the program, and compares how it ends.
-fn expect_run<H: AllocGlobal + Net + Files + Clock + Abort>(rt: &H, run: Run) {
-    let (args, ended) = (run.args, run_in_memory(rt, run.args, run.input));
+/// Compares how a run ended, by its exit status, what it printed and what it told.
+fn assert_ended(rt: &impl Abort, args: &[&str], ended: &Ended, wanted: (u8, &str, &str)) {
+    let (status, printed, told) = wanted;
     assert_eq!(rt;
         (
             ended.status,
             ended.printed.as_slice(),
             ended.told.as_slice()
         ),
-        (run.status, run.printed.as_bytes(), run.told.as_bytes()),
+        (status, printed.as_bytes(), told.as_bytes()),
         "{args:?}"
     );
+}
+
+/// Runs the program, and compares how it ends.
+fn expect_run<H: AllocGlobal + Net + Files + Clock + Abort>(rt: &H, run: Run) {
+    let ended = run_in_memory(rt, run.args, run.input);
+    assert_ended(rt, run.args, &ended, (run.status, run.printed, run.told));
+}
+
+/// A row without its blanks, and with a blank for a `_`.
+fn unspaced(alloc: Global, row: &str) -> Result<String, AllocError> {
+    let digits = row.replace(alloc, " ", "")?;
+    digits.replace(alloc, "_", " ")
+}
+
+/// A row with so many bytes of zeros for a `*`.
+fn filled(alloc: Global, row: &str, zeros: usize) -> Result<String, AllocError> {
+    let zeros = "00".repeat(alloc, zeros)?;
+    row.replace(alloc, "*", zeros.as_str())
 }
 
 /// The hex digits of a row: without its blanks, with so many bytes of zeros for a `*`, and with a
 /// blank for a `_`.
 fn digits(alloc: Global, row: &str, zeros: usize) -> Result<String, AllocError> {
-    let digits = row.replace(alloc, " ", "")?;
-    let digits = digits.replace(alloc, "_", " ")?;
-    let zeros = "00".repeat(alloc, zeros)?;
-    digits.replace(alloc, "*", zeros.as_str())
+    let digits = unspaced(alloc, row)?;
+    filled(alloc, digits.as_str(), zeros)
 }
 
 /// What `ecat pass` is given: number of slaves, bytes of zeros, frame; and the frame as it comes back,

@@ -69,32 +69,44 @@ fn tell_unknown_pdo(
     members: &Table,
     keys: (&'static str, &'static str),
 ) -> Result<bool, AllocError> {
-    let alloc = telling.alloc;
     let Some(written) = members.get(keys.0) else {
         return Ok(false);
     };
     let Some(kind) = members.get("type").and_then(|name| name.as_str()) else {
         return Ok(false);
     };
-    let known = indices_under(alloc, document, kind, keys.1)?;
-    let numbers = numbers_in(alloc, written)?;
-    for (item, number) in numbers.as_slice().iter().enumerate() {
-        if !known.as_slice().iter().any(|index| *index == *number) {
-            let index = (*number).unwrap_or(0).max(0);
-            let mut way = way_to(alloc, place)?;
-            way.push(PathStep::Key(keys.0))?;
-            way.push(PathStep::Item(item))?;
-            let all = indices_text(alloc, known.as_slice())?;
-            let (all, list) = (all.as_str(), keys.1);
-            let words = format!(in alloc;
-                "type {kind} has no PDO 0x{index:04X} in `{list}`; it has {all}"
-            )?;
-            telling.at(way.as_slice(), MarkedPart::Value, words)?;
-            telling.advise("correct the index, or add the PDO to the type")?;
-            return Ok(true);
+    let known = indices_under(telling.alloc, document, kind, keys.1)?;
+    let numbers = numbers_in(telling.alloc, written)?;
+    let Some((item, index)) = first_unknown(numbers.as_slice(), known.as_slice()) else {
+        return Ok(false);
+    };
+    let words = unknown_pdo_words(telling.alloc, kind, keys.1, index, known.as_slice())?;
+    say_of_item(telling, place, (keys.0, item), MarkedPart::Value, words)?;
+    telling.advise("correct the index, or add the PDO to the type")?;
+    Ok(true)
+}
+
+/// The place of the first index that isn't among those that are known, and the index.
+fn first_unknown(numbers: &[Option<i64>], known: &[Option<i64>]) -> Option<(usize, i64)> {
+    for (item, number) in numbers.iter().enumerate() {
+        if !known.iter().any(|index| *index == *number) {
+            return Some((item, (*number).unwrap_or(0).max(0)));
         }
     }
-    Ok(false)
+    None
+}
+
+/// That a type hasn't a PDO of an index in a list, and which it has.
+fn unknown_pdo_words(
+    alloc: Global,
+    kind: &str,
+    list: &str,
+    index: i64,
+    known: &[Option<i64>],
+) -> Result<String, AllocError> {
+    let all = indices_text(alloc, known)?;
+    let all = all.as_str();
+    format!(in alloc; "type {kind} has no PDO 0x{index:04X} in `{list}`; it has {all}")
 }
 
 /// The indices of the PDOs that the type of a name has in a list; none where there is no such type.
@@ -116,17 +128,28 @@ fn indices_under(
 
 /// Indices in hex, in words.
 fn indices_text(alloc: Global, indices: &[Option<i64>]) -> Result<String, AllocError> {
+    if indices.is_empty() {
+        return String::from_str(alloc, "none");
+    }
+    let texts = index_texts(alloc, indices)?;
+    listing_of(alloc, texts.as_slice())
+}
+
+/// A text in hex for each index.
+fn index_texts(alloc: Global, indices: &[Option<i64>]) -> Result<Vec<String>, AllocError> {
     let mut texts: Vec<String> = Vec::new(alloc);
     for index in indices {
         let index = (*index).unwrap_or(0).max(0);
         texts.push(format!(in alloc; "0x{index:04X}")?)?;
     }
+    Ok(texts)
+}
+
+/// Texts one behind the other.
+fn listing_of(alloc: Global, texts: &[String]) -> Result<String, AllocError> {
     let mut words: Vec<&str> = Vec::new(alloc);
-    for text in texts.as_slice() {
+    for text in texts {
         words.push(text.as_str())?;
-    }
-    if words.is_empty() {
-        return String::from_str(alloc, "none");
     }
     listing(alloc, words.as_slice())
 }
@@ -148,17 +171,30 @@ fn tell_unknown_under(
     if element_named(elements, name, elements.len()).is_some() {
         return Ok(false);
     }
-    let names = names_in(alloc, elements)?;
-    let shown = printable(alloc, name)?;
-    let near = meant(alloc, name, names.as_slice())?;
-    let (shown, near) = (shown.as_str(), near.as_str());
-    let mut way = way_to(alloc, place)?;
-    way.push(PathStep::Key(key))?;
-    let words = format!(in alloc; "no {section} has the name `{shown}`{near}")?;
-    telling.at(way.as_slice(), MarkedPart::Value, words)?;
+    let words = unknown_words(alloc, section, name, elements)?;
+    say_under(telling, place, key, MarkedPart::Value, words)?;
     let advice = format!(in alloc; "correct the name, or add a {section} of that name")?;
     telling.advise(advice.as_str())?;
     Ok(true)
+}
+
+/// That no element of a section has a name, and which name may have been meant.
+fn unknown_words(
+    alloc: Global,
+    section: &str,
+    name: &str,
+    elements: &[Value],
+) -> Result<String, AllocError> {
+    let shown = printable(alloc, name)?;
+    let near = meant_among(alloc, name, elements)?;
+    let (shown, near) = (shown.as_str(), near.as_str());
+    format!(in alloc; "no {section} has the name `{shown}`{near}")
+}
+
+/// Which name of an element may have been meant.
+fn meant_among(alloc: Global, name: &str, elements: &[Value]) -> Result<String, AllocError> {
+    let names = names_in(alloc, elements)?;
+    meant(alloc, name, names.as_slice())
 }
 
 /// Tells of a name or an index that stands twice.
@@ -190,7 +226,6 @@ fn tell_taken_name(
     place: Place,
     members: &Table,
 ) -> Result<bool, AllocError> {
-    let alloc = telling.alloc;
     let word = word_of(place.section);
     let Some(name) = members.get("name").and_then(|name| name.as_str()) else {
         return Ok(false);
@@ -199,22 +234,39 @@ fn tell_taken_name(
     let Some(first) = element_named(elements, name, place.element) else {
         return Ok(false);
     };
-    let shown = printable(alloc, name)?;
-    let shown = shown.as_str();
-    let earlier = [
-        PathStep::Key(word),
-        PathStep::Item(first),
-        PathStep::Key("name"),
-    ];
-    let words = format!(in alloc; "{word} {first} has the name `{shown}`")?;
-    telling.at(&earlier, MarkedPart::Value, words)?;
-    let mut way = way_to(alloc, place)?;
-    way.push(PathStep::Key("name"))?;
-    let element = place.element;
-    let words = format!(in alloc; "{word} {element} has the name `{shown}` too")?;
-    telling.at(way.as_slice(), MarkedPart::Value, words)?;
+    let shown = printable(telling.alloc, name)?;
+    say_earlier(telling, word, first, shown.as_str())?;
+    let words = named_words(telling.alloc, word, place.element, shown.as_str(), " too")?;
+    say_under(telling, place, "name", MarkedPart::Value, words)?;
     telling.advise("change one of the names, and the references to it")?;
     Ok(true)
+}
+
+/// Says of the name of an element that it has it.
+fn say_earlier(
+    telling: &mut Telling<'_>,
+    word: &'static str,
+    element: usize,
+    shown: &str,
+) -> Result<(), AllocError> {
+    let words = named_words(telling.alloc, word, element, shown, "")?;
+    let way = [
+        PathStep::Key(word),
+        PathStep::Item(element),
+        PathStep::Key("name"),
+    ];
+    telling.at(&way, MarkedPart::Value, words)
+}
+
+/// That an element has a name.
+fn named_words(
+    alloc: Global,
+    word: &str,
+    element: usize,
+    shown: &str,
+    behind: &str,
+) -> Result<String, AllocError> {
+    format!(in alloc; "{word} {element} has the name `{shown}`{behind}")
 }
 
 /// Tells of an index that stands twice under a key; whether there was one to tell of.
@@ -228,25 +280,21 @@ fn tell_twice_under(
     let Some(value) = members.get(key) else {
         return Ok(false);
     };
-    let numbers = numbers_in(alloc, value)?;
-    let Some((first, second)) = twice_among(numbers.as_slice()) else {
+    let Some((first, second, index)) = twice_in(telling.alloc, value)? else {
         return Ok(false);
     };
-    let index = match numbers.get(second) {
-        Some(Some(index)) => (*index).max(0),
-        _ => 0,
-    };
-    let mut way = way_to(alloc, place)?;
-    way.push(PathStep::Key(key))?;
-    way.push(PathStep::Item(first))?;
     let words = format!(in alloc; "PDO 0x{index:04X} stands here first")?;
-    telling.at(way.as_slice(), MarkedPart::Key, words)?;
-    let _ = way.pop();
-    way.push(PathStep::Item(second))?;
+    say_of_item(telling, place, (key, first), MarkedPart::Key, words)?;
     let words = format!(in alloc; "PDO 0x{index:04X} stands in `{key}` once more")?;
-    telling.at(way.as_slice(), MarkedPart::Key, words)?;
+    say_of_item(telling, place, (key, second), MarkedPart::Key, words)?;
     telling.advise("leave one of them out, or correct its index")?;
     Ok(true)
+}
+
+/// Two places of a list at which one index stands, and the index.
+fn twice_in(alloc: Global, value: &Value) -> Result<Option<(usize, usize, i64)>, AllocError> {
+    let numbers = numbers_in(alloc, value)?;
+    Ok(twice_among(numbers.as_slice()))
 }
 
 /// The numbers of a list, or the indices of its tables.
@@ -265,15 +313,17 @@ fn numbers_in(alloc: Global, value: &Value) -> Result<Vec<Option<i64>>, AllocErr
     Ok(numbers)
 }
 
-/// Two places of a list at which one number stands.
-fn twice_among(numbers: &[Option<i64>]) -> Option<(usize, usize)> {
+/// Two places of a list at which one number stands, and the number.
+fn twice_among(numbers: &[Option<i64>]) -> Option<(usize, usize, i64)> {
     for (second, number) in numbers.iter().enumerate() {
         for (first, earlier) in numbers.iter().enumerate() {
             if first == second {
                 break;
             }
-            if number.is_some() && *earlier == *number {
-                return Some((first, second));
+            if let Some(index) = *number {
+                if *earlier == *number {
+                    return Some((first, second, index.max(0)));
+                }
             }
         }
     }
@@ -288,7 +338,7 @@ fn tell_bad_value(
     members: &Table,
 ) -> Result<(), AllocError> {
     if place.section == Section::Top {
-        return tell_bad_top(telling, document);
+        return tell_bad_top(telling, document, place);
     }
     if tell_misfit(telling, place, members)? {
         return Ok(());
@@ -306,28 +356,44 @@ fn tell_fixed(
     place: Place,
     members: &Table,
 ) -> Result<(), AllocError> {
-    let alloc = telling.alloc;
     let Some(kind) = members.get("type").and_then(|name| name.as_str()) else {
         return Ok(());
     };
     for (key, list) in [("out", "rxpdo"), ("in", "txpdo")] {
-        let Some(written) = members.get(key) else {
-            continue;
-        };
-        let known = indices_under(alloc, document, kind, list)?;
-        let numbers = numbers_in(alloc, written)?;
-        if numbers.as_slice() != known.as_slice() {
-            let all = indices_text(alloc, known.as_slice())?;
-            let all = all.as_str();
-            let mut way = way_to(alloc, place)?;
-            way.push(PathStep::Key(key))?;
-            let words = format!(in alloc;
-                "type {kind} has no mailbox, so its slaves assign all its PDOs, in the order of its `{list}`: {all}"
-            )?;
-            telling.at(way.as_slice(), MarkedPart::Key, words)?;
+        if let Some(written) = members.get(key) {
+            let words = fixed_words(telling.alloc, document, kind, list, written)?;
+            if let Some(words) = words {
+                say_under(telling, place, key, MarkedPart::Key, words)?;
+            }
         }
     }
     telling.advise("leave `out` and `in` out, or give the type a `mailbox`")
+}
+
+/// That a type has no mailbox, where a slave of it assigns other PDOs than all of a list.
+fn fixed_words(
+    alloc: Global,
+    document: &Table,
+    kind: &str,
+    list: &str,
+    written: &Value,
+) -> Result<Option<String>, AllocError> {
+    let known = indices_under(alloc, document, kind, list)?;
+    if has_indices(alloc, written, known.as_slice())? {
+        return Ok(None);
+    }
+    let all = indices_text(alloc, known.as_slice())?;
+    let all = all.as_str();
+    let words = format!(in alloc;
+        "type {kind} has no mailbox, so its slaves assign all its PDOs, in the order of its `{list}`: {all}"
+    )?;
+    Ok(Some(words))
+}
+
+/// Whether the indices of a list are these.
+fn has_indices(alloc: Global, written: &Value, known: &[Option<i64>]) -> Result<bool, AllocError> {
+    let numbers = numbers_in(alloc, written)?;
+    Ok(numbers.as_slice() == known)
 }
 
 /// Tells of a value of an element that isn't what its key takes; whether there was one to tell of.
@@ -336,17 +402,11 @@ fn tell_misfit(
     place: Place,
     members: &Table,
 ) -> Result<bool, AllocError> {
-    let alloc = telling.alloc;
     for key in keys_of(place.section) {
         if let Some(value) = members.get(*key) {
             let rule = rule_of(place.section, *key);
-            let mut mark = Mark::under(way_to(alloc, place)?, *key)?;
-            if let Some(words) = misfit(alloc, rule, value, &mut mark)? {
-                telling.at(mark.way.as_slice(), mark.part, words)?;
-                let taken = taken_by(alloc, rule)?;
-                let (key, taken) = (*key, taken.as_str());
-                let advice = format!(in alloc; "give `{key}` what it takes: {taken}")?;
-                telling.advise(advice.as_str())?;
+            if tell_misfit_under(telling, place, *key, rule, value)? {
+                advise_taken(telling, *key, rule)?;
                 return Ok(true);
             }
         }
@@ -354,13 +414,42 @@ fn tell_misfit(
     Ok(false)
 }
 
-/// Tells of a value of the document that isn't what its key takes.
-fn tell_bad_top(telling: &mut Telling<'_>, document: &Table) -> Result<(), AllocError> {
+/// Tells of a value under a key that doesn't fit a rule; whether there was something to tell.
+fn tell_misfit_under(
+    telling: &mut Telling<'_>,
+    place: Place,
+    key: &'static str,
+    rule: Rule,
+    value: &Value,
+) -> Result<bool, AllocError> {
     let alloc = telling.alloc;
-    if let Some(version) = document.get("version") {
-        let mut mark = Mark::under(Vec::new(alloc), "version")?;
-        if let Some(words) = misfit(alloc, Rule::Number(1, 2), version, &mut mark)? {
+    let mut mark = Mark::under(way_to(alloc, place)?, key)?;
+    match misfit(alloc, rule, value, &mut mark)? {
+        Some(words) => {
             telling.at(mark.way.as_slice(), mark.part, words)?;
+            Ok(true)
+        }
+        None => Ok(false),
+    }
+}
+
+/// Advises what a key takes.
+fn advise_taken(telling: &mut Telling<'_>, key: &str, rule: Rule) -> Result<(), AllocError> {
+    let alloc = telling.alloc;
+    let taken = taken_by(alloc, rule)?;
+    let taken = taken.as_str();
+    let advice = format!(in alloc; "give `{key}` what it takes: {taken}")?;
+    telling.advise(advice.as_str())
+}
+
+/// Tells of a value of the document that isn't what its key takes.
+fn tell_bad_top(
+    telling: &mut Telling<'_>,
+    document: &Table,
+    place: Place,
+) -> Result<(), AllocError> {
+    if let Some(version) = document.get("version") {
+        if tell_misfit_under(telling, place, "version", Rule::Number(1, 2), version)? {
             return telling.advise(
                 "give version 1 or 2; 2 has sync units, the key `unit` of a slave",
             );
@@ -380,34 +469,51 @@ fn tell_bad_section(
     document: &Table,
     section: &'static str,
 ) -> Result<bool, AllocError> {
-    let alloc = telling.alloc;
     let Some(value) = document.get(section) else {
         return Ok(false);
     };
-    let Some(elements) = value.as_array() else {
-        let words = if value.is_table() {
-            format!(in alloc; "a section is a list of tables, and this is one table alone")?
-        } else {
-            format!(in alloc; "a section is a list of tables")?
-        };
-        telling.at(&[PathStep::Key(section)], MarkedPart::Key, words)?;
-        let advice = format!(in alloc; "write `[[{section}]]` above each table of the section")?;
-        telling.advise(advice.as_str())?;
-        return Ok(true);
-    };
-    for (place, element) in elements.as_slice().iter().enumerate() {
-        if !element.is_table() {
-            let words = format!(in alloc; "{section} {place} is no table")?;
-            telling.at(
-                &[PathStep::Key(section), PathStep::Item(place)],
-                MarkedPart::Value,
-                words,
-            )?;
-            telling.advise("write a table in its place, as `{ name = .. }`")?;
-            return Ok(true);
+    match value.as_array() {
+        Some(elements) => tell_no_table(telling, section, elements.as_slice()),
+        None => {
+            tell_no_list(telling, section, value)?;
+            Ok(true)
         }
     }
-    Ok(false)
+}
+
+/// Tells of a section that is no list.
+fn tell_no_list(
+    telling: &mut Telling<'_>,
+    section: &'static str,
+    value: &Value,
+) -> Result<(), AllocError> {
+    let alloc = telling.alloc;
+    let words = if value.is_table() {
+        "a section is a list of tables, and this is one table alone"
+    } else {
+        "a section is a list of tables"
+    };
+    let words = String::from_str(alloc, words)?;
+    telling.at(&[PathStep::Key(section)], MarkedPart::Key, words)?;
+    let advice = format!(in alloc; "write `[[{section}]]` above each table of the section")?;
+    telling.advise(advice.as_str())
+}
+
+/// Tells of the first element of a section that is no table; whether there was one to tell of.
+fn tell_no_table(
+    telling: &mut Telling<'_>,
+    section: &'static str,
+    elements: &[Value],
+) -> Result<bool, AllocError> {
+    let alloc = telling.alloc;
+    let Some(place) = elements.iter().position(|element| !element.is_table()) else {
+        return Ok(false);
+    };
+    let words = format!(in alloc; "{section} {place} is no table")?;
+    let way = [PathStep::Key(section), PathStep::Item(place)];
+    telling.at(&way, MarkedPart::Value, words)?;
+    telling.advise("write a table in its place, as `{ name = .. }`")?;
+    Ok(true)
 }
 
 /// Tells of a key that is unknown or missing.
@@ -436,13 +542,26 @@ fn tell_missing(
 ) -> Result<(), AllocError> {
     let alloc = telling.alloc;
     let lacks = lacking(alloc, members, needs_of(place.section))?;
-    let element = element_text(alloc, place)?;
-    let (lacks, element) = (lacks.as_str(), element.as_str());
-    let way = way_to(alloc, place)?;
-    let words = format!(in alloc; "{element} lacks {lacks}")?;
-    telling.at(way.as_slice(), MarkedPart::Key, words)?;
+    say_lacks(telling, place, lacks.as_str())?;
+    let lacks = lacks.as_str();
     let advice = format!(in alloc; "add {lacks}")?;
     telling.advise(advice.as_str())
+}
+
+/// Says of an element that it lacks keys.
+fn say_lacks(telling: &mut Telling<'_>, place: Place, lacks: &str) -> Result<(), AllocError> {
+    let words = lacks_words(telling.alloc, place, lacks)?;
+    let way = way_to(telling.alloc, place)?;
+    telling.at(way.as_slice(), MarkedPart::Key, words)
+}
+
+/// That an element lacks keys.
+fn lacks_words(alloc: Global, place: Place, lacks: &str) -> Result<String, AllocError> {
+    let (word, element) = (word_of(place.section), place.element);
+    match place.section {
+        Section::Top => format!(in alloc; "the document lacks {lacks}"),
+        _ => format!(in alloc; "{word} {element} lacks {lacks}"),
+    }
 }
 
 /// Tells of a key that there is not.
@@ -452,28 +571,43 @@ fn tell_unknown_key(
     key: &str,
     known: &[&str],
 ) -> Result<(), AllocError> {
-    let alloc = telling.alloc;
+    if place.section == Section::Slave && key == "unit" {
+        return tell_early_unit(telling, place);
+    }
+    let words = unknown_key_words(telling.alloc, place.section, key, known)?;
+    say_under(telling, place, key, MarkedPart::Key, words)?;
+    advise_known(telling, word_of(place.section), known)
+}
+
+/// Tells of a sync unit in a table that knows none.
+fn tell_early_unit(telling: &mut Telling<'_>, place: Place) -> Result<(), AllocError> {
+    let words = "`unit` is a key only where the text begins with `version = 2`";
+    let words = String::from_str(telling.alloc, words)?;
+    say_under(telling, place, "unit", MarkedPart::Key, words)?;
+    telling.advise("write `version = 2` above all tables, or leave `unit` out")
+}
+
+/// That a key is unknown, and which may have been meant.
+fn unknown_key_words(
+    alloc: Global,
+    section: Section,
+    key: &str,
+    known: &[&str],
+) -> Result<String, AllocError> {
     let shown = printable(alloc, key)?;
     let near = meant(alloc, key, known)?;
-    let all = listing(alloc, known)?;
-    let (shown, near, all) = (shown.as_str(), near.as_str(), all.as_str());
-    let mut way = way_to(alloc, place)?;
-    way.push(PathStep::Key(key))?;
-    let word = word_of(place.section);
-    if place.section == Section::Slave && key == "unit" {
-        let words = "`unit` is a key only where the text begins with `version = 2`";
-        telling.at(
-            way.as_slice(),
-            MarkedPart::Key,
-            String::from_str(alloc, words)?,
-        )?;
-        return telling.advise("write `version = 2` above all tables, or leave `unit` out");
+    let (shown, near, word) = (shown.as_str(), near.as_str(), word_of(section));
+    match section {
+        Section::Top => format!(in alloc; "`{shown}` is no section{near}"),
+        _ => format!(in alloc; "`{shown}` is no key of a {word}{near}"),
     }
-    let words = match place.section {
-        Section::Top => format!(in alloc; "`{shown}` is no section{near}")?,
-        _ => format!(in alloc; "`{shown}` is no key of a {word}{near}")?,
-    };
-    telling.at(way.as_slice(), MarkedPart::Key, words)?;
+}
+
+/// Advises the keys that there are.
+fn advise_known(telling: &mut Telling<'_>, word: &str, known: &[&str]) -> Result<(), AllocError> {
+    let alloc = telling.alloc;
+    let all = listing(alloc, known)?;
+    let all = all.as_str();
     let advice = format!(in alloc; "leave it out or correct it; a {word} has the keys {all}")?;
     telling.advise(advice.as_str())
 }
@@ -501,13 +635,31 @@ fn is_version_2(document: &Table) -> bool {
     }
 }
 
-/// An element in words, as `link 3`.
-fn element_text(alloc: Global, place: Place) -> Result<String, AllocError> {
-    let (word, element) = (word_of(place.section), place.element);
-    match place.section {
-        Section::Top => String::from_str(alloc, "the document"),
-        _ => format!(in alloc; "{word} {element}"),
-    }
+/// Says something of the key or the value under a key of an element.
+fn say_under(
+    telling: &mut Telling<'_>,
+    place: Place,
+    key: &str,
+    part: MarkedPart,
+    words: String,
+) -> Result<(), AllocError> {
+    let mut way = way_to(telling.alloc, place)?;
+    way.push(PathStep::Key(key))?;
+    telling.at(way.as_slice(), part, words)
+}
+
+/// Says something of an item of the list under a key of an element.
+fn say_of_item(
+    telling: &mut Telling<'_>,
+    place: Place,
+    (key, item): (&str, usize),
+    part: MarkedPart,
+    words: String,
+) -> Result<(), AllocError> {
+    let mut way = way_to(telling.alloc, place)?;
+    way.push(PathStep::Key(key))?;
+    way.push(PathStep::Item(item))?;
+    telling.at(way.as_slice(), part, words)
 }
 
 /// The way to an element, or to the document.

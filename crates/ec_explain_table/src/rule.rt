@@ -138,32 +138,38 @@ pub fn rule_of(section: Section, key: &str) -> Rule {
 /// What a key takes, in words.
 pub fn taken_by(alloc: Global, rule: Rule) -> Result<String, AllocError> {
     match rule {
-        Rule::Name => String::from_str(
-            alloc,
-            "a text of 1 to 32 letters, digits and `_` in quotes, with no other characters",
-        ),
         Rule::Number(low, high) => format!(in alloc; "a whole number from {low} to {high}"),
-        Rule::Mailbox => String::from_str(
-            alloc,
-            "[receive start, receive size, send start, send size], each start 0 to 65535 and each size 16 to 1024",
-        ),
-        Rule::Indices(first) => {
-            let last = first.saturating_add(PDO_INDICES - 1);
-            format!(in alloc; "a list of PDO indices, each 0x{first:04X} to 0x{last:04X}")
-        }
-        Rule::Pdos(first) => {
-            let last = first.saturating_add(PDO_INDICES - 1);
-            format!(in alloc;
-                "a list of at most {MAX_PDOS} PDOs, each {{ index = 0x{first:04X} to 0x{last:04X}, entries = [[index, subindex, bits], ..] }}"
-            )
-        }
-        Rule::Direction => String::from_str(alloc, "\"out\" or \"in\""),
-        Rule::LinkBits => String::from_str(
-            alloc,
-            "[first bit of the variable, first bit of the entry, number of bits]",
-        ),
-        Rule::Truth => String::from_str(alloc, "true or false"),
+        Rule::Indices(first) => indices_taken(alloc, first),
+        Rule::Pdos(first) => pdos_taken(alloc, first),
+        _ => String::from_str(alloc, always_taken(rule)),
     }
+}
+
+/// What a key takes whose rule has no numbers.
+fn always_taken(rule: Rule) -> &'static str {
+    match rule {
+        Rule::Mailbox => {
+            "[receive start, receive size, send start, send size], each start 0 to 65535 and each size 16 to 1024"
+        }
+        Rule::Direction => "\"out\" or \"in\"",
+        Rule::LinkBits => "[first bit of the variable, first bit of the entry, number of bits]",
+        Rule::Truth => "true or false",
+        _ => "a text of 1 to 32 letters, digits and `_` in quotes, with no other characters",
+    }
+}
+
+/// What a key takes whose value is a list of indices.
+fn indices_taken(alloc: Global, first: u16) -> Result<String, AllocError> {
+    let last = first.saturating_add(PDO_INDICES - 1);
+    format!(in alloc; "a list of PDO indices, each 0x{first:04X} to 0x{last:04X}")
+}
+
+/// What a key takes whose value is a list of PDOs.
+fn pdos_taken(alloc: Global, first: u16) -> Result<String, AllocError> {
+    let last = first.saturating_add(PDO_INDICES - 1);
+    format!(in alloc;
+        "a list of at most {MAX_PDOS} PDOs, each {{ index = 0x{first:04X} to 0x{last:04X}, entries = [[index, subindex, bits], ..] }}"
+    )
 }
 
 /// In words how a value doesn't fit a rule, if it doesn't; the mark is led to what is wrong.
@@ -180,15 +186,25 @@ pub fn misfit<'s>(
         Rule::Indices(first) => indices_misfit(alloc, value, first, mark),
         Rule::Pdos(first) => pdos_misfit(alloc, value, first, mark),
         Rule::LinkBits => numbers_misfit(alloc, value, &LINK_BITS, mark),
-        Rule::Direction => match value.as_str() {
-            Some("out" | "in") => Ok(None),
-            Some(_) => Ok(Some(String::from_str(alloc, "a direction is \"out\" or \"in\"")?)),
-            None => kind_stands(alloc, value, "\"out\" or \"in\""),
-        },
-        Rule::Truth => match value.as_bool() {
-            Some(_) => Ok(None),
-            None => kind_stands(alloc, value, "true or false"),
-        },
+        Rule::Direction => direction_misfit(alloc, value),
+        Rule::Truth => truth_misfit(alloc, value),
+    }
+}
+
+/// What is wrong with a direction.
+fn direction_misfit(alloc: Global, value: &Value) -> Result<Option<String>, AllocError> {
+    match value.as_str() {
+        Some("out" | "in") => Ok(None),
+        Some(_) => Ok(Some(String::from_str(alloc, "a direction is \"out\" or \"in\"")?)),
+        None => kind_stands(alloc, value, "\"out\" or \"in\""),
+    }
+}
+
+/// What is wrong with a truth value.
+fn truth_misfit(alloc: Global, value: &Value) -> Result<Option<String>, AllocError> {
+    match value.as_bool() {
+        Some(_) => Ok(None),
+        None => kind_stands(alloc, value, "true or false"),
     }
 }
 
@@ -299,15 +315,24 @@ fn pdo_keys_misfit<'s>(
 ) -> Result<Option<String>, AllocError> {
     for key in members.keys() {
         if !is_among(key.as_str(), &PDO_KEYS) {
-            let shown = printable(alloc, key.as_str())?;
-            let near = meant(alloc, key.as_str(), &PDO_KEYS)?;
-            let (shown, near) = (shown.as_str(), near.as_str());
-            let words = format!(in alloc; "`{shown}` is no key of a PDO{near}")?;
             mark.way.push(PathStep::Key(key.as_str()))?;
             mark.part = MarkedPart::Key;
-            return Ok(Some(words));
+            return Ok(Some(no_key_words(alloc, key.as_str())?));
         }
     }
+    lacks_misfit(alloc, members)
+}
+
+/// That a PDO has no key of a name, and which may have been meant.
+fn no_key_words(alloc: Global, key: &str) -> Result<String, AllocError> {
+    let shown = printable(alloc, key)?;
+    let near = meant(alloc, key, &PDO_KEYS)?;
+    let (shown, near) = (shown.as_str(), near.as_str());
+    format!(in alloc; "`{shown}` is no key of a PDO{near}")
+}
+
+/// Which keys a PDO lacks, if it does.
+fn lacks_misfit(alloc: Global, members: &toml::Table) -> Result<Option<String>, AllocError> {
     let lacks = lacking(alloc, members, &PDO_KEYS)?;
     if lacks.is_empty() {
         return Ok(None);
@@ -435,12 +460,7 @@ fn name_misfit(alloc: Global, value: &Value) -> Result<Option<String>, AllocErro
     }
     for character in name.chars() {
         if !(character.is_ascii_alphanumeric() || character == '_') {
-            let mut text = String::new(alloc);
-            text.push(character)?;
-            let odd = printable(alloc, text.as_str())?;
-            let odd = odd.as_str();
-            let words = format!(in alloc; "`{odd}` is no letter of A to Z, no digit and no `_`")?;
-            return Ok(Some(words));
+            return Ok(Some(odd_words(alloc, character)?));
         }
     }
     if length > 32 {
@@ -448,6 +468,15 @@ fn name_misfit(alloc: Global, value: &Value) -> Result<Option<String>, AllocErro
         return Ok(Some(words));
     }
     Ok(None)
+}
+
+/// That a character is none of a name's.
+fn odd_words(alloc: Global, character: char) -> Result<String, AllocError> {
+    let mut text = String::new(alloc);
+    text.push(character)?;
+    let odd = printable(alloc, text.as_str())?;
+    let odd = odd.as_str();
+    format!(in alloc; "`{odd}` is no letter of A to Z, no digit and no `_`")
 }
 
 /// What stands where another kind of value is wanted.

@@ -1,6 +1,6 @@
 -- What the crates above may know of a plan besides what its words say: laws of the plan of a table that `compile` accepts, and
 -- of each plan that is usable. Nothing above opens a definition of this crate; what is not said here can change without them.
-use Rattle.std.specs.Prelude.{ℕ, ◌+◌, ◌*◌, ◌<◌, ◌≤◌, ◌≡◌, ◌&&◌, List, [], ◌∷◌, length, get_or, slice_get, Bool, true, false, Option, Some, None, All, Contains}
+use Rattle.std.specs.Prelude.{ℕ, ◌+◌, ◌*◌, ◌<◌, ◌≤◌, ◌≡◌, ◌&&◌, List, [], ◌∷◌, length, get_or, slice_get, Bool, true, false, Some, None, All, Contains}
 use Rattle.std.specs.Option.{ForSome, option_map_or}
 use Rattle.ec_bits.specs.Bits.{within, bytes_of_bits}
 use Rattle.ec_regs.specs.declared.manager.SyncManagerSettings.{SyncManagerSettings}

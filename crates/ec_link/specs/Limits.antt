@@ -72,6 +72,11 @@ pub record AreUsedUnits (zs : List SlaveSize) (used : List Bool) : Type 0 where
   pub as_many : length used ≡ 64
   pub each : (unit : ℕ) → unit < 64 → get_or used unit false ≡ is_unit_of zs unit
 
+-- a number of at most 64 that no slave's unit reaches
+pub record IsUnitBound (zs : List SlaveSize) (bound : ℕ) : Type 0 where
+  pub few : bound ≤ 64
+  pub above : (unit : ℕ) → bound ≤ unit → is_unit_of zs unit ≡ false
+
 -- the first fault that is left to find once there is none of the links and of the slaves
 abbrev pub fault_of_layout : Contents → Option LinkFault
 fault_of_layout t = part_fault t orelse memory_fault t orelse variable_fault t

@@ -5,6 +5,7 @@ mod compiling;
 mod entries;
 mod fault;
 mod faults;
+mod few;
 mod image;
 pub mod laws;
 mod layout;

@@ -3,6 +3,7 @@ use Rattle.std.proofs.Common.{◌≡◌, ◌∙◌, inl, inr, ℕ, ◌+◌, ◌-
 use Rattle.std.specs.Io.KnownBytes.{Appends}
 use Rattle.std.proofs.lemmas.Bool.Decides.{nat_tests}
 use Rattle.ec_table.specs.Contents.{Contents}
+use Rattle.ec_world.specs.Whole.{IsOfMachine}
 use Rattle.ec_world.specs.World.{WorldState}
 use Rattle.ec_script.specs.declared.read.Reading.{Reading}
 use Rattle.ec_script.specs.declared.read.Reading.TheVariants as reading
@@ -20,7 +21,7 @@ use Rattle.ec_lines.specs.declared.error.LinesError.{LinesError}
 use Rattle.ec_lines.specs.Taking.{IsTaken, RefusesText, TakesLine}
 use Rattle.ec_lines.proofs.TakeLemmas.{takes_push}
 use Rattle.ec_script.specs.Scripts.{reading_of}
-use Rattle.ec_sim.specs.Simulating.{BeginsAs, counted, ended_by}
+use Rattle.ec_sim.specs.Simulating.{counted, ended_by}
 use Rattle.ec_console.proofs.PrintLemmas.{appends_more, appends_nothing}
 
 -- ---- what is taken as a line
@@ -79,10 +80,9 @@ pub record AreLived (reasons : Reasons) (t : Contents) (w : WorldState) (given l
   pub unmet : ℕ
   pub counts : count ≡ counted unmet
   pub so_far : LivesOn reasons t w given left place now unmet old new
-  pub plan : now.plan ≡ w.plan
 
 pub none_run_live : (reasons : Reasons) (t : Contents) (w : WorldState) (given old : Option (List ℕ)) → AreLived reasons t w given given 0 w 0 old old
-none_run_live reasons t w given old = record { unmet = 0; counts = refl; so_far = none_lived reasons t w given old; plan = refl }
+none_run_live reasons t w given old = record { unmet = 0; counts = refl; so_far = none_lived reasons t w given old }
 
 sum_of : (a b c d : ℕ) → c ≡ counted a → d ≡ counted b → min (c + d) (2 ^ 64 - 1) ≡ counted (a + b)
 sum_of a b c d h g = omega arith
@@ -90,23 +90,22 @@ sum_of a b c d h g = omega arith
 pub lived_on : (reasons : Reasons) (t : Contents) (w now new : WorldState) (given left after : Option (List ℕ)) (place : ℕ) (line : List ℕ) (count more total : ℕ) (old half whole : Option (List ℕ)) → AreLived reasons t w given left place now count old half
     → TakesLine left after line → 0 < length line
     → (unmet : ℕ) × (more ≡ counted unmet) × (text : List ℕ) × SaysReading reasons t now (place + 1) (live_reading t (place + 1) line) new text unmet × Appends half whole text
-    → new.plan ≡ now.plan → total ≡ min (count + more) (2 ^ 64 - 1) → AreLived reasons t w given after (place + 1) new total old whole
-lived_on reasons t w now new given left after place line count more total old half whole h next some (unmet, counts, text, says, appends) plan is = record {
+    → total ≡ min (count + more) (2 ^ 64 - 1) → AreLived reasons t w given after (place + 1) new total old whole
+lived_on reasons t w now new given left after place line count more total old half whole h next some (unmet, counts, text, says, appends) is = record {
   unmet = h.unmet + unmet;
   counts = is ∙ sum_of h.unmet unmet count more h.counts counts;
   so_far = lived_more reasons t w now new given left after place line text h.unmet unmet old half whole h.so_far next some says appends;
-  plan = plan ∙ h.plan;
 }
 
 pub lived_next : (reasons : Reasons) (t : Contents) (w now new : WorldState) (given left after : Option (List ℕ)) (place : ℕ) (x : NextLine) (r : Reading) (count more total : ℕ) (old half whole : Option (List ℕ))
     → AreLived reasons t w given left place now count old half → (line : List ℕ) × TakesLine left after line × IsTaken line x → (x ≡ taken.End → ⊥) → r ≡ taken_reading t (place + 1) x
     → (unmet : ℕ) × (more ≡ counted unmet) × (text : List ℕ) × SaysReading reasons t now (place + 1) r new text unmet × Appends half whole text
-    → new.plan ≡ now.plan → total ≡ min (count + more) (2 ^ 64 - 1) → AreLived reasons t w given after (place + 1) new total old whole
-lived_next reasons t w now new given left after place x r count more total old half whole h (line, takes, is) other read (unmet, counts, text, says, appends) plan sum =
+    → total ≡ min (count + more) (2 ^ 64 - 1) → AreLived reasons t w given after (place + 1) new total old whole
+lived_next reasons t w now new given left after place x r count more total old half whole h (line, takes, is) other read (unmet, counts, text, says, appends) sum =
     let some = some_taken line x is other in
     let reading_is : r ≡ live_reading t (place + 1) line = read ∙ taken_is t (place + 1) line x is some in
     lived_on reasons t w now new given left after place line count more total old half whole h takes some
-    (unmet, counts, text, subst (λ (s : Reading). SaysReading reasons t now (place + 1) s new text unmet) reading_is says, appends) plan sum
+    (unmet, counts, text, subst (λ (s : Reading). SaysReading reasons t now (place + 1) s new text unmet) reading_is says, appends) sum
 
 pub lived_out : (reasons : Reasons) (t : Contents) (w now : WorldState) (given left gone : Option (List ℕ)) (place count : ℕ) (line : List ℕ) (old new : Option (List ℕ)) → AreLived reasons t w given left place now count old new
     → TakesLine left gone line → line ≡ [] → (unmet : ℕ) × (count ≡ counted unmet) × LivesOut reasons t w given unmet old new
@@ -131,21 +130,21 @@ counted_some count unmet is some = let more : 0 < count = grind (arith, nat_test
 zero_of : (count : ℕ) → (count == 0) ≡ true → count ≡ 0
 zero_of count is = grind (arith, nat_tests)
 
-ran : (b : Bool) (given old new : Option (List ℕ)) (reasons : Reasons) (t : Contents) (w : WorldState) (count unmet : ℕ) → (count == 0) ≡ b → BeginsAs t w → count ≡ counted unmet → LivesOut reasons t w given unmet old new
+ran : (b : Bool) (given old new : Option (List ℕ)) (reasons : Reasons) (t : Contents) (w : WorldState) (count unmet : ℕ) → (count == 0) ≡ b → IsOfMachine t w → count ≡ counted unmet → LivesOut reasons t w given unmet old new
     → RunsLiveTable reasons t given old new (if b then Ok tt else Err (Unmet count))
 ran true given old new reasons t w count unmet is begins counts all =
     let none : unmet ≡ 0 = counted_none count unmet counts (zero_of count is) in
     (w, begins, subst (λ (n : ℕ). LivesOut reasons t w given n old new) none all)
 ran false given old new reasons t w count unmet is begins counts all = inr (inr (unmet, counted_some count unmet counts is, ap Unmet counts, (w, begins, all)))
 
-pub lives_ran : (r : Result Unit Refusal) (given old new : Option (List ℕ)) (reasons : Reasons) (t u : Contents) (w : WorldState) (count : ℕ) → u ≡ t → r ≡ ended_by count → BeginsAs t w
+pub lives_ran : (r : Result Unit Refusal) (given old new : Option (List ℕ)) (reasons : Reasons) (t u : Contents) (w : WorldState) (count : ℕ) → u ≡ t → r ≡ ended_by count → IsOfMachine t w
     → (unmet : ℕ) × (count ≡ counted unmet) × LivesOut reasons u w given unmet old new → RunsLiveTable reasons t given old new r
 lives_ran r given old new reasons t u w count same is begins (unmet, counts, all) =
     let of_it : LivesOut reasons t w given unmet old new = subst (λ (x : Contents). LivesOut reasons x w given unmet old new) same all in
     subst (RunsLiveTable reasons t given old new) (sym is) (ran (count == 0) given old new reasons t w count unmet refl begins counts of_it)
 
 -- and lines that are cut short
-pub lives_cut : {T : Type 0} (r : Result Unit Refusal) (printed : Result T Refusal) (e : Refusal) (given old new : Option (List ℕ)) (reasons : Reasons) (t u : Contents) (w : WorldState) → u ≡ t → BeginsAs t w
+pub lives_cut : {T : Type 0} (r : Result Unit Refusal) (printed : Result T Refusal) (e : Refusal) (given old new : Option (List ℕ)) (reasons : Reasons) (t u : Contents) (w : WorldState) → u ≡ t → IsOfMachine t w
     → printed ≡ Err e → OnErr printed (LivesPart reasons u w given old new) → IfErr printed IsLiveLate → IsErrAnd r (λ x. x ≡ e) → RunsLiveTable reasons t given old new r
 lives_cut (Ok done) printed e given old new reasons t u w table begins is some late same = absurd same
 lives_cut {T} (Err x) printed e given old new reasons t u w table begins is some late same =

@@ -7,6 +7,7 @@ use Rattle.ec_lines.specs.Taking.{RefusesText, TakesLine, TakesLines, TakesText,
 use Rattle.ec_table.specs.Contents.{Contents}
 use Rattle.ec_link.specs.Machine.{StatesMachine}
 use Rattle.ec_text.specs.PlanText.{newline}
+use Rattle.ec_world.specs.Whole.{IsOfMachine}
 use Rattle.ec_world.specs.World.{WorldState}
 use Rattle.ec_script.specs.declared.read.Reading.{Reading}
 use Rattle.ec_script.specs.declared.read.Reading.TheVariants as reading
@@ -16,7 +17,7 @@ use Rattle.ec_console.specs.declared.refusal.Refusal.{Refusal}
 use Rattle.ec_console.specs.declared.refusal.Refusal.TheVariants.{Memory, Output, Input}
 use Rattle.ec_console.specs.Given.{IsTableRefusal, lines_refusal}
 use Rattle.ec_console.specs.Printing.{AppendsPart}
-use Rattle.ec_sim.specs.Simulating.{BeginsAs, EndsUnmet, PrintsPart, Says}
+use Rattle.ec_sim.specs.Simulating.{EndsUnmet, PrintsPart, Says}
 
 -- ---- what a line is
 
@@ -82,11 +83,11 @@ IsLiveLate _ = ⊥
 
 -- the lines run over slaves of the table that are switched on
 abbrev pub RunsLiveTable : Reasons → Contents → (given old new : Option (List ℕ)) → Result Unit Refusal → Type 0
-RunsLiveTable reasons t given old new (Ok done) = (w : WorldState) × BeginsAs t w × LivesOut reasons t w given 0 old new
+RunsLiveTable reasons t given old new (Ok done) = (w : WorldState) × IsOfMachine t w × LivesOut reasons t w given 0 old new
 RunsLiveTable reasons t given old new (Err refusal) =
     ((refusal ≡ Memory) × (new ≡ old))
-    ⊎ ((IsLiveLate refusal × (w : WorldState) × BeginsAs t w × LivesPart reasons t w given old new)
-    ⊎ EndsUnmet refusal (λ unmet. (w : WorldState) × BeginsAs t w × LivesOut reasons t w given unmet old new))
+    ⊎ ((IsLiveLate refusal × (w : WorldState) × IsOfMachine t w × LivesPart reasons t w given old new)
+    ⊎ EndsUnmet refusal (λ unmet. (w : WorldState) × IsOfMachine t w × LivesOut reasons t w given unmet old new))
 
 -- the input begins with a table that is accepted; or with one that is refused, or can't be taken, and nothing is printed
 abbrev pub RunsLive : Reasons → (given old new : Option (List ℕ)) → Result Unit Refusal → Type 0

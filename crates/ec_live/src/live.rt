@@ -3,7 +3,6 @@
 ghost use Rattle.std.specs.Prelude.{◌≡◌, ◌++◌, ℕ, List, IfOk, IfErr, OnOk, OnErr, codes};
 ghost use Rattle.std.specs.Fmt.{decimal};
 ghost use Rattle.std.specs.Io.KnownBytes.{Appends};
-ghost use Rattle.ec_link.specs.Plan.{plan_of};
 ghost use Rattle.ec_text.specs.PlanText.{newline};
 ghost use Rattle.ec_live.specs.Living.{IsLiveLate, LivesOut, LivesPart, RunsLive, RunsLiveTable, SaysPart, SaysReading};
 ghost use Rattle.ec_console.specs.Explaining.{IsLeft};
@@ -16,7 +15,7 @@ use ec_console::{Explanation, Refusal, print_text, read_machine};
 use ec_lines::{NextLine, take_line, take_text};
 use ec_link::Machine;
 use ec_script::{Reading, read_line};
-use ec_sim::{end_of, print_line, world_of};
+use ec_sim::{end_of, print_line};
 use ec_table::Table;
 use ec_watch::Watch;
 use ec_why::Reasons;
@@ -83,7 +82,7 @@ fn run_live_machine<H: AllocGlobal + Files, R: Read, W: Write>(
         (W.contents output.new) result }
 {
     let table = machine.table();
-    let mut world = world_of(rt.alloc(), machine)?;
+    let mut world = World::of_machine(rt.alloc(), machine)?;
     let unmet = print_live_watched(rt, table, reasons, &mut world, file, input, output)?;
     end_of(unmet)
 }
@@ -99,7 +98,6 @@ fn print_live_watched<H: AllocGlobal + Files, R: Read, W: Write>(
     input: &mut R,
     output: &mut W,
 ) -> Result<u64, Refusal>
-    requires { world.old.plan ≡ plan_of table.now }
     ensures all { IfOk result (λ count. (unmet : ℕ) × (count ≡ counted unmet)
         × LivesOut reasons table.now world.old (R.remaining input.old) unmet
         (W.contents output.old) (W.contents output.new)) }
@@ -132,7 +130,6 @@ fn print_live_captured<F: Write + Drop, R: Read, W: Write>(
     input: &mut R,
     output: &mut W,
 ) -> Result<u64, Refusal>
-    requires { world.old.plan ≡ plan_of table.now }
     ensures all { IfOk result (λ count. (unmet : ℕ) × (count ≡ counted unmet)
         × LivesOut reasons table.now world.old (R.remaining input.old) unmet
         (W.contents output.old) (W.contents output.new)) }
@@ -156,7 +153,6 @@ fn print_live_lines<S: Watcher, R: Read, W: Write>(
     input: &mut R,
     output: &mut W,
 ) -> Result<u64, Refusal>
-    requires { world.old.plan ≡ plan_of table.now }
     ensures all { IfOk result (λ count. (unmet : ℕ) × (count ≡ counted unmet)
         × LivesOut reasons table.now world.old (R.remaining input.old) unmet
         (W.contents output.old) (W.contents output.new)) }
@@ -191,14 +187,12 @@ fn print_reading<S: Watcher, W: Write>(
     reading: Reading,
     output: &mut W,
 ) -> Result<u64, Refusal>
-    requires { world.old.plan ≡ plan_of table.now }
     ensures all { IfOk result (λ count. (unmet : ℕ) × (count ≡ counted unmet) × (printed : List ℕ)
         × SaysReading reasons table.now world.old number reading world.new printed unmet
         × Appends (W.contents output.old) (W.contents output.new) printed) }
     ensures part { OnErr result (SaysPart reasons table.now world.old number reading
         (W.contents output.old) (W.contents output.new)) }
     ensures late { IfErr result IsLate }
-    ensures plan { world.new.plan ≡ world.old.plan }
 {
     match reading {
         Reading::Empty => Ok(0),

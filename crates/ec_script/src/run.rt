@@ -1,7 +1,6 @@
 //! Running a line over a world.
 ghost use Rattle.std.specs.Prelude.{◌≡◌, ◌++◌, codes, string_bytes};
 ghost use Rattle.std.specs.Result.{IfOk};
-ghost use Rattle.ec_link.specs.Plan.{plan_of};
 ghost use Rattle.ec_text.specs.PlanText.{newline};
 ghost use Rattle.ec_world.specs.NewWorld.{IsToStart};
 ghost use Rattle.ec_script.specs.declared.line.LineAction.TheVariants.{Ready};
@@ -67,7 +66,6 @@ pub fn run_line(
     table: &Table,
     line: &Line,
 ) -> Result<String, AllocError>
-    requires { world.old.plan ≡ plan_of table.now }
     ensures does { (said : LineOutput) × Does line.now.act world.old world.new said
         × RunsLine line.now.act world.old world.new (is_done said)
         × IfOk result (λ text. string_bytes text ≡ output_text table.now line.now.number world.new said) }

@@ -4,7 +4,6 @@ ghost use Rattle.ec_cycle.specs.Master.{value_at};
 ghost use Rattle.ec_text.specs.PlanText.{lines_from};
 ghost use Rattle.ec_text.specs.InputText.{input_line, shown};
 ghost use Rattle.ec_script.specs.Texts.{byte_text, last_report_text, output_text};
-ghost use Rattle.ec_link.specs.Plan.{plan_of};
 ghost use Rattle.ec_script.specs.Work.{is_done, is_unmet};
 
 use ec_table::{Table, VariableRow, Version};
@@ -76,7 +75,6 @@ pub fn output_text(
     number: usize,
     said: LineOutput,
 ) -> Result<String, AllocError>
-    requires { world.now.plan ≡ plan_of table.now }
     ensures { IfOk result (λ text. string_bytes text ≡ output_text table.now number world.now said) }
 {
     let mut text = String::new(alloc);

@@ -227,10 +227,7 @@ fn say_line(
     table: &Table,
     line: &Line,
     printed: &mut String,
-) -> Result<(), AllocError>
-    requires { world.old.plan ≡ plan_of table.now }
-    ensures { world.new.plan ≡ world.old.plan }
-{
+) -> Result<(), AllocError> {
     for _ in 0..line.times {
         let text = run_line(alloc, world, table, line)?;
         printed.push_str(text.as_str())?;
@@ -244,9 +241,7 @@ fn said(
     world: &mut World<'_>,
     table: &Table,
     lines: &[Line],
-) -> Result<String, AllocError>
-    requires { world.old.plan ≡ plan_of table.now }
-{
+) -> Result<String, AllocError> {
     let mut printed = String::new(alloc);
     for line in lines {
         say_line(alloc, world, table, line, &mut printed)?;

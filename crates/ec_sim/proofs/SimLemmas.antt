@@ -6,6 +6,7 @@ use Rattle.std.proofs.lemmas.Bool.Decides.{nat_tests}
 use Rattle.std.proofs.lemmas.List.{drop_all, replicate-append-replicate, take-append-drop, take_all, take_more}
 use Rattle.ec_table.specs.Contents.{Contents}
 use Rattle.ec_link.specs.Machine.{StatesMachine}
+use Rattle.ec_world.specs.Whole.{IsOfMachine}
 use Rattle.ec_world.specs.World.{WorldState}
 use Rattle.ec_script.specs.declared.line.Line.{Line}
 use Rattle.ec_script.specs.declared.said.LineOutput.{LineOutput}
@@ -21,7 +22,7 @@ use Rattle.ec_console.specs.declared.refusal.Refusal.TheVariants.{Memory, Unmet}
 use Rattle.ec_console.specs.Printing.{AppendsPart}
 use Rattle.ec_sim.specs.Stages.{IsBadScript, IsLineText, RunsScript}
 use Rattle.ec_console.specs.Given.{IsTableRefusal}
-use Rattle.ec_sim.specs.Simulating.{BeginsAs, IsHalfRefusal, IsLate, IsSimRefusal, IsSimulation, PrintsAll, PrintsLines, PrintsPart, PrintsSome, RunsLines, RunsText, Says, SaysLine, counted, ended_by, unmet_of}
+use Rattle.ec_sim.specs.Simulating.{IsHalfRefusal, IsLate, IsSimRefusal, IsSimulation, PrintsAll, PrintsLines, PrintsPart, PrintsSome, RunsLines, RunsText, Says, SaysLine, counted, ended_by, unmet_of}
 use Rattle.ec_captured.specs.Capturing.{IsUnopened}
 use Rattle.ec_console.proofs.PrintLemmas.{appends_more, appends_nothing, whole_part}
 
@@ -201,28 +202,25 @@ pub record AreSaid (reasons : Reasons) (t : Contents) (w : WorldState) (lines : 
   pub unmet : ℕ
   pub counts : count ≡ counted unmet
   pub printed : PrintsAll reasons t w (repeated (take i lines)) now unmet old new
-  pub plan : now.plan ≡ w.plan
 
 pub none_said : (reasons : Reasons) (t : Contents) (w : WorldState) (lines : List Line) (old : Option (List ℕ)) → AreSaid reasons t w lines 0 w 0 old old
 none_said reasons t w lines old = record {
   unmet = 0;
   counts = refl;
   printed = subst (λ (ls : List Line). PrintsAll reasons t w ls w 0 old old) (sym repeated_none) (prints_none reasons t w old);
-  plan = refl;
 }
 
 sum_counted : (a b c d : ℕ) → c ≡ counted a → d ≡ counted b → min (c + d) (2 ^ 64 - 1) ≡ counted (a + b)
 sum_counted a b c d h g = omega arith
 
 pub said_more : (reasons : Reasons) (t : Contents) (w : WorldState) (lines : List Line) (i : ℕ) (d : Line) (now new : WorldState) (count more total : ℕ) (old half whole : Option (List ℕ)) → AreSaid reasons t w lines i now count old half
-    → i < length lines → (unmet : ℕ) × (more ≡ counted unmet) × PrintsAll reasons t now (replicate (get_or lines i d).times (get_or lines i d)) new unmet half whole → new.plan ≡ now.plan
+    → i < length lines → (unmet : ℕ) × (more ≡ counted unmet) × PrintsAll reasons t now (replicate (get_or lines i d).times (get_or lines i d)) new unmet half whole
     → total ≡ min (count + more) (2 ^ 64 - 1) → AreSaid reasons t w lines (i + 1) new total old whole
-said_more reasons t w lines i d now new count more total old half whole h lt (unmet, counts, printed) plan is = record {
+said_more reasons t w lines i d now new count more total old half whole h lt (unmet, counts, printed) is = record {
   unmet = h.unmet + unmet;
   counts = is ∙ sum_counted h.unmet unmet count more h.counts counts;
   printed = subst (λ (ls : List Line). PrintsAll reasons t w ls new (h.unmet + unmet) old whole) (sym (repeated_at lines i d lt))
       (prints_join reasons t w now new (repeated (take i lines)) (replicate (get_or lines i d).times (get_or lines i d)) h.unmet unmet old half whole h.printed printed);
-  plan = plan ∙ h.plan;
 }
 
 pub said_part : (reasons : Reasons) (t : Contents) (w : WorldState) (lines : List Line) (i : ℕ) (d : Line) (now : WorldState) (count : ℕ) (old half whole : Option (List ℕ)) → AreSaid reasons t w lines i now count old half → i < length lines
@@ -253,21 +251,21 @@ counted_none count unmet is none = omega arith
 counted_some : (count unmet : ℕ) → count ≡ counted unmet → (count == 0) ≡ false → 0 < unmet
 counted_some count unmet is some = let more : 0 < count = grind (arith, nat_tests) in omega arith
 
-ran : (b : Bool) (old new : Option (List ℕ)) (reasons : Reasons) (t : Contents) (w : WorldState) (lines : List Line) (count unmet : ℕ) → (count == 0) ≡ b → BeginsAs t w → count ≡ counted unmet → PrintsLines reasons t w lines unmet old new
+ran : (b : Bool) (old new : Option (List ℕ)) (reasons : Reasons) (t : Contents) (w : WorldState) (lines : List Line) (count unmet : ℕ) → (count == 0) ≡ b → IsOfMachine t w → count ≡ counted unmet → PrintsLines reasons t w lines unmet old new
     → RunsLines reasons t lines old new (if b then Ok tt else Err (Unmet count))
 ran true old new reasons t w lines count unmet is begins counts all =
     let none : unmet ≡ 0 = counted_none count unmet counts (grind (arith, nat_tests)) in
     (w, begins, subst (λ (n : ℕ). PrintsLines reasons t w lines n old new) none all)
 ran false old new reasons t w lines count unmet is begins counts all = inr (inr (unmet, counted_some count unmet counts is, ap Unmet counts, (w, begins, all)))
 
-pub lines_ran : (r : Result Unit Refusal) (old new : Option (List ℕ)) (reasons : Reasons) (t u : Contents) (w : WorldState) (lines : List Line) (count : ℕ) → u ≡ t → r ≡ ended_by count → BeginsAs t w
+pub lines_ran : (r : Result Unit Refusal) (old new : Option (List ℕ)) (reasons : Reasons) (t u : Contents) (w : WorldState) (lines : List Line) (count : ℕ) → u ≡ t → r ≡ ended_by count → IsOfMachine t w
     → (unmet : ℕ) × (count ≡ counted unmet) × PrintsLines reasons u w lines unmet old new → RunsLines reasons t lines old new r
 lines_ran r old new reasons t u w lines count same is begins (unmet, counts, all) =
     let of_it : PrintsLines reasons t w lines unmet old new = subst (λ (x : Contents). PrintsLines reasons x w lines unmet old new) same all in
     subst (RunsLines reasons t lines old new) (sym is) (ran (count == 0) old new reasons t w lines count unmet refl begins counts of_it)
 
 -- and lines that are cut short
-pub lines_cut : {T : Type 0} (r : Result Unit Refusal) (printed : Result T Refusal) (e : Refusal) (old new : Option (List ℕ)) (reasons : Reasons) (t u : Contents) (w : WorldState) (lines : List Line) → u ≡ t → BeginsAs t w
+pub lines_cut : {T : Type 0} (r : Result Unit Refusal) (printed : Result T Refusal) (e : Refusal) (old new : Option (List ℕ)) (reasons : Reasons) (t u : Contents) (w : WorldState) (lines : List Line) → u ≡ t → IsOfMachine t w
     → printed ≡ Err e → OnErr printed (PrintsSome reasons u w lines old new) → IfErr printed IsLate → IsErrAnd r (λ x. x ≡ e) → RunsLines reasons t lines old new r
 lines_cut (Ok done) printed e old new reasons t u w lines table begins is some late same = absurd same
 lines_cut {T} (Err x) printed e old new reasons t u w lines table begins is some late same =

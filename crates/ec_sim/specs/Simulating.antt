@@ -1,12 +1,9 @@
 -- What `ecat sim` answers (this project's profile).
 use Rattle.std.specs.Prelude.{◌≡◌, ◌⊎◌, ℕ, ◌+◌, ◌-◌, ◌^◌, ◌<◌, ◌==◌, min, List, [], ◌∷◌, ◌++◌, take, if◌then◌else◌, Option, Result, Ok, Err}
 use Rattle.std.specs.Io.KnownBytes.{Appends}
-use Rattle.ec_device.specs.declared.slave_type.Identity.{Identity}
 use Rattle.ec_table.specs.Contents.{Contents}
 use Rattle.ec_link.specs.Machine.{StatesMachine}
-use Rattle.ec_link.specs.Plan.{plan_of}
-use Rattle.ec_bringup.specs.SwitchedOn.{AreIdentities}
-use Rattle.ec_world.specs.Whole.{new_world}
+use Rattle.ec_world.specs.Whole.{IsOfMachine}
 use Rattle.ec_world.specs.World.{WorldState}
 use Rattle.ec_script.specs.declared.error.ScriptError.{ScriptError}
 use Rattle.ec_script.specs.declared.line.Line.{Line}
@@ -97,21 +94,15 @@ pub record IsSimulation (text : List ℕ) (t : Contents) (lines : List Line) : T
   pub states : StatesMachine table t
   pub read : script_of t script ≡ Ok lines
 
--- its slaves are switched on
-pub record BeginsAs (t : Contents) (w : WorldState) : Type 0 where
-  pub identities : List Identity
-  pub shown : AreIdentities t identities
-  pub is : w ≡ new_world (plan_of t) identities
-
 -- the lines run over slaves of the table that are switched on, and what they say is printed, where what they expect is so; or
 -- it isn't, so many times; or a script that runs is cut short, and what it said until then is printed; or memory is refused
 -- before the first line
 abbrev pub RunsLines : Reasons → Contents → List Line → Option (List ℕ) → Option (List ℕ) → Result Unit Refusal → Type 0
-RunsLines reasons t lines old new (Ok done) = (w : WorldState) × BeginsAs t w × PrintsLines reasons t w lines 0 old new
+RunsLines reasons t lines old new (Ok done) = (w : WorldState) × IsOfMachine t w × PrintsLines reasons t w lines 0 old new
 RunsLines reasons t lines old new (Err refusal) =
     ((refusal ≡ Memory) × (new ≡ old))
-    ⊎ ((IsLate refusal × (w : WorldState) × BeginsAs t w × PrintsSome reasons t w lines old new)
-    ⊎ EndsUnmet refusal (λ unmet. (w : WorldState) × BeginsAs t w × PrintsLines reasons t w lines unmet old new))
+    ⊎ ((IsLate refusal × (w : WorldState) × IsOfMachine t w × PrintsSome reasons t w lines old new)
+    ⊎ EndsUnmet refusal (λ unmet. (w : WorldState) × IsOfMachine t w × PrintsLines reasons t w lines unmet old new))
 
 -- the first fault of the table, or of its plan, or the first bad line of the script, in this order
 abbrev pub IsScriptRefusal : List ℕ → List ℕ → ScriptError → Type 0
@@ -130,7 +121,7 @@ pub record Simulates (text : List ℕ) (Printed : Contents → WorldState → Li
   pub lines : List Line
   pub world : WorldState
   pub simulation : IsSimulation text t lines
-  pub begins : BeginsAs t world
+  pub begins : IsOfMachine t world
   pub printed : Printed t world lines
 
 -- how it ends, by what the writer holds before and after: all is printed, and what is expected is so; or it isn't, so many

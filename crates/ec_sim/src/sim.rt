@@ -1,13 +1,11 @@
 //! `ecat sim`: a link table and a script on the input, and what the script does to a simulated segment of the table.
 ghost use Rattle.std.specs.Prelude.{◌≡◌, ◌∷◌, [], ℕ, IfErr, IfOk, OnErr, string_bytes, if◌then◌else◌, replicate};
-ghost use Rattle.ec_link.specs.Plan.{plan_of};
 ghost use Rattle.ec_console.specs.Explaining.{IsLeft};
-ghost use Rattle.ec_sim.specs.Simulating.{BeginsAs, IsLate, PrintsAll, PrintsLines, PrintsPart, PrintsSome, RunsLines, RunsSim, RunsText, counted, ended_by};
+ghost use Rattle.ec_sim.specs.Simulating.{IsLate, PrintsAll, PrintsLines, PrintsPart, PrintsSome, RunsLines, RunsSim, RunsText, counted, ended_by};
 ghost use Rattle.ec_script.specs.Seeing.{Sees};
 ghost use Rattle.ec_sim.specs.Capturing.{NotesRun};
 ghost use Rattle.ec_sim.specs.Stages.{IsLineText, RunsScript};
 
-use ec_bringup::identities_of;
 use ec_captured::{Recording, finish_recording, open_segment};
 use ec_console::{Explanation, Refusal, print_text, read_machine, read_text};
 use ec_link::Machine;
@@ -31,7 +29,6 @@ pub fn print_line<S: Watcher, W: Write>(
     line: &Line,
     output: &mut W,
 ) -> Result<u64, Refusal>
-    requires { world.old.plan ≡ plan_of table.now }
     ensures all { IfOk result (λ count. (unmet : ℕ) × (count ≡ counted unmet)
         × PrintsAll reasons table.now world.old (replicate line.now.times line.now) world.new unmet
         (W.contents output.old) (W.contents output.new)) }
@@ -65,7 +62,6 @@ pub fn print_noted<F: Write + Drop, W: Write>(
     lines: &[Line],
     output: &mut W,
 ) -> Result<u64, Refusal>
-    requires { world.old.plan ≡ plan_of table.now }
     ensures all { IfOk result (λ count. (unmet : ℕ) × (count ≡ counted unmet)
         × PrintsLines reasons table.now world.old lines.now unmet
         (W.contents output.old) (W.contents output.new)) }
@@ -86,21 +82,6 @@ pub fn end_of(unmet: u64) -> Result<(), Refusal>
     } else {
         Err(Refusal::Unmet(unmet))
     }
-}
-
-/// The world of a machine: its slaves are switched on, with the identities that its table says.
-///
-/// # Errors
-///
-/// `AllocError` where there is no memory.
-pub fn world_of<'m>(alloc: Global, machine: &'m Machine) -> Result<World<'m>, AllocError>
-    ensures begins { IfOk result (BeginsAs machine.now) }
-    ensures plan { IfOk result (λ world. world.plan ≡ plan_of machine.now) }
-{
-    let table = machine.table();
-    let identities = identities_of(alloc, table)?;
-    let world = World::new(alloc, table, machine.plan(), identities.as_slice())?;
-    Ok(world)
 }
 
 /// Runs the script that the input gives behind a link table and a line `%%`. Its slaves begin at power-on, with the
@@ -137,7 +118,6 @@ fn print_once<S: Watcher, W: Write>(
     line: &Line,
     output: &mut W,
 ) -> Result<bool, Refusal>
-    requires { world.old.plan ≡ plan_of table.now }
     ensures all { IfOk result (λ unmet. PrintsAll reasons table.now world.old (line.now ∷ []) world.new
         (if unmet then 1 else 0) (W.contents output.old) (W.contents output.new)) }
     ensures part { OnErr result (PrintsPart reasons table.now world.old (line.now ∷ [])
@@ -165,7 +145,6 @@ fn line_text(
     said: LineOutput,
     had_cycle: bool,
 ) -> Result<String, AllocError>
-    requires { world.now.plan ≡ plan_of table.now }
     ensures { IfOk result (λ text.
         IsLineText reasons table.now line.now.number world.now said (string_bytes text)) }
 {
@@ -189,7 +168,6 @@ fn print_lines<S: Watcher, W: Write>(
     lines: &[Line],
     output: &mut W,
 ) -> Result<u64, Refusal>
-    requires { world.old.plan ≡ plan_of table.now }
     ensures all { IfOk result (λ count. (unmet : ℕ) × (count ≡ counted unmet)
         × PrintsLines reasons table.now world.old lines.now unmet
         (W.contents output.old) (W.contents output.new)) }
@@ -217,7 +195,6 @@ fn print_watched<H: AllocGlobal + Files, W: Write>(
     file: Option<&str>,
     output: &mut W,
 ) -> Result<u64, Refusal>
-    requires { world.old.plan ≡ plan_of table.now }
     ensures all { IfOk result (λ count. (unmet : ℕ) × (count ≡ counted unmet)
         × PrintsLines reasons table.now world.old lines.now unmet
         (W.contents output.old) (W.contents output.new)) }
@@ -250,7 +227,6 @@ fn print_captured<F: Write + Drop, W: Write>(
     lines: &[Line],
     output: &mut W,
 ) -> Result<u64, Refusal>
-    requires { world.old.plan ≡ plan_of table.now }
     ensures all { IfOk result (λ count. (unmet : ℕ) × (count ≡ counted unmet)
         × PrintsLines reasons table.now world.old lines.now unmet
         (W.contents output.old) (W.contents output.new)) }
@@ -306,7 +282,7 @@ fn run_lines<H: AllocGlobal + Files, W: Write>(
     ensures { RunsLines reasons machine.now lines.now (W.contents output.old) (W.contents output.new) result }
 {
     let table = machine.table();
-    let mut world = world_of(rt.alloc(), machine)?;
+    let mut world = World::of_machine(rt.alloc(), machine)?;
     let unmet = print_watched(rt, table, reasons, &mut world, lines, file, output)?;
     end_of(unmet)
 }

@@ -221,28 +221,29 @@ fn exchange_through_one_fmmu(rt: HostRuntime) -> Result<(), Fail> {
     )
 }
 
+/// A slave without objects whose type takes no part in LRW.
+fn slave_apart(alloc: Global) -> Result<Slave, AllocError> {
+    let (outputs, inputs) = (Listed::new(alloc), Listed::new(alloc));
+    let kind = SlaveType::new(IDENTITY.device(), None, 0, 0, outputs, inputs, false);
+    Slave::new(alloc, kind, IDENTITY)
+}
+
 // A type may take no part in LRW; LWR and LRD still reach it.
 #[test]
 fn slave_without_lrw(rt: HostRuntime) -> Result<(), Fail> {
-    let none = Listed::new(rt.alloc());
-    let kind = SlaveType::new(
-        IDENTITY.device(),
-        None,
-        0,
-        0,
-        none,
-        Listed::new(rt.alloc()),
-        false,
-    );
-    let steps = [
-        OUTPUTS,
-        WRITES_OUTPUTS,
-        Answers(Lrw, 0x0001_0001, "0405", "0405", 0),
-        Outputs("0000"),
-        Answers(Lwr, 0x0001_0001, "0405", "0405", 1),
-        Outputs("0405"),
-    ];
-    take_all(&rt, &mut Slave::new(rt.alloc(), kind, IDENTITY)?, &steps)
+    let mut slave = slave_apart(rt.alloc())?;
+    take_all(
+        &rt,
+        &mut slave,
+        &[
+            OUTPUTS,
+            WRITES_OUTPUTS,
+            Answers(Lrw, 0x0001_0001, "0405", "0405", 0),
+            Outputs("0000"),
+            Answers(Lwr, 0x0001_0001, "0405", "0405", 1),
+            Outputs("0405"),
+        ],
+    )
 }
 
 // Logical addresses don't wrap: the byte after the last one is no FMMU's at 0.

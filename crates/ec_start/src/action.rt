@@ -11,16 +11,32 @@ use ec_coe::{Message, SdoCommand, SdoValue, Service, write_message};
 use ec_device::Mailbox;
 use ec_frame::{Command, address_of};
 use ec_regs::registers::{
-    AL_CONTROL, AL_STATUS, FMMUS, SII_CONTROL, STATION_ADDRESS, SYNC_MANAGERS, fmmu_address,
+    AL_CONTROL, AL_STATUS, AL_STATUS_CODE, FMMU_SIZE, FMMUS, FMMUS_END, MANAGER_SIZE, SII_ADDRESS,
+    SII_CONTROL, SII_DATA, STATION_ADDRESS, SYNC_MANAGERS, SYNC_MANAGERS_END, fmmu_address,
     manager_address,
 };
-use ec_regs::{FmmuSettings, SyncManagerSettings, encode_fmmu, encode_manager};
+use ec_regs::{AlWord, FmmuSettings, SiiControl, SyncManagerSettings, encode_fmmu, encode_manager};
 
 /// The most data of an action: a mailbox.
 pub const MAX_DATA: usize = 1024;
 
 /// The station address of slave 0; the others follow.
 const FIRST_STATION: u16 = 0x1001;
+
+/// The bytes of one word: AL control, AL status, or a station address.
+const WORD: usize = 2;
+/// The bytes from the AL status to the end of its code.
+const STATE_WITH_CODE: usize = AL_STATUS_CODE + WORD - AL_STATUS;
+/// The command of the SII's control word that reads.
+const SII_READ: u8 = 1;
+/// Where the SII's word address stands behind the SII's control word.
+const WORD_ADDRESS: usize = SII_ADDRESS - SII_CONTROL;
+/// The bytes of the SII's control and word address: an order to read.
+const SII_ORDER: usize = SII_DATA - SII_CONTROL;
+/// The bytes from the SII's control to the end of the two words that it read.
+const SII_ANSWER: usize = SII_ORDER + 2 * WORD;
+/// The SII word where the vendor stands; product and revision follow, two words each.
+const VENDOR_WORD: u32 = 0x08;
 
 /// What an SDO request transfers.
 #[derive(Clone, Copy)]
@@ -192,13 +208,14 @@ impl Action {
             | Action::AwaitInit
             | Action::ClearStations
             | Action::NameSlave { .. }
-            | Action::AskState { .. } => 2,
-            Action::ClearFmmus => 64,
-            Action::ClearManagers => 32,
-            Action::AskWord { .. } | Action::AwaitState { .. } => 6,
-            Action::AwaitWord { .. } => 10,
-            Action::SetManager { .. } => 8,
-            Action::SetFmmu { .. } => 16,
+            | Action::AskState { .. } => WORD,
+            Action::ClearFmmus => FMMUS_END - FMMUS,
+            Action::ClearManagers => SYNC_MANAGERS_END - SYNC_MANAGERS,
+            Action::AskWord { .. } => SII_ORDER,
+            Action::AwaitWord { .. } => SII_ANSWER,
+            Action::AwaitState { .. } => STATE_WITH_CODE,
+            Action::SetManager { .. } => MANAGER_SIZE,
+            Action::SetFmmu { .. } => FMMU_SIZE,
             Action::SendRequest { mailbox, .. } => mailbox.receive_size as usize,
             Action::AwaitReply { mailbox, .. } => mailbox.send_size as usize,
         }
@@ -211,13 +228,18 @@ impl Action {
         ensures { bytes.new ≡ (datagram_of self.now 0).data_bytes }
     {
         match self {
-            Action::AskInit => bytes.copy_from_slice(&[0x11, 0]),
+            Action::AskInit => {
+                let word = AlWord::new(State::Init.number() as u8, true);
+                bytes.copy_from_slice(&word.0.to_le_bytes());
+            }
             Action::NameSlave { slave } => {
                 bytes.copy_from_slice(&station(*slave).to_le_bytes());
             }
             Action::AskWord { which, .. } => {
-                bytes[1] = 1;
-                bytes[2..].copy_from_slice(&word_place(*which).to_le_bytes());
+                bytes[..WORD_ADDRESS].copy_from_slice(
+                    &SiiControl::new(SII_READ, false, false).0.to_le_bytes(),
+                );
+                bytes[WORD_ADDRESS..].copy_from_slice(&word_place(*which).to_le_bytes());
             }
             Action::SetManager { settings, .. } => {
                 bytes.copy_from_slice(&encode_manager(settings));
@@ -287,7 +309,7 @@ fn word_place(which: usize) -> u32
     requires { which ≤ 2 }
     ensures { result ≡ word_place which }
 {
-    0x08 + 2 * which as u32
+    VENDOR_WORD + 2 * which as u32
 }
 
 /// The station address of a slave.

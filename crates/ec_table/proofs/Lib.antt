@@ -1,5 +1,7 @@
 -- the map of a TOML table beside its members
 pub mod Lookups
+-- one more key of an element that is read in one pass
+pub mod OnePass
 -- a name's place, and one more name
 pub mod Naming
 -- one row of a section, and the end

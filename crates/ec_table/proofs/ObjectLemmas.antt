@@ -24,6 +24,7 @@ use Rattle.ec_device.specs.Objects.{entries_at, assigned_entries, bits_of, entry
 use Rattle.ec_table.specs.Sound.{IsOnce, IsType, IsAssignment, IsSlave, AreSlaves, first_index}
 use Rattle.ec_table.proofs.Ranges.{limits_toward}
 use Rattle.ec_table.specs.Objects.{entries_of, type_of, object_bits}
+use Rattle.ec_table.specs.Laws.{ObjectBitsAreCounted, EntriesAreAssigned, EntriesAreFew}
 
 -- no list without doubles is longer than one that has all its elements
 length_le : (xs ys : List ℕ) → IsOnce xs → All (Contains ys) xs → length xs ≤ length ys
@@ -88,11 +89,17 @@ object_bounds c s d r t slaves is it kind =
     let few : length (assigned_entries (pdos_toward d t) (assigned_toward d r)) ≤ 1024 = few_entries d t r (limits_toward t kind d) (row.assigned t d at) in
     subst ObjectBounds (sym (entries_are c s d r t is it)) (record { each = each; few = few; bits = few_bits _ each few })
 
+pub entries_are_assigned : EntriesAreAssigned
+entries_are_assigned c s d r t is it = entries_are c s d r t is it
+
+pub entries_are_few : EntriesAreFew
+entries_are_few c s d r t slaves is it kind = (object_bounds c s d r t slaves is it kind).bits
+
 count_bits : (es : List Entry) → length (flat_map entry_bits es) ≡ bits_of es
 count_bits [] = refl
 count_bits (e ∷ es) =
     let here : length (entry_bits e) ≡ e.bits = length-map-range_with_len (λ k. if e.index == 0 then None else Some (record { index = e.index; subindex = e.subindex; bit = k })) 0 e.bits in
     length-append (entry_bits e) (flat_map entry_bits es) ∙ rw (here, count_bits es) (sym (sum_by-cons (λ (e : Entry). e.bits) e es))
 
-pub object_bits_counted : (c : Contents) (s : ℕ) (d : Direction) → length (object_bits c s d) ≡ bits_of (entries_of c s d)
+pub object_bits_counted : ObjectBitsAreCounted
 object_bits_counted c s d = count_bits (entries_of c s d)

@@ -1,5 +1,5 @@
 -- What the reading of link tables keeps, in the format's own words.
-use Rattle.std.specs.Prelude.{◌≡◌, ℕ, false, List, [], ◌∷◌, ◌++◌, length, take, codes, IsTrue, slice_get, Result, Ok, Err, Option, Some, None}
+use Rattle.std.specs.Prelude.{◌≡◌, ◌≤◌, ℕ, false, List, [], ◌∷◌, ◌++◌, length, take, codes, IsTrue, slice_get, Result, Ok, Err, Option, Some, None}
 use Rattle.toml.specs.Data.{Data, Members, get_member}
 use Rattle.toml.specs.Parse.{parse_document}
 use Rattle.toml.specs.View.{items_of}
@@ -15,14 +15,14 @@ use Rattle.ec_table.specs.declared.rows.TypeRow.{TypeRow}
 use Rattle.ec_table.specs.declared.rows.SlaveRow.{SlaveRow}
 use Rattle.ec_table.specs.declared.rows.VariableRow.{VariableRow}
 use Rattle.ec_table.specs.declared.rows.LinkRow.{LinkRow}
-use Rattle.ec_table.specs.Contents.{Contents, as_stated}
-use Rattle.ec_table.specs.Sound.{IsSound}
+use Rattle.ec_table.specs.Contents.{Contents, as_stated, pdos_toward, assigned_toward}
+use Rattle.ec_table.specs.Sound.{IsSound, AreSlaves, IsType}
 use Rattle.ec_table.specs.Faults.{fault_place}
 use Rattle.ec_table.specs.Pdos.{indices_of}
 use Rattle.ec_table.specs.Reading.{type_at, slave_at, link_at, type_element, slave_element, variable_element, link_element, top, table_of_document, table_of}
 use Rattle.ec_table.specs.Fields.{keys_are, version_in, section_in}
-use Rattle.ec_device.specs.Objects.{bits_of}
-use Rattle.ec_table.specs.Objects.{object_bits, entries_of}
+use Rattle.ec_device.specs.Objects.{bits_of, assigned_entries}
+use Rattle.ec_table.specs.Objects.{object_bits, entries_of, type_of}
 use Rattle.ec_table.specs.Writing.{document_of}
 use Rattle.ec_table.specs.declared.fields.Shape.TheVariants as shape
 
@@ -139,3 +139,11 @@ WrittenIsRead = (c : Contents) → IsSound c → table_of_document (document_of 
 -- A direction of a slave has as many object bits as its entries have bits, gaps with them.
 abbrev pub ObjectBitsAreCounted : Type 0
 ObjectBitsAreCounted = (c : Contents) (s : ℕ) (d : Direction) → length (object_bits c s d) ≡ bits_of (entries_of c s d)
+
+-- A slave's entries are those of its type's PDOs that it assigns, one after another.
+abbrev pub EntriesAreAssigned : Type 0
+EntriesAreAssigned = (c : Contents) (s : ℕ) (d : Direction) (r : SlaveRow) (t : TypeRow) → slice_get c.slaves s ≡ Some r → type_of c s ≡ Some t → entries_of c s d ≡ assigned_entries (pdos_toward d t) (assigned_toward d r)
+
+-- A direction of a slave of a table has at most 65536 bits, gaps with them.
+abbrev pub EntriesAreFew : Type 0
+EntriesAreFew = (c : Contents) (s : ℕ) (d : Direction) (r : SlaveRow) (t : TypeRow) → AreSlaves c.version c.types c.slaves → slice_get c.slaves s ≡ Some r → type_of c s ≡ Some t → IsType t → bits_of (entries_of c s d) ≤ 65536

@@ -12,3 +12,5 @@ pub mod Objects
 pub mod Sound
 pub mod Writing
 pub mod Laws
+-- Private: what one pass over the keys of an element finds.
+pub mod Values

@@ -1,5 +1,5 @@
 -- The elements of the sections, in the order of their tests: keys, values key by key, doubles, references.
-use Rattle.std.specs.Prelude.{List, [], ℕ, ◌==◌, Bool, false, not, ◌&&◌, ◌||◌, codes, is_some, unwrap_or, slice_get, Result, Ok}
+use Rattle.std.specs.Prelude.{List, [], ℕ, Option, ◌==◌, Bool, false, not, ◌&&◌, ◌||◌, codes, is_some, unwrap_or, slice_get, Result, Ok}
 use Rattle.std.specs.List.{list_any, list_all}
 use Rattle.std.specs.Str.{bytes_eq}
 use Rattle.std.specs.Option.{ok_or}
@@ -118,11 +118,11 @@ slave_element v types n d found =
 
 -- ---- variables
 
--- the variable of this name that an element states, where no other has it
-abbrev pub variable_named : Place → Members → List ℕ → Bool → Result VariableRow Fault
-variable_named p ms name is_taken = do
-  direction ← direction_in p (get_member (codes "dir") ms)
-  bits ← number_in p 1 64 (get_member (codes "bits") ms)
+-- the variable of this name, where no other has it, by what stands under `dir` and `bits`
+abbrev pub variable_named : Place → Option Data → Option Data → List ℕ → Bool → Result VariableRow Fault
+variable_named p dir bits_written name is_taken = do
+  direction ← direction_in p dir
+  bits ← number_in p 1 64 bits_written
   _ ← must (not is_taken) (TwiceNamed p)
   Ok (record { name = name; direction = direction; bits = bits })
 
@@ -131,7 +131,7 @@ unfoldable pub variable_at : Version → Place → Members → List VariableRow 
 variable_at v p ms found = do
   _ ← must (keys_are shape.Variable v ms) (BadKey p)
   name ← name_in p (get_member (codes "name") ms)
-  variable_named p ms name (is_named (λ (w : VariableRow). w.name) name found)
+  variable_named p (get_member (codes "dir") ms) (get_member (codes "bits") ms) name (is_named (λ (w : VariableRow). w.name) name found)
 
 abbrev pub variable_element : Version → ℕ → Data → List VariableRow → Result VariableRow Fault
 variable_element v n d found =

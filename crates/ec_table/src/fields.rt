@@ -1,6 +1,7 @@
 //! Values of keys, with their ranges.
-ghost use Rattle.std.specs.Prelude.{◌≡◌, ◌≤◌, IfOk, is_some, string_bytes};
+ghost use Rattle.std.specs.Prelude.{◌≡◌, ◌≤◌, IfOk, is_some, string_bytes, Some};
 ghost use Rattle.std.specs.List.{list_all};
+ghost use Rattle.std.specs.Option.{option_or};
 ghost use Rattle.std.specs.Map.{keys_of};
 ghost use Rattle.toml.specs.Data.{get_member};
 ghost use Rattle.toml.specs.View.{view, table_view, items_view};
@@ -41,6 +42,16 @@ pub fn member<'a>(members: &'a toml::Table, key: &str) -> Option<&'a Value>
     ensures { seen result ≡ get_member key.now (table_view members.now) }
 {
     members.get(key)
+}
+
+/// The first of the values that were met under a key: the one that was found, else this.
+pub fn first<'a>(found: Option<&'a Value>, value: &'a Value) -> Option<&'a Value>
+    ensures { seen result ≡ option_or (seen found.entry) (Some (view value.now)) }
+{
+    match found {
+        Some(_) => found,
+        None => Some(value),
+    }
 }
 
 /// Whether a table has no unknown key of its shape, and none missing.

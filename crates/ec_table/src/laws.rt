@@ -1,6 +1,6 @@
 //! What the definition of a link table's reading keeps, in the format's own words. Nothing runs here.
 
-ghost use Rattle.ec_table.specs.Laws.{AcceptedIsSound, FaultsHaveTheirPlace, AcceptedElementByElement, DocumentFaultsInOrder, FirstFaultIsTold, LeftOutIsDefault, WrittenIsRead, ObjectBitsAreCounted};
+ghost use Rattle.ec_table.specs.Laws.{AcceptedIsSound, FaultsHaveTheirPlace, AcceptedElementByElement, DocumentFaultsInOrder, FirstFaultIsTold, LeftOutIsDefault, WrittenIsRead, ObjectBitsAreCounted, EntriesAreAssigned, EntriesAreFew};
 
 /// What is accepted has unique names, known references, values in range, and assigned objects of its type
 /// without a double.
@@ -48,4 +48,16 @@ pub fn written_is_read()
 #[tactic(auto, using(crate::proofs::ObjectLemmas::object_bits_counted))]
 pub fn object_bits_are_counted()
     ensures { ObjectBitsAreCounted }
+{}
+
+/// A slave's entries are those of its type's PDOs that it assigns, one after another.
+#[tactic(auto, using(crate::proofs::ObjectLemmas::entries_are_assigned))]
+pub fn entries_are_assigned()
+    ensures { EntriesAreAssigned }
+{}
+
+/// A direction of a slave of a table has at most 65536 bits, gaps with them.
+#[tactic(auto, using(crate::proofs::ObjectLemmas::entries_are_few))]
+pub fn entries_are_few()
+    ensures { EntriesAreFew }
 {}

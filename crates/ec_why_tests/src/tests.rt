@@ -231,7 +231,33 @@ fn tell_line(
     Ok(())
 }
 
-/// Why lines say `no`, one after another, over a new world of a table, in which its slaves have these identities.
+/// Adds why lines say `no`, one after another.
+fn tell_lines(
+    alloc: Global,
+    world: &mut World<'_>,
+    table: &Table,
+    lines: &[Line],
+    told: &mut String,
+) -> Result<(), AllocError> {
+    for line in lines {
+        tell_line(alloc, world, table, line, told)?;
+    }
+    Ok(())
+}
+
+/// Why lines say `no`, one after another.
+fn told_in(
+    alloc: Global,
+    world: &mut World<'_>,
+    table: &Table,
+    lines: &[Line],
+) -> Result<String, AllocError> {
+    let mut told = String::new(alloc);
+    tell_lines(alloc, world, table, lines, &mut told)?;
+    Ok(told)
+}
+
+/// The same over a new world of a table, in which its slaves have these identities.
 fn told_anew(
     alloc: Global,
     table: &Table,
@@ -244,38 +270,109 @@ fn told_anew(
     requires one_each { length identities.now ≡ length table.now.slaves }
 {
     let mut world = World::new(alloc, table, plan, identities)?;
-    let mut told = String::new(alloc);
-    for line in lines {
-        tell_line(alloc, &mut world, table, line, &mut told)?;
-    }
-    Ok(told)
+    told_in(alloc, &mut world, table, lines)
 }
 
-/// Why the lines of a script say `no`, over a new world of a table.
-fn told(alloc: Global, table: &Table, plan: &Plan, script: &str) -> Result<String, Fail>
+/// The same where its slaves have the table's identities.
+fn told_of_lines(
+    alloc: Global,
+    table: &Table,
+    plan: &Plan,
+    lines: &[Line],
+) -> Result<String, AllocError>
     requires accepted { compile_fault table.now ≡ None }
     requires plan { plan.now ≡ plan_of table.now }
 {
-    let lines = read_script(alloc, table, script)?;
     let identities = identities_of(alloc, table)?;
-    Ok(told_anew(alloc, table, plan, identities.as_slice(), lines.as_slice())?)
+    told_anew(alloc, table, plan, identities.as_slice(), lines)
 }
 
-/// Scripts over a table, each with why its lines say `no`.
-fn expect_reasons<H: AllocGlobal + Abort>(
-    rt: &H,
-    table: &str,
+/// Compares what is told with reasons, in which `;` stands for the end of a line.
+fn assert_told(rt: &(impl AllocGlobal + Abort), told: &str, reasons: &str) -> Result<(), Fail> {
+    let reasons = reasons.replace(rt.alloc(), ";", "\n")?;
+    assert_eq!(rt; told, reasons.as_str());
+    Ok(())
+}
+
+/// Why lines say `no` over a new world of a table.
+fn expect_told(
+    rt: &(impl AllocGlobal + Abort),
+    table: &Table,
+    plan: &Plan,
+    lines: &[Line],
+    reasons: &str,
+) -> Result<(), Fail>
+    requires accepted { compile_fault table.now ≡ None }
+    requires plan { plan.now ≡ plan_of table.now }
+{
+    let told = told_of_lines(rt.alloc(), table, plan, lines)?;
+    assert_told(rt, told.as_str(), reasons)
+}
+
+/// Why the lines of a script say `no` over a new world of a table.
+fn expect_script(
+    rt: &(impl AllocGlobal + Abort),
+    table: &Table,
+    plan: &Plan,
+    script: &str,
+    reasons: &str,
+) -> Result<(), Fail>
+    requires accepted { compile_fault table.now ≡ None }
+    requires plan { plan.now ≡ plan_of table.now }
+{
+    let lines = read_script(rt.alloc(), table, script)?;
+    expect_told(rt, table, plan, lines.as_slice(), reasons)
+}
+
+/// The same of a script in which `;` stands for the end of a line.
+fn expect_run(
+    rt: &(impl AllocGlobal + Abort),
+    table: &Table,
+    plan: &Plan,
+    script: &str,
+    reasons: &str,
+) -> Result<(), Fail>
+    requires accepted { compile_fault table.now ≡ None }
+    requires plan { plan.now ≡ plan_of table.now }
+{
+    let script = script.replace(rt.alloc(), ";", "\n")?;
+    expect_script(rt, table, plan, script.as_str(), reasons)
+}
+
+/// Scripts over a table and its plan, each with why its lines say `no`.
+fn expect_runs(
+    rt: &(impl AllocGlobal + Abort),
+    table: &Table,
+    plan: &Plan,
     runs: &[(&str, &str)],
-) -> Result<(), Fail> {
-    let table = read_table(rt.alloc(), table)?;
-    let plan = compile(rt.alloc(), &table)?;
+) -> Result<(), Fail>
+    requires accepted { compile_fault table.now ≡ None }
+    requires plan { plan.now ≡ plan_of table.now }
+{
     for (script, reasons) in runs {
-        let script = script.replace(rt.alloc(), ";", "\n")?;
-        let reasons = reasons.replace(rt.alloc(), ";", "\n")?;
-        let told = told(rt.alloc(), &table, &plan, script.as_str())?;
-        assert_eq!(rt; told.as_str(), reasons.as_str());
+        expect_run(rt, table, plan, script, reasons)?;
     }
     Ok(())
+}
+
+/// The same over the plan that a table has.
+fn expect_table(
+    rt: &(impl AllocGlobal + Abort),
+    table: &Table,
+    runs: &[(&str, &str)],
+) -> Result<(), Fail> {
+    let plan = compile(rt.alloc(), table)?;
+    expect_runs(rt, table, &plan, runs)
+}
+
+/// Scripts over the table that a text states, each with why its lines say `no`.
+fn expect_reasons(
+    rt: &(impl AllocGlobal + Abort),
+    text: &str,
+    runs: &[(&str, &str)],
+) -> Result<(), Fail> {
+    let table = read_table(rt.alloc(), text)?;
+    expect_table(rt, &table, runs)
 }
 
 #[test]
@@ -300,10 +397,21 @@ fn tells_of_few_slaves(rt: HostRuntime) -> Result<(), Fail> {
     expect_reasons(&rt, ALONE, &one)
 }
 
+/// A table whose slaves of inputs alone are in unit 1.
+fn with_unit_1(alloc: Global, text: &str) -> Result<String, AllocError> {
+    let text = text.replace(alloc, "type = \"di4\" }", "type = \"di4\", unit = 1 }")?;
+    format!(in alloc; "version = 2\n{text}")
+}
+
+/// The same whose slaves of both are in unit 2.
+fn with_three_units(alloc: Global) -> Result<String, AllocError> {
+    let text = TABLE.replace(alloc, "type = \"mix\" }", "type = \"mix\", unit = 2 }")?;
+    with_unit_1(alloc, text.as_str())
+}
+
 #[test]
 fn tells_why_by_units(rt: HostRuntime) -> Result<(), Fail> {
-    let table = TABLE.replace(rt.alloc(), "type = \"di4\" }", "type = \"di4\", unit = 1 }")?;
-    let table = format!(in rt.alloc(); "version = 2\n{table}")?;
+    let table = with_unit_1(rt.alloc(), TABLE)?;
     expect_reasons(&rt, table.as_str(), &UNITS_RUNS)
 }
 
@@ -312,73 +420,73 @@ fn tells_why_of_shared_variables(rt: HostRuntime) -> Result<(), Fail> {
     expect_reasons(&rt, SHARED, &SHARED_RUNS)
 }
 
-/// Why the lines of a script over a table say `no`.
-fn expect_reason<H: AllocGlobal + Abort>(
-    rt: &H,
-    table: &str,
-    script: &str,
+/// A script of a start-up, so many cycles of which no frame comes back, and what stands behind them.
+fn behind_cycles(alloc: Global, count: usize, behind: &str) -> Result<String, AllocError> {
+    let cycles = "begin;close;".repeat(alloc, count)?;
+    format!(in alloc; "ready;{cycles}{behind}")
+}
+
+/// Why lines behind so many cycles say `no`.
+fn expect_behind_cycles(
+    rt: &(impl AllocGlobal + Abort),
+    text: &str,
+    count: usize,
+    behind: &str,
     reasons: &str,
 ) -> Result<(), Fail> {
-    let table = read_table(rt.alloc(), table)?;
-    let plan = compile(rt.alloc(), &table)?;
-    let script = script.replace(rt.alloc(), ";", "\n")?;
-    let reasons = reasons.replace(rt.alloc(), ";", "\n")?;
-    let told = told(rt.alloc(), &table, &plan, script.as_str())?;
-    assert_eq!(rt; told.as_str(), reasons.as_str());
-    Ok(())
+    let script = behind_cycles(rt.alloc(), count, behind)?;
+    expect_reasons(rt, text, &[(script.as_str(), reasons)])
 }
 
 /// Thirty-two cycles of two frames each, none of which comes back, take all 64 slots.
 #[test]
 fn tells_of_full_slots(rt: HostRuntime) -> Result<(), Fail> {
-    let table = TABLE.replace(rt.alloc(), "type = \"di4\" }", "type = \"di4\", unit = 1 }")?;
-    let table = format!(in rt.alloc(); "version = 2\n{table}")?;
-    let cycles = "begin;close;".repeat(rt.alloc(), 32)?;
-    let script = format!(in rt.alloc(); "ready;{cycles}begin;cycle;lose 5;begin;lose 6;begin")?;
+    let table = with_unit_1(rt.alloc(), TABLE)?;
     let reasons =
         "66  a cycle sends 2 frames, and no slot is free: frames of earlier cycles are on their way;\
          67  a cycle sends 2 frames, and no slot is free: frames of earlier cycles are on their way;\
          69  a cycle sends 2 frames, and 1 slot is free: frames of earlier cycles are on their way;";
-    expect_reason(&rt, table.as_str(), script.as_str(), reasons)
+    let behind = "begin;cycle;lose 5;begin;lose 6;begin";
+    expect_behind_cycles(&rt, table.as_str(), 32, behind, reasons)
 }
 
 /// Twenty-one cycles of three frames each leave one slot, and one that is lost a second.
 #[test]
 fn tells_of_two_free_slots(rt: HostRuntime) -> Result<(), Fail> {
-    let table = TABLE.replace(rt.alloc(), "type = \"di4\" }", "type = \"di4\", unit = 1 }")?;
-    let table = table.replace(rt.alloc(), "type = \"mix\" }", "type = \"mix\", unit = 2 }")?;
-    let table = format!(in rt.alloc(); "version = 2\n{table}")?;
-    let cycles = "begin;close;".repeat(rt.alloc(), 21)?;
-    let script = format!(in rt.alloc(); "ready;{cycles}lose 5;begin;lose 6;begin")?;
+    let table = with_three_units(rt.alloc())?;
     let reasons =
         "45  a cycle sends 3 frames, and 2 slots are free: frames of earlier cycles are on their way;";
-    expect_reason(&rt, table.as_str(), script.as_str(), reasons)
+    let behind = "lose 5;begin;lose 6;begin";
+    expect_behind_cycles(&rt, table.as_str(), 21, behind, reasons)
 }
 
 /// One slave and one frame are counted as one.
 #[test]
 fn tells_of_one_frame(rt: HostRuntime) -> Result<(), Fail> {
-    let cycles = "begin;close;".repeat(rt.alloc(), 64)?;
-    let script = format!(in rt.alloc(); "ready;{cycles}begin;return 7")?;
     let reasons =
         "130  a cycle sends 1 frame, and no slot is free: frames of earlier cycles are on their way;\
          131  the frame in slot 7 hasn't passed the slave;";
-    expect_reason(&rt, ALONE, script.as_str(), reasons)
+    expect_behind_cycles(&rt, ALONE, 64, "begin;return 7", reasons)
 }
 
 /// A turn of a start-up of three slaves: its frame goes round, and their firmwares step.
 const TURN: &str = "start;pass 0;pass 0;pass 0;serve 0;serve 1;serve 2;return 0;";
 
+/// 71 turns, a fault of the first slave, and a start-up that is made behind it.
+fn behind_turns(alloc: Global) -> Result<String, AllocError> {
+    let turns = TURN.repeat(alloc, 71)?;
+    format!(in alloc;
+        "{turns}fault valves;get valves 0;start;lose 0;close;get valves 0;ready;get valves 0;cycle"
+    )
+}
+
 /// After 71 of its 75 frames the first slave is in OP, and the start-up isn't ready: one that is made behind a fault begins with
 /// INIT, and opens the outputs.
 #[test]
 fn tells_of_outputs_that_a_start_up_opens(rt: HostRuntime) -> Result<(), Fail> {
-    let turns = TURN.repeat(rt.alloc(), 71)?;
-    let script = format!(in rt.alloc();
-        "{turns}fault valves;get valves 0;start;lose 0;close;get valves 0;ready;get valves 0;cycle"
-    )?;
-    let locked =
-        "the outputs of `valves` are locked since its fault: INIT alone opens them, with which a start-up begins";
-    let reasons = format!(in rt.alloc(); "570  {locked};574  {locked};")?;
-    expect_reason(&rt, TABLE, script.as_str(), reasons.as_str())
+    let script = behind_turns(rt.alloc())?;
+    let reasons =
+        "570  the outputs of `valves` are locked since its fault: INIT alone opens them, with which a start-up begins;\
+         574  the outputs of `valves` are locked since its fault: INIT alone opens them, with which a start-up begins;";
+    expect_reasons(&rt, TABLE, &[(script.as_str(), reasons)])
 }

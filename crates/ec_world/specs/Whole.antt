@@ -12,7 +12,7 @@ use Rattle.ec_link.specs.Meaning.{meaning}
 use Rattle.ec_link.specs.Usable.{IsUsable}
 use Rattle.ec_start.specs.Running.{begun}
 use Rattle.ec_sync.specs.Buffer.{Buffer, emptied_buffer}
-use Rattle.ec_bringup.specs.SwitchedOn.{switched_on}
+use Rattle.ec_bringup.specs.SwitchedOn.{AreIdentities, switched_on}
 use Rattle.ec_bringup.specs.Standing.{unviewed}
 use Rattle.ec_bringup.specs.Starting.{trouble_at}
 use Rattle.ec_bringup.specs.Runs.{AreStartable, flags_sent}
@@ -99,6 +99,12 @@ pub record IsNew (t : Contents) (identities : List Identity) (w : WorldState) : 
   pub accepted : compile_fault t ≡ None
   pub one_each : length identities ≡ length t.slaves
   pub is : w ≡ new_world (plan_of t) identities
+
+-- the world is a new one of a machine: its slaves show the identities that the table says
+pub record IsOfMachine (t : Contents) (w : WorldState) : Type 0 where
+  pub identities : List Identity
+  pub shown : AreIdentities t identities
+  pub new : IsNew t identities w
 
 -- no slave had a fault or a reset yet
 abbrev pub no_trouble : WorldState → List Bool

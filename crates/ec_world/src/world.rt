@@ -12,17 +12,17 @@ ghost use Rattle.ec_cycle.specs.Master.{new_master, value_at};
 ghost use Rattle.ec_world.specs.Laws.{IsRun, StepShows, RunShows};
 ghost use Rattle.ec_world.specs.Headline.{HeadlineShows, EachIsPromised};
 ghost use Rattle.ec_world.specs.NewWorld.{BringUp, IsBroughtUp, IsToStart};
-ghost use Rattle.ec_world.specs.Whole.{IsNew, Told, no_trouble};
+ghost use Rattle.ec_world.specs.Whole.{IsNew, IsOfMachine, Told, no_trouble};
 ghost use Rattle.ec_world.specs.Watching.{sent_of};
 ghost use Rattle.ec_world.specs.World.{WorldState, IsStep, slave_of, flight_at, flight_progress, is_up};
 
 use crate::event::Event;
 use crate::progress::Progress;
 use crate::slots::Slots;
-use ec_bringup::switched_on;
+use ec_bringup::{identities_of, switched_on};
 use ec_cycle::{Master, Report};
 use ec_device::Identity;
-use ec_link::Plan;
+use ec_link::{Machine, Plan};
 use ec_ring::Ring;
 use ec_slave::Slave;
 use ec_start::{StartError, Startup};
@@ -100,6 +100,19 @@ impl<'p> World<'p> {
             got: None,
             report: None,
         })
+    }
+
+    /// The world of a machine: as [`World::new`] has it, and its slaves show the identities that the table says.
+    ///
+    /// # Errors
+    ///
+    /// `AllocError` where there is no memory.
+    pub fn of_machine(alloc: Global, machine: &'p Machine) -> Result<World<'p>, AllocError>
+        ensures { IfOk result (IsOfMachine machine.now) }
+    {
+        let table = machine.table();
+        let identities = identities_of(alloc, table)?;
+        World::new(alloc, table, machine.plan(), identities.as_slice())
     }
 
     /// Makes an event, and answers whether it can be made; if it can't, nothing changes.

@@ -144,6 +144,45 @@ fn lists_another(line: &str, refusals: &[Refusal]) -> bool {
     }
 }
 
+/// A help lists a refusal by its number and its name.
+fn assert_row(rt: &(impl AllocGlobal + Abort), help: &[u8], refusal: Refusal) -> Result<(), Fail> {
+    let (number, name) = (refusal.number(), refusal.name());
+    let words = format!(in rt.alloc(); " {number} {name} ")?;
+    assert!(rt; holds(help, words.as_bytes()), "{words}");
+    Ok(())
+}
+
+/// A help lists each of these refusals.
+fn assert_rows(
+    rt: &(impl AllocGlobal + Abort),
+    help: &[u8],
+    refusals: &[Refusal],
+) -> Result<(), Fail> {
+    for refusal in refusals {
+        assert_row(rt, help, *refusal)?;
+    }
+    Ok(())
+}
+
+/// It lists no other.
+fn assert_no_other(rt: &impl Abort, command: &str, help: &str, refusals: &[Refusal]) {
+    for line in help.lines() {
+        assert!(rt; !lists_another(line, refusals), "{command}: {line}");
+    }
+}
+
+/// A help lists these refusals and no others.
+fn assert_listed(
+    rt: &(impl AllocGlobal + Abort),
+    command: &str,
+    help: &[u8],
+    refusals: &[Refusal],
+) -> Result<(), Fail> {
+    assert_rows(rt, help, refusals)?;
+    assert_no_other(rt, command, str::from_utf8(help)?, refusals);
+    Ok(())
+}
+
 /// The help of a command lists these refusals, each by its number and its name, and no others.
 fn expect_listed<H: AllocGlobal + Net + Files + Clock + Abort>(
     rt: &H,
@@ -151,16 +190,7 @@ fn expect_listed<H: AllocGlobal + Net + Files + Clock + Abort>(
     refusals: &[Refusal],
 ) -> Result<(), Fail> {
     let help = run_in_memory(rt, &["ecat", command, "--help"], b"");
-    for refusal in refusals {
-        let (number, name) = (refusal.number(), refusal.name());
-        let words = format!(in rt.alloc(); " {number} {name} ")?;
-        assert!(rt; holds(help.printed.as_slice(), words.as_bytes()), "{words}");
-    }
-    let text = String::from_utf8(help.printed).expect(rt, "no text");
-    for line in text.lines() {
-        assert!(rt; !lists_another(line, refusals), "{command}: {line}");
-    }
-    Ok(())
+    assert_listed(rt, command, help.printed.as_slice(), refusals)
 }
 
 #[test]

@@ -1,12 +1,8 @@
 //! `ecat sim --live`, over memory.
 
-use crate::tests::run_in_memory;
+use crate::tests::sims::expect_script;
 use crate::tests::tables::{THREE_SLAVES, VALVES_AND_SWITCHES};
-use std::fs::Files;
-use std::net::Net;
-use std::process::Abort;
 use std::test::Fail;
-use std::time::Clock;
 
 const LIVE: [&str; 3] = ["ecat", "sim", "--live"];
 
@@ -41,29 +37,10 @@ const RUNS: [(&str, &str, u8, &str); 6] = [
     ),
 ];
 
-/// Runs lines as they come behind a table, and compares how the run ends.
-fn expect_live<H: AllocGlobal + Net + Files + Clock + Abort>(
-    rt: &H,
-    args: &[&str],
-    table: &str,
-    lines: &str,
-    wanted: (&str, u8, &str),
-) -> Result<(), Fail> {
-    let (printed, status, told) = wanted;
-    let lines = lines.replace(rt.alloc(), ";", "\n")?;
-    let input = format!(in rt.alloc(); "{table}\n%%\n{lines}")?;
-    let printed = printed.replace(rt.alloc(), ";", "\n")?;
-    let ended = run_in_memory(rt, args, input.as_bytes());
-    assert_eq!(rt; ended.status, status, "{args:?}");
-    assert_eq!(rt; ended.printed.as_slice(), printed.as_bytes(), "{args:?}");
-    assert_eq!(rt; ended.told.as_slice(), told.as_bytes(), "{args:?}");
-    Ok(())
-}
-
 #[test]
 fn runs_lines_as_they_come(rt: HostRuntime) -> Result<(), Fail> {
     for (lines, printed, status, told) in RUNS {
-        expect_live(&rt, &LIVE, THREE_SLAVES, lines, (printed, status, told))?;
+        expect_script(&rt, &LIVE, THREE_SLAVES, lines, (status, printed, told))?;
     }
     Ok(())
 }
@@ -71,14 +48,9 @@ fn runs_lines_as_they_come(rt: HostRuntime) -> Result<(), Fail> {
 /// A table that is refused ends the run before a line is read.
 #[test]
 fn refuses_the_table_first(rt: HostRuntime) -> Result<(), Fail> {
-    expect_live(
-        &rt,
-        &LIVE,
-        "types = 1",
-        "begin;",
-        ("", 3, "ecat: 12 BadKey 0 0\n"),
-    )?;
-    expect_live(&rt, &LIVE, "a b", "begin;", ("", 3, "ecat: 11 Toml\n"))
+    let bad_key = (3, "", "ecat: 12 BadKey 0 0\n");
+    expect_script(&rt, &LIVE, "types = 1", "begin;", bad_key)?;
+    expect_script(&rt, &LIVE, "a b", "begin;", (3, "", "ecat: 11 Toml\n"))
 }
 
 /// A capture is written beside what is printed; a file that can't be opened ends the run before a line is read.
@@ -86,19 +58,9 @@ fn refuses_the_table_first(rt: HostRuntime) -> Result<(), Fail> {
 fn captures_live_lines(rt: HostRuntime) -> Result<(), Fail> {
     let args = ["ecat", "sim", "--live", "--capture", "live.pcapng"];
     let printed = "ready;report taken missing 0 counters 3 al 0008;";
-    expect_live(
-        &rt,
-        &args,
-        VALVES_AND_SWITCHES,
-        "ready;cycle",
-        (printed, 0, ""),
-    )?;
+    let wanted = (0, printed, "");
+    expect_script(&rt, &args, VALVES_AND_SWITCHES, "ready;cycle", wanted)?;
     let args = ["ecat", "sim", "--live", "--capture", "nowhere/live.pcapng"];
-    expect_live(
-        &rt,
-        &args,
-        VALVES_AND_SWITCHES,
-        "ready;cycle",
-        ("", 4, "ecat: 41 Output\n"),
-    )
+    let wanted = (4, "", "ecat: 41 Output\n");
+    expect_script(&rt, &args, VALVES_AND_SWITCHES, "ready;cycle", wanted)
 }

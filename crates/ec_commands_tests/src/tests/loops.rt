@@ -1,9 +1,9 @@
 //! `ecat loop`, over the system's sockets, and over a wire in memory whose calls can fail.
 
-use crate::tests::Idle;
 use crate::tests::tables::THREE_SLAVES;
+use crate::tests::{run_args, run_with};
 use ec_bringup::slaves_of_machine;
-use ec_commands::{Refusal, run_command, run_loop};
+use ec_commands::{Refusal, run_loop};
 use ec_link::Machine;
 use ec_start::StartError;
 use ec_wire::{Echo, MemoryWire, RunError};
@@ -20,7 +20,7 @@ fn loop_idle<H: AllocGlobal + Net + Files + Clock>(rt: &H) -> (u8, Vec<u8>) {
     let mut faults: Vec<u8> = Vec::new(rt.alloc());
     let args = ["ecat", "loop", "--cycles", "2"];
     let mut input = THREE_SLAVES.as_bytes();
-    let status = run_command(rt, &args, &mut input, &mut output, &mut faults, &mut Idle);
+    let status = run_args(rt, &args, &mut input, &mut output, &mut faults);
     (status, output)
 }
 
@@ -28,8 +28,7 @@ fn loop_idle<H: AllocGlobal + Net + Files + Clock>(rt: &H) -> (u8, Vec<u8>) {
 #[test]
 fn runs_its_application(rt: HostRuntime) {
     let (status, printed) = loop_idle(&rt);
-    assert_eq!(rt; status, 0);
-    assert!(rt; printed.ends_with(b"\nc 0\nd 0\n"));
+    assert_eq!(rt; (status, printed.ends_with(b"\nc 0\nd 0\n")), (0, true));
 }
 
 /// A run of `ecat loop`: its cycles and its input, how it ends, what it prints, and how what it tells begins.
@@ -48,12 +47,12 @@ fn expect_loop<H: AllocGlobal + Net + Files + Clock + Abort>(rt: &H, run: Loop) 
     let mut faults: Vec<u8> = Vec::new(rt.alloc());
     let args = ["ecat", "loop", "--cycles", run.cycles];
     let mut input = run.input;
-    let status = run_command(rt, &args, &mut input, &mut output, &mut faults, &mut Echo);
+    let status = run_with(rt, &args, &mut input, &mut output, &mut faults, &mut Echo);
+    let is_told = faults.starts_with(run.told.as_bytes());
     assert_eq!(rt;
-        (status, output.as_slice()),
-        (run.status, run.printed.as_bytes())
+        (status, output.as_slice(), is_told),
+        (run.status, run.printed.as_bytes(), true)
     );
-    assert!(rt; faults.starts_with(run.told.as_bytes()));
 }
 
 // Outputs come back as inputs one cycle later; a slave without outputs shows 0. The ports are told once there are sockets.
@@ -93,20 +92,25 @@ fn runs_cycles(rt: HostRuntime) {
     }
 }
 
-/// Runs two cycles of a machine over a wire that fails at a call, and answers how that ends and what is printed.
-fn run_failing(
-    alloc: Global,
-    machine: &Machine,
-    fails_at: u64,
-) -> Result<(Result<(), Refusal>, Vec<u8>), Fail> {
+/// How a run ended, and what it printed.
+type Ran = (Result<(), Refusal>, Vec<u8>);
+
+/// Runs two cycles of a machine over a wire. What it answers is told by no clause.
+fn run_over(alloc: Global, machine: &Machine, wire: &mut MemoryWire) -> Ran {
     let mut output = Vec::new(alloc);
-    let mut wire = MemoryWire::new(alloc, slaves_of_machine(alloc, machine)?, 100, fails_at)?;
-    let ended = run_loop(alloc, machine, &mut wire, 2, &mut output);
-    Ok((ended, output))
+    let ended = run_loop(alloc, machine, wire, 2, &mut output);
+    (ended, output)
+}
+
+/// Runs two cycles of a machine over a wire that fails at a call, and answers how that ends and what is printed.
+fn run_failing(alloc: Global, machine: &Machine, fails_at: u64) -> Result<Ran, Fail> {
+    let slaves = slaves_of_machine(alloc, machine)?;
+    let mut wire = MemoryWire::new(alloc, slaves, 100, fails_at)?;
+    Ok(run_over(alloc, machine, &mut wire))
 }
 
 /// The same of the three slaves.
-fn fail_at(alloc: Global, fails_at: u64) -> Result<(Result<(), Refusal>, Vec<u8>), Fail> {
+fn fail_at(alloc: Global, fails_at: u64) -> Result<Ran, Fail> {
     let machine = Machine::read(alloc, THREE_SLAVES)?;
     run_failing(alloc, &machine, fails_at)
 }

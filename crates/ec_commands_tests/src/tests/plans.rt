@@ -65,7 +65,7 @@ fn changed(alloc: Global, text: &str, old: &str, new: &str) -> Result<String, Fa
 }
 
 /// The table of three slaves with the second one in sync unit 1.
-fn with_two_units(alloc: Global) -> Result<String, Fail> {
+pub fn with_two_units(alloc: Global) -> Result<String, Fail> {
     let (old, new) = ("type = \"di4\"", "type = \"di4\"\nunit = 1");
     let text = changed(alloc, THREE_SLAVES, old, new)?;
     Ok(format!(in alloc; "version = 2\n{text}")?)
@@ -91,12 +91,17 @@ fn prints_plans(rt: HostRuntime) -> Result<(), Fail> {
     Ok(())
 }
 
+/// The table of three slaves whose first one takes no part in LRW.
+pub fn with_split(alloc: Global) -> Result<String, Fail> {
+    let entries = "entries = [[0x7000, 1, 4]] } ]";
+    let split = "entries = [[0x7000, 1, 4]] } ]\nlrw = false";
+    changed(alloc, THREE_SLAVES, entries, split)
+}
+
 /// One slave that takes no part in LRW splits its part.
 #[test]
 fn prints_split_counters(rt: HostRuntime) -> Result<(), Fail> {
-    let entries = "entries = [[0x7000, 1, 4]] } ]";
-    let split = "entries = [[0x7000, 1, 4]] } ]\nlrw = false";
-    let table = changed(rt.alloc(), THREE_SLAVES, entries, split)?;
+    let table = with_split(rt.alloc())?;
     let printed = changed(rt.alloc(), THREE_SLAVES_PLAN, "counter 6", "counter 2/2")?;
     expect_printed(&rt, &PLAN, table.as_str(), printed.as_str());
     Ok(())
@@ -121,27 +126,31 @@ const THREE_SLAVES_HEADER: &str = "\
 #endif
 ";
 
-/// A header of C is printed in the plan's place, explained or not, and of a table that has a plan alone.
+const HEADER: [&str; 3] = ["ecat", "plan", "--header"];
+
+const HEADER_EXPLAINED: [&str; 4] = ["ecat", "plan", "--header", "--explain"];
+
+/// A header of C is printed in the plan's place, explained or not.
 #[test]
-fn prints_headers(rt: HostRuntime) -> Result<(), Fail> {
-    let header = ["ecat", "plan", "--header"];
-    expect_printed(&rt, &header, THREE_SLAVES, THREE_SLAVES_HEADER);
-    let explained = ["ecat", "plan", "--header", "--explain"];
-    expect_printed(&rt, &explained, THREE_SLAVES, THREE_SLAVES_HEADER);
+fn prints_headers(rt: HostRuntime) {
+    expect_printed(&rt, &HEADER, THREE_SLAVES, THREE_SLAVES_HEADER);
+    expect_printed(&rt, &HEADER_EXPLAINED, THREE_SLAVES, THREE_SLAVES_HEADER);
     let none = "#ifndef ECAT_VARIABLES\n#define ECAT_VARIABLES 0\n#endif\n";
-    expect_printed(&rt, &header, "", none);
-    let text = changed(
-        rt.alloc(),
-        THREE_SLAVES,
-        "index = 0x6010\nsub = 1",
-        "index = 0x6010\nsub = 2",
-    )?;
+    expect_printed(&rt, &HEADER, "", none);
+}
+
+/// And of a table that has a plan alone.
+#[test]
+fn prints_no_header_without_a_plan(rt: HostRuntime) -> Result<(), Fail> {
+    let (old, new) = ("index = 0x6010\nsub = 1", "index = 0x6010\nsub = 2");
+    let text = changed(rt.alloc(), THREE_SLAVES, old, new)?;
+    let wanted = ["no input 0x6010:2"];
     expect_explanation(
         &rt,
-        &explained,
+        &HEADER_EXPLAINED,
         text.as_bytes(),
         "17 NoEntry 3",
-        &["no input 0x6010:2"],
+        &wanted,
     )
 }
 
@@ -153,9 +162,13 @@ fn expect_explained<H: AllocGlobal + Net + Files + Clock + Abort>(
 ) -> Result<(), Fail> {
     let printed = format!(in rt.alloc(); "{LEGEND}{explained}")?;
     expect_printed(rt, &EXPLAIN, table, printed.as_str());
-    let is_narrow = printed.as_str().lines().all(|line| line.len() <= 100);
-    assert!(rt; is_narrow);
+    assert!(rt; is_narrow(printed.as_str()));
     Ok(())
+}
+
+/// Whether each line of a text has at most 100 bytes.
+fn is_narrow(text: &str) -> bool {
+    text.lines().all(|line| line.len() <= 100)
 }
 
 #[test]
@@ -178,6 +191,17 @@ fn changed_by(alloc: Global, table: &str, change: &str) -> Result<String, Fail> 
     changed(alloc, table, old, new)
 }
 
+/// Makes the plan of a table that has none, and compares what is told, also where that is explained.
+fn expect_no_plan<H: AllocGlobal + Net + Files + Clock + Abort>(
+    rt: &H,
+    table: &[u8],
+    refusal: &str,
+    wanted: &[&str],
+) -> Result<(), Fail> {
+    expect_told(rt, &PLAN, table, 3, refusal)?;
+    expect_explanation(rt, &EXPLAIN, table, refusal, wanted)
+}
+
 /// Makes the change `OLD => NEW`, `|` being the end of a line, of which a refusal is told.
 fn expect_refused<H: AllocGlobal + Net + Files + Clock + Abort>(
     rt: &H,
@@ -186,8 +210,7 @@ fn expect_refused<H: AllocGlobal + Net + Files + Clock + Abort>(
     refusal: &str,
 ) -> Result<(), Fail> {
     let table = changed_by(rt.alloc(), table, change)?;
-    expect_told(rt, &PLAN, table.as_bytes(), 3, refusal)?;
-    expect_explanation(rt, &EXPLAIN, table.as_bytes(), refusal, &["To do: "])
+    expect_no_plan(rt, table.as_bytes(), refusal, &["To do: "])
 }
 
 #[test]
@@ -199,19 +222,19 @@ fn tells_the_first_fault_of_a_table(rt: HostRuntime) -> Result<(), Fail> {
     Ok(())
 }
 
+/// What is told of a variable that is linked with inputs of two sync units.
+const SPLIT_TOLD: [&str; 4] = [
+    "input variable e ",
+    "link 4 joins it to slave s1 of unit 1",
+    "link 5 joins it to slave s2 of unit 0",
+    "To do: ",
+];
+
 #[test]
 fn tells_that_a_variable_is_split(rt: HostRuntime) -> Result<(), Fail> {
     let mut table = with_two_units(rt.alloc())?;
     table.push_str(SPLIT_VARIABLE)?;
-    expect_told(&rt, &PLAN, table.as_bytes(), 3, "44 SplitVariable 4")?;
-    let wanted = [
-        "input variable e ",
-        "link 4 joins it to slave s1 of unit 1",
-        "link 5 joins it to slave s2 of unit 0",
-        "To do: ",
-    ];
-    let refusal = "44 SplitVariable 4";
-    expect_explanation(&rt, &EXPLAIN, table.as_bytes(), refusal, &wanted)
+    expect_no_plan(&rt, table.as_bytes(), "44 SplitVariable 4", &SPLIT_TOLD)
 }
 
 /// So many slaves with four outputs, each in a sync unit of its own if they are to be.
@@ -259,25 +282,23 @@ const COUNTED: [(usize, bool, &str, &[&str]); 2] = [
 fn counts_slaves_and_parts(rt: HostRuntime) -> Result<(), Fail> {
     for (slaves, own_units, refusal, wanted) in COUNTED {
         let table = row_of_slaves(rt.alloc(), slaves, own_units)?;
-        expect_told(&rt, &PLAN, table.as_bytes(), 3, refusal)?;
-        expect_explanation(&rt, &EXPLAIN, table.as_bytes(), refusal, wanted)?;
+        expect_no_plan(&rt, table.as_bytes(), refusal, wanted)?;
     }
     Ok(())
 }
 
+/// The table of three slaves with gaps of 2048 bits behind the last slave's outputs.
+fn with_gaps(alloc: Global) -> Result<String, Fail> {
+    let gaps = ", [0, 0, 64]".repeat(alloc, 32)?;
+    let entries = format!(in alloc; "[[0x7010, 1, 12]{gaps}]")?;
+    changed(alloc, THREE_SLAVES, "[[0x7010, 1, 12]]", entries.as_str())
+}
+
 #[test]
 fn counts_bits(rt: HostRuntime) -> Result<(), Fail> {
-    let gaps = ", [0, 0, 64]".repeat(rt.alloc(), 32)?;
-    let entries = format!(in rt.alloc(); "[[0x7010, 1, 12]{gaps}]")?;
-    let table = changed(
-        rt.alloc(),
-        THREE_SLAVES,
-        "[[0x7010, 1, 12]]",
-        entries.as_str(),
-    )?;
-    expect_told(&rt, &PLAN, table.as_bytes(), 3, "21 TooManyBits 2")?;
+    let table = with_gaps(rt.alloc())?;
     let wanted = ["slave s2 has 2060 output bits", "2048", "To do: "];
-    expect_explanation(&rt, &EXPLAIN, table.as_bytes(), "21 TooManyBits 2", &wanted)
+    expect_no_plan(&rt, table.as_bytes(), "21 TooManyBits 2", &wanted)
 }
 
 /// A reader that gives blanks, so many at a time, without an end.
@@ -375,12 +396,19 @@ fn blanks(alloc: Global, count: usize) -> Result<String, AllocError> {
     " ".repeat(alloc, count)
 }
 
+/// How many bytes the text of an input has.
+fn length_read(alloc: Global, input: &[u8]) -> Option<usize> {
+    let mut input = input;
+    match read_text(alloc, &mut input) {
+        Ok(text) => Some(text.len()),
+        Err(_) => None,
+    }
+}
+
 #[test]
 fn reads_as_much_as_a_table_may_have(rt: HostRuntime) -> Result<(), Fail> {
     let most = blanks(rt.alloc(), 1 << 20)?;
-    let mut input = most.as_bytes();
-    let text = read_text(rt.alloc(), &mut input);
-    assert!(rt; text.is_ok_and(|text| text.len() == 1 << 20));
+    assert_eq!(rt; length_read(rt.alloc(), most.as_bytes()), Some(1 << 20));
     Ok(())
 }
 

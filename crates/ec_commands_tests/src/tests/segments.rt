@@ -1,8 +1,7 @@
 //! `ecat segment`, over the system's sockets.
 
-use crate::tests::Idle;
+use crate::tests::run_args;
 use crate::tests::tables::THREE_SLAVES;
-use ec_commands::run_command;
 use ec_wire::UdpWire;
 use std::fs::Files;
 use std::net::Net;
@@ -18,19 +17,19 @@ enum Port {
     Zero,
 }
 
-/// A run of `ecat segment --idle 1`: its port, how many payloads it awaits and its input, how it ends, what it prints, and how
-/// what it tells begins.
+/// A run of `ecat segment --idle 1`: its port, how many payloads it awaits and its input where that isn't the table of three
+/// slaves, how it ends, what it prints, and how what it tells begins.
 #[derive(Clone, Copy, Drop)]
 struct Segment<'a> {
     port: Port,
     frames: &'a str,
-    input: &'a [u8],
+    input: Option<&'a [u8]>,
     status: u8,
     printed: &'a str,
     told: &'a str,
 }
 
-/// Runs `ecat segment` on a port. What it answers is told by no clause, so that the comparisons behind it carry nothing of it.
+/// Runs `ecat segment` on a port.
 fn run_on<H: AllocGlobal + Net + Files + Clock>(
     rt: &H,
     run: Segment,
@@ -38,29 +37,107 @@ fn run_on<H: AllocGlobal + Net + Files + Clock>(
     output: &mut Vec<u8>,
     faults: &mut Vec<u8>,
 ) -> u8 {
-    let mut input = run.input;
+    let mut input = run.input.unwrap_or(THREE_SLAVES.as_bytes());
     let args = [
         "ecat", "segment", "--frames", run.frames, "--port", port, "--idle", "1",
     ];
-    run_command(rt, &args, &mut input, output, faults, &mut Idle)
+    run_args(rt, &args, &mut input, output, faults)
 }
 
 /// Runs `ecat segment` on a port, and compares how it ends.
+fn expect_segment_on<H: AllocGlobal + Net + Files + Clock + Abort>(
+    rt: &H,
+    run: Segment,
+    port: &str,
+) {
+    let mut output: Vec<u8> = Vec::new(rt.alloc());
+    let mut faults: Vec<u8> = Vec::new(rt.alloc());
+    let status = run_on(rt, run, port, &mut output, &mut faults);
+    let is_told = faults.starts_with(run.told.as_bytes());
+    assert_eq!(rt;
+        (status, output.as_slice(), is_told),
+        (run.status, run.printed.as_bytes(), true),
+        "{port}"
+    );
+}
+
+/// The same on a port by its number.
 fn expect_segment<H: AllocGlobal + Net + Files + Clock + Abort>(
     rt: &H,
     run: Segment,
     port: u16,
 ) -> Result<(), Fail> {
-    let mut output: Vec<u8> = Vec::new(rt.alloc());
-    let mut faults: Vec<u8> = Vec::new(rt.alloc());
     let port = format!(in rt.alloc(); "{port}")?;
-    let status = run_on(rt, run, port.as_str(), &mut output, &mut faults);
-    assert_eq!(rt;
-        (status, output.as_slice()),
-        (run.status, run.printed.as_bytes()),
-        "{port}"
-    );
-    assert!(rt; faults.starts_with(run.told.as_bytes()));
+    expect_segment_on(rt, run, port.as_str());
+    Ok(())
+}
+
+const SEGMENTS: [Segment; 6] = [
+    Segment {
+        port: Port::Free,
+        frames: "0",
+        input: None,
+        status: 0,
+        printed: "served 0 refused 0\n",
+        told: "ecat: listening on 127.0.0.1:",
+    },
+    // nothing comes for a second
+    Segment {
+        port: Port::Free,
+        frames: "1",
+        input: None,
+        status: 4,
+        printed: "served 0 refused 0\n",
+        told: "ecat: listening on 127.0.0.1:",
+    },
+    Segment {
+        port: Port::InUse,
+        frames: "0",
+        input: None,
+        status: 4,
+        printed: "",
+        told: "ecat: 43 Socket\n",
+    },
+    Segment {
+        port: Port::InUse,
+        frames: "0",
+        input: Some(b"[["),
+        status: 3,
+        printed: "",
+        told: "ecat: 11 Toml\n",
+    },
+    Segment {
+        port: Port::Free,
+        frames: "0",
+        input: Some(b"\xff"),
+        status: 4,
+        printed: "",
+        told: "ecat: 42 Input\n",
+    },
+    Segment {
+        port: Port::Zero,
+        frames: "0",
+        input: Some(b""),
+        status: 2,
+        printed: "",
+        told: "error: ",
+    },
+];
+
+/// Runs each of these on a port that is free, on one that is held, or on none.
+fn expect_segments<H: AllocGlobal + Net + Files + Clock + Abort>(
+    rt: &H,
+    free: u16,
+    held: u16,
+) -> Result<(), Fail> {
+    for run in SEGMENTS {
+        let port = match run.port {
+            Port::Free => free,
+            Port::InUse => held,
+            Port::Zero => 0,
+        };
+        expect_segment(rt, run, port)?;
+    }
     Ok(())
 }
 
@@ -69,63 +146,5 @@ fn expect_segment<H: AllocGlobal + Net + Files + Clock + Abort>(
 fn listens_and_counts(rt: HostRuntime) -> Result<(), Fail> {
     let held = UdpWire::bind(&rt, 0)?;
     let free = UdpWire::bind(&rt, 0)?.port();
-    for run in [
-        Segment {
-            port: Port::Free,
-            frames: "0",
-            input: THREE_SLAVES.as_bytes(),
-            status: 0,
-            printed: "served 0 refused 0\n",
-            told: "ecat: listening on 127.0.0.1:",
-        },
-        // nothing comes for a second
-        Segment {
-            port: Port::Free,
-            frames: "1",
-            input: THREE_SLAVES.as_bytes(),
-            status: 4,
-            printed: "served 0 refused 0\n",
-            told: "ecat: listening on 127.0.0.1:",
-        },
-        Segment {
-            port: Port::InUse,
-            frames: "0",
-            input: THREE_SLAVES.as_bytes(),
-            status: 4,
-            printed: "",
-            told: "ecat: 43 Socket\n",
-        },
-        Segment {
-            port: Port::InUse,
-            frames: "0",
-            input: b"[[",
-            status: 3,
-            printed: "",
-            told: "ecat: 11 Toml\n",
-        },
-        Segment {
-            port: Port::Free,
-            frames: "0",
-            input: b"\xff",
-            status: 4,
-            printed: "",
-            told: "ecat: 42 Input\n",
-        },
-        Segment {
-            port: Port::Zero,
-            frames: "0",
-            input: b"",
-            status: 2,
-            printed: "",
-            told: "error: ",
-        },
-    ] {
-        let port = match run.port {
-            Port::Free => free,
-            Port::InUse => held.port(),
-            Port::Zero => 0,
-        };
-        expect_segment(&rt, run, port)?;
-    }
-    Ok(())
+    expect_segments(&rt, free, held.port())
 }

@@ -7,6 +7,7 @@ use ec_link::Machine;
 use ec_ring::Ring;
 use std::alloc::Global;
 use std::net::{Ipv4Addr, Net, SocketAddr, UdpSocket};
+use std::process::Abort;
 use std::test::Fail;
 
 /// A table of one slave, whose serial number is 1042.
@@ -56,23 +57,53 @@ fn one_slave(alloc: Global) -> Result<Ring, Fail> {
     Ok(slaves_of_machine(alloc, &machine)?)
 }
 
-/// Reads the serial number over a socket: what is printed, and what came back of the second frame.
-fn read_serial<R: Net + AllocGlobal>(rt: &R) -> Result<(Vec<u8>, String), Fail> {
-    let mut slaves = one_slave(rt.alloc())?;
+/// Sends the two frames to a port.
+fn ask(alloc: Global, client: &UdpSocket, port: u16) -> Result<(), Fail> {
+    send(alloc, client, port, ASK)?;
+    send(alloc, client, port, READ)
+}
+
+/// The second frame that comes back, in hex.
+fn second_back(alloc: Global, client: &UdpSocket) -> Result<String, Fail> {
+    let _ = back(alloc, client)?;
+    back(alloc, client)
+}
+
+/// Serves the two frames, and compares what is printed.
+fn expect_served(rt: &(impl AllocGlobal + Abort), slaves: &mut Ring, wire: &mut UdpWire) {
+    let printed = serve(rt.alloc(), slaves, wire);
+    assert_eq!(rt; printed.as_slice(), b"served 2 refused 0\n".as_slice());
+}
+
+/// The second frame that comes back has the serial number.
+fn expect_back(rt: &(impl AllocGlobal + Abort), client: &UdpSocket) -> Result<(), Fail> {
+    let seen = second_back(rt.alloc(), client)?;
+    assert_eq!(rt; seen.as_str(), BACK);
+    Ok(())
+}
+
+/// Reads the serial number of the slaves over a wire.
+fn expect_serial(
+    rt: &(impl AllocGlobal + Abort),
+    slaves: &mut Ring,
+    wire: &mut UdpWire,
+    client: &UdpSocket,
+) -> Result<(), Fail> {
+    ask(rt.alloc(), client, wire.port())?;
+    expect_served(rt, slaves, wire);
+    expect_back(rt, client)
+}
+
+/// The same over two sockets of the system's.
+fn expect_serial_of<R: Net + AllocGlobal + Abort>(rt: &R, slaves: &mut Ring) -> Result<(), Fail> {
     let mut wire = UdpWire::bind(rt, 0)?;
     let client = UdpSocket::bind(rt, here(0))?;
-    send(rt.alloc(), &client, wire.port(), ASK)?;
-    send(rt.alloc(), &client, wire.port(), READ)?;
-    let printed = serve(rt.alloc(), &mut slaves, &mut wire);
-    let _ = back(rt.alloc(), &client)?;
-    Ok((printed, back(rt.alloc(), &client)?))
+    expect_serial(rt, slaves, &mut wire, &client)
 }
 
 // A served slave shows the serial number that its table gives it.
 #[test]
 fn shows_the_serial_number(rt: HostRuntime) -> Result<(), Fail> {
-    let (printed, seen) = read_serial(&rt)?;
-    assert_eq!(rt; printed.as_slice(), b"served 2 refused 0\n".as_slice());
-    assert_eq!(rt; seen.as_str(), BACK);
-    Ok(())
+    let mut slaves = one_slave(rt.alloc())?;
+    expect_serial_of(&rt, &mut slaves)
 }

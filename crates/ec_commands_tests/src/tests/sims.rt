@@ -1,9 +1,9 @@
 //! `ecat sim`, over memory.
 
-use crate::tests::plans::expect_printed;
+use crate::tests::plans::{expect_printed, with_split, with_two_units};
 use crate::tests::tables::{THREE_SLAVES, VALVES_AND_SWITCHES};
 use crate::tests::{Run, expect_run};
-use std::alloc::Global;
+use std::alloc::{AllocError, Global};
 use std::fs::Files;
 use std::net::Net;
 use std::process::Abort;
@@ -126,20 +126,30 @@ const UNMET_RUNS: [(&str, &str, u64); 4] = [
 
 const SIM: [&str; 2] = ["ecat", "sim"];
 
-/// Runs a script over a table, and compares how the run ends.
-fn expect_sim<H: AllocGlobal + Net + Files + Clock + Abort>(
+/// Lines that end in `;` as text.
+fn lines_of(alloc: Global, lines: &str) -> Result<String, AllocError> {
+    lines.replace(alloc, ";", "\n")
+}
+
+/// A table and a script behind it.
+fn with_script(alloc: Global, table: &str, script: &str) -> Result<String, AllocError> {
+    let lines = lines_of(alloc, script)?;
+    format!(in alloc; "{table}\n%%\n{lines}")
+}
+
+/// Runs a script over a table, and compares how the run ends: its exit status, what it prints and what it tells.
+pub fn expect_script<H: AllocGlobal + Net + Files + Clock + Abort>(
     rt: &H,
+    args: &[&str],
     table: &str,
     script: &str,
-    status: u8,
-    printed: &str,
-    told: &str,
+    wanted: (u8, &str, &str),
 ) -> Result<(), Fail> {
-    let lines = script.replace(rt.alloc(), ";", "\n")?;
-    let input = format!(in rt.alloc(); "{table}\n%%\n{lines}")?;
-    let printed = printed.replace(rt.alloc(), ";", "\n")?;
+    let (status, printed, told) = wanted;
+    let input = with_script(rt.alloc(), table, script)?;
+    let printed = lines_of(rt.alloc(), printed)?;
     let run = Run {
-        args: &SIM,
+        args,
         input: input.as_bytes(),
         status,
         printed: printed.as_str(),
@@ -156,7 +166,7 @@ fn expect_runs<H: AllocGlobal + Net + Files + Clock + Abort>(
     runs: &[(&str, &str)],
 ) -> Result<(), Fail> {
     for (script, printed) in runs {
-        expect_sim(rt, table, script, 0, printed, "")?;
+        expect_script(rt, &SIM, table, script, (0, printed, ""))?;
     }
     Ok(())
 }
@@ -169,7 +179,7 @@ fn expect_refusal<H: AllocGlobal + Net + Files + Clock + Abort>(
     refusal: &str,
 ) -> Result<(), Fail> {
     let told = format!(in rt.alloc(); "ecat: {refusal}\n")?;
-    expect_sim(rt, table, script, 3, "", told.as_str())
+    expect_script(rt, &SIM, table, script, (3, "", told.as_str()))
 }
 
 /// Runs a script over three slaves whose first bad line has a number.
@@ -180,12 +190,6 @@ fn expect_bad_line<H: AllocGlobal + Net + Files + Clock + Abort>(
 ) -> Result<(), Fail> {
     let refusal = format!(in rt.alloc(); "39 BadScript {line}")?;
     expect_refusal(rt, THREE_SLAVES, script, refusal.as_str())
-}
-
-/// The table of three slaves with `new` in the place of the first `old`.
-fn changed(alloc: Global, old: &str, new: &str) -> Result<String, Fail> {
-    let (before, after) = THREE_SLAVES.split_once(old).ok_or("nothing to change")?;
-    Ok(format!(in alloc; "{before}{new}{after}")?)
 }
 
 #[test]
@@ -201,7 +205,8 @@ fn expect_unmet<H: AllocGlobal + Net + Files + Clock + Abort>(
     count: u64,
 ) -> Result<(), Fail> {
     let told = format!(in rt.alloc(); "ecat: 45 Unmet {count}\n")?;
-    expect_sim(rt, THREE_SLAVES, script, 5, printed, told.as_str())
+    let wanted = (5, printed, told.as_str());
+    expect_script(rt, &SIM, THREE_SLAVES, script, wanted)
 }
 
 #[test]
@@ -219,16 +224,13 @@ fn runs_the_example(rt: HostRuntime) -> Result<(), Fail> {
 
 #[test]
 fn reports_split_parts(rt: HostRuntime) -> Result<(), Fail> {
-    let entries = "entries = [[0x7000, 1, 4]] } ]";
-    let split = format!(in rt.alloc(); "{entries}\nlrw = false")?;
-    let table = changed(rt.alloc(), entries, split.as_str())?;
+    let table = with_split(rt.alloc())?;
     expect_runs(&rt, table.as_str(), &SPLIT_RUNS)
 }
 
 #[test]
 fn reports_unit_by_unit(rt: HostRuntime) -> Result<(), Fail> {
-    let table = changed(rt.alloc(), "type = \"di4\"", "type = \"di4\"\nunit = 1")?;
-    let table = format!(in rt.alloc(); "version = 2\n{table}")?;
+    let table = with_two_units(rt.alloc())?;
     expect_runs(&rt, table.as_str(), &TWO_UNITS_RUNS)
 }
 
@@ -270,11 +272,17 @@ fn takes_tables_without_scripts(rt: HostRuntime) {
     }
 }
 
+/// A line of a start-up and so many more behind it.
+fn behind_ready(alloc: Global, line: &str, count: usize) -> Result<String, AllocError> {
+    let lines = line.repeat(alloc, count)?;
+    format!(in alloc; "ready;{lines}")
+}
+
 #[test]
 fn runs_long_scripts(rt: HostRuntime) -> Result<(), Fail> {
-    let cycles = "cycle;".repeat(rt.alloc(), 9_999)?;
-    let reports = "report taken missing 0 counters 6 al 0008;".repeat(rt.alloc(), 9_999)?;
-    let script = format!(in rt.alloc(); "ready;{cycles}")?;
-    let printed = format!(in rt.alloc(); "ready;{reports}")?;
-    expect_sim(&rt, THREE_SLAVES, script.as_str(), 0, printed.as_str(), "")
+    let report = "report taken missing 0 counters 6 al 0008;";
+    let script = behind_ready(rt.alloc(), "cycle;", 9_999)?;
+    let printed = behind_ready(rt.alloc(), report, 9_999)?;
+    let wanted = (0, printed.as_str(), "");
+    expect_script(&rt, &SIM, THREE_SLAVES, script.as_str(), wanted)
 }

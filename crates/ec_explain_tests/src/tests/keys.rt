@@ -3,6 +3,7 @@ use crate::tests::machine::{COMPACT, MACHINE};
 use crate::tests::refused::{Case, PLAIN, assert_cases, assert_told, told_of};
 use std::alloc::{AllocError, Global};
 use std::fmt::Write as _;
+use std::process::Abort;
 use std::test::Fail;
 
 /// Keys that are unknown or missing, in each section.
@@ -509,44 +510,52 @@ fn sections_that_are_no_lists(rt: HostRuntime) -> Result<(), Fail> {
     Ok(())
 }
 
+/// So many entries of one bit.
+fn write_entries(text: &mut String, entries: u32) -> Result<(), AllocError> {
+    for subindex in 0..entries {
+        write!(text, "[24576, {subindex}, 1], ")?;
+    }
+    Ok(())
+}
+
+/// So many PDOs, each with so many entries.
+fn write_pdos(text: &mut String, pdos: u32, entries: u32) -> Result<(), AllocError> {
+    for pdo in 0..pdos {
+        let index = pdo.saturating_add(5632);
+        write!(text, "  {{ index = {index}, entries = [")?;
+        write_entries(text, entries)?;
+        text.push_str("] },\n")?;
+    }
+    Ok(())
+}
+
 /// A type with so many PDOs, each with so many entries of one bit.
 fn type_text(alloc: Global, pdos: u32, entries: u32) -> Result<String, AllocError> {
     let mut text = String::from_str(
         alloc,
         "[[type]]\nname = \"t\"\nvendor = 1\nproduct = 1\nrevision = 1\nout_start = 0x1000\nin_start = 0\nrxpdo = [\n",
     )?;
-    for pdo in 0..pdos {
-        write!(
-            text,
-            "  {{ index = {}, entries = [",
-            pdo.saturating_add(5632)
-        )?;
-        for subindex in 0..entries {
-            write!(text, "[24576, {subindex}, 1], ")?;
-        }
-        text.push_str("] },\n")?;
-    }
+    write_pdos(&mut text, pdos, entries)?;
     text.push_str("]\n")?;
     Ok(text)
+}
+
+/// Compares what is told of a type with too many of them.
+fn assert_objects(
+    rt: &(impl AllocGlobal + Abort),
+    pdos: u32,
+    entries: u32,
+    wanted: &[&str],
+) -> Result<(), Fail> {
+    let text = type_text(rt.alloc(), pdos, entries)?;
+    assert_told(rt, 13, text.as_str(), wanted)
 }
 
 // The list is in line 8, and each PDO in a line of its own behind it.
 #[test]
 fn too_many_objects(rt: HostRuntime) -> Result<(), Fail> {
-    let text = type_text(rt.alloc(), 17, 1)?;
-    assert_told(
-        &rt,
-        13,
-        text.as_str(),
-        &["line 8, column 9: 17 PDOs", "16 "],
-    )?;
-    let text = type_text(rt.alloc(), 2, 65)?;
-    assert_told(
-        &rt,
-        13,
-        text.as_str(),
-        &["line 9, column 29: 65 entries", "64 "],
-    )
+    assert_objects(&rt, 17, 1, &["line 8, column 9: 17 PDOs", "16 "])?;
+    assert_objects(&rt, 2, 65, &["line 9, column 29: 65 entries", "64 "])
 }
 
 /// What stands behind a type without PDOs or a mailbox, whose lines are 1 to 7, and what is told of both.
@@ -588,25 +597,36 @@ const BEHIND_PLAIN: [(&str, &[&str]); 5] = [
     ),
 ];
 
+/// Compares what is told of what stands behind the type.
+fn assert_behind(
+    rt: &(impl AllocGlobal + Abort),
+    behind: &str,
+    wanted: &[&str],
+) -> Result<(), Fail> {
+    let text = format!(in rt.alloc(); "{PLAIN}{behind}")?;
+    assert_told(rt, 13, text.as_str(), wanted)
+}
+
 #[test]
 fn objects_of_a_plain_type(rt: HostRuntime) -> Result<(), Fail> {
     for (behind, wanted) in BEHIND_PLAIN {
-        let text = format!(in rt.alloc(); "{PLAIN}{behind}")?;
-        assert_told(&rt, 13, text.as_str(), wanted)?;
+        assert_behind(&rt, behind, wanted)?;
     }
     Ok(())
+}
+
+/// What is told of the type and what stands behind it.
+fn told_behind(alloc: Global, behind: &str) -> Result<String, Fail> {
+    let text = format!(in alloc; "{PLAIN}{behind}")?;
+    told_of(alloc, text.as_str())
 }
 
 // Where one of two lists is right, only the other is told of.
 #[test]
 fn a_list_that_is_right(rt: HostRuntime) -> Result<(), Fail> {
     let (behind, _) = BEHIND_PLAIN[3];
-    let text = format!(in rt.alloc(); "{PLAIN}{behind}")?;
-    let told = told_of(rt.alloc(), text.as_str())?;
-    assert!(rt;
-        told.as_str().find("line 13, ").is_none(),
-        "{}",
-        told.as_str()
-    );
+    let told = told_behind(rt.alloc(), behind)?;
+    let told = told.as_str();
+    assert!(rt; told.find("line 13, ").is_none(), "{told}");
     Ok(())
 }

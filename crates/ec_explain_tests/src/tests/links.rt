@@ -1,7 +1,8 @@
 //! Links, entries, areas and frames as people get them wrong, and tables with other line ends.
 use crate::tests::machine::{COMPACT, MACHINE};
 use crate::tests::refused::{
-    Case, INLINE, LINKING as OTHERS, PLAIN, READING, assert_cases, assert_told, changed,
+    Case, INLINE, LINKING as OTHERS, PLAIN, READING, assert_cases, assert_told, changed, marked,
+    write_pdos,
 };
 use std::alloc::{AllocError, Global};
 use std::fmt::Write as _;
@@ -166,14 +167,26 @@ fn a_bit_or_a_byte_too_many(rt: HostRuntime) -> Result<(), Fail> {
     assert_cases(&rt, MACHINE, &LINKING)
 }
 
-/// Compares what is told of a text with changes, whose lines end in two bytes and before which stands a mark.
+/// A text with a change, whose lines end in two bytes and before which stands a mark.
+fn marked_case(alloc: Global, text: &str, case: &Case) -> Result<String, Fail> {
+    let text = changed(alloc, text, case.old, case.new)?;
+    Ok(marked(alloc, text.as_str())?)
+}
+
+/// Compares what is told of it.
+fn assert_marked_case(
+    rt: &(impl AllocGlobal + Abort),
+    text: &str,
+    case: &Case,
+) -> Result<(), Fail> {
+    let text = marked_case(rt.alloc(), text, case)?;
+    assert_told(rt, case.number, text.as_str(), case.told)
+}
+
+/// The same of a text with changes.
 fn assert_marked(rt: &(impl AllocGlobal + Abort), text: &str, cases: &[Case]) -> Result<(), Fail> {
     for case in cases {
-        let text = changed(rt.alloc(), text, case.old, case.new)?;
-        let text = text.replace(rt.alloc(), "\n", "\r\n")?;
-        let text = text.as_str();
-        let text = format!(in rt.alloc(); "\u{FEFF}{text}")?;
-        assert_told(rt, case.number, text.as_str(), case.told)?;
+        assert_marked_case(rt, text, case)?;
     }
     Ok(())
 }
@@ -187,25 +200,8 @@ fn each_refusal_with_other_line_ends(rt: HostRuntime) -> Result<(), Fail> {
     assert_marked(&rt, COMPACT, &INLINE)
 }
 
-/// PDOs of a type, each with eight entries of 64 bits: 512 bits.
-fn write_pdos(text: &mut String, key: &str, first: u32, count: u32) -> Result<(), AllocError> {
-    writeln!(text, "{key} = [")?;
-    for pdo in 0..count {
-        let index = first.saturating_add(pdo);
-        write!(text, "  {{ index = {index}, entries = [")?;
-        for subindex in 0..8 {
-            write!(text, "[{index}, {subindex}, 64], ")?;
-        }
-        text.push_str("] },\n")?;
-    }
-    writeln!(text, "]")
-}
-
-/// The type of 2048 output bits and, in units of their own, 31 slaves of it; and more of them in the last unit.
-fn wide_slaves(alloc: Global, more: usize) -> Result<String, AllocError> {
-    let mut text = String::from_str(alloc, "version = 2\n")?;
-    text.push_str(PLAIN)?;
-    write_pdos(&mut text, "rxpdo", 5632, 4)?;
+/// Adds 31 slaves, in units of their own, and more of them in one more unit.
+fn write_wide_slaves(text: &mut String, more: usize) -> Result<(), AllocError> {
     for slave in 0..more.saturating_add(31) {
         let unit = slave.min(31);
         write!(
@@ -213,6 +209,14 @@ fn wide_slaves(alloc: Global, more: usize) -> Result<String, AllocError> {
             "[[slave]]\nname = \"s{slave}\"\ntype = \"t\"\nunit = {unit}\n"
         )?;
     }
+    Ok(())
+}
+
+/// The type of 2048 output bits and, in units of their own, 31 slaves of it; and more of them in the last unit.
+fn wide_slaves(alloc: Global, more: usize) -> Result<String, AllocError> {
+    let mut text = format!(in alloc; "version = 2\n{PLAIN}")?;
+    write_pdos(&mut text, "rxpdo", 5632, 4)?;
+    write_wide_slaves(&mut text, more)?;
     Ok(text)
 }
 
@@ -230,45 +234,84 @@ fn too_many_frames_for_few_units(rt: HostRuntime) -> Result<(), Fail> {
     assert_told(&rt, 23, text.as_str(), &wanted)
 }
 
-// Four PDOs of 512 bits, and one of a bit more. Seven lines of the type stand before its list, which has seven.
-#[test]
-fn too_many_input_bits(rt: HostRuntime) -> Result<(), Fail> {
-    let mut text = String::from_str(rt.alloc(), PLAIN)?;
+/// A type with four PDOs of 512 bits of inputs.
+fn wide_type(alloc: Global) -> Result<String, AllocError> {
+    let mut text = String::from_str(alloc, PLAIN)?;
     write_pdos(&mut text, "txpdo", 6656, 4)?;
-    let text = changed(
-        rt.alloc(),
+    Ok(text)
+}
+
+/// The same with one PDO more, of a bit, and a slave of that type.
+fn wide_slave(alloc: Global) -> Result<String, Fail> {
+    let text = wide_type(alloc)?;
+    changed(
+        alloc,
         text.as_str(),
         "] },\n]\n",
         "] },\n  { index = 0x1A04, entries = [[0x6000, 1, 1]] },\n]\n[[slave]]\nname = \"wide\"\ntype = \"t\"\n",
-    )?;
-    let wanted = [
-        "line 15, column 1: slave wide has 2049 input bits",
-        "2048",
-        "leave PDOs or entries of type t out",
-        "no mailbox",
-    ];
-    assert_told(&rt, 21, text.as_str(), &wanted)?;
-    // with a mailbox, whose line is one more, it may assign what it needs
-    let text = changed(
-        rt.alloc(),
+    )
+}
+
+// Four PDOs of 512 bits, and one of a bit more. Seven lines of the type stand before its list, which has seven.
+#[test]
+fn too_many_input_bits(rt: HostRuntime) -> Result<(), Fail> {
+    let text = wide_slave(rt.alloc())?;
+    assert_told(
+        &rt,
+        21,
+        text.as_str(),
+        &[
+            "line 15, column 1: slave wide has 2049 input bits",
+            "2048",
+            "leave PDOs or entries of type t out",
+            "no mailbox",
+        ],
+    )
+}
+
+/// The same slave with a mailbox.
+fn wide_slave_with_mailbox(alloc: Global) -> Result<String, Fail> {
+    let text = wide_slave(alloc)?;
+    changed(
+        alloc,
         text.as_str(),
         "in_start",
         "mailbox = [0x2000, 128, 0x2080, 128]\nin_start",
-    )?;
-    let wanted = [
-        "line 16, column 1: slave wide has 2049 input bits",
-        "assign fewer PDOs of its type by `in`",
-    ];
-    assert_told(&rt, 21, text.as_str(), &wanted)
+    )
+}
+
+// With a mailbox, whose line is one more, it may assign what it needs.
+#[test]
+fn too_many_input_bits_of_a_mailbox_slave(rt: HostRuntime) -> Result<(), Fail> {
+    let text = wide_slave_with_mailbox(rt.alloc())?;
+    assert_told(
+        &rt,
+        21,
+        text.as_str(),
+        &[
+            "line 16, column 1: slave wide has 2049 input bits",
+            "assign fewer PDOs of its type by `in`",
+        ],
+    )
+}
+
+/// A type and so many slaves of it.
+fn row_of_slaves(alloc: Global, count: usize) -> Result<String, AllocError> {
+    let mut text = String::from_str(alloc, PLAIN)?;
+    for slave in 0..count {
+        write!(text, "[[slave]]\nname = \"s{slave}\"\ntype = \"t\"\n")?;
+    }
+    Ok(text)
 }
 
 // One slave more than there may be: seven lines stand before the slaves, and each has three.
 #[test]
 fn one_slave_too_many(rt: HostRuntime) -> Result<(), Fail> {
-    let mut text = String::from_str(rt.alloc(), PLAIN)?;
-    for slave in 0..65 {
-        write!(text, "[[slave]]\nname = \"s{slave}\"\ntype = \"t\"\n")?;
-    }
-    let wanted = ["line 200, column 1: 65 slaves, and 64 "];
-    assert_told(&rt, 22, text.as_str(), &wanted)
+    let text = row_of_slaves(rt.alloc(), 65)?;
+    assert_told(
+        &rt,
+        22,
+        text.as_str(),
+        &["line 200, column 1: 65 slaves, and 64 "],
+    )
 }

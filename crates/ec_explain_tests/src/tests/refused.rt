@@ -2,7 +2,7 @@
 use crate::tests::machine::{COMPACT, MACHINE};
 use ec_explain::{Cause, explanation};
 use ec_link::{LinkError, compile};
-use ec_table::{TableError, read_table};
+use ec_table::{Table, TableError, read_table};
 use std::alloc::{AllocError, Global};
 use std::fmt::Write as _;
 use std::process::Abort;
@@ -16,16 +16,20 @@ pub struct Case {
     pub told: &'static [&'static str],
 }
 
-/// Why a table is refused.
-fn cause_of(alloc: Global, text: &str) -> Option<Cause> {
-    let table = match read_table(alloc, text) {
-        Ok(table) => table,
-        Err(TableError::Refused(fault)) => return Some(Cause::Table(fault)),
-        Err(TableError::Memory) => return None,
-    };
-    match compile(alloc, &table) {
+/// Why a table has no plan.
+fn cause_of_table(alloc: Global, table: &Table) -> Option<Cause> {
+    match compile(alloc, table) {
         Err(LinkError::Refused(fault)) => Some(Cause::Link(fault)),
         _ => None,
+    }
+}
+
+/// Why a text is refused.
+fn cause_of(alloc: Global, text: &str) -> Option<Cause> {
+    match read_table(alloc, text) {
+        Ok(table) => cause_of_table(alloc, &table),
+        Err(TableError::Refused(fault)) => Some(Cause::Table(fault)),
+        Err(TableError::Memory) => None,
     }
 }
 
@@ -50,6 +54,32 @@ pub fn told_of(alloc: Global, text: &str) -> Result<String, Fail> {
     Ok(explanation(alloc, text, cause)?)
 }
 
+/// The same text with lines that end in two bytes, behind a mark.
+pub fn marked(alloc: Global, text: &str) -> Result<String, AllocError> {
+    let text = text.replace(alloc, "\n", "\r\n")?;
+    format!(in alloc; "\u{FEFF}{text}")
+}
+
+/// Each phrase stands in what is told.
+fn assert_phrases(rt: &impl Abort, told: &str, wanted: &[&str]) {
+    for phrase in wanted {
+        let phrase = *phrase;
+        assert!(rt; told.find(phrase).is_some(), "no {phrase} in {told}");
+    }
+}
+
+/// Compares what is told of a text for a cause.
+pub fn assert_cause(
+    rt: &(impl AllocGlobal + Abort),
+    text: &str,
+    cause: Cause,
+    wanted: &[&str],
+) -> Result<(), Fail> {
+    let told = explanation(rt.alloc(), text, cause)?;
+    assert_phrases(rt, told.as_str(), wanted);
+    Ok(())
+}
+
 /// Compares what is told of a text that is refused by a number.
 pub fn assert_told(
     rt: &(impl AllocGlobal + Abort),
@@ -59,13 +89,13 @@ pub fn assert_told(
 ) -> Result<(), Fail> {
     let cause = cause_of(rt.alloc(), text).ok_or("not refused")?;
     assert_eq!(rt; number_of(cause), number, "{text}");
-    let told = explanation(rt.alloc(), text, cause)?;
-    let told = told.as_str();
-    for phrase in wanted {
-        let phrase = *phrase;
-        assert!(rt; told.find(phrase).is_some(), "no {phrase} in {told}");
-    }
-    Ok(())
+    assert_cause(rt, text, cause, wanted)
+}
+
+/// Compares what is told of a text with a change.
+fn assert_case(rt: &(impl AllocGlobal + Abort), text: &str, case: &Case) -> Result<(), Fail> {
+    let text = changed(rt.alloc(), text, case.old, case.new)?;
+    assert_told(rt, case.number, text.as_str(), case.told)
 }
 
 /// Compares what is told of a text with changes.
@@ -75,8 +105,7 @@ pub fn assert_cases(
     cases: &[Case],
 ) -> Result<(), Fail> {
     for case in cases {
-        let text = changed(rt.alloc(), text, case.old, case.new)?;
-        assert_told(rt, case.number, text.as_str(), case.told)?;
+        assert_case(rt, text, case)?;
     }
     Ok(())
 }
@@ -451,13 +480,15 @@ fn inline_arrays(rt: HostRuntime) -> Result<(), Fail> {
     assert_cases(&rt, COMPACT, &INLINE)
 }
 
+/// The table with inline arrays and a key that no link has, with other line ends.
+fn marked_compact(alloc: Global) -> Result<String, Fail> {
+    let text = changed(alloc, COMPACT, "sub = 0 }", "subb = 0 }")?;
+    Ok(marked(alloc, text.as_str())?)
+}
+
 #[test]
 fn line_ends_of_two_bytes_and_a_mark(rt: HostRuntime) -> Result<(), Fail> {
-    let alloc = rt.alloc();
-    let text = changed(alloc, COMPACT, "sub = 0 }", "subb = 0 }")?;
-    let text = text.replace(alloc, "\n", "\r\n")?;
-    let text = text.as_str();
-    let text = format!(in alloc; "\u{FEFF}{text}")?;
+    let text = marked_compact(rt.alloc())?;
     assert_told(
         &rt,
         12,
@@ -479,10 +510,8 @@ out_start = 0x1000
 in_start = 0x1000
 ";
 
-/// A table of so many slaves, in units of their own or in one.
-fn slaves_text(alloc: Global, count: usize, has_units: bool) -> Result<String, AllocError> {
-    let mut text = String::from_str(alloc, "version = 2\n")?;
-    text.push_str(PLAIN)?;
+/// Adds so many slaves, in units of their own or in one.
+fn write_slaves(text: &mut String, count: usize, has_units: bool) -> Result<(), AllocError> {
     for slave in 0..count {
         let unit = if has_units { slave } else { 0 };
         write!(
@@ -490,58 +519,105 @@ fn slaves_text(alloc: Global, count: usize, has_units: bool) -> Result<String, A
             "[[slave]]\nname = \"s{slave}\"\ntype = \"t\"\nunit = {unit}\n"
         )?;
     }
+    Ok(())
+}
+
+/// A table of so many slaves, in units of their own or in one.
+fn slaves_text(alloc: Global, count: usize, has_units: bool) -> Result<String, AllocError> {
+    let mut text = format!(in alloc; "version = 2\n{PLAIN}")?;
+    write_slaves(&mut text, count, has_units)?;
+    Ok(text)
+}
+
+// Eight lines stand before the slaves, and each has four.
+#[test]
+fn too_many_slaves(rt: HostRuntime) -> Result<(), Fail> {
+    let text = slaves_text(rt.alloc(), 66, false)?;
+    assert_told(
+        &rt,
+        22,
+        text.as_str(),
+        &["line 265, column 1: 66 slaves, and 64 "],
+    )
+}
+
+#[test]
+fn too_many_units(rt: HostRuntime) -> Result<(), Fail> {
+    let text = slaves_text(rt.alloc(), 40, true)?;
+    assert_told(
+        &rt,
+        23,
+        text.as_str(),
+        &[
+            "slave 32 ",
+            "line 140, column 8: 40 sync units",
+            "unit = 32\n",
+        ],
+    )
+}
+
+/// Entries of 64 bits.
+fn write_entries(text: &mut String, index: u32) -> Result<(), AllocError> {
+    for subindex in 0..8 {
+        write!(text, "[{index}, {subindex}, 64], ")?;
+    }
+    Ok(())
+}
+
+/// PDOs of a type, each with eight entries of 64 bits: 512 bits.
+pub fn write_pdos(text: &mut String, key: &str, first: u32, count: u32) -> Result<(), AllocError> {
+    writeln!(text, "{key} = [")?;
+    for pdo in 0..count {
+        let index = first.saturating_add(pdo);
+        write!(text, "  {{ index = {index}, entries = [")?;
+        write_entries(text, index)?;
+        text.push_str("] },\n")?;
+    }
+    writeln!(text, "]")
+}
+
+/// A slave with five PDOs of 512 bits of outputs.
+fn wide_text(alloc: Global) -> Result<String, AllocError> {
+    let mut text = String::from_str(alloc, PLAIN)?;
+    write_pdos(&mut text, "rxpdo", 5632, 5)?;
+    text.push_str("[[slave]]\nname = \"wide\"\ntype = \"t\"\n")?;
     Ok(text)
 }
 
 #[test]
-fn too_many_slaves_and_units(rt: HostRuntime) -> Result<(), Fail> {
-    // eight lines stand before the slaves, and each has four
-    let text = slaves_text(rt.alloc(), 66, false)?;
-    let wanted = ["line 265, column 1: 66 slaves, and 64 "];
-    assert_told(&rt, 22, text.as_str(), &wanted)?;
-    let text = slaves_text(rt.alloc(), 40, true)?;
-    let wanted = [
-        "slave 32 ",
-        "line 140, column 8: 40 sync units",
-        "unit = 32\n",
-    ];
-    assert_told(&rt, 23, text.as_str(), &wanted)
+fn too_many_bits(rt: HostRuntime) -> Result<(), Fail> {
+    let text = wide_text(rt.alloc())?;
+    assert_told(
+        &rt,
+        21,
+        text.as_str(),
+        &[
+            "line 15, column 1: slave wide has 2560 output bits",
+            "2048",
+            "leave PDOs or entries of type t out",
+            "no mailbox",
+        ],
+    )
 }
 
-#[test]
-fn too_many_bits(rt: HostRuntime) -> Result<(), Fail> {
-    let mut text = String::from_str(rt.alloc(), PLAIN)?;
-    text.push_str("rxpdo = [\n")?;
-    for pdo in 0..5 {
-        let index = 5632 + pdo;
-        write!(text, "  {{ index = {index}, entries = [")?;
-        for subindex in 0..8 {
-            write!(text, "[{index}, {subindex}, 64], ")?;
-        }
-        text.push_str("] },\n")?;
+/// A long line with a character that controls, behind another one.
+fn odd_text(alloc: Global) -> Result<String, AllocError> {
+    let blanks = " ".repeat(alloc, 600)?;
+    format!(in alloc; "# \u{1b}[2J\nversion = 2\nlink = [{blanks}{{ var = \"\u{1b}\" }} ]\n")
+}
+
+/// Each line is short, and controls nothing.
+fn assert_shown(rt: &impl Abort, told: &str) {
+    for line in told.lines() {
+        assert!(rt; line.chars().count() <= 120, "{line}");
+        assert!(rt; line.chars().all(|c| !c.is_control()), "{line:?}");
     }
-    text.push_str("]\n[[slave]]\nname = \"wide\"\ntype = \"t\"\n")?;
-    let wanted = [
-        "line 15, column 1: slave wide has 2560 output bits",
-        "2048",
-        "leave PDOs or entries of type t out",
-        "no mailbox",
-    ];
-    assert_told(&rt, 21, text.as_str(), &wanted)
 }
 
 #[test]
 fn what_is_shown_of_a_line(rt: HostRuntime) -> Result<(), Fail> {
-    let alloc = rt.alloc();
-    let mut text = String::from_str(alloc, "# \u{1b}[2J\nversion = 2\nlink = [")?;
-    for _ in 0..60 {
-        text.push_str("          ")?;
-    }
-    text.push_str("{ var = \"\u{1b}\" } ]\n")?;
-    let told = told_of(alloc, text.as_str())?;
-    for line in told.as_str().lines() {
-        assert!(rt; line.chars().count() <= 120, "{line}");
-        assert!(rt; line.chars().all(|c| !c.is_control()), "{line:?}");
-    }
+    let text = odd_text(rt.alloc())?;
+    let told = told_of(rt.alloc(), text.as_str())?;
+    assert_shown(&rt, told.as_str());
     Ok(())
 }

@@ -1,27 +1,13 @@
 //! Start-ups, cycles and scripts that fail, and what is told of them.
 use crate::tests::machine::MACHINE;
+use crate::tests::refused::assert_cause;
 use ec_cycle::CycleError;
 use ec_device::Device;
 use ec_explain::{Cause, explanation};
 use ec_start::StartError;
+use std::alloc::{AllocError, Global};
 use std::process::Abort;
 use std::test::Fail;
-
-/// Compares what is told of a text for a cause.
-fn assert_told(
-    rt: &(impl AllocGlobal + Abort),
-    text: &str,
-    cause: Cause,
-    wanted: &[&str],
-) -> Result<(), Fail> {
-    let told = explanation(rt.alloc(), text, cause)?;
-    let told = told.as_str();
-    for phrase in wanted {
-        let phrase = *phrase;
-        assert!(rt; told.find(phrase).is_some(), "no {phrase} in {told}");
-    }
-    Ok(())
-}
 
 const DRIVE: Device = Device {
     vendor: 1,
@@ -29,77 +15,79 @@ const DRIVE: Device = Device {
     revision: 1,
 };
 
+/// Start-ups that failed, and what is told of them.
+static ERRORS: [(StartError, &[&str]); 9] = [
+    (
+        StartError::BadMailbox { slave: 1 },
+        &["line 31, column 1: slave 1 x ", "`mailbox`"],
+    ),
+    (
+        StartError::Count { seen: 1 },
+        &[
+            "line 31, column 1: 1 slave answered",
+            "the table has 3",
+            "slave 1 x ",
+        ],
+    ),
+    (
+        StartError::Count { seen: 5 },
+        &["5 slaves answered", "the table has 3"],
+    ),
+    (
+        StartError::Identity {
+            slave: 0,
+            seen: DRIVE,
+        },
+        &[
+            "line 28, column 1: slave 0 panel ",
+            "product 0x00000004",
+            "type coupler ",
+            "product 0x00000002",
+            "the type drive ",
+        ],
+    ),
+    (
+        StartError::AlError {
+            slave: 2,
+            code: 0x001D,
+        },
+        &["line 35, column 1: slave 2 y ", "0x001D", "outputs"],
+    ),
+    (
+        StartError::Abort {
+            slave: 2,
+            code: 0x0602_0000,
+        },
+        &[
+            "line 35, column 1: slave 2 y ",
+            "0x06020000",
+            "no such object",
+        ],
+    ),
+    (StartError::Lost, &["lost", "given up"]),
+    (StartError::NumbersSpent, &["number"]),
+    (
+        StartError::Mapping {
+            slave: 1,
+            index: 0x1600,
+            subindex: 2,
+            seen: 0x60FF_0020,
+        },
+        &[
+            "line 31, column 1: slave 1 x ",
+            "0x1600:2",
+            "line 23, column 3: ",
+            "0x607A0020",
+            "[0x607A, 0, 32]",
+            "[0x60FF, 0, 32]",
+        ],
+    ),
+];
+
 #[test]
 fn start_ups(rt: HostRuntime) -> Result<(), Fail> {
-    let errors: [(StartError, &[&str]); 9] = [
-        (
-            StartError::BadMailbox { slave: 1 },
-            &["line 31, column 1: slave 1 x ", "`mailbox`"],
-        ),
-        (
-            StartError::Count { seen: 1 },
-            &[
-                "line 31, column 1: 1 slave answered",
-                "the table has 3",
-                "slave 1 x ",
-            ],
-        ),
-        (
-            StartError::Count { seen: 5 },
-            &["5 slaves answered", "the table has 3"],
-        ),
-        (
-            StartError::Identity {
-                slave: 0,
-                seen: DRIVE,
-            },
-            &[
-                "line 28, column 1: slave 0 panel ",
-                "product 0x00000004",
-                "type coupler ",
-                "product 0x00000002",
-                "the type drive ",
-            ],
-        ),
-        (
-            StartError::AlError {
-                slave: 2,
-                code: 0x001D,
-            },
-            &["line 35, column 1: slave 2 y ", "0x001D", "outputs"],
-        ),
-        (
-            StartError::Abort {
-                slave: 2,
-                code: 0x0602_0000,
-            },
-            &[
-                "line 35, column 1: slave 2 y ",
-                "0x06020000",
-                "no such object",
-            ],
-        ),
-        (StartError::Lost, &["lost", "given up"]),
-        (StartError::NumbersSpent, &["number"]),
-        (
-            StartError::Mapping {
-                slave: 1,
-                index: 0x1600,
-                subindex: 2,
-                seen: 0x60FF_0020,
-            },
-            &[
-                "line 31, column 1: slave 1 x ",
-                "0x1600:2",
-                "line 23, column 3: ",
-                "0x607A0020",
-                "[0x607A, 0, 32]",
-                "[0x60FF, 0, 32]",
-            ],
-        ),
-    ];
-    for (error, wanted) in errors {
-        assert_told(&rt, MACHINE, Cause::Start(error), wanted)?;
+    for (error, wanted) in ERRORS {
+        assert_cause(&rt, MACHINE, Cause::Start(error), wanted)?;
     }
     Ok(())
 }
@@ -107,114 +95,123 @@ fn start_ups(rt: HostRuntime) -> Result<(), Fail> {
 // The start-up of the machine has 109 steps: 6 for all, 1 to name each slave, 6 to identify it, 2 for
 // the mailboxes of x and y, 2 for PREOP of each, 24 requests and replies of x and of y, 4 to map each,
 // and 2 for SAFEOP and 2 for OP of each.
+static STEPS: [(usize, &[&str]); 14] = [
+    (0, &["counted"]),
+    (2, &["all slaves", "INIT"]),
+    (5, &["all slaves", "station addresses"]),
+    (
+        6,
+        &[
+            "line 28, column 1: ",
+            "slave 0 panel: it is given its station address",
+        ],
+    ),
+    (17, &["slave 1 x: its product is asked for"]),
+    (26, &["slave 2 y: its revision is awaited"]),
+    (27, &["slave 1 x: sync manager 0"]),
+    (36, &["slave 2 y: it is awaited in PREOP"]),
+    (39, &["slave 1 x: a request ", "0x1600:1"]),
+    (60, &["slave 1 x: a reply ", "0x1C13:0"]),
+    (75, &["slave 2 y: a request ", "PDO 0x1601 into 0x1C12:1"]),
+    (88, &["slave 0 panel: FMMU 1"]),
+    (97, &["slave 0 panel: it is asked for SAFEOP"]),
+    (108, &["slave 2 y: it is awaited in OP"]),
+];
+
+/// Compares what is told of a step whose counter was wrong, and which was too slow.
+fn assert_step(rt: &(impl AllocGlobal + Abort), step: usize, wanted: &[&str]) -> Result<(), Fail> {
+    let counter = Cause::Start(StartError::Counter { step });
+    assert_cause(rt, MACHINE, counter, wanted)?;
+    let slow = Cause::Start(StartError::TooSlow { step });
+    assert_cause(rt, MACHINE, slow, wanted)
+}
+
 #[test]
 fn steps(rt: HostRuntime) -> Result<(), Fail> {
-    let steps: [(usize, &[&str]); 14] = [
-        (0, &["counted"]),
-        (2, &["all slaves", "INIT"]),
-        (5, &["all slaves", "station addresses"]),
-        (
-            6,
-            &[
-                "line 28, column 1: ",
-                "slave 0 panel: it is given its station address",
-            ],
-        ),
-        (17, &["slave 1 x: its product is asked for"]),
-        (26, &["slave 2 y: its revision is awaited"]),
-        (27, &["slave 1 x: sync manager 0"]),
-        (36, &["slave 2 y: it is awaited in PREOP"]),
-        (39, &["slave 1 x: a request ", "0x1600:1"]),
-        (60, &["slave 1 x: a reply ", "0x1C13:0"]),
-        (75, &["slave 2 y: a request ", "PDO 0x1601 into 0x1C12:1"]),
-        (88, &["slave 0 panel: FMMU 1"]),
-        (97, &["slave 0 panel: it is asked for SAFEOP"]),
-        (108, &["slave 2 y: it is awaited in OP"]),
-    ];
-    for (step, wanted) in steps {
-        assert_told(
-            &rt,
-            MACHINE,
-            Cause::Start(StartError::Counter { step }),
-            wanted,
-        )?;
-        assert_told(
-            &rt,
-            MACHINE,
-            Cause::Start(StartError::TooSlow { step }),
-            wanted,
-        )?;
+    for (step, wanted) in STEPS {
+        assert_step(&rt, step, wanted)?;
     }
-    let past = Cause::Start(StartError::TooSlow { step: 109 });
-    let told = explanation(rt.alloc(), MACHINE, past)?;
-    assert!(rt; told.as_str().find("step").is_none(), "{}", told.as_str());
+    Ok(())
+}
+
+/// A phrase doesn't stand in what is told of a text for a cause.
+fn assert_untold(
+    rt: &(impl AllocGlobal + Abort),
+    text: &str,
+    cause: Cause,
+    phrase: &str,
+) -> Result<(), Fail> {
+    let told = explanation(rt.alloc(), text, cause)?;
+    let told = told.as_str();
+    assert!(rt; told.find(phrase).is_none(), "{told}");
     Ok(())
 }
 
 #[test]
+fn a_step_past_the_last(rt: HostRuntime) -> Result<(), Fail> {
+    let past = Cause::Start(StartError::TooSlow { step: 109 });
+    assert_untold(&rt, MACHINE, past, "step")
+}
+
+/// Cycles that can't be, and what is told of them.
+static CYCLES: [(Cause, &[&str]); 5] = [
+    (Cause::Cycle(CycleError::NotReady), &["ready"]),
+    (Cause::Cycle(CycleError::Open), &["open already"]),
+    (Cause::Cycle(CycleError::NotOpen), &["No cycle is open"]),
+    (Cause::Cycle(CycleError::NumbersSpent), &["2^64"]),
+    (Cause::Wire, &["socket", "nothing of that cycle"]),
+];
+
+#[test]
 fn cycles(rt: HostRuntime) -> Result<(), Fail> {
-    assert_told(&rt, MACHINE, Cause::Cycle(CycleError::NotReady), &["ready"])?;
-    assert_told(
-        &rt,
-        MACHINE,
-        Cause::Cycle(CycleError::Open),
-        &["open already"],
-    )?;
-    assert_told(
-        &rt,
-        MACHINE,
-        Cause::Cycle(CycleError::NotOpen),
-        &["No cycle is open"],
-    )?;
-    assert_told(
-        &rt,
-        MACHINE,
-        Cause::Cycle(CycleError::NumbersSpent),
-        &["2^64"],
-    )?;
-    assert_told(
-        &rt,
-        MACHINE,
-        Cause::Wire,
-        &["socket", "nothing of that cycle"],
-    )
+    for (cause, wanted) in CYCLES {
+        assert_cause(&rt, MACHINE, cause, wanted)?;
+    }
+    Ok(())
+}
+
+const SCRIPT: &str = "ready\r\n\r\nset lamp 1\r\ncycel\r\npass\r\nset lamps 1 2\r\n\u{1b}\r\nget 1";
+
+/// Its lines that stand for nothing, and what is told of them. The table has 69 lines, so line 1 of the script is line 71.
+static LINES: [(usize, &[&str]); 7] = [
+    (
+        3,
+        &[
+            "line 73, column 5: ",
+            "`lamp`",
+            "`lamps`?",
+            "    73 | set lamp 1\n",
+        ],
+    ),
+    (
+        4,
+        &[
+            "line 74, column 1: ",
+            "`cycel`",
+            "`cycle`?",
+            "       | ^^^^^\n",
+        ],
+    ),
+    (5, &["line 75, column 1: ", "`pass K`"]),
+    (6, &["line 76, column 1: ", "`set NAME VALUE`"]),
+    (7, &["line 77, column 1: ", "    77 | \u{FFFD}\n"]),
+    (8, &["line 78, column 1: ", "`get S I`"]),
+    (9, &["line 9 of the script isn't found"]),
+];
+
+/// Compares what is told of the lines of a script that begins at a byte of a text.
+fn assert_lines(rt: &(impl AllocGlobal + Abort), text: &str, from: usize) -> Result<(), Fail> {
+    for (line, wanted) in LINES {
+        assert_cause(rt, text, Cause::Script { from, line }, wanted)?;
+    }
+    Ok(())
 }
 
 #[test]
 fn lines_of_a_script(rt: HostRuntime) -> Result<(), Fail> {
-    let script = "ready\r\n\r\nset lamp 1\r\ncycel\r\npass\r\nset lamps 1 2\r\n\u{1b}\r\nget 1";
-    let text = format!(in rt.alloc(); "{MACHINE}%%\r\n{script}")?;
-    let from = text.len() - script.len();
-    // the table has 69 lines, so line 1 of the script is line 71
-    let lines: [(usize, &[&str]); 7] = [
-        (
-            3,
-            &[
-                "line 73, column 5: ",
-                "`lamp`",
-                "`lamps`?",
-                "    73 | set lamp 1\n",
-            ],
-        ),
-        (
-            4,
-            &[
-                "line 74, column 1: ",
-                "`cycel`",
-                "`cycle`?",
-                "       | ^^^^^\n",
-            ],
-        ),
-        (5, &["line 75, column 1: ", "`pass K`"]),
-        (6, &["line 76, column 1: ", "`set NAME VALUE`"]),
-        (7, &["line 77, column 1: ", "    77 | \u{FFFD}\n"]),
-        (8, &["line 78, column 1: ", "`get S I`"]),
-        (9, &["line 9 of the script isn't found"]),
-    ];
-    for (line, wanted) in lines {
-        assert_told(&rt, text.as_str(), Cause::Script { from, line }, wanted)?;
-    }
-    Ok(())
+    let text = format!(in rt.alloc(); "{MACHINE}%%\r\n{SCRIPT}")?;
+    let from = text.len().saturating_sub(SCRIPT.len());
+    assert_lines(&rt, text.as_str(), from)
 }
 
 /// Lines of a script behind the machine's table that stand for nothing, the column of what is at fault, and what is told.
@@ -289,46 +286,35 @@ static BAD_LINES: [(&str, usize, &[&str]); 30] = [
 #[test]
 fn words_of_a_line(rt: HostRuntime) -> Result<(), Fail> {
     for (line, column, wanted) in BAD_LINES {
-        let text = format!(in rt.alloc(); "{MACHINE}%%\n\n{line}\n")?;
-        let from = text.len().saturating_sub(line.len()).saturating_sub(2);
-        let cause = Cause::Script { from, line: 2 };
-        assert_told(&rt, text.as_str(), cause, wanted)?;
-        let place = format!(in rt.alloc(); "line 72, column {column}: ")?;
-        assert_told(&rt, text.as_str(), cause, &[place.as_str(), "To do: "])?;
+        assert_line(&rt, MACHINE, line, column, wanted)?;
     }
     Ok(())
 }
 
 #[test]
 fn unmet_lines(rt: HostRuntime) -> Result<(), Fail> {
-    assert_told(
-        &rt,
-        MACHINE,
-        Cause::Unmet(1),
-        &["what a line expects wasn't so", "To do: "],
-    )?;
-    assert_told(
-        &rt,
-        MACHINE,
-        Cause::Unmet(3),
-        &["3 times what a line expects wasn't so"],
-    )
+    let once = ["what a line expects wasn't so", "To do: "];
+    assert_cause(&rt, MACHINE, Cause::Unmet(1), &once)?;
+    let thrice = ["3 times what a line expects wasn't so"];
+    assert_cause(&rt, MACHINE, Cause::Unmet(3), &thrice)
 }
+
+/// Texts that are no table of this machine.
+const OTHER_TEXTS: [&str; 7] = [
+    "",
+    "\u{FEFF}",
+    "[[",
+    "a = \"",
+    "'''",
+    "link = [{",
+    "[[slave]]\n[[slave]]",
+];
 
 #[test]
 fn other_texts(rt: HostRuntime) -> Result<(), Fail> {
     let cause = Cause::Start(StartError::Counter { step: 17 });
-    for text in [
-        "",
-        "\u{FEFF}",
-        "[[",
-        "a = \"",
-        "'''",
-        "link = [{",
-        "[[slave]]\n[[slave]]",
-    ] {
-        let told = explanation(rt.alloc(), text, cause)?;
-        assert!(rt; told.as_str().find("step 17").is_none());
+    for text in OTHER_TEXTS {
+        assert_untold(&rt, text, cause, "step 17")?;
     }
     Ok(())
 }
@@ -409,7 +395,7 @@ static FAILED: [(StartError, &[&str]); 6] = [
 #[test]
 fn more_start_ups(rt: HostRuntime) -> Result<(), Fail> {
     for (error, wanted) in FAILED {
-        assert_told(&rt, MACHINE, Cause::Start(error), wanted)?;
+        assert_cause(&rt, MACHINE, Cause::Start(error), wanted)?;
     }
     Ok(())
 }
@@ -522,6 +508,19 @@ static OTHER_LINES: [(&str, usize, &[&str]); 56] = [
     ("set # lamps 1", 1, &["`set NAME VALUE`"]),
 ];
 
+/// Compares what is told of a text for a cause: the column of line 72, and these phrases.
+fn assert_placed(
+    rt: &(impl AllocGlobal + Abort),
+    text: &str,
+    cause: Cause,
+    column: usize,
+    wanted: &[&str],
+) -> Result<(), Fail> {
+    assert_cause(rt, text, cause, wanted)?;
+    let place = format!(in rt.alloc(); "line 72, column {column}: ")?;
+    assert_cause(rt, text, cause, &[place.as_str(), "To do: "])
+}
+
 /// Compares what is told of line 2 behind the machine's table, or one of as many lines: the column of what is at fault, and
 /// these phrases.
 fn assert_line(
@@ -533,10 +532,13 @@ fn assert_line(
 ) -> Result<(), Fail> {
     let text = format!(in rt.alloc(); "{table}%%\n\n{line}\n")?;
     let from = text.len().saturating_sub(line.len()).saturating_sub(2);
-    let cause = Cause::Script { from, line: 2 };
-    assert_told(rt, text.as_str(), cause, wanted)?;
-    let place = format!(in rt.alloc(); "line 72, column {column}: ")?;
-    assert_told(rt, text.as_str(), cause, &[place.as_str(), "To do: "])
+    assert_placed(
+        rt,
+        text.as_str(),
+        Cause::Script { from, line: 2 },
+        column,
+        wanted,
+    )
 }
 
 #[test]
@@ -665,12 +667,21 @@ static SAME_NAMES: [(&str, usize, &[&str]); 8] = [
     ("expect taken x", 14, &["`x` is no number"]),
 ];
 
+/// The machine's table with two of its variables named as words.
+fn two_renamed(alloc: Global) -> Result<String, AllocError> {
+    let table = MACHINE.replace(alloc, "\"lamps\"", "\"ready\"")?;
+    table.as_str().replace(alloc, "\"buttons\"", "\"state\"")
+}
+
+/// The same with all three.
+fn all_renamed(alloc: Global) -> Result<String, AllocError> {
+    let table = two_renamed(alloc)?;
+    table.as_str().replace(alloc, "\"x_target\"", "\"taken\"")
+}
+
 #[test]
 fn variables_named_as_words(rt: HostRuntime) -> Result<(), Fail> {
-    let alloc = rt.alloc();
-    let table = MACHINE.replace(alloc, "\"lamps\"", "\"ready\"")?;
-    let table = table.as_str().replace(alloc, "\"buttons\"", "\"state\"")?;
-    let table = table.as_str().replace(alloc, "\"x_target\"", "\"taken\"")?;
+    let table = all_renamed(rt.alloc())?;
     for (line, column, wanted) in SAME_NAMES {
         assert_line(&rt, table.as_str(), line, column, wanted)?;
     }

@@ -16,10 +16,7 @@ fn said_of(
     world: &mut World,
     line: &Line,
     printed: &mut String,
-) -> Result<(), AllocError>
-    requires { world.old.plan ≡ plan_of table.now }
-    ensures { world.new.plan ≡ world.old.plan }
-{
+) -> Result<(), AllocError> {
     for _ in 0..line.times {
         let text = run_line(alloc, world, table, line)?;
         printed.push_str(text.as_str())?;
@@ -33,9 +30,7 @@ fn said(
     table: &Table,
     world: &mut World,
     lines: &[Line],
-) -> Result<String, AllocError>
-    requires { world.old.plan ≡ plan_of table.now }
-{
+) -> Result<String, AllocError> {
     let mut printed = String::new(alloc);
     for line in lines {
         said_of(alloc, table, world, line, &mut printed)?;

@@ -89,6 +89,42 @@ const NEVER: u64 = u64::MAX;
 /// How often what lines expect isn't so, or how they are cut short, and what they print.
 type Ended = (Result<u64, Refusal>, Vec<u8>);
 
+/// Runs lines by a control over a wire. What they answer is told by no clause, so that the comparisons behind it carry nothing
+/// of it.
+fn run_lines(
+    alloc: Global,
+    machine: &Machine,
+    reasons: Reasons,
+    control: &mut Control,
+    wire: &mut MemoryWire,
+    lines: &[u8],
+) -> Ended {
+    let mut input = lines;
+    let mut output = Vec::new(alloc);
+    let ended = print_lines(
+        alloc,
+        machine.table(),
+        reasons,
+        control,
+        wire,
+        &mut input,
+        &mut output,
+    );
+    (ended, output)
+}
+
+/// Runs lines over a wire.
+fn run_over(
+    alloc: Global,
+    machine: &Machine,
+    reasons: Reasons,
+    lines: &[u8],
+    wire: &mut MemoryWire,
+) -> Result<Ended, Fail> {
+    let mut control = Control::new(alloc, machine)?;
+    Ok(run_lines(alloc, machine, reasons, &mut control, wire, lines))
+}
+
 /// Runs lines over a wire to the slaves of a machine.
 fn run_bytes(
     alloc: Global,
@@ -97,26 +133,15 @@ fn run_bytes(
     lines: &[u8],
     fails_at: u64,
 ) -> Result<Ended, Fail> {
-    let mut control = Control::new(alloc, machine)?;
-    let mut wire = MemoryWire::new(alloc, slaves_of_machine(alloc, machine)?, 1000, fails_at)?;
-    let mut input = lines;
-    let mut output = Vec::new(alloc);
-    let ended = print_lines(
-        alloc,
-        machine.table(),
-        reasons,
-        &mut control,
-        &mut wire,
-        &mut input,
-        &mut output,
-    );
-    Ok((ended, output))
+    let slaves = slaves_of_machine(alloc, machine)?;
+    let mut wire = MemoryWire::new(alloc, slaves, 1000, fails_at)?;
+    run_over(alloc, machine, reasons, lines, &mut wire)
 }
 
 /// The same of the three slaves.
-fn run(alloc: Global, reasons: Reasons, lines: &str, fails_at: u64) -> Result<Ended, Fail> {
+fn run(alloc: Global, reasons: Reasons, lines: &[u8], fails_at: u64) -> Result<Ended, Fail> {
     let machine = Machine::read(alloc, THREE_SLAVES)?;
-    run_bytes(alloc, &machine, reasons, lines.as_bytes(), fails_at)
+    run_bytes(alloc, &machine, reasons, lines, fails_at)
 }
 
 /// Lines, the call of the wire that fails, how often what they expect isn't so, and what they print.
@@ -125,7 +150,7 @@ type Run<'a> = (&'a str, u64, u64, &'a str);
 /// Runs lines, and compares what they print.
 fn expect_run<H: AllocGlobal + Abort>(rt: &H, reasons: Reasons, run_of: Run) -> Result<(), Fail> {
     let (lines, fails_at, unmet, printed) = run_of;
-    let (ended, output) = run(rt.alloc(), reasons, lines, fails_at)?;
+    let (ended, output) = run(rt.alloc(), reasons, lines.as_bytes(), fails_at)?;
     assert_eq!(rt;
         (ended, output.as_slice()),
         (Ok(unmet), printed.as_bytes()),
@@ -324,14 +349,8 @@ fn lines_tell_why(rt: HostRuntime) -> Result<(), Fail> {
 // A line that is no text is a bad one.
 #[test]
 fn bytes_that_are_no_text(rt: HostRuntime) -> Result<(), Fail> {
-    let machine = Machine::read(rt.alloc(), THREE_SLAVES)?;
-    let (ended, output) = run_bytes(
-        rt.alloc(),
-        &machine,
-        Reasons::Untold,
-        b"show # \xff\nshow\n",
-        NEVER,
-    )?;
+    let lines = b"show # \xff\nshow\n";
+    let (ended, output) = run(rt.alloc(), Reasons::Untold, lines, NEVER)?;
     assert_eq!(rt;
         (ended, output.as_slice()),
         (Ok(0), b"bad 1\nc 0\nd 0\n".as_slice())

@@ -28,17 +28,25 @@ const BEFORE: Step = Writes(0x1400, "a1a2");
 
 const BEHIND: Step = Writes(0x140E, "b1b2");
 
+/// Sixteen bytes, and 132 bits from bit 3 on.
+const SENT: &str = "0102030405060708090a0b0c0d0e0f10";
+
+const SHIFTED: &str = "08151d252d353d454d555d656d757d8505";
+
+/// Sixteen bytes of ones, and seventeen.
+const ONES: &str = "ffffffffffffffffffffffffffffffff";
+
+const MORE_ONES: &str = "ffffffffffffffffffffffffffffffffff";
+
 // Values are taken where a datagram has them whole, spare buffers take nothing, and what lies around is memory.
 #[test]
 fn written_run(rt: HostRuntime) -> Result<(), Fail> {
-    let sent = "0102030405060708090a0b0c0d0e0f10";
-    let shifted = "08151d252d353d454d555d656d757d8505";
     expect_steps(
         &rt,
         &[
             WRITTEN,
             WRITES,
-            Answers(Lwr, 0x0001_0000, sent, sent, 1),
+            Answers(Lwr, 0x0001_0000, SENT, SENT, 1),
             Shows(0x1101, Some(0x02)),
             Shows(0x1102, Some(0x03)),
             Shows(0x1103, Some(0x04)),
@@ -53,7 +61,7 @@ fn written_run(rt: HostRuntime) -> Result<(), Fail> {
             Shows(0x1102, Some(0x03)),
             Answers(Lwr, 0x0001_0003, "c4c5c6c7c8", "c4c5c6c7c8", 0),
             WRITES_SHIFTED,
-            Answers(Lwr, 0x0001_0000, shifted, shifted, 1),
+            Answers(Lwr, 0x0001_0000, SHIFTED, SHIFTED, 1),
             Shows(0x1100, Some(0xa1)),
             Shows(0x1101, Some(0xa2)),
             Shows(0x1102, Some(0xa3)),
@@ -68,8 +76,6 @@ fn written_run(rt: HostRuntime) -> Result<(), Fail> {
 // The data under spare buffers stay, and those under a value that the datagram doesn't have whole.
 #[test]
 fn read_run(rt: HostRuntime) -> Result<(), Fail> {
-    let ones = "ffffffffffffffffffffffffffffffff";
-    let more = "ffffffffffffffffffffffffffffffffff";
     expect_steps(
         &rt,
         &[
@@ -80,7 +86,7 @@ fn read_run(rt: HostRuntime) -> Result<(), Fail> {
             Answers(
                 Lrd,
                 0x0001_0000,
-                ones,
+                ONES,
                 "a1a20000ffffffff0000ffffffffb1b2",
                 1,
             ),
@@ -90,7 +96,7 @@ fn read_run(rt: HostRuntime) -> Result<(), Fail> {
             Answers(
                 Lrd,
                 0x0001_0000,
-                more,
+                MORE_ONES,
                 "0f150500f8ffffff0700f8ffffff8f95fd",
                 1,
             ),

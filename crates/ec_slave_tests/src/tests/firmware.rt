@@ -42,6 +42,9 @@ const NONE_ASSIGNED: &str = "0a0000000013 0020 2f121c00 00000000";
 
 const NONE_IS_DONE: &str = "0a0000000013 0030 60121c00 00000000";
 
+/// As many bytes of zeros.
+const NOTHING: &str = "000000000000 0000 00000000 00000000";
+
 /// A list of one entry.
 fn one_entry(alloc: Global, entry: Entry) -> Result<Listed<Entry>, Fail> {
     let mut entries = Listed::new(alloc);
@@ -294,20 +297,19 @@ fn no_room_for_a_reply(rt: HostRuntime) -> Result<(), Fail> {
 // shows its own bytes.
 #[test]
 fn reply_under_a_manager_stays(rt: HostRuntime) -> Result<(), Fail> {
-    let nothing = "000000000000 0000 00000000 00000000";
     expect_from_preop(
         &rt,
         &[
             Writes(0x0808, "8010100022000100"),
             Sends(VENDOR),
             Writes(0x0800, "8010100026000100"),
-            Answers(Aprd, 0x1080_0000, nothing, nothing, 0),
+            Answers(Aprd, 0x1080_0000, NOTHING, NOTHING, 0),
             Shows(0x080D, Some(8)),
             Writes(0x0804, "20"),
-            Answers(Aprd, 0x1080_0000, VENDOR, nothing, 1),
+            Answers(Aprd, 0x1080_0000, VENDOR, NOTHING, 1),
             Shows(0x080D, Some(8)),
             Writes(0x0806, "00"),
-            Answers(Aprd, 0x1080_0000, nothing, VENDOR_IS, 1),
+            Answers(Aprd, 0x1080_0000, NOTHING, VENDOR_IS, 1),
             Shows(0x080D, Some(0)),
         ],
     )
@@ -344,8 +346,11 @@ fn apply_after(
 /// Leads a slave up; its application has its bytes in SAFEOP and OP alone.
 fn apply_on_the_way(rt: &(impl AllocGlobal + Abort), slave: &mut Slave) -> Result<(), Fail> {
     take_all(rt, slave, &TO_PREOP)?;
-    let to_safeop = [Sizes(0, 0), Puts(0, 1, false), Asks("0400", "040000000000")];
-    apply_after(rt, slave, &to_safeop)?;
+    apply_after(
+        rt,
+        slave,
+        &[Sizes(0, 0), Puts(0, 1, false), Asks("0400", "040000000000")],
+    )?;
     apply_after(rt, slave, &[Asks("0800", "080000000000")])
 }
 

@@ -191,8 +191,11 @@ fn read_runs(rt: &impl Abort, slave: &mut Slave) -> Result<(), Fail> {
 
 /// The same of a slave that is led to SAFEOP first.
 fn read_runs_in_safeop(rt: &(impl AllocGlobal + Abort), slave: &mut Slave) -> Result<(), Fail> {
-    let to_safeop = [Asks("0200", "020000000000"), Asks("0400", "040000000000")];
-    take_all(rt, slave, &to_safeop)?;
+    take_all(
+        rt,
+        slave,
+        &[Asks("0200", "020000000000"), Asks("0400", "040000000000")],
+    )?;
     read_runs(rt, slave)
 }
 

@@ -44,19 +44,14 @@ pub enum Step<'a> {
 
 /// The bytes of a row of hexadecimal digits.
 pub fn bytes_of(alloc: Global, row: &str) -> Result<Vec<u8>, Fail> {
-    let mut bytes = Vec::new(alloc);
-    for word in row.split_whitespace() {
-        bytes.extend_from_slice(&hex::decode(alloc, word)?)?;
-    }
-    Ok(bytes)
+    let digits = row.replace(alloc, " ", "")?;
+    Ok(hex::decode(alloc, digits.as_str())?)
 }
 
 /// The bytes of a mailbox of 128 bytes: a message and zeros.
 fn mailbox_of(alloc: Global, row: &str) -> Result<Vec<u8>, Fail> {
     let mut bytes = bytes_of(alloc, row)?;
-    for _ in bytes.len()..128 {
-        bytes.push(0)?;
-    }
+    bytes.resize(bytes.len().max(128), 0)?;
     Ok(bytes)
 }
 
@@ -67,21 +62,38 @@ pub fn pass_frame(slave: &mut Slave, frame: &mut [u8]) -> Result<(), Fail> {
     Ok(())
 }
 
+/// Compares bytes.
+fn assert_bytes(rt: &impl Abort, met: &[u8], wanted: &[u8], row: &str) {
+    assert_eq!(rt; met, wanted, "{row}");
+}
+
+/// Compares bytes with a row.
+fn assert_row(rt: &(impl AllocGlobal + Abort), met: &[u8], row: &str) -> Result<(), Fail> {
+    let wanted = bytes_of(rt.alloc(), row)?;
+    assert_bytes(rt, met, &wanted, row);
+    Ok(())
+}
+
 /// Passes a frame, and compares what comes back.
 fn assert_passed(
+    rt: &(impl AllocGlobal + Abort),
+    slave: &mut Slave,
+    frame: &mut [u8],
+    back: &str,
+) -> Result<(), Fail> {
+    pass_frame(slave, frame)?;
+    assert_row(rt, frame, back)
+}
+
+/// The same of a frame as a row.
+fn assert_row_passed(
     rt: &(impl AllocGlobal + Abort),
     slave: &mut Slave,
     sent: &str,
     back: &str,
 ) -> Result<(), Fail> {
     let mut frame = bytes_of(rt.alloc(), sent)?;
-    pass_frame(slave, &mut frame)?;
-    assert_eq!(rt;
-        frame.as_slice(),
-        bytes_of(rt.alloc(), back)?.as_slice(),
-        "{sent}"
-    );
-    Ok(())
+    assert_passed(rt, slave, &mut frame, back)
 }
 
 /// What a datagram's frame is behind a slave.
@@ -98,6 +110,16 @@ pub fn frame_behind(
     Ok(frame)
 }
 
+/// Compares the data and the counter of the one datagram of a frame.
+fn assert_datagram(rt: &impl Abort, frame: &[u8], address: u32, back: &[u8], counter: u8) {
+    let data_end = 12 + back.len();
+    assert_eq!(rt;
+        (frame.get(12..data_end), frame.get(data_end..)),
+        (Some(back), Some([counter, 0].as_slice())),
+        "at {address}"
+    );
+}
+
 /// Passes a datagram, and compares its data and its counter as they come back.
 fn assert_met(
     rt: &impl Abort,
@@ -109,20 +131,27 @@ fn assert_met(
     counter: u8,
 ) -> Result<(), Fail> {
     let frame = frame_behind(slave, command, address, sent)?;
-    let met = frame.as_slice();
-    let data_end = 12 + back.len();
-    assert_eq!(rt; met.get(12..data_end), Some(back), "at {address}");
-    assert_eq!(rt;
-        met.get(data_end..),
-        Some([counter, 0].as_slice()),
-        "at {address}"
-    );
+    assert_datagram(rt, frame.as_slice(), address, back, counter);
     Ok(())
+}
+
+/// The same of data as rows.
+fn assert_rows_met(
+    rt: &(impl AllocGlobal + Abort),
+    slave: &mut Slave,
+    command: Command,
+    address: u32,
+    (sent, back): (&str, &str),
+    counter: u8,
+) -> Result<(), Fail> {
+    let sent = bytes_of(rt.alloc(), sent)?;
+    let back = bytes_of(rt.alloc(), back)?;
+    assert_met(rt, slave, command, address, &sent, &back, counter)
 }
 
 /// Writes from a physical address on; the data come back as they were.
 fn assert_written(
-    rt: &(impl AllocGlobal + Abort),
+    rt: &impl Abort,
     slave: &mut Slave,
     ado: u16,
     bytes: &[u8],
@@ -132,6 +161,18 @@ fn assert_written(
     assert_met(rt, slave, Command::Apwr, address, bytes, bytes, counter)
 }
 
+/// The same of a row.
+fn assert_row_written(
+    rt: &(impl AllocGlobal + Abort),
+    slave: &mut Slave,
+    ado: u16,
+    row: &str,
+    counter: u8,
+) -> Result<(), Fail> {
+    let bytes = bytes_of(rt.alloc(), row)?;
+    assert_written(rt, slave, ado, &bytes, counter)
+}
+
 /// Asks for a state.
 fn assert_state(
     rt: &(impl AllocGlobal + Abort),
@@ -139,47 +180,51 @@ fn assert_state(
     control: &str,
     status: &str,
 ) -> Result<(), Fail> {
-    assert_written(rt, slave, 0x0120, &bytes_of(rt.alloc(), control)?, 1)?;
+    assert_row_written(rt, slave, 0x0120, control, 1)?;
     slave.serve();
     let status = bytes_of(rt.alloc(), status)?;
     assert_met(rt, slave, Command::Aprd, 0x0130_0000, &[0; 6], &status, 1)
 }
 
+/// Writes a message into the mailbox.
+fn assert_message(
+    rt: &(impl AllocGlobal + Abort),
+    slave: &mut Slave,
+    row: &str,
+) -> Result<(), Fail> {
+    let message = mailbox_of(rt.alloc(), row)?;
+    assert_written(rt, slave, 0x1000, &message, 1)
+}
+
+/// Reads a message from the mailbox.
+fn assert_reply(rt: &(impl AllocGlobal + Abort), slave: &mut Slave, row: &str) -> Result<(), Fail> {
+    let reply = mailbox_of(rt.alloc(), row)?;
+    assert_met(rt, slave, Command::Aprd, 0x1080_0000, &[0; 128], &reply, 1)
+}
+
 /// What frames do.
 fn take_frame(rt: &(impl AllocGlobal + Abort), slave: &mut Slave, step: Step) -> Result<(), Fail> {
     match step {
-        Step::Writes(ado, row) => assert_written(rt, slave, ado, &bytes_of(rt.alloc(), row)?, 1),
-        Step::WritesInVain(ado, row) => assert_written(
+        Step::Writes(ado, row) => assert_row_written(rt, slave, ado, row, 1),
+        Step::WritesInVain(ado, row) => assert_row_written(rt, slave, ado, row, 0),
+        Step::Answers(command, address, sent, back, counter) => assert_rows_met(
             rt,
             slave,
-            ado,
-            &bytes_of(rt.alloc(), row)?,
-            0,
+            command,
+            address,
+            (sent, back),
+            counter,
         ),
-        Step::Answers(command, address, sent, back, counter) => {
-            let (sent, back) = (bytes_of(rt.alloc(), sent)?, bytes_of(rt.alloc(), back)?);
-            assert_met(rt, slave, command, address, &sent, &back, counter)
-        }
-        Step::Passes(sent, back) => assert_passed(rt, slave, sent, back),
+        Step::Passes(sent, back) => assert_row_passed(rt, slave, sent, back),
         Step::Asks(control, status) => assert_state(rt, slave, control, status),
         Step::Sends(row) => {
-            assert_written(rt, slave, 0x1000, &mailbox_of(rt.alloc(), row)?, 1)?;
+            assert_message(rt, slave, row)?;
             slave.serve();
             Ok(())
         }
-        Step::Replies(row) => {
-            let reply = mailbox_of(rt.alloc(), row)?;
-            assert_met(rt, slave, Command::Aprd, 0x1080_0000, &[0; 128], &reply, 1)
-        }
+        Step::Replies(row) => assert_reply(rt, slave, row),
         _ => Ok(()),
     }
-}
-
-/// The slave publishes these outputs.
-fn assert_outputs(rt: &(impl AllocGlobal + Abort), slave: &Slave, row: &str) -> Result<(), Fail> {
-    let outputs = bytes_of(rt.alloc(), row)?;
-    assert_eq!(rt; slave.outputs(), outputs.as_slice());
-    Ok(())
 }
 
 /// What is seen at the slave itself.
@@ -187,7 +232,7 @@ fn take_look(rt: &(impl AllocGlobal + Abort), slave: &Slave, step: Step) -> Resu
     match step {
         Step::Shows(address, byte) => assert_eq!(rt; slave.byte(address), byte, "at {address}"),
         Step::Station(address) => assert_eq!(rt; slave.station_address(), address),
-        Step::Outputs(row) => return assert_outputs(rt, slave, row),
+        Step::Outputs(row) => return assert_row(rt, slave.outputs(), row),
         Step::Sizes(get, put) => assert_eq!(rt; slave.app_sizes(), (get, put)),
         _ => {}
     }

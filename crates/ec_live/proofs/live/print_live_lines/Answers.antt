@@ -10,5 +10,5 @@ loop-place-preserved g c = elim c.match-matches.branch [
       lived_next c.args.reasons c.args.table.now c.args.world.now c.loop-place.world c.print_reading.new.world (g.R.Read.remaining c.args.input.now) (g.R.Read.remaining c.loop-place.input) (g.R.Read.remaining c.take_line.new.input)
       c.loop-place.place c.in_ok-taken.taken c.in_ok-reading.reading c.loop-place.unmet c.in_ok-count.count c.saturating_add-unmet.result
       (g.W.Write.contents c.args.output.now) (g.W.Write.contents c.loop-place.output) (g.W.Write.contents c.print_reading.new.output) c.loop-place.invariant
-      c.in_ok-taken.ensures.taken w.in_default.not-End c.in_ok-reading.ensures c.in_ok-count.ensures.all c.print_reading.ensures.plan c.saturating_add-unmet.ensures
+      c.in_ok-taken.ensures.taken w.in_default.not-End c.in_ok-reading.ensures c.in_ok-count.ensures.all c.saturating_add-unmet.ensures
 ]

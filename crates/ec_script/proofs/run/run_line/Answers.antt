@@ -1,12 +1,9 @@
-use Rattle.std.proofs.Common.{◌≡◌, ◌∙◌, ℕ, List, subst}
+use Rattle.std.proofs.Common.{◌≡◌, ℕ, List, subst}
 use Rattle.std.specs.Prelude.{IfOk, string_bytes}
 use Rattle.ec_script.specs.declared.line.LineAction.{LineAction}
 use Rattle.ec_script.specs.Work.{Does}
 use Rattle.ec_script.proofs.Readying.{ready_law, says_ready}
 use Rattle.ec_script.proofs.run.run_line.Goals as goal
-
-pub output_text-requires : goal.output_text-requires
-output_text-requires c = c.do_act-said.ensures.plan ∙ c.requires
 
 pub returns-clause-up : goal.returns-clause-up
 returns-clause-up c = λ from is.

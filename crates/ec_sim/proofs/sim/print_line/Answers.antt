@@ -11,9 +11,6 @@ loop-init g c = record {
   seen = sees_none g.S.Watcher.saw c.args.watcher.now c.args.world.now;
 }
 
-pub print_once-requires : goal.print_once-requires
-print_once-requires g c = c.loop.invariant.said.plan ∙ c.requires
-
 pub returns-in_err-print_once-clause-part : goal.returns-in_err-print_once-clause-part
 returns-in_err-print_once-clause-part g c =
     if_err _ (done_part c.args.reasons c.args.table.now c.args.world.now c.args.line.now c.loop.counter c.args.line.now.times c.loop.world c.loop.unmet _ _ _ c.loop.invariant.said c.loop-test.true c.in_err-print_once.ensures.part)

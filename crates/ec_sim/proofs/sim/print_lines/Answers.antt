@@ -1,4 +1,3 @@
-use Rattle.std.proofs.Common.{◌∙◌}
 use Rattle.ec_console.proofs.PrintLemmas.{if_err}
 use Rattle.ec_script.proofs.Seeing.{sees_none, sees_then}
 use Rattle.ec_sim.proofs.SimLemmas.{all_said, none_said, said_more, said_part}
@@ -10,9 +9,6 @@ loop-line-init g c = record {
   seen = sees_none g.S.Watcher.saw c.args.watcher.now c.args.world.now;
 }
 
-pub print_line-requires : goal.print_line-requires
-print_line-requires g c = c.loop-line.invariant.said.plan ∙ c.requires
-
 pub returns-in_err-count-clause-part : goal.returns-in_err-count-clause-part
 returns-in_err-count-clause-part g c =
     if_err _ (said_part c.args.reasons c.args.table.now c.args.world.now c.args.lines.now c.loop-line.line-index _ c.loop-line.world c.loop-line.unmet _ _ _ c.loop-line.invariant.said c.loop-line-test.true c.in_err-count.ensures.part)
@@ -20,7 +16,7 @@ returns-in_err-count-clause-part g c =
 pub loop-line-preserved : goal.loop-line-preserved
 loop-line-preserved g c = record {
   said = said_more c.args.reasons c.args.table.now c.args.world.now c.args.lines.now c.loop-line.line-index _ c.loop-line.world c.print_line.new.world c.loop-line.unmet c.in_ok-count.count _ _ _ _ c.loop-line.invariant.said c.loop-line-test.true
-      c.in_ok-count.ensures.all c.print_line.ensures.plan c.saturating_add-unmet.ensures;
+      c.in_ok-count.ensures.all c.saturating_add-unmet.ensures;
   seen = sees_then g.S.Watcher.saw c.args.watcher.now c.loop-line.watcher c.print_line.new.watcher c.args.world.now c.loop-line.world c.print_line.new.world c.loop-line.invariant.seen c.print_line.ensures.seen;
 }
 

@@ -4,9 +4,6 @@ use Rattle.ec_console.proofs.PrintLemmas.{if_err}
 use Rattle.ec_sim.proofs.SimLemmas.{one_all, part_none, part_one}
 use Rattle.ec_sim.proofs.sim.print_once.Goals as goal
 
-pub line_text-requires : goal.line_text-requires
-line_text-requires g c = c.watch_act-said.ensures.plan ∙ c.requires
-
 pub returns-in_err-text-clause-part : goal.returns-in_err-text-clause-part
 returns-in_err-text-clause-part g c = if_err _ (part_none c.args.reasons c.args.table.now c.args.world.now (c.args.line.now ∷ []) _)
 

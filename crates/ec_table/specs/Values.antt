@@ -1,0 +1,45 @@
+-- What one pass over the keys of an element finds.
+use Rattle.std.specs.Prelude.{◌≡◌, List, ℕ, codes, Option}
+use Rattle.std.specs.Option.{option_or}
+use Rattle.std.specs.Borrow.{Bor}
+use Rattle.toml.specs.Data.{Data, Members, no_members, member, get_member}
+use Rattle.toml.specs.declared.value.Value.{Value}
+use Rattle.ec_table.specs.Fields.{seen}
+use Rattle.ec_table.specs.declared.links.LinkValues.{LinkValues}
+use Rattle.ec_table.specs.declared.variables.VariableValues.{VariableValues}
+
+-- what was found under a name stays, and where nothing was, it is the value of a key of that name
+abbrev pub Puts : List ℕ → Option (Bor Value) → Option (Bor Value) → List ℕ → Data → Type 0
+Puts name found more key d = seen more ≡ option_or (seen found) (get_member name (member key d no_members))
+
+-- what stands under a name
+abbrev pub IsUnder : List ℕ → Option (Bor Value) → Members → Type 0
+IsUnder name found ms = seen found ≡ get_member name ms
+
+abbrev pub PutsLinkValue : LinkValues → LinkValues → List ℕ → Data → Type 0
+PutsLinkValue v w key d =
+    Puts (codes "var") v.variable w.variable key d
+    × Puts (codes "slave") v.slave w.slave key d
+    × Puts (codes "index") v.index w.index key d
+    × Puts (codes "sub") v.subindex w.subindex key d
+    × Puts (codes "bits") v.bits w.bits key d
+
+abbrev pub AreLinkValues : LinkValues → Members → Type 0
+AreLinkValues v ms =
+    IsUnder (codes "var") v.variable ms
+    × IsUnder (codes "slave") v.slave ms
+    × IsUnder (codes "index") v.index ms
+    × IsUnder (codes "sub") v.subindex ms
+    × IsUnder (codes "bits") v.bits ms
+
+abbrev pub PutsVariableValue : VariableValues → VariableValues → List ℕ → Data → Type 0
+PutsVariableValue v w key d =
+    Puts (codes "name") v.name w.name key d
+    × Puts (codes "dir") v.direction w.direction key d
+    × Puts (codes "bits") v.bits w.bits key d
+
+abbrev pub AreVariableValues : VariableValues → Members → Type 0
+AreVariableValues v ms =
+    IsUnder (codes "name") v.name ms
+    × IsUnder (codes "dir") v.direction ms
+    × IsUnder (codes "bits") v.bits ms
