@@ -20,7 +20,7 @@ use Rattle.ec_commands.specs.Passing.{RunsPass}
 use Rattle.ec_commands.specs.Planning.{RunsPlan, form_of}
 use Rattle.ec_console.specs.Printing.{IsTold, Shows}
 use Rattle.ec_console.specs.Refusals.{line_of, status_of}
-use Rattle.ec_captured.specs.Capturing.{EndsWith}
+use Rattle.ec_console.specs.Capturing.{EndsWith}
 use Rattle.ec_live.specs.Living.{RunsLive}
 use Rattle.ec_master.specs.Mastering.{RunsMaster}
 use Rattle.ec_segment.specs.Serving.{RunsCardSegment, RunsSegment}

@@ -4,3 +4,7 @@ pub mod InputLemmas
 pub mod PrintLemmas
 -- what keeps a text from stating a machine is a refusal of its table
 pub mod TableLemmas
+-- the names of interfaces, and how a command ends that has a capture
+pub mod CaptureLemmas
+-- the names of refusals of a wire are short
+pub mod RefusalNames

@@ -1,6 +1,7 @@
 -- The refusals of the program: what is told of each, and how it ends the program (this project's profile).
 use Rattle.std.specs.Prelude.{ℕ, ◌==◌, ◌||◌, List, [], ◌∷◌, if◌then◌else◌, codes}
-use Rattle.ec_text.specs.RefusalText.{Told, frame_told, link_told, plain_told, run_told, socket_told, start_told, table_told, told_line, told_text}
+use Rattle.ec_text.specs.RefusalText.{Told, frame_told, link_told, plain_told, start_told, table_told, told_line, told_text}
+use Rattle.ec_wire.specs.Errors.{run_number, run_name}
 use Rattle.ec_script.specs.Scripts as script
 use Rattle.ec_console.specs.declared.refusal.Refusal.{Refusal}
 use Rattle.ec_console.specs.declared.refusal.Refusal.TheVariants.{Memory, Frame, Table, Link, Start, Run, Socket, Script, BadHex, Output, Input, Unmet}
@@ -11,8 +12,8 @@ told_of (Frame error) = frame_told error
 told_of (Table error) = table_told error
 told_of (Link error) = link_told error
 told_of (Start error) = start_told error
-told_of (Run error) = run_told error
-told_of Socket = socket_told
+told_of (Run error) = plain_told (run_number error) (run_name error)
+told_of Socket = plain_told 43 (codes "Socket")
 told_of (Script error) = script.error_told error
 told_of BadHex = plain_told 40 (codes "BadHex")
 told_of Output = plain_told 41 (codes "Output")

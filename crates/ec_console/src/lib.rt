@@ -1,13 +1,18 @@
 //! What the commands of `ecat` share: the refusals by number, the text that an input gives, what is printed on the output,
-//! and what is told on the fault stream, with an explanation behind it for people.
+//! what is told on the fault stream, with an explanation behind it for people, and a capture, which is a file of the system
+//! that is opened before anything is done, and written to its end behind it.
 #![tactic(auto)]
 
+mod captures;
 mod explain;
 mod input;
 mod machine;
 mod printing;
 mod refusal;
 
+pub use crate::captures::{
+    Capture, Recording, close_capture, finish_recording, open_capture, open_segment,
+};
 pub use crate::explain::Explanation;
 pub use crate::input::read_text;
 pub use crate::machine::read_machine;

@@ -53,8 +53,8 @@ impl Refused for Refusal {
             Refusal::Table(error) => Refused::number(error),
             Refusal::Link(error) => Refused::number(error),
             Refusal::Start(error) => Refused::number(error),
-            Refusal::Run(error) => Refused::number(error),
-            Refusal::Socket => Refused::number(&SocketFault),
+            Refusal::Run(error) => error.number(),
+            Refusal::Socket => SocketFault.number(),
             Refusal::Script(error) => Refused::number(error),
             Refusal::BadHex => 40,
             Refusal::Output => 41,
@@ -63,6 +63,7 @@ impl Refused for Refusal {
         }
     }
 
+    #[tactic(auto, using(crate::proofs::RefusalNames::short_run))]
     fn name(&self) -> &'static str {
         match self {
             Refusal::Memory => "Memory",
@@ -70,8 +71,8 @@ impl Refused for Refusal {
             Refusal::Table(error) => Refused::name(error),
             Refusal::Link(error) => Refused::name(error),
             Refusal::Start(error) => Refused::name(error),
-            Refusal::Run(error) => Refused::name(error),
-            Refusal::Socket => Refused::name(&SocketFault),
+            Refusal::Run(error) => error.name(),
+            Refusal::Socket => SocketFault.name(),
             Refusal::Script(error) => Refused::name(error),
             Refusal::BadHex => "BadHex",
             Refusal::Output => "Output",
@@ -86,11 +87,14 @@ impl Refused for Refusal {
             Refusal::Table(error) => Refused::values(error),
             Refusal::Link(error) => Refused::values(error),
             Refusal::Start(error) => Refused::values(error),
-            Refusal::Run(error) => Refused::values(error),
-            Refusal::Socket => Refused::values(&SocketFault),
             Refusal::Script(error) => Refused::values(error),
             Refusal::Unmet(count) => listed(&[*count]),
-            Refusal::Memory | Refusal::BadHex | Refusal::Output | Refusal::Input => Values::new(),
+            Refusal::Memory
+            | Refusal::Run(_)
+            | Refusal::Socket
+            | Refusal::BadHex
+            | Refusal::Output
+            | Refusal::Input => Values::new(),
         }
     }
 }

@@ -8,7 +8,7 @@ use Rattle.ec_world.specs.World.{WorldState}
 use Rattle.ec_script.specs.declared.read.Reading.{Reading}
 use Rattle.ec_script.specs.declared.read.Reading.TheVariants as reading
 use Rattle.ec_why.specs.declared.wanted.Reasons.{Reasons}
-use Rattle.ec_captured.specs.Capturing.{IsUnopened}
+use Rattle.ec_console.specs.Capturing.{IsUnopened}
 use Rattle.ec_console.specs.declared.refusal.Refusal.{Refusal}
 use Rattle.ec_console.specs.declared.refusal.Refusal.TheVariants.{Unmet}
 use Rattle.ec_console.specs.Given.{lines_refusal}

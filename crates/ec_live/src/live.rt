@@ -10,8 +10,7 @@ ghost use Rattle.ec_console.specs.Printing.{AppendsPart};
 ghost use Rattle.ec_sim.specs.Simulating.{IsLate, counted};
 ghost use Rattle.ec_live.specs.Stages.{RunsLiveText, taken_reading};
 
-use ec_captured::{Recording, finish_recording, open_segment};
-use ec_console::{Explanation, Refusal, print_text, read_machine};
+use ec_console::{Explanation, Recording, Refusal, finish_recording, open_segment, print_text, read_machine};
 use ec_lines::{NextLine, take_line, take_text};
 use ec_link::Machine;
 use ec_script::{Reading, read_line};

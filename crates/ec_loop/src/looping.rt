@@ -10,7 +10,7 @@ ghost use Rattle.ec_bringup.specs.SwitchedOn.{AreSlavesOf};
 ghost use Rattle.ec_wire.specs.Running.{IsRun};
 ghost use Rattle.ec_tap.specs.Taps.{Tells};
 ghost use Rattle.ec_text.specs.ReportText.{report_text};
-ghost use Rattle.ec_captured.specs.Capturing.{EndsCaptured, Finishes};
+ghost use Rattle.ec_console.specs.Capturing.{EndsCaptured, Finishes};
 ghost use Rattle.ec_console.specs.declared.refusal.Refusal.{Refusal as RefusalValue};
 ghost use Rattle.ec_console.specs.Explaining.{IsLeft};
 ghost use Rattle.ec_loop.specs.Looping.{AreRun, CanCycle, IsCycleRefusal, IsRunEnd, IsStartRefusal, IsUnbound, IsUp, Loops, LoopsText, RunsCycles, RunsLoop, cycles_text, output_put, ports_line, with_outputs};
@@ -19,8 +19,7 @@ ghost use Rattle.ec_loop.specs.Stages.{IsCut, LoopsOnSockets};
 
 use arrayvec::ArrayString;
 use ec_bringup::slaves_of_machine;
-use ec_captured::{Capture, close_capture, open_capture};
-use ec_console::{Explanation, Refusal, print_text, read_machine, read_text, tell_text};
+use ec_console::{Capture, Explanation, Refusal, close_capture, open_capture, print_text, read_machine, read_text, tell_text};
 use ec_cycle::{Master, Report};
 use ec_link::{Machine, Plan, Variable};
 use ec_ring::Ring;
@@ -89,7 +88,7 @@ pub fn print_loop<H: AllocGlobal + Net + Files + Clock, R: Read, W: Write, F: Wr
 ///
 /// Those of [`print_loop`]; `Refusal::Output` too where the file couldn't be opened, before anything is sent, or couldn't be
 /// written to the end.
-#[tactic(auto, using(ec_captured::proofs::CaptureLemmas::captured_refused, ec_captured::proofs::CaptureLemmas::captured_end))]
+#[tactic(auto, using(ec_console::proofs::CaptureLemmas::captured_refused, ec_console::proofs::CaptureLemmas::captured_end))]
 pub fn capture_loop<H: AllocGlobal + Net + Files + Clock, R: Read, W: Write, F: Write>(
     rt: &H,
     cycles: u16,

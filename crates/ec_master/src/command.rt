@@ -1,7 +1,7 @@
 //! `ecat master`: a link table on the input, and behind it lines that move its master over a socket or a card.
 ghost use Rattle.std.specs.Prelude.{◌≡◌, [], IfOk, Result};
 ghost use Rattle.ec_tap.specs.Taps.{Tells};
-ghost use Rattle.ec_captured.specs.Capturing.{EndsCaptured, Finishes};
+ghost use Rattle.ec_console.specs.Capturing.{EndsCaptured, Finishes};
 ghost use Rattle.ec_console.specs.declared.refusal.Refusal.{Refusal as RefusalValue};
 ghost use Rattle.ec_console.specs.Explaining.{IsLeft};
 ghost use Rattle.ec_master.specs.Mastering.{RunsMaster, RunsOver, RunsText};
@@ -9,9 +9,8 @@ ghost use Rattle.ec_master.specs.Stages.{RunsMachine};
 
 use crate::control::Control;
 use crate::saying::print_lines;
-use ec_captured::{Capture, close_capture, open_capture};
 use ec_card::{CardWire, Patience, Sender};
-use ec_console::{Explanation, Refusal, read_machine};
+use ec_console::{Capture, Explanation, Refusal, close_capture, open_capture, read_machine};
 use ec_lines::take_text;
 use ec_link::Machine;
 use ec_sim::end_of;
@@ -85,7 +84,7 @@ pub fn print_master<H: AllocGlobal + Net + Files + Clock, R: Read, O: Write>(
 ///
 /// Those of [`print_master`]; `Refusal::Output` too where the file couldn't be opened, before anything is read or sent, or
 /// couldn't be written to the end.
-#[tactic(auto, using(ec_captured::proofs::CaptureLemmas::captured_refused, ec_captured::proofs::CaptureLemmas::captured_end))]
+#[tactic(auto, using(ec_console::proofs::CaptureLemmas::captured_refused, ec_console::proofs::CaptureLemmas::captured_end))]
 pub fn capture_master<H: AllocGlobal + Net + Files + Clock, R: Read, O: Write>(
     rt: &H,
     reasons: Reasons,

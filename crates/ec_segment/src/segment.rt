@@ -3,15 +3,14 @@ ghost use Rattle.std.specs.Prelude.{◌≡◌, [], Result};
 ghost use Rattle.ec_console.specs.Explaining.{IsLeft};
 ghost use Rattle.ec_console.specs.Printing.{IsTold, Shows};
 ghost use Rattle.ec_tap.specs.Taps.{Tells};
-ghost use Rattle.ec_captured.specs.Capturing.{EndsCaptured, Finishes};
+ghost use Rattle.ec_console.specs.Capturing.{EndsCaptured, Finishes};
 ghost use Rattle.ec_console.specs.declared.refusal.Refusal.{Refusal as RefusalValue};
 ghost use Rattle.ec_segment.specs.Serving.{RunsCardSegment, RunsSegment, ServesSegment, listening_line, served_line};
 
 use crate::machine::slaves_of_input;
 use arrayvec::ArrayString;
-use ec_captured::{Capture, close_capture, open_capture};
 use ec_card::{CardWire, Patience, Sender};
-use ec_console::{Explanation, Refusal, print_text, tell_text};
+use ec_console::{Capture, Explanation, Refusal, close_capture, open_capture, print_text, tell_text};
 use ec_ring::Ring;
 use ec_tap::{CapturedWire, Side};
 use ec_text::push_number;
@@ -86,7 +85,7 @@ pub fn print_segment<H: AllocGlobal + Net + Files + Clock, R: Read, W: Write, F:
 ///
 /// Those of [`print_segment`]; `Refusal::Output` too where the file couldn't be opened, before anything is received, or
 /// couldn't be written to the end.
-#[tactic(auto, using(ec_captured::proofs::CaptureLemmas::captured_refused, ec_captured::proofs::CaptureLemmas::captured_end))]
+#[tactic(auto, using(ec_console::proofs::CaptureLemmas::captured_refused, ec_console::proofs::CaptureLemmas::captured_end))]
 pub fn capture_segment<H: AllocGlobal + Net + Files + Clock, R: Read, W: Write, F: Write>(
     rt: &H,
     frames: u32,
@@ -140,7 +139,7 @@ pub fn print_card_segment<H: AllocGlobal + Files + Clock, R: Read, W: Write>(
 }
 
 /// The same with a capture, as of [`capture_segment`].
-#[tactic(auto, using(ec_captured::proofs::CaptureLemmas::captured_refused, ec_captured::proofs::CaptureLemmas::captured_end))]
+#[tactic(auto, using(ec_console::proofs::CaptureLemmas::captured_refused, ec_console::proofs::CaptureLemmas::captured_end))]
 pub fn capture_card_segment<H: AllocGlobal + Files + Clock, R: Read, W: Write>(
     rt: &H,
     frames: u32,

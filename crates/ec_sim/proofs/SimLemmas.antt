@@ -23,7 +23,7 @@ use Rattle.ec_console.specs.Printing.{AppendsPart}
 use Rattle.ec_sim.specs.Stages.{IsBadScript, IsLineText, RunsScript}
 use Rattle.ec_console.specs.Given.{IsTableRefusal}
 use Rattle.ec_sim.specs.Simulating.{IsHalfRefusal, IsLate, IsSimRefusal, IsSimulation, PrintsAll, PrintsLines, PrintsPart, PrintsSome, RunsLines, RunsText, Says, SaysLine, counted, ended_by, unmet_of}
-use Rattle.ec_captured.specs.Capturing.{IsUnopened}
+use Rattle.ec_console.specs.Capturing.{IsUnopened}
 use Rattle.ec_console.proofs.PrintLemmas.{appends_more, appends_nothing, whole_part}
 
 -- ---- a line and why it says `no`

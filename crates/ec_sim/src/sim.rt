@@ -6,8 +6,7 @@ ghost use Rattle.ec_script.specs.Seeing.{Sees};
 ghost use Rattle.ec_sim.specs.Capturing.{NotesRun};
 ghost use Rattle.ec_sim.specs.Stages.{IsLineText, RunsScript};
 
-use ec_captured::{Recording, finish_recording, open_segment};
-use ec_console::{Explanation, Refusal, print_text, read_machine, read_text};
+use ec_console::{Explanation, Recording, Refusal, finish_recording, open_segment, print_text, read_machine, read_text};
 use ec_link::Machine;
 use ec_script::{Line, LineOutput, output_text, read_script, split_script, watch_act};
 use ec_table::Table;

@@ -18,9 +18,7 @@ use Rattle.ec_start.specs.declared.error.StartError.{StartError}
 use Rattle.ec_start.specs.declared.error.StartError.TheVariants as start
 use Rattle.ec_cycle.specs.declared.error.CycleError.{CycleError}
 use Rattle.ec_cycle.specs.declared.error.CycleError.TheVariants as cycle
-use Rattle.ec_wire.specs.declared.error.RunError.{RunError}
-use Rattle.ec_wire.specs.declared.error.RunError.TheVariants as run
-use Rattle.ec_text.specs.RefusalText.{Told, cycle_told, decode_told, frame_told, link_told, run_told, start_told, table_told}
+use Rattle.ec_text.specs.RefusalText.{Told, cycle_told, decode_told, frame_told, link_told, start_told, table_told}
 
 abbrev IsShort : Told → Type 0
 IsShort told = length told.name ≤ 16
@@ -82,7 +80,3 @@ short_cycle cycle.NotReady = omega arith
 short_cycle cycle.Open = omega arith
 short_cycle cycle.NotOpen = omega arith
 short_cycle cycle.NumbersSpent = omega arith
-
-pub short_run : (e : RunError) → IsShort (run_told e)
-short_run (run.Refused e) = short_cycle e
-short_run run.Wire = omega arith

@@ -17,8 +17,6 @@ use Rattle.ec_start.specs.declared.error.StartError.{StartError}
 use Rattle.ec_start.specs.Errors as start
 use Rattle.ec_cycle.specs.declared.error.CycleError.{CycleError}
 use Rattle.ec_cycle.specs.Refusals as cycle
-use Rattle.ec_wire.specs.declared.error.RunError.{RunError}
-use Rattle.ec_wire.specs.Errors.{run_number, run_name}
 
 pub record Told : Type 0 where
   pub number : ℕ
@@ -74,9 +72,3 @@ start_told error = record { number = start.error_number error; name = start.erro
 
 abbrev pub cycle_told : CycleError → Told
 cycle_told error = plain_told (cycle.refusal_number error) (cycle.refusal_name error)
-
-abbrev pub run_told : RunError → Told
-run_told error = plain_told (run_number error) (run_name error)
-
-abbrev pub socket_told : Told
-socket_told = plain_told 43 (codes "Socket")

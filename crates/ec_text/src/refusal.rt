@@ -11,7 +11,6 @@ use ec_frame::FrameError;
 use ec_link::LinkError;
 use ec_start::StartError;
 use ec_table::TableError;
-use ec_wire::{RunError, SocketFault};
 
 /// The values of a refusal, at most four.
 pub type Values = ArrayVec<u64, 4>;
@@ -169,43 +168,6 @@ impl Refused for CycleError {
     }
 
     #[tactic(auto, using(crate::proofs::RefusalNames::short_cycle))]
-    fn name(&self) -> &'static str {
-        (*self).name()
-    }
-
-    fn values(&self) -> Values {
-        Values::new()
-    }
-}
-
-impl Refused for RunError {
-    ghost use Rattle.ec_text.specs.RefusalText.{run_told};
-
-    ghost told = { run_told };
-
-    fn number(&self) -> u8 {
-        (*self).number()
-    }
-
-    #[tactic(auto, using(crate::proofs::RefusalNames::short_run))]
-    fn name(&self) -> &'static str {
-        (*self).name()
-    }
-
-    fn values(&self) -> Values {
-        Values::new()
-    }
-}
-
-impl Refused for SocketFault {
-    ghost use Rattle.ec_text.specs.RefusalText.{socket_told};
-
-    ghost told = { λ _. socket_told };
-
-    fn number(&self) -> u8 {
-        (*self).number()
-    }
-
     fn name(&self) -> &'static str {
         (*self).name()
     }

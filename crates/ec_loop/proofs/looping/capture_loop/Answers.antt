@@ -1,5 +1,5 @@
 use Rattle.std.proofs.Common.{◌≡◌}
-use Rattle.ec_captured.proofs.CaptureLemmas.{captured_end}
+use Rattle.ec_console.proofs.CaptureLemmas.{captured_end}
 use Rattle.ec_loop.specs.Looping.{RunsLoop}
 use Rattle.ec_loop.proofs.looping.capture_loop.Goals as goal
 

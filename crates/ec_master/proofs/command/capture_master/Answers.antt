@@ -1,5 +1,5 @@
 use Rattle.std.proofs.Common.{◌≡◌}
-use Rattle.ec_captured.proofs.CaptureLemmas.{captured_end}
+use Rattle.ec_console.proofs.CaptureLemmas.{captured_end}
 use Rattle.ec_master.specs.Mastering.{RunsMaster}
 use Rattle.ec_master.proofs.command.capture_master.Goals as goal
 

@@ -1,5 +1,5 @@
 use Rattle.std.proofs.Common.{◌≡◌}
-use Rattle.ec_captured.proofs.CaptureLemmas.{captured_end}
+use Rattle.ec_console.proofs.CaptureLemmas.{captured_end}
 use Rattle.ec_segment.specs.Serving.{RunsSegment}
 use Rattle.ec_segment.proofs.segment.capture_segment.Goals as goal
 

@@ -5,7 +5,7 @@ use Rattle.std.proofs.lemmas.List.Elements.{All-append, All-cons, All-nil}
 use Rattle.ec_capture.specs.Captures.{IsText}
 use Rattle.ec_console.specs.declared.refusal.Refusal.{Refusal}
 use Rattle.ec_console.specs.declared.refusal.Refusal.TheVariants.{Output}
-use Rattle.ec_captured.specs.Capturing.{EndsCaptured, Finishes, IsUnopened}
+use Rattle.ec_console.specs.Capturing.{EndsCaptured, Finishes, IsUnopened}
 
 -- a name more
 pub texts_more : {X : Type 0} (f : X → List ℕ) (xs ys : List X) (x : X) → All IsText (map f xs) → IsText (f x) → ys ≡ xs ++ x ∷ [] → All IsText (map f ys)

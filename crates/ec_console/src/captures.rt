@@ -1,10 +1,10 @@
 //! A capture in a file of the system, and how a command ends that has one.
 ghost use Rattle.std.specs.Prelude.{◌≡◌, All, IfErr, IfOk, map, true};
 ghost use Rattle.ec_capture.specs.Captures.{IsText};
-ghost use Rattle.ec_captured.specs.Capturing.{Finishes, IsUnopened};
+ghost use Rattle.ec_console.specs.Capturing.{Finishes, IsUnopened};
 
+use crate::refusal::Refusal;
 use ec_capture::{MAX_TEXT, Recorder};
-use ec_console::Refusal;
 use ec_table::Table;
 use std::alloc::{AllocError, Global};
 use std::fs::{File, Files};

@@ -1,2 +1,0 @@
--- To be believed by reading: what a capture adds to a command.
-pub mod Capturing
