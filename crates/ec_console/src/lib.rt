@@ -17,4 +17,4 @@ pub use crate::explain::Explanation;
 pub use crate::input::read_text;
 pub use crate::machine::read_machine;
 pub use crate::printing::{print_text, tell, tell_and_end, tell_explained, tell_text};
-pub use crate::refusal::Refusal;
+pub use crate::refusal::{Refusal, end_of};

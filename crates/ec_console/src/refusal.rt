@@ -1,4 +1,7 @@
 //! The refusals of all commands.
+ghost use Rattle.std.specs.Prelude.{◌≡◌};
+ghost use Rattle.ec_console.specs.Unmet.{ended_by};
+
 use ec_frame::FrameError;
 use ec_lines::LinesError;
 use ec_link::LinkError;
@@ -113,6 +116,17 @@ impl Refusal {
             45 => 5,
             _ => 3,
         }
+    }
+}
+
+/// How a run ends in which so many times what was expected wasn't so.
+pub fn end_of(unmet: u64) -> Result<(), Refusal>
+    ensures { result ≡ ended_by unmet }
+{
+    if unmet == 0 {
+        Ok(())
+    } else {
+        Err(Refusal::Unmet(unmet))
     }
 }
 

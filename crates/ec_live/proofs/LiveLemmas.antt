@@ -21,7 +21,7 @@ use Rattle.ec_lines.specs.declared.error.LinesError.{LinesError}
 use Rattle.ec_lines.specs.Taking.{IsTaken, RefusesText, TakesLine}
 use Rattle.ec_lines.proofs.TakeLemmas.{takes_push}
 use Rattle.ec_script.specs.Scripts.{reading_of}
-use Rattle.ec_sim.specs.Simulating.{counted, ended_by}
+use Rattle.ec_console.specs.Unmet.{counted, ended_by}
 use Rattle.ec_console.proofs.PrintLemmas.{appends_more, appends_nothing}
 
 -- ---- what is taken as a line

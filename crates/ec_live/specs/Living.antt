@@ -17,7 +17,8 @@ use Rattle.ec_console.specs.declared.refusal.Refusal.{Refusal}
 use Rattle.ec_console.specs.declared.refusal.Refusal.TheVariants.{Memory, Output, Input}
 use Rattle.ec_console.specs.Given.{IsTableRefusal, lines_refusal}
 use Rattle.ec_console.specs.Printing.{AppendsPart}
-use Rattle.ec_sim.specs.Simulating.{EndsUnmet, PrintsPart, Says}
+use Rattle.ec_sim.specs.Simulating.{PrintsPart, Says}
+use Rattle.ec_console.specs.Unmet.{EndsUnmet}
 
 -- ---- what a line is
 

@@ -7,14 +7,18 @@ ghost use Rattle.ec_text.specs.PlanText.{newline};
 ghost use Rattle.ec_live.specs.Living.{IsLiveLate, LivesOut, LivesPart, RunsLive, RunsLiveTable, SaysPart, SaysReading};
 ghost use Rattle.ec_console.specs.Explaining.{IsLeft};
 ghost use Rattle.ec_console.specs.Printing.{AppendsPart};
-ghost use Rattle.ec_sim.specs.Simulating.{IsLate, counted};
+ghost use Rattle.ec_sim.specs.Simulating.{IsLate};
+ghost use Rattle.ec_console.specs.Unmet.{counted};
 ghost use Rattle.ec_live.specs.Stages.{RunsLiveText, taken_reading};
 
-use ec_console::{Explanation, Recording, Refusal, finish_recording, open_segment, print_text, read_machine};
+use ec_console::{
+    Explanation, Recording, Refusal, end_of, finish_recording, open_segment, print_text,
+    read_machine,
+};
 use ec_lines::{NextLine, take_line, take_text};
 use ec_link::Machine;
 use ec_script::{Reading, read_line};
-use ec_sim::{end_of, print_line};
+use ec_sim::print_line;
 use ec_table::Table;
 use ec_watch::Watch;
 use ec_why::Reasons;

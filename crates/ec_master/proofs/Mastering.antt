@@ -7,7 +7,7 @@ use Rattle.ec_link.specs.Plan.{plan_of}
 use Rattle.ec_wire.specs.Wires.{WireState, silent}
 use Rattle.ec_lines.specs.declared.error.LinesError.{LinesError}
 use Rattle.ec_lines.specs.Taking.{RefusesText}
-use Rattle.ec_sim.specs.Simulating.{counted, ended_by}
+use Rattle.ec_console.specs.Unmet.{counted, ended_by}
 use Rattle.ec_why.specs.declared.wanted.Reasons.{Reasons}
 use Rattle.ec_console.specs.declared.refusal.Refusal.{Refusal}
 use Rattle.ec_console.specs.declared.refusal.Refusal.TheVariants.{Unmet}

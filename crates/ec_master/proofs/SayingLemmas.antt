@@ -5,7 +5,7 @@ use Rattle.std.proofs.lemmas.List.{replicate-append-replicate, take_all}
 use Rattle.ec_table.specs.Contents.{Contents}
 use Rattle.ec_lines.specs.Taking.{TakesLine, TakesLines}
 use Rattle.ec_lines.proofs.TakeLemmas.{takes_push}
-use Rattle.ec_sim.specs.Simulating.{counted}
+use Rattle.ec_console.specs.Unmet.{counted}
 use Rattle.ec_console.specs.Printing.{AppendsPart}
 use Rattle.ec_console.proofs.PrintLemmas.{appends_more, appends_nothing, whole_part}
 use Rattle.ec_why.specs.declared.wanted.Reasons.{Reasons}

@@ -3,7 +3,7 @@ use Rattle.std.specs.Prelude.{◌≡◌, ℕ, List}
 use Rattle.ec_table.specs.Contents.{Contents}
 use Rattle.ec_why.specs.declared.wanted.Reasons.{Reasons}
 use Rattle.ec_why.specs.declared.wanted.Reasons.TheVariants.{Untold}
-use Rattle.ec_sim.specs.Laws.{Part, with_reasons, without_reasons}
+use Rattle.ec_why.specs.Reasons.{Part, with_reasons, without_reasons}
 use Rattle.ec_master.specs.declared.order.Task.{Task}
 use Rattle.ec_master.specs.Saying.{Moment, Says}
 

@@ -10,10 +10,11 @@ ghost use Rattle.ec_master.specs.Stages.{RunsMachine};
 use crate::control::Control;
 use crate::saying::print_lines;
 use ec_card::{CardWire, Patience, Sender};
-use ec_console::{Capture, Explanation, Refusal, close_capture, open_capture, read_machine};
+use ec_console::{
+    Capture, Explanation, Refusal, close_capture, end_of, open_capture, read_machine,
+};
 use ec_lines::take_text;
 use ec_link::Machine;
-use ec_sim::end_of;
 use ec_tap::{CapturedWire, Side};
 use ec_why::Reasons;
 use ec_wire::{SocketFault, UdpWire, Wire};

@@ -1,6 +1,6 @@
 //! The lines of an input, each done and printed as it comes.
 ghost use Rattle.std.specs.Prelude.{◌≡◌, ◌∷◌, [], ℕ, IfErr, IfOk, OnErr, Option, if◌then◌else◌, replicate};
-ghost use Rattle.ec_sim.specs.Simulating.{counted};
+ghost use Rattle.ec_console.specs.Unmet.{counted};
 ghost use Rattle.ec_master.specs.Held.{IsNext};
 ghost use Rattle.ec_master.specs.Saying.{IsLate, ObeysAll, ObeysSome, PrintsAll, PrintsPart, repeated};
 

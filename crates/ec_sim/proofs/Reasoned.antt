@@ -7,8 +7,8 @@ use Rattle.ec_script.specs.declared.line.Line.{Line}
 use Rattle.ec_script.specs.Texts.{output_text}
 use Rattle.ec_why.specs.declared.wanted.Reasons.{Reasons}
 use Rattle.ec_why.specs.declared.wanted.Reasons.TheVariants.{Untold}
-use Rattle.ec_why.specs.Reasons.{IsReason, ReasonIf}
-use Rattle.ec_sim.specs.Laws.{Part, ReasonsOnlyAdd, with_reasons, without_reasons}
+use Rattle.ec_why.specs.Reasons.{IsReason, Part, ReasonIf, with_reasons, without_reasons}
+use Rattle.ec_sim.specs.Laws.{ReasonsOnlyAdd}
 use Rattle.ec_sim.specs.Simulating.{SaysLine}
 
 reason_if : (b : Bool) (why : List ℕ) → ReasonIf b why → (why ≡ []) ⊎ IsReason why

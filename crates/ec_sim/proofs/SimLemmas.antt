@@ -22,7 +22,8 @@ use Rattle.ec_console.specs.declared.refusal.Refusal.TheVariants.{Memory, Unmet}
 use Rattle.ec_console.specs.Printing.{AppendsPart}
 use Rattle.ec_sim.specs.Stages.{IsBadScript, IsLineText, RunsScript}
 use Rattle.ec_console.specs.Given.{IsTableRefusal}
-use Rattle.ec_sim.specs.Simulating.{IsHalfRefusal, IsLate, IsSimRefusal, IsSimulation, PrintsAll, PrintsLines, PrintsPart, PrintsSome, RunsLines, RunsText, Says, SaysLine, counted, ended_by, unmet_of}
+use Rattle.ec_sim.specs.Simulating.{IsHalfRefusal, IsLate, IsSimRefusal, IsSimulation, PrintsAll, PrintsLines, PrintsPart, PrintsSome, RunsLines, RunsText, Says, SaysLine, unmet_of}
+use Rattle.ec_console.specs.Unmet.{counted, ended_by}
 use Rattle.ec_console.specs.Capturing.{IsUnopened}
 use Rattle.ec_console.proofs.PrintLemmas.{appends_more, appends_nothing, whole_part}
 

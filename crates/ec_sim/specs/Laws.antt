@@ -1,26 +1,12 @@
 -- What telling reasons changes: lines are printed between the others, and that is all (this project's profile).
-use Rattle.std.specs.Prelude.{◌≡◌, ◌⊎◌, ℕ, List, [], ◌∷◌, ◌++◌}
+use Rattle.std.specs.Prelude.{◌≡◌, ℕ, List}
 use Rattle.ec_table.specs.Contents.{Contents}
 use Rattle.ec_world.specs.World.{WorldState}
 use Rattle.ec_script.specs.declared.line.Line.{Line}
 use Rattle.ec_why.specs.declared.wanted.Reasons.{Reasons}
 use Rattle.ec_why.specs.declared.wanted.Reasons.TheVariants.{Untold}
-use Rattle.ec_why.specs.Reasons.{IsReason}
+use Rattle.ec_why.specs.Reasons.{Part, with_reasons, without_reasons}
 use Rattle.ec_sim.specs.Simulating.{Says}
-
--- what a line says, and a reason behind it, if there is one
-pub record Part : Type 0 where
-  pub said : List ℕ
-  pub why : List ℕ
-  pub is : (why ≡ []) ⊎ IsReason why
-
-abbrev pub with_reasons : List Part → List ℕ
-with_reasons [] = []
-with_reasons (part ∷ parts) = (part.said ++ part.why) ++ with_reasons parts
-
-abbrev pub without_reasons : List Part → List ℕ
-without_reasons [] = []
-without_reasons (part ∷ parts) = part.said ++ without_reasons parts
 
 -- Lines that are done leave the world, and are as often unmet, as where no reasons are told, and print the same but for the reasons.
 abbrev pub ReasonsOnlyAdd : Type 0

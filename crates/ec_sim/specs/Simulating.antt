@@ -1,5 +1,5 @@
 -- What `ecat sim` answers (this project's profile).
-use Rattle.std.specs.Prelude.{◌≡◌, ◌⊎◌, ℕ, ◌+◌, ◌-◌, ◌^◌, ◌<◌, ◌==◌, min, List, [], ◌∷◌, ◌++◌, take, if◌then◌else◌, Option, Result, Ok, Err}
+use Rattle.std.specs.Prelude.{◌≡◌, ◌⊎◌, ℕ, ◌+◌, List, [], ◌∷◌, ◌++◌, take, if◌then◌else◌, Option, Result, Ok, Err}
 use Rattle.std.specs.Io.KnownBytes.{Appends}
 use Rattle.ec_table.specs.Contents.{Contents}
 use Rattle.ec_link.specs.Machine.{StatesMachine}
@@ -16,9 +16,10 @@ use Rattle.ec_script.specs.Work.{Does, is_done, is_unmet}
 use Rattle.ec_why.specs.declared.wanted.Reasons.{Reasons}
 use Rattle.ec_why.specs.Reasons.{IsWhy}
 use Rattle.ec_console.specs.declared.refusal.Refusal.{Refusal}
-use Rattle.ec_console.specs.declared.refusal.Refusal.TheVariants.{Memory, Output, Script, Unmet}
+use Rattle.ec_console.specs.declared.refusal.Refusal.TheVariants.{Memory, Output, Script}
 use Rattle.ec_console.specs.Given.{GivesText, IsInputRefusal, IsTableRefusal}
 use Rattle.ec_console.specs.Printing.{AppendsPart}
+use Rattle.ec_console.specs.Unmet.{EndsUnmet}
 
 -- ---- lines
 
@@ -65,18 +66,6 @@ PrintsLines reasons t w lines unmet old new = (last : WorldState) × PrintsAll r
 
 abbrev pub PrintsSome : Reasons → Contents → WorldState → List Line → Option (List ℕ) → Option (List ℕ) → Type 0
 PrintsSome reasons t w lines old new = PrintsPart reasons t w (repeated lines) old new
-
--- as far as 64 bits count
-abbrev pub counted : ℕ → ℕ
-counted unmet = min unmet (2 ^ 64 - 1)
-
--- the end of a run, by that count
-abbrev pub ended_by : ℕ → Result Unit Refusal
-ended_by unmet = if unmet == 0 then Ok tt else Err (Unmet unmet)
-
--- what is expected isn't so, so many times
-abbrev pub EndsUnmet : Refusal → (ℕ → Type 0) → Type 0
-EndsUnmet refusal P = (unmet : ℕ) × (0 < unmet) × (refusal ≡ Unmet (counted unmet)) × P unmet
 
 -- what can end a script that runs
 abbrev pub IsLate : Refusal → Type 0

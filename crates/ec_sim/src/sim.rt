@@ -1,12 +1,16 @@
 //! `ecat sim`: a link table and a script on the input, and what the script does to a simulated segment of the table.
 ghost use Rattle.std.specs.Prelude.{◌≡◌, ◌∷◌, [], ℕ, IfErr, IfOk, OnErr, string_bytes, if◌then◌else◌, replicate};
 ghost use Rattle.ec_console.specs.Explaining.{IsLeft};
-ghost use Rattle.ec_sim.specs.Simulating.{IsLate, PrintsAll, PrintsLines, PrintsPart, PrintsSome, RunsLines, RunsSim, RunsText, counted, ended_by};
+ghost use Rattle.ec_sim.specs.Simulating.{IsLate, PrintsAll, PrintsLines, PrintsPart, PrintsSome, RunsLines, RunsSim, RunsText};
+ghost use Rattle.ec_console.specs.Unmet.{counted};
 ghost use Rattle.ec_script.specs.Seeing.{Sees};
 ghost use Rattle.ec_sim.specs.Capturing.{NotesRun};
 ghost use Rattle.ec_sim.specs.Stages.{IsLineText, RunsScript};
 
-use ec_console::{Explanation, Recording, Refusal, finish_recording, open_segment, print_text, read_machine, read_text};
+use ec_console::{
+    Explanation, Recording, Refusal, end_of, finish_recording, open_segment, print_text,
+    read_machine, read_text,
+};
 use ec_link::Machine;
 use ec_script::{Line, LineOutput, output_text, read_script, split_script, watch_act};
 use ec_table::Table;
@@ -70,17 +74,6 @@ pub fn print_noted<F: Write + Drop, W: Write>(
     ensures noted { NotesRun watch.old world.old world.new watch.new }
 {
     print_lines(alloc, table, reasons, world, watch, lines, output)
-}
-
-/// How a run ends in which so many times what was expected wasn't so.
-pub fn end_of(unmet: u64) -> Result<(), Refusal>
-    ensures { result ≡ ended_by unmet }
-{
-    if unmet == 0 {
-        Ok(())
-    } else {
-        Err(Refusal::Unmet(unmet))
-    }
 }
 
 /// Runs the script that the input gives behind a link table and a line `%%`. Its slaves begin at power-on, with the

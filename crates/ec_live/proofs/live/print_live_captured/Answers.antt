@@ -1,6 +1,6 @@
 use Rattle.std.proofs.Common.{◌≡◌, ℕ}
 use Rattle.ec_console.proofs.CaptureLemmas.{finished_err, finished_late, finished_ok}
-use Rattle.ec_sim.specs.Simulating.{counted}
+use Rattle.ec_console.specs.Unmet.{counted}
 use Rattle.ec_live.specs.Living.{IsLiveLate, LivesOut, LivesPart}
 use Rattle.ec_live.proofs.LiveLemmas.{counted_out_part}
 use Rattle.ec_live.proofs.live.print_live_captured.Goals as goal

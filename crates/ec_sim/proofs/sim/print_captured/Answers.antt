@@ -1,6 +1,7 @@
 use Rattle.std.proofs.Common.{◌≡◌, ℕ}
 use Rattle.ec_console.proofs.CaptureLemmas.{finished_err, finished_late, finished_ok}
-use Rattle.ec_sim.specs.Simulating.{IsLate, PrintsLines, PrintsSome, counted}
+use Rattle.ec_sim.specs.Simulating.{IsLate, PrintsLines, PrintsSome}
+use Rattle.ec_console.specs.Unmet.{counted}
 use Rattle.ec_sim.proofs.SimLemmas.{counted_some_lines}
 use Rattle.ec_sim.proofs.sim.print_captured.Goals as goal
 
