@@ -1,5 +1,5 @@
 //! Values of keys, with their ranges.
-ghost use Rattle.std.specs.Prelude.{◌≡◌, ◌≤◌, IfOk, is_some, string_bytes, Some};
+ghost use Rattle.std.specs.Prelude.{◌≡◌, ◌≤◌, [], IfOk, is_some, string_bytes, Some};
 ghost use Rattle.std.specs.List.{list_all};
 ghost use Rattle.std.specs.Option.{option_or};
 ghost use Rattle.std.specs.Map.{keys_of};
@@ -7,11 +7,14 @@ ghost use Rattle.toml.specs.Data.{get_member};
 ghost use Rattle.toml.specs.View.{view, table_view, items_view};
 ghost use Rattle.ec_table.specs.declared.rows.Version.TheVariants as version;
 ghost use Rattle.ec_table.specs.declared.fields.Shape.TheVariants as shape;
-ghost use Rattle.ec_table.specs.Fields.{number_or_0, truth_in, version_in, link_bits_of, link_bits_in, is_name_byte, is_name, is_key, each_key, has_required, keys_are, number_in, name_in, direction_in, mailbox_of, mailbox_in, is_table, are_tables, section_in, seen, result_seen, result_items};
+ghost use Rattle.ec_table.specs.Fields.{number_or_0, version_in, is_name_byte, is_name, is_key, each_key, has_required, keys_are, number_in, name_in, is_table, are_tables, section_in, seen, result_seen, result_items};
+ghost use Rattle.ec_table.specs.InOrder.{Gives, rows_after};
+ghost use Rattle.ec_table.specs.Pdos.{number_row, number_list, numbers_in};
 
-use crate::fault::{Fault, Place};
-use crate::rows::{Direction, LinkBits, Version};
-use ec_device::{MAX_MAILBOX_SIZE, MIN_MAILBOX_SIZE, Mailbox};
+use crate::fault::{Fault, Place, TableError};
+use crate::rows::Version;
+use ec_listed::Listed;
+use std::alloc::Global;
 use toml::Value;
 
 /// The largest number of 16 bits, as an address or an index has.
@@ -98,48 +101,6 @@ pub fn name_in<'a>(place: Place, value: Option<&'a Value>) -> Result<&'a str, Fa
     }
 }
 
-/// A direction, "out" or "in".
-#[tactic(auto, unfolding(crate::specs::Fields::direction_in))]
-pub fn direction_in(place: Place, value: Option<&Value>) -> Result<Direction, Fault>
-    ensures { result ≡ direction_in place (seen value.entry) }
-{
-    let Some(value) = value else {
-        return Err(Fault::BadValue(place));
-    };
-    let Some(text) = value.as_str() else {
-        return Err(Fault::BadValue(place));
-    };
-    if text == "out" {
-        Ok(Direction::Out)
-    } else if text == "in" {
-        Ok(Direction::In)
-    } else {
-        Err(Fault::BadValue(place))
-    }
-}
-
-/// A mailbox, where there is one.
-#[tactic(auto, unfolding(crate::specs::Fields::mailbox_in))]
-pub fn mailbox_in(place: Place, value: Option<&Value>) -> Result<Option<Mailbox>, Fault>
-    ensures { result ≡ mailbox_in place (seen value.entry) }
-{
-    match value {
-        None => Ok(None),
-        Some(value) => Ok(Some(mailbox_of(place, value)?)),
-    }
-}
-
-/// A link's bits, where they are written.
-#[tactic(auto, unfolding(crate::specs::Fields::link_bits_in))]
-pub fn link_bits_in(place: Place, value: Option<&Value>) -> Result<Option<LinkBits>, Fault>
-    ensures { result ≡ link_bits_in place (seen value.entry) }
-{
-    match value {
-        None => Ok(None),
-        Some(value) => Ok(Some(link_bits_of(place, value)?)),
-    }
-}
-
 /// The version of the format, 1 where it is left out.
 #[tactic(auto, unfolding(crate::specs::Fields::version_in))]
 pub fn version_in(place: Place, value: Option<&Value>) -> Result<Version, Fault>
@@ -167,16 +128,19 @@ pub fn number_or_0(place: Place, value: Option<&Value>, most: u32) -> Result<u32
     }
 }
 
-/// A truth value, true where it is left out.
-pub fn truth_in(place: Place, value: Option<&Value>) -> Result<bool, Fault>
-    ensures { result ≡ truth_in place (seen value.entry) }
+/// The numbers of an array, if there is one.
+pub fn numbers_in(
+    alloc: Global,
+    place: Place,
+    value: Option<&Value>,
+    low: u16,
+    high: u16,
+) -> Result<Option<Listed<u16>>, TableError>
+    ensures { Gives result (numbers_in place low high (seen value.entry)) }
 {
-    let Some(value) = value else {
-        return Ok(true);
-    };
-    match value.as_bool() {
-        Some(truth) => Ok(truth),
-        None => Err(Fault::BadValue(place)),
+    match value {
+        None => Ok(None),
+        Some(value) => Ok(Some(number_list(alloc, place, low, high, value)?)),
     }
 }
 
@@ -299,41 +263,38 @@ fn each_key(shape: Shape, version: Version, members: &toml::Table) -> bool
     each_map_key(shape, version, members)
 }
 
-#[tactic(auto, unfolding(crate::specs::Fields::mailbox_of))]
-fn mailbox_of(place: Place, value: &Value) -> Result<Mailbox, Fault>
-    ensures { result ≡ mailbox_of place (view value.now) }
+#[tactic(auto, unfolding(crate::specs::Pdos::number_list))]
+fn number_list(
+    alloc: Global,
+    place: Place,
+    low: u16,
+    high: u16,
+    value: &Value,
+) -> Result<Listed<u16>, TableError>
+    ensures { Gives result (number_list place low high (view value.now)) }
 {
-    let (least, most) = (MIN_MAILBOX_SIZE as u32, MAX_MAILBOX_SIZE as u32);
-    let receive_start = number_in(place, value.get(0), 0, MAX_U16)?;
-    let receive_size = number_in(place, value.get(1), least, most)?;
-    let send_start = number_in(place, value.get(2), 0, MAX_U16)?;
-    let send_size = number_in(place, value.get(3), least, most)?;
-    if value.get(4).is_some() {
-        return Err(Fault::BadValue(place));
-    }
-    Ok(Mailbox {
-        receive_start: receive_start as u16,
-        receive_size: receive_size as u16,
-        send_start: send_start as u16,
-        send_size: send_size as u16,
-    })
+    let Some(elements) = value.as_array() else {
+        return Err(TableError::Refused(Fault::BadValue(place)));
+    };
+    numbers_of(alloc, place, low, high, elements.as_slice())
 }
 
-#[tactic(auto, unfolding(crate::specs::Fields::link_bits_of))]
-fn link_bits_of(place: Place, value: &Value) -> Result<LinkBits, Fault>
-    ensures { result ≡ link_bits_of place (view value.now) }
+#[tactic(auto, using(crate::proofs::InOrder::rows_all))]
+fn numbers_of(
+    alloc: Global,
+    place: Place,
+    low: u16,
+    high: u16,
+    elements: &[Value],
+) -> Result<Listed<u16>, TableError>
+    ensures { Gives result (rows_after (number_row place low high) [] 0 (items_view elements.now)) }
 {
-    let variable_bit = number_in(place, value.get(0), 0, 63)?;
-    let entry_bit = number_in(place, value.get(1), 0, 63)?;
-    let count = number_in(place, value.get(2), 1, 64)?;
-    if value.get(3).is_some() {
-        return Err(Fault::BadValue(place));
+    let mut found = Listed::new(alloc);
+    for value in elements {
+        let number = number_in(place, Some(value), u32::from(low), u32::from(high))?;
+        found.push(number as u16)?;
     }
-    Ok(LinkBits {
-        variable_bit: variable_bit as u8,
-        entry_bit: entry_bit as u8,
-        count: count as u8,
-    })
+    Ok(found)
 }
 
 /// The same, said of the values of the array.

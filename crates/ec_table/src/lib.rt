@@ -6,7 +6,6 @@ mod fields;
 pub mod laws;
 mod links;
 mod named;
-mod objects;
 mod pdos;
 mod read;
 mod rows;

@@ -3,13 +3,13 @@ ghost use Rattle.std.specs.Prelude.{◌≡◌, [], unwrap_or, is_some, IfSome};
 ghost use Rattle.toml.specs.View.{view, table_view, items_view};
 ghost use Rattle.ec_table.specs.declared.rows.Version.TheVariants as version;
 ghost use Rattle.ec_table.specs.declared.fields.Shape.TheVariants as shape;
-ghost use Rattle.ec_table.specs.Fields.{is_key, keys_are};
+ghost use Rattle.ec_table.specs.Fields.{is_key, keys_are, link_bits_of, link_bits_in, seen};
 ghost use Rattle.ec_table.specs.Values.{AreLinkValues, PutsLinkValue};
 ghost use Rattle.ec_table.specs.InOrder.{Gives, rows_after};
 ghost use Rattle.ec_table.specs.Reading.{all_bits, link_at, link_element};
 
 use crate::fault::{Fault, Place, Section, TableError};
-use crate::fields::{MAX_U8, MAX_U16, first, link_bits_in, name_in, number_in};
+use crate::fields::{MAX_U8, MAX_U16, first, name_in, number_in};
 use crate::named::NamedRows;
 use crate::rows::{LinkBits, LinkRow, SlaveRow, VariableRow, Version};
 use ec_listed::Listed;
@@ -146,6 +146,34 @@ fn with_link_value<'a>(
         _ => return None,
     }
     Some(values)
+}
+
+/// A link's bits, where they are written.
+#[tactic(auto, unfolding(crate::specs::Fields::link_bits_in))]
+fn link_bits_in(place: Place, value: Option<&Value>) -> Result<Option<LinkBits>, Fault>
+    ensures { result ≡ link_bits_in place (seen value.entry) }
+{
+    match value {
+        None => Ok(None),
+        Some(value) => Ok(Some(link_bits_of(place, value)?)),
+    }
+}
+
+#[tactic(auto, unfolding(crate::specs::Fields::link_bits_of))]
+fn link_bits_of(place: Place, value: &Value) -> Result<LinkBits, Fault>
+    ensures { result ≡ link_bits_of place (view value.now) }
+{
+    let variable_bit = number_in(place, value.get(0), 0, 63)?;
+    let entry_bit = number_in(place, value.get(1), 0, 63)?;
+    let count = number_in(place, value.get(2), 1, 64)?;
+    if value.get(3).is_some() {
+        return Err(Fault::BadValue(place));
+    }
+    Ok(LinkBits {
+        variable_bit: variable_bit as u8,
+        entry_bit: entry_bit as u8,
+        count: count as u8,
+    })
 }
 
 /// The bits that are written, else all of the variable's, from bit 0 of both.

@@ -4,7 +4,7 @@ ghost use Rattle.std.specs.List.{list_any};
 ghost use Rattle.toml.specs.View.{view, table_view, items_view};
 ghost use Rattle.ec_table.specs.Fields.{seen};
 ghost use Rattle.ec_table.specs.InOrder.{Gives, rows_after};
-ghost use Rattle.ec_table.specs.Pdos.{entry_of, entry_row, array_of, array_in, pdo_of, pdo_row, pdos_in, indices_of, has_twice, number_row, number_list, numbers_in};
+ghost use Rattle.ec_table.specs.Pdos.{entry_of, entry_row, array_of, array_in, pdo_of, pdo_row, pdos_in, indices_of, has_twice};
 
 use crate::fault::{Fault, Place, TableError};
 use crate::fields::{MAX_U8, MAX_U16, Shape, keys_are, member, number_in};
@@ -35,22 +35,6 @@ pub fn pdos_in(
     match value {
         None => Ok(Listed::new(alloc)),
         Some(value) => pdo_array(alloc, place, low, high, value),
-    }
-}
-
-/// The numbers of an array, if there is one.
-pub fn numbers_in(
-    alloc: Global,
-    place: Place,
-    value: Option<&Value>,
-    low: u16,
-    high: u16,
-) -> Result<Option<Listed<u16>>, TableError>
-    ensures { Gives result (numbers_in place low high (seen value.entry)) }
-{
-    match value {
-        None => Ok(None),
-        Some(value) => Ok(Some(number_list(alloc, place, low, high, value)?)),
     }
 }
 
@@ -215,38 +199,4 @@ fn entry_of(place: Place, value: &Value) -> Result<Entry, Fault>
         subindex: subindex as u8,
         bits: bits as u8,
     })
-}
-
-#[tactic(auto, unfolding(crate::specs::Pdos::number_list))]
-fn number_list(
-    alloc: Global,
-    place: Place,
-    low: u16,
-    high: u16,
-    value: &Value,
-) -> Result<Listed<u16>, TableError>
-    ensures { Gives result (number_list place low high (view value.now)) }
-{
-    let Some(elements) = value.as_array() else {
-        return Err(TableError::Refused(Fault::BadValue(place)));
-    };
-    numbers_of(alloc, place, low, high, elements.as_slice())
-}
-
-#[tactic(auto, using(crate::proofs::InOrder::rows_all))]
-fn numbers_of(
-    alloc: Global,
-    place: Place,
-    low: u16,
-    high: u16,
-    elements: &[Value],
-) -> Result<Listed<u16>, TableError>
-    ensures { Gives result (rows_after (number_row place low high) [] 0 (items_view elements.now)) }
-{
-    let mut found = Listed::new(alloc);
-    for value in elements {
-        let number = number_in(place, Some(value), u32::from(low), u32::from(high))?;
-        found.push(number as u16)?;
-    }
-    Ok(found)
 }

@@ -6,9 +6,9 @@ ghost use Rattle.ec_table.specs.InOrder.{Gives, one_more, rows_after};
 ghost use Rattle.ec_table.specs.Reading.{all_in, assigned_in, slave_at, slave_element, slave_named, slave_of_type};
 
 use crate::fault::{Fault, Place, Section, TableError};
-use crate::fields::{Shape, keys_are, member, name_in, number_or_0};
+use crate::fields::{Shape, keys_are, member, name_in, number_or_0, numbers_in};
 use crate::named::{Named, NamedRows};
-use crate::pdos::{LAST_INPUT_INDEX, LAST_OUTPUT_INDEX, has_twice, indices_of, is_in, numbers_in};
+use crate::pdos::{LAST_INPUT_INDEX, LAST_OUTPUT_INDEX, has_twice, indices_of, is_in};
 use crate::rows::{Name, SlaveRow, TypeRow, Version};
 use ec_device::{FIRST_INPUT_INDEX, FIRST_OUTPUT_INDEX, Pdo};
 use ec_listed::Listed;

@@ -1,14 +1,15 @@
 //! Tables, and what the layers above ask of them.
-ghost use Rattle.std.specs.Prelude.{◌≡◌, ◌<◌, ◌≤◌, length, All, Some, option_map, false, IfOk};
+ghost use Rattle.std.specs.Prelude.{◌≡◌, ◌==◌, ◌++◌, ◌<◌, ◌≤◌, length, find, All, Some, option_map, false, IfOk, OnOk};
+ghost use Rattle.std.specs.Option.{option_copied};
+ghost use Rattle.ec_device.specs.declared.slave_type.Pdo.{Pdo};
 ghost use Rattle.ec_device.specs.Types.{IsEntry, IsFace};
-ghost use Rattle.ec_device.specs.Objects.{bits_of};
+ghost use Rattle.ec_device.specs.Objects.{bits_of, entries_at, assigned_entries};
 ghost use Rattle.ec_table.specs.Contents.{shown_as, shown_full};
 ghost use Rattle.ec_table.specs.Sound.{IsSound, IsType, AreTypes, AreSlaves, IsVariable, AreVariables, IsLink};
 ghost use Rattle.ec_table.specs.Objects.{type_of, variable_of, slave_of, identity_of, face_of, kind_of, entries_of};
 
-use crate::objects::assigned_entries;
 use crate::rows::{Direction, LinkRow, SlaveRow, TypeRow, VariableRow, Version};
-use ec_device::{Entry, Face, Identity, SlaveType, copied_pdos};
+use ec_device::{Entry, Face, Identity, Pdo, SlaveType, copied_pdos};
 use ec_listed::Listed;
 use std::alloc::{AllocError, Global};
 use std::marker::Model;
@@ -246,4 +247,45 @@ impl Table {
             is_last: slave + 1 == slaves,
         })
     }
+}
+
+/// The entries of the PDOs with these indices, one after another.
+fn assigned_entries(
+    alloc: Global,
+    pdos: &[Pdo],
+    indices: &[u16],
+) -> Result<Listed<Entry>, AllocError>
+    ensures { IfOk result (λ es. es ≡ assigned_entries pdos.now indices.now) }
+{
+    let mut found = Listed::new(alloc);
+    for index in indices {
+        push_all(&mut found, entries_at(pdos, *index))?;
+    }
+    Ok(found)
+}
+
+fn push_all(found: &mut Listed<Entry>, entries: &[Entry]) -> Result<(), AllocError>
+    ensures { OnOk result (found.new ≡ found.old ++ entries.now) }
+{
+    for entry in entries {
+        found.push(*entry)?;
+    }
+    Ok(())
+}
+
+/// The entries of the PDO with an index, none where there is no such PDO.
+fn entries_at(pdos: &[Pdo], index: u16) -> &[Entry]
+    ensures { result.now ≡ entries_at pdos.now index }
+{
+    match pdo_at(pdos, index) {
+        Some(pdo) => pdo.entries.as_slice(),
+        None => &[],
+    }
+}
+
+/// The PDO with an index.
+fn pdo_at(pdos: &[Pdo], index: u16) -> Option<&Pdo>
+    ensures { option_copied result ≡ find (λ (q : Pdo). q.index == index) pdos.now }
+{
+    pdos.iter().find(|pdo| pdo.index == index)
 }

@@ -1,16 +1,19 @@
 //! The types of slaves that elements state.
 ghost use Rattle.std.specs.Prelude.{◌≡◌, ◌||◌, [], IfOk, OnOk, false};
 ghost use Rattle.toml.specs.View.{view, table_view, items_view};
+ghost use Rattle.ec_table.specs.Fields.{mailbox_of, mailbox_in, seen, truth_in};
 ghost use Rattle.ec_table.specs.InOrder.{Gives, one_more, rows_after};
 ghost use Rattle.ec_table.specs.Pdos.{has_twice, indices_of};
 ghost use Rattle.ec_table.specs.Reading.{device_in, process_in, process_twice, type_at, type_element, type_named};
 
 use crate::fault::{Fault, Place, Section, TableError};
-use crate::fields::{MAX_U16, Shape, keys_are, mailbox_in, member, name_in, number_in, truth_in};
+use crate::fields::{MAX_U16, Shape, keys_are, member, name_in, number_in};
 use crate::named::{Named, NamedRows};
 use crate::pdos::{LAST_INPUT_INDEX, LAST_OUTPUT_INDEX, has_twice, indices_of, pdos_in};
 use crate::rows::{Name, ProcessData, TypeRow, Version};
-use ec_device::{Device, FIRST_INPUT_INDEX, FIRST_OUTPUT_INDEX, Pdo};
+use ec_device::{
+    Device, FIRST_INPUT_INDEX, FIRST_OUTPUT_INDEX, MAX_MAILBOX_SIZE, MIN_MAILBOX_SIZE, Mailbox, Pdo,
+};
 use std::alloc::{AllocError, Global};
 use toml::Value;
 
@@ -161,4 +164,48 @@ fn device_in(place: Place, members: &toml::Table) -> Result<Device, Fault>
         product,
         revision,
     })
+}
+
+/// A mailbox, where there is one.
+#[tactic(auto, unfolding(crate::specs::Fields::mailbox_in))]
+fn mailbox_in(place: Place, value: Option<&Value>) -> Result<Option<Mailbox>, Fault>
+    ensures { result ≡ mailbox_in place (seen value.entry) }
+{
+    match value {
+        None => Ok(None),
+        Some(value) => Ok(Some(mailbox_of(place, value)?)),
+    }
+}
+
+#[tactic(auto, unfolding(crate::specs::Fields::mailbox_of))]
+fn mailbox_of(place: Place, value: &Value) -> Result<Mailbox, Fault>
+    ensures { result ≡ mailbox_of place (view value.now) }
+{
+    let (least, most) = (MIN_MAILBOX_SIZE as u32, MAX_MAILBOX_SIZE as u32);
+    let receive_start = number_in(place, value.get(0), 0, MAX_U16)?;
+    let receive_size = number_in(place, value.get(1), least, most)?;
+    let send_start = number_in(place, value.get(2), 0, MAX_U16)?;
+    let send_size = number_in(place, value.get(3), least, most)?;
+    if value.get(4).is_some() {
+        return Err(Fault::BadValue(place));
+    }
+    Ok(Mailbox {
+        receive_start: receive_start as u16,
+        receive_size: receive_size as u16,
+        send_start: send_start as u16,
+        send_size: send_size as u16,
+    })
+}
+
+/// A truth value, true where it is left out.
+fn truth_in(place: Place, value: Option<&Value>) -> Result<bool, Fault>
+    ensures { result ≡ truth_in place (seen value.entry) }
+{
+    let Some(value) = value else {
+        return Ok(true);
+    };
+    match value.as_bool() {
+        Some(truth) => Ok(truth),
+        None => Err(Fault::BadValue(place)),
+    }
 }

@@ -3,15 +3,15 @@ ghost use Rattle.std.specs.Prelude.{◌≡◌, [], false, IfOk, OnOk, is_some, I
 ghost use Rattle.toml.specs.View.{view, table_view, items_view};
 ghost use Rattle.ec_table.specs.declared.rows.Version.TheVariants as version;
 ghost use Rattle.ec_table.specs.declared.fields.Shape.TheVariants as shape;
-ghost use Rattle.ec_table.specs.Fields.{is_key, keys_are, seen};
+ghost use Rattle.ec_table.specs.Fields.{direction_in, is_key, keys_are, seen};
 ghost use Rattle.ec_table.specs.Values.{AreVariableValues, PutsVariableValue};
 ghost use Rattle.ec_table.specs.InOrder.{Gives, one_more, rows_after};
 ghost use Rattle.ec_table.specs.Reading.{variable_at, variable_element, variable_named};
 
 use crate::fault::{Fault, Place, Section, TableError};
-use crate::fields::{direction_in, first, name_in, number_in};
+use crate::fields::{first, name_in, number_in};
 use crate::named::{Named, NamedRows};
-use crate::rows::{Name, VariableRow, Version};
+use crate::rows::{Direction, Name, VariableRow, Version};
 use std::alloc::Global;
 use toml::Value;
 
@@ -146,4 +146,24 @@ fn variable_named(
         direction,
         bits: bits as u8,
     })
+}
+
+/// A direction, "out" or "in".
+#[tactic(auto, unfolding(crate::specs::Fields::direction_in))]
+fn direction_in(place: Place, value: Option<&Value>) -> Result<Direction, Fault>
+    ensures { result ≡ direction_in place (seen value.entry) }
+{
+    let Some(value) = value else {
+        return Err(Fault::BadValue(place));
+    };
+    let Some(text) = value.as_str() else {
+        return Err(Fault::BadValue(place));
+    };
+    if text == "out" {
+        Ok(Direction::Out)
+    } else if text == "in" {
+        Ok(Direction::In)
+    } else {
+        Err(Fault::BadValue(place))
+    }
 }

@@ -2,7 +2,7 @@ use Rattle.std.proofs.Common.{◌≡◌, [], drop}
 use Rattle.toml.specs.View.{items_view}
 use Rattle.ec_table.specs.Pdos.{number_row}
 use Rattle.ec_table.specs.InOrder.{rows_after}
-use Rattle.ec_table.proofs.pdos.numbers_of.Given as goal
+use Rattle.ec_table.proofs.fields.numbers_of.Given as goal
 
 abbrev pub invariant-loop-value : goal.invariant-loop-value
 invariant-loop-value l =

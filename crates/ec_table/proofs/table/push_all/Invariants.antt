@@ -1,5 +1,5 @@
 use Rattle.std.proofs.Common.{◌≡◌, ◌++◌, take}
-use Rattle.ec_table.proofs.objects.push_all.Given as goal
+use Rattle.ec_table.proofs.table.push_all.Given as goal
 
 abbrev pub invariant-loop-entry : goal.invariant-loop-entry
 invariant-loop-entry l = l.found ≡ l.initial.found ++ take l.entry-index l.entries
