@@ -1,7 +1,6 @@
 //! The arguments of `ecat`'s command line, read by `clap`.
 #![tactic(auto)]
 
-mod arguments;
 mod commands;
 mod helps;
 mod laws;
