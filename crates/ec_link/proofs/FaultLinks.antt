@@ -11,7 +11,7 @@ use Rattle.ec_table.specs.declared.rows.LinkRow.{LinkRow}
 use Rattle.ec_table.specs.Contents.{Contents}
 use Rattle.ec_table.specs.Objects.{entries_of}
 use Rattle.ec_table.specs.Sound as table
-use Rattle.ec_link.specs.declared.entries.EntryRun.{EntryRun}
+use Rattle.ec_link.specs.declared.objects.EntryRun.{EntryRun}
 use Rattle.ec_link.specs.declared.link_runs.LinkRun.{LinkRun}
 use Rattle.ec_link.specs.declared.fault.LinkFault.TheVariants.{NoEntry, OutsideEntry}
 use Rattle.ec_link.specs.Entries.{entry_run}

@@ -5,7 +5,7 @@ use Rattle.std.proofs.lemmas.Option.{slice_get_within}
 use Rattle.std.proofs.lemmas.Map.Keys.{any_passes_from_place}
 use Rattle.std.proofs.lemmas.Bool.{cases_Bool, false≢true, eqb-true, eqb-false, eq-eqb, ne_eqb, and_parts, and_from, or_cases, or_left, or_right, not-true, not_from_false}
 use Rattle.ec_device.specs.declared.slave_type.Entry.{Entry}
-use Rattle.ec_link.specs.declared.entries.EntryRun.{EntryRun}
+use Rattle.ec_link.specs.declared.objects.EntryRun.{EntryRun}
 use Rattle.ec_link.specs.Entries.{is_named, behind, entry_run, names_twice}
 use Rattle.ec_link.specs.FaultLaw.{IsNamed}
 use Rattle.ec_link.proofs.EntryLists.{run_any}

@@ -8,7 +8,7 @@ use Rattle.std.proofs.lemmas.List.Folds.{list_any-append}
 use Rattle.std.proofs.lemmas.List.Elements.{filter-append}
 use Rattle.ec_table.specs.declared.rows.LinkRow.{LinkRow}
 use Rattle.ec_table.specs.Contents.{Contents}
-use Rattle.ec_link.specs.declared.split.VariableUse.{VariableUse}
+use Rattle.ec_link.specs.declared.faults.VariableUse.{VariableUse}
 use Rattle.ec_link.specs.Faults.{unit_of_link, differ, units_of_variable}
 use Rattle.ec_link.specs.VariableUse.{nothing_seen, seen_more, seen_of, AreSeen}
 use Rattle.ec_link.proofs.Basics.{or_false}

@@ -2,7 +2,7 @@
 use Rattle.std.specs.Prelude.{ℕ, ◌+◌, ◌≡◌, ◌<◌, ◌≤◌, ◌^◌, Bool, false, List, length, get_or, All, Option, Some, None, Result, Ok, Err}
 use Rattle.ec_table.specs.declared.rows.VariableRow.{VariableRow}
 use Rattle.ec_table.specs.Contents.{Contents}
-use Rattle.ec_link.specs.declared.entries.EntryRun.{EntryRun}
+use Rattle.ec_link.specs.declared.objects.EntryRun.{EntryRun}
 use Rattle.ec_link.specs.declared.sizes.SlaveSize.{SlaveSize}
 use Rattle.ec_link.specs.declared.layout.Part.{Part}
 use Rattle.ec_link.specs.declared.layout.Seat.{Seat}

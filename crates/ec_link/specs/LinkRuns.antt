@@ -8,7 +8,7 @@ use Rattle.ec_table.specs.declared.rows.VariableRow.{VariableRow}
 use Rattle.ec_table.specs.declared.rows.LinkRow.{LinkRow}
 use Rattle.ec_table.specs.Contents.{Contents}
 use Rattle.ec_table.specs.Objects.{entries_of, object_bits}
-use Rattle.ec_link.specs.declared.entries.EntryRun.{EntryRun}
+use Rattle.ec_link.specs.declared.objects.EntryRun.{EntryRun}
 use Rattle.ec_link.specs.declared.link_runs.LinkRun.{LinkRun}
 use Rattle.ec_link.specs.Entries.{entry_run}
 

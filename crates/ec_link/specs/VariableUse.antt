@@ -2,7 +2,7 @@
 use Rattle.std.specs.Prelude.{ℕ, ◌≡◌, ◌<◌, ◌==◌, ◌||◌, not, false, List, [], ◌∷◌, length, get_or, Option, Some, None}
 use Rattle.ec_table.specs.declared.rows.LinkRow.{LinkRow}
 use Rattle.ec_table.specs.Contents.{Contents}
-use Rattle.ec_link.specs.declared.split.VariableUse.{VariableUse}
+use Rattle.ec_link.specs.declared.faults.VariableUse.{VariableUse}
 use Rattle.ec_link.specs.Faults.{differ, units_of_variable}
 
 abbrev pub nothing_seen : VariableUse

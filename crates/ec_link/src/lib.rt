@@ -2,10 +2,8 @@
 #![tactic(auto)]
 
 mod compiling;
-mod entries;
 mod fault;
 mod faults;
-mod few;
 mod image;
 pub mod laws;
 mod layout;
@@ -17,7 +15,6 @@ mod plan;
 mod settings;
 mod sizes;
 mod spans;
-mod split;
 
 pub use crate::compiling::compile;
 pub use crate::fault::{LinkError, LinkFault};

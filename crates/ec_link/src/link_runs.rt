@@ -2,11 +2,10 @@
 ghost use Rattle.std.specs.Prelude.{◌≡◌, ◌≤◌, IfOk, IfSome, All, map};
 ghost use Rattle.ec_table.specs.Sound.{IsLink};
 ghost use Rattle.ec_link.specs.Objects.{AreObjects};
-ghost use Rattle.ec_link.specs.LinkRuns.{is_out, other, direction_of, variable_bits, run_toward, run_of, link_run_of, table_link_runs, run_from, run_bits};
+ghost use Rattle.ec_link.specs.LinkRuns.{is_out, direction_of, run_toward, run_of, link_run_of, table_link_runs, run_from};
 ghost use Rattle.ec_link.specs.Limits.{IsShort, IsShortRun, HasVariable, HaveVariables};
 
-use crate::entries::EntryRun;
-use crate::objects::Objects;
+use crate::objects::{EntryRun, Objects};
 use ec_listed::Listed;
 use ec_table::{Direction, LinkRow, Table};
 use std::alloc::{AllocError, Global};
@@ -31,15 +30,6 @@ pub fn is_out(direction: Direction) -> bool
     }
 }
 
-pub fn other(direction: Direction) -> Direction
-    ensures { result ≡ other direction }
-{
-    match direction {
-        Direction::Out => Direction::In,
-        Direction::In => Direction::Out,
-    }
-}
-
 /// The direction of a link's variable.
 #[tactic(auto, using(crate::proofs::Links::variable_is))]
 pub fn direction_of(table: &Table, link: &LinkRow) -> Direction
@@ -47,15 +37,6 @@ pub fn direction_of(table: &Table, link: &LinkRow) -> Direction
     ensures { result ≡ direction_of table.now link.now }
 {
     table.variables()[link.variable].direction
-}
-
-#[tactic(auto, using(crate::proofs::Links::variable_is))]
-pub fn variable_bits(table: &Table, link: &LinkRow) -> usize
-    requires { IsLink table.now.slaves table.now.variables link.now }
-    ensures value { result ≡ variable_bits table.now link.now }
-    ensures few { result ≤ 255 }
-{
-    usize::from(table.variables()[link.variable].bits)
 }
 
 /// The bits of a link's entry among a direction's object bits.
@@ -74,15 +55,6 @@ pub fn run_toward(
     objects[link.slave]
         .toward(direction)
         .run(link.index, link.subindex)
-}
-
-pub fn run_bits(run: Option<EntryRun>) -> usize
-    ensures { result ≡ run_bits run }
-{
-    match run {
-        None => 0,
-        Some(run) => run.bits,
-    }
 }
 
 /// The links of a table: the bits of each one's entry, if there is one, and its link run.

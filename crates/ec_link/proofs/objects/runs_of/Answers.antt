@@ -6,12 +6,12 @@ use Rattle.std.proofs.lemmas.List.{take_more}
 use Rattle.std.proofs.lemmas.List.Sums.{sum_by_more}
 use Rattle.ec_device.specs.declared.slave_type.Entry.{Entry}
 use Rattle.ec_device.specs.Objects.{bits_of}
-use Rattle.ec_link.specs.declared.entries.EntryRun.{EntryRun}
+use Rattle.ec_link.specs.declared.objects.EntryRun.{EntryRun}
 use Rattle.ec_link.specs.Entries.{names_twice}
 use Rattle.ec_link.specs.Objects.{HasRuns, entry_key}
 use Rattle.ec_link.proofs.EntryLists.{runs_kept, runs_grow, twice_known, twice_new}
-use Rattle.ec_link.proofs.entries.runs_of.Goals as goal
-use Rattle.ec_link.proofs.entries.runs_of.Goals.{in-Some+in_ok-insert+then-is_twice, in-Some+in_ok-insert+else-is_twice, in_default}
+use Rattle.ec_link.proofs.objects.runs_of.Goals as goal
+use Rattle.ec_link.proofs.objects.runs_of.Goals.{in-Some+in_ok-insert+then-is_twice, in-Some+in_ok-insert+else-is_twice, in_default}
 
 pub loop-entry-preserved : goal.loop-entry-preserved
 loop-entry-preserved c =

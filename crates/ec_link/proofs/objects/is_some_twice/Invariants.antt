@@ -1,6 +1,6 @@
 use Rattle.std.proofs.Common.{◌≡◌, drop}
 use Rattle.ec_link.specs.Entries.{names_twice}
-use Rattle.ec_link.proofs.few.is_some_twice.Given as goal
+use Rattle.ec_link.proofs.objects.is_some_twice.Given as goal
 
 abbrev pub invariant-loop-place : goal.invariant-loop-place
 invariant-loop-place l = names_twice (drop l.place l.entries) ≡ names_twice l.entries

@@ -3,7 +3,7 @@ use Rattle.std.proofs.lemmas.List.{length-set, get_or_default}
 use Rattle.ec_table.specs.declared.rows.LinkRow.{LinkRow}
 use Rattle.ec_link.specs.VariableUse.{seen_more, nothing_seen}
 use Rattle.ec_link.proofs.SeenLinks.{seen_step}
-use Rattle.ec_link.proofs.split.see_links.Goals as goal
+use Rattle.ec_link.proofs.faults.see_links.Goals as goal
 
 pub loop-link-preserved : goal.loop-link-preserved
 loop-link-preserved c =

@@ -2,7 +2,7 @@ use Rattle.std.proofs.Common.{◌≡◌, ◌*◌, ◌≤◌, take}
 use Rattle.ec_device.specs.Objects.{bits_of}
 use Rattle.ec_link.specs.Entries.{names_twice}
 use Rattle.ec_link.specs.Objects.{HasRuns}
-use Rattle.ec_link.proofs.entries.runs_of.Given as goal
+use Rattle.ec_link.proofs.objects.runs_of.Given as goal
 
 abbrev pub invariant-loop-entry : goal.invariant-loop-entry
 invariant-loop-entry l = record {

@@ -1,5 +1,5 @@
 use Rattle.ec_link.proofs.Fews.{LooksOn}
-use Rattle.ec_link.proofs.few.few_run.Given as goal
+use Rattle.ec_link.proofs.objects.few_run.Given as goal
 
 abbrev pub invariant-loop-entry : goal.invariant-loop-entry
 invariant-loop-entry l = LooksOn l.entries l.index l.subindex l.from l.entry-index
