@@ -5,6 +5,8 @@ use Rattle.std.specs.Borrow.{Bor}
 use Rattle.toml.specs.Data.{Data, Members, no_members, member, get_member}
 use Rattle.toml.specs.declared.value.Value.{Value}
 use Rattle.ec_table.specs.Fields.{seen}
+use Rattle.ec_table.specs.declared.pdos.PdoValues.{PdoValues}
+use Rattle.ec_table.specs.declared.slaves.SlaveValues.{SlaveValues}
 use Rattle.ec_table.specs.declared.links.LinkValues.{LinkValues}
 use Rattle.ec_table.specs.declared.variables.VariableValues.{VariableValues}
 
@@ -43,3 +45,31 @@ AreVariableValues v ms =
     IsUnder (codes "name") v.name ms
     × IsUnder (codes "dir") v.direction ms
     × IsUnder (codes "bits") v.bits ms
+
+abbrev pub PutsPdoValue : PdoValues → PdoValues → List ℕ → Data → Type 0
+PutsPdoValue v w key d =
+    Puts (codes "index") v.index w.index key d
+    × Puts (codes "entries") v.entries w.entries key d
+
+abbrev pub ArePdoValues : PdoValues → Members → Type 0
+ArePdoValues v ms =
+    IsUnder (codes "index") v.index ms
+    × IsUnder (codes "entries") v.entries ms
+
+abbrev pub PutsSlaveValue : SlaveValues → SlaveValues → List ℕ → Data → Type 0
+PutsSlaveValue v w key d =
+    Puts (codes "name") v.name w.name key d
+    × Puts (codes "type") v.type_name w.type_name key d
+    × Puts (codes "out") v.outputs w.outputs key d
+    × Puts (codes "in") v.inputs w.inputs key d
+    × Puts (codes "serial") v.serial w.serial key d
+    × Puts (codes "unit") v.unit w.unit key d
+
+abbrev pub AreSlaveValues : SlaveValues → Members → Type 0
+AreSlaveValues v ms =
+    IsUnder (codes "name") v.name ms
+    × IsUnder (codes "type") v.type_name ms
+    × IsUnder (codes "out") v.outputs ms
+    × IsUnder (codes "in") v.inputs ms
+    × IsUnder (codes "serial") v.serial ms
+    × IsUnder (codes "unit") v.unit ms
