@@ -62,26 +62,26 @@ no_rows row (item d ds) = record { all = λ xs is none. cc }
 
 -- ---- elements
 
-abbrev NoPdos : Members → ProcessData → Type 0
-NoPdos ms d = (get_member (codes "rxpdo") ms ≡ None → d.outputs ≡ []) × (get_member (codes "txpdo") ms ≡ None → d.inputs ≡ [])
+abbrev NoPdos : Option Data → Option Data → ProcessData → Type 0
+NoPdos rxpdo txpdo d = (rxpdo ≡ None → d.outputs ≡ []) × (txpdo ≡ None → d.inputs ≡ [])
 
-no_process : (p : Place) (ms : Members) → Meets (process_in p ms) (NoPdos ms)
+no_process : (p : Place) (out_start in_start rxpdo txpdo : Option Data) → Meets (process_in p out_start in_start rxpdo txpdo) (NoPdos rxpdo txpdo)
 unfolding process_in
-no_process p ms =
-    meets_then _ (NoPdos ms) _ _ (any_met (number_in p 0 65535 (get_member (codes "out_start") ms))) (λ a _.
-    meets_then _ (NoPdos ms) _ _ (any_met (number_in p 0 65535 (get_member (codes "in_start") ms))) (λ b _.
-    meets_then _ (NoPdos ms) _ _ (no_pdos p 0x1600 0x17FF (get_member (codes "rxpdo") ms)) (λ os hos.
-    meets_then _ (NoPdos ms) _ _ (no_pdos p 0x1A00 0x1BFF (get_member (codes "txpdo") ms)) (λ is his.
-    meets_ok (NoPdos ms) (record { out_start = a; in_start = b; outputs = os; inputs = is }) (hos, his)))))
+no_process p out_start in_start rxpdo txpdo =
+    meets_then _ (NoPdos rxpdo txpdo) _ _ (any_met (number_in p 0 65535 out_start)) (λ a _.
+    meets_then _ (NoPdos rxpdo txpdo) _ _ (any_met (number_in p 0 65535 in_start)) (λ b _.
+    meets_then _ (NoPdos rxpdo txpdo) _ _ (no_pdos p 0x1600 0x17FF rxpdo) (λ os hos.
+    meets_then _ (NoPdos rxpdo txpdo) _ _ (no_pdos p 0x1A00 0x1BFF txpdo) (λ is his.
+    meets_ok (NoPdos rxpdo txpdo) (record { out_start = a; in_start = b; outputs = os; inputs = is }) (hos, his)))))
 
 type_defaults : (v : Version) (p : Place) (ms : Members) (found : List TypeRow) → Meets (type_at v p ms found) (TypeDefaults ms)
 unfolding type_at type_named
 type_defaults v p ms found =
     meets_then _ (TypeDefaults ms) _ _ (any_met (must (keys_are shape.Type v ms) (BadKey p))) (λ u _.
     meets_then _ (TypeDefaults ms) _ _ (any_met (name_in p (get_member (codes "name") ms))) (λ name _.
-    meets_then _ (TypeDefaults ms) _ _ (any_met (device_in p ms)) (λ device _.
+    meets_then _ (TypeDefaults ms) _ _ (any_met (device_in p _ _ _)) (λ device _.
     meets_then _ (TypeDefaults ms) _ _ (no_mailbox p (get_member (codes "mailbox") ms)) (λ mailbox hmailbox.
-    meets_then _ (TypeDefaults ms) _ _ (no_process p ms) (λ process hprocess.
+    meets_then _ (TypeDefaults ms) _ _ (no_process p _ _ _ _) (λ process hprocess.
     meets_then _ (TypeDefaults ms) _ _ (truth p (get_member (codes "lrw") ms)) (λ lrw hlrw.
     meets_then _ (TypeDefaults ms) _ _ (any_met (must (not (is_named (λ (t : TypeRow). t.name) name found || process_twice process)) (TwiceNamed p))) (λ w _.
     meets_ok (TypeDefaults ms) (record { name = name; device = device; mailbox = mailbox; process = process; lrw = lrw })

@@ -108,20 +108,20 @@ fails_pdo p low high ms =
 fails_pdos : (p : Place) (low high : ℕ) (v : Option Data) → FailsAt p (pdos_in p low high v)
 fails_pdos p low high v = fails_array p (pdo_row p low high) 16 (λ n d found. fails_members p d (pdo_of p low high) (fails_pdo p low high)) v
 
-fails_device : (p : Place) (ms : Members) → FailsAt p (device_in p ms)
+fails_device : (p : Place) (vendor product revision : Option Data) → FailsAt p (device_in p vendor product revision)
 unfolding device_in
-fails_device p ms =
-    fails_then p _ _ (fails_number p 0 4294967295 (get_member (codes "vendor") ms)) (λ a.
-    fails_then p _ _ (fails_number p 0 4294967295 (get_member (codes "product") ms)) (λ b.
-    fails_then p _ _ (fails_number p 0 4294967295 (get_member (codes "revision") ms)) (λ e. fails_ok p _)))
+fails_device p vendor product revision =
+    fails_then p _ _ (fails_number p 0 4294967295 vendor) (λ a.
+    fails_then p _ _ (fails_number p 0 4294967295 product) (λ b.
+    fails_then p _ _ (fails_number p 0 4294967295 revision) (λ e. fails_ok p _)))
 
-fails_process : (p : Place) (ms : Members) → FailsAt p (process_in p ms)
+fails_process : (p : Place) (out_start in_start rxpdo txpdo : Option Data) → FailsAt p (process_in p out_start in_start rxpdo txpdo)
 unfolding process_in
-fails_process p ms =
-    fails_then p _ _ (fails_number p 0 65535 (get_member (codes "out_start") ms)) (λ a.
-    fails_then p _ _ (fails_number p 0 65535 (get_member (codes "in_start") ms)) (λ b.
-    fails_then p _ _ (fails_pdos p 0x1600 0x17FF (get_member (codes "rxpdo") ms)) (λ os.
-    fails_then p _ _ (fails_pdos p 0x1A00 0x1BFF (get_member (codes "txpdo") ms)) (λ is. fails_ok p _))))
+fails_process p out_start in_start rxpdo txpdo =
+    fails_then p _ _ (fails_number p 0 65535 out_start) (λ a.
+    fails_then p _ _ (fails_number p 0 65535 in_start) (λ b.
+    fails_then p _ _ (fails_pdos p 0x1600 0x17FF rxpdo) (λ os.
+    fails_then p _ _ (fails_pdos p 0x1A00 0x1BFF txpdo) (λ is. fails_ok p _))))
 
 fails_truth : (p : Place) (v : Option Data) → FailsAt p (truth_in p v)
 fails_truth p None = fails_ok p true
@@ -165,9 +165,9 @@ unfolding type_at type_named
 fails_type v p ms found =
     fails_then p _ _ (fails_must p _ (BadKey p) refl) (λ u.
     fails_then p _ _ (fails_name p (get_member (codes "name") ms)) (λ name.
-    fails_then p _ _ (fails_device p ms) (λ device.
+    fails_then p _ _ (fails_device p _ _ _) (λ device.
     fails_then p _ _ (fails_mailbox p (get_member (codes "mailbox") ms)) (λ mailbox.
-    fails_then p _ _ (fails_process p ms) (λ process.
+    fails_then p _ _ (fails_process p _ _ _ _) (λ process.
     fails_then p _ _ (fails_truth p (get_member (codes "lrw") ms)) (λ lrw.
     fails_then p _ _ (fails_must p _ (TwiceNamed p) refl) (λ w. fails_ok p _)))))))
 

@@ -106,12 +106,12 @@ not_true false h = refl
 
 -- ---- types
 
-pub device_met : (p : Place) (ms : Members) → Meets (device_in p ms) IsDevice
+pub device_met : (p : Place) (vendor product revision : Option Data) → Meets (device_in p vendor product revision) IsDevice
 unfolding device_in
-device_met p ms =
-    meets_then _ IsDevice _ _ (number_met p 0 4294967295 (get_member (codes "vendor") ms)) (λ a ha.
-    meets_then _ IsDevice _ _ (number_met p 0 4294967295 (get_member (codes "product") ms)) (λ b hb.
-    meets_then _ IsDevice _ _ (number_met p 0 4294967295 (get_member (codes "revision") ms)) (λ e he.
+device_met p vendor product revision =
+    meets_then _ IsDevice _ _ (number_met p 0 4294967295 vendor) (λ a ha.
+    meets_then _ IsDevice _ _ (number_met p 0 4294967295 product) (λ b hb.
+    meets_then _ IsDevice _ _ (number_met p 0 4294967295 revision) (λ e he.
     meets_ok IsDevice _ (record { vendor = ha.1; product = hb.1; revision = he.1 }))))
 
 -- the process data before the test on doubles
@@ -123,13 +123,13 @@ pub record IsProcess (d : ProcessData) : Type 0 where
   pub inputs : All (ReadPdo In) d.inputs
   pub input_count : length d.inputs ≤ 16
 
-pub process_met : (p : Place) (ms : Members) → Meets (process_in p ms) IsProcess
+pub process_met : (p : Place) (out_start in_start rxpdo txpdo : Option Data) → Meets (process_in p out_start in_start rxpdo txpdo) IsProcess
 unfolding process_in
-process_met p ms =
-    meets_then _ IsProcess _ _ (number_met p 0 65535 (get_member (codes "out_start") ms)) (λ a ha.
-    meets_then _ IsProcess _ _ (number_met p 0 65535 (get_member (codes "in_start") ms)) (λ b hb.
-    meets_then _ IsProcess _ _ (pdos_met Out p (get_member (codes "rxpdo") ms)) (λ os hos.
-    meets_then _ IsProcess _ _ (pdos_met In p (get_member (codes "txpdo") ms)) (λ is his.
+process_met p out_start in_start rxpdo txpdo =
+    meets_then _ IsProcess _ _ (number_met p 0 65535 out_start) (λ a ha.
+    meets_then _ IsProcess _ _ (number_met p 0 65535 in_start) (λ b hb.
+    meets_then _ IsProcess _ _ (pdos_met Out p rxpdo) (λ os hos.
+    meets_then _ IsProcess _ _ (pdos_met In p txpdo) (λ is his.
     meets_ok IsProcess _ (record { out_start = ha.1; in_start = hb.1; outputs = hos.0; output_count = hos.1; inputs = his.0; input_count = his.1 })))))
 
 -- the name is none of those found
@@ -152,9 +152,9 @@ unfolding type_at type_named
 type_met v p ms found =
     meets_then _ (NewType found) _ _ (any_met (must (keys_are shape.Type v ms) (BadKey p))) (λ u _.
     meets_then _ (NewType found) _ _ (name_met p (get_member (codes "name") ms)) (λ name hname.
-    meets_then _ (NewType found) _ _ (device_met p ms) (λ device hdevice.
+    meets_then _ (NewType found) _ _ (device_met p _ _ _) (λ device hdevice.
     meets_then _ (NewType found) _ _ (mailbox_met p (get_member (codes "mailbox") ms)) (λ mailbox hmailbox.
-    meets_then _ (NewType found) _ _ (process_met p ms) (λ process hprocess.
+    meets_then _ (NewType found) _ _ (process_met p _ _ _ _) (λ process hprocess.
     meets_then _ (NewType found) _ _ (any_met (truth_in p (get_member (codes "lrw") ms))) (λ lrw _.
     meets_then _ (NewType found) _ _ (must_met (not (is_named (λ (t : TypeRow). t.name) name found || process_twice process)) (TwiceNamed p)) (λ w hw.
     let parts : (is_named (λ (t : TypeRow). t.name) name found ≡ false) × (process_twice process ≡ false) = or_parts (is_named (λ (t : TypeRow). t.name) name found) (process_twice process) (not_true _ hw) in

@@ -1,10 +1,10 @@
 -- A sound table, written out, is read: types, slaves, links, the document.
-use Rattle.std.proofs.Common.{◌≡◌, ◌≢◌, ℕ, ◌+◌, Bool, false, ◌==◌, List, [], ◌∷◌, get_or, map, Ok, Option, Some, None, All, refl, sym, arith, add-one}
+use Rattle.std.proofs.Common.{◌≡◌, ◌≢◌, ℕ, ◌+◌, Bool, false, ◌==◌, List, [], ◌∷◌, get_or, map, Ok, Option, Some, None, All, refl, sym, codes, arith, add-one}
 use Rattle.std.specs.List.{list_any}
 use Rattle.std.proofs.lemmas.Bool.{or_from}
 use Rattle.std.proofs.lemmas.List.Folds.{list_any_none}
 use Rattle.std.proofs.lemmas.Bool.Decides.{Decides-eqb}
-use Rattle.toml.specs.Data.{table}
+use Rattle.toml.specs.Data.{table, get_member}
 use Rattle.toml.specs.View.{items_of}
 use Rattle.ec_device.specs.declared.slave_type.Mailbox.{Mailbox}
 use Rattle.ec_table.specs.declared.fault.Place.{Place}
@@ -48,12 +48,12 @@ test_from_once (x ∷ xs) h = or_from _ _ (some_later x xs (once_head x xs h)) (
 abbrev row : List ℕ → Device → Option Mailbox → ProcessData → Bool → TypeRow
 row name device mailbox process lrw = record { name = name; device = device; mailbox = mailbox; process = process; lrw = lrw }
 
-device_reads : (p : Place) (name : List ℕ) (device : Device) (o : Option Mailbox) (process : ProcessData) (lrw : Bool) → IsDevice device → device_in p (type_members (row name device o process lrw)) ≡ Ok device
+device_reads : (p : Place) (name : List ℕ) (device : Device) (o : Option Mailbox) (process : ProcessData) (lrw : Bool) → IsDevice device → device_in p (get_member (codes "vendor") (type_members (row name device o process lrw))) (get_member (codes "product") (type_members (row name device o process lrw))) (get_member (codes "revision") (type_members (row name device o process lrw))) ≡ Ok device
 unfolding device_in
 device_reads p name device None process lrw h = rw (number_reads p 0 4294967295 device.vendor (omega arith) h.vendor, number_reads p 0 4294967295 device.product (omega arith) h.product, number_reads p 0 4294967295 device.revision (omega arith) h.revision) refl
 device_reads p name device (Some m) process lrw h = rw (number_reads p 0 4294967295 device.vendor (omega arith) h.vendor, number_reads p 0 4294967295 device.product (omega arith) h.product, number_reads p 0 4294967295 device.revision (omega arith) h.revision) refl
 
-process_reads : (p : Place) (name : List ℕ) (device : Device) (o : Option Mailbox) (process : ProcessData) (lrw : Bool) → IsType (row name device o process lrw) → process_in p (type_members (row name device o process lrw)) ≡ Ok process
+process_reads : (p : Place) (name : List ℕ) (device : Device) (o : Option Mailbox) (process : ProcessData) (lrw : Bool) → IsType (row name device o process lrw) → process_in p (get_member (codes "out_start") (type_members (row name device o process lrw))) (get_member (codes "in_start") (type_members (row name device o process lrw))) (get_member (codes "rxpdo") (type_members (row name device o process lrw))) (get_member (codes "txpdo") (type_members (row name device o process lrw))) ≡ Ok process
 unfolding process_in
 process_reads p name device None process lrw h = rw (number_reads p 0 65535 process.out_start (omega arith) h.out_start, number_reads p 0 65535 process.in_start (omega arith) h.in_start, pdos_read p Out process.outputs (pdos_toward_read (row name device None process lrw) h Out), pdos_read p In process.inputs (pdos_toward_read (row name device None process lrw) h In)) refl
 process_reads p name device (Some m) process lrw h = rw (number_reads p 0 65535 process.out_start (omega arith) h.out_start, number_reads p 0 65535 process.in_start (omega arith) h.in_start, pdos_read p Out process.outputs (pdos_toward_read (row name device (Some m) process lrw) h Out), pdos_read p In process.inputs (pdos_toward_read (row name device (Some m) process lrw) h In)) refl

@@ -28,21 +28,21 @@ use Rattle.ec_table.specs.Fields.{◌>>=◌, must, keys_are, name_in, direction_
 
 -- ---- types
 
--- vendor, product, revision
-unfoldable pub device_in : Place → Members → Result Device Fault
-device_in p ms = do
-  vendor ← number_in p 0 4294967295 (get_member (codes "vendor") ms)
-  product ← number_in p 0 4294967295 (get_member (codes "product") ms)
-  revision ← number_in p 0 4294967295 (get_member (codes "revision") ms)
+-- vendor, product, revision, by what stands under their keys
+unfoldable pub device_in : Place → Option Data → Option Data → Option Data → Result Device Fault
+device_in p vendor_written product_written revision_written = do
+  vendor ← number_in p 0 4294967295 vendor_written
+  product ← number_in p 0 4294967295 product_written
+  revision ← number_in p 0 4294967295 revision_written
   Ok (record { vendor = vendor; product = product; revision = revision })
 
--- where the process data begin, and their objects
-unfoldable pub process_in : Place → Members → Result ProcessData Fault
-process_in p ms = do
-  out_start ← number_in p 0 65535 (get_member (codes "out_start") ms)
-  in_start ← number_in p 0 65535 (get_member (codes "in_start") ms)
-  outputs ← pdos_in p first_output_index last_output_index (get_member (codes "rxpdo") ms)
-  inputs ← pdos_in p first_input_index last_input_index (get_member (codes "txpdo") ms)
+-- where the process data begin, and their objects, by what stands under `out_start`, `in_start`, `rxpdo` and `txpdo`
+unfoldable pub process_in : Place → Option Data → Option Data → Option Data → Option Data → Result ProcessData Fault
+process_in p out_written in_written rxpdo txpdo = do
+  out_start ← number_in p 0 65535 out_written
+  in_start ← number_in p 0 65535 in_written
+  outputs ← pdos_in p first_output_index last_output_index rxpdo
+  inputs ← pdos_in p first_input_index last_input_index txpdo
   Ok (record { out_start = out_start; in_start = in_start; outputs = outputs; inputs = inputs })
 
 -- some object stands twice in a direction
@@ -52,9 +52,9 @@ process_twice d = has_twice (indices_of d.outputs) || has_twice (indices_of d.in
 -- the type of this name that an element states; whether another type has the name
 unfoldable pub type_named : Place → Members → List ℕ → Bool → Result TypeRow Fault
 type_named p ms name is_taken = do
-  device ← device_in p ms
+  device ← device_in p (get_member (codes "vendor") ms) (get_member (codes "product") ms) (get_member (codes "revision") ms)
   mailbox ← mailbox_in p (get_member (codes "mailbox") ms)
-  process ← process_in p ms
+  process ← process_in p (get_member (codes "out_start") ms) (get_member (codes "in_start") ms) (get_member (codes "rxpdo") ms) (get_member (codes "txpdo") ms)
   lrw ← truth_in p (get_member (codes "lrw") ms)
   _ ← must (not (is_taken || process_twice process)) (TwiceNamed p)
   Ok (record { name = name; device = device; mailbox = mailbox; process = process; lrw = lrw })

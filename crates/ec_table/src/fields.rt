@@ -1,5 +1,6 @@
 //! Values of keys, with their ranges.
-ghost use Rattle.std.specs.Prelude.{◌≡◌, ◌≤◌, [], IfOk, is_some, string_bytes, Some};
+ghost use Rattle.std.specs.Prelude.{◌≡◌, ◌≢◌, ◌≤◌, [], IfOk, is_some, string_bytes, Some};
+ghost use Rattle.std.specs.Bool.{MatchBool};
 ghost use Rattle.std.specs.List.{list_all};
 ghost use Rattle.std.specs.Option.{option_or};
 ghost use Rattle.std.specs.Map.{keys_of};
@@ -45,6 +46,23 @@ pub fn member<'a>(members: &'a toml::Table, key: &str) -> Option<&'a Value>
     ensures { seen result ≡ get_member key.now (table_view members.now) }
 {
     members.get(key)
+}
+
+/// Whether a key is this name, whose length the type knows: so each byte is compared with one that is known too.
+#[inline(always)]
+pub fn is<const N: usize>(key: &str, name: &[u8; N]) -> bool
+    ensures { MatchBool result (key.now ≡ name.now) (key.now ≢ name.now) }
+{
+    let bytes = key.as_bytes();
+    if bytes.len() != N {
+        return false;
+    }
+    for i in 0..N {
+        if bytes[i] != name[i] {
+            return false;
+        }
+    }
+    true
 }
 
 /// The first of the values that were met under a key: the one that was found, else this.
@@ -214,19 +232,16 @@ fn has_required(shape: Shape, members: &toml::Table) -> bool
 fn is_type_key(key: &str) -> bool
     ensures { result ≡ is_key shape.Type version.One key.now }
 {
-    matches!(
-        key,
-        "name"
-            | "vendor"
-            | "product"
-            | "revision"
-            | "out_start"
-            | "in_start"
-            | "mailbox"
-            | "rxpdo"
-            | "txpdo"
-            | "lrw"
-    )
+    is(key, b"name")
+        || is(key, b"vendor")
+        || is(key, b"product")
+        || is(key, b"revision")
+        || is(key, b"out_start")
+        || is(key, b"in_start")
+        || is(key, b"mailbox")
+        || is(key, b"rxpdo")
+        || is(key, b"txpdo")
+        || is(key, b"lrw")
 }
 
 /// Whether a table of a shape may have a key, in a version of the format. All keys stand here.

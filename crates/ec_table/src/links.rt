@@ -9,7 +9,7 @@ ghost use Rattle.ec_table.specs.InOrder.{Gives, rows_after};
 ghost use Rattle.ec_table.specs.Reading.{all_bits, link_at, link_element};
 
 use crate::fault::{Fault, Place, Section, TableError};
-use crate::fields::{MAX_U8, MAX_U16, first, name_in, number_in};
+use crate::fields::{MAX_U8, MAX_U16, first, is, name_in, number_in};
 use crate::named::NamedRows;
 use crate::rows::{LinkBits, LinkRow, SlaveRow, VariableRow, Version};
 use ec_listed::Listed;
@@ -137,13 +137,18 @@ fn with_link_value<'a>(
     ensures known { is_some result ≡ is_key shape.Link version.One key.now }
     ensures value { IfSome result (λ v. PutsLinkValue values.entry v key.now (view value.now)) }
 {
-    match key {
-        "var" => values.variable = first(values.variable, value),
-        "slave" => values.slave = first(values.slave, value),
-        "index" => values.index = first(values.index, value),
-        "sub" => values.subindex = first(values.subindex, value),
-        "bits" => values.bits = first(values.bits, value),
-        _ => return None,
+    if is(key, b"var") {
+        values.variable = first(values.variable, value);
+    } else if is(key, b"slave") {
+        values.slave = first(values.slave, value);
+    } else if is(key, b"index") {
+        values.index = first(values.index, value);
+    } else if is(key, b"sub") {
+        values.subindex = first(values.subindex, value);
+    } else if is(key, b"bits") {
+        values.bits = first(values.bits, value);
+    } else {
+        return None;
     }
     Some(values)
 }

@@ -1,12 +1,15 @@
 //! The slaves that elements state.
-ghost use Rattle.std.specs.Prelude.{◌≡◌, ◌||◌, [], IfOk, OnOk, false, unwrap_or};
+ghost use Rattle.std.specs.Prelude.{◌≡◌, ◌||◌, [], IfOk, unwrap_or, is_some, IfSome};
 ghost use Rattle.toml.specs.View.{view, table_view, items_view};
+ghost use Rattle.ec_table.specs.declared.fields.Shape.TheVariants as shape;
+ghost use Rattle.ec_table.specs.Fields.{is_key, keys_are};
+ghost use Rattle.ec_table.specs.Values.{AreSlaveValues, PutsSlaveValue};
 ghost use Rattle.ec_table.specs.Pdos.{has_twice, indices_of};
 ghost use Rattle.ec_table.specs.InOrder.{Gives, one_more, rows_after};
-ghost use Rattle.ec_table.specs.Reading.{all_in, assigned_in, slave_at, slave_element, slave_named, slave_of_type};
+ghost use Rattle.ec_table.specs.Reading.{all_in, assigned_in, slave_at, slave_element, slave_of_type};
 
 use crate::fault::{Fault, Place, Section, TableError};
-use crate::fields::{Shape, keys_are, member, name_in, number_or_0, numbers_in};
+use crate::fields::{first, is, name_in, number_or_0, numbers_in};
 use crate::named::{Named, NamedRows};
 use crate::pdos::{LAST_INPUT_INDEX, LAST_OUTPUT_INDEX, has_twice, indices_of, is_in};
 use crate::rows::{Name, SlaveRow, TypeRow, Version};
@@ -17,6 +20,17 @@ use toml::Value;
 
 impl Named for SlaveRow {
     ghost name = { λ s. s.name };
+}
+
+/// What stands under the keys of a slave's element.
+#[derive(Clone, Copy)]
+pub struct SlaveValues<'a> {
+    pub name: Option<&'a Value>,
+    pub type_name: Option<&'a Value>,
+    pub outputs: Option<&'a Value>,
+    pub inputs: Option<&'a Value>,
+    pub serial: Option<&'a Value>,
+    pub unit: Option<&'a Value>,
 }
 
 /// What a slave's element writes beside names.
@@ -67,7 +81,7 @@ fn with_slave_element<'a>(
 }
 
 /// The slaves found, and the one that an element states behind them.
-#[tactic(auto, unfolding(crate::specs::Reading::slave_at))]
+#[tactic(auto, unfolding(crate::specs::Reading::slave_at, crate::specs::Reading::slave_named))]
 fn with_slave<'a>(
     alloc: Global,
     version: Version,
@@ -79,48 +93,18 @@ fn with_slave<'a>(
     ensures { Gives result
         (one_more found.entry (slave_at version types.now place (table_view members.now) found.entry)) }
 {
-    if !keys_are(Shape::Slave, version, members) {
+    let Some(values) = slave_values(version, members) else {
         return Err(TableError::Refused(Fault::BadKey(place)));
-    }
-    let name = name_in(place, member(members, "name"))?;
-    let is_taken = found.has(name);
-    let row = slave_named(alloc, types, place, members, name, is_taken)?;
-    Ok(found.with(name, row)?)
-}
-
-/// The slave of this name that an element states; whether another slave has the name.
-#[tactic(auto, unfolding(crate::specs::Reading::slave_named))]
-fn slave_named(
-    alloc: Global,
-    types: &NamedRows<'_, TypeRow>,
-    place: Place,
-    members: &toml::Table,
-    name: &str,
-    is_taken: bool,
-) -> Result<SlaveRow, TableError>
-    ensures value { Gives result
-        (slave_named types.now place (table_view members.now) name.now is_taken) }
-    ensures name { IfOk result (λ s. s.name ≡ name.now) }
-    ensures fresh { OnOk result (is_taken ≡ false) }
-{
-    let type_name = name_in(place, member(members, "type"))?;
-    let outputs = numbers_in(
-        alloc,
-        place,
-        member(members, "out"),
-        FIRST_OUTPUT_INDEX,
-        LAST_OUTPUT_INDEX,
-    )?;
-    let inputs = numbers_in(
-        alloc,
-        place,
-        member(members, "in"),
-        FIRST_INPUT_INDEX,
-        LAST_INPUT_INDEX,
-    )?;
-    let serial = number_or_0(place, member(members, "serial"), u32::MAX)?;
-    let unit = number_or_0(place, member(members, "unit"), 63)?;
-    if is_taken || (twice_in(&outputs) || twice_in(&inputs)) {
+    };
+    let name = name_in(place, values.name)?;
+    let type_name = name_in(place, values.type_name)?;
+    let (first, last) = (FIRST_OUTPUT_INDEX, LAST_OUTPUT_INDEX);
+    let outputs = numbers_in(alloc, place, values.outputs, first, last)?;
+    let (first, last) = (FIRST_INPUT_INDEX, LAST_INPUT_INDEX);
+    let inputs = numbers_in(alloc, place, values.inputs, first, last)?;
+    let serial = number_or_0(place, values.serial, u32::MAX)?;
+    let unit = number_or_0(place, values.unit, 63)?;
+    if found.has(name) || (twice_in(&outputs) || twice_in(&inputs)) {
         return Err(TableError::Refused(Fault::TwiceNamed(place)));
     }
     let written = Written {
@@ -129,7 +113,59 @@ fn slave_named(
         serial,
         unit: unit as u8,
     };
-    slave_of_type(alloc, types, place, name, type_name, written)
+    let row = slave_of_type(alloc, types, place, name, type_name, written)?;
+    Ok(found.with(name, row)?)
+}
+
+/// What stands under the keys of a slave's element, if it has no unknown key and none is missing.
+fn slave_values<'a>(version: Version, members: &'a toml::Table) -> Option<SlaveValues<'a>>
+    ensures keys { is_some result ≡ keys_are shape.Slave version (table_view members.now) }
+    ensures values { IfSome result (λ v. AreSlaveValues v (table_view members.now)) }
+{
+    let mut values = SlaveValues {
+        name: None,
+        type_name: None,
+        outputs: None,
+        inputs: None,
+        serial: None,
+        unit: None,
+    };
+    for (key, value) in members.iter() {
+        values = with_slave_value(values, version, key.as_str(), value)?;
+    }
+    if values.name.is_some() && values.type_name.is_some() {
+        Some(values)
+    } else {
+        None
+    }
+}
+
+/// The values found, and one more under its key, if a slave may have that.
+fn with_slave_value<'a>(
+    mut values: SlaveValues<'a>,
+    version: Version,
+    key: &str,
+    value: &'a Value,
+) -> Option<SlaveValues<'a>>
+    ensures known { is_some result ≡ is_key shape.Slave version key.now }
+    ensures value { IfSome result (λ v. PutsSlaveValue values.entry v key.now (view value.now)) }
+{
+    if is(key, b"name") {
+        values.name = first(values.name, value);
+    } else if is(key, b"type") {
+        values.type_name = first(values.type_name, value);
+    } else if is(key, b"out") {
+        values.outputs = first(values.outputs, value);
+    } else if is(key, b"in") {
+        values.inputs = first(values.inputs, value);
+    } else if is(key, b"serial") {
+        values.serial = first(values.serial, value);
+    } else if version == Version::Two && is(key, b"unit") {
+        values.unit = first(values.unit, value);
+    } else {
+        return None;
+    }
+    Some(values)
 }
 
 /// The slave of this name and type, with what its element writes.

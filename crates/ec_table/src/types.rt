@@ -1,13 +1,16 @@
 //! The types of slaves that elements state.
-ghost use Rattle.std.specs.Prelude.{◌≡◌, ◌||◌, [], IfOk, OnOk, false};
+ghost use Rattle.std.specs.Prelude.{◌≡◌, ◌||◌, [], IfOk, is_some, IfSome};
 ghost use Rattle.toml.specs.View.{view, table_view, items_view};
-ghost use Rattle.ec_table.specs.Fields.{mailbox_of, mailbox_in, seen, truth_in};
+ghost use Rattle.ec_table.specs.declared.rows.Version.TheVariants as version;
+ghost use Rattle.ec_table.specs.declared.fields.Shape.TheVariants as shape;
+ghost use Rattle.ec_table.specs.Fields.{is_key, keys_are, mailbox_of, mailbox_in, seen, truth_in};
+ghost use Rattle.ec_table.specs.Values.{AreTypeValues, PutsTypeValue, is_process_key};
 ghost use Rattle.ec_table.specs.InOrder.{Gives, one_more, rows_after};
 ghost use Rattle.ec_table.specs.Pdos.{has_twice, indices_of};
-ghost use Rattle.ec_table.specs.Reading.{device_in, process_in, process_twice, type_at, type_element, type_named};
+ghost use Rattle.ec_table.specs.Reading.{device_in, process_in, process_twice, type_at, type_element};
 
 use crate::fault::{Fault, Place, Section, TableError};
-use crate::fields::{MAX_U16, Shape, keys_are, member, name_in, number_in};
+use crate::fields::{MAX_U16, first, is, name_in, number_in};
 use crate::named::{Named, NamedRows};
 use crate::pdos::{LAST_INPUT_INDEX, LAST_OUTPUT_INDEX, has_twice, indices_of, pdos_in};
 use crate::rows::{Name, ProcessData, TypeRow, Version};
@@ -19,6 +22,21 @@ use toml::Value;
 
 impl Named for TypeRow {
     ghost name = { λ t. t.name };
+}
+
+/// What stands under the keys of a type's element.
+#[derive(Clone, Copy)]
+pub struct TypeValues<'a> {
+    pub name: Option<&'a Value>,
+    pub vendor: Option<&'a Value>,
+    pub product: Option<&'a Value>,
+    pub revision: Option<&'a Value>,
+    pub out_start: Option<&'a Value>,
+    pub in_start: Option<&'a Value>,
+    pub mailbox: Option<&'a Value>,
+    pub outputs: Option<&'a Value>,
+    pub inputs: Option<&'a Value>,
+    pub lrw: Option<&'a Value>,
 }
 
 /// The types of the section, in order.
@@ -57,7 +75,7 @@ fn with_type_element<'a>(
 }
 
 /// The types found, and the one that an element states behind them.
-#[tactic(auto, unfolding(crate::specs::Reading::type_at))]
+#[tactic(auto, unfolding(crate::specs::Reading::type_at, crate::specs::Reading::type_named))]
 fn with_type<'a>(
     alloc: Global,
     version: Version,
@@ -67,42 +85,129 @@ fn with_type<'a>(
 ) -> Result<NamedRows<'a, TypeRow>, TableError>
     ensures { Gives result (one_more found.entry (type_at version place (table_view members.now) found.entry)) }
 {
-    if !keys_are(Shape::Type, version, members) {
+    let Some(values) = type_values(members) else {
         return Err(TableError::Refused(Fault::BadKey(place)));
-    }
-    let name = name_in(place, member(members, "name"))?;
-    let is_taken = found.has(name);
-    let row = type_named(alloc, place, members, name, is_taken)?;
-    Ok(found.with(name, row)?)
-}
-
-/// The type of this name that an element states; whether another type has the name.
-#[tactic(auto, unfolding(crate::specs::Reading::type_named))]
-fn type_named(
-    alloc: Global,
-    place: Place,
-    members: &toml::Table,
-    name: &str,
-    is_taken: bool,
-) -> Result<TypeRow, TableError>
-    ensures value { Gives result (type_named place (table_view members.now) name.now is_taken) }
-    ensures name { IfOk result (λ t. t.name ≡ name.now) }
-    ensures fresh { OnOk result (is_taken ≡ false) }
-{
-    let device = device_in(place, members)?;
-    let mailbox = mailbox_in(place, member(members, "mailbox"))?;
-    let process = process_in(alloc, place, members)?;
-    let lrw = truth_in(place, member(members, "lrw"))?;
-    if is_taken || process_twice(alloc, &process)? {
+    };
+    let name = name_in(place, values.name)?;
+    let device = device_in(place, values.vendor, values.product, values.revision)?;
+    let mailbox = mailbox_in(place, values.mailbox)?;
+    let process = process_in(
+        alloc,
+        place,
+        values.out_start,
+        values.in_start,
+        values.outputs,
+        values.inputs,
+    )?;
+    let lrw = truth_in(place, values.lrw)?;
+    if found.has(name) || process_twice(alloc, &process)? {
         return Err(TableError::Refused(Fault::TwiceNamed(place)));
     }
-    Ok(TypeRow {
+    let row = TypeRow {
         name: Name::new(alloc, name)?,
         device,
         mailbox,
         process,
         lrw,
-    })
+    };
+    Ok(found.with(name, row)?)
+}
+
+/// What stands under the keys of a type's element, if it has no unknown key and none is missing.
+fn type_values<'a>(members: &'a toml::Table) -> Option<TypeValues<'a>>
+    ensures keys { is_some result ≡ keys_are shape.Type version.One (table_view members.now) }
+    ensures values { IfSome result (λ v. AreTypeValues v (table_view members.now)) }
+{
+    let mut values = TypeValues {
+        name: None,
+        vendor: None,
+        product: None,
+        revision: None,
+        out_start: None,
+        in_start: None,
+        mailbox: None,
+        outputs: None,
+        inputs: None,
+        lrw: None,
+    };
+    for (key, value) in members.iter() {
+        values = with_type_value(values, key.as_str(), value)?;
+    }
+    if values.name.is_some()
+        && values.vendor.is_some()
+        && values.product.is_some()
+        && values.revision.is_some()
+        && values.out_start.is_some()
+        && values.in_start.is_some()
+    {
+        Some(values)
+    } else {
+        None
+    }
+}
+
+/// The values found, and one more under its key, if a type may have that.
+fn with_type_value<'a>(
+    mut values: TypeValues<'a>,
+    key: &str,
+    value: &'a Value,
+) -> Option<TypeValues<'a>>
+    ensures known { is_some result ≡ is_key shape.Type version.One key.now }
+    ensures value { IfSome result (λ v. PutsTypeValue values.entry v key.now (view value.now)) }
+{
+    if is(key, b"name") {
+        values.name = first(values.name, value);
+        return Some(values);
+    }
+    if is(key, b"vendor") {
+        values.vendor = first(values.vendor, value);
+        return Some(values);
+    }
+    if is(key, b"product") {
+        values.product = first(values.product, value);
+        return Some(values);
+    }
+    if is(key, b"revision") {
+        values.revision = first(values.revision, value);
+        return Some(values);
+    }
+    if is(key, b"mailbox") {
+        values.mailbox = first(values.mailbox, value);
+        return Some(values);
+    }
+    if is(key, b"lrw") {
+        values.lrw = first(values.lrw, value);
+        return Some(values);
+    }
+    with_process_value(values, key, value)
+}
+
+/// The same for the keys of the process data.
+fn with_process_value<'a>(
+    mut values: TypeValues<'a>,
+    key: &str,
+    value: &'a Value,
+) -> Option<TypeValues<'a>>
+    ensures known { is_some result ≡ is_process_key key.now }
+    ensures value { IfSome result (λ v. PutsTypeValue values.entry v key.now (view value.now)) }
+{
+    if is(key, b"out_start") {
+        values.out_start = first(values.out_start, value);
+        return Some(values);
+    }
+    if is(key, b"in_start") {
+        values.in_start = first(values.in_start, value);
+        return Some(values);
+    }
+    if is(key, b"rxpdo") {
+        values.outputs = first(values.outputs, value);
+        return Some(values);
+    }
+    if is(key, b"txpdo") {
+        values.inputs = first(values.inputs, value);
+        return Some(values);
+    }
+    None
 }
 
 /// Whether some object stands twice in its direction.
@@ -124,25 +229,20 @@ fn twice_among(alloc: Global, pdos: &[Pdo]) -> Result<bool, AllocError>
 
 /// Where the process data begin, and their objects.
 #[tactic(auto, unfolding(crate::specs::Reading::process_in))]
-fn process_in(alloc: Global, place: Place, members: &toml::Table) -> Result<ProcessData, TableError>
-    ensures { Gives result (process_in place (table_view members.now)) }
+fn process_in(
+    alloc: Global,
+    place: Place,
+    out_start: Option<&Value>,
+    in_start: Option<&Value>,
+    outputs: Option<&Value>,
+    inputs: Option<&Value>,
+) -> Result<ProcessData, TableError>
+    ensures { Gives result (process_in place (seen out_start.entry) (seen in_start.entry) (seen outputs.entry) (seen inputs.entry)) }
 {
-    let out_start = number_in(place, member(members, "out_start"), 0, MAX_U16)?;
-    let in_start = number_in(place, member(members, "in_start"), 0, MAX_U16)?;
-    let outputs = pdos_in(
-        alloc,
-        place,
-        member(members, "rxpdo"),
-        FIRST_OUTPUT_INDEX,
-        LAST_OUTPUT_INDEX,
-    )?;
-    let inputs = pdos_in(
-        alloc,
-        place,
-        member(members, "txpdo"),
-        FIRST_INPUT_INDEX,
-        LAST_INPUT_INDEX,
-    )?;
+    let out_start = number_in(place, out_start, 0, MAX_U16)?;
+    let in_start = number_in(place, in_start, 0, MAX_U16)?;
+    let outputs = pdos_in(alloc, place, outputs, FIRST_OUTPUT_INDEX, LAST_OUTPUT_INDEX)?;
+    let inputs = pdos_in(alloc, place, inputs, FIRST_INPUT_INDEX, LAST_INPUT_INDEX)?;
     Ok(ProcessData {
         out_start: out_start as u16,
         in_start: in_start as u16,
@@ -153,12 +253,17 @@ fn process_in(alloc: Global, place: Place, members: &toml::Table) -> Result<Proc
 
 /// Vendor, product and revision.
 #[tactic(auto, unfolding(crate::specs::Reading::device_in))]
-fn device_in(place: Place, members: &toml::Table) -> Result<Device, Fault>
-    ensures { result ≡ device_in place (table_view members.now) }
+fn device_in(
+    place: Place,
+    vendor: Option<&Value>,
+    product: Option<&Value>,
+    revision: Option<&Value>,
+) -> Result<Device, Fault>
+    ensures { result ≡ device_in place (seen vendor.entry) (seen product.entry) (seen revision.entry) }
 {
-    let vendor = number_in(place, member(members, "vendor"), 0, u32::MAX)?;
-    let product = number_in(place, member(members, "product"), 0, u32::MAX)?;
-    let revision = number_in(place, member(members, "revision"), 0, u32::MAX)?;
+    let vendor = number_in(place, vendor, 0, u32::MAX)?;
+    let product = number_in(place, product, 0, u32::MAX)?;
+    let revision = number_in(place, revision, 0, u32::MAX)?;
     Ok(Device {
         vendor,
         product,

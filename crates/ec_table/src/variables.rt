@@ -9,7 +9,7 @@ ghost use Rattle.ec_table.specs.InOrder.{Gives, one_more, rows_after};
 ghost use Rattle.ec_table.specs.Reading.{variable_at, variable_element, variable_named};
 
 use crate::fault::{Fault, Place, Section, TableError};
-use crate::fields::{first, name_in, number_in};
+use crate::fields::{first, is, name_in, number_in};
 use crate::named::{Named, NamedRows};
 use crate::rows::{Direction, Name, VariableRow, Version};
 use std::alloc::Global;
@@ -113,11 +113,14 @@ fn with_variable_value<'a>(
     ensures known { is_some result ≡ is_key shape.Variable version.One key.now }
     ensures value { IfSome result (λ v. PutsVariableValue values.entry v key.now (view value.now)) }
 {
-    match key {
-        "name" => values.name = first(values.name, value),
-        "dir" => values.direction = first(values.direction, value),
-        "bits" => values.bits = first(values.bits, value),
-        _ => return None,
+    if is(key, b"name") {
+        values.name = first(values.name, value);
+    } else if is(key, b"dir") {
+        values.direction = first(values.direction, value);
+    } else if is(key, b"bits") {
+        values.bits = first(values.bits, value);
+    } else {
+        return None;
     }
     Some(values)
 }
