@@ -1,5 +1,5 @@
 //! Values of keys, with their ranges.
-ghost use Rattle.std.specs.Prelude.{◌≡◌, ◌≢◌, ◌≤◌, [], IfOk, is_some, string_bytes, Some};
+ghost use Rattle.std.specs.Prelude.{◌≡◌, ◌≢◌, ◌≤◌, [], IfOk, string_bytes, Some};
 ghost use Rattle.std.specs.Bool.{MatchBool};
 ghost use Rattle.std.specs.List.{list_all};
 ghost use Rattle.std.specs.Option.{option_or};
@@ -8,7 +8,7 @@ ghost use Rattle.toml.specs.Data.{get_member};
 ghost use Rattle.toml.specs.View.{view, table_view, items_view};
 ghost use Rattle.ec_table.specs.declared.rows.Version.TheVariants as version;
 ghost use Rattle.ec_table.specs.declared.fields.Shape.TheVariants as shape;
-ghost use Rattle.ec_table.specs.Fields.{number_or_0, version_in, is_name_byte, is_name, is_key, each_key, has_required, keys_are, number_in, name_in, is_table, are_tables, section_in, seen, result_seen, result_items};
+ghost use Rattle.ec_table.specs.Fields.{number_or_0, version_in, is_name_byte, is_name, is_key, each_key, keys_are, number_in, name_in, is_table, are_tables, section_in, seen, result_seen, result_items};
 ghost use Rattle.ec_table.specs.InOrder.{Gives, rows_after};
 ghost use Rattle.ec_table.specs.Pdos.{number_row, number_list, numbers_in};
 
@@ -75,11 +75,11 @@ pub fn first<'a>(found: Option<&'a Value>, value: &'a Value) -> Option<&'a Value
     }
 }
 
-/// Whether a table has no unknown key of its shape, and none missing.
-pub fn keys_are(shape: Shape, version: Version, members: &toml::Table) -> bool
-    ensures { result ≡ keys_are shape version (table_view members.now) }
+/// Whether a document has no unknown key; there is none that it must have.
+pub fn are_document_keys(document: &toml::Table) -> bool
+    ensures { result ≡ keys_are shape.Document version.One (table_view document.now) }
 {
-    each_key(shape, version, members) && has_required(shape, members)
+    each_key(document)
 }
 
 /// A number from `low` to `high`.
@@ -192,90 +192,25 @@ fn are_name_bytes(bytes: &[u8]) -> bool
     bytes.iter().all(|byte| is_name_byte(*byte))
 }
 
-/// Whether a table has a key.
-fn has(members: &toml::Table, key: &str) -> bool
-    ensures { result ≡ is_some (get_member key.now (table_view members.now)) }
+fn is_document_key(key: &str) -> bool
+    ensures { result ≡ is_key shape.Document version.One key.now }
 {
-    member(members, key).is_some()
-}
-
-fn has_type_keys(members: &toml::Table) -> bool
-    ensures { result ≡ has_required shape.Type (table_view members.now) }
-{
-    has(members, "name")
-        && has(members, "vendor")
-        && has(members, "product")
-        && has(members, "revision")
-        && has(members, "out_start")
-        && has(members, "in_start")
-}
-
-/// Whether a table has each key that its shape must have.
-fn has_required(shape: Shape, members: &toml::Table) -> bool
-    ensures { result ≡ has_required shape (table_view members.now) }
-{
-    match shape {
-        Shape::Document => true,
-        Shape::Type => has_type_keys(members),
-        Shape::Pdo => has(members, "index") && has(members, "entries"),
-        Shape::Slave => has(members, "name") && has(members, "type"),
-        Shape::Variable => has(members, "name") && has(members, "dir") && has(members, "bits"),
-        Shape::Link => {
-            has(members, "var")
-                && has(members, "slave")
-                && has(members, "index")
-                && has(members, "sub")
-        }
-    }
-}
-
-fn is_type_key(key: &str) -> bool
-    ensures { result ≡ is_key shape.Type version.One key.now }
-{
-    is(key, b"name")
-        || is(key, b"vendor")
-        || is(key, b"product")
-        || is(key, b"revision")
-        || is(key, b"out_start")
-        || is(key, b"in_start")
-        || is(key, b"mailbox")
-        || is(key, b"rxpdo")
-        || is(key, b"txpdo")
-        || is(key, b"lrw")
-}
-
-/// Whether a table of a shape may have a key, in a version of the format. All keys stand here.
-fn is_key(shape: Shape, version: Version, key: &str) -> bool
-    ensures { result ≡ is_key shape version key.now }
-{
-    match shape {
-        Shape::Document => matches!(key, "version" | "type" | "slave" | "variable" | "link"),
-        Shape::Type => is_type_key(key),
-        Shape::Pdo => matches!(key, "index" | "entries"),
-        Shape::Slave => {
-            matches!(key, "name" | "type" | "out" | "in" | "serial")
-                || (version == Version::Two && key == "unit")
-        }
-        Shape::Variable => matches!(key, "name" | "dir" | "bits"),
-        Shape::Link => matches!(key, "var" | "slave" | "index" | "sub" | "bits"),
-    }
+    matches!(key, "version" | "type" | "slave" | "variable" | "link")
 }
 
 /// The same, said of the keys of the map that a table is.
-fn each_map_key(shape: Shape, version: Version, members: &toml::Table) -> bool
+fn each_map_key(document: &toml::Table) -> bool
     ensures { result
-        ≡ list_all (λ k. is_key shape version (string_bytes k)) (keys_of members.now.entries) }
+        ≡ list_all (λ k. is_key shape.Document version.One (string_bytes k)) (keys_of document.now.entries) }
 {
-    members
-        .keys()
-        .all(|key| is_key(shape, version, key.as_str()))
+    document.keys().all(|key| is_document_key(key.as_str()))
 }
 
 #[tactic(auto, using(crate::proofs::Lookups::each_key_of))]
-fn each_key(shape: Shape, version: Version, members: &toml::Table) -> bool
-    ensures { result ≡ each_key (is_key shape version) (table_view members.now) }
+fn each_key(document: &toml::Table) -> bool
+    ensures { result ≡ each_key (is_key shape.Document version.One) (table_view document.now) }
 {
-    each_map_key(shape, version, members)
+    each_map_key(document)
 }
 
 #[tactic(auto, unfolding(crate::specs::Pdos::number_list))]

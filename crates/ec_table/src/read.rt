@@ -4,7 +4,7 @@ ghost use Rattle.ec_table.specs.InOrder.{Gives};
 ghost use Rattle.ec_table.specs.Reading.{table_of_document, table_of_sections, table_of};
 
 use crate::fault::{Fault, Place, Section, TableError};
-use crate::fields::{Shape, keys_are, member, section_in, version_in};
+use crate::fields::{are_document_keys, member, section_in, version_in};
 use crate::links::links_of;
 use crate::rows::Version;
 use crate::slaves::slaves_of;
@@ -36,7 +36,7 @@ fn table_of_document(alloc: Global, document: &toml::Table) -> Result<Table, Tab
         element: 0,
     };
     let version = version_in(top, member(document, "version"))?;
-    if !keys_are(Shape::Document, version, document) {
+    if !are_document_keys(document) {
         return Err(TableError::Refused(Fault::BadKey(top)));
     }
     let types = section_in(top, member(document, "type"))?;
