@@ -1,33 +1,7 @@
 -- The broadcasts of a start-up at any slave.
-use Rattle.std.proofs.Common.{ℕ, zero, suc, ◌+◌, ◌-◌, ◌*◌, ◌/◌, ◌%◌, ◌<◌, ◌≡◌, Bool, true, false, refl, sym, ◌∙◌, ap, subst, inl, inr, arith, List, [], ◌∷◌, length, slice_index}
-use Rattle.std.proofs.lemmas.Bool.{or_left, or_right}
-use Rattle.ec_bits.specs.Bits.{zeros, any_below}
-use Rattle.ec_bits.proofs.AnyLaws.{if_true, if_false, within_true, within_below, within_above}
-use Rattle.ec_device.specs.Types.{SlaveKind}
-use Rattle.ec_regs.specs.Memory.{is_stored}
-use Rattle.ec_regs.specs.Managers.{no_settings}
-use Rattle.ec_sync.specs.SyncManager.{SyncManager, empty_manager}
-use Rattle.ec_frame.specs.declared.command.Command.{Command}
-use Rattle.ec_frame.specs.declared.command.Command.TheVariants.{Bwr}
-use Rattle.ec_frame.specs.Datagram.{Datagram, adp_of, ado_of}
-use Rattle.ec_al.specs.Al.{Al, requesting}
-use Rattle.ec_slave.specs.Roles.{role_of, adp_after, is_reading, is_writing}
-use Rattle.ec_slave.specs.State.{SlaveState, manager_at, station_of}
-use Rattle.ec_slave.specs.Physical.{Window, touches, physical_after, is_configured}
-use Rattle.ec_slave.specs.Meeting.{window_of, slave_met, datagram_met}
-use Rattle.ec_slave.specs.Checking.{control_word}
-use Rattle.ec_start.specs.declared.action.Action.{Action}
-use Rattle.ec_start.specs.declared.action.Action.TheVariants.{AskInit, ClearFmmus, ClearManagers, ClearStations}
-use Rattle.ec_start.specs.Actions.{datagram_of}
-use Rattle.ec_bringup.specs.Stages.{Stage, Called, Down, after}
-use Rattle.ec_bringup.specs.Standing.{HoldsZeros, IsInInit, AreClear, IsDownAt, Stands}
-use Rattle.ec_bringup.specs.Frames.{IsWriting, Arrives, IsOther, MayRepeat, Met}
+use Rattle.ec_bringup.proofs.Words.{ℕ, suc, ◌+◌, ◌-◌, ◌*◌, ◌/◌, ◌%◌, ◌<◌, ◌≡◌, Bool, true, false, refl, sym, ◌∙◌, ap, subst, inl, inr, arith, List, [], ◌∷◌, length, slice_index, or_left, or_right, zeros, any_below, if_true, if_false, within_true, within_below, within_above, SlaveKind, is_stored, no_settings, SyncManager, empty_manager, Command, Bwr, Datagram, adp_of, ado_of, Al, requesting, role_of, adp_after, is_reading, is_writing, SlaveState, manager_at, station_of, Window, touches, physical_after, is_configured, window_of, slave_met, datagram_met, control_word, Action, AskInit, ClearFmmus, ClearManagers, ClearStations, datagram_of, Stage, Called, Down, after, HoldsZeros, IsInInit, AreClear, IsDownAt, Stands, IsWriting, Arrives, IsOther, MayRepeat, Met, Wrote, set_by, wrote, unconfigured, OnlyWrites, writes_meet, goes_on}
 use Rattle.ec_bringup.proofs.Resets.{get_or-zeros}
-use Rattle.ec_slave.specs.Interface.{Wrote, set_by}
-use Rattle.ec_slave.proofs.RegisterAccess.{registers_written as wrote, managers_aside as unconfigured}
 use Rattle.ec_bringup.proofs.Owns.{slave-wrote, window-sent}
-use Rattle.ec_slave.specs.Interface.{OnlyWrites}
-use Rattle.ec_slave.proofs.Meetings.{writes_meet, goes_on}
 
 -- ---- a broadcast write
 
@@ -164,11 +138,8 @@ managers-cleared = record { from = 0x0800; bytes = zeros 32 }
 
 cleared-by : (n : ℕ) (m : SyncManager) → n < 4 → set_by managers-cleared n m ≡ empty_manager no_settings m.locked
 unfolding any_below
-cleared-by zero m l = refl
-cleared-by (suc zero) m l = refl
-cleared-by (suc (suc zero)) m l = refl
-cleared-by (suc (suc (suc zero))) m l = refl
 cleared-by (suc (suc (suc (suc n)))) m l = absurd (omega arith)
+cleared-by _ m l = refl
 
 clear-managers : (kind : SlaveKind) (i : ℕ) (f m : Bool) (trouble : Bool) (s : SlaveState) → Stands kind i (Down f m) trouble s → Stands kind i (Down f true) trouble (physical_after s false true managers-cleared)
 clear-managers kind i f m trouble s h =

@@ -1,35 +1,7 @@
 -- What a slave becomes by a datagram that writes registers.
-use Rattle.std.proofs.Common.{ℕ, ◌≡◌, Bool, true, false, refl, sym, ◌∙◌, ap, arith, if◌then◌else◌, length, ◌+◌, ◌*◌, ◌/◌, ◌%◌, ◌<◌, ◌≤◌, ◌⊎◌, Option, None, subst, inl, inr, List, [], ◌∷◌, slice_index}
-use Rattle.ec_device.specs.Types.{SlaveKind}
-use Rattle.ec_sync.specs.SyncManager.{SyncManager, empty_manager}
-use Rattle.ec_al.specs.declared.state.State.{State}
-use Rattle.ec_al.specs.Al.{Al, requesting}
-use Rattle.ec_slave.specs.State.{SlaveState, manager_at, Met as Meeting, station_of, power_on}
-use Rattle.ec_coe.specs.Objects.{Assignment, all_assigned}
-use Rattle.ec_slave.specs.Physical.{Window, touches, is_configured, settings_written, physical_after}
-use Rattle.ec_slave.specs.Interface.{Wrote, set_by, OnlyWrites}
-use Rattle.ec_bringup.specs.Standing.{IsOfKind, HoldsZeros, IsConfigured, Rises, IsSilent, Talks, IsUpAt, IsTop, Stands}
-use Rattle.std.proofs.lemmas.Bool.{eq-eqb}
-use Rattle.ec_bits.proofs.AnyLaws.{if_true, if_false, within_below, within_above}
-use Rattle.ec_frame.specs.declared.command.Command.{Command}
-use Rattle.ec_frame.specs.declared.command.Command.TheVariants.{Fpwr}
-use Rattle.ec_frame.specs.Datagram.{Datagram, IsDatagram, adp_of, ado_of}
-use Rattle.ec_al.specs.declared.state.State.TheVariants.{Init, PreOp, SafeOp, Op}
-use Rattle.ec_al.specs.States.{state_number}
-use Rattle.ec_sii.specs.Port.{Sii, written}
-use Rattle.ec_slave.specs.Roles.{role_of, adp_after, is_reading, is_writing}
-use Rattle.ec_slave.specs.Meeting.{window_of, meets, slave_met, datagram_met}
-use Rattle.ec_slave.proofs.Bystanders.{other_station_passes}
-use Rattle.ec_slave.specs.Checking.{control_word}
-use Rattle.ec_start.specs.declared.action.Action.{Action}
-use Rattle.ec_start.specs.declared.action.Action.TheVariants.{AskState}
-use Rattle.ec_start.specs.Actions.{station, at, sent}
-use Rattle.ec_bringup.specs.Stages.{Rise, Stays, Climbs, Config, Stage, Up, Talk, told, climbing, after, CanTell, CanClimb}
-use Rattle.ec_slave.proofs.Meetings.{writes_meet, goes_on}
-use Rattle.ec_bringup.specs.Frames.{Untouched, ReadsOn, Arrives, IsOther, MayRepeat, Met}
-use Rattle.ec_bringup.proofs.Alike.{claims-alike}
+use Rattle.ec_bringup.proofs.Words.{ℕ, ◌≡◌, Bool, true, false, refl, sym, ◌∙◌, ap, arith, if◌then◌else◌, length, ◌+◌, ◌*◌, ◌/◌, ◌%◌, ◌<◌, ◌≤◌, ◌⊎◌, Option, None, subst, inl, inr, List, [], ◌∷◌, slice_index, SlaveKind, SyncManager, empty_manager, State, Al, requesting, SlaveState, manager_at, Meeting, station_of, power_on, Window, touches, is_configured, settings_written, physical_after, Wrote, set_by, OnlyWrites, IsOfKind, HoldsZeros, IsConfigured, Rises, IsSilent, Talks, IsUpAt, IsTop, Stands, eq-eqb, if_true, if_false, within_below, within_above, Command, Fpwr, Datagram, IsDatagram, adp_of, ado_of, Init, Op, state_number, Sii, written, role_of, adp_after, is_reading, is_writing, window_of, meets, slave_met, datagram_met, other_station_passes, control_word, Action, AskState, station, at, sent, Rise, Stays, Climbs, Config, Stage, Up, Talk, told, climbing, after, CanTell, CanClimb, writes_meet, goes_on, Untouched, ReadsOn, Arrives, IsOther, MayRepeat, Met, wrote, unconfigured}
+use Rattle.ec_bringup.proofs.Alike.{claims-alike, kind-kept}
 use Rattle.ec_bringup.proofs.Passing.{IsOne, one-ask-state, station-zero}
-use Rattle.ec_slave.proofs.RegisterAccess.{registers_written as wrote, managers_aside as unconfigured}
 
 abbrev locked_of : SyncManager → Bool
 locked_of m = m.locked
@@ -38,27 +10,13 @@ abbrev state_of : Al → State
 state_of a = a.state
 
 pub set-locked : (w : Window) (n : ℕ) (m : SyncManager) → (set_by w n m).locked ≡ m.locked
-set-locked w n m = by (is_configured w n)
-  where
-    by : (b : Bool) → locked_of (if b then empty_manager (settings_written w n m) m.locked else m) ≡ m.locked
-    by true = refl
-    by false = refl
+set-locked w n m = elim (is_configured w n) as (λ b. locked_of (if b then empty_manager (settings_written w n m) m.locked else m) ≡ m.locked) [ true ↦ refl | false ↦ refl ]
 
 -- a slave that was written is one
 pub slave-wrote : (kind : SlaveKind) (w : Window) (s t : SlaveState) → Wrote w s t → IsOfKind kind s → IsOfKind kind t
-slave-wrote kind w s t a h = record {
-  kind_is = a.kind ∙ h.kind_is;
-  room = a.room ∙ h.room;
-  four = a.count ∙ h.four;
-  outs = ap (λ (x : Assignment). length x.slots) a.outs ∙ h.outs;
-  ins = ap (λ (x : Assignment). length x.slots) a.ins ∙ h.ins;
-  fixed = λ e. let f = h.fixed e in record {
-    outs = a.outs ∙ (f.outs ∙ ap (λ (k : SlaveKind). all_assigned k.outputs) (sym a.kind));
-    ins = a.ins ∙ (f.ins ∙ ap (λ (k : SlaveKind). all_assigned k.inputs) (sym a.kind));
-  };
-  unlocked_in_init = λ e n l. ap (λ (m : SyncManager). m.locked) (a.managers n (let f = h.four in omega arith))
-      ∙ (set-locked w n (manager_at s.managers n) ∙ h.unlocked_in_init (sym (state_by (touches w 0x0120)) ∙ (ap (λ (x : Al). x.state) (sym a.al) ∙ e)) n l);
-}
+slave-wrote kind w s t a h = kind-kept kind s t a.kind a.room a.count a.outs a.ins
+    (λ e n l. ap (λ (m : SyncManager). m.locked) (a.managers n (let f = h.four in omega arith))
+    ∙ (set-locked w n (manager_at s.managers n) ∙ h.unlocked_in_init (sym (state_by (touches w 0x0120)) ∙ (ap (λ (x : Al). x.state) (sym a.al) ∙ e)) n l)) h
   where
     state_by : (b : Bool) → state_of (if b then requesting s.al else s.al) ≡ s.al.state
     state_by true = refl
@@ -172,9 +130,7 @@ ask-control state s t h room =
 ask-rises : (r : Rise) (state : State) (s t : SlaveState) → CanClimb r state → control_word t ≡ state_number state → t.al ≡ requesting s.al → Rises r s → Rises (climbing r state) t
 ask-rises (Climbs from other) state s t can w a h = absurd can
 ask-rises (Stays Init) state s t can w a h = (can, inl (record { state = ap (λ (x : Al). x.state) a ∙ h.state; no_error = ap (λ (x : Al). x.error) a ∙ h.no_error; request = ap (λ (x : Al). x.requested) a; control_is = w }))
-ask-rises (Stays PreOp) state s t can w a h = (can, inl (record { state = ap (λ (x : Al). x.state) a ∙ h.state_is; no_error = ap (λ (x : Al). x.error) a ∙ h.no_error; request = ap (λ (x : Al). x.requested) a; control_is = w }))
-ask-rises (Stays SafeOp) state s t can w a h = (can, inl (record { state = ap (λ (x : Al). x.state) a ∙ h.state_is; no_error = ap (λ (x : Al). x.error) a ∙ h.no_error; request = ap (λ (x : Al). x.requested) a; control_is = w }))
-ask-rises (Stays Op) state s t can w a h = (can, inl (record { state = ap (λ (x : Al). x.state) a ∙ h.state_is; no_error = ap (λ (x : Al). x.error) a ∙ h.no_error; request = ap (λ (x : Al). x.requested) a; control_is = w }))
+ask-rises _ state s t can w a h = (can, inl (record { state = ap (λ (x : Al). x.state) a ∙ h.state_is; no_error = ap (λ (x : Al). x.error) a ∙ h.no_error; request = ap (λ (x : Al). x.requested) a; control_is = w }))
 
 ask-silent : (c : Config) (r : Rise) (state : State) (s t : SlaveState) → Wrote (asking state) s t → length s.managers ≡ 4 → IsSilent c s → IsSilent (record c { rise = r }) t
 ask-silent c r state s t h four k = record {
@@ -199,10 +155,8 @@ ask-up i c state s t h room four none can u = record {
 
 low-top : (r : Rise) (state : State) → CanClimb r state → IsTop r → ⊥
 low-top (Stays Op) state can top = can
-low-top (Stays Init) state can top = top
-low-top (Stays PreOp) state can top = top
-low-top (Stays SafeOp) state can top = top
 low-top (Climbs from other) state can top = can
+low-top _ state can top = top
 
 pub pass-ask-state : (kind : SlaveKind) (i : ℕ) (c : Config) (trouble : Bool) (state : State) (number : ℕ) (d : Datagram) (s : SlaveState)
     → i < 64 → CanTell c (AskState i state) → IsDatagram d → Arrives (AskState i state) number i d → Stands kind i (Up c) trouble s

@@ -1,42 +1,10 @@
 -- A reply is read from a slave's mailbox.
-use Rattle.std.proofs.Common.{ℕ, zero, suc, ◌+◌, ◌-◌, ◌/◌, ◌%◌, ◌<◌, ◌≤◌, ◌≡◌, ◌⊎◌, ◌&&◌, not, Bool, true, false, Option, Some, None, refl, sym, ◌∙◌, ap, subst, inl, inr, arith, List, [], ◌∷◌, length, slice_index, is_some, is_none, unwrap_or}
-use Rattle.std.specs.Int.{from_bool}
-use Rattle.std.proofs.lemmas.Bool.{eq-eqb, cases_Bool, and_from, and_left, and_right, lt-ltb, eqb-true}
-use Rattle.std.proofs.lemmas.List.{length-replicate}
-use Rattle.ec_bits.specs.Bits.{zeros, any_below}
-use Rattle.ec_bits.proofs.AnyLaws.{if_true, if_false, within_true, within_below, within_above, any_below_none, any_below_from}
-use Rattle.ec_regs.specs.declared.manager.SyncManagerSettings.{SyncManagerSettings}
-use Rattle.ec_device.specs.declared.slave_type.Mailbox.{Mailbox}
-use Rattle.ec_device.specs.Types.{SlaveKind}
-use Rattle.ec_regs.specs.Memory.{ram_start, ram_end}
-use Rattle.ec_regs.specs.Managers.{is_set, is_mailbox, is_master_written, is_master_read, span}
-use Rattle.ec_sync.specs.SyncManager.{SyncManager, may_read, is_enabled, ring_read, shown}
-use Rattle.ec_sync.specs.Governing.{covers, governor, governs, in_first_buffer}
-use Rattle.ec_frame.specs.declared.command.Command.TheVariants.{Fprd}
-use Rattle.ec_frame.specs.Datagram.{Datagram, IsDatagram, adp_of}
-use Rattle.ec_slave.specs.State.{SlaveState, Met as Meeting, manager_at, station_of}
-use Rattle.ec_slave.specs.Managers.{reads_under, is_ungoverned, is_read_by}
-use Rattle.ec_slave.specs.Physical.{Window, touches, physical_after, physical_manager, physical_managers, may_read_byte, some_byte_read, byte_read, byte_at, ram_byte, retold}
-use Rattle.ec_slave.specs.Meeting.{window_of, slave_met, datagram_met}
-use Rattle.ec_coe.specs.Messages.{message_read}
-use Rattle.ec_regs.specs.Fmmus.{fmmu_bytes}
-use Rattle.ec_start.specs.Plans.{settings_at, fmmu_at}
-use Rattle.ec_start.specs.declared.action.Action.TheVariants.{AwaitReply}
-use Rattle.ec_start.specs.declared.action.SdoRequest.{SdoRequest}
-use Rattle.ec_start.specs.Actions.{station, at, datagram_of}
-use Rattle.ec_start.specs.Verdicts.{message_verdict}
-use Rattle.ec_start.specs.declared.verdict.Verdict.TheVariants.{Next}
-use Rattle.ec_bringup.specs.Stages.{Rise, Config, Stage, Up, Talk, answered, after, CanTell}
-use Rattle.ec_start.specs.Planned.{AreMailboxes}
-use Rattle.ec_bringup.specs.Standing.{IsOfKind, IsAssigned, Talks, IsUpAt, Rises, Reached, IsGone, HadFault, Stands}
-use Rattle.ec_bringup.specs.Frames.{Arrives, Met}
+use Rattle.ec_bringup.proofs.Words.{ℕ, zero, suc, ◌+◌, ◌-◌, ◌/◌, ◌%◌, ◌<◌, ◌≤◌, ◌≡◌, ◌⊎◌, ◌&&◌, not, Bool, true, false, Option, Some, None, refl, sym, ◌∙◌, ap, subst, inl, inr, arith, List, [], ◌∷◌, length, slice_index, is_some, is_none, unwrap_or, from_bool, eq-eqb, cases_Bool, and_from, and_left, and_right, lt-ltb, eqb-true, length-replicate, zeros, any_below, if_true, if_false, within_true, within_below, within_above, any_below_none, any_below_from, SyncManagerSettings, Mailbox, SlaveKind, ram_start, ram_end, is_set, is_mailbox, is_master_written, is_master_read, span, SyncManager, may_read, is_enabled, ring_read, shown, covers, governor, governs, in_first_buffer, Fprd, Datagram, IsDatagram, adp_of, SlaveState, Meeting, manager_at, station_of, reads_under, is_ungoverned, is_read_by, Window, touches, physical_after, physical_manager, physical_managers, may_read_byte, some_byte_read, byte_read, byte_at, ram_byte, retold, window_of, slave_met, datagram_met, message_read, fmmu_bytes, settings_at, fmmu_at, AwaitReply, SdoRequest, station, at, datagram_of, message_verdict, Next, Rise, Config, Stage, Up, Talk, answered, after, CanTell, AreMailboxes, IsOfKind, IsAssigned, Talks, IsUpAt, Rises, Reached, IsGone, HadFault, Stands, Arrives, Met, reads_meet, accesses_leave, managers_accessed, ram_governed, retold_whole}
 use Rattle.ec_bringup.proofs.Alike.{rises-alike}
 use Rattle.ec_bringup.proofs.Owns.{window-sent}
 use Rattle.ec_bringup.proofs.Polls.{own-reads, read-slave, read-bytes, reads-on, gone-passes}
 use Rattle.ec_bringup.proofs.Sets.{low-top}
 use Rattle.ec_bringup.proofs.Sends.{none-set, four-of, set-lies}
-use Rattle.ec_slave.proofs.Meetings.{reads_meet}
-use Rattle.ec_slave.proofs.RegisterAccess.{accesses_leave, managers_accessed, ram_governed, retold_whole}
 use Rattle.ec_bringup.proofs.Leading.{SameFrame, answered-frame}
 
 abbrev pub asking : Mailbox → Window
@@ -121,10 +89,9 @@ pub governed : (b : Mailbox) (s : SlaveState) (a : ℕ) → Boxes b s → b.send
 governed b s a h l m =
     let m0 = manager_at s.managers 0 in let m1 = manager_at s.managers 1 in
     let st = h.start in let ln = h.len in
-    let not0 : governs m0 a ≡ false = not-first b s a h l m in
     let wide : span m1.settings ≡ m1.settings.length = if_true _ _ _ h.box in
     let is1 : governs m1 a ≡ true = and_from _ _ h.set (within_true m1.settings.start (span m1.settings) a (omega (arith, st, l)) (omega (arith, st, ln, wide, m))) in
-    ap (λ (ms : List SyncManager). governor ms a) (four-of s.managers h.four) ∙ (if_false _ _ _ not0 ∙ if_true _ _ _ is1)
+    ap (λ (ms : List SyncManager). governor ms a) (four-of s.managers h.four) ∙ (if_false _ _ _ (not-first b s a h l m) ∙ if_true _ _ _ is1)
 
 pub covered : (b : Mailbox) (s : SlaveState) → Boxes b s → covers (touches (asking b)) (manager_at s.managers 1) ≡ true
 covered b s h =
@@ -216,26 +183,17 @@ emptied-slave kind s h = record {
 }
   where
     emptied-locked : (s : SlaveState) (n : ℕ) → n < 4 → (manager_at (emptied s).managers n).locked ≡ (manager_at s.managers n).locked
-    emptied-locked s zero l = refl
-    emptied-locked s (suc zero) l = refl
-    emptied-locked s (suc (suc zero)) l = refl
-    emptied-locked s (suc (suc (suc zero))) l = refl
     emptied-locked s (suc (suc (suc (suc n)))) l = absurd (omega (arith, l))
+    emptied-locked s _ l = refl
 
 -- its front, whatever its configuration is called
 emptied-settings : (s : SlaveState) (n : ℕ) → n < 4 → (manager_at (emptied s).managers n).settings ≡ (manager_at s.managers n).settings
-emptied-settings s zero l = refl
-emptied-settings s (suc zero) l = refl
-emptied-settings s (suc (suc zero)) l = refl
-emptied-settings s (suc (suc (suc zero))) l = refl
 emptied-settings s (suc (suc (suc (suc n)))) l = absurd (omega (arith, l))
+emptied-settings s _ l = refl
 
 emptied-lock : (s : SlaveState) (n : ℕ) → n < 4 → (manager_at (emptied s).managers n).locked ≡ (manager_at s.managers n).locked
-emptied-lock s zero l = refl
-emptied-lock s (suc zero) l = refl
-emptied-lock s (suc (suc zero)) l = refl
-emptied-lock s (suc (suc (suc zero))) l = refl
 emptied-lock s (suc (suc (suc (suc n)))) l = absurd (omega (arith, l))
+emptied-lock s _ l = refl
 
 emptied-others : (s : SlaveState) (n : ℕ) → 2 ≤ n → n < 4 → (manager_at (emptied s).managers n).mail ≡ (manager_at s.managers n).mail
 emptied-others s zero a l = absurd (omega (arith, a))
@@ -322,8 +280,7 @@ pass-await-reply kind i b r c trouble number d s l can good arrives h =
 
     by : Reached i (Up c) s ⊎ ((trouble ≡ true) × (IsGone (Up c) s ⊎ HadFault i (Up c) s)) → d.command ≡ Fprd → adp_of d ≡ station i → window_of d ≡ asking b → d.counter ≡ 0 → Met kind i (Up c) trouble (AwaitReply i b r) (datagram_met s d) (slave_met s d)
     by (inl u) cmd adp w z =
-        let boxes : AreMailboxes b c.managers = can.2 in
-        let bx : Boxes b s = boxes-of i b c s h.slave.four boxes u in
+        let bx : Boxes b s = boxes-of i b c s h.slave.four can.2 u in
         read (found i can.1.0 b r c s bx (subst (λ (o : Option Talk). Talks i c o s) can.1.1 u.talks)) bx u cmd (adp ∙ sym u.configured.station_is) w z
     by (inr (f, inl g)) cmd adp w z =
         let same : slave_met s d ≡ s = ap (λ (x : Meeting). x.slave) (gone-passes i s d l good cmd adp g) in record {
