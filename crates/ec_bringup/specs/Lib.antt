@@ -21,11 +21,11 @@ pub mod Keeping
 pub mod BringUp
 -- Applications that step between the frames.
 pub mod Applied
--- what the crates above may know
-pub mod Interface
 -- Private: the rest serves the proofs alone, and no public clause cites it.
 -- what holds at every instant of a world that starts up, and the frame's bytes in its slot
 pub mod Instants
 pub mod Slots
 -- what turns lead to, in words of stages
 pub mod Turned
+-- what the proofs above may name, handed on
+pub mod Interface

@@ -1,14 +1,7 @@
 -- Of each part of a cycle there is at most one frame: in its slot, kept, or lost.
-use Rattle.std.proofs.Common.{ℕ, zero, suc, ◌+◌, ◌<◌, ◌≤◌, ◌≡◌, ◌≢◌, ◌==◌, ◌&&◌, Bool, true, false, Option, Some, None, refl, sym, ◌∙◌, ap, subst, arith, List, [], ◌∷◌, length, map, get_or, set, is_none, if◌then◌else◌, slice_get, get_or-set_other, length-set}
-use Rattle.std.proofs.lemmas.Bool.{and_parts, eqb-true}
-use Rattle.std.proofs.lemmas.List.{length-map}
-use Rattle.ec_link.specs.Meaning.{Meaning}
-use Rattle.ec_world.specs.declared.event.Event.{Event}
-use Rattle.ec_world.specs.Plain.{Plain, PlainFrame, Note, Cycle, step, frame_at, plain_slave, keeping, filled, new_frames, with_note, met_note}
-use Rattle.ec_world.specs.Promises.{IsBegun}
+use Rattle.ec_world.proofs.Words.{ℕ, zero, suc, ◌+◌, ◌<◌, ◌≤◌, ◌≡◌, ◌≢◌, ◌==◌, ◌&&◌, Bool, true, false, Option, Some, None, refl, sym, ◌∙◌, ap, subst, arith, List, [], ◌∷◌, length, map, get_or, set, is_none, if◌then◌else◌, slice_get, get_or-set_other, and_parts, eqb-true, length-map, Meaning, Event, Plain, PlainFrame, Note, Cycle, step, frame_at, plain_slave, keeping, filled, new_frames, with_note, met_note, IsBegun, none_some, some_same, cycle_begun}
 use Rattle.ec_world.proofs.Tracing.{mapped, guarded, Leaves, Stays, Begins, Moves, Loses, Returns, Closes, leaves}
-use Rattle.ec_world.proofs.Histories.{begun_below, filled_has, new_one, keeping_number}
-use Rattle.ec_world.proofs.Lists.{none_some, some_same}
+use Rattle.ec_world.proofs.Histories.{begun_below, filled_has, new_one, keeping_number, keeping_length}
 
 -- ---- slots
 
@@ -96,13 +89,6 @@ pub record Single (m : Meaning) (number : ℕ) (p : Plain) : Type 0 where
   pub missing : (c : Cycle) → p.cycle ≡ Some c → c.number ≡ number → (i : ℕ) (f : PlainFrame) → frame_at p i ≡ Some f → f.number ≡ number → get_or c.kept f.part None ≡ None
 
 -- a frame that comes back leaves the other parts
-keeping_size : (g : PlainFrame) (c : Cycle) → length (keeping g c).kept ≡ length c.kept
-keeping_size g c = go ((g.number == c.number) && is_none (get_or c.kept g.part None))
-  where
-    go : (b : Bool) → length (if b then record c { kept = set c.kept g.part (Some g.notes) } else c).kept ≡ length c.kept
-    go true = length-set c.kept g.part (Some g.notes)
-    go false = refl
-
 keeping_other : (g : PlainFrame) (c : Cycle) (n : ℕ) → (g.number ≡ c.number → n ≡ g.part → ⊥) → get_or (keeping g c).kept n None ≡ get_or c.kept n None
 keeping_other g c n ne = go ((g.number == c.number) && is_none (get_or c.kept g.part None)) refl
   where
@@ -184,7 +170,7 @@ single_step m number p e q h c = by (leaves m p e q h)
       once = λ i k f y ef ey. c.once i k f y (was i f ef).0 (was k y ey).0;
       size = λ d at mine.
           let r = mapped (keeping g) p.cycle d (sym (ap (λ (z : Plain). z.cycle) is) ∙ at) in
-          ap (λ (x : Cycle). length x.kept) (sym r.is) ∙ (keeping_size g r.value ∙ c.size r.value r.there (same_number d r.value r.is mine));
+          ap (λ (x : Cycle). length x.kept) (sym r.is) ∙ (keeping_length g r.value ∙ c.size r.value r.there (same_number d r.value r.is mine));
       missing = λ d at mine i f here num.
           let r = mapped (keeping g) p.cycle d (sym (ap (λ (z : Plain). z.cycle) is) ∙ at) in
           let x = was i f here in
@@ -221,9 +207,5 @@ single_begun m p begun b = record {
     old : IsForeign p.next p.slots
     old i f at own = let x = begun_below m p begun b i f at in omega (arith, x, own)
 
-    is : record p {
-      next = p.next + 1;
-      cycle = Some (record { number = p.next; kept = map (λ v. None) m.parts });
-      slots = filled (new_frames p.next p.outputs 0 m.parts) p.slots;
-    } ≡ begun
+    is : cycle_begun m p ≡ begun
     is = guarded _ _ begun b.begins
