@@ -5,33 +5,35 @@ use Rattle.ec_bringup.proofs.Owns.{slave-wrote, window-sent}
 
 -- ---- a broadcast write
 
-reads-none : (s : SlaveState) (d : Datagram) → d.command ≡ Bwr → is_reading (role_of d.command (adp_of d) (station_of s)) ≡ false
-reads-none s d c = ap (λ (x : Command). is_reading (role_of x (adp_of d) (station_of s))) c
-
-writes-all : (s : SlaveState) (d : Datagram) → d.command ≡ Bwr → is_writing (role_of d.command (adp_of d) (station_of s)) ≡ true
-writes-all s d c = ap (λ (x : Command). is_writing (role_of x (adp_of d) (station_of s))) c
-
 pub broadcast-writes : (s : SlaveState) (d : Datagram) → d.command ≡ Bwr → OnlyWrites s d
-broadcast-writes s d c = record { writes = writes-all s d c; reads = reads-none s d c }
+broadcast-writes s d c = record {
+  writes = ap (λ (x : Command). is_writing (role_of x (adp_of d) (station_of s))) c;
+  reads = ap (λ (x : Command). is_reading (role_of x (adp_of d) (station_of s))) c;
+}
 
 pub broadcast-write : (s : SlaveState) (d : Datagram) → d.command ≡ Bwr → slave_met s d ≡ physical_after s false true (window_of d)
 broadcast-write s d c = (writes_meet s d (broadcast-writes s d c)).slave
 
--- the datagram goes on as it came, with its ADP grown
-writing-on : (s : SlaveState) (e d : Datagram) (j : ℕ) → d.command ≡ Bwr → IsWriting e d (j % 65536) → IsWriting e (datagram_met s d) ((j + 1) % 65536)
-writing-on s e d j c h =
+-- a datagram that is written goes on as it came, with its ADP grown
+pub written-on : (k : Command) (s : SlaveState) (e d : Datagram) (adp : ℕ) → d.command ≡ k → OnlyWrites s d → adp_after k (adp_of d) ≡ (adp_of d + 1) % 65536 → IsWriting e d adp
+    → IsWriting e (datagram_met s d) ((adp + 1) % 65536)
+written-on k s e d adp c only grows h =
     let o = goes_on s d in
-    let same : ado_of d ≡ d.address / 65536 = refl in
-    let low : ((adp_of d + 1) % 65536 + 65536 * ado_of d) % 65536 ≡ (j + 1) % 65536 = let a = h.adp_is in omega (arith, a) in
+    let low : ((adp_of d + 1) % 65536 + 65536 * ado_of d) % 65536 ≡ (adp + 1) % 65536 = let a = h.adp_is in omega (arith, a) in
     let high : ((adp_of d + 1) % 65536 + 65536 * ado_of d) / 65536 ≡ ado_of d = omega arith in
     let address : (datagram_met s d).address ≡ (adp_of d + 1) % 65536 + 65536 * ado_of d
-    = o.address ∙ ap (λ (x : Command). adp_after x (adp_of d) + 65536 * ado_of d) c in
+    = o.address ∙ (ap (λ (x : Command). adp_after x (adp_of d) + 65536 * ado_of d) c ∙ ap (λ (x : ℕ). x + 65536 * ado_of d) grows) in
     record {
       command = o.command ∙ h.command;
       ado = ap (λ (x : ℕ). x / 65536) address ∙ (high ∙ h.ado);
       adp_is = ap (λ (x : ℕ). x % 65536) address ∙ low;
-      bytes = (writes_meet s d (broadcast-writes s d c)).bytes ∙ h.bytes;
+      bytes = (writes_meet s d only).bytes ∙ h.bytes;
     }
+
+writing-on : (s : SlaveState) (e d : Datagram) (j : ℕ) → d.command ≡ Bwr → IsWriting e d (j % 65536) → IsWriting e (datagram_met s d) ((j + 1) % 65536)
+writing-on s e d j c h =
+    let step : (j % 65536 + 1) % 65536 ≡ (j + 1) % 65536 = omega arith in
+    subst (IsWriting e (datagram_met s d)) step (written-on Bwr s e d (j % 65536) c (broadcast-writes s d c) refl h)
 
 pub window-is : (e d : Datagram) (adp : ℕ) (w : Window) → IsWriting e d adp → window_of e ≡ w → window_of d ≡ w
 window-is e d adp w h q = ap (λ (x : ℕ). record { from = x; bytes = d.data_bytes }) h.ado ∙ (ap (λ (x : List ℕ). record { from = ado_of e; bytes = x }) h.bytes ∙ q)

@@ -1,38 +1,24 @@
 -- A slave gets its station address.
-use Rattle.ec_bringup.proofs.Words.{ℕ, zero, suc, ◌+◌, ◌-◌, ◌*◌, ◌/◌, ◌%◌, ◌<◌, ◌≡◌, ◌≢◌, Bool, true, false, refl, sym, ◌∙◌, ap, subst, inl, inr, arith, List, [], ◌∷◌, length, slice_index, eq-eqb, both_ways, cases_eq, if_true, if_false, within_above, SlaveKind, no_settings, fmmu_bytes, no_fmmu, SyncManager, Command, Apwr, Datagram, IsDatagram, adp_of, ado_of, with_adp, role_of, adp_after, is_reading, is_writing, SlaveState, Meeting, manager_at, station_of, Window, physical_after, window_of, meets, slave_met, datagram_met, other_position_passes, settings_at, fmmu_at, NameSlave, station, datagram_of, Stage, Down, Up, fresh, after, Fits, IsClear, HoldsZeros, AreClear, IsDownAt, IsUpAt, Stands, IsWriting, Arrives, Met, Wrote, wrote, unconfigured, OnlyWrites, writes_meet, goes_on}
+use Rattle.ec_bringup.proofs.Words.{ℕ, zero, suc, ◌+◌, ◌-◌, ◌*◌, ◌/◌, ◌%◌, ◌<◌, ◌≡◌, ◌≢◌, Bool, true, false, refl, sym, ◌∙◌, ap, subst, inl, inr, arith, List, [], ◌∷◌, length, slice_index, eq-eqb, both_ways, cases_eq, if_true, if_false, within_above, SlaveKind, no_settings, fmmu_bytes, no_fmmu, SyncManager, Command, Apwr, Datagram, IsDatagram, adp_of, ado_of, with_adp, role_of, is_reading, is_writing, SlaveState, Meeting, manager_at, station_of, Window, physical_after, window_of, meets, slave_met, datagram_met, other_position_passes, settings_at, fmmu_at, NameSlave, station, datagram_of, Stage, Down, Up, fresh, after, Fits, IsClear, HoldsZeros, AreClear, IsDownAt, IsUpAt, Stands, IsWriting, Arrives, Met, Wrote, wrote, unconfigured, OnlyWrites, writes_meet}
 use Rattle.ec_bringup.proofs.Passing.{others-stay, other-met}
 use Rattle.ec_bringup.proofs.Resets.{get_or-zeros}
 use Rattle.ec_bringup.proofs.Owns.{slave-wrote, window-sent}
-use Rattle.ec_bringup.proofs.Broadcasts.{down-of, init-wrote}
+use Rattle.ec_bringup.proofs.Broadcasts.{down-of, init-wrote, written-on}
 
 -- ---- the meeting
 
-reads-none : (s : SlaveState) (d : Datagram) → d.command ≡ Apwr → adp_of d ≡ 0 → is_reading (role_of d.command (adp_of d) (station_of s)) ≡ false
-reads-none s d c e = ap (λ (x : Command). is_reading (role_of x (adp_of d) (station_of s))) c ∙ ap is_reading (if_true _ _ _ (eq-eqb _ _ e))
-
-writes-all : (s : SlaveState) (d : Datagram) → d.command ≡ Apwr → adp_of d ≡ 0 → is_writing (role_of d.command (adp_of d) (station_of s)) ≡ true
-writes-all s d c e = ap (λ (x : Command). is_writing (role_of x (adp_of d) (station_of s))) c ∙ ap is_writing (if_true _ _ _ (eq-eqb _ _ e))
-
 -- the slave at this position is told to write
 pub position-writes : (s : SlaveState) (d : Datagram) → d.command ≡ Apwr → adp_of d ≡ 0 → OnlyWrites s d
-position-writes s d c e = record { writes = writes-all s d c e; reads = reads-none s d c e }
+position-writes s d c e = record {
+  writes = ap (λ (x : Command). is_writing (role_of x (adp_of d) (station_of s))) c ∙ ap is_writing (if_true _ _ _ (eq-eqb _ _ e));
+  reads = ap (λ (x : Command). is_reading (role_of x (adp_of d) (station_of s))) c ∙ ap is_reading (if_true _ _ _ (eq-eqb _ _ e));
+}
 
 position-write : (s : SlaveState) (d : Datagram) → d.command ≡ Apwr → adp_of d ≡ 0 → slave_met s d ≡ physical_after s false true (window_of d)
 position-write s d c e = (writes_meet s d (position-writes s d c e)).slave
 
 position-on : (s : SlaveState) (e d : Datagram) (adp : ℕ) → d.command ≡ Apwr → adp_of d ≡ 0 → IsWriting e d adp → IsWriting e (datagram_met s d) ((adp + 1) % 65536)
-position-on s e d adp c z h =
-    let o = goes_on s d in
-    let low : ((adp_of d + 1) % 65536 + 65536 * ado_of d) % 65536 ≡ (adp + 1) % 65536 = let a = h.adp_is in omega (arith, a) in
-    let high : ((adp_of d + 1) % 65536 + 65536 * ado_of d) / 65536 ≡ ado_of d = omega arith in
-    let address : (datagram_met s d).address ≡ (adp_of d + 1) % 65536 + 65536 * ado_of d
-    = o.address ∙ ap (λ (x : Command). adp_after x (adp_of d) + 65536 * ado_of d) c in
-    record {
-      command = o.command ∙ h.command;
-      ado = ap (λ (x : ℕ). x / 65536) address ∙ (high ∙ h.ado);
-      adp_is = ap (λ (x : ℕ). x % 65536) address ∙ low;
-      bytes = (writes_meet s d (position-writes s d c z)).bytes ∙ h.bytes;
-    }
+position-on s e d adp c z h = written-on Apwr s e d adp c (position-writes s d c z) refl h
 
 -- ---- at its position
 

@@ -1,5 +1,5 @@
 -- What a slave becomes by a datagram that writes registers.
-use Rattle.ec_bringup.proofs.Words.{ℕ, ◌≡◌, Bool, true, false, refl, sym, ◌∙◌, ap, arith, if◌then◌else◌, length, ◌+◌, ◌*◌, ◌/◌, ◌%◌, ◌<◌, ◌≤◌, ◌⊎◌, Option, None, subst, inl, inr, List, [], ◌∷◌, slice_index, SlaveKind, SyncManager, empty_manager, State, Al, requesting, SlaveState, manager_at, Meeting, station_of, power_on, Window, touches, is_configured, settings_written, physical_after, Wrote, set_by, OnlyWrites, IsOfKind, HoldsZeros, IsConfigured, Rises, IsSilent, Talks, IsUpAt, IsTop, Stands, eq-eqb, if_true, if_false, within_below, within_above, Command, Fpwr, Datagram, IsDatagram, adp_of, ado_of, Init, Op, state_number, Sii, written, role_of, adp_after, is_reading, is_writing, window_of, meets, slave_met, datagram_met, other_station_passes, control_word, Action, AskState, station, at, sent, Rise, Stays, Climbs, Config, Stage, Up, Talk, told, climbing, after, CanTell, CanClimb, writes_meet, goes_on, Untouched, ReadsOn, Arrives, IsOther, MayRepeat, Met, wrote, unconfigured}
+use Rattle.ec_bringup.proofs.Words.{ℕ, ◌≡◌, Bool, true, false, refl, sym, ◌∙◌, ap, arith, if◌then◌else◌, length, ◌+◌, ◌*◌, ◌/◌, ◌%◌, ◌<◌, ◌≤◌, ◌⊎◌, Option, None, subst, inl, inr, List, [], ◌∷◌, slice_index, SlaveKind, SyncManager, empty_manager, State, Al, requesting, SlaveState, manager_at, Meeting, station_of, power_on, Window, touches, is_configured, settings_written, physical_after, Wrote, set_by, OnlyWrites, IsOfKind, HoldsZeros, IsConfigured, Rises, IsSilent, Talks, IsUpAt, IsTop, Stands, eq-eqb, if_true, if_false, within_below, within_above, Command, Fpwr, Datagram, IsDatagram, adp_of, ado_of, Init, Op, state_number, Sii, written, role_of, adp_after, is_reading, is_writing, window_of, meets, slave_met, datagram_met, other_station_passes, control_word, Action, AskState, station, at, sent, Rise, Stays, Climbs, Config, Stage, Up, Talk, told, climbing, after, CanTell, CanClimb, writes_meet, goes_on, Untouched, ReadsOn, Arrives, IsOther, MayRepeat, Met, wrote, unconfigured, Fprd, Fprw}
 use Rattle.ec_bringup.proofs.Alike.{claims-alike, kind-kept}
 use Rattle.ec_bringup.proofs.Passing.{IsOne, one-ask-state, station-zero}
 
@@ -26,30 +26,30 @@ slave-wrote kind w s t a h = kind-kept kind s t a.kind a.room a.count a.outs a.i
 
 -- ---- the meeting
 
-reads-none : (s : SlaveState) (d : Datagram) → d.command ≡ Fpwr → adp_of d ≡ station_of s → is_reading (role_of d.command (adp_of d) (station_of s)) ≡ false
-reads-none s d c e = ap (λ (x : Command). is_reading (role_of x (adp_of d) (station_of s))) c ∙ ap is_reading (if_true _ _ _ (eq-eqb _ _ e))
-
-writes-all : (s : SlaveState) (d : Datagram) → d.command ≡ Fpwr → adp_of d ≡ station_of s → is_writing (role_of d.command (adp_of d) (station_of s)) ≡ true
-writes-all s d c e = ap (λ (x : Command). is_writing (role_of x (adp_of d) (station_of s))) c ∙ ap is_writing (if_true _ _ _ (eq-eqb _ _ e))
-
 -- the slave that is meant is told to write
 pub own-writes : (s : SlaveState) (d : Datagram) → d.command ≡ Fpwr → adp_of d ≡ station_of s → OnlyWrites s d
-own-writes s d c e = record { writes = writes-all s d c e; reads = reads-none s d c e }
+own-writes s d c e = record {
+  writes = ap (λ (x : Command). is_writing (role_of x (adp_of d) (station_of s))) c ∙ ap is_writing (if_true _ _ _ (eq-eqb _ _ e));
+  reads = ap (λ (x : Command). is_reading (role_of x (adp_of d) (station_of s))) c ∙ ap is_reading (if_true _ _ _ (eq-eqb _ _ e));
+}
 
 pub own-write : (s : SlaveState) (d : Datagram) → d.command ≡ Fpwr → adp_of d ≡ station_of s → slave_met s d ≡ physical_after s false true (window_of d)
 own-write s d c e = (writes_meet s d (own-writes s d c e)).slave
 
 -- a slave that is gone isn't met
-gone-passes : (i : ℕ) (s : SlaveState) (d : Datagram) → i < 64 → IsDatagram d → d.command ≡ Fpwr → adp_of d ≡ station i → s ≡ power_on s.kind s.identity
+pub gone-passes : (i : ℕ) (s : SlaveState) (d : Datagram) → i < 64 → IsDatagram d → (d.command ≡ Fprd) ⊎ ((d.command ≡ Fpwr) ⊎ (d.command ≡ Fprw)) → adp_of d ≡ station i → s ≡ power_on s.kind s.identity
     → meets s d ≡ record { slave = s; datagram = d }
-gone-passes i s d l good c e g = other_station_passes s d good (inr (inl c)) (λ q. let z = station-zero s g in let a : adp_of d ≡ station_of s = q in omega (arith, e, z, a))
+gone-passes i s d l good c e g = other_station_passes s d good c (λ q. let z = station-zero s g in let a : adp_of d ≡ station_of s = q in omega (arith, e, z, a))
 
 -- the heading stays
-reads-on : (s : SlaveState) (d e : Datagram) → ReadsOn e d → d.command ≡ Fpwr → ReadsOn e (datagram_met s d)
-reads-on s d e g c =
+pub reads-on : (k : Command) (s : SlaveState) (d e : Datagram) → adp_after k (adp_of d) ≡ adp_of d → ReadsOn e d → d.command ≡ k → ReadsOn e (datagram_met s d)
+reads-on k s d e stays g c =
     let same : adp_of d + 65536 * ado_of d ≡ d.address = omega arith in
     let o = goes_on s d in
-    record { command = o.command ∙ g.command; address = o.address ∙ (ap (λ (x : Command). adp_after x (adp_of d) + 65536 * ado_of d) c ∙ (same ∙ g.address)) }
+    record {
+      command = o.command ∙ g.command;
+      address = o.address ∙ (ap (λ (x : Command). adp_after x (adp_of d) + 65536 * ado_of d) c ∙ (ap (λ (x : ℕ). x + 65536 * ado_of d) stays ∙ (same ∙ g.address)));
+    }
 
 pub window-sent : (c : Command) (adp ado : ℕ) (bytes : List ℕ) (number : ℕ) → window_of (sent c adp ado bytes number) ≡ record { from = ado; bytes = bytes }
 window-sent c adp ado bytes number = let e : (adp % 65536 + 65536 * ado) / 65536 ≡ ado = omega arith in ap (λ (x : ℕ). record { from = x; bytes = bytes }) e
@@ -68,7 +68,7 @@ pass-own kind i c trouble a number d s w one l cm win ado aft never self low kee
     let e : d ≡ one.e = u.to_come (omega arith) in
     let cmd : d.command ≡ Fpwr = u.gone_by.command ∙ cm in
     let adp : adp_of d ≡ station i = let x = u.gone_by.address in let y = one.address in omega (arith, x, y, at, ado) in
-    let on : Arrives a number (i + 1) (datagram_met s d) = one.arrived (i + 1) (datagram_met s d) (record { to_come = λ k. absurd (omega arith); gone_by = reads-on s d one.e u.gone_by cmd }) in (
+    let on : Arrives a number (i + 1) (datagram_met s d) = one.arrived (i + 1) (datagram_met s d) (record { to_come = λ k. absurd (omega arith); gone_by = reads-on Fpwr s d one.e refl u.gone_by cmd }) in (
       record {
         other = λ o. absurd (self o);
         repeated = λ r. absurd (never r);
@@ -83,7 +83,7 @@ pass-own kind i c trouble a number d s w one l cm win ado aft never self low kee
           let q : slave_met s d ≡ physical_after s false true w = own-write s d cmd (adp ∙ sym r.configured.station_is) ∙ ap (λ (x : Window). physical_after s false true x) (ap window_of e ∙ win) in
           subst (λ (t : SlaveState). Stands kind i (Up (told c a)) trouble t) (sym q) (record { slave = keeps h.slave r; at = inl (up h.slave r) })
       | inr (f, inl g) ↦
-          subst (λ (x : Meeting). Stands kind i (Up (told c a)) trouble x.slave) (sym (gone-passes i s d l good cmd adp g)) (record { slave = h.slave; at = inr (f, inl g) })
+          subst (λ (x : Meeting). Stands kind i (Up (told c a)) trouble x.slave) (sym (gone-passes i s d l good (inr (inl cmd)) adp g)) (record { slave = h.slave; at = inr (f, inl g) })
       | inr (f, inr g) ↦ absurd (low g.top)
     ]
 

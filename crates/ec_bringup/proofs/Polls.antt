@@ -1,39 +1,24 @@
 -- A poll of registers at the slave that it is for.
-use Rattle.ec_bringup.proofs.Words.{ℕ, ◌+◌, ◌*◌, ◌%◌, ◌<◌, ◌≤◌, ◌≡◌, ◌≢◌, ◌⊎◌, Bool, true, false, Option, None, refl, sym, ◌∙◌, ap, subst, inl, inr, arith, List, length, slice_index, bit_at, from_bool, eq-eqb, both_ways, or_left, zeros, if_true, any_below_from, SlaveKind, ram_start, takes_writes, Command, Fprd, Apwr, Fpwr, Bwr, Datagram, IsDatagram, adp_of, ado_of, State, Init, PreOp, SafeOp, Op, state_number, role_of, adp_after, is_reading, is_writing, is_joining, SlaveState, Meeting, station_of, power_on, Window, touches, physical_after, byte_at, byte_read, retold, may_read_byte, may_write_byte, some_byte_read, some_byte_written, is_written, window_of, meets, slave_met, datagram_met, other_station_passes, OnlyReads, OnlyWrites, reads_meet, goes_on, writes_meet, registers_open, registers_read, shows_itself, reads_by_byte, Action, AwaitState, AwaitWord, station, at, sent, Rise, Stays, Climbs, Config, Stage, Up, Talk, told, after, CanTell, IsClimbing, IsStepUp, IsConfigured, IsIn, StaysIn, Rises, IsSilent, Talks, IsUpAt, Reached, IsGone, IsFaulted, IsTop, HadFault, Stands, Untouched, ReadsOn, Arrives, IsOther, MayEnd, Met}
-use Rattle.ec_bringup.proofs.Passing.{IsOne, one-await-state, one-await-word, station-zero}
-use Rattle.ec_bringup.proofs.Owns.{window-sent, own-writes}
+use Rattle.ec_bringup.proofs.Words.{ℕ, ◌+◌, ◌*◌, ◌%◌, ◌<◌, ◌≤◌, ◌≡◌, ◌≢◌, ◌⊎◌, Bool, true, false, Option, None, refl, sym, ◌∙◌, ap, subst, inl, inr, arith, List, length, slice_index, bit_at, from_bool, eq-eqb, both_ways, or_left, zeros, if_true, any_below_from, SlaveKind, ram_start, takes_writes, Command, Fprd, Apwr, Fpwr, Bwr, Datagram, IsDatagram, adp_of, State, Init, PreOp, SafeOp, Op, state_number, role_of, is_reading, is_writing, is_joining, SlaveState, Meeting, station_of, Window, touches, physical_after, byte_at, byte_read, retold, may_read_byte, may_write_byte, some_byte_read, some_byte_written, is_written, window_of, slave_met, datagram_met, OnlyReads, OnlyWrites, reads_meet, writes_meet, registers_open, registers_read, shows_itself, reads_by_byte, Action, AwaitState, AwaitWord, station, at, sent, Rise, Stays, Climbs, Config, Stage, Up, Talk, told, after, CanTell, IsClimbing, IsStepUp, IsConfigured, IsIn, StaysIn, Rises, IsSilent, Talks, IsUpAt, Reached, IsGone, IsFaulted, IsTop, HadFault, Stands, Untouched, Arrives, IsOther, MayEnd, Met}
+use Rattle.ec_bringup.proofs.Passing.{IsOne, one-await-state, one-await-word}
+use Rattle.ec_bringup.proofs.Owns.{window-sent, own-writes, reads-on, gone-passes}
 use Rattle.ec_bringup.proofs.Names.{position-writes}
 use Rattle.ec_bringup.proofs.Broadcasts.{broadcast-writes}
 use Rattle.ec_bringup.proofs.Sets.{low-top}
 
-pub reads : (s : SlaveState) (d : Datagram) → d.command ≡ Fprd → adp_of d ≡ station_of s → is_reading (role_of d.command (adp_of d) (station_of s)) ≡ true
-reads s d c e = ap (λ (x : Command). is_reading (role_of x (adp_of d) (station_of s))) c ∙ ap is_reading (if_true _ _ _ (eq-eqb _ _ e))
-
-pub writes-none : (s : SlaveState) (d : Datagram) → d.command ≡ Fprd → adp_of d ≡ station_of s → is_writing (role_of d.command (adp_of d) (station_of s)) ≡ false
-writes-none s d c e = ap (λ (x : Command). is_writing (role_of x (adp_of d) (station_of s))) c ∙ ap is_writing (if_true _ _ _ (eq-eqb _ _ e))
-
-joins-none : (s : SlaveState) (d : Datagram) → d.command ≡ Fprd → adp_of d ≡ station_of s → is_joining (role_of d.command (adp_of d) (station_of s)) ≡ false
-joins-none s d c e = ap (λ (x : Command). is_joining (role_of x (adp_of d) (station_of s))) c ∙ ap is_joining (if_true _ _ _ (eq-eqb _ _ e))
-
 -- the slave that is meant is told to read
 pub own-reads : (s : SlaveState) (d : Datagram) → d.command ≡ Fprd → adp_of d ≡ station_of s → OnlyReads s d
-own-reads s d c e = record { reads = reads s d c e; writes = writes-none s d c e; joins = joins-none s d c e }
+own-reads s d c e = record {
+  reads = ap (λ (x : Command). is_reading (role_of x (adp_of d) (station_of s))) c ∙ ap is_reading (if_true _ _ _ (eq-eqb _ _ e));
+  writes = ap (λ (x : Command). is_writing (role_of x (adp_of d) (station_of s))) c ∙ ap is_writing (if_true _ _ _ (eq-eqb _ _ e));
+  joins = ap (λ (x : Command). is_joining (role_of x (adp_of d) (station_of s))) c ∙ ap is_joining (if_true _ _ _ (eq-eqb _ _ e));
+}
 
 pub read-slave : (s : SlaveState) (d : Datagram) → d.command ≡ Fprd → adp_of d ≡ station_of s → slave_met s d ≡ physical_after s true false (window_of d)
 read-slave s d c e = (reads_meet s d (own-reads s d c e)).slave
 
 pub read-bytes : (s : SlaveState) (d : Datagram) → d.command ≡ Fprd → adp_of d ≡ station_of s → (datagram_met s d).data_bytes ≡ retold d.data_bytes (byte_read s false (window_of d))
 read-bytes s d c e = (reads_meet s d (own-reads s d c e)).bytes
-
-pub reads-on : (s : SlaveState) (d e : Datagram) → ReadsOn e d → d.command ≡ Fprd → ReadsOn e (datagram_met s d)
-reads-on s d e g c =
-    let same : adp_of d + 65536 * ado_of d ≡ d.address = omega arith in
-    let o = goes_on s d in
-    record { command = o.command ∙ g.command; address = o.address ∙ (ap (λ (x : Command). adp_after x (adp_of d) + 65536 * ado_of d) c ∙ (same ∙ g.address)) }
-
-pub gone-passes : (i : ℕ) (s : SlaveState) (d : Datagram) → i < 64 → IsDatagram d → d.command ≡ Fprd → adp_of d ≡ station i → s ≡ power_on s.kind s.identity
-    → meets s d ≡ record { slave = s; datagram = d }
-gone-passes i s d l good c e g = other_station_passes s d good (inl c) (λ q. let z = station-zero s g in let a : adp_of d ≡ station_of s = q in omega (arith, e, z, a))
 
 -- byte k of the data, of a datagram on registers
 pub read-byte : (s : SlaveState) (d : Datagram) (w : Window) (k : ℕ) → d.command ≡ Fprd → adp_of d ≡ station_of s → window_of d ≡ w → w.from + length w.bytes ≤ ram_start → k < length w.bytes
@@ -58,34 +43,25 @@ pass-poll kind i c trouble a number d s w one l cm win ado registers aft self up
     let cmd : d.command ≡ Fprd = u.gone_by.command ∙ cm in
     let adp : adp_of d ≡ station i = let x = u.gone_by.address in let y = one.address in omega (arith, x, y, at, ado) in
     let at_w : window_of d ≡ w = ap window_of e ∙ win in
-    (by h.at cmd adp at_w, one.arrived (i + 1) (datagram_met s d) (record { to_come = λ k. absurd (omega arith); gone_by = reads-on s d one.e u.gone_by cmd }))
+    (by h.at cmd adp at_w, one.arrived (i + 1) (datagram_met s d) (record { to_come = λ k. absurd (omega arith); gone_by = reads-on Fprd s d one.e refl u.gone_by cmd }))
   where
     stays : d.command ≡ Fprd → adp_of d ≡ station_of s → window_of d ≡ w → slave_met s d ≡ s
     stays cmd e q = read-slave s d cmd e ∙ (ap (λ (x : Window). physical_after s true false x) q ∙ registers_read s w registers)
 
+    met : slave_met s d ≡ s → (MayEnd a (datagram_met s d) → Reached i (Up (told c a)) s ⊎ ((trouble ≡ true) × (IsGone (Up (told c a)) s ⊎ HadFault i (Up (told c a)) s)))
+        → Met kind i (Up c) trouble a (datagram_met s d) (slave_met s d)
+    met same at = record {
+      other = λ o. absurd (self o);
+      repeated = λ _. subst (λ (t : SlaveState). Stands kind i (Up c) trouble t) (sym same) h;
+      ended = λ m. subst (λ (t : SlaveState). Stands kind i (after i (Up c) a) trouble t) (sym same) (subst (λ (x : Stage). Stands kind i x trouble s) (sym aft) (record { slave = h.slave; at = at m }));
+    }
+
     by : Reached i (Up c) s ⊎ ((trouble ≡ true) × (IsGone (Up c) s ⊎ HadFault i (Up c) s)) → d.command ≡ Fprd → adp_of d ≡ station i → window_of d ≡ w → Met kind i (Up c) trouble a (datagram_met s d) (slave_met s d)
     by (inl r) cmd adp q =
         let st : adp_of d ≡ station_of s = adp ∙ sym r.configured.station_is in
-        let same : slave_met s d ≡ s = stays cmd st q in record {
-          other = λ o. absurd (self o);
-          repeated = λ _. subst (λ (t : SlaveState). Stands kind i (Up c) trouble t) (sym same) h;
-          ended = λ m. subst (λ (t : SlaveState). Stands kind i (after i (Up c) a) trouble t) (sym same) (subst (λ (x : Stage). Stands kind i x trouble s) (sym aft)
-              (record { slave = h.slave; at = inl (up (λ k b. read-byte s d w k cmd st q registers b) m r) }));
-        }
-    by (inr (f, inl g)) cmd adp q =
-        let same : slave_met s d ≡ s = ap (λ (x : Meeting). x.slave) (gone-passes i s d l good cmd adp g) in record {
-          other = λ o. absurd (self o);
-          repeated = λ _. subst (λ (t : SlaveState). Stands kind i (Up c) trouble t) (sym same) h;
-          ended = λ m. subst (λ (t : SlaveState). Stands kind i (after i (Up c) a) trouble t) (sym same) (subst (λ (x : Stage). Stands kind i x trouble s) (sym aft)
-              (record { slave = h.slave; at = inr (f, inl g) }));
-        }
-    by (inr (f, inr g)) cmd adp q =
-        let same : slave_met s d ≡ s = stays cmd (adp ∙ sym g.faulted.configured.station_is) q in record {
-          other = λ o. absurd (self o);
-          repeated = λ _. subst (λ (t : SlaveState). Stands kind i (Up c) trouble t) (sym same) h;
-          ended = λ m. subst (λ (t : SlaveState). Stands kind i (after i (Up c) a) trouble t) (sym same) (subst (λ (x : Stage). Stands kind i x trouble s) (sym aft)
-              (record { slave = h.slave; at = inr (f, inr (faulted g)) }));
-        }
+        met (stays cmd st q) (λ m. inl (up (λ k b. read-byte s d w k cmd st q registers b) m r))
+    by (inr (f, inl g)) cmd adp q = met (ap (λ (x : Meeting). x.slave) (gone-passes i s d l good (inl cmd) adp g)) (λ m. inr (f, inl g))
+    by (inr (f, inr g)) cmd adp q = met (stays cmd (adp ∙ sym g.faulted.configured.station_is) q) (λ m. inr (f, inr (faulted g)))
 
 -- ---- the AL status
 

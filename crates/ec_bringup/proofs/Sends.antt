@@ -29,6 +29,10 @@ met-written lower w n m u e = (managers_accessed lower w n m).written u ∙ if_t
 
 -- ---- four managers
 
+pub list4 : (a b c d x y z v : SyncManager) → a ≡ x → b ≡ y → c ≡ z → d ≡ v → a ∷ b ∷ c ∷ d ∷ [] ≡ x ∷ y ∷ z ∷ v ∷ []
+list4 a b c d x y z v p q r s =
+    ap (λ (k : SyncManager). k ∷ b ∷ c ∷ d ∷ []) p ∙ (ap (λ (k : SyncManager). x ∷ k ∷ c ∷ d ∷ []) q ∙ (ap (λ (k : SyncManager). x ∷ y ∷ k ∷ d ∷ []) r ∙ ap (λ (k : SyncManager). x ∷ y ∷ z ∷ k ∷ []) s))
+
 pub four-of : (ms : List SyncManager) → length ms ≡ 4 → ms ≡ manager_at ms 0 ∷ manager_at ms 1 ∷ manager_at ms 2 ∷ manager_at ms 3 ∷ []
 four-of (a ∷ b ∷ c ∷ d ∷ []) e = refl
 four-of _ e = absurd (omega (arith, e))
@@ -90,10 +94,6 @@ sent-managers i counter c b r s four h u none =
     ∙ list4 _ _ _ _ _ _ _ _ first (met-stays (m0 ∷ []) (sending b counter r) 1 m1 (free 1 (omega arith)) no1)
     (met-stays (m0 ∷ m1 ∷ []) (sending b counter r) 2 m2 (free 2 (omega arith)) no2)
     (met-stays (m0 ∷ m1 ∷ m2 ∷ []) (sending b counter r) 3 m3 (free 3 (omega arith)) no3)
-  where
-    list4 : (a b c d x y z v : SyncManager) → a ≡ x → b ≡ y → c ≡ z → d ≡ v → a ∷ b ∷ c ∷ d ∷ [] ≡ x ∷ y ∷ z ∷ v ∷ []
-    list4 a b c d x y z v p q r s =
-        ap (λ (k : SyncManager). k ∷ b ∷ c ∷ d ∷ []) p ∙ (ap (λ (k : SyncManager). x ∷ k ∷ c ∷ d ∷ []) q ∙ (ap (λ (k : SyncManager). x ∷ y ∷ k ∷ d ∷ []) r ∙ ap (λ (k : SyncManager). x ∷ y ∷ z ∷ k ∷ []) s))
 
 -- ---- the slave
 
