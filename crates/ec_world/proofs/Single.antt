@@ -97,20 +97,26 @@ keeping_other g c n ne = go ((g.number == c.number) && is_none (get_or c.kept g.
     go true on = get_or-set_other c.kept g.part n (Some g.notes) None (ne (eqb-true _ _ (and_parts (g.number == c.number) _ on).0))
     go false off = refl
 
+-- each frame was there before, with its number and its part, and the cycle is the same
+single_kept : (m : Meaning) (number : ℕ) (p q : Plain) → Single m number p → p.next ≤ q.next → p.cycle ≡ q.cycle → ((i : ℕ) (f : PlainFrame) → frame_at q i ≡ Some f → WasIn p.slots i f) → Single m number q
+single_kept m number p q c next cycle was = record {
+  past = omega (arith, c.past, next);
+  inside = λ i f at num. let r = was i f at in subst (λ (n : ℕ). n < length m.parts) r.part_is (c.inside i r.frame r.there (r.number_is ∙ num));
+  once = λ i k f y ef ey nf ny same.
+      let a = was i f ef in
+      let b = was k y ey in
+      c.once i k a.frame b.frame a.there b.there (a.number_is ∙ nf) (b.number_is ∙ ny) (a.part_is ∙ (same ∙ sym b.part_is));
+  size = λ d at. c.size d (cycle ∙ at);
+  missing = λ d at mine i f here num.
+      let r = was i f here in
+      subst (λ (n : ℕ). get_or d.kept n None ≡ None) r.part_is (c.missing d (cycle ∙ at) mine i r.frame r.there (r.number_is ∙ num));
+}
+
 pub single_step : (m : Meaning) (number : ℕ) (p : Plain) (e : Event) (q : Plain) → step m p e ≡ Some q → Single m number p → Single m number q
 single_step m number p e q h c = by (leaves m p e q h)
   where
     by : Leaves m p e q → Single m number q
-    by (Stays slots next cycle) = record {
-      past = let x = c.past in omega (arith, x, next);
-      inside = λ i f at. c.inside i f (in_slot i ∙ at);
-      once = λ i j f g ef eg. c.once i j f g (in_slot i ∙ ef) (in_slot j ∙ eg);
-      size = λ d is. c.size d (sym cycle ∙ is);
-      missing = λ d is own i f at. c.missing d (sym cycle ∙ is) own i f (in_slot i ∙ at);
-    }
-      where
-        in_slot : (i : ℕ) → frame_at p i ≡ frame_at q i
-        in_slot i = ap (λ os. get_or os i None) (sym slots)
+    by (Stays slots next cycle) = single_kept m number p q c (omega (arith, next)) (sym cycle) (λ i f at. record { frame = f; there = ap (λ os. get_or os i None) (sym slots) ∙ at; number_is = refl; part_is = refl })
     by (Closes slots next cycle) = record {
       past = let x = c.past in omega (arith, x, next);
       inside = λ i f at. c.inside i f (in_slot i ∙ at);
@@ -136,34 +142,10 @@ single_step m number p e q h c = by (leaves m p e q h)
 
         later : (d : Cycle) → q.cycle ≡ Some d → d.number ≡ number → ⊥
         later d is own = let n = ap (λ (x : Cycle). x.number) (some_same _ d (sym cycle ∙ is)) in let x = c.past in omega (arith, x, n, own)
-    by (Moves j g own there held is) = record {
-      past = let x = c.past in let next = ap (λ (z : Plain). z.next) is in omega (arith, x, next);
-      inside = λ i f at num. let r = was i f at in subst (λ (n : ℕ). n < length m.parts) r.part_is (c.inside i r.frame r.there (r.number_is ∙ num));
-      once = λ i k f y ef ey nf ny same.
-          let a = was i f ef in
-          let b = was k y ey in
-          c.once i k a.frame b.frame a.there b.there (a.number_is ∙ nf) (b.number_is ∙ ny) (a.part_is ∙ (same ∙ sym b.part_is));
-      size = λ d at. c.size d (sym (ap (λ (z : Plain). z.cycle) is) ∙ at);
-      missing = λ d at mine i f here num.
-          let r = was i f here in
-          subst (λ (n : ℕ). get_or d.kept n None ≡ None) r.part_is (c.missing d (sym (ap (λ (z : Plain). z.cycle) is) ∙ at) mine i r.frame r.there (r.number_is ∙ num));
-    }
-      where
-        moved_on : PlainFrame
-        moved_on = with_note g (met_note m (length g.notes) g (plain_slave p (length g.notes)))
-
-        was : (i : ℕ) (f : PlainFrame) → frame_at q i ≡ Some f → WasIn p.slots i f
-        was i f at = was_in p.slots j g moved_on there refl refl i f (ap (λ (z : Plain). frame_at z i) (sym is) ∙ at)
-    by (Loses j own is) = record {
-      past = let x = c.past in let next = ap (λ (z : Plain). z.next) is in omega (arith, x, next);
-      inside = λ i f at. c.inside i f (was i f at).0;
-      once = λ i k f g ef eg. c.once i k f g (was i f ef).0 (was k g eg).0;
-      size = λ d at. c.size d (sym (ap (λ (z : Plain). z.cycle) is) ∙ at);
-      missing = λ d at mine i f here. c.missing d (sym (ap (λ (z : Plain). z.cycle) is) ∙ at) mine i f (was i f here).0;
-    }
-      where
-        was : (i : ℕ) (f : PlainFrame) → frame_at q i ≡ Some f → (frame_at p i ≡ Some f) × (i ≢ j)
-        was i f at = left_there p.slots j i f (ap (λ (z : Plain). frame_at z i) (sym is) ∙ at)
+    by (Moves j g own there held is) = single_kept m number p q c (let next = ap (λ (z : Plain). z.next) is in omega (arith, next)) (sym (ap (λ (z : Plain). z.cycle) is))
+        (λ i f at. was_in p.slots j g (with_note g (met_note m (length g.notes) g (plain_slave p (length g.notes)))) there refl refl i f (ap (λ (z : Plain). frame_at z i) (sym is) ∙ at))
+    by (Loses j own is) = single_kept m number p q c (let next = ap (λ (z : Plain). z.next) is in omega (arith, next)) (sym (ap (λ (z : Plain). z.cycle) is))
+        (λ i f at. record { frame = f; there = (left_there p.slots j i f (ap (λ (z : Plain). frame_at z i) (sym is) ∙ at)).0; number_is = refl; part_is = refl })
     by (Returns j g there is all) = record {
       past = let x = c.past in let next = ap (λ (z : Plain). z.next) is in omega (arith, x, next);
       inside = λ i f at. c.inside i f (was i f at).0;
